@@ -1,0 +1,2 @@
+pub mod FixedArgsLemmas
+pub mod WriterLemmas

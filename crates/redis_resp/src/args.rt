@@ -1,0 +1,14 @@
+//! Argument lists of commands, and the writers that they go into.
+
+mod fixed_args;
+mod number;
+mod sequence;
+mod text;
+mod to_redis_args;
+mod tuple;
+mod writer;
+
+pub use fixed_args::FixedArgs;
+pub use text::RawBytes;
+pub use to_redis_args::{ToRedisArgs, ToSingleRedisArg};
+pub use writer::{RedisWrite, WriteError};
