@@ -1,6 +1,6 @@
 -- How a run of writes that stopped within a list of arguments reads in a longer list.
 use Rattle.std.specs.List.{flat_map}
-use Rattle.std.proofs.Common.{◌≡◌, ◌<◌, zero, suc, get_or, take, length, ℕ, List, [], ◌∷◌, ◌++◌, refl, sym, ◌∙◌, ap, subst, append_assoc, append-nil, arith, Result, Ok, Err}
+use Rattle.std.proofs.Common.{◌≡◌, ◌<◌, zero, suc, get_or, take, length, ℕ, List, [], ◌∷◌, ◌++◌, refl, sym, ◌∙◌, subst, append_assoc, append-nil, arith, Result, Ok, Err}
 use Rattle.std.specs.Prelude.{IfErr, IsErrAnd, MatchResult}
 use Rattle.redis_resp.specs.Writer.{StopsWithin}
 
@@ -8,7 +8,9 @@ module _ {E : Type 0} {old new : List (List ℕ)} {may_refuse : List ℕ → E �
   -- the first argument was refused
   pub stops_at_once : {x : List ℕ} {xs : List (List ℕ)} → new ≡ old → may_refuse x e → StopsWithin old (x ∷ xs) new may_refuse e
   stops_at_once {x = x} {xs = xs} kept refused = record {
-    written = []; next = x; rest = xs;
+    written = [];
+    next = x;
+    rest = xs;
     splits = refl;
     holds = kept ∙ sym (append-nil old);
     refused = refused;
@@ -17,7 +19,9 @@ module _ {E : Type 0} {old new : List (List ℕ)} {may_refuse : List ℕ → E �
   -- the run stopped in the beginning of the list
   pub stops_before : (xs ys : List (List ℕ)) → StopsWithin old xs new may_refuse e → StopsWithin old (xs ++ ys) new may_refuse e
   stops_before xs ys s = record {
-    written = s.written; next = s.next; rest = s.rest ++ ys;
+    written = s.written;
+    next = s.next;
+    rest = s.rest ++ ys;
     splits = grind (arith, append_assoc);
     holds = s.holds;
     refused = s.refused;
@@ -26,7 +30,9 @@ module _ {E : Type 0} {old new : List (List ℕ)} {may_refuse : List ℕ → E �
   -- the beginning was written, and the run stopped in what follows
   pub stops_after : {mid : List (List ℕ)} (xs ys : List (List ℕ)) → mid ≡ old ++ xs → StopsWithin mid ys new may_refuse e → StopsWithin old (xs ++ ys) new may_refuse e
   stops_after xs ys w s = record {
-    written = xs ++ s.written; next = s.next; rest = s.rest;
+    written = xs ++ s.written;
+    next = s.next;
+    rest = s.rest;
     splits = grind (arith, append_assoc);
     holds = grind (arith, append_assoc);
     refused = s.refused;

@@ -1,4 +1,10 @@
 pub mod Clause
 pub mod FixedArgs
+pub mod Number
+pub mod Reading
 pub mod Room
+pub mod Table
+pub mod Text
+pub mod Tree
+pub mod Value
 pub mod Writer

@@ -1,5 +1,5 @@
 -- What a run of writes leaves in a writer.
-use Rattle.std.specs.Prelude.{◌≡◌, ℕ, Result, MatchResult, List, [], ◌∷◌, ◌++◌}
+use Rattle.std.specs.Prelude.{◌≡◌, ℕ, Result, MatchResult, List, ◌∷◌, ◌++◌}
 
 -- The run stopped within `args`: a proper beginning of them, each whole, stands behind what was held, and the writer may refuse the next one with this error.
 pub record StopsWithin {E : Type 0} (old args new : List (List ℕ)) (may_refuse : List ℕ → E → Type 0) (error : E) : Type 0 where

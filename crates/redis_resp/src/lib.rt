@@ -12,5 +12,7 @@
 #![tactic(auto)]
 
 pub mod args;
+pub mod value;
 
 pub use args::{FixedArgs, RawBytes, RedisWrite, ToRedisArgs, ToSingleRedisArg, WriteError};
+pub use value::{FromRedisValue, ParsingError, Value, from_redis_value, from_redis_value_ref};

@@ -36,19 +36,18 @@ impl<A: ToRedisArgs, B: ToRedisArgs, C: ToRedisArgs, D: ToRedisArgs> ToRedisArgs
     }
 }
 
-impl<A: ToRedisArgs, B: ToRedisArgs, C: ToRedisArgs, D: ToRedisArgs, E: ToRedisArgs, F: ToRedisArgs>
-    ToRedisArgs for (A, B, C, D, E, F)
-{
-    ghost args = {
-        λ x. A.args x.0 ++ (B.args x.1 ++ (C.args x.2
-          ++ (D.args x.3 ++ (E.args x.4 ++ F.args x.5))))
-    };
+impl<
+    A: ToRedisArgs,
+    B: ToRedisArgs,
+    C: ToRedisArgs,
+    D: ToRedisArgs,
+    E: ToRedisArgs,
+    F: ToRedisArgs,
+> ToRedisArgs for (A, B, C, D, E, F) {
+    ghost args = { λ x. A.args x.0 ++ (B.args x.1 ++ (C.args x.2
+        ++ (D.args x.3 ++ (E.args x.4 ++ F.args x.5)))) };
 
     fn write_redis_args<W: RedisWrite>(&self, out: &mut W) -> Result<(), WriteError> {
-        (
-            (&self.0, &self.1, &self.2),
-            (&self.3, &self.4, &self.5),
-        )
-            .write_redis_args(out)
+        ((&self.0, &self.1, &self.2), (&self.3, &self.4, &self.5)).write_redis_args(out)
     }
 }

@@ -1,0 +1,13 @@
+use Rattle.std.proofs.Common.{◌≡◌, map, length}
+use Rattle.std.specs.Vec.Iter.{into_iter_items, into_iter_len}
+use Rattle.std.specs.FinMap.{from_entries}
+use Rattle.redis_resp.specs.Table.{entries_meaning}
+use Rattle.redis_resp.specs.Value.{tree_of_pair}
+use Rattle.redis_resp.proofs.TableLemmas.{FilledFields}
+use Rattle.redis_resp.proofs.value.table.HashMapStringFromRedisValue.from_redis_value.Given as goal
+
+abbrev pub invariant-loop-key : goal.invariant-loop-key
+invariant-loop-key g l = record {
+  filled : FilledFields g.V.FromRedisValue.reading (map tree_of_pair (into_iter_items l.initial.key-iterator)) (map tree_of_pair (into_iter_items l.key-iterator)) (from_entries (entries_meaning g.V.FromRedisValue.meaning l.fields.entries));
+  count : into_iter_len l.key-iterator ≡ length (into_iter_items l.key-iterator);
+}

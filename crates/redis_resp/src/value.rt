@@ -1,0 +1,83 @@
+//! The value tree of the RESP protocol, and the readings of plain types.
+ghost use Rattle.std.specs.Prelude.{◌≡◌};
+ghost use Rattle.redis_resp.specs.Tree.{plain};
+ghost use Rattle.redis_resp.specs.Value.{tree};
+
+mod clone;
+mod error;
+mod list;
+mod number;
+mod option;
+mod pair;
+mod reading;
+mod table;
+mod text;
+
+pub use error::ParsingError;
+pub use reading::{FromRedisValue, from_redis_value, from_redis_value_ref};
+
+/// A value of the RESP protocol, as a server sends it.
+#[derive(Debug, Drop)]
+pub enum Value {
+    /// No value.
+    Nil,
+    /// A whole number.
+    Int(i64),
+    /// Bytes, which need not be text.
+    BulkString(Vec<u8>),
+    /// Values in order.
+    Array(Vec<Value>),
+    /// A short text, such as a status.
+    SimpleString(String),
+    /// The status `OK`.
+    Okay,
+    /// Keys with their values, in the order in which they were sent.
+    Map(Vec<(Value, Value)>),
+    /// A value with attributes round it, which no reading looks at.
+    Attribute {
+        payload: Box<Value>,
+        attributes: Vec<(Value, Value)>,
+    },
+    /// Values without order.
+    Set(Vec<Value>),
+    /// A truth value.
+    Boolean(bool),
+    /// A text with the name of its format, such as `txt` or `mkd`.
+    VerbatimString {
+        format: String,
+        text: String,
+    },
+    /// What the server sent unasked, with its kind.
+    Push {
+        kind: String,
+        payload: Vec<Value>,
+    },
+}
+
+impl Value {
+    /// What stands inside all outer attributes.
+    pub fn into_plain(self) -> Value
+        ensures { tree result ≡ plain (tree self) }
+    {
+        match self {
+            Value::Attribute {
+                payload,
+                attributes,
+            } => {
+                drop(attributes);
+                Box::into_inner(payload).into_plain()
+            }
+            other => other,
+        }
+    }
+
+    /// What stands inside all outer attributes.
+    pub fn as_plain(&self) -> &Value
+        ensures { tree result.now ≡ plain (tree self.now) }
+    {
+        match self {
+            Value::Attribute { payload, .. } => payload.as_plain(),
+            other => other,
+        }
+    }
+}

@@ -1,0 +1,106 @@
+//! Lists that are read from values.
+ghost use Rattle.std.specs.Prelude.{◌≡◌, ◌≢◌, IfOk, IfErr, map, List, Some, None};
+ghost use Rattle.redis_resp.specs.Tree.{Tree, single};
+ghost use Rattle.redis_resp.specs.Value.{tree, tree_of_pair};
+ghost use Rattle.redis_resp.specs.Reading.{traverse, list_reading};
+
+use crate::value::Value;
+use crate::value::error::ParsingError;
+use crate::value::reading::FromRedisValue;
+use std::alloc::{AllocError, Global};
+
+impl FromRedisValue for Value {
+    ghost Meaning = { Tree };
+
+    ghost meaning = { tree };
+
+    ghost reading = { λ t. Some t };
+
+    fn from_redis_value(_alloc: Global, v: Value) -> Result<Value, ParsingError> {
+        Ok(v)
+    }
+
+    fn from_redis_value_ref(alloc: Global, v: &Value) -> Result<Value, ParsingError> {
+        Ok(v.try_clone(alloc)?)
+    }
+}
+
+/// Reads each value, in order.
+fn read_values<T: FromRedisValue>(alloc: Global, values: Vec<Value>) -> Result<Vec<T>, ParsingError>
+    ensures ok { IfOk result (λ r. traverse T.reading (map tree values.items) ≡ Some (map T.meaning r.items)) }
+    ensures err { IfErr result (λ e. e ≢ ParsingError.Memory → traverse T.reading (map tree values.items) ≡ None) }
+{
+    let mut records = Vec::with_capacity(alloc, values.len())?;
+    for value in values {
+        records.push(T::from_redis_value(alloc, value)?)?;
+    }
+    Ok(records)
+}
+
+/// Reads each value, in order.
+fn read_values_ref<T: FromRedisValue>(
+    alloc: Global,
+    values: &[Value],
+) -> Result<Vec<T>, ParsingError>
+    ensures ok { IfOk result (λ r. traverse T.reading (map tree values.now) ≡ Some (map T.meaning r.items)) }
+    ensures err { IfErr result (λ e. e ≢ ParsingError.Memory → traverse T.reading (map tree values.now) ≡ None) }
+{
+    let mut records = Vec::with_capacity(alloc, values.len())?;
+    for value in values {
+        records.push(T::from_redis_value_ref(alloc, value)?)?;
+    }
+    Ok(records)
+}
+
+/// A pair as a map of its own.
+#[tactic(auto, using(crate::proofs::TreeLemmas::tree_of_map))]
+pub fn map_of(alloc: Global, entry: (Value, Value)) -> Result<Value, AllocError>
+    ensures { IfOk result (λ v. tree v ≡ single (tree_of_pair entry)) }
+{
+    Ok(Value::Map(vec![in alloc; entry]?))
+}
+
+/// Reads each pair as a map of its own, in order.
+fn read_entries<T: FromRedisValue>(
+    alloc: Global,
+    entries: Vec<(Value, Value)>,
+) -> Result<Vec<T>, ParsingError>
+    ensures ok { IfOk result (λ r. traverse T.reading (map single (map tree_of_pair entries.items)) ≡ Some (map T.meaning r.items)) }
+    ensures err { IfErr result (λ e. e ≢ ParsingError.Memory → traverse T.reading (map single (map tree_of_pair entries.items)) ≡ None) }
+{
+    let mut records = Vec::with_capacity(alloc, entries.len())?;
+    for entry in entries {
+        let alone = map_of(alloc, entry)?;
+        records.push(T::from_redis_value(alloc, alone)?)?;
+    }
+    Ok(records)
+}
+
+#[tactic(auto, using(crate::proofs::TreeLemmas::items_Array, crate::proofs::TreeLemmas::items_Set, crate::proofs::TreeLemmas::items_Map))]
+impl<T: FromRedisValue> FromRedisValue for Vec<T> {
+    ghost Meaning = { List T.Meaning };
+
+    ghost meaning = { λ v. map T.meaning v.items };
+
+    ghost reading = { list_reading T.reading };
+
+    fn from_redis_value(alloc: Global, v: Value) -> Result<Vec<T>, ParsingError> {
+        match v.into_plain() {
+            Value::Nil => Ok(Vec::new(alloc)),
+            Value::Array(values) => read_values(alloc, values),
+            Value::Set(values) => read_values(alloc, values),
+            Value::Map(entries) => read_entries(alloc, entries),
+            _ => Err(ParsingError::NotList),
+        }
+    }
+
+    fn from_redis_value_ref(alloc: Global, v: &Value) -> Result<Vec<T>, ParsingError> {
+        match v.as_plain() {
+            Value::Nil => Ok(Vec::new(alloc)),
+            Value::Array(values) => read_values_ref(alloc, values),
+            Value::Set(values) => read_values_ref(alloc, values),
+            Value::Map(_) => Vec::from_redis_value(alloc, v.try_clone(alloc)?),
+            _ => Err(ParsingError::NotList),
+        }
+    }
+}
