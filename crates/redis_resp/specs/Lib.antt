@@ -1,8 +1,11 @@
+pub mod Bytes
 pub mod Clause
 pub mod FixedArgs
 pub mod Number
 pub mod Reading
 pub mod Room
+pub mod Same
+pub mod SameLaws
 pub mod Table
 pub mod Text
 pub mod Tree
