@@ -1,6 +1,7 @@
 pub mod Bytes
 pub mod Clause
 pub mod FixedArgs
+pub mod Members
 pub mod Number
 pub mod Reading
 pub mod Room

@@ -82,6 +82,7 @@ mutual
 pub same-Decides : (a b : Tree) → Decides (same a b) (a ≡ b)
 same-Decides a b = (same_true a b, λ e. subst (λ c. same a c ≡ true) e (same_refl a))
 
+-- the test is an equivalence
 pub same_equiv : IsEquivalence same
 same_equiv = record {
   refl = same_refl;
