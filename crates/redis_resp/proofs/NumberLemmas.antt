@@ -1,7 +1,7 @@
 -- The grammar of numbers is what Rust's `parse` takes, and what writes a number is a text.
-use Rattle.std.proofs.Common.{◌≡◌, ◌==◌, ℕ, zero, suc, ◌<◌, ◌≤◌, ◌^◌, Bool, true, false, List, [], ◌∷◌, refl, arith, nat_lt, lit<, ap, sym, ◌∙◌, subst, length, Option, Some, None, Result, Ok, Err, MatchResult, option_map, option_and_then, ℤ, pos, negsuc, unsigned_abs, FitsSigned, w64, Vec, Global, String, string_bytes}
+use Rattle.std.proofs.Common.{◌≡◌, ◌==◌, ℕ, zero, suc, ◌<◌, ◌≤◌, ◌^◌, Bool, true, false, List, [], ◌∷◌, refl, arith, nat_lt, ap, sym, ◌∙◌, subst, length, Option, Some, None, Result, Ok, Err, option_map, option_and_then, ℤ, pos, negsuc, unsigned_abs, FitsSigned, w64, Vec, Global, String, string_bytes}
 use Rattle.std.specs.Prelude.{neg_ℤ}
-use Rattle.std.specs.Result.{OkIff}
+use Rattle.std.specs.Result.{OkIff, result_ok}
 use Rattle.std.specs.Int.{FitsUnsignedBits}
 use Rattle.std.specs.Str.{IsUtf8, IsAscii, all_ascii_digits}
 use Rattle.std.specs.Str.Parse.{AllDigits, ParsesUnsigned, ParsesSigned}
@@ -83,30 +83,30 @@ unfolding signed_within
 signed_within_true (pos n) h = rw (lt-ltb n (2 ^ 63) h.sfits) refl
 signed_within_true (negsuc n) h = rw (lt-ltb n (2 ^ 63) h.sfits) refl
 
--- an answer of `parse` is the number, where it fits, and an error where there is none
+-- an answer is Ok of the number, where there is one that fits, and else an error
 abbrev pub Told : {E : Type 0} → ℕ → Result ℕ E → Option ℕ → Type 0
-Told bits r o = MatchResult r (λ n. option_and_then (within bits) o ≡ Some n) (λ _. option_and_then (within bits) o ≡ None)
+Told bits r o = result_ok r ≡ option_and_then (within bits) o
 
 abbrev pub SignedTold : {E : Type 0} → Result ℤ E → Option ℤ → Type 0
-SignedTold r o = MatchResult r (λ z. option_and_then (signed_within 63) o ≡ Some z) (λ _. option_and_then (signed_within 63) o ≡ None)
+SignedTold r o = result_ok r ≡ option_and_then (signed_within 63) o
 
 module _ {E : Type 0} where
   numeral_told : (bits : ℕ) (ds : List ℕ) (r : Result ℕ E) → OkIff r ((all_ascii_digits ds ≡ true) × (0 < length ds) × (number_of_digits ds < 2 ^ bits)) (number_of_digits ds) → Told bits r (numeral ds)
-  numeral_told bits ds (Ok n) p = rw (numeral_Some ds p.0.0 p.0.1) (within_true bits _ p.0.2 ∙ ap Some (sym p.1))
+  numeral_told bits ds (Ok n) p = rw (numeral_Some ds p.0.0 p.0.1) (ap Some p.1 ∙ sym (within_true bits _ p.0.2))
   numeral_told bits ds (Err e) p = numeral_cases ds
-      (λ a l. rw (numeral_Some ds a l) (within_false bits _ (λ h. p (a, l, h))))
+      (λ a l. rw (numeral_Some ds a l) (sym (within_false bits _ (λ h. p (a, l, h)))))
       (λ no_number. rw no_number refl)
 
   positive_told : (ds : List ℕ) (r : Result ℤ E) → OkIff r ((all_ascii_digits ds ≡ true) × (0 < length ds) × (number_of_digits ds < 2 ^ 63)) (pos (number_of_digits ds)) → SignedTold r (option_map pos (numeral ds))
-  positive_told ds (Ok z) p = rw (numeral_Some ds p.0.0 p.0.1) (positive_within _ p.0.2 ∙ ap Some (sym p.1))
+  positive_told ds (Ok z) p = rw (numeral_Some ds p.0.0 p.0.1) (ap Some p.1 ∙ sym (positive_within _ p.0.2))
   positive_told ds (Err e) p = numeral_cases ds
-      (λ a l. rw (numeral_Some ds a l) (positive_over _ (λ h. p (a, l, h))))
+      (λ a l. rw (numeral_Some ds a l) (sym (positive_over _ (λ h. p (a, l, h)))))
       (λ no_number. rw no_number refl)
 
   negative_told : (ds : List ℕ) (r : Result ℤ E) → OkIff r ((all_ascii_digits ds ≡ true) × (0 < length ds) × (number_of_digits ds ≤ 2 ^ 63)) (neg_ℤ (pos (number_of_digits ds))) → SignedTold r (option_map (λ n. neg_ℤ (pos n)) (numeral ds))
-  negative_told ds (Ok z) p = rw (numeral_Some ds p.0.0 p.0.1) (negative_within _ p.0.2 ∙ ap Some (sym p.1))
+  negative_told ds (Ok z) p = rw (numeral_Some ds p.0.0 p.0.1) (ap Some p.1 ∙ sym (negative_within _ p.0.2))
   negative_told ds (Err e) p = numeral_cases ds
-      (λ a l. rw (numeral_Some ds a l) (negative_over _ (λ h. p (a, l, h))))
+      (λ a l. rw (numeral_Some ds a l) (sym (negative_over _ (λ h. p (a, l, h)))))
       (λ no_number. rw no_number refl)
 
   empty_told : (bits : ℕ) (P Q : Type 0) (n : ℕ) (r : Result ℕ E) → OkIff r (P × (0 < 0) × Q) n → Told bits r None
@@ -170,9 +170,12 @@ signed_no_text (c ∷ cs) apart = by (c == minus) refl
 
 -- a value's number, variant by variant
 
-sized_int : (z : ℤ) (n : ℕ) → FitsUnsignedBits 64 z → n ≡ unsigned_abs z → option_and_then (within 64) (unsigned_of_int z) ≡ Some n
-sized_int (pos m) n fits is = within_true 64 m fits ∙ ap Some (sym is)
-sized_int (negsuc m) n fits is = absurd fits
+-- what `try_from` answers of a whole number is the number, where it is not negative and fits
+pub int_told : {E : Type 0} (z : ℤ) (r : Result ℕ E) → OkIff r (FitsUnsignedBits 64 z) (unsigned_abs z) → Told 64 r (unsigned_of_int z)
+int_told (pos m) (Ok n) p = ap Some p.1 ∙ sym (within_true 64 m p.0)
+int_told (pos m) (Err e) p = sym (within_false 64 m p)
+int_told (negsuc m) (Ok n) p = absurd p.0
+int_told (negsuc m) (Err e) p = refl
 
 module _ (t : Tree) (w : Value) (h : tree w ≡ plain t) where
   pub unsigned_of_bulk : (b : Vec ℕ Global) → w ≡ BulkString b → unsigned_reading 64 t ≡ option_and_then (within 64) (unsigned_of b.items)
@@ -181,8 +184,8 @@ module _ (t : Tree) (w : Value) (h : tree w ≡ plain t) where
   pub unsigned_of_simple : (s : String Global) → w ≡ SimpleString s → unsigned_reading 64 t ≡ option_and_then (within 64) (unsigned_of (string_bytes s))
   unsigned_of_simple s is = ap (λ u. option_and_then (within 64) (unsigned_of_plain u)) (sym h ∙ ap tree is ∙ tree-SimpleString s)
 
-  pub unsigned_of_Int : (z : ℤ) (n : ℕ) → w ≡ Int z → FitsUnsignedBits 64 z → n ≡ unsigned_abs z → unsigned_reading 64 t ≡ Some n
-  unsigned_of_Int z n is fits e = ap (λ u. option_and_then (within 64) (unsigned_of_plain u)) (sym h ∙ ap tree is ∙ tree-Int z) ∙ sized_int z n fits e
+  pub unsigned_of_Int : (z : ℤ) → w ≡ Int z → unsigned_reading 64 t ≡ option_and_then (within 64) (unsigned_of_int z)
+  unsigned_of_Int z is = ap (λ u. option_and_then (within 64) (unsigned_of_plain u)) (sym h ∙ ap tree is ∙ tree-Int z)
 
   pub signed_of_bulk : (b : Vec ℕ Global) → w ≡ BulkString b → signed_reading 63 t ≡ option_and_then (signed_within 63) (signed_of b.items)
   signed_of_bulk b is = ap (λ u. option_and_then (signed_within 63) (signed_of_plain u)) (sym h ∙ ap tree is ∙ tree-BulkString b)

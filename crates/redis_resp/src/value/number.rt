@@ -16,38 +16,29 @@ use std::alloc::Global;
 fn unsigned_in(text: &[u8]) -> Option<u64>
     ensures { result ≡ option_and_then (within 64) (unsigned_of text.now) }
 {
-    match std::str::from_utf8(text) {
-        Ok(text) => match text.parse::<u64>() {
-            Ok(n) => Some(n),
-            Err(_) => None,
-        },
-        Err(_) => None,
-    }
+    let Ok(text) = std::str::from_utf8(text) else {
+        return None;
+    };
+    text.parse().ok()
 }
 
 /// The number that a text writes with digits behind one sign or none, where it fits an `i64`.
 fn signed_in(text: &[u8]) -> Option<i64>
     ensures { result ≡ option_and_then (signed_within 63) (signed_of text.now) }
 {
-    match std::str::from_utf8(text) {
-        Ok(text) => match text.parse::<i64>() {
-            Ok(z) => Some(z),
-            Err(_) => None,
-        },
-        Err(_) => None,
-    }
+    let Ok(text) = std::str::from_utf8(text) else {
+        return None;
+    };
+    text.parse().ok()
 }
 
 /// The number that a value reads as at 64 bits, if any.
-#[tactic(auto, using(crate::proofs::NumberLemmas::unsigned_of_Int, crate::proofs::NumberLemmas::unsigned_of_bulk, crate::proofs::NumberLemmas::unsigned_of_simple))]
+#[tactic(auto, using(crate::proofs::NumberLemmas::unsigned_of_bulk, crate::proofs::NumberLemmas::unsigned_of_simple))]
 fn u64_of(v: &Value) -> Option<u64>
     ensures { result ≡ unsigned_reading 64 (tree v.now) }
 {
     match v.as_plain() {
-        Value::Int(z) => match u64::try_from(*z) {
-            Ok(n) => Some(n),
-            Err(_) => None,
-        },
+        Value::Int(z) => u64::try_from(*z).ok(),
         Value::BulkString(bytes) => unsigned_in(bytes),
         Value::SimpleString(text) => unsigned_in(text.as_bytes()),
         _ => None,
@@ -71,10 +62,7 @@ fn i64_of(v: &Value) -> Option<i64>
 pub fn usize_of(v: &Value) -> Option<usize>
     ensures { result ≡ unsigned_reading 64 (tree v.now) }
 {
-    match u64_of(v) {
-        Some(n) => Some(n as usize),
-        None => None,
-    }
+    Some(u64_of(v)? as usize)
 }
 
 /// The number that a value reads as at 32 bits, if any.
@@ -82,13 +70,7 @@ pub fn usize_of(v: &Value) -> Option<usize>
 fn u32_of(v: &Value) -> Option<u32>
     ensures { result ≡ unsigned_reading 32 (tree v.now) }
 {
-    match u64_of(v) {
-        Some(n) => match u32::try_from(n) {
-            Ok(n) => Some(n),
-            Err(_) => None,
-        },
-        None => None,
-    }
+    u32::try_from(u64_of(v)?).ok()
 }
 
 /// The number that a value reads as at 16 bits, if any.
@@ -96,13 +78,7 @@ fn u32_of(v: &Value) -> Option<u32>
 fn u16_of(v: &Value) -> Option<u16>
     ensures { result ≡ unsigned_reading 16 (tree v.now) }
 {
-    match u64_of(v) {
-        Some(n) => match u16::try_from(n) {
-            Ok(n) => Some(n),
-            Err(_) => None,
-        },
-        None => None,
-    }
+    u16::try_from(u64_of(v)?).ok()
 }
 
 impl FromRedisValue for u16 {
@@ -112,12 +88,14 @@ impl FromRedisValue for u16 {
 
     ghost reading = { unsigned_reading 16 };
 
+    /// A number below 2^16. It takes no memory, so the one refusal is `NotNumber`.
     fn from_redis_value(_alloc: Global, v: Value) -> Result<u16, ParsingError>
         ensures { result ≡ ok_or (unsigned_reading 16 (tree v)) ParsingError.NotNumber }
     {
         u16_of(&v).ok_or(ParsingError::NotNumber)
     }
 
+    /// The same number of a value that is lent.
     fn from_redis_value_ref(_alloc: Global, v: &Value) -> Result<u16, ParsingError>
         ensures { result ≡ ok_or (unsigned_reading 16 (tree v.now)) ParsingError.NotNumber }
     {
@@ -132,12 +110,14 @@ impl FromRedisValue for u32 {
 
     ghost reading = { unsigned_reading 32 };
 
+    /// A number below 2^32. It takes no memory, so the one refusal is `NotNumber`.
     fn from_redis_value(_alloc: Global, v: Value) -> Result<u32, ParsingError>
         ensures { result ≡ ok_or (unsigned_reading 32 (tree v)) ParsingError.NotNumber }
     {
         u32_of(&v).ok_or(ParsingError::NotNumber)
     }
 
+    /// The same number of a value that is lent.
     fn from_redis_value_ref(_alloc: Global, v: &Value) -> Result<u32, ParsingError>
         ensures { result ≡ ok_or (unsigned_reading 32 (tree v.now)) ParsingError.NotNumber }
     {
@@ -152,12 +132,14 @@ impl FromRedisValue for u64 {
 
     ghost reading = { unsigned_reading 64 };
 
+    /// A number below 2^64. It takes no memory, so the one refusal is `NotNumber`.
     fn from_redis_value(_alloc: Global, v: Value) -> Result<u64, ParsingError>
         ensures { result ≡ ok_or (unsigned_reading 64 (tree v)) ParsingError.NotNumber }
     {
         u64_of(&v).ok_or(ParsingError::NotNumber)
     }
 
+    /// The same number of a value that is lent.
     fn from_redis_value_ref(_alloc: Global, v: &Value) -> Result<u64, ParsingError>
         ensures { result ≡ ok_or (unsigned_reading 64 (tree v.now)) ParsingError.NotNumber }
     {
@@ -172,12 +154,14 @@ impl FromRedisValue for usize {
 
     ghost reading = { unsigned_reading 64 };
 
+    /// A number below 2^64. It takes no memory, so the one refusal is `NotNumber`.
     fn from_redis_value(_alloc: Global, v: Value) -> Result<usize, ParsingError>
         ensures { result ≡ ok_or (unsigned_reading 64 (tree v)) ParsingError.NotNumber }
     {
         usize_of(&v).ok_or(ParsingError::NotNumber)
     }
 
+    /// The same number of a value that is lent.
     fn from_redis_value_ref(_alloc: Global, v: &Value) -> Result<usize, ParsingError>
         ensures { result ≡ ok_or (unsigned_reading 64 (tree v.now)) ParsingError.NotNumber }
     {
@@ -192,12 +176,14 @@ impl FromRedisValue for i64 {
 
     ghost reading = { signed_reading 63 };
 
+    /// A number from -2^63 to 2^63 - 1. It takes no memory, so the one refusal is `NotNumber`.
     fn from_redis_value(_alloc: Global, v: Value) -> Result<i64, ParsingError>
         ensures { result ≡ ok_or (signed_reading 63 (tree v)) ParsingError.NotNumber }
     {
         i64_of(&v).ok_or(ParsingError::NotNumber)
     }
 
+    /// The same number of a value that is lent.
     fn from_redis_value_ref(_alloc: Global, v: &Value) -> Result<i64, ParsingError>
         ensures { result ≡ ok_or (signed_reading 63 (tree v.now)) ParsingError.NotNumber }
     {
