@@ -1,0 +1,3 @@
+pub mod Entry
+pub mod Rows
+pub mod StreamId
