@@ -1,9 +1,10 @@
 //! What stands in a list of entries.
-ghost use Rattle.std.specs.Prelude.{◌≡◌, ◌≢◌, ◌++◌, List, map, flat_map, Some, None, IfOk, IfErr, OnOk};
+ghost use Rattle.std.specs.Prelude.{◌≡◌, ◌≢◌, ◌++◌, ◌∷◌, [], List, map, flat_map, Some, None, IfOk, IfErr, OnOk};
 ghost use Rattle.redis_resp.specs.Value.{tree};
 ghost use Rattle.redis_streams.specs.Entry.{Entry, entry_of};
+ghost use Rattle.redis_streams.specs.Read.{delivered_entry};
 ghost use Rattle.redis_streams.specs.Rows.{rows_reading};
-ghost use Rattle.redis_streams.specs.StreamId.{entries_of, row_of};
+ghost use Rattle.redis_streams.specs.StreamId.{delivery_of, entries_of, row_of};
 
 use crate::rows::stream_id::StreamId;
 use indexmap::IndexMap;
@@ -36,6 +37,24 @@ impl Listed for Row {
                 delivered_count: None,
             })?;
         }
+        Ok(())
+    }
+}
+
+/// An id with its fields, how many milliseconds ago it was delivered and how often: one entry.
+pub(crate) type Delivery = (String, HashMap<String, Value>, Option<usize>, Option<usize>);
+
+impl Listed for Delivery {
+    ghost held = { λ d. delivered_entry (delivery_of d) ∷ [] };
+
+    fn push_to(self, ids: &mut Vec<StreamId>) -> Result<(), AllocError> {
+        let (id, map, elapsed, delivered) = self;
+        ids.push(StreamId {
+            id,
+            map,
+            milliseconds_elapsed_from_delivery: elapsed,
+            delivered_count: delivered,
+        })?;
         Ok(())
     }
 }
