@@ -196,6 +196,11 @@ module _ (t : Tree) (w : Value) (h : tree w ≡ plain t) where
   pub signed_of_Int : (z : ℤ) → w ≡ Int z → FitsSigned w64 z → signed_reading 63 t ≡ Some z
   signed_of_Int z is fits = ap (λ u. option_and_then (signed_within 63) (signed_of_plain u)) (sym h ∙ ap tree is ∙ tree-Int z) ∙ signed_within_true z fits
 
+-- how texts are read
+pub ruleset unsigned_texts = (unsigned_of_bulk, unsigned_of_simple)
+
+pub ruleset signed_texts = (signed_of_Int, signed_of_bulk, signed_of_simple)
+
 -- a number is read at a smaller size from what is read at 64 bits
 
 narrow : (k n : ℕ) → 2 ^ k ≤ 2 ^ 64 → within k n ≡ option_and_then (within k) (within 64 n)
@@ -220,3 +225,5 @@ narrow_over k m t le is h = narrower k t le ∙ rw is (within_false k m h)
 
 pub narrow_none : (k : ℕ) (t : Tree) → 2 ^ k ≤ 2 ^ 64 → unsigned_reading 64 t ≡ None → unsigned_reading k t ≡ None
 narrow_none k t le is = narrower k t le ∙ rw is refl
+
+pub ruleset narrowing = (narrow_fits, narrow_over, narrow_none)
