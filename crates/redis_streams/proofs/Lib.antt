@@ -1,2 +1,3 @@
+pub mod FieldsLemmas
 pub mod ReadLemmas
 pub mod RowsLemmas
