@@ -1,5 +1,6 @@
 pub mod Clause
 pub mod FixedArgs
+pub mod Members
 pub mod Number
 pub mod Reading
 pub mod Room

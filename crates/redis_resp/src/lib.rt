@@ -15,4 +15,7 @@ pub mod args;
 pub mod value;
 
 pub use args::{FixedArgs, RawBytes, RedisWrite, ToRedisArgs, ToSingleRedisArg, WriteError};
-pub use value::{FromRedisValue, ParsingError, Value, from_redis_value, from_redis_value_ref};
+pub use value::{
+    FourRefs, FromRedisValue, ParsingError, Value, four_ref, from_redis_value,
+    from_redis_value_ref, into_four, into_two, two_ref,
+};

@@ -6,14 +6,17 @@ ghost use Rattle.redis_resp.specs.Value.{tree};
 mod clone;
 mod error;
 mod list;
+mod members;
 mod number;
 mod option;
 mod pair;
 mod reading;
 mod table;
 mod text;
+mod tuple;
 
 pub use error::ParsingError;
+pub use members::{FourRefs, four_ref, into_four, into_two, two_ref};
 pub use reading::{FromRedisValue, from_redis_value, from_redis_value_ref};
 
 /// A value of the RESP protocol, as a server sends it.

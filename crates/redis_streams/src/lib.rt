@@ -1,0 +1,20 @@
+//! The replies of the stream commands of Redis, read from the value tree of the RESP protocol.
+//!
+//! ```text
+//! let reply: StreamReadReply = from_redis_value(alloc, value)?;    // what XREAD answered
+//! for stream in &reply.keys {
+//!     for entry in &stream.ids {
+//!         let name: Option<String> = entry.get(alloc, "name")?;    // a field, as a text
+//!     }
+//! }
+//! ```
+//!
+//! Each reply means one record, and a value has one record of a reply at most: the definitions in
+//! `specs/` say which. A refusal other than `ParsingError::Memory` means that there is none.
+#![tactic(auto)]
+
+pub mod rows;
+
+pub use rows::{
+    StreamAutoClaimReply, StreamClaimReply, StreamId, StreamKey, StreamRangeReply, StreamReadReply,
+};

@@ -1,0 +1,10 @@
+//! Replies that hold entries of streams: ranges, claims, reads and automatic claims.
+mod auto_claim;
+mod range;
+mod read;
+mod stream_id;
+
+pub use auto_claim::StreamAutoClaimReply;
+pub use range::{StreamClaimReply, StreamRangeReply};
+pub use read::{StreamKey, StreamReadReply};
+pub use stream_id::StreamId;
