@@ -13,8 +13,20 @@
 //! `specs/` say which. A refusal other than `ParsingError::Memory` means that there is none.
 #![tactic(auto)]
 
+pub mod info;
+pub mod pending;
 pub mod rows;
+pub mod status;
 
+pub use info::{
+    StreamInfoConsumersReply, StreamInfoGroup, StreamInfoGroupsReply, StreamInfoStreamReply,
+    StreamInfoStreamReplyWithIdempotency,
+};
+pub use pending::{
+    StreamInfoConsumer, StreamPendingCountReply, StreamPendingData, StreamPendingId,
+    StreamPendingReply,
+};
 pub use rows::{
     StreamAutoClaimReply, StreamClaimReply, StreamId, StreamKey, StreamRangeReply, StreamReadReply,
 };
+pub use status::{XAckDelStatusCode, XDelExStatusCode};

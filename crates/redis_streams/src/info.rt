@@ -1,0 +1,10 @@
+//! What XINFO tells of a stream, of its groups and of their consumers.
+mod consumers;
+mod groups;
+mod idempotency;
+mod stream;
+
+pub use consumers::StreamInfoConsumersReply;
+pub use groups::{StreamInfoGroup, StreamInfoGroupsReply};
+pub use idempotency::StreamInfoStreamReplyWithIdempotency;
+pub use stream::StreamInfoStreamReply;

@@ -1,0 +1,8 @@
+//! Replies on pending entries: those that were delivered to a consumer and not yet acknowledged.
+mod consumer;
+mod extended;
+mod summary;
+
+pub use consumer::StreamInfoConsumer;
+pub use extended::{StreamPendingCountReply, StreamPendingId};
+pub use summary::{StreamPendingData, StreamPendingReply};
