@@ -14,3 +14,7 @@ difference row = if bytes_eq (string_bytes row.text) (string_bytes row.stored) t
 -- `name text`, or `name text differs from stored`, and a line feed
 abbrev pub line_of : Row → List ℕ
 line_of row = string_bytes row.name ++ (codes " " ++ (string_bytes row.text ++ (difference row ++ codes "\n")))
+
+-- the texts of a row
+abbrev pub texts_of : Row → List ℕ × List ℕ × List ℕ
+texts_of row = (string_bytes row.name, string_bytes row.text, string_bytes row.stored)
