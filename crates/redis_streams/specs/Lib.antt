@@ -1,0 +1,5 @@
+pub mod Entry
+pub mod Read
+pub mod Rows
+pub mod StreamId
+pub mod StreamKey
