@@ -1,0 +1,18 @@
+-- What giving back an entry says of it.
+use Rattle.std.specs.Prelude.{ℕ, List, [], ◌∷◌, codes}
+
+-- the settings of `XNACK`: its mode
+pub data Nack : Type 0 where
+  silent : Nack
+  fail : Nack
+  fatal : Nack
+
+-- `SILENT`, `FAIL` or `FATAL`
+abbrev pub nack_word : Nack → List ℕ
+nack_word silent = codes "SILENT"
+nack_word fail = codes "FAIL"
+nack_word fatal = codes "FATAL"
+
+-- the word alone
+abbrev pub nack_sentence : Nack → List (List ℕ)
+nack_sentence mode = nack_word mode ∷ []

@@ -1,0 +1,47 @@
+-- What is cut off a stream, as settings, and how it reads as arguments.
+use Rattle.std.specs.Prelude.{ℕ, List, [], ◌∷◌, ◌++◌, codes, decimal, Option, None}
+use Rattle.redis_resp.specs.Clause.{clause}
+use Rattle.stream_options.specs.Clauses.{word_number}
+use Rattle.stream_options.specs.Policy.{Policy, policy_sentence}
+
+-- to the bound itself, or about so
+pub data Mode : Type 0 where
+  exact : Mode
+  approx : Mode
+
+-- `=` or `~`
+abbrev pub mode_word : Mode → List ℕ
+mode_word exact = codes "="
+mode_word approx = codes "~"
+
+-- so many entries stay, or those from an id on
+pub data Bound : Type 0 where
+  max_len : Mode → ℕ → Bound
+  min_id : Mode → List ℕ → Bound
+
+-- `MAXLEN mode n` or `MINID mode id`
+abbrev pub bound_sentence : Bound → List (List ℕ)
+bound_sentence (max_len mode n) = codes "MAXLEN" ∷ mode_word mode ∷ decimal n ∷ []
+bound_sentence (min_id mode id) = codes "MINID" ∷ mode_word mode ∷ id ∷ []
+
+-- a bound, and how many entries one call removes at most
+pub record Strategy : Type 0 where
+  pub bound : Bound
+  pub limit : Option ℕ
+
+-- the strategy of a bound, with no limit
+abbrev pub unlimited : Bound → Strategy
+unlimited bound = record { bound = bound; limit = None }
+
+-- `MAXLEN mode n [LIMIT l]` or `MINID mode id [LIMIT l]`
+abbrev pub strategy_sentence : Strategy → List (List ℕ)
+strategy_sentence s = bound_sentence s.bound ++ clause (word_number (codes "LIMIT")) s.limit
+
+-- the settings of `XTRIM`
+pub record Trim : Type 0 where
+  pub strategy : Strategy
+  pub policy : Option Policy
+
+-- `strategy [policy]`
+abbrev pub trim_sentence : Trim → List (List ℕ)
+trim_sentence t = strategy_sentence t.strategy ++ clause policy_sentence t.policy

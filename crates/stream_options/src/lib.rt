@@ -1,0 +1,16 @@
+//! The options of the Redis stream commands, as builders that write their arguments.
+//!
+//! ```text
+//! let options = StreamTrimOptions::maxlen(StreamTrimmingMode::Approx, 1000).limit(50);
+//! options.to_redis_args(alloc)?;                     // `MAXLEN`, `~`, `1000`, `LIMIT`, `50`
+//! ```
+//!
+//! A contract sees options as their settings, and what they write as the sentence of these.
+#![tactic(auto)]
+
+pub mod options;
+
+pub use options::{
+    StreamDeletionPolicy, StreamMaxlen, StreamNackMode, StreamNackOptions, StreamTrimOptions,
+    StreamTrimStrategy, StreamTrimmingMode,
+};
