@@ -2,6 +2,7 @@ pub mod FixedArgsLemmas
 pub mod ListLemmas
 pub mod MembersLemmas
 pub mod NumberLemmas
+pub mod SameLemmas
 pub mod TableLemmas
 pub mod TextLemmas
 pub mod TreeLemmas

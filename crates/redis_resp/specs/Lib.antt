@@ -1,9 +1,12 @@
+pub mod Bytes
 pub mod Clause
 pub mod FixedArgs
 pub mod Members
 pub mod Number
 pub mod Reading
 pub mod Room
+pub mod Same
+pub mod SameLaws
 pub mod Table
 pub mod Text
 pub mod Tree

@@ -3,8 +3,11 @@ ghost use Rattle.std.specs.Prelude.{◌≡◌};
 ghost use Rattle.redis_resp.specs.Tree.{plain};
 ghost use Rattle.redis_resp.specs.Value.{tree};
 
+mod bytes;
 mod clone;
+mod equality;
 mod error;
+mod itself;
 mod list;
 mod members;
 mod number;
@@ -55,6 +58,17 @@ pub enum Value {
         kind: String,
         payload: Vec<Value>,
     },
+}
+
+impl Default for Value {
+    ghost use Rattle.redis_resp.specs.Tree.{nil};
+
+    ghost is_default = { λ v. tree v ≡ nil };
+
+    /// `Nil`, no value.
+    fn default() -> Value {
+        Value::Nil
+    }
 }
 
 impl Value {

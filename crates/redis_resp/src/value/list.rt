@@ -1,6 +1,6 @@
 //! Lists that are read from values.
 ghost use Rattle.std.specs.Prelude.{◌≡◌, ◌≢◌, IfOk, IfErr, map, List, Some, None};
-ghost use Rattle.redis_resp.specs.Tree.{Tree, single, items};
+ghost use Rattle.redis_resp.specs.Tree.{single, items};
 ghost use Rattle.redis_resp.specs.Value.{tree, tree_of_pair};
 ghost use Rattle.redis_resp.specs.Reading.{traverse, list_reading};
 
@@ -8,22 +8,6 @@ use crate::value::Value;
 use crate::value::error::ParsingError;
 use crate::value::reading::FromRedisValue;
 use std::alloc::{AllocError, Global};
-
-impl FromRedisValue for Value {
-    ghost Meaning = { Tree };
-
-    ghost meaning = { tree };
-
-    ghost reading = { λ t. Some t };
-
-    fn from_redis_value(_alloc: Global, v: Value) -> Result<Value, ParsingError> {
-        Ok(v)
-    }
-
-    fn from_redis_value_ref(alloc: Global, v: &Value) -> Result<Value, ParsingError> {
-        Ok(v.try_clone(alloc)?)
-    }
-}
 
 /// Reads each value, in order, and moves it.
 fn read_values<T: FromRedisValue>(alloc: Global, values: Vec<Value>) -> Result<Vec<T>, ParsingError>

@@ -1,0 +1,42 @@
+//! Bytes that are read from values.
+ghost use Rattle.std.specs.Prelude.{◌≡◌, ◌≢◌, IfOk, IfErr, ℕ, List, Some, None};
+ghost use Rattle.redis_resp.specs.Bytes.{bytes_reading};
+ghost use Rattle.redis_resp.specs.Value.{tree};
+
+use crate::args::RawBytes;
+use crate::value::Value;
+use crate::value::error::ParsingError;
+use crate::value::reading::FromRedisValue;
+use std::alloc::Global;
+
+impl FromRedisValue for RawBytes {
+    ghost Meaning = { List ℕ };
+
+    ghost meaning = { λ bytes. bytes.0.items };
+
+    ghost reading = { bytes_reading };
+
+    /// The bytes of a bulk string. They are moved, so it takes no memory.
+    fn from_redis_value(_alloc: Global, v: Value) -> Result<RawBytes, ParsingError>
+        ensures ok { IfOk result (λ r. bytes_reading (tree v) ≡ Some r.0.items) }
+        ensures err { IfErr result (λ _. bytes_reading (tree v) ≡ None) }
+        ensures cause { IfErr result (λ e. e ≡ ParsingError.NotBytes) }
+    {
+        match v.into_plain() {
+            Value::BulkString(bytes) => Ok(RawBytes(bytes)),
+            _ => Err(ParsingError::NotBytes),
+        }
+    }
+
+    /// A copy of the bytes of a bulk string.
+    fn from_redis_value_ref(alloc: Global, v: &Value) -> Result<RawBytes, ParsingError>
+        ensures ok { IfOk result (λ r. bytes_reading (tree v.now) ≡ Some r.0.items) }
+        ensures err { IfErr result (λ e. e ≢ ParsingError.Memory → bytes_reading (tree v.now) ≡ None) }
+        ensures cause { IfErr result (λ e. e ≢ ParsingError.Memory → e ≡ ParsingError.NotBytes) }
+    {
+        match v.as_plain() {
+            Value::BulkString(bytes) => Ok(RawBytes(Vec::from_slice(alloc, bytes)?)),
+            _ => Err(ParsingError::NotBytes),
+        }
+    }
+}

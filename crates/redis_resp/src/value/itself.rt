@@ -1,0 +1,28 @@
+//! Values that are read as they are.
+ghost use Rattle.std.specs.Prelude.{◌≡◌, ◌≢◌, IfOk, IfErr, Ok, Some, None};
+ghost use Rattle.redis_resp.specs.Tree.{Tree};
+ghost use Rattle.redis_resp.specs.Value.{tree};
+
+use crate::value::Value;
+use crate::value::error::ParsingError;
+use crate::value::reading::FromRedisValue;
+use std::alloc::Global;
+
+impl FromRedisValue for Value {
+    ghost Meaning = { Tree };
+
+    ghost meaning = { tree };
+
+    ghost reading = { λ t. Some t };
+
+    /// The value itself, its attributes kept. It copies nothing and never fails.
+    fn from_redis_value(_alloc: Global, v: Value) -> Result<Value, ParsingError>
+        ensures moved { result ≡ Ok v }
+    {
+        Ok(v)
+    }
+
+    fn from_redis_value_ref(alloc: Global, v: &Value) -> Result<Value, ParsingError> {
+        Ok(v.try_clone(alloc)?)
+    }
+}

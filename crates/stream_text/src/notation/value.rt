@@ -1,0 +1,183 @@
+//! Values at the head of a text.
+ghost use Rattle.std.specs.Prelude.{◌<◌, ◌≤◌, IfOk, length};
+
+use crate::notation::error::NotationError;
+use crate::notation::quoted::{bulk_in, text_in};
+use crate::notation::scan::{expect_mark, number_in, skip_blanks, strip_mark, word_in};
+use redis_resp::Value;
+use std::alloc::Global;
+
+/// The value at the head of a text, and the text behind it.
+#[cycle(value)]
+pub fn value_in(alloc: Global, text: &[u8]) -> Result<(Value, &[u8]), NotationError>
+    ensures { IfOk result (λ r. length r.1.now < length text.now) }
+{
+    let text = skip_blanks(text);
+    if text.first() == Some(&b'"') {
+        let (bytes, rest) = bulk_in(alloc, text)?;
+        return Ok((Value::BulkString(bytes), rest));
+    }
+    let (word, rest) = word_in(text)?;
+    match word {
+        b"Array" => {
+            let (values, rest) = values_in(alloc, rest)?;
+            Ok((Value::Array(values), rest))
+        }
+        b"Set" => {
+            let (values, rest) = values_in(alloc, rest)?;
+            Ok((Value::Set(values), rest))
+        }
+        b"Map" => {
+            let (pairs, rest) = pairs_in(alloc, expect_mark(rest, '[')?, ']')?;
+            Ok((Value::Map(pairs), rest))
+        }
+        b"Push" => push_in(alloc, rest),
+        b"Attr" => attribute_in(alloc, rest),
+        b"Nil" => Ok((Value::Nil, rest)),
+        b"Okay" => Ok((Value::Okay, rest)),
+        b"Int" => int_in(rest),
+        b"Boolean" => boolean_in(rest),
+        b"Simple" => simple_in(alloc, rest),
+        b"Verbatim" => verbatim_in(alloc, rest),
+        b"Bytes" => bytes_in(alloc, rest),
+        _ => Ok((Value::BulkString(Vec::from_slice(alloc, word)?), rest)),
+    }
+}
+
+/// `[value, ..]`
+#[cycle(value)]
+fn values_in(alloc: Global, text: &[u8]) -> Result<(Vec<Value>, &[u8]), NotationError>
+    ensures { IfOk result (λ r. length r.1.now < length text.now) }
+{
+    let mut values = Vec::new(alloc);
+    let mut rest = expect_mark(text, '[')?;
+    if let Some(behind) = strip_mark(rest, ']') {
+        return Ok((values, behind));
+    }
+    loop {
+        let (value, behind) = value_in(alloc, rest)?;
+        values.push(value)?;
+        if let Some(end) = strip_mark(behind, ']') {
+            return Ok((values, end));
+        }
+        rest = expect_mark(behind, ',')?;
+    }
+}
+
+/// `value: value, ..` and the mark that ends it
+#[cycle(value)]
+fn pairs_in(
+    alloc: Global,
+    text: &[u8],
+    close: char,
+) -> Result<(Vec<(Value, Value)>, &[u8]), NotationError>
+    ensures { IfOk result (λ r. length r.1.now < length text.now) }
+{
+    let mut pairs = Vec::new(alloc);
+    if let Some(behind) = strip_mark(text, close) {
+        return Ok((pairs, behind));
+    }
+    let mut rest = text;
+    loop {
+        let (key, behind) = value_in(alloc, rest)?;
+        let (value, behind) = value_in(alloc, expect_mark(behind, ':')?)?;
+        pairs.push((key, value))?;
+        if let Some(end) = strip_mark(behind, close) {
+            return Ok((pairs, end));
+        }
+        rest = expect_mark(behind, ',')?;
+    }
+}
+
+/// `(text)[value, ..]`
+#[cycle(value)]
+fn push_in(alloc: Global, text: &[u8]) -> Result<(Value, &[u8]), NotationError>
+    ensures { IfOk result (λ r. length r.1.now < length text.now) }
+{
+    let (kind, rest) = text_in(alloc, expect_mark(text, '(')?)?;
+    let (payload, rest) = values_in(alloc, expect_mark(rest, ')')?)?;
+    Ok((Value::Push { kind, payload }, rest))
+}
+
+/// `(value)` or `(value; value: value, ..)`
+#[cycle(value)]
+fn attribute_in(alloc: Global, text: &[u8]) -> Result<(Value, &[u8]), NotationError>
+    ensures { IfOk result (λ r. length r.1.now < length text.now) }
+{
+    let (payload, rest) = value_in(alloc, expect_mark(text, '(')?)?;
+    let payload = Box::new(alloc, payload)?;
+    let (attributes, rest) = match strip_mark(rest, ';') {
+        Some(rest) => pairs_in(alloc, rest, ')')?,
+        None => (Vec::new(alloc), expect_mark(rest, ')')?),
+    };
+    Ok((
+        Value::Attribute {
+            payload,
+            attributes,
+        },
+        rest,
+    ))
+}
+
+/// A number
+fn int_in(text: &[u8]) -> Result<(Value, &[u8]), NotationError>
+    ensures { IfOk result (λ r. length r.1.now < length text.now) }
+{
+    let (word, rest) = word_in(text)?;
+    Ok((Value::Int(number_in(word)?), rest))
+}
+
+/// `(true)` or `(false)`
+fn boolean_in(text: &[u8]) -> Result<(Value, &[u8]), NotationError>
+    ensures { IfOk result (λ r. length r.1.now < length text.now) }
+{
+    let (word, rest) = word_in(expect_mark(text, '(')?)?;
+    let truth = match word {
+        b"true" => true,
+        b"false" => false,
+        _ => return Err(NotationError::NotBoolean),
+    };
+    Ok((Value::Boolean(truth), expect_mark(rest, ')')?))
+}
+
+/// `(text)`
+fn simple_in(alloc: Global, text: &[u8]) -> Result<(Value, &[u8]), NotationError>
+    ensures { IfOk result (λ r. length r.1.now < length text.now) }
+{
+    let (text, rest) = text_in(alloc, expect_mark(text, '(')?)?;
+    Ok((Value::SimpleString(text), expect_mark(rest, ')')?))
+}
+
+/// `(text, text)`
+fn verbatim_in(alloc: Global, text: &[u8]) -> Result<(Value, &[u8]), NotationError>
+    ensures { IfOk result (λ r. length r.1.now < length text.now) }
+{
+    let (format, rest) = text_in(alloc, expect_mark(text, '(')?)?;
+    let (text, rest) = text_in(alloc, expect_mark(rest, ',')?)?;
+    Ok((
+        Value::VerbatimString { format, text },
+        expect_mark(rest, ')')?,
+    ))
+}
+
+/// `(byte, ..)`
+fn bytes_in(alloc: Global, text: &[u8]) -> Result<(Value, &[u8]), NotationError>
+    ensures { IfOk result (λ r. length r.1.now < length text.now) }
+{
+    let mut bytes = Vec::new(alloc);
+    let mut rest = expect_mark(text, '(')?;
+    if let Some(behind) = strip_mark(rest, ')') {
+        return Ok((Value::BulkString(bytes), behind));
+    }
+    loop {
+        let (word, behind) = word_in(rest)?;
+        match u8::try_from(number_in(word)?) {
+            Ok(byte) => bytes.push(byte)?,
+            Err(_) => return Err(NotationError::NotNumber),
+        }
+        if let Some(end) = strip_mark(behind, ')') {
+            return Ok((Value::BulkString(bytes), end));
+        }
+        rest = expect_mark(behind, ',')?;
+    }
+}
