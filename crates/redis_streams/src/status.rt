@@ -1,8 +1,9 @@
 //! The status codes that XDELEX and XACKDEL answer, one for each entry that was named.
 ghost use Rattle.std.specs.Prelude.{◌≡◌, ◌≢◌, Some, None, IfOk, IfErr, ok_or};
 ghost use Rattle.redis_resp.specs.Value.{tree};
-ghost use Rattle.redis_streams.specs.Status.{xdelex_code, xdelex_of_code, xdelex_reading, xdelex_refusal};
-ghost use Rattle.redis_streams.specs.Status.{xackdel_code, xackdel_of_code, xackdel_reading, xackdel_refusal};
+ghost use Rattle.redis_streams.specs.Status.{xdelex_code, xdelex_of_code, xdelex_reading};
+ghost use Rattle.redis_streams.specs.Status.{xackdel_code, xackdel_of_code, xackdel_reading};
+ghost use Rattle.redis_streams.specs.Status.{xdelex_refusal, xackdel_refusal};
 
 use redis_resp::{FromRedisValue, ParsingError, Value};
 use std::alloc::Global;
@@ -43,16 +44,20 @@ impl FromRedisValue for XDelExStatusCode {
 
     fn from_redis_value(alloc: Global, v: Value) -> Result<XDelExStatusCode, ParsingError>
         ensures ok { IfOk result (λ r. xdelex_reading (tree v) ≡ Some r) }
-        ensures err { IfErr result (λ e. e ≢ ParsingError.Memory → xdelex_reading (tree v) ≡ None) }
-        ensures answer { result ≡ ok_or (xdelex_reading (tree v)) (xdelex_refusal (tree v)) }
+        ensures err { IfErr result (λ e. e ≢ ParsingError.Memory
+            → xdelex_reading (tree v) ≡ None) }
+        ensures answer { result
+            ≡ ok_or (xdelex_reading (tree v)) (xdelex_refusal (tree v)) }
     {
         XDelExStatusCode::from_redis_value_ref(alloc, &v)
     }
 
     fn from_redis_value_ref(_alloc: Global, v: &Value) -> Result<XDelExStatusCode, ParsingError>
         ensures ok { IfOk result (λ r. xdelex_reading (tree v.now) ≡ Some r) }
-        ensures err { IfErr result (λ e. e ≢ ParsingError.Memory → xdelex_reading (tree v.now) ≡ None) }
-        ensures answer { result ≡ ok_or (xdelex_reading (tree v.now)) (xdelex_refusal (tree v.now)) }
+        ensures err { IfErr result (λ e. e ≢ ParsingError.Memory
+            → xdelex_reading (tree v.now) ≡ None) }
+        ensures answer { result
+            ≡ ok_or (xdelex_reading (tree v.now)) (xdelex_refusal (tree v.now)) }
     {
         match v {
             Value::Int(code) => match *code {
@@ -102,16 +107,20 @@ impl FromRedisValue for XAckDelStatusCode {
 
     fn from_redis_value(alloc: Global, v: Value) -> Result<XAckDelStatusCode, ParsingError>
         ensures ok { IfOk result (λ r. xackdel_reading (tree v) ≡ Some r) }
-        ensures err { IfErr result (λ e. e ≢ ParsingError.Memory → xackdel_reading (tree v) ≡ None) }
-        ensures answer { result ≡ ok_or (xackdel_reading (tree v)) (xackdel_refusal (tree v)) }
+        ensures err { IfErr result (λ e. e ≢ ParsingError.Memory
+            → xackdel_reading (tree v) ≡ None) }
+        ensures answer { result
+            ≡ ok_or (xackdel_reading (tree v)) (xackdel_refusal (tree v)) }
     {
         XAckDelStatusCode::from_redis_value_ref(alloc, &v)
     }
 
     fn from_redis_value_ref(_alloc: Global, v: &Value) -> Result<XAckDelStatusCode, ParsingError>
         ensures ok { IfOk result (λ r. xackdel_reading (tree v.now) ≡ Some r) }
-        ensures err { IfErr result (λ e. e ≢ ParsingError.Memory → xackdel_reading (tree v.now) ≡ None) }
-        ensures answer { result ≡ ok_or (xackdel_reading (tree v.now)) (xackdel_refusal (tree v.now)) }
+        ensures err { IfErr result (λ e. e ≢ ParsingError.Memory
+            → xackdel_reading (tree v.now) ≡ None) }
+        ensures answer { result
+            ≡ ok_or (xackdel_reading (tree v.now)) (xackdel_refusal (tree v.now)) }
     {
         match v {
             Value::Int(code) => match *code {
