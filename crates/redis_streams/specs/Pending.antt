@@ -1,9 +1,7 @@
 -- What the replies of XPENDING mean, and which value means what.
 use Rattle.std.specs.Prelude.{ℕ, ◌-◌, ◌^◌, ℤ, pos, negsuc, suc, List, [], Option, Some, None, map, option_map, option_and_then, unwrap_or, option_to_list, flat_map, if◌then◌else◌, nat_eq}
 use Rattle.std.specs.Str.{is_utf8}
-use Rattle.redis_resp.specs.Tree.{Tree, int, bulk, array, list_of_trees, array_of_plain, exactly_four}
-use Rattle.redis_resp.specs.declared.value.error.ParsingError.{ParsingError}
-use Rattle.redis_resp.specs.declared.value.error.ParsingError.TheVariants.{NotText, NotPendingRow}
+use Rattle.redis_resp.specs.Tree.{Tree, int, bulk, array_of_plain, exactly_four}
 use Rattle.redis_resp.specs.Text.{text_reading}
 use Rattle.redis_resp.specs.Number.{unsigned_of, within, unsigned_reading}
 use Rattle.redis_resp.specs.Reading.{option_reading, list_reading, traverse, two_reading, four_of, four_reading}
@@ -93,16 +91,6 @@ pending_entry parts = record { id = parts.0; consumer = parts.1; elapsed = parts
 -- exactly an id, a name and two numbers, in an array with no attribute around it
 abbrev pub pending_row : Tree → Option PendingEntry
 pending_row t = option_map pending_entry (option_and_then (four_of literal_text literal_text literal_number literal_number) (option_and_then exactly_four (array_of_plain t)))
-
--- the refusal of members that are no pending entry: the kinds of the four are wrong, or one of the texts is no UTF-8
-abbrev pub members_refusal : Option (Tree × Tree × Tree × Tree) → ParsingError
-members_refusal (Some (bulk id, bulk consumer, int elapsed, int delivered)) = NotText
-members_refusal _ = NotPendingRow 3
-
--- the refusal of a row that is no pending entry
-abbrev pub row_refusal : Tree → ParsingError
-row_refusal (array ts) = members_refusal (exactly_four (list_of_trees ts))
-row_refusal _ = NotPendingRow 2
 
 -- what a value says as the reply of XPENDING with a range: a row for each entry, in an array with no attribute around it
 abbrev pub pending_count_reading : Tree → Option (List PendingEntry)
