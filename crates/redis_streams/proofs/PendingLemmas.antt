@@ -1,8 +1,7 @@
 -- What the records of XPENDING are read from.
-use Rattle.std.proofs.Common.{◌≡◌, ℕ, List, Option, Some, None, option_and_then, unwrap_or, Result, Ok, Err, Vec, Global, map, ap, sym, ◌∙◌}
+use Rattle.std.proofs.Common.{◌≡◌, ℕ, List, unwrap_or, Result, Ok, Err, Vec, Global, map, ap, sym, ◌∙◌}
 use Rattle.std.specs.Result.{result_unwrap_or}
 use Rattle.std.specs.Str.Parse.{ParsesUnsigned}
-use Rattle.redis_resp.specs.Number.{unsigned_of, within}
 use Rattle.redis_resp.specs.Reading.{traverse}
 use Rattle.redis_resp.specs.Value.{tree}
 use Rattle.redis_resp.specs.declared.value.Value.{Value, Array}

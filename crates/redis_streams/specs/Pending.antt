@@ -1,5 +1,5 @@
 -- What the replies of XPENDING mean, and which value means what.
-use Rattle.std.specs.Prelude.{ℕ, ◌-◌, ◌^◌, ℤ, pos, negsuc, suc, List, [], Option, Some, None, map, option_map, option_and_then, unwrap_or, option_to_list, flat_map, if◌then◌else◌, nat_eq}
+use Rattle.std.specs.Prelude.{ℕ, ◌-◌, ◌^◌, ℤ, pos, negsuc, suc, List, [], Option, Some, None, option_map, option_and_then, unwrap_or, option_to_list, flat_map, if◌then◌else◌, nat_eq}
 use Rattle.std.specs.Str.{is_utf8}
 use Rattle.redis_resp.specs.Tree.{Tree, int, bulk, array_of_plain, exactly_four}
 use Rattle.redis_resp.specs.Text.{text_reading}
@@ -85,6 +85,7 @@ abbrev pub literal_number : Tree → Option ℕ
 literal_number (int z) = Some (without_sign z)
 literal_number _ = None
 
+-- a pending entry by its four members
 abbrev pub pending_entry : List ℕ × List ℕ × ℕ × ℕ → PendingEntry
 pending_entry parts = record { id = parts.0; consumer = parts.1; elapsed = parts.2; delivered = parts.3 }
 

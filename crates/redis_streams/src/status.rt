@@ -36,6 +36,8 @@ impl XDelExStatusCode {
 /// Read from a whole number with no attribute around it. Takes no memory, and refuses any other
 /// value with `NotXDelEx`, and any other number with `UnknownXDelEx` and that number.
 impl FromRedisValue for XDelExStatusCode {
+    ghost use Rattle.redis_streams.specs.declared.status.XDelExStatusCode.{XDelExStatusCode};
+
     ghost Meaning = { XDelExStatusCode };
 
     ghost meaning = { λ status. status };
@@ -99,6 +101,8 @@ impl XAckDelStatusCode {
 /// Read from a whole number with no attribute around it. Takes no memory, and refuses any other
 /// value with `NotXAckDel`, and any other number with `UnknownXAckDel` and that number.
 impl FromRedisValue for XAckDelStatusCode {
+    ghost use Rattle.redis_streams.specs.declared.status.XAckDelStatusCode.{XAckDelStatusCode};
+
     ghost Meaning = { XAckDelStatusCode };
 
     ghost meaning = { λ status. status };
