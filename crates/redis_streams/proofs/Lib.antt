@@ -1,2 +1,3 @@
+pub mod PendingLemmas
 pub mod ReadLemmas
 pub mod RowsLemmas
