@@ -1,3 +1,6 @@
+pub mod Status
+pub mod Pending
+pub mod PendingRecords
 pub mod Entry
 pub mod Read
 pub mod Rows
