@@ -3,6 +3,7 @@ pub mod ListLemmas
 pub mod MembersLemmas
 pub mod NumberLemmas
 pub mod SameLemmas
+pub mod PairLemmas
 pub mod TableLemmas
 pub mod TextLemmas
 pub mod TreeLemmas
