@@ -42,7 +42,6 @@ pub fn hashed<V: Drop>(
 /// The pairs of a `Map`, of an `Array` two by two, or of `Nil`, which has none: keys as text and
 /// values by the reading of `V`, all of them, also those whose key comes again. A key stands where
 /// it came first, with its last value. `NotPairs` for any other kind or an odd length.
-#[tactic(auto, using(crate::proofs::TableLemmas::table_means, crate::proofs::TableLemmas::get_of_table))]
 impl<V: FromRedisValue> FromRedisValue for IndexMap<String, V> {
     ghost Meaning = { List (List ℕ × V.Meaning) };
 
@@ -79,7 +78,6 @@ impl<V: FromRedisValue> FromRedisValue for IndexMap<String, V> {
 
 /// The same pairs as a map without order: each key with its last value. `NotPairs` for any other
 /// kind or an odd length.
-#[tactic(auto, using(crate::proofs::TableLemmas::fields_mean, crate::proofs::TableLemmas::get_of_hashed))]
 impl<V: FromRedisValue> FromRedisValue for HashMap<String, V> {
     ghost Meaning = { Fields V.Meaning };
 
