@@ -1,5 +1,6 @@
 pub mod FixedArgsLemmas
 pub mod ListLemmas
+pub mod RoomLemmas
 pub mod MembersLemmas
 pub mod NumberLemmas
 pub mod SameLemmas

@@ -1,143 +1,214 @@
--- What writes a number is ASCII.
-use Rattle.std.proofs.Common.{◌≡◌, ◌==◌, ℕ, zero, suc, ◌<◌, ◌^◌, Bool, true, false, cond, List, [], ◌∷◌, drop, get_or, refl, arith, nat_lt, lit<, ap, sym, length, Option, Some, None, Result, Ok, Err, MatchResult, option_and_then, ℤ, pos, negsuc, unsigned_abs, FitsSigned, w64, ◌≤◌, ◌∙◌, Vec, Global, String, string_bytes}
-use Rattle.redis_resp.specs.Tree.{Tree, plain}
-use Rattle.redis_resp.specs.Number.{unsigned_reading, unsigned_of_plain}
-use Rattle.redis_resp.specs.Value.{tree}
-use Rattle.redis_resp.proofs.TreeLemmas.{tree-BulkString, tree-SimpleString, tree-Int}
-use Rattle.redis_resp.specs.declared.value.Value.{Value, BulkString, SimpleString, Int}
-use Rattle.std.specs.Str.{IsUtf8, IsAscii}
-use Rattle.std.specs.Str.Parse.{AllDigits, IsNumeral, without_leading_plus, without_leading_sign}
-use Rattle.std.proofs.lemmas.Str.{IsUtf8-from_ascii}
-use Rattle.std.proofs.lemmas.Fmt.{IsAscii-from_digits}
-use Rattle.std.proofs.lemmas.Bool.Decides.{nat_tests, Decides-and, Decides-ltb, not_from_Decides}
-use Rattle.std.specs.Bool.{Decides}
-use Rattle.std.specs.Char.{digit_value}
+-- The grammar of numbers is what Rust's `parse` takes, and what writes a number is a text.
+use Rattle.std.proofs.Common.{◌≡◌, ◌==◌, ℕ, zero, suc, ◌<◌, ◌≤◌, ◌^◌, Bool, true, false, List, [], ◌∷◌, refl, arith, nat_lt, ap, sym, ◌∙◌, subst, length, Option, Some, None, Result, Ok, Err, option_map, option_and_then, ℤ, pos, negsuc, unsigned_abs, FitsSigned, w64, Vec, Global, String, string_bytes}
+use Rattle.std.specs.Prelude.{neg_ℤ}
+use Rattle.std.specs.Result.{OkIff, result_ok}
 use Rattle.std.specs.Int.{FitsUnsignedBits}
-use Rattle.std.specs.Str.Parse.{ParsesUnsigned, ParsesSigned, digits_value, signed_digits_value}
-use Rattle.redis_resp.specs.Number.{all_digits, is_numeral, unsigned_of, signed_of, within, signed_within, unsigned_of_int, signed_reading, signed_of_plain}
-use Rattle.std.proofs.lemmas.Bool.{false_from_ne_true, lt-ltb, ltb-true}
+use Rattle.std.specs.Str.{IsUtf8, IsAscii, all_ascii_digits}
+use Rattle.std.specs.Str.Parse.{AllDigits, ParsesUnsigned, ParsesSigned}
+use Rattle.std.proofs.lemmas.Bool.{and_parts, both_ways, eqb-true, eqb-false, false_from_ne_true, lt-ltb, ltb-true}
+use Rattle.std.proofs.lemmas.Fmt.{IsAscii-from_digits}
+use Rattle.std.proofs.lemmas.Str.{IsUtf8-from_ascii}
+use Rattle.std.proofs.lemmas.Str.Parse.{IsNumeralModel, numerals_by_weight, tells_all_ascii_digits, parse_plain, parse_plus, parse_signed_plain, parse_signed_plus, parse_signed_minus}
+use Rattle.redis_resp.specs.Tree.{Tree, plain}
+use Rattle.redis_resp.specs.Value.{tree}
+use Rattle.redis_resp.specs.Number.{plus, minus, is_numeral, number_of_digits, numeral, unsigned_of, signed_of, within, signed_within, unsigned_of_int, unsigned_of_plain, signed_of_plain, unsigned_reading, signed_reading}
+use Rattle.redis_resp.specs.declared.value.Value.{Value, BulkString, SimpleString, Int}
+use Rattle.redis_resp.proofs.TreeLemmas.{tree-BulkString, tree-SimpleString, tree-Int}
 
-first_ascii : (bs : List ℕ) → get_or bs 0 0 < 128 → IsAscii (drop 1 bs) → IsAscii bs
-first_ascii [] a h i = lit< tt
-first_ascii (b ∷ bs) a h zero = a
-first_ascii (b ∷ bs) a h (suc i) = h i
+-- the digits of the grammar are those of `parse`
+digits : IsNumeralModel (λ ds. all_ascii_digits ds ≡ true) number_of_digits
+digits = numerals_by_weight _ tells_all_ascii_digits number_of_digits (record { empty = refl; more = λ c cs k. refl })
 
-after_plus : (bs : List ℕ) (q : Bool) → (get_or bs 0 0 == 43) ≡ q → AllDigits 10 (drop (cond q 1 0) bs) → IsAscii bs
-after_plus bs true e h = first_ascii bs (grind (arith, nat_tests)) (IsAscii-from_digits (drop 1 bs) h)
-after_plus bs false e h = IsAscii-from_digits bs h
+numeral_Some : (ds : List ℕ) → all_ascii_digits ds ≡ true → 0 < length ds → numeral ds ≡ Some (number_of_digits ds)
+unfolding numeral
+numeral_Some ds a l = rw (lt-ltb 0 (length ds) l, a) refl
 
-after_minus : (bs : List ℕ) (q : Bool) → (get_or bs 0 0 == 45) ≡ q → AllDigits 10 (cond q (drop 1 bs) (without_leading_plus bs)) → IsAscii bs
-after_minus bs true e h = first_ascii bs (grind (arith, nat_tests)) (IsAscii-from_digits (drop 1 bs) h)
-after_minus bs false e h = after_plus bs _ refl h
+numeral_None : (ds : List ℕ) → is_numeral ds ≡ false → numeral ds ≡ None
+unfolding numeral
+numeral_None ds e = rw e refl
 
-pub utf8_of_unsigned : (bs : List ℕ) → IsNumeral 10 (without_leading_plus bs) → IsUtf8 bs
-utf8_of_unsigned bs h = IsUtf8-from_ascii bs (after_plus bs _ refl h.1)
+numeral_cases : {Q : Type 0} (ds : List ℕ) → (all_ascii_digits ds ≡ true → 0 < length ds → Q) → (numeral ds ≡ None → Q) → Q
+numeral_cases {Q} ds f g = by (is_numeral ds) refl
+  where
+    by : (b : Bool) → is_numeral ds ≡ b → Q
+    by true e = let p = and_parts (nat_lt 0 (length ds)) (all_ascii_digits ds) e in f p.1 (ltb-true 0 (length ds) p.0)
+    by false e = g (numeral_None ds e)
 
-pub utf8_of_signed : (bs : List ℕ) → IsNumeral 10 (without_leading_sign bs) → IsUtf8 bs
-utf8_of_signed bs h = IsUtf8-from_ascii bs (after_minus bs _ refl h.1)
+unsigned_plus : (c : ℕ) (cs : List ℕ) → (c == plus) ≡ true → unsigned_of (c ∷ cs) ≡ numeral cs
+unfolding unsigned_of
+unsigned_plus c cs e = rw e refl
 
-all_digits-Decides : (ds : List ℕ) → Decides (all_digits ds) (AllDigits 10 ds)
-all_digits-Decides [] = (λ _. tt, λ _. refl)
-all_digits-Decides (c ∷ cs) = Decides-and (nat_lt (digit_value c) 10) (all_digits cs) (Decides-ltb (digit_value c) 10) (all_digits-Decides cs)
+unsigned_bare : (c : ℕ) (cs : List ℕ) → (c == plus) ≡ false → unsigned_of (c ∷ cs) ≡ numeral (c ∷ cs)
+unfolding unsigned_of
+unsigned_bare c cs e = rw e refl
 
-is_numeral-Decides : (ds : List ℕ) → Decides (is_numeral ds) (IsNumeral 10 ds)
-is_numeral-Decides ds = Decides-and (nat_lt 0 (length ds)) (all_digits ds) (Decides-ltb 0 (length ds)) (all_digits-Decides ds)
+signed_minus : (c : ℕ) (cs : List ℕ) → (c == minus) ≡ true → signed_of (c ∷ cs) ≡ option_map (λ n. neg_ℤ (pos n)) (numeral cs)
+unfolding signed_of
+signed_minus c cs e = rw e refl
 
--- a number that is read for its size
-abbrev pub sized : ℕ → Option ℕ → Option ℕ
-sized bits o = option_and_then (within bits) o
+signed_other : (c : ℕ) (cs : List ℕ) → (c == minus) ≡ false → signed_of (c ∷ cs) ≡ option_map pos (unsigned_of (c ∷ cs))
+unfolding signed_of
+signed_other c cs e = rw e refl
 
-within_true : (bits n : ℕ) → n < 2 ^ bits → within bits n ≡ Some n
+-- what fits
+
+pub within_true : (bits n : ℕ) → n < 2 ^ bits → within bits n ≡ Some n
 unfolding within
 within_true bits n h = rw (lt-ltb n (2 ^ bits) h) refl
 
-within_false : (bits n : ℕ) → ¬ (n < 2 ^ bits) → within bits n ≡ None
+pub within_false : (bits n : ℕ) → ¬ (n < 2 ^ bits) → within bits n ≡ None
 unfolding within
 within_false bits n h = rw (false_from_ne_true _ (λ e. h (ltb-true n (2 ^ bits) e))) refl
 
-unsigned_of_true : (bs : List ℕ) → IsNumeral 10 (without_leading_plus bs) → unsigned_of bs ≡ Some (digits_value 10 (without_leading_plus bs))
-unfolding unsigned_of
-unsigned_of_true bs h = rw ((is_numeral-Decides (without_leading_plus bs)).1 h) refl
+positive_within : (n : ℕ) → n < 2 ^ 63 → signed_within 63 (pos n) ≡ Some (pos n)
+unfolding signed_within
+positive_within n h = rw (lt-ltb n (2 ^ 63) h) refl
 
-unsigned_of_false : (bs : List ℕ) → ¬ IsNumeral 10 (without_leading_plus bs) → unsigned_of bs ≡ None
-unfolding unsigned_of
-unsigned_of_false bs h = rw (false_from_ne_true _ (λ e. h ((is_numeral-Decides (without_leading_plus bs)).0 e))) refl
+positive_over : (n : ℕ) → ¬ (n < 2 ^ 63) → signed_within 63 (pos n) ≡ None
+unfolding signed_within
+positive_over n h = rw (false_from_ne_true _ (λ e. h (ltb-true n (2 ^ 63) e))) refl
 
-signed_of_true : (bs : List ℕ) → IsNumeral 10 (without_leading_sign bs) → signed_of bs ≡ Some (signed_digits_value 10 bs)
-unfolding signed_of
-signed_of_true bs h = rw ((is_numeral-Decides (without_leading_sign bs)).1 h) refl
+negative_within : (n : ℕ) → n ≤ 2 ^ 63 → signed_within 63 (neg_ℤ (pos n)) ≡ Some (neg_ℤ (pos n))
+unfolding signed_within
+negative_within zero h = refl
+negative_within (suc n) h = rw (lt-ltb n (2 ^ 63) (omega arith)) refl
 
-signed_of_false : (bs : List ℕ) → ¬ IsNumeral 10 (without_leading_sign bs) → signed_of bs ≡ None
-unfolding signed_of
-signed_of_false bs h = rw (false_from_ne_true _ (λ e. h ((is_numeral-Decides (without_leading_sign bs)).0 e))) refl
-
-by_test : {P : Type 0} (Q : Type 0) (b : Bool) → Decides b P → (P → Q) → (¬ P → Q) → Q
-by_test Q true d f g = f (d.0 refl)
-by_test Q false d f g = g (not_from_Decides false d refl)
-
--- what `parse` answers is the number that the text writes
-pub unsigned_parsed : {E : Type 0} (bits : ℕ) (bs : List ℕ) (r : Result ℕ E) → ParsesUnsigned bits 10 bs r → MatchResult r (λ n. sized bits (unsigned_of bs) ≡ Some n) (λ _. sized bits (unsigned_of bs) ≡ None)
-unsigned_parsed bits bs (Ok n) p = rw (unsigned_of_true bs p.0.0) (within_true bits _ p.0.1 ∙ ap Some (sym p.1))
-unsigned_parsed bits bs (Err e) p = by_test _ _ (is_numeral-Decides (without_leading_plus bs))
-    (λ h. rw (unsigned_of_true bs h) (within_false bits _ (λ l. p (h, l))))
-    (λ h. rw (unsigned_of_false bs h) refl)
-
--- what writes a number is a text
-pub unsigned_no_text : (bits : ℕ) (bs : List ℕ) → ¬ IsUtf8 bs → sized bits (unsigned_of bs) ≡ None
-unsigned_no_text bits bs apart = rw (unsigned_of_false bs (λ h. apart (utf8_of_unsigned bs h))) refl
+negative_over : (n : ℕ) → ¬ (n ≤ 2 ^ 63) → signed_within 63 (neg_ℤ (pos n)) ≡ None
+unfolding signed_within
+negative_over zero h = absurd (h (omega arith))
+negative_over (suc n) h = rw (false_from_ne_true _ (λ e. h (let l : n < 2 ^ 63 = ltb-true n (2 ^ 63) e in omega arith))) refl
 
 signed_within_true : (z : ℤ) → FitsSigned w64 z → signed_within 63 z ≡ Some z
 unfolding signed_within
 signed_within_true (pos n) h = rw (lt-ltb n (2 ^ 63) h.sfits) refl
 signed_within_true (negsuc n) h = rw (lt-ltb n (2 ^ 63) h.sfits) refl
 
-signed_within_false : (z : ℤ) → ¬ FitsSigned w64 z → signed_within 63 z ≡ None
-unfolding signed_within
-signed_within_false (pos n) h = rw (false_from_ne_true _ (λ e. h (record { sfits = ltb-true n (2 ^ 63) e }))) refl
-signed_within_false (negsuc n) h = rw (false_from_ne_true _ (λ e. h (record { sfits = ltb-true n (2 ^ 63) e }))) refl
+-- an answer is Ok of the number, where there is one that fits, and else an error
+abbrev pub Told : {E : Type 0} → ℕ → Result ℕ E → Option ℕ → Type 0
+Told bits r o = result_ok r ≡ option_and_then (within bits) o
 
-pub signed_parsed : {E : Type 0} (bs : List ℕ) (r : Result ℤ E) → ParsesSigned w64 10 bs r → MatchResult r (λ z. option_and_then (signed_within 63) (signed_of bs) ≡ Some z) (λ _. option_and_then (signed_within 63) (signed_of bs) ≡ None)
-signed_parsed bs (Ok z) p = rw (signed_of_true bs p.0.0) (signed_within_true _ p.0.1 ∙ ap Some (sym p.1))
-signed_parsed bs (Err e) p = by_test _ _ (is_numeral-Decides (without_leading_sign bs))
-    (λ h. rw (signed_of_true bs h) (signed_within_false _ (λ l. p (h, l))))
-    (λ h. rw (signed_of_false bs h) refl)
+abbrev pub SignedTold : {E : Type 0} → Result ℤ E → Option ℤ → Type 0
+SignedTold r o = result_ok r ≡ option_and_then (signed_within 63) o
 
-pub signed_no_text : (bs : List ℕ) → ¬ IsUtf8 bs → option_and_then (signed_within 63) (signed_of bs) ≡ None
-signed_no_text bs apart = rw (signed_of_false bs (λ h. apart (utf8_of_signed bs h))) refl
+module _ {E : Type 0} where
+  numeral_told : (bits : ℕ) (ds : List ℕ) (r : Result ℕ E) → OkIff r ((all_ascii_digits ds ≡ true) × (0 < length ds) × (number_of_digits ds < 2 ^ bits)) (number_of_digits ds) → Told bits r (numeral ds)
+  numeral_told bits ds (Ok n) p = rw (numeral_Some ds p.0.0 p.0.1) (ap Some p.1 ∙ sym (within_true bits _ p.0.2))
+  numeral_told bits ds (Err e) p = numeral_cases ds
+      (λ a l. rw (numeral_Some ds a l) (sym (within_false bits _ (λ h. p (a, l, h)))))
+      (λ no_number. rw no_number refl)
 
-pub sized_int : (z : ℤ) (n : ℕ) → FitsUnsignedBits 64 z → n ≡ unsigned_abs z → sized 64 (unsigned_of_int z) ≡ Some n
-sized_int (pos m) n fits is = within_true 64 m fits ∙ ap Some (sym is)
-sized_int (negsuc m) n fits is = absurd fits
+  positive_told : (ds : List ℕ) (r : Result ℤ E) → OkIff r ((all_ascii_digits ds ≡ true) × (0 < length ds) × (number_of_digits ds < 2 ^ 63)) (pos (number_of_digits ds)) → SignedTold r (option_map pos (numeral ds))
+  positive_told ds (Ok z) p = rw (numeral_Some ds p.0.0 p.0.1) (ap Some p.1 ∙ sym (positive_within _ p.0.2))
+  positive_told ds (Err e) p = numeral_cases ds
+      (λ a l. rw (numeral_Some ds a l) (sym (positive_over _ (λ h. p (a, l, h)))))
+      (λ no_number. rw no_number refl)
+
+  negative_told : (ds : List ℕ) (r : Result ℤ E) → OkIff r ((all_ascii_digits ds ≡ true) × (0 < length ds) × (number_of_digits ds ≤ 2 ^ 63)) (neg_ℤ (pos (number_of_digits ds))) → SignedTold r (option_map (λ n. neg_ℤ (pos n)) (numeral ds))
+  negative_told ds (Ok z) p = rw (numeral_Some ds p.0.0 p.0.1) (ap Some p.1 ∙ sym (negative_within _ p.0.2))
+  negative_told ds (Err e) p = numeral_cases ds
+      (λ a l. rw (numeral_Some ds a l) (sym (negative_over _ (λ h. p (a, l, h)))))
+      (λ no_number. rw no_number refl)
+
+  empty_told : (bits : ℕ) (P Q : Type 0) (n : ℕ) (r : Result ℕ E) → OkIff r (P × (0 < 0) × Q) n → Told bits r None
+  empty_told bits P Q n (Ok m) p = absurd (omega (arith, p.0.1))
+  empty_told bits P Q n (Err e) p = refl
+
+  empty_signed_told : (P Q : Type 0) (n : ℤ) (r : Result ℤ E) → OkIff r (P × (0 < 0) × Q) n → SignedTold r None
+  empty_signed_told P Q n (Ok m) p = absurd (omega (arith, p.0.1))
+  empty_signed_told P Q n (Err e) p = refl
+
+  -- what `parse` answers is the number that the text writes
+  pub unsigned_told : (bits : ℕ) (bs : List ℕ) (r : Result ℕ E) → ParsesUnsigned bits 10 bs r → Told bits r (unsigned_of bs)
+  unfolding unsigned_of
+  unsigned_told bits [] r p = empty_told bits _ _ _ r (parse_plain digits bits [] r p (λ e. omega arith))
+  unsigned_told bits (c ∷ cs) r p = by (c == plus) refl
+    where
+      by : (q : Bool) → (c == plus) ≡ q → Told bits r (unsigned_of (c ∷ cs))
+      by true e = subst (λ o. Told bits r o) (sym (unsigned_plus c cs e)) (numeral_told bits cs r (parse_plus digits bits (c ∷ cs) r p (eqb-true c 43 e)))
+      by false e = subst (λ o. Told bits r o) (sym (unsigned_bare c cs e)) (numeral_told bits (c ∷ cs) r (parse_plain digits bits (c ∷ cs) r p (eqb-false c 43 e)))
+
+  pub signed_told : (bs : List ℕ) (r : Result ℤ E) → ParsesSigned w64 10 bs r → SignedTold r (signed_of bs)
+  unfolding signed_of
+  signed_told [] r p = empty_signed_told _ _ _ r (parse_signed_plain digits w64 [] r p (λ e. omega arith) (λ e. omega arith))
+  signed_told (c ∷ cs) r p = by (c == minus) (c == plus) refl refl
+    where
+      by : (q s : Bool) → (c == minus) ≡ q → (c == plus) ≡ s → SignedTold r (signed_of (c ∷ cs))
+      by true s e f = subst (λ o. SignedTold r o) (sym (signed_minus c cs e)) (negative_told cs r (parse_signed_minus digits w64 (c ∷ cs) r p (eqb-true c 45 e)))
+      by false true e f = subst (λ o. SignedTold r o) (sym (signed_other c cs e ∙ ap (option_map pos) (unsigned_plus c cs f)))
+          (positive_told cs r (parse_signed_plus digits w64 (c ∷ cs) r p (eqb-true c 43 f)))
+      by false false e f = subst (λ o. SignedTold r o) (sym (signed_other c cs e ∙ ap (option_map pos) (unsigned_bare c cs f)))
+          (positive_told (c ∷ cs) r (parse_signed_plain digits w64 (c ∷ cs) r p (eqb-false c 43 f) (eqb-false c 45 e)))
+
+-- bytes that are no text write no number
+
+ascii_more : (c : ℕ) (cs : List ℕ) → c < 128 → IsAscii cs → IsAscii (c ∷ cs)
+ascii_more c cs h more zero = h
+ascii_more c cs h more (suc i) = more i
+
+no_numeral : (ds bs : List ℕ) → ¬ IsUtf8 bs → (AllDigits 10 ds → IsAscii bs) → numeral ds ≡ None
+no_numeral ds bs apart f = numeral_cases ds (λ a l. absurd (apart (IsUtf8-from_ascii bs (f (digits.to ds a))))) (λ no_number. no_number)
+
+pub unsigned_no_text : (bs : List ℕ) → ¬ IsUtf8 bs → unsigned_of bs ≡ None
+unfolding unsigned_of
+unsigned_no_text [] apart = refl
+unsigned_no_text (c ∷ cs) apart = by (c == plus) refl
+  where
+    by : (q : Bool) → (c == plus) ≡ q → unsigned_of (c ∷ cs) ≡ None
+    by true e = let is : c ≡ 43 = eqb-true c 43 e in
+        unsigned_plus c cs e ∙ no_numeral cs (c ∷ cs) apart (λ d. ascii_more c cs (omega arith) (IsAscii-from_digits cs d))
+    by false e = unsigned_bare c cs e ∙ no_numeral (c ∷ cs) (c ∷ cs) apart (IsAscii-from_digits (c ∷ cs))
+
+pub signed_no_text : (bs : List ℕ) → ¬ IsUtf8 bs → signed_of bs ≡ None
+unfolding signed_of
+signed_no_text [] apart = refl
+signed_no_text (c ∷ cs) apart = by (c == minus) refl
+  where
+    by : (q : Bool) → (c == minus) ≡ q → signed_of (c ∷ cs) ≡ None
+    by true e = let is : c ≡ 45 = eqb-true c 45 e in
+        signed_minus c cs e ∙ ap (option_map (λ n. neg_ℤ (pos n))) (no_numeral cs (c ∷ cs) apart (λ d. ascii_more c cs (omega arith) (IsAscii-from_digits cs d)))
+    by false e = signed_other c cs e ∙ ap (option_map pos) (unsigned_no_text (c ∷ cs) apart)
+
+-- a value's number, variant by variant
+
+-- what `try_from` answers of a whole number is the number, where it is not negative and fits
+pub int_told : {E : Type 0} (z : ℤ) (r : Result ℕ E) → OkIff r (FitsUnsignedBits 64 z) (unsigned_abs z) → Told 64 r (unsigned_of_int z)
+int_told (pos m) (Ok n) p = ap Some p.1 ∙ sym (within_true 64 m p.0)
+int_told (pos m) (Err e) p = sym (within_false 64 m p)
+int_told (negsuc m) (Ok n) p = absurd p.0
+int_told (negsuc m) (Err e) p = refl
 
 module _ (t : Tree) (w : Value) (h : tree w ≡ plain t) where
-  pub unsigned_of_bulk : (b : Vec ℕ Global) (text : List ℕ) (o : Option ℕ) → w ≡ BulkString b → text ≡ b.items → sized 64 (unsigned_of text) ≡ o → unsigned_reading 64 t ≡ o
-  unsigned_of_bulk b text o is e r = ap (λ u. sized 64 (unsigned_of_plain u)) (sym h ∙ ap tree is ∙ tree-BulkString b) ∙ rw (← e) r
+  pub unsigned_of_bulk : (b : Vec ℕ Global) → w ≡ BulkString b → unsigned_reading 64 t ≡ option_and_then (within 64) (unsigned_of b.items)
+  unsigned_of_bulk b is = ap (λ u. option_and_then (within 64) (unsigned_of_plain u)) (sym h ∙ ap tree is ∙ tree-BulkString b)
 
-  pub unsigned_of_simple : (s : String Global) (text : List ℕ) (o : Option ℕ) → w ≡ SimpleString s → text ≡ string_bytes s → sized 64 (unsigned_of text) ≡ o → unsigned_reading 64 t ≡ o
-  unsigned_of_simple s text o is e r = ap (λ u. sized 64 (unsigned_of_plain u)) (sym h ∙ ap tree is ∙ tree-SimpleString s) ∙ rw (← e) r
+  pub unsigned_of_simple : (s : String Global) → w ≡ SimpleString s → unsigned_reading 64 t ≡ option_and_then (within 64) (unsigned_of (string_bytes s))
+  unsigned_of_simple s is = ap (λ u. option_and_then (within 64) (unsigned_of_plain u)) (sym h ∙ ap tree is ∙ tree-SimpleString s)
 
-  pub unsigned_of_Int : (z : ℤ) (o : Option ℕ) → w ≡ Int z → sized 64 (unsigned_of_int z) ≡ o → unsigned_reading 64 t ≡ o
-  unsigned_of_Int z o is r = ap (λ u. sized 64 (unsigned_of_plain u)) (sym h ∙ ap tree is ∙ tree-Int z) ∙ r
+  pub unsigned_of_Int : (z : ℤ) → w ≡ Int z → unsigned_reading 64 t ≡ option_and_then (within 64) (unsigned_of_int z)
+  unsigned_of_Int z is = ap (λ u. option_and_then (within 64) (unsigned_of_plain u)) (sym h ∙ ap tree is ∙ tree-Int z)
 
-  pub signed_of_bulk : (b : Vec ℕ Global) (text : List ℕ) (o : Option ℤ) → w ≡ BulkString b → text ≡ b.items → option_and_then (signed_within 63) (signed_of text) ≡ o → signed_reading 63 t ≡ o
-  signed_of_bulk b text o is e r = ap (λ u. option_and_then (signed_within 63) (signed_of_plain u)) (sym h ∙ ap tree is ∙ tree-BulkString b) ∙ rw (← e) r
+  pub signed_of_bulk : (b : Vec ℕ Global) → w ≡ BulkString b → signed_reading 63 t ≡ option_and_then (signed_within 63) (signed_of b.items)
+  signed_of_bulk b is = ap (λ u. option_and_then (signed_within 63) (signed_of_plain u)) (sym h ∙ ap tree is ∙ tree-BulkString b)
 
-  pub signed_of_simple : (s : String Global) (text : List ℕ) (o : Option ℤ) → w ≡ SimpleString s → text ≡ string_bytes s → option_and_then (signed_within 63) (signed_of text) ≡ o → signed_reading 63 t ≡ o
-  signed_of_simple s text o is e r = ap (λ u. option_and_then (signed_within 63) (signed_of_plain u)) (sym h ∙ ap tree is ∙ tree-SimpleString s) ∙ rw (← e) r
+  pub signed_of_simple : (s : String Global) → w ≡ SimpleString s → signed_reading 63 t ≡ option_and_then (signed_within 63) (signed_of (string_bytes s))
+  signed_of_simple s is = ap (λ u. option_and_then (signed_within 63) (signed_of_plain u)) (sym h ∙ ap tree is ∙ tree-SimpleString s)
 
   pub signed_of_Int : (z : ℤ) → w ≡ Int z → FitsSigned w64 z → signed_reading 63 t ≡ Some z
   signed_of_Int z is fits = ap (λ u. option_and_then (signed_within 63) (signed_of_plain u)) (sym h ∙ ap tree is ∙ tree-Int z) ∙ signed_within_true z fits
 
 -- a number is read at a smaller size from what is read at 64 bits
-narrow : (k n : ℕ) → 2 ^ k ≤ 2 ^ 64 → within k n ≡ sized k (within 64 n)
-narrow k n le = by_test _ _ (Decides-ltb n (2 ^ 64))
-    (λ h. rw (within_true 64 n h) refl)
-    (λ h. rw (within_false 64 n h) (within_false k n (λ l. h (omega arith))))
 
-pub narrower : (k : ℕ) (t : Tree) → 2 ^ k ≤ 2 ^ 64 → unsigned_reading k t ≡ sized k (unsigned_reading 64 t)
+narrow : (k n : ℕ) → 2 ^ k ≤ 2 ^ 64 → within k n ≡ option_and_then (within k) (within 64 n)
+narrow k n le = by (nat_lt n (2 ^ 64)) refl
+  where
+    by : (b : Bool) → nat_lt n (2 ^ 64) ≡ b → within k n ≡ option_and_then (within k) (within 64 n)
+    by true e = rw (within_true 64 n (ltb-true n (2 ^ 64) e)) refl
+    by false e = rw (within_false 64 n (λ l. both_ways _ e (lt-ltb n (2 ^ 64) l))) (within_false k n (λ l. both_ways _ e (lt-ltb n (2 ^ 64) (omega arith))))
+
+narrower : (k : ℕ) (t : Tree) → 2 ^ k ≤ 2 ^ 64 → unsigned_reading k t ≡ option_and_then (within k) (unsigned_reading 64 t)
 narrower k t le = by (unsigned_of_plain (plain t))
   where
-    by : (o : Option ℕ) → sized k o ≡ sized k (sized 64 o)
+    by : (o : Option ℕ) → option_and_then (within k) o ≡ option_and_then (within k) (option_and_then (within 64) o)
     by None = refl
     by (Some n) = narrow k n le
 
@@ -149,6 +220,3 @@ narrow_over k m t le is h = narrower k t le ∙ rw is (within_false k m h)
 
 pub narrow_none : (k : ℕ) (t : Tree) → 2 ^ k ≤ 2 ^ 64 → unsigned_reading 64 t ≡ None → unsigned_reading k t ≡ None
 narrow_none k t le is = narrower k t le ∙ rw is refl
-
-pub within_small : (bits n : ℕ) → n < 2 ^ bits → within bits n ≡ Some n
-within_small bits n h = within_true bits n h

@@ -20,6 +20,7 @@ mod tuple;
 
 pub use error::ParsingError;
 pub use members::{FourRefs, four_ref, into_four, into_two, two_ref};
+pub use number::usize_of;
 pub use reading::{FromRedisValue, from_redis_value, from_redis_value_ref};
 
 /// A value of the RESP protocol, as a server sends it.
