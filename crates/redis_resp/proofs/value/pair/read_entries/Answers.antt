@@ -14,7 +14,7 @@ returns-in_err-read_pair-clause-err g c =
     let all = map tree_of_pair (into_iter_items c.into_iter-entry-iterator.result) in
     let is : into_iter_items c.into_iter-entry-iterator.result ≡ c.args.entries.items = search rules in
     let stop : c.in_err-read_pair.field-0.0 ≢ Memory → traverse f (map tree_of_pair c.args.entries.items) ≡ None =
-        λ h. rw (← is) (read_stop f all tree_of_pair _ _ c.in-Some.entry _ c.in-Some.ensures.steps.0 (c.in_err-read_pair.ensures.err h) c.loop-entry.invariant.so_far) in
+    λ h. rw (← is) (read_stop f all tree_of_pair _ _ c.in-Some.entry _ c.in-Some.ensures.steps.0 (c.in_err-read_pair.ensures.err h) c.loop-entry.invariant.so_far) in
     search rules
 
 pub loop-entry-preserved : goal.loop-entry-preserved
