@@ -1,15 +1,15 @@
 -- Streams that are read by the form of their items.
-use Rattle.std.proofs.Common.{◌≡◌, ℕ, Bool, true, false, cond, List, [], ◌∷◌, ◌++◌, Option, Some, None, option_map, option_and_then, refl, sym, ◌∙◌, ap, map, flat_map, String, string_bytes, Vec, Global}
+use Rattle.std.proofs.Common.{◌≡◌, ℕ, Bool, true, false, cond, List, [], ◌∷◌, Option, Some, None, option_map, option_and_then, refl, sym, ◌∙◌, ap, map, flat_map, String, Vec, Global}
 use Rattle.std.specs.HashMap.{HashMap}
 use Rattle.std.specs.Str.{bytes_eq}
 use Rattle.redis_resp.specs.Tree.{Tree, pairs_in}
 use Rattle.redis_resp.specs.Text.{text_reading}
 use Rattle.redis_resp.specs.Reading.{traverse, both_read, list_reading}
-use Rattle.redis_resp.specs.Table.{entry_reading, entries_meaning, pairs_reading, table_reading, table_of, latest, without}
+use Rattle.redis_resp.specs.Table.{entry_reading, entries_meaning, table_reading, table_of, latest, without}
 use Rattle.redis_resp.specs.declared.value.Value.{Value}
 use Rattle.redis_streams.specs.Entry.{Entry, entry_of}
 use Rattle.redis_streams.specs.Rows.{row_reading, entries_reading}
-use Rattle.redis_streams.specs.Read.{Delivery, Streams, delivery_reading, delivered_entry, streams_reading, standard_reading, claim_reading}
+use Rattle.redis_streams.specs.Read.{Streams, delivery_reading, delivered_entry, streams_reading, standard_reading, claim_reading}
 use Rattle.redis_streams.specs.StreamId.{row_of, delivery_of}
 use Rattle.redis_streams.specs.StreamKey.{streams_in}
 use Rattle.redis_streams.proofs.RowsLemmas.{list_shown, flat_map-map}
