@@ -54,9 +54,8 @@ impl StreamConfigOptions {
         ensures ok { OkIff result (IsDuration seconds) (record { seconds = Some seconds; maxsize = None }) }
         ensures refused { IfErr result (λ error. error ≡ ConfigError.Seconds seconds) }
     {
-        check_seconds(seconds)?;
         Ok(StreamConfigOptions {
-            seconds: Some(seconds),
+            seconds: Some(seconds_in_range(seconds)?),
             maxsize: None,
         })
     }
@@ -66,10 +65,9 @@ impl StreamConfigOptions {
         ensures ok { OkIff result (IsMaxsize maxsize) (record { seconds = None; maxsize = Some maxsize }) }
         ensures refused { IfErr result (λ error. error ≡ ConfigError.Maxsize maxsize) }
     {
-        check_maxsize(maxsize)?;
         Ok(StreamConfigOptions {
             seconds: None,
-            maxsize: Some(maxsize),
+            maxsize: Some(maxsize_in_range(maxsize)?),
         })
     }
 
@@ -81,8 +79,7 @@ impl StreamConfigOptions {
         ensures valid { IfOk result IsConfig }
         ensures refused { IfErr result (λ error. error ≡ ConfigError.Seconds seconds) }
     {
-        check_seconds(seconds)?;
-        self.seconds = Some(seconds);
+        self.seconds = Some(seconds_in_range(seconds)?);
         Ok(self)
     }
 
@@ -94,31 +91,30 @@ impl StreamConfigOptions {
         ensures valid { IfOk result IsConfig }
         ensures refused { IfErr result (λ error. error ≡ ConfigError.Maxsize maxsize) }
     {
-        check_maxsize(maxsize)?;
-        self.maxsize = Some(maxsize);
+        self.maxsize = Some(maxsize_in_range(maxsize)?);
         Ok(self)
     }
 }
 
-// The seconds are in their range.
-fn check_seconds(seconds: u32) -> Result<(), ConfigError>
-    ensures ok { OkIff result (IsDuration seconds) tt }
+// The seconds, where they are in their range.
+fn seconds_in_range(seconds: u32) -> Result<u32, ConfigError>
+    ensures ok { OkIff result (IsDuration seconds) seconds }
     ensures refused { IfErr result (λ error. error ≡ ConfigError.Seconds seconds) }
 {
     if (IDMP_DURATION_MIN..=IDMP_DURATION_MAX).contains(&seconds) {
-        Ok(())
+        Ok(seconds)
     } else {
         Err(ConfigError::Seconds(seconds))
     }
 }
 
-// The number of entries is in its range.
-fn check_maxsize(maxsize: u16) -> Result<(), ConfigError>
-    ensures ok { OkIff result (IsMaxsize maxsize) tt }
+// The number of entries, where it is in its range.
+fn maxsize_in_range(maxsize: u16) -> Result<u16, ConfigError>
+    ensures ok { OkIff result (IsMaxsize maxsize) maxsize }
     ensures refused { IfErr result (λ error. error ≡ ConfigError.Maxsize maxsize) }
 {
     if (IDMP_MAXSIZE_MIN..=IDMP_MAXSIZE_MAX).contains(&maxsize) {
-        Ok(())
+        Ok(maxsize)
     } else {
         Err(ConfigError::Maxsize(maxsize))
     }
