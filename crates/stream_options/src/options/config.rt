@@ -1,5 +1,6 @@
 //! How a stream tells entries that are sent twice.
 ghost use Rattle.std.specs.Prelude.{◌≡◌, OkIff, IfOk, IfErr};
+ghost use Rattle.redis_resp.specs.Writer.{Wrote};
 ghost use Rattle.stream_options.specs.Config.{IsDuration, IsMaxsize, IsConfig, config_sentence};
 
 use crate::options::clause::ValueClause;
@@ -51,7 +52,10 @@ impl Model for StreamConfigOptions {
 impl StreamConfigOptions {
     /// Ids are kept for so many seconds. `Seconds` where that is not in 1..=86400.
     pub fn with_idempotency_seconds(seconds: u32) -> Result<Self, ConfigError>
-        ensures ok { OkIff result (IsDuration seconds) (record { seconds = Some seconds; maxsize = None }) }
+        ensures ok { OkIff result (IsDuration seconds) (record {
+          seconds = Some seconds;
+          maxsize = None;
+        }) }
         ensures refused { IfErr result (λ error. error ≡ ConfigError.Seconds seconds) }
     {
         Ok(StreamConfigOptions {
@@ -62,7 +66,10 @@ impl StreamConfigOptions {
 
     /// So many ids are kept of each producer. `Maxsize` where that is not in 1..=10000.
     pub fn with_idempotency_maxsize(maxsize: u16) -> Result<Self, ConfigError>
-        ensures ok { OkIff result (IsMaxsize maxsize) (record { seconds = None; maxsize = Some maxsize }) }
+        ensures ok { OkIff result (IsMaxsize maxsize) (record {
+          seconds = None;
+          maxsize = Some maxsize;
+        }) }
         ensures refused { IfErr result (λ error. error ≡ ConfigError.Maxsize maxsize) }
     {
         Ok(StreamConfigOptions {
@@ -123,7 +130,12 @@ fn maxsize_in_range(maxsize: u16) -> Result<u16, ConfigError>
 impl ToRedisArgs for StreamConfigOptions {
     ghost args = { config_sentence };
 
-    fn write_redis_args<W: RedisWrite>(&self, out: &mut W) -> Result<(), WriteError> {
+    /// What is written is at least one setting, and each in its range.
+    fn write_redis_args<W: RedisWrite>(&self, out: &mut W) -> Result<(), WriteError>
+        ensures written { Wrote result (W.written out.old) (config_sentence self.now)
+            (W.written out.new) (W.may_refuse out.new) }
+        ensures valid { IsConfig self.now }
+    {
         (
             ValueClause("IDMP-DURATION", &self.seconds),
             ValueClause("IDMP-MAXSIZE", &self.maxsize),
