@@ -1,6 +1,13 @@
+pub mod Add
+pub mod AutoClaim
+pub mod Claim
 pub mod Clauses
+pub mod Config
+pub mod Idempotency
 pub mod Maxlen
 pub mod Nack
+pub mod Names
 pub mod Policy
+pub mod Read
 pub mod Trim
 pub mod View

@@ -1,9 +1,12 @@
 -- The public enums as settings: texts by their bytes, and nothing of where they lie in memory.
 use Rattle.std.specs.Prelude.{string_bytes}
+use Rattle.stream_options.specs.Idempotency.{Idempotency, manual, automatic}
 use Rattle.stream_options.specs.Maxlen.{Maxlen}
 use Rattle.stream_options.specs.Nack.{Nack, silent, fail, fatal}
 use Rattle.stream_options.specs.Policy.{Policy, keep_ref, del_ref, acked}
 use Rattle.stream_options.specs.Trim.{Mode, exact, approx, max_len, min_id, Strategy}
+use Rattle.stream_options.specs.declared.options.idempotency.StreamIdempotencyMode.{StreamIdempotencyMode}
+use Rattle.stream_options.specs.declared.options.idempotency.StreamIdempotencyMode.TheVariants as idempotency
 use Rattle.stream_options.specs.declared.options.maxlen.StreamMaxlen.{StreamMaxlen}
 use Rattle.stream_options.specs.declared.options.maxlen.StreamMaxlen.TheVariants as maxlen
 use Rattle.stream_options.specs.declared.options.nack.StreamNackMode.{StreamNackMode}
@@ -30,6 +33,11 @@ abbrev pub policy_of : StreamDeletionPolicy → Policy
 policy_of policy.KeepRef = keep_ref
 policy_of policy.DelRef = del_ref
 policy_of policy.Acked = acked
+
+-- how an entry that is sent twice is told
+abbrev pub idempotency_of : StreamIdempotencyMode → Idempotency
+idempotency_of (idempotency.Manual producer idempotent) = manual (string_bytes producer) (string_bytes idempotent)
+idempotency_of (idempotency.Automatic producer) = automatic (string_bytes producer)
 
 -- the length and its mode
 abbrev pub maxlen_of : StreamMaxlen → Maxlen

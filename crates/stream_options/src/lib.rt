@@ -11,6 +11,8 @@
 pub mod options;
 
 pub use options::{
-    StreamDeletionPolicy, StreamMaxlen, StreamNackMode, StreamNackOptions, StreamTrimOptions,
-    StreamTrimStrategy, StreamTrimmingMode,
+    ConfigError, IDMP_DURATION_MAX, IDMP_DURATION_MIN, IDMP_MAXSIZE_MAX, IDMP_MAXSIZE_MIN,
+    StreamAddOptions, StreamAutoClaimOptions, StreamClaimOptions, StreamConfigOptions,
+    StreamDeletionPolicy, StreamIdempotencyMode, StreamMaxlen, StreamNackMode, StreamNackOptions,
+    StreamReadOptions, StreamTrimOptions, StreamTrimStrategy, StreamTrimmingMode,
 };

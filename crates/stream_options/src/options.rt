@@ -1,12 +1,28 @@
 //! The option types, by the command that they belong to.
 
+mod add;
+mod autoclaim;
+mod claim;
 mod clause;
+mod config;
+mod idempotency;
 mod maxlen;
 mod nack;
+mod names;
 mod policy;
+mod read;
 mod trim;
 
+pub use add::StreamAddOptions;
+pub use autoclaim::StreamAutoClaimOptions;
+pub use claim::StreamClaimOptions;
+pub use config::{
+    ConfigError, IDMP_DURATION_MAX, IDMP_DURATION_MIN, IDMP_MAXSIZE_MAX, IDMP_MAXSIZE_MIN,
+    StreamConfigOptions,
+};
+pub use idempotency::StreamIdempotencyMode;
 pub use maxlen::StreamMaxlen;
 pub use nack::{StreamNackMode, StreamNackOptions};
 pub use policy::StreamDeletionPolicy;
+pub use read::StreamReadOptions;
 pub use trim::{StreamTrimOptions, StreamTrimStrategy, StreamTrimmingMode};

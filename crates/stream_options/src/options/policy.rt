@@ -2,7 +2,7 @@
 ghost use Rattle.std.specs.Prelude.{◌≡◌, refl};
 ghost use Rattle.stream_options.specs.Policy.{policy_sentence};
 ghost use Rattle.stream_options.specs.View.{policy_of};
-ghost use Rattle.stream_options.specs.declared.options.policy.StreamDeletionPolicy.TheVariants.{KeepRef, DelRef, Acked};
+ghost use Rattle.stream_options.specs.declared.options.policy.StreamDeletionPolicy.TheVariants.{KeepRef};
 
 use redis_resp::{RedisWrite, ToRedisArgs, ToSingleRedisArg, WriteError};
 

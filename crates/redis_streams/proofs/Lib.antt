@@ -1,0 +1,3 @@
+pub mod PendingLemmas
+pub mod ReadLemmas
+pub mod RowsLemmas

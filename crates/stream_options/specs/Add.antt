@@ -1,0 +1,26 @@
+-- What an entry is added with, as settings, and how it reads as arguments.
+use Rattle.std.specs.Prelude.{ℕ, Bool, false, List, ◌++◌, codes, Option, None}
+use Rattle.redis_resp.specs.Clause.{clause}
+use Rattle.stream_options.specs.Clauses.{flag}
+use Rattle.stream_options.specs.Idempotency.{Idempotency, idempotency_sentence}
+use Rattle.stream_options.specs.Policy.{Policy, policy_sentence}
+use Rattle.stream_options.specs.Trim.{Strategy, strategy_sentence}
+
+-- the settings of `XADD`
+pub record Add : Type 0 where
+  pub nomkstream : Bool
+  pub policy : Option Policy
+  pub idempotency : Option Idempotency
+  pub trim : Option Strategy
+
+-- no setting
+abbrev pub default_add : Add
+default_add = record { nomkstream = false; policy = None; idempotency = None; trim = None }
+
+-- `[NOMKSTREAM] [policy] [idempotency] [strategy]`
+abbrev pub add_sentence : Add → List (List ℕ)
+add_sentence a =
+    flag (codes "NOMKSTREAM") a.nomkstream
+    ++ (clause policy_sentence a.policy
+    ++ (clause idempotency_sentence a.idempotency
+    ++ clause strategy_sentence a.trim))

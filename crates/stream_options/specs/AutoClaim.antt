@@ -1,0 +1,17 @@
+-- What an automatic claim is asked for, as settings, and how it reads as arguments.
+use Rattle.std.specs.Prelude.{ℕ, Bool, false, List, ◌++◌, codes, Option, None}
+use Rattle.redis_resp.specs.Clause.{clause}
+use Rattle.stream_options.specs.Clauses.{word_number, flag}
+
+-- the settings of `XAUTOCLAIM`
+pub record AutoClaim : Type 0 where
+  pub count : Option ℕ
+  pub justid : Bool
+
+-- no setting
+abbrev pub default_autoclaim : AutoClaim
+default_autoclaim = record { count = None; justid = false }
+
+-- `[COUNT n] [JUSTID]`
+abbrev pub autoclaim_sentence : AutoClaim → List (List ℕ)
+autoclaim_sentence c = clause (word_number (codes "COUNT")) c.count ++ flag (codes "JUSTID") c.justid

@@ -1,0 +1,34 @@
+-- What a claim is asked for, as settings, and how it reads as arguments.
+use Rattle.std.specs.Prelude.{ℕ, Bool, false, List, ◌++◌, codes, Option, None}
+use Rattle.redis_resp.specs.Clause.{clause}
+use Rattle.stream_options.specs.Clauses.{word_number, word_text, flag}
+
+-- the settings of `XCLAIM`; `idle` in milliseconds, `time` in milliseconds since 1970
+pub record Claim : Type 0 where
+  pub idle : Option ℕ
+  pub time : Option ℕ
+  pub retry : Option ℕ
+  pub force : Bool
+  pub justid : Bool
+  pub lastid : Option (List ℕ)
+
+-- no setting
+abbrev pub default_claim : Claim
+default_claim = record {
+  idle = None;
+  time = None;
+  retry = None;
+  force = false;
+  justid = false;
+  lastid = None;
+}
+
+-- `[IDLE n] [TIME n] [RETRYCOUNT n] [FORCE] [JUSTID] [LASTID id]`
+abbrev pub claim_sentence : Claim → List (List ℕ)
+claim_sentence c =
+    clause (word_number (codes "IDLE")) c.idle
+    ++ (clause (word_number (codes "TIME")) c.time
+    ++ (clause (word_number (codes "RETRYCOUNT")) c.retry
+    ++ (flag (codes "FORCE") c.force
+    ++ (flag (codes "JUSTID") c.justid
+    ++ clause (word_text (codes "LASTID")) c.lastid))))

@@ -1,0 +1,40 @@
+-- What a read is asked for, as settings, and how it reads as arguments.
+use Rattle.std.specs.Prelude.{ℕ, Bool, false, List, [], ◌∷◌, ◌++◌, codes, Option, None, is_some, if◌then◌else◌}
+use Rattle.redis_resp.specs.Clause.{clause}
+use Rattle.stream_options.specs.Clauses.{word_number, flag}
+
+-- the arguments of a group's name and those of a consumer's
+pub record Group : Type 0 where
+  pub group : List (List ℕ)
+  pub consumer : List (List ℕ)
+
+-- the group and the consumer with these arguments
+abbrev pub named : List (List ℕ) → List (List ℕ) → Group
+named group consumer = record { group = group; consumer = consumer }
+
+-- `GROUP g.. c..`
+abbrev pub group_sentence : Group → List (List ℕ)
+group_sentence g = codes "GROUP" ∷ (g.group ++ g.consumer)
+
+-- the settings of `XREAD` and, where a group is set, of `XREADGROUP`; `block` and `claim` in
+-- milliseconds
+pub record Read : Type 0 where
+  pub group : Option Group
+  pub block : Option ℕ
+  pub count : Option ℕ
+  pub noack : Bool
+  pub claim : Option ℕ
+
+-- no setting
+abbrev pub default_read : Read
+default_read = record { group = None; block = None; count = None; noack = false; claim = None }
+
+-- `[GROUP g.. c..] [BLOCK n] [COUNT n]`, and then only where a group is set `[NOACK] [CLAIM n]`
+abbrev pub read_sentence : Read → List (List ℕ)
+read_sentence r =
+    clause group_sentence r.group
+    ++ (clause (word_number (codes "BLOCK")) r.block
+    ++ (clause (word_number (codes "COUNT")) r.count
+    ++ (if is_some r.group
+    then flag (codes "NOACK") r.noack ++ clause (word_number (codes "CLAIM")) r.claim
+    else [])))

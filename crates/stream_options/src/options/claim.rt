@@ -1,0 +1,116 @@
+//! How entries are claimed by their ids.
+ghost use Rattle.std.specs.Prelude.{◌≡◌, true, string_bytes};
+ghost use Rattle.stream_options.specs.Claim.{default_claim, claim_sentence};
+
+use crate::options::clause::{FlagClause, ValueClause};
+use redis_resp::{RedisWrite, ToRedisArgs, WriteError};
+use std::marker::Model;
+
+/// The options of `XCLAIM`: `[IDLE n] [TIME n] [RETRYCOUNT n] [FORCE] [JUSTID] [LASTID id]`, in
+/// this order whatever the order of the calls. The default has no setting, and writes no argument.
+#[derive(Debug, Drop)]
+pub struct StreamClaimOptions {
+    idle: Option<usize>,
+    time: Option<usize>,
+    retry: Option<usize>,
+    force: bool,
+    justid: bool,
+    lastid: Option<String>,
+}
+
+impl Model for StreamClaimOptions {
+    ghost use Rattle.std.specs.Prelude.{string_bytes, option_map};
+    ghost use Rattle.stream_options.specs.Claim.{Claim};
+
+    ghost Value = { Claim };
+
+    ghost view = { λ options. record {
+      idle = options.idle;
+      time = options.time;
+      retry = options.retry;
+      force = options.force;
+      justid = options.justid;
+      lastid = option_map string_bytes options.lastid;
+    } };
+}
+
+impl Default for StreamClaimOptions {
+    ghost is_default = { λ options. options ≡ default_claim };
+
+    fn default() -> StreamClaimOptions {
+        StreamClaimOptions {
+            idle: None,
+            time: None,
+            retry: None,
+            force: false,
+            justid: false,
+            lastid: None,
+        }
+    }
+}
+
+impl StreamClaimOptions {
+    /// The entries count as idle for so many milliseconds.
+    pub fn idle(mut self, milliseconds: usize) -> Self
+        ensures { result ≡ record self { idle = Some milliseconds } }
+    {
+        self.idle = Some(milliseconds);
+        self
+    }
+
+    /// The entries count as last delivered so many milliseconds after the start of 1970.
+    pub fn time(mut self, milliseconds: usize) -> Self
+        ensures { result ≡ record self { time = Some milliseconds } }
+    {
+        self.time = Some(milliseconds);
+        self
+    }
+
+    /// The entries count as delivered so many times.
+    pub fn retry(mut self, count: usize) -> Self
+        ensures { result ≡ record self { retry = Some count } }
+    {
+        self.retry = Some(count);
+        self
+    }
+
+    /// An entry that is pending for nobody is claimed too.
+    pub fn with_force(mut self) -> Self
+        ensures { result ≡ record self { force = true } }
+    {
+        self.force = true;
+        self
+    }
+
+    /// The reply has the ids alone, and the claim is no delivery.
+    pub fn with_justid(mut self) -> Self
+        ensures { result ≡ record self { justid = true } }
+    {
+        self.justid = true;
+        self
+    }
+
+    /// This is noted as the last id that the group was given.
+    pub fn with_lastid(mut self, lastid: String) -> Self
+        ensures { result ≡ record self { lastid = Some (string_bytes lastid) } }
+    {
+        self.lastid = Some(lastid);
+        self
+    }
+}
+
+impl ToRedisArgs for StreamClaimOptions {
+    ghost args = { claim_sentence };
+
+    fn write_redis_args<W: RedisWrite>(&self, out: &mut W) -> Result<(), WriteError> {
+        (
+            ValueClause("IDLE", &self.idle),
+            ValueClause("TIME", &self.time),
+            ValueClause("RETRYCOUNT", &self.retry),
+            FlagClause("FORCE", self.force),
+            FlagClause("JUSTID", self.justid),
+            ValueClause("LASTID", &self.lastid),
+        )
+            .write_redis_args(out)
+    }
+}

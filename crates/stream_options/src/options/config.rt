@@ -1,0 +1,137 @@
+//! How a stream tells entries that are sent twice.
+ghost use Rattle.std.specs.Prelude.{◌≡◌, OkIff, IfOk, IfErr};
+ghost use Rattle.stream_options.specs.Config.{IsDuration, IsMaxsize, IsConfig, config_sentence};
+
+use crate::options::clause::ValueClause;
+use redis_resp::{RedisWrite, ToRedisArgs, WriteError};
+use std::marker::Model;
+use thiserror::Error;
+
+/// The shortest time, in seconds, that a stream can be told to keep an id: 1.
+pub const IDMP_DURATION_MIN: u32 = 1;
+/// The longest time, in seconds, that a stream can be told to keep an id: a day.
+pub const IDMP_DURATION_MAX: u32 = 86400;
+/// The fewest ids of a producer that a stream can be told to keep: 1.
+pub const IDMP_MAXSIZE_MIN: u16 = 1;
+/// The most ids of a producer that a stream can be told to keep.
+pub const IDMP_MAXSIZE_MAX: u16 = 10000;
+
+/// A number outside the range of its setting.
+#[derive(Debug, Drop, PartialEq, Eq, Error)]
+pub enum ConfigError {
+    /// Seconds outside `IDMP_DURATION_MIN..=IDMP_DURATION_MAX`.
+    #[error("IDMP-DURATION must be between {min} and {max} seconds, got: {0}", min = IDMP_DURATION_MIN, max = IDMP_DURATION_MAX)]
+    Seconds(u32),
+    /// A number of entries outside `IDMP_MAXSIZE_MIN..=IDMP_MAXSIZE_MAX`.
+    #[error("IDMP-MAXSIZE must be between {min} and {max} entries, got: {0}", min = IDMP_MAXSIZE_MIN, max = IDMP_MAXSIZE_MAX)]
+    Maxsize(u16),
+}
+
+/// The options of `XCFGSET`: `[IDMP-DURATION d] [IDMP-MAXSIZE m]`, at least one of them, and each
+/// in its range.
+#[derive(Debug, Drop)]
+pub struct StreamConfigOptions {
+    seconds: Option<u32>,
+    maxsize: Option<u16>,
+}
+
+impl Model for StreamConfigOptions {
+    ghost use Rattle.stream_options.specs.Config.{Config, IsConfig};
+
+    ghost Value = { Config };
+
+    ghost view = { λ options. record { seconds = options.seconds; maxsize = options.maxsize } };
+
+    ghost invariant = { λ options. IsConfig (record {
+      seconds = options.seconds;
+      maxsize = options.maxsize;
+    }) };
+}
+
+impl StreamConfigOptions {
+    /// Ids are kept for so many seconds. `Seconds` where that is not in 1..=86400.
+    pub fn with_idempotency_seconds(seconds: u32) -> Result<Self, ConfigError>
+        ensures ok { OkIff result (IsDuration seconds) (record { seconds = Some seconds; maxsize = None }) }
+        ensures refused { IfErr result (λ error. error ≡ ConfigError.Seconds seconds) }
+    {
+        check_seconds(seconds)?;
+        Ok(StreamConfigOptions {
+            seconds: Some(seconds),
+            maxsize: None,
+        })
+    }
+
+    /// So many ids are kept of each producer. `Maxsize` where that is not in 1..=10000.
+    pub fn with_idempotency_maxsize(maxsize: u16) -> Result<Self, ConfigError>
+        ensures ok { OkIff result (IsMaxsize maxsize) (record { seconds = None; maxsize = Some maxsize }) }
+        ensures refused { IfErr result (λ error. error ≡ ConfigError.Maxsize maxsize) }
+    {
+        check_maxsize(maxsize)?;
+        Ok(StreamConfigOptions {
+            seconds: None,
+            maxsize: Some(maxsize),
+        })
+    }
+
+    /// Ids are kept for so many seconds, in place of any duration before.
+    ///
+    /// `Seconds` where that is not in 1..=86400; the options are then dropped.
+    pub fn idempotency_seconds(mut self, seconds: u32) -> Result<Self, ConfigError>
+        ensures ok { OkIff result (IsDuration seconds) (record self { seconds = Some seconds }) }
+        ensures valid { IfOk result IsConfig }
+        ensures refused { IfErr result (λ error. error ≡ ConfigError.Seconds seconds) }
+    {
+        check_seconds(seconds)?;
+        self.seconds = Some(seconds);
+        Ok(self)
+    }
+
+    /// So many ids are kept of each producer, in place of any number before.
+    ///
+    /// `Maxsize` where that is not in 1..=10000; the options are then dropped.
+    pub fn idempotency_maxsize(mut self, maxsize: u16) -> Result<Self, ConfigError>
+        ensures ok { OkIff result (IsMaxsize maxsize) (record self { maxsize = Some maxsize }) }
+        ensures valid { IfOk result IsConfig }
+        ensures refused { IfErr result (λ error. error ≡ ConfigError.Maxsize maxsize) }
+    {
+        check_maxsize(maxsize)?;
+        self.maxsize = Some(maxsize);
+        Ok(self)
+    }
+}
+
+// The seconds are in their range.
+fn check_seconds(seconds: u32) -> Result<(), ConfigError>
+    ensures ok { OkIff result (IsDuration seconds) tt }
+    ensures refused { IfErr result (λ error. error ≡ ConfigError.Seconds seconds) }
+{
+    if (IDMP_DURATION_MIN..=IDMP_DURATION_MAX).contains(&seconds) {
+        Ok(())
+    } else {
+        Err(ConfigError::Seconds(seconds))
+    }
+}
+
+// The number of entries is in its range.
+fn check_maxsize(maxsize: u16) -> Result<(), ConfigError>
+    ensures ok { OkIff result (IsMaxsize maxsize) tt }
+    ensures refused { IfErr result (λ error. error ≡ ConfigError.Maxsize maxsize) }
+{
+    if (IDMP_MAXSIZE_MIN..=IDMP_MAXSIZE_MAX).contains(&maxsize) {
+        Ok(())
+    } else {
+        Err(ConfigError::Maxsize(maxsize))
+    }
+}
+
+impl ToRedisArgs for StreamConfigOptions {
+    ghost args = { config_sentence };
+
+    fn write_redis_args<W: RedisWrite>(&self, out: &mut W) -> Result<(), WriteError> {
+        (
+            ValueClause("IDMP-DURATION", &self.seconds),
+            ValueClause("IDMP-MAXSIZE", &self.maxsize),
+        )
+            .write_redis_args(out)
+    }
+}

@@ -1,0 +1,133 @@
+//! How streams are read.
+ghost use Rattle.std.specs.Prelude.{◌≡◌, true, is_none, IfOk};
+ghost use Rattle.stream_options.specs.Read.{named, default_read, read_sentence};
+
+use crate::options::clause::{FlagClause, ValueClause};
+use crate::options::names::Names;
+use redis_resp::{RedisWrite, ToRedisArgs, WriteError};
+use std::alloc::{AllocError, Global};
+use std::marker::Model;
+
+/// The options of `XREAD` and, where a group is set, of `XREADGROUP`:
+/// `[GROUP g.. c..] [BLOCK n] [COUNT n]`, then only where a group is set `[NOACK] [CLAIM n]`.
+///
+/// The default has no setting, and writes no argument.
+#[derive(Debug, Drop)]
+pub struct StreamReadOptions {
+    group: Option<Names>,
+    block: Option<usize>,
+    count: Option<usize>,
+    noack: bool,
+    claim: Option<usize>,
+}
+
+impl Model for StreamReadOptions {
+    ghost use Rattle.std.specs.Prelude.{option_map};
+    ghost use Rattle.stream_options.specs.Names.{group_of};
+    ghost use Rattle.stream_options.specs.Read.{Read};
+
+    ghost Value = { Read };
+
+    ghost view = { λ options. record {
+      group = option_map group_of options.group;
+      block = options.block;
+      count = options.count;
+      noack = options.noack;
+      claim = options.claim;
+    } };
+}
+
+impl Default for StreamReadOptions {
+    ghost is_default = { λ options. options ≡ default_read };
+
+    fn default() -> StreamReadOptions {
+        StreamReadOptions {
+            group: None,
+            block: None,
+            count: None,
+            noack: false,
+            claim: None,
+        }
+    }
+}
+
+impl StreamReadOptions {
+    /// No group is set, so that the read changes nothing on the server.
+    pub fn read_only(&self) -> bool
+        ensures { result ≡ is_none self.now.group }
+    {
+        self.group.is_none()
+    }
+
+    /// What is read needs no acknowledgement. It counts only where a group is set.
+    pub fn noack(mut self) -> Self
+        ensures { result ≡ record self { noack = true } }
+    {
+        self.noack = true;
+        self
+    }
+
+    /// The read waits so many milliseconds for entries; 0 is without end.
+    pub fn block(mut self, milliseconds: usize) -> Self
+        ensures { result ≡ record self { block = Some milliseconds } }
+    {
+        self.block = Some(milliseconds);
+        self
+    }
+
+    /// At most so many entries are read of each stream.
+    pub fn count(mut self, count: usize) -> Self
+        ensures { result ≡ record self { count = Some count } }
+    {
+        self.count = Some(count);
+        self
+    }
+
+    /// Entries that are idle for so many milliseconds are claimed and read first. It counts only
+    /// where a group is set.
+    pub fn claim(mut self, milliseconds: usize) -> Self
+        ensures { result ≡ record self { claim = Some milliseconds } }
+    {
+        self.claim = Some(milliseconds);
+        self
+    }
+
+    /// The streams are read for this consumer of this group, in place of any before. All the
+    /// arguments that each name writes are kept.
+    ///
+    /// It fails only by want of memory; the options are then dropped.
+    pub fn group<GN: ToRedisArgs + Drop, CN: ToRedisArgs + Drop>(
+        mut self,
+        alloc: Global,
+        group: GN,
+        consumer: CN,
+    ) -> Result<Self, AllocError>
+        ensures { let names = named (GN.args group) (CN.args consumer) in
+            IfOk result (λ options. options ≡ record self { group = Some names }) }
+    {
+        self.group = Some(Names::new(alloc, &group, &consumer)?);
+        Ok(self)
+    }
+}
+
+impl ToRedisArgs for StreamReadOptions {
+    ghost args = { read_sentence };
+
+    fn write_redis_args<W: RedisWrite>(&self, out: &mut W) -> Result<(), WriteError> {
+        let grouped = if self.group.is_some() {
+            Some((
+                FlagClause("NOACK", self.noack),
+                ValueClause("CLAIM", &self.claim),
+            ))
+        } else {
+            None
+        };
+        (
+            &self.group,
+            ValueClause("BLOCK", &self.block),
+            ValueClause("COUNT", &self.count),
+            grouped,
+        )
+            .write_redis_args(out)
+    }
+}
