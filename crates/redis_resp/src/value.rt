@@ -7,6 +7,8 @@ mod bytes;
 mod clone;
 mod equality;
 mod error;
+#[cfg(test)]
+mod flag;
 mod itself;
 mod list;
 mod members;
@@ -14,6 +16,8 @@ mod number;
 mod option;
 mod pair;
 mod reading;
+#[cfg(test)]
+mod samples;
 mod table;
 mod text;
 mod tuple;
