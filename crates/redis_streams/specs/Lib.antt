@@ -1,0 +1,10 @@
+pub mod Status
+pub mod Pending
+pub mod PendingRecords
+pub mod Entry
+pub mod Read
+pub mod Rows
+pub mod SameEntry
+pub mod SameEntryLaws
+pub mod StreamId
+pub mod StreamKey

@@ -1,73 +1,105 @@
-//! Numbers that are read from values.
-ghost use Rattle.std.specs.Prelude.{◌≡◌, ℕ, ℤ};
+//! Numbers that are read from values: whole numbers, and texts that Rust's `parse` takes.
+//!
+//! No call here takes memory, so the one refusal is `NotNumber`.
+ghost use Rattle.std.specs.Prelude.{◌≡◌, ℕ, ℤ, option_and_then};
+ghost use Rattle.std.specs.Option.{ok_or};
+ghost use Rattle.redis_resp.specs.Number.{unsigned_of, signed_of, within, signed_within};
 ghost use Rattle.redis_resp.specs.Number.{unsigned_reading, signed_reading};
+ghost use Rattle.redis_resp.specs.Value.{tree};
 
 use crate::value::Value;
 use crate::value::error::ParsingError;
 use crate::value::reading::FromRedisValue;
 use std::alloc::Global;
 
-impl FromRedisValue for usize {
+/// The number that a text writes with digits behind one `+` or none, where it fits 64 bits.
+fn unsigned_in(text: &[u8]) -> Option<u64>
+    ensures { result ≡ option_and_then (within 64) (unsigned_of text.now) }
+{
+    let Ok(text) = std::str::from_utf8(text) else {
+        return None;
+    };
+    text.parse().ok()
+}
+
+/// The number that a text writes with digits behind one sign or none, where it fits an `i64`.
+fn signed_in(text: &[u8]) -> Option<i64>
+    ensures { result ≡ option_and_then (signed_within 63) (signed_of text.now) }
+{
+    let Ok(text) = std::str::from_utf8(text) else {
+        return None;
+    };
+    text.parse().ok()
+}
+
+/// The number that a value reads as at 64 bits, if any.
+#[tactic(auto, using(crate::proofs::NumberLemmas::unsigned_texts))]
+fn u64_of(v: &Value) -> Option<u64>
+    ensures { result ≡ unsigned_reading 64 (tree v.now) }
+{
+    match v.as_plain() {
+        Value::Int(z) => u64::try_from(*z).ok(),
+        Value::BulkString(bytes) => unsigned_in(bytes),
+        Value::SimpleString(text) => unsigned_in(text.as_bytes()),
+        _ => None,
+    }
+}
+
+/// The number that a value reads as at 63 bits and a sign, if any.
+#[tactic(auto, using(crate::proofs::NumberLemmas::signed_texts))]
+fn i64_of(v: &Value) -> Option<i64>
+    ensures { result ≡ signed_reading 63 (tree v.now) }
+{
+    match v.as_plain() {
+        Value::Int(z) => Some(*z),
+        Value::BulkString(bytes) => signed_in(bytes),
+        Value::SimpleString(text) => signed_in(text.as_bytes()),
+        _ => None,
+    }
+}
+
+/// The number that a value reads as at `usize`, if any. It takes no memory.
+pub fn usize_of(v: &Value) -> Option<usize>
+    ensures { result ≡ unsigned_reading 64 (tree v.now) }
+{
+    Some(u64_of(v)? as usize)
+}
+
+/// The number that a value reads as at 32 bits, if any.
+#[tactic(auto, using(crate::proofs::NumberLemmas::narrowing))]
+fn u32_of(v: &Value) -> Option<u32>
+    ensures { result ≡ unsigned_reading 32 (tree v.now) }
+{
+    u32::try_from(u64_of(v)?).ok()
+}
+
+/// The number that a value reads as at 16 bits, if any.
+#[tactic(auto, using(crate::proofs::NumberLemmas::narrowing))]
+fn u16_of(v: &Value) -> Option<u16>
+    ensures { result ≡ unsigned_reading 16 (tree v.now) }
+{
+    u16::try_from(u64_of(v)?).ok()
+}
+
+impl FromRedisValue for u16 {
     ghost Meaning = { ℕ };
 
     ghost meaning = { λ n. n };
 
-    ghost reading = { unsigned_reading 64 };
+    ghost reading = { unsigned_reading 16 };
 
-    fn from_redis_value(alloc: Global, v: Value) -> Result<usize, ParsingError> {
-        usize::from_redis_value_ref(alloc, &v)
+    /// A number below 2^16. It takes no memory, so the one refusal is `NotNumber`.
+    fn from_redis_value(_alloc: Global, v: Value) -> Result<u16, ParsingError>
+        ensures { result ≡ ok_or (unsigned_reading 16 (tree v)) ParsingError.NotNumber }
+    {
+        u16_of(&v).ok_or(ParsingError::NotNumber)
     }
 
-    fn from_redis_value_ref(_alloc: Global, v: &Value) -> Result<usize, ParsingError> {
-        match v.as_plain() {
-            Value::Int(z) => match usize::try_from(*z) {
-                Ok(n) => Ok(n),
-                Err(_) => Err(ParsingError::NotNumber),
-            },
-            Value::BulkString(bytes) => match std::str::from_utf8(bytes) {
-                Ok(text) => match text.parse::<usize>() {
-                    Ok(n) => Ok(n),
-                    Err(_) => Err(ParsingError::NotNumber),
-                },
-                Err(_) => Err(ParsingError::NotNumber),
-            },
-            Value::SimpleString(text) => match text.as_str().parse::<usize>() {
-                Ok(n) => Ok(n),
-                Err(_) => Err(ParsingError::NotNumber),
-            },
-            _ => Err(ParsingError::NotNumber),
-        }
-    }
-}
-
-impl FromRedisValue for i64 {
-    ghost Meaning = { ℤ };
-
-    ghost meaning = { λ z. z };
-
-    ghost reading = { signed_reading 63 };
-
-    fn from_redis_value(alloc: Global, v: Value) -> Result<i64, ParsingError> {
-        i64::from_redis_value_ref(alloc, &v)
-    }
-
-    #[tactic(auto, using(crate::proofs::NumberLemmas::signed_of_Int))]
-    fn from_redis_value_ref(_alloc: Global, v: &Value) -> Result<i64, ParsingError> {
-        match v.as_plain() {
-            Value::Int(z) => Ok(*z),
-            Value::BulkString(bytes) => match std::str::from_utf8(bytes) {
-                Ok(text) => match text.parse::<i64>() {
-                    Ok(z) => Ok(z),
-                    Err(_) => Err(ParsingError::NotNumber),
-                },
-                Err(_) => Err(ParsingError::NotNumber),
-            },
-            Value::SimpleString(text) => match text.as_str().parse::<i64>() {
-                Ok(z) => Ok(z),
-                Err(_) => Err(ParsingError::NotNumber),
-            },
-            _ => Err(ParsingError::NotNumber),
-        }
+    /// The same number of a value that is lent.
+    fn from_redis_value_ref(_alloc: Global, v: &Value) -> Result<u16, ParsingError>
+        ensures { result ≡ ok_or (unsigned_reading 16 (tree v.now)) ParsingError.NotNumber }
+    {
+        u16_of(v).ok_or(ParsingError::NotNumber)
     }
 }
 
@@ -78,15 +110,86 @@ impl FromRedisValue for u32 {
 
     ghost reading = { unsigned_reading 32 };
 
-    fn from_redis_value(alloc: Global, v: Value) -> Result<u32, ParsingError> {
-        u32::from_redis_value_ref(alloc, &v)
+    /// A number below 2^32. It takes no memory, so the one refusal is `NotNumber`.
+    fn from_redis_value(_alloc: Global, v: Value) -> Result<u32, ParsingError>
+        ensures { result ≡ ok_or (unsigned_reading 32 (tree v)) ParsingError.NotNumber }
+    {
+        u32_of(&v).ok_or(ParsingError::NotNumber)
     }
 
-    #[tactic(auto, using(crate::proofs::NumberLemmas::narrow_fits, crate::proofs::NumberLemmas::narrow_over, crate::proofs::NumberLemmas::narrow_none))]
-    fn from_redis_value_ref(alloc: Global, v: &Value) -> Result<u32, ParsingError> {
-        match u32::try_from(usize::from_redis_value_ref(alloc, v)?) {
-            Ok(n) => Ok(n),
-            Err(_) => Err(ParsingError::NotNumber),
-        }
+    /// The same number of a value that is lent.
+    fn from_redis_value_ref(_alloc: Global, v: &Value) -> Result<u32, ParsingError>
+        ensures { result ≡ ok_or (unsigned_reading 32 (tree v.now)) ParsingError.NotNumber }
+    {
+        u32_of(v).ok_or(ParsingError::NotNumber)
     }
 }
+
+impl FromRedisValue for u64 {
+    ghost Meaning = { ℕ };
+
+    ghost meaning = { λ n. n };
+
+    ghost reading = { unsigned_reading 64 };
+
+    /// A number below 2^64. It takes no memory, so the one refusal is `NotNumber`.
+    fn from_redis_value(_alloc: Global, v: Value) -> Result<u64, ParsingError>
+        ensures { result ≡ ok_or (unsigned_reading 64 (tree v)) ParsingError.NotNumber }
+    {
+        u64_of(&v).ok_or(ParsingError::NotNumber)
+    }
+
+    /// The same number of a value that is lent.
+    fn from_redis_value_ref(_alloc: Global, v: &Value) -> Result<u64, ParsingError>
+        ensures { result ≡ ok_or (unsigned_reading 64 (tree v.now)) ParsingError.NotNumber }
+    {
+        u64_of(v).ok_or(ParsingError::NotNumber)
+    }
+}
+
+impl FromRedisValue for usize {
+    ghost Meaning = { ℕ };
+
+    ghost meaning = { λ n. n };
+
+    ghost reading = { unsigned_reading 64 };
+
+    /// A number below 2^64. It takes no memory, so the one refusal is `NotNumber`.
+    fn from_redis_value(_alloc: Global, v: Value) -> Result<usize, ParsingError>
+        ensures { result ≡ ok_or (unsigned_reading 64 (tree v)) ParsingError.NotNumber }
+    {
+        usize_of(&v).ok_or(ParsingError::NotNumber)
+    }
+
+    /// The same number of a value that is lent.
+    fn from_redis_value_ref(_alloc: Global, v: &Value) -> Result<usize, ParsingError>
+        ensures { result ≡ ok_or (unsigned_reading 64 (tree v.now)) ParsingError.NotNumber }
+    {
+        usize_of(v).ok_or(ParsingError::NotNumber)
+    }
+}
+
+impl FromRedisValue for i64 {
+    ghost Meaning = { ℤ };
+
+    ghost meaning = { λ z. z };
+
+    ghost reading = { signed_reading 63 };
+
+    /// A number from -2^63 to 2^63 - 1. It takes no memory, so the one refusal is `NotNumber`.
+    fn from_redis_value(_alloc: Global, v: Value) -> Result<i64, ParsingError>
+        ensures { result ≡ ok_or (signed_reading 63 (tree v)) ParsingError.NotNumber }
+    {
+        i64_of(&v).ok_or(ParsingError::NotNumber)
+    }
+
+    /// The same number of a value that is lent.
+    fn from_redis_value_ref(_alloc: Global, v: &Value) -> Result<i64, ParsingError>
+        ensures { result ≡ ok_or (signed_reading 63 (tree v.now)) ParsingError.NotNumber }
+    {
+        i64_of(v).ok_or(ParsingError::NotNumber)
+    }
+}
+
+#[cfg(test)]
+mod tests;

@@ -1,6 +1,8 @@
 //! Texts that are read from values.
-ghost use Rattle.std.specs.Prelude.{◌≡◌, ◌≢◌, IfOk, IfErr, ℕ, List, string_bytes};
-ghost use Rattle.redis_resp.specs.Text.{text_reading};
+ghost use Rattle.std.specs.Prelude.{◌≡◌, ◌≢◌, IfOk, IfErr, IsTrue, ℕ, List, string_bytes};
+ghost use Rattle.redis_resp.specs.Tree.{plain};
+ghost use Rattle.redis_resp.specs.Text.{text_reading, is_written_out};
+ghost use Rattle.redis_resp.specs.Value.{tree};
 
 use crate::value::Value;
 use crate::value::error::ParsingError;
@@ -14,7 +16,15 @@ impl FromRedisValue for String {
 
     ghost reading = { text_reading };
 
-    fn from_redis_value(alloc: Global, v: Value) -> Result<String, ParsingError> {
+    /// The text of a value. It moves the text that the value holds, and takes memory only where
+    /// the value holds none: for `OK` and for a number in decimal.
+    fn from_redis_value(alloc: Global, v: Value) -> Result<String, ParsingError>
+        ensures ok { IfOk result (λ s. text_reading (tree v) ≡ Some (string_bytes s)) }
+        ensures err { IfErr result (λ e. e ≢ ParsingError.Memory → text_reading (tree v) ≡ None) }
+        ensures cause { IfErr result (λ e. e ≢ ParsingError.Memory → e ≡ ParsingError.NotText) }
+        ensures moved { result ≡ Err ParsingError.Memory
+            → IsTrue (is_written_out (plain (tree v))) }
+    {
         match v.into_plain() {
             Value::BulkString(bytes) => match String::from_utf8(bytes) {
                 Ok(text) => Ok(text),
@@ -31,7 +41,13 @@ impl FromRedisValue for String {
         }
     }
 
-    fn from_redis_value_ref(alloc: Global, v: &Value) -> Result<String, ParsingError> {
+    /// A copy of the text of a value that is lent.
+    fn from_redis_value_ref(alloc: Global, v: &Value) -> Result<String, ParsingError>
+        ensures ok { IfOk result (λ s. text_reading (tree v.now) ≡ Some (string_bytes s)) }
+        ensures err { IfErr result (λ e. e ≢ ParsingError.Memory
+            → text_reading (tree v.now) ≡ None) }
+        ensures cause { IfErr result (λ e. e ≢ ParsingError.Memory → e ≡ ParsingError.NotText) }
+    {
         match v.as_plain() {
             Value::BulkString(bytes) => match std::str::from_utf8(bytes) {
                 Ok(text) => Ok(String::from_str(alloc, text)?),
@@ -45,3 +61,6 @@ impl FromRedisValue for String {
         }
     }
 }
+
+#[cfg(test)]
+mod tests;

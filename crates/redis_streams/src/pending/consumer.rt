@@ -1,4 +1,9 @@
 //! A consumer of a group, as XPENDING and XINFO CONSUMERS tell of it.
+ghost use Rattle.std.specs.Prelude.{◌≡◌, [], IfOk, map, string_bytes};
+ghost use Rattle.redis_streams.specs.Pending.{consumer_of, empty_consumer};
+ghost use Rattle.redis_streams.specs.PendingRecords.{consumer_meaning};
+
+use std::alloc::{AllocError, Global};
 
 /// A consumer of a group.
 #[derive(Debug, Drop)]
@@ -9,4 +14,54 @@ pub struct StreamInfoConsumer {
     pub pending: usize,
     /// For how many milliseconds it has been idle; XPENDING does not tell, and gives 0.
     pub idle: usize,
+}
+
+impl StreamInfoConsumer {
+    /// A consumer with no name and nothing pending. It fails only by want of memory.
+    pub fn empty(alloc: Global) -> Result<StreamInfoConsumer, AllocError>
+        ensures { IfOk result (λ c. consumer_meaning c ≡ empty_consumer) }
+    {
+        Ok(StreamInfoConsumer {
+            name: String::new(alloc),
+            pending: 0,
+            idle: 0,
+        })
+    }
+
+    /// The same consumer once more. It fails only by want of memory.
+    pub fn try_clone(&self, alloc: Global) -> Result<StreamInfoConsumer, AllocError>
+        ensures { IfOk result (λ c. consumer_meaning c ≡ consumer_meaning self.now) }
+    {
+        Ok(StreamInfoConsumer {
+            name: String::from_str(alloc, &self.name)?,
+            pending: self.pending,
+            idle: self.idle,
+        })
+    }
+
+    /// The consumer that a row of XPENDING tells of, whose pending entries are 0 where its text
+    /// writes no number. Takes no memory.
+    pub(crate) fn of_row(name: String, count: String) -> StreamInfoConsumer
+        ensures { consumer_meaning result ≡ consumer_of (string_bytes name, string_bytes count) }
+    {
+        StreamInfoConsumer {
+            name,
+            pending: count.as_str().parse::<usize>().unwrap_or(0),
+            idle: 0,
+        }
+    }
+}
+
+/// The same consumers once more, in order. It fails only by want of memory.
+pub(crate) fn copied(
+    alloc: Global,
+    consumers: &[StreamInfoConsumer],
+) -> Result<Vec<StreamInfoConsumer>, AllocError>
+    ensures { IfOk result (λ r. map consumer_meaning r.items ≡ map consumer_meaning consumers.now) }
+{
+    let mut copies = Vec::with_capacity(alloc, consumers.len())?;
+    for consumer in consumers {
+        copies.push(consumer.try_clone(alloc)?)?;
+    }
+    Ok(copies)
 }

@@ -1,10 +1,19 @@
 //! The reply of XPENDING without a range: how much is pending in a group, and with whom.
-use crate::pending::consumer::StreamInfoConsumer;
+ghost use Rattle.std.specs.Prelude.{◌≡◌, ◌≢◌, Option, Some, None, IfOk, IfErr, map, option_map};
+ghost use Rattle.redis_streams.specs.Pending.{PendingSummary, pending_reading, summary_of};
+ghost use Rattle.redis_streams.specs.Pending.{consumers_of, empty_summary};
+ghost use Rattle.redis_streams.specs.PendingRecords.{consumer_meaning, data_meaning, count_of};
+ghost use Rattle.redis_streams.specs.PendingRecords.{pending_meaning, parts_meaning, row_meaning};
+
+use crate::pending::consumer::{StreamInfoConsumer, copied};
+use redis_resp::{FromRedisValue, ParsingError, Value};
+use std::alloc::{AllocError, Global};
 
 /// What XPENDING answers without a range.
-#[derive(Debug, Drop)]
+#[derive(Debug, Drop, Default)]
 pub enum StreamPendingReply {
     /// Nothing is pending.
+    #[default]
     Empty,
     /// Something is pending.
     Data(StreamPendingData),
@@ -21,4 +30,120 @@ pub struct StreamPendingData {
     pub end_id: String,
     /// The consumers that have pending entries, with how many each.
     pub consumers: Vec<StreamInfoConsumer>,
+}
+
+impl StreamPendingReply {
+    /// How many entries are pending: 0 for `Empty`. Takes no memory.
+    pub fn count(&self) -> usize
+        ensures { result ≡ count_of self.now }
+    {
+        match self {
+            StreamPendingReply::Empty => 0,
+            StreamPendingReply::Data(data) => data.count,
+        }
+    }
+
+    /// The same reply once more. It fails only by want of memory.
+    pub fn try_clone(&self, alloc: Global) -> Result<StreamPendingReply, AllocError>
+        ensures { IfOk result (λ r. pending_meaning r ≡ pending_meaning self.now) }
+    {
+        match self {
+            StreamPendingReply::Empty => Ok(StreamPendingReply::Empty),
+            StreamPendingReply::Data(data) => Ok(StreamPendingReply::Data(data.try_clone(alloc)?)),
+        }
+    }
+}
+
+impl StreamPendingData {
+    /// Nothing pending: no count, no ids, no consumers. It fails only by want of memory.
+    pub fn empty(alloc: Global) -> Result<StreamPendingData, AllocError>
+        ensures { IfOk result (λ d. data_meaning d ≡ empty_summary) }
+    {
+        Ok(StreamPendingData {
+            count: 0,
+            start_id: String::new(alloc),
+            end_id: String::new(alloc),
+            consumers: Vec::new(alloc),
+        })
+    }
+
+    /// The same data once more. It fails only by want of memory.
+    pub fn try_clone(&self, alloc: Global) -> Result<StreamPendingData, AllocError>
+        ensures { IfOk result (λ d. data_meaning d ≡ data_meaning self.now) }
+    {
+        Ok(StreamPendingData {
+            count: self.count,
+            start_id: String::from_str(alloc, &self.start_id)?,
+            end_id: String::from_str(alloc, &self.end_id)?,
+            consumers: copied(alloc, &self.consumers)?,
+        })
+    }
+}
+
+/// A consumer's name and the text of its count, where a row has them.
+type Row = Option<(String, String)>;
+
+/// The parts of the reply as the server sends them: count, first and last id, consumers.
+type Parts = (usize, Option<String>, Option<String>, Vec<Row>);
+
+/// The consumers of those rows that are there, in order. It fails only by want of memory.
+fn read_consumers(alloc: Global, rows: Vec<Row>) -> Result<Vec<StreamInfoConsumer>, AllocError>
+    ensures { IfOk result (λ r. map consumer_meaning r.items
+        ≡ consumers_of (map (option_map row_meaning) rows.items)) }
+{
+    let mut consumers = Vec::with_capacity(alloc, rows.len())?;
+    for row in rows {
+        let Some((name, count)) = row else {
+            continue;
+        };
+        consumers.push(StreamInfoConsumer::of_row(name, count))?;
+    }
+    Ok(consumers)
+}
+
+/// The reply that the parts make. A count of 0 is `Empty`; any other wants both ids, and is
+/// refused with `PendingWithoutStart` or `PendingWithoutEnd` where one is missing.
+fn read_parts(alloc: Global, parts: Parts) -> Result<StreamPendingReply, ParsingError>
+    ensures ok { IfOk result (λ r. summary_of (parts_meaning parts) ≡ Some (pending_meaning r)) }
+    ensures err { IfErr result (λ e. e ≢ ParsingError.Memory
+        → summary_of (parts_meaning parts) ≡ None) }
+    ensures no_start { result ≡ Err ParsingError.PendingWithoutStart → parts.1 ≡ None }
+    ensures no_end { result ≡ Err ParsingError.PendingWithoutEnd → parts.2 ≡ None }
+{
+    let (count, start, end, rows) = parts;
+    if count == 0 {
+        return Ok(StreamPendingReply::Empty);
+    }
+    let Some(start_id) = start else {
+        return Err(ParsingError::PendingWithoutStart);
+    };
+    let Some(end_id) = end else {
+        return Err(ParsingError::PendingWithoutEnd);
+    };
+    let consumers = read_consumers(alloc, rows)?;
+    Ok(StreamPendingReply::Data(StreamPendingData {
+        count,
+        start_id,
+        end_id,
+        consumers,
+    }))
+}
+
+/// Read from a count, the first and the last id and a list of consumers; see `read_parts`.
+impl FromRedisValue for StreamPendingReply {
+    ghost Meaning = { Option PendingSummary };
+
+    ghost meaning = { pending_meaning };
+
+    ghost reading = { pending_reading };
+
+    fn from_redis_value(alloc: Global, v: Value) -> Result<StreamPendingReply, ParsingError> {
+        let parts = Parts::from_redis_value(alloc, v)?;
+        read_parts(alloc, parts)
+    }
+
+    fn from_redis_value_ref(alloc: Global, v: &Value) -> Result<StreamPendingReply, ParsingError> {
+        let parts = Parts::from_redis_value_ref(alloc, v)?;
+        read_parts(alloc, parts)
+    }
 }

@@ -1,0 +1,98 @@
+-- What the replies of XPENDING mean, and which value means what.
+use Rattle.std.specs.Prelude.{ℕ, ◌-◌, ◌^◌, ℤ, pos, negsuc, suc, List, [], Option, Some, None, option_map, option_and_then, unwrap_or, option_to_list, flat_map, if◌then◌else◌, nat_eq}
+use Rattle.std.specs.Str.{is_utf8}
+use Rattle.redis_resp.specs.Tree.{Tree, int, bulk, array_of_plain, exactly_four}
+use Rattle.redis_resp.specs.Text.{text_reading}
+use Rattle.redis_resp.specs.Number.{unsigned_of, within, unsigned_reading}
+use Rattle.redis_resp.specs.Reading.{option_reading, list_reading, traverse, two_reading, four_of, four_reading}
+
+-- a consumer of a group: its name, how many entries it has pending, and for how long it has been idle
+pub record Consumer : Type 0 where
+  pub name : List ℕ
+  pub pending : ℕ
+  pub idle : ℕ
+
+-- a consumer with no name and nothing pending
+abbrev pub empty_consumer : Consumer
+empty_consumer = record { name = []; pending = 0; idle = 0 }
+
+-- what is pending in a group: how much, from which id to which, and with whom
+pub record PendingSummary : Type 0 where
+  pub count : ℕ
+  pub first_id : List ℕ
+  pub last_id : List ℕ
+  pub consumers : List Consumer
+
+-- nothing pending, as a summary
+abbrev pub empty_summary : PendingSummary
+empty_summary = record { count = 0; first_id = []; last_id = []; consumers = [] }
+
+-- the four parts of a summary as the server sends them
+abbrev pub SummaryParts : Type 0
+SummaryParts = ℕ × Option (List ℕ) × Option (List ℕ) × List (Option (List ℕ × List ℕ))
+
+-- a count, the first and the last id where there are any, and a list of names with the texts of their counts
+abbrev pub summary_parts : Tree → Option SummaryParts
+summary_parts = four_reading (unsigned_reading 64) (option_reading text_reading) (option_reading text_reading) (list_reading (option_reading (two_reading text_reading text_reading)))
+
+-- the number that a text writes, and 0 where it writes none
+abbrev pub number_in : List ℕ → ℕ
+number_in text = unwrap_or (option_and_then (within 64) (unsigned_of text)) 0
+
+-- a consumer by its name and the text of its count
+abbrev pub consumer_of : List ℕ × List ℕ → Consumer
+consumer_of p = record { name = p.0; pending = number_in p.1; idle = 0 }
+
+-- the consumers of those rows that are there, in order
+abbrev pub consumers_of : List (Option (List ℕ × List ℕ)) → List Consumer
+consumers_of rows = flat_map (λ row. option_to_list (option_map consumer_of row)) rows
+
+-- a summary of something pending, which wants both ids
+abbrev pub filled_summary : SummaryParts → Option PendingSummary
+filled_summary parts = option_and_then (λ first. option_map (λ last. record { count = parts.0; first_id = first; last_id = last; consumers = consumers_of parts.3 }) parts.2) parts.1
+
+-- nothing is pending where the count is 0, whatever else is said
+abbrev pub summary_of : SummaryParts → Option (Option PendingSummary)
+summary_of parts = if nat_eq parts.0 0 then Some None else option_map Some (filled_summary parts)
+
+-- what a value says as the reply of XPENDING without a range: None where nothing is pending
+abbrev pub pending_reading : Tree → Option (Option PendingSummary)
+pending_reading t = option_and_then summary_of (summary_parts t)
+
+-- a pending entry: its id, its consumer, how long ago it was delivered last, and how often it was
+pub record PendingEntry : Type 0 where
+  pub id : List ℕ
+  pub consumer : List ℕ
+  pub elapsed : ℕ
+  pub delivered : ℕ
+
+-- a pending entry of which nothing is said
+abbrev pub empty_pending_entry : PendingEntry
+empty_pending_entry = record { id = []; consumer = []; elapsed = 0; delivered = 0 }
+
+-- a bulk string that is UTF-8, with no attribute around it
+abbrev pub literal_text : Tree → Option (List ℕ)
+literal_text (bulk bytes) = if is_utf8 bytes then Some bytes else None
+literal_text _ = None
+
+-- a whole number as one of 64 bits without a sign: a negative one stands as itself plus 2 ^ 64
+abbrev pub without_sign : ℤ → ℕ
+without_sign (pos n) = n
+without_sign (negsuc n) = 2 ^ 64 - suc n
+
+-- a whole number, with no attribute around it
+abbrev pub literal_number : Tree → Option ℕ
+literal_number (int z) = Some (without_sign z)
+literal_number _ = None
+
+-- a pending entry by its four members
+abbrev pub pending_entry : List ℕ × List ℕ × ℕ × ℕ → PendingEntry
+pending_entry parts = record { id = parts.0; consumer = parts.1; elapsed = parts.2; delivered = parts.3 }
+
+-- exactly an id, a name and two numbers, in an array with no attribute around it
+abbrev pub pending_row : Tree → Option PendingEntry
+pending_row t = option_map pending_entry (option_and_then (four_of literal_text literal_text literal_number literal_number) (option_and_then exactly_four (array_of_plain t)))
+
+-- what a value says as the reply of XPENDING with a range: a row for each entry, in an array with no attribute around it
+abbrev pub pending_count_reading : Tree → Option (List PendingEntry)
+pending_count_reading t = option_and_then (traverse pending_row) (array_of_plain t)
