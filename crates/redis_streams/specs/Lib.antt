@@ -6,3 +6,5 @@ pub mod Read
 pub mod Rows
 pub mod StreamId
 pub mod StreamKey
+pub mod Info
+pub mod InfoRecords
