@@ -1,5 +1,5 @@
 -- Fields by name, and what is left of them after one is taken out.
-use Rattle.std.proofs.Common.{◌≡◌, ℕ, Bool, true, false, cond, List, Option, Some, None, option_map, String, string_bytes, Global, Vec, map, refl, ap, ◌∙◌}
+use Rattle.std.proofs.Common.{◌≡◌, ℕ, Bool, true, false, cond, List, Option, Some, None, option_map, String, string_bytes, Global, Vec, map, refl, ap, sym, subst, ◌∙◌, Result, Ok, Err, IfErr, IsErrAnd}
 use Rattle.std.specs.Map.{update}
 use Rattle.std.specs.HashMap.{HashMap, UpdatesBy, get_by_text}
 use Rattle.std.specs.Str.{bytes_eq}
@@ -24,3 +24,8 @@ named_removed seen m n name updates = λ i q. (ap (option_map seen) (hash_map_up
 -- the entry of an array is that of its items
 pub entry_of_array : (v : Value) (items : Vec Value Global) → v ≡ Array items → info_entry_reading (tree v) ≡ entry_of_items (map tree items.items)
 entry_of_array v items is = ap (λ u. info_entry_reading (tree u)) is ∙ ap info_entry_reading (tree-Array items) ∙ ap entry_of_items (listed_trees (map tree items.items))
+
+-- what holds of an error holds of a result that passes it on
+pub passed_on : {T E : Type 0} (P : E → Type 0) (error : E) (r : Result T E) → IsErrAnd r (λ e. e ≡ error) → P error → IfErr r P
+passed_on P error (Ok x) is holds = tt
+passed_on P error (Err e) is holds = subst P (sym is) holds

@@ -2,3 +2,4 @@ pub mod PendingLemmas
 pub mod ReadLemmas
 pub mod RowsLemmas
 pub mod InfoLemmas
+pub mod StreamInfoLemmas

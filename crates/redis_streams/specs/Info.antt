@@ -51,3 +51,103 @@ info_entry_reading t = entry_of_items (unwrap_or (array_of_plain t) [])
 -- a field that is an entry, or the empty entry
 abbrev pub entry_field : NamedFields → List ℕ → Option Entry
 entry_field fields name = field_or empty_entry info_entry_reading (fields name)
+
+-- what XINFO STREAM tells of a stream
+pub record StreamInfo : Type 0 where
+  pub last_generated_id : List ℕ
+  pub radix_tree_keys : ℕ
+  pub groups : ℕ
+  pub length : ℕ
+  pub first_entry : Entry
+  pub last_entry : Entry
+
+-- of a stream without a word
+abbrev pub empty_stream : StreamInfo
+empty_stream = record { last_generated_id = []; radix_tree_keys = 0; groups = 0; length = 0; first_entry = empty_entry; last_entry = empty_entry }
+
+-- a stream by its fields
+abbrev pub stream_of : NamedFields → Option StreamInfo
+stream_of fields =
+  option_and_then (λ id.
+  option_and_then (λ keys.
+  option_and_then (λ groups.
+  option_and_then (λ length.
+  option_and_then (λ first.
+  option_map (λ last. record { last_generated_id = id; radix_tree_keys = keys; groups = groups; length = length; first_entry = first; last_entry = last })
+    (entry_field fields (codes "last-entry")))
+    (entry_field fields (codes "first-entry")))
+    (number_field 64 fields (codes "length")))
+    (number_field 64 fields (codes "groups")))
+    (number_field 64 fields (codes "radix-tree-nodes")))
+    (text_field fields (codes "last-generated-id"))
+
+-- what XINFO STREAM tells of a stream and of its idempotent producers
+pub record TrackedStream : Type 0 where
+  pub base : StreamInfo
+  pub duration : ℕ
+  pub maxsize : ℕ
+  pub producers : ℕ
+  pub ids : ℕ
+  pub added : ℕ
+  pub duplicates : ℕ
+
+-- of a stream and its producers without a word
+abbrev pub empty_tracked : TrackedStream
+empty_tracked = record { base = empty_stream; duration = 0; maxsize = 0; producers = 0; ids = 0; added = 0; duplicates = 0 }
+
+-- a stream and its idempotent producers by its fields
+abbrev pub tracked_of : NamedFields → Option TrackedStream
+tracked_of fields =
+  option_and_then (λ duration.
+  option_and_then (λ maxsize.
+  option_and_then (λ producers.
+  option_and_then (λ ids.
+  option_and_then (λ added.
+  option_and_then (λ duplicates.
+  option_map (λ base. record { base = base; duration = duration; maxsize = maxsize; producers = producers; ids = ids; added = added; duplicates = duplicates })
+    (stream_of fields))
+    (number_field 64 fields (codes "iids-duplicates")))
+    (number_field 64 fields (codes "iids-added")))
+    (number_field 64 fields (codes "iids-tracked")))
+    (number_field 64 fields (codes "pids-tracked")))
+    (number_field 16 fields (codes "idmp-maxsize")))
+    (number_field 32 fields (codes "idmp-duration"))
+
+-- a consumer by its fields
+abbrev pub consumer_of_fields : NamedFields → Option Consumer
+consumer_of_fields fields =
+  option_and_then (λ name.
+  option_and_then (λ pending.
+  option_map (λ idle. record { name = name; pending = pending; idle = idle })
+    (number_field 64 fields (codes "idle")))
+    (number_field 64 fields (codes "pending")))
+    (text_field fields (codes "name"))
+
+-- what XINFO GROUPS tells of a group
+pub record Group : Type 0 where
+  pub name : List ℕ
+  pub consumers : ℕ
+  pub pending : ℕ
+  pub last_delivered_id : List ℕ
+  pub entries_read : Option ℕ
+  pub lag : Option ℕ
+
+-- of a group without a word
+abbrev pub empty_group : Group
+empty_group = record { name = []; consumers = 0; pending = 0; last_delivered_id = []; entries_read = None; lag = None }
+
+-- a group by its fields
+abbrev pub group_of : NamedFields → Option Group
+group_of fields =
+  option_and_then (λ name.
+  option_and_then (λ consumers.
+  option_and_then (λ pending.
+  option_and_then (λ id.
+  option_and_then (λ read.
+  option_map (λ lag. record { name = name; consumers = consumers; pending = pending; last_delivered_id = id; entries_read = read; lag = lag })
+    (known_field fields (codes "lag")))
+    (known_field fields (codes "entries-read")))
+    (text_field fields (codes "last-delivered-id")))
+    (number_field 64 fields (codes "pending")))
+    (number_field 64 fields (codes "consumers")))
+    (text_field fields (codes "name"))

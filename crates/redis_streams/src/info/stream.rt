@@ -1,5 +1,14 @@
 //! The reply of XINFO STREAM.
+ghost use Rattle.std.specs.Prelude.{◌≡◌, ◌≢◌, Some, None, IfOk, IfErr};
+ghost use Rattle.redis_streams.specs.Info.{stream_of};
+ghost use Rattle.redis_streams.specs.InfoRecords.{named, stream_meaning};
+
+use crate::info::entry::InfoEntry;
+use crate::info::field::{Source, take_field};
 use crate::rows::StreamId;
+use redis_resp::ParsingError;
+use std::alloc::Global;
+use std::collections::HashMap;
 
 /// What XINFO STREAM tells of a stream.
 #[derive(Debug, Drop)]
@@ -17,4 +26,30 @@ pub struct StreamInfoStreamReply {
     pub first_entry: StreamId,
     /// The last entry, or the empty entry where there is none.
     pub last_entry: StreamId,
+}
+
+/// The stream that the fields tell of; other fields than its own change nothing.
+pub(crate) fn read_stream<S: Source>(
+    alloc: Global,
+    mut fields: HashMap<String, S>,
+) -> Result<StreamInfoStreamReply, ParsingError>
+    ensures ok { IfOk result (λ r. stream_of (named S.seen fields) ≡ Some (stream_meaning r)) }
+    ensures err { IfErr result (λ e. e ≢ ParsingError.Memory
+        → stream_of (named S.seen fields) ≡ None) }
+{
+    let fields = &mut fields;
+    let id = take_field(alloc, fields, "last-generated-id", String::new(alloc))?;
+    let radix_tree_keys = take_field(alloc, fields, "radix-tree-nodes", 0)?;
+    let groups = take_field(alloc, fields, "groups", 0)?;
+    let length = take_field(alloc, fields, "length", 0)?;
+    let first = take_field(alloc, fields, "first-entry", InfoEntry::empty(alloc))?;
+    let last = take_field(alloc, fields, "last-entry", InfoEntry::empty(alloc))?;
+    Ok(StreamInfoStreamReply {
+        last_generated_id: id,
+        radix_tree_keys,
+        groups,
+        length,
+        first_entry: first.0,
+        last_entry: last.0,
+    })
 }
