@@ -3,6 +3,8 @@
 mod fixed_args;
 mod number;
 mod sequence;
+#[cfg(test)]
+mod tests;
 mod text;
 mod to_redis_args;
 mod tuple;

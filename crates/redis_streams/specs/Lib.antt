@@ -4,6 +4,8 @@ pub mod PendingRecords
 pub mod Entry
 pub mod Read
 pub mod Rows
+pub mod SameEntry
+pub mod SameEntryLaws
 pub mod StreamId
 pub mod StreamKey
 pub mod Info

@@ -10,7 +10,7 @@ impl ToRedisArgs for u16 {
     ghost args = { λ n. decimal n ∷ [] };
 
     fn write_redis_args<W: RedisWrite>(&self, out: &mut W) -> Result<(), WriteError> {
-        out.write_arg(Buffer::new().format(*self).as_bytes())
+        out.write_arg(Buffer::new().format::<u16>(*self).as_bytes())
     }
 }
 
@@ -22,7 +22,7 @@ impl ToRedisArgs for u32 {
     ghost args = { λ n. decimal n ∷ [] };
 
     fn write_redis_args<W: RedisWrite>(&self, out: &mut W) -> Result<(), WriteError> {
-        out.write_arg(Buffer::new().format(*self).as_bytes())
+        out.write_arg(Buffer::new().format::<u32>(*self).as_bytes())
     }
 }
 
@@ -34,7 +34,7 @@ impl ToRedisArgs for u64 {
     ghost args = { λ n. decimal n ∷ [] };
 
     fn write_redis_args<W: RedisWrite>(&self, out: &mut W) -> Result<(), WriteError> {
-        out.write_arg(Buffer::new().format(*self).as_bytes())
+        out.write_arg(Buffer::new().format::<u64>(*self).as_bytes())
     }
 }
 
@@ -46,7 +46,7 @@ impl ToRedisArgs for usize {
     ghost args = { λ n. decimal n ∷ [] };
 
     fn write_redis_args<W: RedisWrite>(&self, out: &mut W) -> Result<(), WriteError> {
-        out.write_arg(Buffer::new().format(*self).as_bytes())
+        out.write_arg(Buffer::new().format::<usize>(*self).as_bytes())
     }
 }
 
@@ -58,7 +58,7 @@ impl ToRedisArgs for i64 {
     ghost args = { λ n. signed_decimal n ∷ [] };
 
     fn write_redis_args<W: RedisWrite>(&self, out: &mut W) -> Result<(), WriteError> {
-        out.write_arg(Buffer::new().format(*self).as_bytes())
+        out.write_arg(Buffer::new().format::<i64>(*self).as_bytes())
     }
 }
 

@@ -24,7 +24,7 @@ impl ToRedisArgs for String {
     ghost args = { λ text. string_bytes text ∷ [] };
 
     fn write_redis_args<W: RedisWrite>(&self, out: &mut W) -> Result<(), WriteError> {
-        out.write_arg(self.as_bytes())
+        out.write_arg(self.as_str().as_bytes())
     }
 }
 

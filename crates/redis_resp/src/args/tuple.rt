@@ -1,6 +1,7 @@
 //! Tuples as arguments: the lists of their members, joined in order.
 //!
-//! A sentence of options is written as one tuple, which reads like its grammar.
+//! A sentence of options is written as one tuple, which reads like its grammar. A wider tuple is
+//! written as a tuple of narrower ones, which means the same list.
 ghost use Rattle.std.specs.Prelude.{◌++◌};
 
 use crate::args::to_redis_args::ToRedisArgs;
@@ -19,9 +20,7 @@ impl<A: ToRedisArgs, B: ToRedisArgs, C: ToRedisArgs> ToRedisArgs for (A, B, C) {
     ghost args = { λ x. A.args x.0 ++ (B.args x.1 ++ C.args x.2) };
 
     fn write_redis_args<W: RedisWrite>(&self, out: &mut W) -> Result<(), WriteError> {
-        self.0.write_redis_args(out)?;
-        self.1.write_redis_args(out)?;
-        self.2.write_redis_args(out)
+        (&self.0, (&self.1, &self.2)).write_redis_args(out)
     }
 }
 
@@ -29,10 +28,7 @@ impl<A: ToRedisArgs, B: ToRedisArgs, C: ToRedisArgs, D: ToRedisArgs> ToRedisArgs
     ghost args = { λ x. A.args x.0 ++ (B.args x.1 ++ (C.args x.2 ++ D.args x.3)) };
 
     fn write_redis_args<W: RedisWrite>(&self, out: &mut W) -> Result<(), WriteError> {
-        self.0.write_redis_args(out)?;
-        self.1.write_redis_args(out)?;
-        self.2.write_redis_args(out)?;
-        self.3.write_redis_args(out)
+        ((&self.0, &self.1), (&self.2, &self.3)).write_redis_args(out)
     }
 }
 
