@@ -4,3 +4,5 @@ pub mod ReadLemmas
 pub mod RowsLemmas
 pub mod InfoLemmas
 pub mod StreamInfoLemmas
+pub mod GroupInfoLemmas
+pub mod TrackedInfoLemmas

@@ -5,13 +5,17 @@ use Rattle.redis_resp.specs.Tree.{Tree, array_of_plain}
 use Rattle.redis_resp.specs.Text.{text_reading}
 use Rattle.redis_resp.specs.Number.{unsigned_reading}
 use Rattle.redis_resp.specs.Reading.{is_nil, list_reading, both_read}
-use Rattle.redis_resp.specs.Table.{fields_reading}
+use Rattle.redis_resp.specs.Table.{fields_reading, pairs_reading, last_with}
 use Rattle.redis_streams.specs.Entry.{Entry, entry_of}
 use Rattle.redis_streams.specs.Pending.{Consumer}
 
 -- the value of each field by its name, where there is one
 abbrev pub NamedFields : Type 0
 NamedFields = List ℕ → Option Tree
+
+-- the fields of a value: all its pairs have a text as key, and of pairs with one key the last counts
+abbrev pub fields_in : Tree → Option NamedFields
+fields_in t = option_map (λ pairs name. last_with name pairs) (pairs_reading (λ u. Some u) t)
 
 -- what a field reads as, and the empty value where there is no such field
 abbrev pub field_or : {M : Type 0} → M → (Tree → Option M) → Option Tree → Option M
@@ -81,6 +85,10 @@ stream_of fields =
     (number_field 64 fields (codes "radix-tree-nodes")))
     (text_field fields (codes "last-generated-id"))
 
+-- what a value says as the reply of XINFO STREAM
+abbrev pub stream_reading : Tree → Option StreamInfo
+stream_reading t = option_and_then stream_of (fields_in t)
+
 -- what XINFO STREAM tells of a stream and of its idempotent producers
 pub record TrackedStream : Type 0 where
   pub base : StreamInfo
@@ -113,6 +121,10 @@ tracked_of fields =
     (number_field 16 fields (codes "idmp-maxsize")))
     (number_field 32 fields (codes "idmp-duration"))
 
+-- what a value says as the reply of XINFO STREAM with its idempotent producers
+abbrev pub tracked_reading : Tree → Option TrackedStream
+tracked_reading t = option_and_then tracked_of (fields_in t)
+
 -- a consumer by its fields
 abbrev pub consumer_of_fields : NamedFields → Option Consumer
 consumer_of_fields fields =
@@ -122,6 +134,13 @@ consumer_of_fields fields =
     (number_field 64 fields (codes "idle")))
     (number_field 64 fields (codes "pending")))
     (text_field fields (codes "name"))
+
+-- what a value says as a row of the reply of XINFO CONSUMERS, and as the reply: a list of rows
+abbrev pub consumer_reading : Tree → Option Consumer
+consumer_reading t = option_and_then consumer_of_fields (fields_in t)
+
+abbrev pub consumers_reading : Tree → Option (List Consumer)
+consumers_reading = list_reading consumer_reading
 
 -- what XINFO GROUPS tells of a group
 pub record Group : Type 0 where
@@ -151,3 +170,10 @@ group_of fields =
     (number_field 64 fields (codes "pending")))
     (number_field 64 fields (codes "consumers")))
     (text_field fields (codes "name"))
+
+-- what a value says as a row of the reply of XINFO GROUPS, and as the reply: a list of rows
+abbrev pub group_reading : Tree → Option Group
+group_reading t = option_and_then group_of (fields_in t)
+
+abbrev pub groups_reading : Tree → Option (List Group)
+groups_reading = list_reading group_reading

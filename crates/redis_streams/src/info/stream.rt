@@ -37,13 +37,12 @@ pub(crate) fn read_stream<S: Source>(
     ensures err { IfErr result (λ e. e ≢ ParsingError.Memory
         → stream_of (named S.seen fields) ≡ None) }
 {
-    let fields = &mut fields;
-    let id = take_field(alloc, fields, "last-generated-id", String::new(alloc))?;
-    let radix_tree_keys = take_field(alloc, fields, "radix-tree-nodes", 0)?;
-    let groups = take_field(alloc, fields, "groups", 0)?;
-    let length = take_field(alloc, fields, "length", 0)?;
-    let first = take_field(alloc, fields, "first-entry", InfoEntry::empty(alloc))?;
-    let last = take_field(alloc, fields, "last-entry", InfoEntry::empty(alloc))?;
+    let id = take_field(alloc, &mut fields, "last-generated-id", String::new(alloc))?;
+    let radix_tree_keys = take_field(alloc, &mut fields, "radix-tree-nodes", 0)?;
+    let groups = take_field(alloc, &mut fields, "groups", 0)?;
+    let length = take_field(alloc, &mut fields, "length", 0)?;
+    let first = take_field(alloc, &mut fields, "first-entry", InfoEntry::empty(alloc))?;
+    let last = take_field(alloc, &mut fields, "last-entry", InfoEntry::empty(alloc))?;
     Ok(StreamInfoStreamReply {
         last_generated_id: id,
         radix_tree_keys,
