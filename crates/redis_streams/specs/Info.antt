@@ -6,7 +6,7 @@ use Rattle.redis_resp.specs.Text.{text_reading}
 use Rattle.redis_resp.specs.Number.{unsigned_reading}
 use Rattle.redis_resp.specs.Reading.{is_nil, list_reading, both_read}
 use Rattle.redis_resp.specs.Table.{fields_reading, pairs_reading, last_with}
-use Rattle.redis_streams.specs.Entry.{Entry, entry_of}
+use Rattle.redis_streams.specs.Entry.{Entry, entry_of, empty_entry}
 use Rattle.redis_streams.specs.Pending.{Consumer}
 
 -- the value of each field by its name, where there is one
@@ -37,10 +37,6 @@ known_reading t = if is_nil t then Some None else option_map Some (unsigned_read
 -- a field that is such a number, or None
 abbrev pub known_field : NamedFields → List ℕ → Option (Option ℕ)
 known_field fields name = field_or None known_reading (fields name)
-
--- the entry with no id and no fields
-abbrev pub empty_entry : Entry
-empty_entry = entry_of ([], empty)
 
 -- an entry by the items of an array: none is the empty entry; else the first is the id and the second, where there is one, the fields
 abbrev pub entry_of_items : List Tree → Option Entry

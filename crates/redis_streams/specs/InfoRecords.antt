@@ -2,7 +2,10 @@
 use Rattle.std.specs.Prelude.{ℕ, List, map, Option, option_map, String, string_bytes}
 use Rattle.std.specs.declared.alloc.Global.{Global}
 use Rattle.std.specs.HashMap.{HashMap, get_by_text}
+use Rattle.std.specs.Borrow.{Bor}
 use Rattle.redis_resp.specs.Tree.{Tree}
+use Rattle.redis_resp.specs.Value.{tree}
+use Rattle.redis_resp.specs.declared.value.Value.{Value}
 use Rattle.redis_streams.specs.Pending.{Consumer}
 use Rattle.redis_streams.specs.PendingRecords.{consumer_meaning}
 use Rattle.redis_streams.specs.StreamId.{entry_meaning}
@@ -58,3 +61,7 @@ group_meaning g = record {
 -- the groups that a reply lists
 abbrev pub groups_meaning : StreamInfoGroupsReply → List Group
 groups_meaning r = map group_meaning r.groups.items
+
+-- the tree of a value that is lent
+abbrev pub lent_tree : Bor Value → Tree
+lent_tree v = tree v.now

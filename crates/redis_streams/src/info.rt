@@ -2,6 +2,7 @@
 mod consumers;
 mod entry;
 mod field;
+mod fields;
 mod groups;
 mod idempotency;
 mod known;

@@ -1,13 +1,16 @@
 //! The reply of XINFO CONSUMERS.
-ghost use Rattle.std.specs.Prelude.{◌≡◌, ◌≢◌, Some, None, IfOk, IfErr};
-ghost use Rattle.redis_streams.specs.Info.{consumer_of_fields};
-ghost use Rattle.redis_streams.specs.InfoRecords.{named};
+ghost use Rattle.std.specs.Prelude.{◌≡◌, ◌≢◌, [], List, Some, None, IfOk, IfErr, map};
+ghost use Rattle.redis_streams.specs.Pending.{Consumer};
 ghost use Rattle.redis_streams.specs.PendingRecords.{consumer_meaning};
+ghost use Rattle.redis_streams.specs.Info.{consumer_of_fields, consumer_reading};
+ghost use Rattle.redis_streams.specs.Info.{consumers_reading};
+ghost use Rattle.redis_streams.specs.InfoRecords.{named, consumers_meaning};
 
 use crate::info::field::{Source, take_field};
-use crate::pending::StreamInfoConsumer;
-use redis_resp::ParsingError;
-use std::alloc::Global;
+use crate::info::fields::{lent_fields, owned_fields};
+use crate::pending::{StreamInfoConsumer, copied_consumers};
+use redis_resp::{FromRedisValue, ParsingError, Value};
+use std::alloc::{AllocError, Global};
 use std::collections::HashMap;
 
 /// What XINFO CONSUMERS tells of the consumers of a group.
@@ -15,6 +18,26 @@ use std::collections::HashMap;
 pub struct StreamInfoConsumersReply {
     /// The consumers, in order.
     pub consumers: Vec<StreamInfoConsumer>,
+}
+
+impl StreamInfoConsumersReply {
+    /// The reply without consumers. It fails only by want of memory.
+    pub fn empty(alloc: Global) -> Result<StreamInfoConsumersReply, AllocError>
+        ensures { IfOk result (λ r. consumers_meaning r ≡ []) }
+    {
+        Ok(StreamInfoConsumersReply {
+            consumers: Vec::new(alloc),
+        })
+    }
+
+    /// The same reply once more. It fails only by want of memory.
+    pub fn try_clone(&self, alloc: Global) -> Result<StreamInfoConsumersReply, AllocError>
+        ensures { IfOk result (λ r. consumers_meaning r ≡ consumers_meaning self.now) }
+    {
+        Ok(StreamInfoConsumersReply {
+            consumers: copied_consumers(alloc, &self.consumers)?,
+        })
+    }
 }
 
 /// The consumer that the fields of a row tell of; other fields change nothing.
@@ -35,4 +58,60 @@ fn read_consumer<S: Source>(
         pending,
         idle,
     })
+}
+
+/// A row of the reply.
+#[derive(Drop)]
+struct Row(StreamInfoConsumer);
+
+impl FromRedisValue for Row {
+    ghost Meaning = { Consumer };
+
+    ghost meaning = { λ row. consumer_meaning row.0 };
+
+    ghost reading = { consumer_reading };
+
+    fn from_redis_value(alloc: Global, v: Value) -> Result<Row, ParsingError> {
+        let fields = owned_fields(alloc, v)?;
+        Ok(Row(read_consumer(alloc, fields)?))
+    }
+
+    fn from_redis_value_ref(alloc: Global, v: &Value) -> Result<Row, ParsingError> {
+        let fields = lent_fields(alloc, v)?;
+        Ok(Row(read_consumer(alloc, fields)?))
+    }
+}
+
+/// The reply of these rows. It fails only by want of memory.
+fn reply_of(alloc: Global, rows: Vec<Row>) -> Result<StreamInfoConsumersReply, AllocError>
+    ensures { IfOk result (λ r. consumers_meaning r
+        ≡ map (λ row. consumer_meaning row.0) rows.items) }
+{
+    let mut consumers = Vec::with_capacity(alloc, rows.len())?;
+    for row in rows {
+        consumers.push(row.0)?;
+    }
+    Ok(StreamInfoConsumersReply { consumers })
+}
+
+/// Read from a list of rows, each of fields by name.
+impl FromRedisValue for StreamInfoConsumersReply {
+    ghost Meaning = { List Consumer };
+
+    ghost meaning = { consumers_meaning };
+
+    ghost reading = { consumers_reading };
+
+    fn from_redis_value(alloc: Global, v: Value) -> Result<StreamInfoConsumersReply, ParsingError> {
+        let rows: Vec<Row> = Vec::from_redis_value(alloc, v)?;
+        Ok(reply_of(alloc, rows)?)
+    }
+
+    fn from_redis_value_ref(
+        alloc: Global,
+        v: &Value,
+    ) -> Result<StreamInfoConsumersReply, ParsingError> {
+        let rows: Vec<Row> = Vec::from_redis_value_ref(alloc, v)?;
+        Ok(reply_of(alloc, rows)?)
+    }
 }

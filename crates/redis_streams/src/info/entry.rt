@@ -1,9 +1,9 @@
 //! An entry as XINFO STREAM tells of it.
 ghost use Rattle.std.specs.Prelude.{◌≡◌, ◌≢◌, Some, None, IfOk, IfErr, map, string_bytes};
 ghost use Rattle.redis_resp.specs.Value.{tree};
-ghost use Rattle.redis_streams.specs.Entry.{Entry, entry_of};
+ghost use Rattle.redis_streams.specs.Entry.{Entry, entry_of, empty_entry};
 ghost use Rattle.redis_streams.specs.StreamId.{entry_meaning, fields_of};
-ghost use Rattle.redis_streams.specs.Info.{entry_of_items, info_entry_reading, empty_entry};
+ghost use Rattle.redis_streams.specs.Info.{entry_of_items, info_entry_reading};
 
 use crate::rows::StreamId;
 use redis_resp::{FromRedisValue, ParsingError, Value};

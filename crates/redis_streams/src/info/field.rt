@@ -5,7 +5,7 @@ ghost use Rattle.std.specs.Str.{bytes_eq};
 ghost use Rattle.redis_resp.specs.Tree.{Tree};
 ghost use Rattle.redis_resp.specs.Value.{tree};
 ghost use Rattle.redis_streams.specs.Info.{field_or};
-ghost use Rattle.redis_streams.specs.InfoRecords.{named};
+ghost use Rattle.redis_streams.specs.InfoRecords.{named, lent_tree};
 
 use redis_resp::{FromRedisValue, ParsingError, Value};
 use std::alloc::Global;
@@ -32,7 +32,7 @@ impl Source for Value {
 }
 
 impl<'a> Source for &'a Value {
-    ghost seen = { λ v. tree v.now };
+    ghost seen = { lent_tree };
 
     fn read<T: FromRedisValue>(self, alloc: Global) -> Result<T, ParsingError> {
         T::from_redis_value_ref(alloc, self)
