@@ -1,3 +1,4 @@
+pub mod AutoClaim
 pub mod Status
 pub mod Pending
 pub mod PendingRecords
@@ -10,3 +11,4 @@ pub mod StreamId
 pub mod StreamKey
 pub mod Info
 pub mod InfoRecords
+pub mod StreamAutoClaimReply
