@@ -4,7 +4,9 @@ pub mod RoomLemmas
 pub mod MembersLemmas
 pub mod NumberLemmas
 pub mod SameLemmas
+pub mod PairLemmas
 pub mod TableLemmas
 pub mod TextLemmas
+pub mod TraverseLemmas
 pub mod TreeLemmas
 pub mod WriterLemmas

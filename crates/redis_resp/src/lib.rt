@@ -16,6 +16,6 @@ pub mod value;
 
 pub use args::{FixedArgs, RawBytes, RedisWrite, ToRedisArgs, ToSingleRedisArg, WriteError};
 pub use value::{
-    FourRefs, FromRedisValue, ParsingError, Value, four_ref, from_redis_value,
-    from_redis_value_ref, into_four, into_two, two_ref,
+    FourRefs, FromRedisValue, PairList, ParsingError, Value, four_ref, from_redis_value,
+    from_redis_value_ref, hashed, into_four, into_two, tabled, two_ref,
 };

@@ -21,7 +21,9 @@ mod tuple;
 pub use error::ParsingError;
 pub use members::{FourRefs, four_ref, into_four, into_two, two_ref};
 pub use number::usize_of;
+pub use pair::PairList;
 pub use reading::{FromRedisValue, from_redis_value, from_redis_value_ref};
+pub use table::{hashed, tabled};
 
 /// A value of the RESP protocol, as a server sends it.
 #[derive(Debug, Drop)]

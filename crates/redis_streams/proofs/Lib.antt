@@ -1,3 +1,4 @@
+pub mod FieldsLemmas
 pub mod PendingLemmas
 pub mod ReadLemmas
 pub mod RowsLemmas

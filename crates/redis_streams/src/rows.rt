@@ -1,5 +1,7 @@
 //! Replies that hold entries of streams: ranges, claims, reads and automatic claims.
 mod auto_claim;
+mod clone;
+mod equality;
 mod listed;
 mod range;
 mod read;

@@ -7,6 +7,9 @@
 //! ```
 #![tactic(auto)]
 
+pub mod form;
 pub mod notation;
+pub mod replies;
 
+pub use form::PrintedForm;
 pub use notation::{NotationError, read_value};

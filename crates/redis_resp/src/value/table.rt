@@ -1,16 +1,47 @@
-//! Tables that are read from values.
-ghost use Rattle.std.specs.Prelude.{◌≡◌, ◌≢◌, IfOk, IfErr, List, ℕ, Some, None};
+//! Tables that are read from values: a key stands where it came first, with the value that came
+//! last.
+ghost use Rattle.std.specs.Prelude.{◌≡◌, ◌≢◌, IfOk, IfErr, List, ℕ, Some, None, option_map};
 ghost use Rattle.std.specs.FinMap.{from_entries};
-ghost use Rattle.redis_resp.specs.Table.{entries_meaning, table_reading, Fields, fields_reading};
+ghost use Rattle.std.specs.HashMap.{get_by_text};
+ghost use Rattle.redis_resp.specs.Tree.{pairs_in};
+ghost use Rattle.redis_resp.specs.Value.{tree};
+ghost use Rattle.redis_resp.specs.Table.{entries_meaning, pairs_reading, table_of, table_reading, last_with, Fields, fields_reading};
 
 use crate::value::Value;
 use crate::value::error::ParsingError;
-use crate::value::pair::{pairs_of, pairs_ref};
+use crate::value::pair::{read_pairs, read_pairs_ref};
 use crate::value::reading::FromRedisValue;
 use indexmap::IndexMap;
-use std::alloc::Global;
+use std::alloc::{AllocError, Global};
 use std::collections::HashMap;
 
+/// The table of pairs in order: a key that comes again keeps its place and takes the last value.
+/// It fails only by want of memory.
+pub fn tabled<V: Drop>(
+    alloc: Global,
+    pairs: Vec<(String, V)>,
+) -> Result<IndexMap<String, V>, AllocError>
+    ensures { IfOk result (λ m. entries_meaning (λ x. x) m.entries
+        ≡ table_of (entries_meaning (λ x. x) pairs.items)) }
+{
+    IndexMap::from_iter(alloc, pairs)
+}
+
+/// The pairs as a map: each key with the last value that it has among them. It fails only by want
+/// of memory.
+pub fn hashed<V: Drop>(
+    alloc: Global,
+    pairs: Vec<(String, V)>,
+) -> Result<HashMap<String, V>, AllocError>
+    ensures { IfOk result (λ m. (key : List ℕ)
+        → get_by_text m key ≡ last_with key (entries_meaning (λ x. x) pairs.items)) }
+{
+    HashMap::from_iter(alloc, pairs)
+}
+
+/// The pairs of a `Map`, of an `Array` two by two, or of `Nil`, which has none: keys as text and
+/// values by the reading of `V`, all of them, also those whose key comes again. A key stands where
+/// it came first, with its last value. `NotPairs` for any other kind or an odd length.
 impl<V: FromRedisValue> FromRedisValue for IndexMap<String, V> {
     ghost Meaning = { List (List ℕ × V.Meaning) };
 
@@ -18,29 +49,35 @@ impl<V: FromRedisValue> FromRedisValue for IndexMap<String, V> {
 
     ghost reading = { table_reading V.reading };
 
-    fn from_redis_value(alloc: Global, v: Value) -> Result<IndexMap<String, V>, ParsingError> {
-        let pairs = pairs_of(alloc, v)?;
-        let mut table = IndexMap::new(alloc);
-        for (key, value) in pairs {
-            let key = String::from_redis_value(alloc, key)?;
-            let value = V::from_redis_value(alloc, value)?;
-            table.insert(key, value)?;
-        }
-        Ok(table)
+    fn from_redis_value(alloc: Global, v: Value) -> Result<IndexMap<String, V>, ParsingError>
+        ensures ok { IfOk result (λ m. table_reading V.reading (tree v)
+            ≡ Some (entries_meaning V.meaning m.entries)) }
+        ensures err { IfErr result (λ e. e ≢ ParsingError.Memory
+            → table_reading V.reading (tree v) ≡ None) }
+        ensures kind { pairs_in (tree v) ≡ None → result ≡ Err ParsingError.NotPairs }
+        ensures last { IfOk result (λ m. (key : List ℕ)
+            → Some (option_map V.meaning (get_by_text m key))
+            ≡ option_map (last_with key) (pairs_reading V.reading (tree v))) }
+    {
+        Ok(tabled(alloc, read_pairs(alloc, v)?)?)
     }
 
-    fn from_redis_value_ref(alloc: Global, v: &Value) -> Result<IndexMap<String, V>, ParsingError> {
-        let pairs = pairs_ref(alloc, v)?;
-        let mut table = IndexMap::new(alloc);
-        for (key, value) in pairs {
-            let key = String::from_redis_value_ref(alloc, key)?;
-            let value = V::from_redis_value_ref(alloc, value)?;
-            table.insert(key, value)?;
-        }
-        Ok(table)
+    fn from_redis_value_ref(alloc: Global, v: &Value) -> Result<IndexMap<String, V>, ParsingError>
+        ensures ok { IfOk result (λ m. table_reading V.reading (tree v.now)
+            ≡ Some (entries_meaning V.meaning m.entries)) }
+        ensures err { IfErr result (λ e. e ≢ ParsingError.Memory
+            → table_reading V.reading (tree v.now) ≡ None) }
+        ensures kind { pairs_in (tree v.now) ≡ None → result ≡ Err ParsingError.NotPairs }
+        ensures last { IfOk result (λ m. (key : List ℕ)
+            → Some (option_map V.meaning (get_by_text m key))
+            ≡ option_map (last_with key) (pairs_reading V.reading (tree v.now))) }
+    {
+        Ok(tabled(alloc, read_pairs_ref(alloc, v)?)?)
     }
 }
 
+/// The same pairs as a map without order: each key with its last value. `NotPairs` for any other
+/// kind or an odd length.
 impl<V: FromRedisValue> FromRedisValue for HashMap<String, V> {
     ghost Meaning = { Fields V.Meaning };
 
@@ -48,25 +85,29 @@ impl<V: FromRedisValue> FromRedisValue for HashMap<String, V> {
 
     ghost reading = { fields_reading V.reading };
 
-    fn from_redis_value(alloc: Global, v: Value) -> Result<HashMap<String, V>, ParsingError> {
-        let pairs = pairs_of(alloc, v)?;
-        let mut fields = HashMap::new(alloc);
-        for (key, value) in pairs {
-            let key = String::from_redis_value(alloc, key)?;
-            let value = V::from_redis_value(alloc, value)?;
-            fields.insert(key, value)?;
-        }
-        Ok(fields)
+    fn from_redis_value(alloc: Global, v: Value) -> Result<HashMap<String, V>, ParsingError>
+        ensures ok { IfOk result (λ m. fields_reading V.reading (tree v)
+            ≡ Some (from_entries (entries_meaning V.meaning m.entries))) }
+        ensures err { IfErr result (λ e. e ≢ ParsingError.Memory
+            → fields_reading V.reading (tree v) ≡ None) }
+        ensures kind { pairs_in (tree v) ≡ None → result ≡ Err ParsingError.NotPairs }
+        ensures last { IfOk result (λ m. (key : List ℕ)
+            → Some (option_map V.meaning (get_by_text m key))
+            ≡ option_map (last_with key) (pairs_reading V.reading (tree v))) }
+    {
+        Ok(hashed(alloc, read_pairs(alloc, v)?)?)
     }
 
-    fn from_redis_value_ref(alloc: Global, v: &Value) -> Result<HashMap<String, V>, ParsingError> {
-        let pairs = pairs_ref(alloc, v)?;
-        let mut fields = HashMap::new(alloc);
-        for (key, value) in pairs {
-            let key = String::from_redis_value_ref(alloc, key)?;
-            let value = V::from_redis_value_ref(alloc, value)?;
-            fields.insert(key, value)?;
-        }
-        Ok(fields)
+    fn from_redis_value_ref(alloc: Global, v: &Value) -> Result<HashMap<String, V>, ParsingError>
+        ensures ok { IfOk result (λ m. fields_reading V.reading (tree v.now)
+            ≡ Some (from_entries (entries_meaning V.meaning m.entries))) }
+        ensures err { IfErr result (λ e. e ≢ ParsingError.Memory
+            → fields_reading V.reading (tree v.now) ≡ None) }
+        ensures kind { pairs_in (tree v.now) ≡ None → result ≡ Err ParsingError.NotPairs }
+        ensures last { IfOk result (λ m. (key : List ℕ)
+            → Some (option_map V.meaning (get_by_text m key))
+            ≡ option_map (last_with key) (pairs_reading V.reading (tree v.now))) }
+    {
+        Ok(hashed(alloc, read_pairs_ref(alloc, v)?)?)
     }
 }

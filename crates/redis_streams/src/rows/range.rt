@@ -1,18 +1,39 @@
 //! The replies of XRANGE, XREVRANGE and XCLAIM.
-ghost use Rattle.std.specs.Prelude.{List};
+ghost use Rattle.std.specs.Prelude.{◌≡◌, [], List, IsOk, IfOk};
 ghost use Rattle.redis_streams.specs.Entry.{Entry};
 ghost use Rattle.redis_streams.specs.Rows.{rows_reading};
 ghost use Rattle.redis_streams.specs.StreamId.{entries_of};
 
+use crate::rows::clone::copy_ids;
 use crate::rows::listed::{read_rows, read_rows_ref};
 use crate::rows::stream_id::StreamId;
 use redis_resp::{FromRedisValue, ParsingError, Value};
-use std::alloc::Global;
+use std::alloc::{AllocError, Global};
 
 /// The entries that XRANGE or XREVRANGE answers, in order.
 #[derive(Debug, Drop)]
 pub struct StreamRangeReply {
     pub ids: Vec<StreamId>,
+}
+
+impl StreamRangeReply {
+    /// The reply without entries. It takes no memory and is always Ok.
+    pub fn empty(alloc: Global) -> Result<StreamRangeReply, AllocError>
+        ensures ok { IsOk result }
+        ensures entries { IfOk result (λ r. entries_of r.ids ≡ []) }
+    {
+        Ok(StreamRangeReply {
+            ids: Vec::new(alloc),
+        })
+    }
+
+    /// A reply of the same entries. It fails only by want of memory.
+    pub fn try_clone(&self, alloc: Global) -> Result<StreamRangeReply, AllocError>
+        ensures { IfOk result (λ r. entries_of r.ids ≡ entries_of self.now.ids) }
+    {
+        let ids = copy_ids(alloc, &self.ids)?;
+        Ok(StreamRangeReply { ids })
+    }
 }
 
 /// A list of rows; each pair of a row's table is an entry.
@@ -38,6 +59,26 @@ impl FromRedisValue for StreamRangeReply {
 #[derive(Debug, Drop)]
 pub struct StreamClaimReply {
     pub ids: Vec<StreamId>,
+}
+
+impl StreamClaimReply {
+    /// The reply without entries. It takes no memory and is always Ok.
+    pub fn empty(alloc: Global) -> Result<StreamClaimReply, AllocError>
+        ensures ok { IsOk result }
+        ensures entries { IfOk result (λ r. entries_of r.ids ≡ []) }
+    {
+        Ok(StreamClaimReply {
+            ids: Vec::new(alloc),
+        })
+    }
+
+    /// A reply of the same entries. It fails only by want of memory.
+    pub fn try_clone(&self, alloc: Global) -> Result<StreamClaimReply, AllocError>
+        ensures { IfOk result (λ r. entries_of r.ids ≡ entries_of self.now.ids) }
+    {
+        let ids = copy_ids(alloc, &self.ids)?;
+        Ok(StreamClaimReply { ids })
+    }
 }
 
 /// A list of rows; each pair of a row's table is an entry.

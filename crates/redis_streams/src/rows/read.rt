@@ -1,9 +1,10 @@
 //! The reply of XREAD and XREADGROUP.
-ghost use Rattle.std.specs.Prelude.{◌≡◌, ◌≢◌, ◌++◌, Some, None, IfOk, IfErr, OnOk, flat_map, option_map};
+ghost use Rattle.std.specs.Prelude.{◌≡◌, ◌≢◌, ◌++◌, [], Some, None, IsOk, IfOk, IfErr, OnOk, flat_map, option_map};
 ghost use Rattle.redis_resp.specs.Value.{tree};
 ghost use Rattle.redis_streams.specs.Read.{Streams, standard_reading, claim_reading, read_reading};
-ghost use Rattle.redis_streams.specs.StreamKey.{streams_of, streams_in};
+ghost use Rattle.redis_streams.specs.StreamKey.{stream_meaning, streams_of, streams_in};
 
+use crate::rows::clone::copy_ids;
 use crate::rows::listed::{Delivery, Listed, Row, join};
 use crate::rows::stream_id::StreamId;
 use indexmap::IndexMap;
@@ -19,10 +20,55 @@ pub struct StreamKey {
     pub ids: Vec<StreamId>,
 }
 
+impl StreamKey {
+    /// The stream without a name and without entries. It takes no memory and is always Ok.
+    pub fn empty(alloc: Global) -> Result<StreamKey, AllocError>
+        ensures ok { IsOk result }
+        ensures stream { IfOk result (λ k. stream_meaning k ≡ ([], [])) }
+    {
+        Ok(StreamKey {
+            key: String::new(alloc),
+            ids: Vec::new(alloc),
+        })
+    }
+
+    /// The same stream. It fails only by want of memory.
+    pub fn try_clone(&self, alloc: Global) -> Result<StreamKey, AllocError>
+        ensures { IfOk result (λ k. stream_meaning k ≡ stream_meaning self.now) }
+    {
+        let key = String::from_str(alloc, &self.key)?;
+        let ids = copy_ids(alloc, &self.ids)?;
+        Ok(StreamKey { key, ids })
+    }
+}
+
 /// The streams that XREAD or XREADGROUP answers, in order.
 #[derive(Debug, Drop)]
 pub struct StreamReadReply {
     pub keys: Vec<StreamKey>,
+}
+
+impl StreamReadReply {
+    /// The reply without streams. It takes no memory and is always Ok.
+    pub fn empty(alloc: Global) -> Result<StreamReadReply, AllocError>
+        ensures ok { IsOk result }
+        ensures streams { IfOk result (λ r. streams_of r.keys ≡ []) }
+    {
+        Ok(StreamReadReply {
+            keys: Vec::new(alloc),
+        })
+    }
+
+    /// A reply of the same streams. It fails only by want of memory.
+    pub fn try_clone(&self, alloc: Global) -> Result<StreamReadReply, AllocError>
+        ensures { IfOk result (λ r. streams_of r.keys ≡ streams_of self.now.keys) }
+    {
+        let mut keys = Vec::with_capacity(alloc, self.keys.len())?;
+        for key in &self.keys {
+            keys.push(key.try_clone(alloc)?)?;
+        }
+        Ok(StreamReadReply { keys })
+    }
 }
 
 /// A list of rows: the standard form where each item of each list is a row of ids and fields, else

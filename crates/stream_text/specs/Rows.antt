@@ -1,0 +1,34 @@
+-- How the replies that hold entries stand in a line.
+use Rattle.std.specs.Prelude.{ℕ, List, ◌++◌, codes, string_bytes, if◌then◌else◌}
+use Rattle.std.specs.List.{join_by}
+use Rattle.redis_streams.specs.declared.rows.auto_claim.StreamAutoClaimReply.{StreamAutoClaimReply}
+use Rattle.redis_streams.specs.declared.rows.range.StreamClaimReply.{StreamClaimReply}
+use Rattle.redis_streams.specs.declared.rows.range.StreamRangeReply.{StreamRangeReply}
+use Rattle.redis_streams.specs.declared.rows.read.StreamKey.{StreamKey}
+use Rattle.redis_streams.specs.declared.rows.read.StreamReadReply.{StreamReadReply}
+use Rattle.stream_text.specs.Entry.{entry_form}
+use Rattle.stream_text.specs.Form.{listed}
+
+-- the entries of a range
+abbrev pub range_form : StreamRangeReply → List ℕ
+range_form r = listed entry_form (codes " ") r.ids.items
+
+-- the entries of a claim
+abbrev pub claim_form : StreamClaimReply → List ℕ
+claim_form r = listed entry_form (codes " ") r.ids.items
+
+-- a key, and its entries in brackets
+abbrev pub key_form : StreamKey → List ℕ
+key_form k = string_bytes k.key ++ codes "[" ++ join_by entry_form (codes " ") k.ids.items ++ codes "]"
+
+-- the keys of a read
+abbrev pub read_form : StreamReadReply → List ℕ
+read_form r = listed key_form (codes " ") r.keys.items
+
+-- the next id, the entries, the deleted ids, and whether there were others
+abbrev pub auto_claim_form : StreamAutoClaimReply → List ℕ
+auto_claim_form r =
+    codes "next=" ++ string_bytes r.next_stream_id ++ codes " claimed=["
+    ++ join_by entry_form (codes " ") r.claimed.items ++ codes "] deleted=["
+    ++ join_by string_bytes (codes " ") r.deleted_ids.items ++ codes "] invalid="
+    ++ (if r.invalid_entries then codes "true" else codes "false")
