@@ -4,6 +4,7 @@ pub mod FixedArgs
 pub mod Members
 pub mod Number
 pub mod Reading
+pub mod Record
 pub mod Room
 pub mod Same
 pub mod SameLaws

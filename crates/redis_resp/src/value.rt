@@ -14,6 +14,8 @@ mod number;
 mod option;
 mod pair;
 mod reading;
+#[cfg(test)]
+mod samples;
 mod table;
 mod text;
 mod tuple;

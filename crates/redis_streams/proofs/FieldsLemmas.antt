@@ -1,23 +1,24 @@
 -- The fields of an entry, as a finite map.
 use Rattle.std.proofs.Common.{◌≡◌, ℕ, ◌+◌, Bool, true, false, cond, List, [], ◌∷◌, length, Option, Some, None, option_map, String, string_bytes, Global, refl, sym, ◌∙◌, ap, add-one}
+use Rattle.std.specs.Cmp.{both_ways}
 use Rattle.std.specs.Cmp.Lexicographic.{slice_cmp, nat_list_cmp_total}
 use Rattle.std.specs.FinMap.{find, get, len, insert, contains_key, from_entries, same_map, get-empty, get-insert, get-from_entries, len-insert, len-empty, slice_cmp-IsAntisymmetric, nat_cmp-IsAntisymmetric}
 use Rattle.std.specs.HashMap.{HashMap, IsUnique, UpdatesBy, get_by_text, hash_map_len}
 use Rattle.std.specs.List.{IsDistinct, AllByRecursion}
 use Rattle.std.specs.Map.{keys_of}
-use Rattle.std.specs.Option.{is_some}
+use Rattle.std.specs.Option.{is_some, option_or}
 use Rattle.std.specs.Ordering.{nat_cmp, eq_by_cmp}
 use Rattle.std.specs.declared.cmp.Ordering.{Ordering}
+use Rattle.std.specs.Str.{bytes_eq}
 use Rattle.std.specs.String.{string_eq}
 use Rattle.std.proofs.lemmas.Slice.Eq.{bytes_eq-Decides}
-use Rattle.std.proofs.lemmas.Map.Text.{is_eq-slice_cmp}
+use Rattle.std.proofs.lemmas.Map.Text.{is_eq-slice_cmp, hash_map_updates_text}
 use Rattle.std.proofs.lemmas.Map.Keys.{IsDistinct-head, IsDistinct-tail}
 use Rattle.redis_resp.specs.Tree.{Tree}
 use Rattle.redis_resp.specs.Value.{tree}
 use Rattle.redis_resp.specs.Table.{Fields, entries_meaning}
 use Rattle.redis_resp.specs.declared.value.Value.{Value}
-use Rattle.redis_resp.proofs.TableLemmas.{get_of_fields, meaning_of_update}
-use Rattle.redis_streams.specs.Read.{or_else}
+use Rattle.redis_resp.proofs.TableLemmas.{get_of_fields}
 use Rattle.redis_streams.specs.StreamId.{fields_of}
 
 pub get_field : {S : Type 0} (m : HashMap (String Global) Value S) (q : List ℕ) → get (fields_of m) q ≡ option_map tree (get_by_text m q)
@@ -45,31 +46,48 @@ counted (e ∷ es) h =
 pub count_fields : {S : Type 0} (m : HashMap (String Global) Value S) → IsUnique string_eq m → len (fields_of m) ≡ hash_map_len m
 count_fields m h = counted m.entries h
 
-pub fields_put : {S : Type 0} (m n : HashMap (String Global) Value S) (k : String Global) (v : Value) (name : List ℕ) (t : Tree) → UpdatesBy string_eq (string_eq k) m n (Some v)
-    → string_bytes k ≡ name → tree v ≡ t → fields_of n ≡ insert (fields_of m) name t
-fields_put m n k v name t updates named valued = meaning_of_update tree m n k v updates ∙ ap (λ b. insert (fields_of m) b (tree v)) named ∙ ap (insert (fields_of m) name) valued
+if_mapped : {A B : Type 0} (f : A → B) (b : Bool) (x y : A) → f (cond b x y) ≡ cond b (f x) (f y)
+if_mapped f true x y = refl
+if_mapped f false x y = refl
+
+flipped : (p q : List ℕ) → bytes_eq p q ≡ bytes_eq q p
+flipped p q = both_ways (bytes_eq p q) (bytes_eq q p)
+    (λ h. (bytes_eq-Decides q p).1 (sym ((bytes_eq-Decides p q).0 h))) (λ h. (bytes_eq-Decides p q).1 (sym ((bytes_eq-Decides q p).0 h)))
 
 abbrev by_order : List ℕ → List ℕ → Ordering
 by_order = slice_cmp nat_cmp
 
+-- a field that is put into a map is inserted into the finite map
+pub fields_put : {S : Type 0} (m n : HashMap (String Global) Value S) (k : String Global) (v : Value) (name : List ℕ) (t : Tree) → UpdatesBy string_eq (string_eq k) m n (Some v)
+    → string_bytes k ≡ name → tree v ≡ t → fields_of n ≡ insert (fields_of m) name t
+fields_put m n k v name t updates named valued = at_bytes ∙ ap (λ b. insert (fields_of m) b (tree v)) named ∙ ap (insert (fields_of m) name) valued
+  where
+    at_bytes : fields_of n ≡ insert (fields_of m) (string_bytes k) (tree v)
+    at_bytes = same_map nat_list_cmp_total (slice_cmp-IsAntisymmetric nat_cmp-IsAntisymmetric) _ _ (λ q.
+        get_field n q ∙ ap (option_map tree) (hash_map_updates_text (string_bytes k) m n (Some v) updates q)
+        ∙ if_mapped (option_map tree) (bytes_eq (string_bytes k) q) (Some v) (get_by_text m q)
+        ∙ ap (λ o. cond (bytes_eq (string_bytes k) q) (Some (tree v)) o) (sym (get_field m q))
+        ∙ ap (λ b. cond b (Some (tree v)) (get (fields_of m) q)) (flipped (string_bytes k) q ∙ sym (is_eq-slice_cmp q (string_bytes k)))
+        ∙ sym (get-insert nat_list_cmp_total (fields_of m) (string_bytes k) (tree v) q))
+
 -- the fields copied so far, behind those that are left, are all the fields; no two of those left have one name
 pub record Copied (all rest : List (String Global × Value)) (done : Fields Tree) : Type 0 where
-  pub agrees : (q : List ℕ) → or_else (find by_order q (entries_meaning tree rest)) (get done q) ≡ find by_order q (entries_meaning tree all)
+  pub agrees : (q : List ℕ) → option_or (find by_order q (entries_meaning tree rest)) (get done q) ≡ find by_order q (entries_meaning tree all)
   pub distinct : IsDistinct string_eq (keys_of rest)
 
-or_none : {A : Type 0} (o : Option A) → or_else o None ≡ o
+or_none : {A : Type 0} (o : Option A) → option_or o None ≡ o
 or_none None = refl
 or_none (Some x) = refl
 
 pub copy_starts : {S : Type 0} (m done : HashMap (String Global) Value S) (rest : List (String Global × Value)) → rest ≡ m.entries → IsUnique string_eq m → done.entries ≡ [] → Copied m.entries rest (fields_of done)
 copy_starts m done rest is unique none = rw (is, none) (record {
-  agrees = λ q. ap (or_else (find by_order q (entries_meaning tree m.entries))) (get-empty by_order q) ∙ or_none (find by_order q (entries_meaning tree m.entries));
+  agrees = λ q. ap (option_or (find by_order q (entries_meaning tree m.entries))) (get-empty by_order q) ∙ or_none (find by_order q (entries_meaning tree m.entries));
   distinct = unique;
 })
 
 copied_more : (all rest : List (String Global × Value)) (k : String Global) (v : Value) (done : Fields Tree) → Copied all ((k, v) ∷ rest) done → Copied all rest (insert done (string_bytes k) (tree v))
 copied_more all rest k v done c = record {
-  agrees = λ q. ap (or_else (find by_order q (entries_meaning tree rest))) (get-insert nat_list_cmp_total done (string_bytes k) (tree v) q) ∙ by q (eq_by_cmp by_order q (string_bytes k)) refl ∙ c.agrees q;
+  agrees = λ q. ap (option_or (find by_order q (entries_meaning tree rest))) (get-insert nat_list_cmp_total done (string_bytes k) (tree v) q) ∙ by q (eq_by_cmp by_order q (string_bytes k)) refl ∙ c.agrees q;
   distinct = IsDistinct-tail string_eq k (keys_of rest) c.distinct;
 }
   where
@@ -77,8 +95,8 @@ copied_more all rest k v done c = record {
     none = other_keys k rest (IsDistinct-head string_eq k (keys_of rest) c.distinct)
 
     by : (q : List ℕ) (b : Bool) → eq_by_cmp by_order q (string_bytes k) ≡ b
-        → or_else (find by_order q (entries_meaning tree rest)) (cond b (Some (tree v)) (get done q)) ≡ or_else (cond b (Some (tree v)) (find by_order q (entries_meaning tree rest))) (get done q)
-    by q true e = ap (λ o. or_else o (Some (tree v))) (ap (λ p. find by_order p (entries_meaning tree rest)) ((bytes_eq-Decides q (string_bytes k)).0 (sym (is_eq-slice_cmp q (string_bytes k)) ∙ e)) ∙ none)
+        → option_or (find by_order q (entries_meaning tree rest)) (cond b (Some (tree v)) (get done q)) ≡ option_or (cond b (Some (tree v)) (find by_order q (entries_meaning tree rest))) (get done q)
+    by q true e = ap (λ o. option_or o (Some (tree v))) (ap (λ p. find by_order p (entries_meaning tree rest)) ((bytes_eq-Decides q (string_bytes k)).0 (sym (is_eq-slice_cmp q (string_bytes k)) ∙ e)) ∙ none)
     by q false e = refl
 
 pub copy_goes : (all items rest : List (String Global × Value)) (k : String Global) (v : Value) (done more : Fields Tree) → items ≡ (k, v) ∷ rest → more ≡ insert done (string_bytes k) (tree v)

@@ -31,7 +31,8 @@ impl FromRedisValue for RawBytes {
     /// A copy of the bytes of a bulk string.
     fn from_redis_value_ref(alloc: Global, v: &Value) -> Result<RawBytes, ParsingError>
         ensures ok { IfOk result (λ r. bytes_reading (tree v.now) ≡ Some r.0.items) }
-        ensures err { IfErr result (λ e. e ≢ ParsingError.Memory → bytes_reading (tree v.now) ≡ None) }
+        ensures err { IfErr result (λ e. e ≢ ParsingError.Memory
+            → bytes_reading (tree v.now) ≡ None) }
         ensures cause { IfErr result (λ e. e ≢ ParsingError.Memory → e ≡ ParsingError.NotBytes) }
     {
         match v.as_plain() {
@@ -40,3 +41,6 @@ impl FromRedisValue for RawBytes {
         }
     }
 }
+
+#[cfg(test)]
+mod tests;

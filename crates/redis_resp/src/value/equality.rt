@@ -88,7 +88,8 @@ fn all_alike(a: &[Value], b: &[Value]) -> bool
 
 #[cycle(alike)]
 fn pairs_alike(a: &[(Value, Value)], b: &[(Value, Value)]) -> bool
-    ensures { result ≡ same_pairs (pairs (map tree_of_pair a.now)) (pairs (map tree_of_pair b.now)) }
+    ensures { result ≡ same_pairs (pairs (map tree_of_pair a.now))
+        (pairs (map tree_of_pair b.now)) }
 {
     if a.len() != b.len() {
         return false;
@@ -100,3 +101,6 @@ fn pairs_alike(a: &[(Value, Value)], b: &[(Value, Value)]) -> bool
     }
     true
 }
+
+#[cfg(test)]
+mod tests;

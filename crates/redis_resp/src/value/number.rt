@@ -33,7 +33,7 @@ fn signed_in(text: &[u8]) -> Option<i64>
 }
 
 /// The number that a value reads as at 64 bits, if any.
-#[tactic(auto, using(crate::proofs::NumberLemmas::unsigned_of_bulk, crate::proofs::NumberLemmas::unsigned_of_simple))]
+#[tactic(auto, using(crate::proofs::NumberLemmas::unsigned_texts))]
 fn u64_of(v: &Value) -> Option<u64>
     ensures { result ≡ unsigned_reading 64 (tree v.now) }
 {
@@ -46,7 +46,7 @@ fn u64_of(v: &Value) -> Option<u64>
 }
 
 /// The number that a value reads as at 63 bits and a sign, if any.
-#[tactic(auto, using(crate::proofs::NumberLemmas::signed_of_Int, crate::proofs::NumberLemmas::signed_of_bulk, crate::proofs::NumberLemmas::signed_of_simple))]
+#[tactic(auto, using(crate::proofs::NumberLemmas::signed_texts))]
 fn i64_of(v: &Value) -> Option<i64>
     ensures { result ≡ signed_reading 63 (tree v.now) }
 {
@@ -66,7 +66,7 @@ pub fn usize_of(v: &Value) -> Option<usize>
 }
 
 /// The number that a value reads as at 32 bits, if any.
-#[tactic(auto, using(crate::proofs::NumberLemmas::narrow_fits, crate::proofs::NumberLemmas::narrow_over, crate::proofs::NumberLemmas::narrow_none))]
+#[tactic(auto, using(crate::proofs::NumberLemmas::narrowing))]
 fn u32_of(v: &Value) -> Option<u32>
     ensures { result ≡ unsigned_reading 32 (tree v.now) }
 {
@@ -74,7 +74,7 @@ fn u32_of(v: &Value) -> Option<u32>
 }
 
 /// The number that a value reads as at 16 bits, if any.
-#[tactic(auto, using(crate::proofs::NumberLemmas::narrow_fits, crate::proofs::NumberLemmas::narrow_over, crate::proofs::NumberLemmas::narrow_none))]
+#[tactic(auto, using(crate::proofs::NumberLemmas::narrowing))]
 fn u16_of(v: &Value) -> Option<u16>
     ensures { result ≡ unsigned_reading 16 (tree v.now) }
 {
@@ -190,3 +190,6 @@ impl FromRedisValue for i64 {
         i64_of(v).ok_or(ParsingError::NotNumber)
     }
 }
+
+#[cfg(test)]
+mod tests;

@@ -1,8 +1,7 @@
 //! Records that are read from values.
 ghost use Rattle.std.specs.Prelude.{◌≡◌, ◌≢◌, IfOk, IfErr, Option, Some, None};
-ghost use Rattle.std.proofs.lemmas.Option.{same_Some};
-ghost use Rattle.std.proofs.Common.{sym, ◌∙◌};
 ghost use Rattle.redis_resp.specs.Tree.{Tree};
+ghost use Rattle.redis_resp.specs.Record.{HasOneRecord, same_record};
 ghost use Rattle.redis_resp.specs.Value.{tree};
 
 use crate::value::Value;
@@ -36,7 +35,7 @@ pub trait FromRedisValue: Drop {
         ensures err { IfErr result (λ e. e ≢ ParsingError.Memory → reading (tree v.now) ≡ None) };
 
     /// A value has one record at most.
-    ghost one_record: { (t : Tree) (a b : Self) → reading t ≡ Some (meaning a) → reading t ≡ Some (meaning b) → meaning a ≡ meaning b } = { λ t a b p q. same_Some (meaning a) (meaning b) (sym p ∙ q) };
+    ghost one_record: { HasOneRecord reading meaning } = { same_record reading meaning };
 }
 
 /// Reads a value as a record of the type asked for, and consumes the value.

@@ -22,7 +22,8 @@ impl FromRedisValue for String {
         ensures ok { IfOk result (λ s. text_reading (tree v) ≡ Some (string_bytes s)) }
         ensures err { IfErr result (λ e. e ≢ ParsingError.Memory → text_reading (tree v) ≡ None) }
         ensures cause { IfErr result (λ e. e ≢ ParsingError.Memory → e ≡ ParsingError.NotText) }
-        ensures moved { result ≡ Err ParsingError.Memory → IsTrue (is_written_out (plain (tree v))) }
+        ensures moved { result ≡ Err ParsingError.Memory
+            → IsTrue (is_written_out (plain (tree v))) }
     {
         match v.into_plain() {
             Value::BulkString(bytes) => match String::from_utf8(bytes) {
@@ -43,7 +44,8 @@ impl FromRedisValue for String {
     /// A copy of the text of a value that is lent.
     fn from_redis_value_ref(alloc: Global, v: &Value) -> Result<String, ParsingError>
         ensures ok { IfOk result (λ s. text_reading (tree v.now) ≡ Some (string_bytes s)) }
-        ensures err { IfErr result (λ e. e ≢ ParsingError.Memory → text_reading (tree v.now) ≡ None) }
+        ensures err { IfErr result (λ e. e ≢ ParsingError.Memory
+            → text_reading (tree v.now) ≡ None) }
         ensures cause { IfErr result (λ e. e ≢ ParsingError.Memory → e ≡ ParsingError.NotText) }
     {
         match v.as_plain() {
@@ -59,3 +61,6 @@ impl FromRedisValue for String {
         }
     }
 }
+
+#[cfg(test)]
+mod tests;
