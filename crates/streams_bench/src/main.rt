@@ -10,6 +10,8 @@
 #![tactic(auto)]
 
 mod in_place;
+#[cfg(test)]
+mod memory_tests;
 mod play;
 mod print;
 mod vectors;

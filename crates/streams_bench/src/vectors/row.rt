@@ -70,7 +70,7 @@ pub fn push_reply_row<T: FromRedisValue + PrintedForm>(
 }
 
 // The printed form of a record, or of why there is none.
-fn answer_text<T: PrintedForm>(
+fn answer_text<T: PrintedForm + Drop>(
     alloc: Global,
     answer: Result<T, ParsingError>,
 ) -> Result<String, AllocError> {
