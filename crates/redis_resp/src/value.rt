@@ -7,6 +7,8 @@ mod bytes;
 mod clone;
 mod equality;
 mod error;
+#[cfg(test)]
+mod flag;
 mod itself;
 mod list;
 mod members;

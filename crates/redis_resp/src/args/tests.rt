@@ -72,7 +72,11 @@ fn fixed_args_refuse_what_has_no_room(rt: HostRuntime) {
     assert_eq!(rt; two.write_arg(b""), Ok(()));
     assert_eq!(rt; two.len(), 2);
     for (index, len) in [(0, Some(3)), (1, Some(0)), (2, None)] {
-        assert_eq!(rt; two.get(index).map(|arg| arg.len()), len, "argument {index}");
+        assert_eq!(rt;
+            two.get(index).map(|arg| arg.len()),
+            len,
+            "argument {index}"
+        );
     }
 }
 

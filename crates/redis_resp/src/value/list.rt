@@ -137,3 +137,6 @@ impl<T: FromRedisValue> FromRedisValue for Vec<T> {
         }
     }
 }
+
+#[cfg(test)]
+mod tests;

@@ -44,3 +44,6 @@ impl<T: FromRedisValue> FromRedisValue for Option<T> {
         Ok(Some(T::from_redis_value_ref(alloc, v)?))
     }
 }
+
+#[cfg(test)]
+mod tests;

@@ -57,3 +57,23 @@ pub fn collections(alloc: Global) -> Result<Vec<Value>, AllocError> {
         attributed(alloc, Value::Nil)?,
     ]?)
 }
+
+/// Bulk strings with these texts, in order.
+pub fn bulks(alloc: Global, texts: &[&str]) -> Result<Vec<Value>, AllocError> {
+    let mut values = Vec::with_capacity(alloc, texts.len())?;
+    for text in texts {
+        values.push(bulk(alloc, text.as_bytes())?)?;
+    }
+    Ok(values)
+}
+
+/// Pairs of bulk strings with these texts, in order.
+pub fn pairs(alloc: Global, texts: &[(&str, &str)]) -> Result<Vec<(Value, Value)>, AllocError> {
+    let mut pairs = Vec::with_capacity(alloc, texts.len())?;
+    for (key, value) in texts {
+        let key = bulk(alloc, key.as_bytes())?;
+        let value = bulk(alloc, value.as_bytes())?;
+        pairs.push((key, value))?;
+    }
+    Ok(pairs)
+}

@@ -111,3 +111,6 @@ impl<V: FromRedisValue> FromRedisValue for HashMap<String, V> {
         Ok(hashed(alloc, read_pairs_ref(alloc, v)?)?)
     }
 }
+
+#[cfg(test)]
+mod tests;

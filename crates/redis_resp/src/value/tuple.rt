@@ -99,3 +99,6 @@ impl<A: FromRedisValue, B: FromRedisValue, C: FromRedisValue, D: FromRedisValue>
         Ok((a, b, c, d))
     }
 }
+
+#[cfg(test)]
+mod tests;

@@ -1,5 +1,6 @@
 //! Blanks, marks, words and numbers at the head of a text.
-ghost use Rattle.std.specs.Prelude.{◌≡◌, ◌<◌, ◌≤◌, ◌++◌, IfOk, IfSome, length};
+ghost use Rattle.std.specs.Prelude.{◌≡◌, ◌<◌, ◌≤◌, IfOk, IfSome, length, option_and_then};
+ghost use Rattle.redis_resp.specs.Number.{signed_of, signed_within};
 
 use crate::notation::error::NotationError;
 
@@ -51,13 +52,12 @@ pub fn word_in(text: &[u8]) -> Result<(&[u8], &[u8]), NotationError>
     }
 }
 
-/// The number that a word writes in decimal.
-pub fn number_in(word: &[u8]) -> Result<i64, NotationError> {
-    match str::from_utf8(word) {
-        Ok(text) => match text.parse::<i64>() {
-            Ok(number) => Ok(number),
-            Err(_) => Err(NotationError::NotNumber),
-        },
-        Err(_) => Err(NotationError::NotNumber),
-    }
+/// The number that a word writes in decimal, where it fits an `i64`.
+pub fn number_in(word: &[u8]) -> Option<i64>
+    ensures { result ≡ option_and_then (signed_within 63) (signed_of word.now) }
+{
+    let Ok(text) = str::from_utf8(word) else {
+        return None;
+    };
+    text.parse().ok()
 }

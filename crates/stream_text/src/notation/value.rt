@@ -124,7 +124,8 @@ fn int_in(text: &[u8]) -> Result<(Value, &[u8]), NotationError>
     ensures { IfOk result (λ r. length r.1.now < length text.now) }
 {
     let (word, rest) = word_in(text)?;
-    Ok((Value::Int(number_in(word)?), rest))
+    let number = number_in(word).ok_or(NotationError::NotNumber)?;
+    Ok((Value::Int(number), rest))
 }
 
 /// `(true)` or `(false)`
@@ -171,13 +172,15 @@ fn bytes_in(alloc: Global, text: &[u8]) -> Result<(Value, &[u8]), NotationError>
     }
     loop {
         let (word, behind) = word_in(rest)?;
-        match u8::try_from(number_in(word)?) {
-            Ok(byte) => bytes.push(byte)?,
-            Err(_) => return Err(NotationError::NotNumber),
-        }
+        bytes.push(byte_in(word).ok_or(NotationError::NotNumber)?)?;
         if let Some(end) = strip_mark(behind, ')') {
             return Ok((Value::BulkString(bytes), end));
         }
         rest = expect_mark(behind, ',')?;
     }
+}
+
+/// The byte whose number a word writes in decimal.
+fn byte_in(word: &[u8]) -> Option<u8> {
+    u8::try_from(number_in(word)?).ok()
 }
