@@ -51,9 +51,11 @@ fn options_are_written(alloc: Global) -> Result<bool, AllocError> {
         producer_id: String::from_str(alloc, "p")?,
         idempotent_id: String::from_str(alloc, "i")?,
     };
-    Ok(means(alloc, &grouped, &["GROUP", "g", "7"])?
-        && means(alloc, &played, &["GROUP", "c", "COUNT", "2"])?
-        && means(alloc, &mode.try_clone(alloc)?, &["IDMP", "p", "i"])?)
+    Ok(
+        means(alloc, &grouped, &["GROUP", "g", "7"])?
+            && means(alloc, &played, &["GROUP", "c", "COUNT", "2"])?
+            && means(alloc, &mode.try_clone(alloc)?, &["IDMP", "p", "i"])?,
+    )
 }
 
 fn fields_are_got(alloc: Global) -> Result<bool, AllocError> {
@@ -66,12 +68,16 @@ fn fields_are_got(alloc: Global) -> Result<bool, AllocError> {
     };
     let text = entry.get::<String>(alloc, "f")?;
     let names = entry.get::<Vec<String>>(alloc, "names")?;
-    Ok(text.is_some_and(|text| text.as_str() == "7")
-        && names.is_some_and(|names| names.len() == 2)
-        && entry.get::<u16>(alloc, "f")? == Some(7)
-        && entry.get::<u16>(alloc, "names")?.is_none()
-        && entry.get::<String>(alloc, "missing")?.is_none()
-        && entry.get::<Option<String>>(alloc, "none")?.is_some_and(|text| text.is_none()))
+    Ok(
+        text.is_some_and(|text| text.as_str() == "7")
+            && names.is_some_and(|names| names.len() == 2)
+            && entry.get::<u16>(alloc, "f")? == Some(7)
+            && entry.get::<u16>(alloc, "names")?.is_none()
+            && entry.get::<String>(alloc, "missing")?.is_none()
+            && entry
+                .get::<Option<String>>(alloc, "none")?
+                .is_some_and(|text| text.is_none()),
+    )
 }
 
 // The empty record of each type has this printed form, and a copy of a record has the record's.
@@ -125,11 +131,13 @@ fn pending_is_copied(alloc: Global) -> Result<bool, AllocError> {
 }
 
 fn all_is_right(alloc: Global) -> Result<bool, AllocError> {
-    Ok(options_are_written(alloc)?
-        && fields_are_got(alloc)?
-        && entries_are_copied(alloc)?
-        && pending_is_copied(alloc)?
-        && information_is_copied(alloc)?)
+    Ok(
+        options_are_written(alloc)?
+            && fields_are_got(alloc)?
+            && entries_are_copied(alloc)?
+            && pending_is_copied(alloc)?
+            && information_is_copied(alloc)?,
+    )
 }
 
 #[test]

@@ -39,23 +39,43 @@ fn push_idempotent_rows(alloc: Global, rows: &mut Vec<Row>) -> Result<(), AllocE
     let v15 = produced(alloc, StreamAddOptions::default().nomkstream())?;
     push_row(alloc, rows, "v15", &v15, "NOMKSTREAM IDMP producer-1 iid-1")?;
     let v16 = produced(alloc, StreamAddOptions::default().trim(exactly(100)))?;
-    push_row(alloc, rows, "v16", &v16, "IDMP producer-1 iid-1 MAXLEN = 100")
+    push_row(
+        alloc,
+        rows,
+        "v16",
+        &v16,
+        "IDMP producer-1 iid-1 MAXLEN = 100",
+    )
 }
 
 fn push_full_rows(alloc: Global, rows: &mut Vec<Row>) -> Result<(), AllocError>
     ensures { OnOk result (vec_len rows.new ≡ vec_len rows.old + 3) }
 {
     let about = StreamTrimStrategy::maxlen(StreamTrimmingMode::Approx, 100);
-    let v17 = produced(alloc, StreamAddOptions::default().nomkstream().trim(about))?
-        .set_deletion_policy(StreamDeletionPolicy::KeepRef);
-    push_row(alloc, rows, "v17", &v17, "NOMKSTREAM KEEPREF IDMP producer-1 iid-1 MAXLEN ~ 100")?;
+    let v17 = produced(
+        alloc,
+        StreamAddOptions::default().nomkstream().trim(about),
+    )?.set_deletion_policy(StreamDeletionPolicy::KeepRef);
+    push_row(
+        alloc,
+        rows,
+        "v17",
+        &v17,
+        "NOMKSTREAM KEEPREF IDMP producer-1 iid-1 MAXLEN ~ 100",
+    )?;
     let from = String::from_str(alloc, "123456-0")?;
     let v18 = StreamAddOptions::default()
         .nomkstream()
         .trim(StreamTrimStrategy::minid(StreamTrimmingMode::Exact, from))
         .idmpauto(String::from_str(alloc, "producer-2")?)
         .set_deletion_policy(StreamDeletionPolicy::DelRef);
-    push_row(alloc, rows, "v18", &v18, "NOMKSTREAM DELREF IDMPAUTO producer-2 MINID = 123456-0")?;
+    push_row(
+        alloc,
+        rows,
+        "v18",
+        &v18,
+        "NOMKSTREAM DELREF IDMPAUTO producer-2 MINID = 123456-0",
+    )?;
     let v19 = StreamAddOptions::default()
         .idmp(String::from_str(alloc, "a")?, String::from_str(alloc, "b")?)
         .idmpauto(String::from_str(alloc, "NOMKSTREAM")?);

@@ -13,8 +13,21 @@ pub fn push_claim_rows(alloc: Global, rows: &mut Vec<Row>) -> Result<(), AllocEr
     let v29 = StreamAutoClaimOptions::default().with_justid().count(3);
     push_row(alloc, rows, "v29", &v29, "COUNT 3 JUSTID")?;
     let last = String::from_str(alloc, "1-0")?;
-    let v30 = StreamClaimOptions::default().with_lastid(last).with_force().idle(7);
+    let v30 = StreamClaimOptions::default()
+        .with_lastid(last)
+        .with_force()
+        .idle(7);
     push_row(alloc, rows, "v30", &v30, "IDLE 7 FORCE LASTID 1-0")?;
-    let v31 = StreamClaimOptions::default().retry(4).time(9).with_justid().idle(0);
-    push_row(alloc, rows, "v31", &v31, "IDLE 0 TIME 9 RETRYCOUNT 4 JUSTID")
+    let v31 = StreamClaimOptions::default()
+        .retry(4)
+        .time(9)
+        .with_justid()
+        .idle(0);
+    push_row(
+        alloc,
+        rows,
+        "v31",
+        &v31,
+        "IDLE 0 TIME 9 RETRYCOUNT 4 JUSTID",
+    )
 }

@@ -21,11 +21,30 @@ fn push_accepted_rows(alloc: Global, rows: &mut Vec<Row>) -> Result<(), AllocErr
     push_answer(alloc, rows, "v20", v20, "IDMP-DURATION 300")?;
     let v21 = StreamConfigOptions::with_idempotency_maxsize(1000);
     push_answer(alloc, rows, "v21", v21, "IDMP-MAXSIZE 1000")?;
-    let v22 = StreamConfigOptions::with_idempotency_maxsize(1000)
-        .and_then(|options| options.idempotency_seconds(300));
-    push_answer(alloc, rows, "v22", v22, "IDMP-DURATION 300 IDMP-MAXSIZE 1000")?;
-    push_answer(alloc, rows, "v23", both(86400, 10000), "IDMP-DURATION 86400 IDMP-MAXSIZE 10000")?;
-    push_answer(alloc, rows, "v24", both(1, 1), "IDMP-DURATION 1 IDMP-MAXSIZE 1")
+    let v22 = StreamConfigOptions::with_idempotency_maxsize(1000).and_then(
+        |options| options.idempotency_seconds(300),
+    );
+    push_answer(
+        alloc,
+        rows,
+        "v22",
+        v22,
+        "IDMP-DURATION 300 IDMP-MAXSIZE 1000",
+    )?;
+    push_answer(
+        alloc,
+        rows,
+        "v23",
+        both(86400, 10000),
+        "IDMP-DURATION 86400 IDMP-MAXSIZE 10000",
+    )?;
+    push_answer(
+        alloc,
+        rows,
+        "v24",
+        both(1, 1),
+        "IDMP-DURATION 1 IDMP-MAXSIZE 1",
+    )
 }
 
 fn push_refused_rows(alloc: Global, rows: &mut Vec<Row>) -> Result<(), AllocError>

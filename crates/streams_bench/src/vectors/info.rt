@@ -3,7 +3,10 @@ ghost use Rattle.std.specs.Prelude.{◌≡◌, ◌+◌, OnOk, vec_len};
 
 use crate::print::Row;
 use crate::vectors::row::push_reply_row;
-use redis_streams::{StreamInfoConsumersReply, StreamInfoGroupsReply, StreamInfoStreamReply, StreamInfoStreamReplyWithIdempotency};
+use redis_streams::{
+    StreamInfoConsumersReply, StreamInfoGroupsReply, StreamInfoStreamReply,
+    StreamInfoStreamReplyWithIdempotency,
+};
 use std::alloc::{AllocError, Global};
 
 /// Adds the vectors of information replies, v58 to v62.

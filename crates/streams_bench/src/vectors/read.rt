@@ -18,7 +18,13 @@ pub fn push_read_rows(alloc: Global, rows: &mut Vec<Row>) -> Result<(), AllocErr
         .count(2)
         .block(5)
         .group(alloc, "g", "c")?;
-    push_row(alloc, rows, "v33", &v33, "GROUP g c BLOCK 5 COUNT 2 NOACK CLAIM 100")?;
+    push_row(
+        alloc,
+        rows,
+        "v33",
+        &v33,
+        "GROUP g c BLOCK 5 COUNT 2 NOACK CLAIM 100",
+    )?;
     let nobody: Vec<&str> = Vec::new(alloc);
     let somebody = vec![in alloc; "c", "BLOCK"]?;
     let v34 = StreamReadOptions::default()

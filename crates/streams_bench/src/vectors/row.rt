@@ -15,10 +15,8 @@ pub fn push_text_row(
     text: String,
     stored: &str,
 ) -> Result<(), AllocError>
-    ensures row {
-        OnOk result (map texts_of rows.new.items
-          ≡ map texts_of rows.old.items ++ (name.now, string_bytes text, stored.now) ∷ [])
-    }
+    ensures row { OnOk result (map texts_of rows.new.items
+        ≡ map texts_of rows.old.items ++ (name.now, string_bytes text, stored.now) ∷ []) }
     ensures one { OnOk result (vec_len rows.new ≡ vec_len rows.old + 1) }
 {
     let name = String::from_str(alloc, name)?;
@@ -35,10 +33,8 @@ pub fn push_row<T: PrintedForm>(
     value: &T,
     stored: &str,
 ) -> Result<(), AllocError>
-    ensures row {
-        OnOk result (map texts_of rows.new.items
-          ≡ map texts_of rows.old.items ++ (name.now, T.form value.now, stored.now) ∷ [])
-    }
+    ensures row { OnOk result (map texts_of rows.new.items
+        ≡ map texts_of rows.old.items ++ (name.now, T.form value.now, stored.now) ∷ []) }
     ensures one { OnOk result (vec_len rows.new ≡ vec_len rows.old + 1) }
 {
     push_text_row(alloc, rows, name, value.printed(alloc)?, stored)

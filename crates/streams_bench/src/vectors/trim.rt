@@ -4,9 +4,7 @@ ghost use Rattle.std.specs.Prelude.{◌≡◌, ◌+◌, OnOk, vec_len};
 use crate::print::Row;
 use crate::vectors::row::push_row;
 use std::alloc::{AllocError, Global};
-use stream_options::{
-    StreamDeletionPolicy, StreamMaxlen, StreamTrimOptions, StreamTrimmingMode,
-};
+use stream_options::{StreamDeletionPolicy, StreamMaxlen, StreamTrimOptions, StreamTrimmingMode};
 
 /// Adds the vectors of trim options, v01 to v06.
 pub fn push_trim_rows(alloc: Global, rows: &mut Vec<Row>) -> Result<(), AllocError>
@@ -21,11 +19,14 @@ pub fn push_trim_rows(alloc: Global, rows: &mut Vec<Row>) -> Result<(), AllocErr
     let id = String::from_str(alloc, "123456-7")?;
     let v04 = StreamTrimOptions::minid(StreamTrimmingMode::Exact, id).limit(5);
     push_row(alloc, rows, "v04", &v04, "MINID = 123456-7 LIMIT 5")?;
-    let v05 = StreamTrimOptions::maxlen(StreamTrimmingMode::Approx, 10).limit(5).limit(7);
+    let v05 = StreamTrimOptions::maxlen(StreamTrimmingMode::Approx, 10)
+        .limit(5)
+        .limit(7);
     push_row(alloc, rows, "v05", &v05, "MAXLEN ~ 10 LIMIT 7")?;
     let id = String::from_str(alloc, "LIMIT")?;
-    let v06 = StreamTrimOptions::minid(StreamTrimmingMode::Exact, id)
-        .set_deletion_policy(StreamDeletionPolicy::Acked);
+    let v06 = StreamTrimOptions::minid(StreamTrimmingMode::Exact, id).set_deletion_policy(
+        StreamDeletionPolicy::Acked,
+    );
     push_row(alloc, rows, "v06", &v06, "MINID = LIMIT ACKED")
 }
 
