@@ -1,3 +1,4 @@
+pub mod AutoClaimLemmas
 pub mod FieldsLemmas
 pub mod PendingLemmas
 pub mod ReadLemmas

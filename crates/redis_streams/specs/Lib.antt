@@ -1,3 +1,4 @@
+pub mod AutoClaim
 pub mod Status
 pub mod Pending
 pub mod PendingRecords
@@ -8,3 +9,4 @@ pub mod SameEntry
 pub mod SameEntryLaws
 pub mod StreamId
 pub mod StreamKey
+pub mod StreamAutoClaimReply

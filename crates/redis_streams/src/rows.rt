@@ -1,5 +1,6 @@
 //! Replies that hold entries of streams: ranges, claims, reads and automatic claims.
 mod auto_claim;
+mod claimed;
 mod clone;
 mod equality;
 mod listed;

@@ -1,6 +1,7 @@
 //! What stands in a list of entries.
-ghost use Rattle.std.specs.Prelude.{◌≡◌, ◌≢◌, ◌++◌, ◌∷◌, [], List, map, flat_map, Some, None, IfOk, IfErr, OnOk};
+ghost use Rattle.std.specs.Prelude.{◌≡◌, ◌≢◌, ◌++◌, ◌∷◌, [], List, map, flat_map, Some, None, IfOk, IfErr, OnOk, option_map, string_bytes};
 ghost use Rattle.redis_resp.specs.Value.{tree};
+ghost use Rattle.redis_streams.specs.AutoClaim.{id_entries};
 ghost use Rattle.redis_streams.specs.Entry.{Entry, entry_of};
 ghost use Rattle.redis_streams.specs.Read.{delivered_entry};
 ghost use Rattle.redis_streams.specs.Rows.{rows_reading};
@@ -54,6 +55,25 @@ impl Listed for Delivery {
             map,
             milliseconds_elapsed_from_delivery: elapsed,
             delivered_count: delivered,
+        })?;
+        Ok(())
+    }
+}
+
+/// An id, which is an entry without fields, or none.
+impl Listed for Option<String> {
+    ghost held = { λ id. id_entries (option_map string_bytes id) };
+
+    fn push_to(self, ids: &mut Vec<StreamId>) -> Result<(), AllocError> {
+        let Some(id) = self else {
+            return Ok(());
+        };
+        let alloc = *ids.allocator();
+        ids.push(StreamId {
+            id,
+            map: HashMap::new(alloc),
+            milliseconds_elapsed_from_delivery: None,
+            delivered_count: None,
         })?;
         Ok(())
     }
