@@ -4,4 +4,5 @@ pub mod Info
 pub mod Pending
 pub mod Refusal
 pub mod Rows
+pub mod Sentence
 pub mod Status

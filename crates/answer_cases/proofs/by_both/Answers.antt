@@ -1,7 +1,7 @@
 use Rattle.std.proofs.Common.{ap, sym, ◌∙◌}
 use Rattle.redis_resp.specs.Value.{tree}
 use Rattle.answer_cases.proofs.AnswerLemmas.{is_answer, may_answer}
-use Rattle.answer_cases.proofs.case.by_both.Goals as goal
+use Rattle.answer_cases.proofs.by_both.Goals as goal
 
 pub returns : goal.returns
 returns g c =
