@@ -20,8 +20,9 @@ mod plain_line;
 
 use redis_resp::{FromRedisValue, Value, from_redis_value, from_redis_value_ref};
 use redis_streams::{
-    StreamAutoClaimReply, StreamClaimReply, StreamPendingCountReply, StreamPendingReply,
-    StreamRangeReply, StreamReadReply, XAckDelStatusCode, XDelExStatusCode,
+    StreamAutoClaimReply, StreamClaimReply, StreamInfoConsumersReply, StreamInfoGroupsReply,
+    StreamInfoStreamReply, StreamInfoStreamReplyWithIdempotency, StreamPendingCountReply,
+    StreamPendingReply, StreamRangeReply, StreamReadReply, XAckDelStatusCode, XDelExStatusCode,
 };
 use std::alloc::{AllocError, Global};
 use std::io;
@@ -74,6 +75,10 @@ fn answer_of(alloc: Global, kind: &str, value: Value) -> Result<String, AllocErr
         "autoclaim" => by_both::<StreamAutoClaimReply>(alloc, value),
         "pending" => by_both::<StreamPendingReply>(alloc, value),
         "pendingcount" => by_both::<StreamPendingCountReply>(alloc, value),
+        "stream" => by_both::<StreamInfoStreamReply>(alloc, value),
+        "streamidmp" => by_both::<StreamInfoStreamReplyWithIdempotency>(alloc, value),
+        "consumers" => by_both::<StreamInfoConsumersReply>(alloc, value),
+        "groups" => by_both::<StreamInfoGroupsReply>(alloc, value),
         "xdelex" => by_both::<XDelExStatusCode>(alloc, value),
         "xackdel" => by_both::<XAckDelStatusCode>(alloc, value),
         _ => String::from_str(alloc, "no such kind"),

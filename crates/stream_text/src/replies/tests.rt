@@ -1,5 +1,6 @@
 //! Replies from the notation to their printed forms, by both readings.
 mod entries;
+mod info;
 mod many;
 mod pending;
 

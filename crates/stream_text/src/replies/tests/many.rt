@@ -4,8 +4,8 @@ use crate::notation::read_value;
 use crate::replies::tests::check_value;
 use redis_resp::{FromRedisValue, Value};
 use redis_streams::{
-    StreamAutoClaimReply, StreamClaimReply, StreamPendingCountReply, StreamPendingReply,
-    StreamRangeReply, StreamReadReply,
+    StreamAutoClaimReply, StreamClaimReply, StreamInfoConsumersReply, StreamInfoGroupsReply,
+    StreamPendingCountReply, StreamPendingReply, StreamRangeReply, StreamReadReply,
 };
 use std::alloc::{AllocError, Global};
 use std::process::Abort;
@@ -77,7 +77,11 @@ fn many_rows(rt: HostRuntime) -> Result<(), Fail> {
     check_list::<StreamClaimReply>(&rt, row, "1-0(f=v)", " ")?;
     let stream = "Array[s, Array[Array[1-0, Array[f, v], Int 5, Int 2]]]";
     check_list::<StreamReadReply>(&rt, stream, "s[1-0(f=v)@5#2]", " ")?;
-    check_list::<StreamPendingCountReply>(&rt, "Array[1-0, c, Int 5, Int 2]", "1-0 c 5 2", "; ")
+    check_list::<StreamPendingCountReply>(&rt, "Array[1-0, c, Int 5, Int 2]", "1-0 c 5 2", "; ")?;
+    let consumer = "Map[name: c, idle: 9]";
+    check_list::<StreamInfoConsumersReply>(&rt, consumer, "c pending=0 idle=9", "; ")?;
+    let group = " consumers=0 pending=7 last= read=none lag=none";
+    check_list::<StreamInfoGroupsReply>(&rt, "Map[pending: Int 7, name: \"\"]", group, "; ")
 }
 
 #[test]
