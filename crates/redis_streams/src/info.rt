@@ -7,6 +7,8 @@ mod groups;
 mod idempotency;
 mod known;
 mod stream;
+#[cfg(test)]
+mod tests;
 
 pub use consumers::StreamInfoConsumersReply;
 pub use groups::{StreamInfoGroup, StreamInfoGroupsReply};
