@@ -6,6 +6,7 @@ mod fields;
 mod groups;
 mod idempotency;
 mod known;
+mod law;
 mod stream;
 #[cfg(test)]
 mod tests;
@@ -13,4 +14,5 @@ mod tests;
 pub use consumers::StreamInfoConsumersReply;
 pub use groups::{StreamInfoGroup, StreamInfoGroupsReply};
 pub use idempotency::StreamInfoStreamReplyWithIdempotency;
+pub use law::other_keys_change_nothing;
 pub use stream::StreamInfoStreamReply;

@@ -2,7 +2,7 @@
 use crate::both_calls::{both, both_refuse, bulk};
 use crate::info::{
     StreamInfoConsumersReply, StreamInfoGroup, StreamInfoGroupsReply, StreamInfoStreamReply,
-    StreamInfoStreamReplyWithIdempotency,
+    StreamInfoStreamReplyWithIdempotency, other_keys_change_nothing,
 };
 use redis_resp::{ParsingError, Value};
 use std::alloc::{AllocError, Global};
@@ -141,5 +141,6 @@ fn consumers_are_read(rt: HostRuntime) -> Result<(), Fail> {
         assert_eq!(rt; told.as_slice(), [(1, 0, 0), (0, 4, 0)].as_slice());
     }
     assert_eq!(rt; StreamInfoConsumersReply::empty(alloc)?.consumers.len(), 0);
+    other_keys_change_nothing();
     Ok(())
 }
