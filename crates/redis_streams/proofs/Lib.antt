@@ -7,3 +7,4 @@ pub mod InfoLemmas
 pub mod StreamInfoLemmas
 pub mod GroupInfoLemmas
 pub mod TrackedInfoLemmas
+pub mod OtherKeysLemmas
