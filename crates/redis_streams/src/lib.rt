@@ -14,6 +14,7 @@
 #![tactic(auto)]
 
 pub mod info;
+pub mod laws;
 pub mod pending;
 pub mod rows;
 pub mod status;
