@@ -105,7 +105,7 @@ module _ (form : Tree → Option (List Entry)) (P : Tree → Type 0) (counted : 
   more_counted t ts ess p (Some es) e None tail h = cc
   more_counted t ts ess p (Some es) e (Some rest) tail h =
       let sizes : length (joined ess) ≡ one_or_none t + length (joined rest) =
-          ap (λ l. length (joined l)) (sym (same_Some (es ∷ rest) ess h)) ∙ length-append es (joined rest) ∙ ap (λ n. n + length (joined rest)) (counted t es p e) in
+      ap (λ l. length (joined l)) (sym (same_Some (es ∷ rest) ess h)) ∙ length-append es (joined rest) ∙ ap (λ n. n + length (joined rest)) (counted t es p e) in
       rw sizes (fewer_more t ts (holds_nil t) (length (joined rest)) refl (tail rest refl))
 
   all_counted : (ts : List Tree) (ess : List (List Entry)) → AllByRecursion P ts → traverse form ts ≡ Some ess → Fewer ts (length (joined ess))

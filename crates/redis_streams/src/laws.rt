@@ -6,5 +6,4 @@ ghost use Rattle.redis_streams.specs.AutoClaimLaws.{InvalidEntriesTellNil};
 #[tactic(auto, using(crate::proofs::AutoClaimLawLemmas::invalid_entries))]
 pub fn invalid_entries_tell_nil()
     ensures { InvalidEntriesTellNil }
-{
-}
+{}
