@@ -10,4 +10,6 @@ pub mod SameEntry
 pub mod SameEntryLaws
 pub mod StreamId
 pub mod StreamKey
+pub mod Info
+pub mod InfoRecords
 pub mod StreamAutoClaimReply

@@ -4,5 +4,6 @@ mod extended;
 mod summary;
 
 pub use consumer::StreamInfoConsumer;
+pub(crate) use consumer::copied_consumers;
 pub use extended::{StreamPendingCountReply, StreamPendingId};
 pub use summary::{StreamPendingData, StreamPendingReply};

@@ -9,6 +9,7 @@
 
 pub mod form;
 pub mod notation;
+pub mod options;
 pub mod replies;
 
 pub use form::PrintedForm;
