@@ -8,3 +8,4 @@ pub mod InfoLemmas
 pub mod StreamInfoLemmas
 pub mod GroupInfoLemmas
 pub mod TrackedInfoLemmas
+pub mod OtherKeysLemmas

@@ -68,12 +68,12 @@ empty_stream = record { last_generated_id = []; radix_tree_keys = 0; groups = 0;
 -- a stream by its fields
 abbrev pub stream_of : NamedFields → Option StreamInfo
 stream_of fields =
-  option_and_then (λ id.
-  option_and_then (λ keys.
-  option_and_then (λ groups.
-  option_and_then (λ length.
-  option_and_then (λ first.
-  option_map (λ last. record { last_generated_id = id; radix_tree_keys = keys; groups = groups; length = length; first_entry = first; last_entry = last })
+    option_and_then (λ id.
+    option_and_then (λ keys.
+    option_and_then (λ groups.
+    option_and_then (λ length.
+    option_and_then (λ first.
+    option_map (λ last. record { last_generated_id = id; radix_tree_keys = keys; groups = groups; length = length; first_entry = first; last_entry = last })
     (entry_field fields (codes "last-entry")))
     (entry_field fields (codes "first-entry")))
     (number_field 64 fields (codes "length")))
@@ -102,13 +102,13 @@ empty_tracked = record { base = empty_stream; duration = 0; maxsize = 0; produce
 -- a stream and its idempotent producers by its fields
 abbrev pub tracked_of : NamedFields → Option TrackedStream
 tracked_of fields =
-  option_and_then (λ duration.
-  option_and_then (λ maxsize.
-  option_and_then (λ producers.
-  option_and_then (λ ids.
-  option_and_then (λ added.
-  option_and_then (λ duplicates.
-  option_map (λ base. record { base = base; duration = duration; maxsize = maxsize; producers = producers; ids = ids; added = added; duplicates = duplicates })
+    option_and_then (λ duration.
+    option_and_then (λ maxsize.
+    option_and_then (λ producers.
+    option_and_then (λ ids.
+    option_and_then (λ added.
+    option_and_then (λ duplicates.
+    option_map (λ base. record { base = base; duration = duration; maxsize = maxsize; producers = producers; ids = ids; added = added; duplicates = duplicates })
     (stream_of fields))
     (number_field 64 fields (codes "iids-duplicates")))
     (number_field 64 fields (codes "iids-added")))
@@ -124,9 +124,9 @@ tracked_reading t = option_and_then tracked_of (fields_in t)
 -- a consumer by its fields
 abbrev pub consumer_of_fields : NamedFields → Option Consumer
 consumer_of_fields fields =
-  option_and_then (λ name.
-  option_and_then (λ pending.
-  option_map (λ idle. record { name = name; pending = pending; idle = idle })
+    option_and_then (λ name.
+    option_and_then (λ pending.
+    option_map (λ idle. record { name = name; pending = pending; idle = idle })
     (number_field 64 fields (codes "idle")))
     (number_field 64 fields (codes "pending")))
     (text_field fields (codes "name"))
@@ -154,12 +154,12 @@ empty_group = record { name = []; consumers = 0; pending = 0; last_delivered_id 
 -- a group by its fields
 abbrev pub group_of : NamedFields → Option Group
 group_of fields =
-  option_and_then (λ name.
-  option_and_then (λ consumers.
-  option_and_then (λ pending.
-  option_and_then (λ id.
-  option_and_then (λ read.
-  option_map (λ lag. record { name = name; consumers = consumers; pending = pending; last_delivered_id = id; entries_read = read; lag = lag })
+    option_and_then (λ name.
+    option_and_then (λ consumers.
+    option_and_then (λ pending.
+    option_and_then (λ id.
+    option_and_then (λ read.
+    option_map (λ lag. record { name = name; consumers = consumers; pending = pending; last_delivered_id = id; entries_read = read; lag = lag })
     (known_field fields (codes "lag")))
     (known_field fields (codes "entries-read")))
     (text_field fields (codes "last-delivered-id")))

@@ -13,3 +13,4 @@ pub mod StreamKey
 pub mod Info
 pub mod InfoRecords
 pub mod StreamAutoClaimReply
+pub mod OtherKeys

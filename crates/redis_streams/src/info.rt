@@ -6,9 +6,13 @@ mod fields;
 mod groups;
 mod idempotency;
 mod known;
+mod law;
 mod stream;
+#[cfg(test)]
+mod tests;
 
 pub use consumers::StreamInfoConsumersReply;
 pub use groups::{StreamInfoGroup, StreamInfoGroupsReply};
 pub use idempotency::StreamInfoStreamReplyWithIdempotency;
+pub use law::other_keys_change_nothing;
 pub use stream::StreamInfoStreamReply;

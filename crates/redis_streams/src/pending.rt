@@ -2,6 +2,8 @@
 mod consumer;
 mod extended;
 mod summary;
+#[cfg(test)]
+mod tests;
 
 pub use consumer::StreamInfoConsumer;
 pub(crate) use consumer::copied_consumers;

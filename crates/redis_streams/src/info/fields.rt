@@ -15,10 +15,7 @@ use std::collections::HashMap;
 type LentPair<'a> = (String, &'a Value);
 
 /// The fields of a value, which are moved out of it.
-pub(crate) fn owned_fields(
-    alloc: Global,
-    v: Value,
-) -> Result<HashMap<String, Value>, ParsingError>
+pub(crate) fn owned_fields(alloc: Global, v: Value) -> Result<HashMap<String, Value>, ParsingError>
     ensures ok { IfOk result (λ m. fields_in (tree v) ≡ Some (named tree m)) }
     ensures err { IfErr result (λ e. e ≢ ParsingError.Memory → fields_in (tree v) ≡ None) }
 {
@@ -54,11 +51,7 @@ fn lent_pairs<'a>(alloc: Global, v: &'a Value) -> Result<Vec<LentPair<'a>>, Pars
 }
 
 /// A key that is copied as text, with its value.
-fn lent_pair<'a>(
-    alloc: Global,
-    key: &Value,
-    value: &'a Value,
-) -> Result<LentPair<'a>, ParsingError>
+fn lent_pair<'a>(alloc: Global, key: &Value, value: &'a Value) -> Result<LentPair<'a>, ParsingError>
     ensures ok { IfOk result (λ r. entry_reading (λ u. Some u) (tree key.now, tree value.now)
         ≡ Some (string_bytes r.0, lent_tree r.1)) }
     ensures err { IfErr result (λ e. e ≢ ParsingError.Memory
@@ -87,10 +80,7 @@ fn lent_entries<'a>(
 }
 
 /// The members of an array that is lent, two by two.
-fn lent_members<'a>(
-    alloc: Global,
-    values: &'a [Value],
-) -> Result<Vec<LentPair<'a>>, ParsingError>
+fn lent_members<'a>(alloc: Global, values: &'a [Value]) -> Result<Vec<LentPair<'a>>, ParsingError>
     ensures ok { IfOk result (λ r. members_reading (λ u. Some u) (map tree values.now)
         ≡ Some (entries_meaning lent_tree r.items)) }
     ensures err { IfErr result (λ e. e ≢ ParsingError.Memory
