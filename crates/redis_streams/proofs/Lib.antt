@@ -1,5 +1,11 @@
+pub mod AutoClaimLawLemmas
 pub mod AutoClaimLemmas
 pub mod FieldsLemmas
 pub mod PendingLemmas
 pub mod ReadLemmas
 pub mod RowsLemmas
+pub mod InfoLemmas
+pub mod StreamInfoLemmas
+pub mod GroupInfoLemmas
+pub mod TrackedInfoLemmas
+pub mod OtherKeysLemmas

@@ -1,4 +1,5 @@
 pub mod AutoClaim
+pub mod AutoClaimLaws
 pub mod Status
 pub mod Pending
 pub mod PendingRecords
@@ -9,4 +10,7 @@ pub mod SameEntry
 pub mod SameEntryLaws
 pub mod StreamId
 pub mod StreamKey
+pub mod Info
+pub mod InfoRecords
 pub mod StreamAutoClaimReply
+pub mod OtherKeys

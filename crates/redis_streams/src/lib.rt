@@ -13,7 +13,10 @@
 //! `specs/` say which. A refusal other than `ParsingError::Memory` means that there is none.
 #![tactic(auto)]
 
+#[cfg(test)]
+mod both_calls;
 pub mod info;
+pub mod laws;
 pub mod pending;
 pub mod rows;
 pub mod status;

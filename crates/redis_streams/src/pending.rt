@@ -2,7 +2,10 @@
 mod consumer;
 mod extended;
 mod summary;
+#[cfg(test)]
+mod tests;
 
 pub use consumer::StreamInfoConsumer;
+pub(crate) use consumer::copied_consumers;
 pub use extended::{StreamPendingCountReply, StreamPendingId};
 pub use summary::{StreamPendingData, StreamPendingReply};

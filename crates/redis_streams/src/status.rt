@@ -137,3 +137,6 @@ impl FromRedisValue for XAckDelStatusCode {
         }
     }
 }
+
+#[cfg(test)]
+mod tests;

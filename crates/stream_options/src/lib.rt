@@ -16,3 +16,6 @@ pub use options::{
     StreamDeletionPolicy, StreamIdempotencyMode, StreamMaxlen, StreamNackMode, StreamNackOptions,
     StreamReadOptions, StreamTrimOptions, StreamTrimStrategy, StreamTrimmingMode,
 };
+
+#[cfg(test)]
+mod tests;

@@ -1,2 +1,3 @@
 mod EntryLemmas
 mod FormLemmas
+pub mod OptionsLemmas

@@ -1,8 +1,62 @@
-//! x
+//! Prints one line for each vector of the stream layer: its name and the text that the layer
+//! computes, and behind it the stored text where the two differ.
+//!
+//! ```text
+//! v01 MAXLEN ~ 10 LIMIT 5
+//! ```
+//!
+//! It ends with 0 where no text differs, with 1 where one does, and with 2 where memory was wanting
+//! or standard output failed.
 #![tactic(auto)]
 
 mod in_place;
+#[cfg(test)]
+mod memory_tests;
 mod play;
 mod print;
+mod vectors;
 
-fn main() {}
+use print::{PrintError, print_rows};
+use std::alloc::AllocError;
+use std::io;
+use std::process::ExitCode;
+use vectors::vector_rows;
+
+// A text differed.
+const DIFFERENT: u8 = 1;
+
+// Memory was wanting, or standard output failed.
+const FAILED: u8 = 2;
+
+// Why the program could not do its work.
+#[derive(Debug, Drop)]
+enum Failure {
+    Memory,
+    Print,
+}
+
+impl From<AllocError> for Failure {
+    fn from(_error: AllocError) -> Failure {
+        Failure::Memory
+    }
+}
+
+impl From<PrintError> for Failure {
+    fn from(_error: PrintError) -> Failure {
+        Failure::Print
+    }
+}
+
+fn main(rt: HostRuntime) -> ExitCode {
+    match print_vectors(&rt) {
+        Ok(true) => ExitCode::SUCCESS,
+        Ok(false) => ExitCode::from(DIFFERENT),
+        Err(_failure) => ExitCode::from(FAILED),
+    }
+}
+
+// Prints the line of each vector, and says whether all texts are the stored ones.
+fn print_vectors<R: Print + AllocGlobal>(rt: &R) -> Result<bool, Failure> {
+    let rows = vector_rows(rt.alloc())?;
+    Ok(print_rows(&rows, &mut io::writer(rt))?)
+}

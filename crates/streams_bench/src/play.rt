@@ -4,6 +4,9 @@ ghost use Rattle.streams_bench.specs.AddCalls as add;
 ghost use Rattle.streams_bench.specs.ReadCalls as read;
 ghost use Rattle.streams_bench.specs.Play.{add_call_of, read_call_of};
 
+#[cfg(test)]
+mod tests;
+
 use redis_resp::RawBytes;
 use std::alloc::{AllocError, Global};
 use stream_options::{

@@ -4,6 +4,9 @@ ghost use Rattle.std.specs.Io.KnownBytes.{Appends};
 ghost use Rattle.std.specs.List.{flat_map};
 ghost use Rattle.streams_bench.specs.Row.{IsSame, line_of};
 
+#[cfg(test)]
+mod tests;
+
 use std::io::{self, Write};
 
 /// A text that was computed, beside the text that it has to be.

@@ -1,6 +1,17 @@
 //! Values for tests, and the check that each test of a reading makes.
 use crate::value::{FromRedisValue, ParsingError, Value, from_redis_value, from_redis_value_ref};
 use std::alloc::{AllocError, Global};
+use std::test::Fail;
+
+#[test]
+fn a_wrong_answer_is_told(rt: HostRuntime) -> Result<(), Fail> {
+    let alloc = rt.alloc();
+    assert!(rt; both_answer::<usize>(alloc, Value::Int(1), &Ok(1))?);
+    assert!(rt; !both_answer::<usize>(alloc, Value::Int(1), &Ok(2))?);
+    assert!(rt; !both_answer::<usize>(alloc, Value::Int(1), &Err(ParsingError::NotNumber))?);
+    assert!(rt; !both_answer::<usize>(alloc, Value::Nil, &Err(ParsingError::NotText))?);
+    Ok(())
+}
 
 /// Whether both calls answer `want`, and the value that was lent stayed as it was.
 pub fn both_answer<T: FromRedisValue + PartialEq>(

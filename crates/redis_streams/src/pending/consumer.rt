@@ -53,7 +53,7 @@ impl StreamInfoConsumer {
 }
 
 /// The same consumers once more, in order. It fails only by want of memory.
-pub(crate) fn copied(
+pub(crate) fn copied_consumers(
     alloc: Global,
     consumers: &[StreamInfoConsumer],
 ) -> Result<Vec<StreamInfoConsumer>, AllocError>

@@ -5,7 +5,7 @@ ghost use Rattle.redis_streams.specs.Pending.{consumers_of, empty_summary};
 ghost use Rattle.redis_streams.specs.PendingRecords.{consumer_meaning, data_meaning, count_of};
 ghost use Rattle.redis_streams.specs.PendingRecords.{pending_meaning, parts_meaning, row_meaning};
 
-use crate::pending::consumer::{StreamInfoConsumer, copied};
+use crate::pending::consumer::{StreamInfoConsumer, copied_consumers};
 use redis_resp::{FromRedisValue, ParsingError, Value};
 use std::alloc::{AllocError, Global};
 
@@ -75,7 +75,7 @@ impl StreamPendingData {
             count: self.count,
             start_id: String::from_str(alloc, &self.start_id)?,
             end_id: String::from_str(alloc, &self.end_id)?,
-            consumers: copied(alloc, &self.consumers)?,
+            consumers: copied_consumers(alloc, &self.consumers)?,
         })
     }
 }

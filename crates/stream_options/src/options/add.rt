@@ -90,7 +90,9 @@ impl StreamAddOptions {
     /// An entry that is sent twice is told by what it holds, in place of any `idmp` or
     /// `idmpauto` before.
     pub fn idmpauto(mut self, producer_id: String) -> Self
-        ensures { result ≡ record self { idempotency = Some (automatic (string_bytes producer_id)) } }
+        ensures { result ≡ record self {
+          idempotency = Some (automatic (string_bytes producer_id));
+        } }
     {
         self.idempotency = Some(StreamIdempotencyMode::Automatic { producer_id });
         self

@@ -1,5 +1,6 @@
 //! How a stream tells entries that are sent twice.
 ghost use Rattle.std.specs.Prelude.{◌≡◌, OkIff, IfOk, IfErr};
+ghost use Rattle.redis_resp.specs.Writer.{Wrote};
 ghost use Rattle.stream_options.specs.Config.{IsDuration, IsMaxsize, IsConfig, config_sentence};
 
 use crate::options::clause::ValueClause;
@@ -51,25 +52,29 @@ impl Model for StreamConfigOptions {
 impl StreamConfigOptions {
     /// Ids are kept for so many seconds. `Seconds` where that is not in 1..=86400.
     pub fn with_idempotency_seconds(seconds: u32) -> Result<Self, ConfigError>
-        ensures ok { OkIff result (IsDuration seconds) (record { seconds = Some seconds; maxsize = None }) }
+        ensures ok { OkIff result (IsDuration seconds) (record {
+          seconds = Some seconds;
+          maxsize = None;
+        }) }
         ensures refused { IfErr result (λ error. error ≡ ConfigError.Seconds seconds) }
     {
-        check_seconds(seconds)?;
         Ok(StreamConfigOptions {
-            seconds: Some(seconds),
+            seconds: Some(seconds_in_range(seconds)?),
             maxsize: None,
         })
     }
 
     /// So many ids are kept of each producer. `Maxsize` where that is not in 1..=10000.
     pub fn with_idempotency_maxsize(maxsize: u16) -> Result<Self, ConfigError>
-        ensures ok { OkIff result (IsMaxsize maxsize) (record { seconds = None; maxsize = Some maxsize }) }
+        ensures ok { OkIff result (IsMaxsize maxsize) (record {
+          seconds = None;
+          maxsize = Some maxsize;
+        }) }
         ensures refused { IfErr result (λ error. error ≡ ConfigError.Maxsize maxsize) }
     {
-        check_maxsize(maxsize)?;
         Ok(StreamConfigOptions {
             seconds: None,
-            maxsize: Some(maxsize),
+            maxsize: Some(maxsize_in_range(maxsize)?),
         })
     }
 
@@ -81,8 +86,7 @@ impl StreamConfigOptions {
         ensures valid { IfOk result IsConfig }
         ensures refused { IfErr result (λ error. error ≡ ConfigError.Seconds seconds) }
     {
-        check_seconds(seconds)?;
-        self.seconds = Some(seconds);
+        self.seconds = Some(seconds_in_range(seconds)?);
         Ok(self)
     }
 
@@ -94,31 +98,30 @@ impl StreamConfigOptions {
         ensures valid { IfOk result IsConfig }
         ensures refused { IfErr result (λ error. error ≡ ConfigError.Maxsize maxsize) }
     {
-        check_maxsize(maxsize)?;
-        self.maxsize = Some(maxsize);
+        self.maxsize = Some(maxsize_in_range(maxsize)?);
         Ok(self)
     }
 }
 
-// The seconds are in their range.
-fn check_seconds(seconds: u32) -> Result<(), ConfigError>
-    ensures ok { OkIff result (IsDuration seconds) tt }
+// The seconds, where they are in their range.
+fn seconds_in_range(seconds: u32) -> Result<u32, ConfigError>
+    ensures ok { OkIff result (IsDuration seconds) seconds }
     ensures refused { IfErr result (λ error. error ≡ ConfigError.Seconds seconds) }
 {
     if (IDMP_DURATION_MIN..=IDMP_DURATION_MAX).contains(&seconds) {
-        Ok(())
+        Ok(seconds)
     } else {
         Err(ConfigError::Seconds(seconds))
     }
 }
 
-// The number of entries is in its range.
-fn check_maxsize(maxsize: u16) -> Result<(), ConfigError>
-    ensures ok { OkIff result (IsMaxsize maxsize) tt }
+// The number of entries, where it is in its range.
+fn maxsize_in_range(maxsize: u16) -> Result<u16, ConfigError>
+    ensures ok { OkIff result (IsMaxsize maxsize) maxsize }
     ensures refused { IfErr result (λ error. error ≡ ConfigError.Maxsize maxsize) }
 {
     if (IDMP_MAXSIZE_MIN..=IDMP_MAXSIZE_MAX).contains(&maxsize) {
-        Ok(())
+        Ok(maxsize)
     } else {
         Err(ConfigError::Maxsize(maxsize))
     }
@@ -127,7 +130,12 @@ fn check_maxsize(maxsize: u16) -> Result<(), ConfigError>
 impl ToRedisArgs for StreamConfigOptions {
     ghost args = { config_sentence };
 
-    fn write_redis_args<W: RedisWrite>(&self, out: &mut W) -> Result<(), WriteError> {
+    /// What is written is at least one setting, and each in its range.
+    fn write_redis_args<W: RedisWrite>(&self, out: &mut W) -> Result<(), WriteError>
+        ensures written { Wrote result (W.written out.old) (config_sentence self.now)
+            (W.written out.new) (W.may_refuse out.new) }
+        ensures valid { IsConfig self.now }
+    {
         (
             ValueClause("IDMP-DURATION", &self.seconds),
             ValueClause("IDMP-MAXSIZE", &self.maxsize),

@@ -35,7 +35,8 @@ impl Names {
         group: &GN,
         consumer: &CN,
     ) -> Result<Names, AllocError>
-        ensures { IfOk result (λ names. group_of names ≡ named (GN.args group.now) (CN.args consumer.now)) }
+        ensures { IfOk result (λ names.
+            group_of names ≡ named (GN.args group.now) (CN.args consumer.now)) }
     {
         Ok(Names {
             group: Written(group.to_redis_args(alloc)?),

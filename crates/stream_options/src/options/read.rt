@@ -52,7 +52,7 @@ impl Default for StreamReadOptions {
 }
 
 impl StreamReadOptions {
-    /// No group is set, so that the read changes nothing on the server.
+    /// True exactly where no group is set: such a read changes nothing on the server.
     pub fn read_only(&self) -> bool
         ensures { result ≡ is_none self.now.group }
     {

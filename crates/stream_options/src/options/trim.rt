@@ -118,7 +118,8 @@ impl StreamTrimOptions {
 
     /// Entries from `stream_id` on stay; no limit and no policy is set yet.
     pub fn minid(mode: StreamTrimmingMode, stream_id: String) -> Self
-        ensures strategy { result.strategy ≡ unlimited (min_id (mode_of mode) (string_bytes stream_id)) }
+        ensures strategy { result.strategy
+            ≡ unlimited (min_id (mode_of mode) (string_bytes stream_id)) }
         ensures policy { result.policy ≡ None }
     {
         StreamTrimOptions {

@@ -1,0 +1,42 @@
+-- Which fields the replies of XINFO name, and that all others change nothing.
+use Rattle.std.specs.Prelude.{◌≡◌, ℕ, false, List, [], ◌∷◌, ◌++◌, Option, Some, codes}
+use Rattle.std.specs.List.{AllByRecursion}
+use Rattle.std.specs.Str.{bytes_eq}
+use Rattle.redis_resp.specs.Tree.{Tree, pairs_in}
+use Rattle.redis_resp.specs.Text.{text_reading}
+
+-- the names of a stream's fields
+abbrev pub stream_names : List (List ℕ)
+stream_names = codes "last-generated-id" ∷ codes "radix-tree-nodes" ∷ codes "groups" ∷ codes "length" ∷ codes "first-entry" ∷ codes "last-entry" ∷ []
+
+-- the names of the fields of a stream and of its idempotent producers
+abbrev pub tracked_names : List (List ℕ)
+tracked_names = codes "idmp-duration" ∷ codes "idmp-maxsize" ∷ codes "pids-tracked" ∷ codes "iids-tracked" ∷ codes "iids-added" ∷ codes "iids-duplicates" ∷ stream_names
+
+-- the names of a consumer's fields
+abbrev pub consumer_names : List (List ℕ)
+consumer_names = codes "name" ∷ codes "pending" ∷ codes "idle" ∷ []
+
+-- the names of a group's fields
+abbrev pub group_names : List (List ℕ)
+group_names = codes "name" ∷ codes "consumers" ∷ codes "pending" ∷ codes "last-delivered-id" ∷ codes "entries-read" ∷ codes "lag" ∷ []
+
+-- it is none of the names
+abbrev pub IsOther : List (List ℕ) → List ℕ → Type 0
+IsOther names key = AllByRecursion (λ name. bytes_eq name key ≡ false) names
+
+-- `more` has the pairs of `t` and, somewhere among them, one whose key is a text and none of the names
+pub record HasOtherKey (names : List (List ℕ)) (t more : Tree) : Type 0 where
+  pub before : List (Tree × Tree)
+  pub after : List (Tree × Tree)
+  pub key : Tree
+  pub value : Tree
+  pub text : List ℕ
+  pub pairs : pairs_in t ≡ Some (before ++ after)
+  pub more_pairs : pairs_in more ≡ Some (before ++ (key, value) ∷ after)
+  pub is_text : text_reading key ≡ Some text
+  pub is_other : IsOther names text
+
+-- a pair with another key changes nothing
+abbrev pub OtherKeysChangeNothing : {M : Type 0} → List (List ℕ) → (Tree → Option M) → Type 0
+OtherKeysChangeNothing names reading = (t more : Tree) → HasOtherKey names t more → reading more ≡ reading t

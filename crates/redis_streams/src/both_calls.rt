@@ -1,0 +1,45 @@
+//! For tests: values, and what both calls of a reading answer.
+use redis_resp::{FromRedisValue, ParsingError, Value, from_redis_value, from_redis_value_ref};
+use std::alloc::{AllocError, Global};
+
+/// What both calls read, the lent one first; None where they do not answer the same way, or the
+/// value that was lent did not stay as it was.
+pub(crate) fn both<T: FromRedisValue>(
+    alloc: Global,
+    value: Value,
+) -> Result<Option<Result<(T, T), ParsingError>>, AllocError> {
+    let before = value.try_clone(alloc)?;
+    let lent = from_redis_value_ref::<T>(alloc, &value);
+    if value != before {
+        return Ok(None);
+    }
+    let moved = from_redis_value::<T>(alloc, value);
+    Ok(match (lent, moved) {
+        (Ok(lent), Ok(moved)) => Some(Ok((lent, moved))),
+        (Err(lent), Err(moved)) => {
+            if lent == moved {
+                Some(Err(moved))
+            } else {
+                None
+            }
+        }
+        _ => None,
+    })
+}
+
+/// Whether both calls refuse the value with this refusal.
+pub(crate) fn both_refuse<T: FromRedisValue>(
+    alloc: Global,
+    value: Value,
+    refusal: ParsingError,
+) -> Result<bool, AllocError> {
+    Ok(match both::<T>(alloc, value)? {
+        Some(Err(error)) => error == refusal,
+        _ => false,
+    })
+}
+
+/// A bulk string.
+pub(crate) fn bulk(alloc: Global, text: &str) -> Result<Value, AllocError> {
+    Ok(Value::BulkString(Vec::from_slice(alloc, text.as_bytes())?))
+}

@@ -1,0 +1,55 @@
+//! Read options, with names of several types.
+use crate::StreamReadOptions;
+use crate::tests::user::Flag;
+use crate::tests::{text, words};
+use redis_resp::RawBytes;
+use std::test::Fail;
+
+#[test]
+fn settings(rt: HostRuntime) -> Result<(), Fail> {
+    let ungrouped = StreamReadOptions::default().noack().claim(100);
+    assert!(rt; ungrouped.read_only());
+    assert_eq!(rt; words(rt.alloc(), &ungrouped)?.as_str(), "-");
+    let grouped = ungrouped
+        .block(5)
+        .count(2)
+        .group(rt.alloc(), text(rt.alloc(), "g")?, text(rt.alloc(), "c")?)?;
+    assert!(rt; !grouped.read_only());
+    assert_eq!(rt;
+        words(rt.alloc(), &grouped)?.as_str(),
+        "GROUP g c BLOCK 5 COUNT 2 NOACK CLAIM 100"
+    );
+    Ok(())
+}
+
+#[test]
+fn names(rt: HostRuntime) -> Result<(), Fail> {
+    let alloc = rt.alloc();
+    let default = || StreamReadOptions::default();
+    let none: Vec<RawBytes> = Vec::new(alloc);
+    let several = vec![in alloc; text(rt.alloc(), "c")?, text(rt.alloc(), "BLOCK")?]?;
+    let empty: Vec<RawBytes> = Vec::new(alloc);
+    let nobody: Option<u16> = None;
+    let again = default().group(alloc, "g", "c")?.claim(1);
+    let table = [
+        (
+            default().group(alloc, none, several)?.count(2),
+            "GROUP c BLOCK COUNT 2",
+        ),
+        (
+            default().group(alloc, "c", "BLOCK")?.count(2),
+            "GROUP c BLOCK COUNT 2",
+        ),
+        (
+            default().group(alloc, empty, nobody)?.noack(),
+            "GROUP NOACK",
+        ),
+        (again.group(alloc, "h", "d")?, "GROUP h d CLAIM 1"),
+        (default().group(alloc, 7u64, Flag(true))?, "GROUP 7 yes"),
+    ];
+    for (options, sentence) in &table {
+        assert!(rt; !options.read_only(), "of {sentence}");
+        assert_eq!(rt; words(rt.alloc(), options)?.as_str(), *sentence);
+    }
+    Ok(())
+}

@@ -1,0 +1,145 @@
+//! Options and the words that they write.
+use crate::tests::{text, words};
+use crate::{
+    StreamAddOptions, StreamAutoClaimOptions, StreamClaimOptions, StreamDeletionPolicy,
+    StreamIdempotencyMode, StreamMaxlen, StreamNackMode, StreamNackOptions, StreamTrimOptions,
+    StreamTrimStrategy, StreamTrimmingMode,
+};
+use std::test::Fail;
+
+#[test]
+fn trim(rt: HostRuntime) -> Result<(), Fail> {
+    let minid = StreamTrimOptions::minid(StreamTrimmingMode::Exact, text(rt.alloc(), "123456-7")?);
+    let spelled = StreamTrimOptions::minid(StreamTrimmingMode::Exact, text(rt.alloc(), "LIMIT")?);
+    let maxlen = || StreamTrimOptions::maxlen(StreamTrimmingMode::Approx, 10);
+    let table = [
+        (maxlen().limit(5), "MAXLEN ~ 10 LIMIT 5"),
+        (maxlen(), "MAXLEN ~ 10"),
+        (
+            StreamTrimOptions::maxlen(StreamTrimmingMode::Exact, 10),
+            "MAXLEN = 10",
+        ),
+        (minid.limit(5), "MINID = 123456-7 LIMIT 5"),
+        (maxlen().limit(5).limit(7), "MAXLEN ~ 10 LIMIT 7"),
+        (
+            spelled.set_deletion_policy(StreamDeletionPolicy::Acked),
+            "MINID = LIMIT ACKED",
+        ),
+    ];
+    for (options, sentence) in &table {
+        assert_eq!(rt; words(rt.alloc(), options)?.as_str(), *sentence);
+    }
+    Ok(())
+}
+
+#[test]
+fn words_alone(rt: HostRuntime) -> Result<(), Fail> {
+    for (maxlen, sentence) in [
+        (StreamMaxlen::Equals(0), "MAXLEN = 0"),
+        (
+            StreamMaxlen::Approx(usize::MAX),
+            "MAXLEN ~ 18446744073709551615",
+        ),
+    ] {
+        assert_eq!(rt; words(rt.alloc(), &maxlen)?.as_str(), sentence);
+    }
+    for (mode, sentence) in [
+        (StreamNackMode::Silent, "SILENT"),
+        (StreamNackMode::Fail, "FAIL"),
+        (StreamNackMode::Fatal, "FATAL"),
+    ] {
+        assert_eq!(rt; words(rt.alloc(), &mode)?.as_str(), sentence);
+        assert_eq!(rt;
+            words(rt.alloc(), &StreamNackOptions::new(mode))?.as_str(),
+            sentence
+        );
+    }
+    let policies = [
+        (StreamDeletionPolicy::default(), "KEEPREF"),
+        (StreamDeletionPolicy::DelRef.clone()?, "DELREF"),
+        (StreamDeletionPolicy::Acked, "ACKED"),
+    ];
+    for (policy, sentence) in &policies {
+        assert_eq!(rt; words(rt.alloc(), policy)?.as_str(), *sentence);
+    }
+    Ok(())
+}
+
+#[test]
+fn add(rt: HostRuntime) -> Result<(), Fail> {
+    let approx = StreamTrimStrategy::maxlen(StreamTrimmingMode::Approx, 100);
+    let exact = StreamTrimStrategy::maxlen(StreamTrimmingMode::Exact, 5).limit(2);
+    let from = StreamTrimStrategy::minid(StreamTrimmingMode::Approx, text(rt.alloc(), "x")?);
+    let all = StreamAddOptions::default()
+        .trim(approx)
+        .nomkstream()
+        .idmp(text(rt.alloc(), "producer-1")?, text(rt.alloc(), "iid-1")?)
+        .set_deletion_policy(StreamDeletionPolicy::KeepRef);
+    let automatic = StreamAddOptions::default()
+        .idmp(text(rt.alloc(), "a")?, text(rt.alloc(), "b")?)
+        .idmpauto(text(rt.alloc(), "NOMKSTREAM")?);
+    let table = [
+        (StreamAddOptions::default(), "-"),
+        (all, "NOMKSTREAM KEEPREF IDMP producer-1 iid-1 MAXLEN ~ 100"),
+        (automatic, "IDMPAUTO NOMKSTREAM"),
+        (
+            StreamAddOptions::default().trim(exact).trim(from),
+            "MINID ~ x",
+        ),
+    ];
+    for (options, sentence) in &table {
+        assert_eq!(rt; words(rt.alloc(), options)?.as_str(), *sentence);
+    }
+    Ok(())
+}
+
+#[test]
+fn idempotency(rt: HostRuntime) -> Result<(), Fail> {
+    let manual = StreamIdempotencyMode::Manual {
+        producer_id: text(rt.alloc(), "producer-1")?,
+        idempotent_id: text(rt.alloc(), "iid-1")?,
+    };
+    let automatic = StreamIdempotencyMode::Automatic {
+        producer_id: text(rt.alloc(), "producer-2")?,
+    };
+    for (mode, sentence) in [
+        (&manual, "IDMP producer-1 iid-1"),
+        (&automatic, "IDMPAUTO producer-2"),
+    ] {
+        assert_eq!(rt; words(rt.alloc(), mode)?.as_str(), sentence);
+        assert_eq!(rt;
+            words(rt.alloc(), &mode.try_clone(rt.alloc())?)?.as_str(),
+            sentence
+        );
+    }
+    Ok(())
+}
+
+#[test]
+fn claims(rt: HostRuntime) -> Result<(), Fail> {
+    let default = || StreamClaimOptions::default();
+    let forced = default()
+        .with_lastid(text(rt.alloc(), "1-0")?)
+        .with_force()
+        .idle(7);
+    let table = [
+        (default(), "-"),
+        (forced, "IDLE 7 FORCE LASTID 1-0"),
+        (
+            default().retry(4).time(9).with_justid().idle(0),
+            "IDLE 0 TIME 9 RETRYCOUNT 4 JUSTID",
+        ),
+        // two arguments, the second of which is empty
+        (default().with_lastid(text(rt.alloc(), "")?), "LASTID "),
+    ];
+    for (options, sentence) in &table {
+        assert_eq!(rt; words(rt.alloc(), options)?.as_str(), *sentence);
+    }
+    let automatic = StreamAutoClaimOptions::default().with_justid().count(3);
+    assert_eq!(rt; words(rt.alloc(), &automatic)?.as_str(), "COUNT 3 JUSTID");
+    assert_eq!(rt;
+        words(rt.alloc(), &StreamAutoClaimOptions::default())?.as_str(),
+        "-"
+    );
+    Ok(())
+}
