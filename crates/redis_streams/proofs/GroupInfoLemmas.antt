@@ -1,6 +1,6 @@
 -- A group by its fields: what is known of each of them, and that it is nothing where one of them reads as nothing.
 use Rattle.std.proofs.Common.{◌≡◌, ℕ, List, Option, Some, None, codes, refl}
-use Rattle.redis_streams.specs.Info.{NamedFields, text_field, number_field, known_field, Group, group_of}
+use Rattle.redis_streams.specs.Info.{NamedFields, text_field, number_field, known_field, group_of}
 use Rattle.redis_streams.proofs.StreamInfoLemmas.{never}
 
 module _ (f : NamedFields) where

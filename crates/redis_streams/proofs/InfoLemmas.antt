@@ -9,9 +9,8 @@ use Rattle.redis_resp.specs.Tree.{Tree}
 use Rattle.redis_resp.specs.Value.{tree}
 use Rattle.redis_resp.specs.declared.value.Value.{Value, Array}
 use Rattle.redis_resp.proofs.TreeLemmas.{tree-Array, listed_trees}
-use Rattle.std.specs.FinMap.{from_entries}
 use Rattle.std.proofs.lemmas.Option.{none-some, same_Some}
-use Rattle.redis_resp.specs.Table.{pairs_reading, fields_reading, entries_meaning, table_of, last_with}
+use Rattle.redis_resp.specs.Table.{pairs_reading, entries_meaning, last_with}
 use Rattle.redis_resp.proofs.TableLemmas.{fields_last}
 use Rattle.redis_streams.specs.Info.{NamedFields, fields_in, entry_of_items, info_entry_reading}
 use Rattle.redis_streams.specs.InfoRecords.{named}

@@ -1,3 +1,4 @@
+pub mod AutoClaimLawLemmas
 pub mod AutoClaimLemmas
 pub mod FieldsLemmas
 pub mod PendingLemmas

@@ -1,7 +1,7 @@
 -- A stream by its fields: what is known of each of them, and that it is nothing where one of them reads as nothing.
-use Rattle.std.proofs.Common.{◌≡◌, ℕ, List, Option, Some, None, option_and_then, option_map, codes, refl}
+use Rattle.std.proofs.Common.{◌≡◌, ℕ, List, Option, Some, None, option_and_then, codes, refl}
 use Rattle.redis_streams.specs.Entry.{Entry}
-use Rattle.redis_streams.specs.Info.{NamedFields, text_field, number_field, entry_field, StreamInfo, stream_of}
+use Rattle.redis_streams.specs.Info.{NamedFields, text_field, number_field, entry_field, stream_of}
 
 pub never : {A B : Type 0} (o : Option A) → option_and_then (λ _. let none : Option B = None in none) o ≡ None
 never None = refl

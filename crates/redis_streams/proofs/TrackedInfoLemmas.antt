@@ -1,6 +1,6 @@
 -- A stream with its idempotent producers by its fields: what is known of each of them, and that it is nothing where one of them reads as nothing.
-use Rattle.std.proofs.Common.{◌≡◌, ℕ, List, Option, Some, None, codes, refl}
-use Rattle.redis_streams.specs.Info.{NamedFields, number_field, StreamInfo, stream_of, TrackedStream, tracked_of}
+use Rattle.std.proofs.Common.{◌≡◌, ℕ, Some, None, codes, refl}
+use Rattle.redis_streams.specs.Info.{NamedFields, number_field, StreamInfo, stream_of, tracked_of}
 use Rattle.redis_streams.proofs.StreamInfoLemmas.{never}
 
 module _ (f : NamedFields) where

@@ -1,5 +1,5 @@
 -- What the records of XINFO mean: the same as the mathematical ones, whatever room their texts and lists have.
-use Rattle.std.specs.Prelude.{ℕ, List, map, Option, option_map, String, string_bytes}
+use Rattle.std.specs.Prelude.{List, map, option_map, String, string_bytes}
 use Rattle.std.specs.declared.alloc.Global.{Global}
 use Rattle.std.specs.HashMap.{HashMap, get_by_text}
 use Rattle.std.specs.Borrow.{Bor}

@@ -1,4 +1,5 @@
 pub mod AutoClaim
+pub mod AutoClaimLaws
 pub mod Status
 pub mod Pending
 pub mod PendingRecords

@@ -16,6 +16,7 @@
 #[cfg(test)]
 mod both_calls;
 pub mod info;
+pub mod laws;
 pub mod pending;
 pub mod rows;
 pub mod status;

@@ -1,14 +1,24 @@
 //! Replies that hold entries of streams: ranges, claims, reads and automatic claims.
 mod auto_claim;
+mod claim;
 mod claimed;
 mod clone;
 mod equality;
+#[cfg(test)]
+mod flag;
 mod listed;
 mod range;
 mod read;
+#[cfg(test)]
+mod samples;
 mod stream_id;
+mod stream_key;
+#[cfg(test)]
+mod tests;
 
 pub use auto_claim::StreamAutoClaimReply;
-pub use range::{StreamClaimReply, StreamRangeReply};
-pub use read::{StreamKey, StreamReadReply};
+pub use claim::StreamClaimReply;
+pub use range::StreamRangeReply;
+pub use read::StreamReadReply;
 pub use stream_id::StreamId;
+pub use stream_key::StreamKey;

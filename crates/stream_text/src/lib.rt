@@ -1,9 +1,11 @@
-//! Redis values and stream replies as lines of text: a notation that values are read from
-//! (`notation`), for tests and for programs that compare answers.
+//! Redis values, stream options and replies as lines of text: a notation that values are read from
+//! (`notation`), and the printed forms of options and replies (`form`, `options`, `replies`), for
+//! tests and for programs that compare answers.
 //!
 //! ```text
 //! let reply = read_value(alloc, "Array[Array[1-0, Array[f, v]]]")?;
 //! let range: StreamRangeReply = from_redis_value(alloc, reply)?;
+//! range.printed(alloc)?;                                           // `1-0(f=v)`
 //! ```
 #![tactic(auto)]
 

@@ -21,3 +21,5 @@ mod pending;
 mod refusal;
 mod rows;
 mod status;
+#[cfg(test)]
+mod tests;

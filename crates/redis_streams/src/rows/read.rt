@@ -2,45 +2,13 @@
 ghost use Rattle.std.specs.Prelude.{◌≡◌, ◌≢◌, ◌++◌, [], Some, None, IsOk, IfOk, IfErr, OnOk, flat_map, option_map};
 ghost use Rattle.redis_resp.specs.Value.{tree};
 ghost use Rattle.redis_streams.specs.Read.{Streams, standard_reading, claim_reading, read_reading};
-ghost use Rattle.redis_streams.specs.StreamKey.{stream_meaning, streams_of, streams_in};
+ghost use Rattle.redis_streams.specs.StreamKey.{streams_of, streams_in};
 
-use crate::rows::clone::copy_ids;
 use crate::rows::listed::{Delivery, Listed, Row, join};
-use crate::rows::stream_id::StreamId;
+use crate::rows::stream_key::StreamKey;
 use indexmap::IndexMap;
 use redis_resp::{FromRedisValue, ParsingError, Value};
 use std::alloc::{AllocError, Global};
-
-/// A stream with the entries that were read from it.
-#[derive(Debug, Drop)]
-pub struct StreamKey {
-    /// The name of the stream.
-    pub key: String,
-    /// Its entries, in order.
-    pub ids: Vec<StreamId>,
-}
-
-impl StreamKey {
-    /// The stream without a name and without entries. It takes no memory and is always Ok.
-    pub fn empty(alloc: Global) -> Result<StreamKey, AllocError>
-        ensures ok { IsOk result }
-        ensures stream { IfOk result (λ k. stream_meaning k ≡ ([], [])) }
-    {
-        Ok(StreamKey {
-            key: String::new(alloc),
-            ids: Vec::new(alloc),
-        })
-    }
-
-    /// The same stream. It fails only by want of memory.
-    pub fn try_clone(&self, alloc: Global) -> Result<StreamKey, AllocError>
-        ensures { IfOk result (λ k. stream_meaning k ≡ stream_meaning self.now) }
-    {
-        let key = String::from_str(alloc, &self.key)?;
-        let ids = copy_ids(alloc, &self.ids)?;
-        Ok(StreamKey { key, ids })
-    }
-}
 
 /// The streams that XREAD or XREADGROUP answers, in order.
 #[derive(Debug, Drop)]

@@ -1,4 +1,4 @@
-use Rattle.std.proofs.Common.{◌≡◌, Some, map, rules}
+use Rattle.std.proofs.Common.{◌≡◌, Some, map}
 use Rattle.redis_resp.specs.Reading.{traverse}
 use Rattle.redis_resp.specs.Table.{entry_reading, pairs_reading}
 use Rattle.redis_resp.specs.Value.{tree, tree_of_pair}

@@ -1,0 +1,56 @@
+//! The reply of XCLAIM.
+ghost use Rattle.std.specs.Prelude.{◌≡◌, [], List, IsOk, IfOk};
+ghost use Rattle.redis_streams.specs.Entry.{Entry};
+ghost use Rattle.redis_streams.specs.Rows.{rows_reading};
+ghost use Rattle.redis_streams.specs.StreamId.{entries_of};
+
+use crate::rows::clone::copy_ids;
+use crate::rows::listed::{read_rows, read_rows_ref};
+use crate::rows::stream_id::StreamId;
+use redis_resp::{FromRedisValue, ParsingError, Value};
+use std::alloc::{AllocError, Global};
+
+/// The entries that XCLAIM answers, in order.
+#[derive(Debug, Drop)]
+pub struct StreamClaimReply {
+    pub ids: Vec<StreamId>,
+}
+
+impl StreamClaimReply {
+    /// The reply without entries. It takes no memory and is always Ok.
+    pub fn empty(alloc: Global) -> Result<StreamClaimReply, AllocError>
+        ensures ok { IsOk result }
+        ensures entries { IfOk result (λ r. entries_of r.ids ≡ []) }
+    {
+        Ok(StreamClaimReply {
+            ids: Vec::new(alloc),
+        })
+    }
+
+    /// A reply of the same entries. It fails only by want of memory.
+    pub fn try_clone(&self, alloc: Global) -> Result<StreamClaimReply, AllocError>
+        ensures { IfOk result (λ r. entries_of r.ids ≡ entries_of self.now.ids) }
+    {
+        let ids = copy_ids(alloc, &self.ids)?;
+        Ok(StreamClaimReply { ids })
+    }
+}
+
+/// A list of rows; each pair of a row's table is an entry.
+impl FromRedisValue for StreamClaimReply {
+    ghost Meaning = { List Entry };
+
+    ghost meaning = { λ r. entries_of r.ids };
+
+    ghost reading = { rows_reading };
+
+    fn from_redis_value(alloc: Global, v: Value) -> Result<StreamClaimReply, ParsingError> {
+        let ids = read_rows(alloc, v)?;
+        Ok(StreamClaimReply { ids })
+    }
+
+    fn from_redis_value_ref(alloc: Global, v: &Value) -> Result<StreamClaimReply, ParsingError> {
+        let ids = read_rows_ref(alloc, v)?;
+        Ok(StreamClaimReply { ids })
+    }
+}

@@ -1,0 +1,38 @@
+//! A stream with its entries.
+ghost use Rattle.std.specs.Prelude.{◌≡◌, [], IsOk, IfOk};
+ghost use Rattle.redis_streams.specs.StreamKey.{stream_meaning};
+
+use crate::rows::clone::copy_ids;
+use crate::rows::stream_id::StreamId;
+use std::alloc::{AllocError, Global};
+
+/// A stream with the entries that were read from it.
+#[derive(Debug, Drop)]
+pub struct StreamKey {
+    /// The name of the stream.
+    pub key: String,
+    /// Its entries, in order.
+    pub ids: Vec<StreamId>,
+}
+
+impl StreamKey {
+    /// The stream without a name and without entries. It takes no memory and is always Ok.
+    pub fn empty(alloc: Global) -> Result<StreamKey, AllocError>
+        ensures ok { IsOk result }
+        ensures stream { IfOk result (λ k. stream_meaning k ≡ ([], [])) }
+    {
+        Ok(StreamKey {
+            key: String::new(alloc),
+            ids: Vec::new(alloc),
+        })
+    }
+
+    /// The same stream. It fails only by want of memory.
+    pub fn try_clone(&self, alloc: Global) -> Result<StreamKey, AllocError>
+        ensures { IfOk result (λ k. stream_meaning k ≡ stream_meaning self.now) }
+    {
+        let key = String::from_str(alloc, &self.key)?;
+        let ids = copy_ids(alloc, &self.ids)?;
+        Ok(StreamKey { key, ids })
+    }
+}

@@ -1,0 +1,141 @@
+//! Entries, and the replies that hold them, by both calls.
+use crate::laws::invalid_entries_tell_nil;
+use crate::rows::flag::Flag;
+use crate::rows::samples::{are_samples, both, entry, rows, text, two};
+use crate::rows::{
+    StreamAutoClaimReply, StreamClaimReply, StreamId, StreamKey, StreamRangeReply, StreamReadReply,
+};
+use redis_resp::{ParsingError, Value, from_redis_value};
+use std::alloc::{AllocError, Global};
+use std::test::Fail;
+
+#[test]
+fn fields_are_got_by_name(rt: HostRuntime) -> Result<(), Fail> {
+    let alloc = rt.alloc();
+    let seven = entry(alloc, "1-0", "f", text(alloc, "7")?)?;
+    assert_eq!(rt; seven.get::<u16>(alloc, "f")?, Some(7));
+    assert_eq!(rt; seven.get::<u16>(alloc, "g")?, None);
+    assert!(rt; seven.get::<Vec<Value>>(alloc, "f")?.is_none());
+    assert!(rt; seven.contains_key("f") && !seven.contains_key("g"));
+    assert!(rt; seven.len() == 1 && !seven.is_empty());
+    Ok(())
+}
+
+#[test]
+fn fields_are_nil_or_of_a_new_type(rt: HostRuntime) -> Result<(), Fail> {
+    let alloc = rt.alloc();
+    let nil = entry(alloc, "1-0", "f", Value::Nil)?;
+    assert!(rt; matches!(&nil.get::<Option<String>>(alloc, "f")?, Some(None)));
+    let yes = entry(alloc, "1-0", "f", text(alloc, "yes")?)?;
+    assert_eq!(rt; yes.get::<Flag>(alloc, "f")?, Some(Flag(true)));
+    assert!(rt; StreamId::empty(alloc)?.is_empty());
+    Ok(())
+}
+
+// Whether the entry is `1-0` with the field `f` of the value `v`.
+fn is_sample(alloc: Global, id: &StreamId) -> Result<bool, AllocError> {
+    let sample = entry(alloc, "1-0", "f", text(alloc, "v")?)?;
+    Ok(*id == sample)
+}
+
+#[test]
+fn entries_are_equal_by_their_parts(rt: HostRuntime) -> Result<(), Fail> {
+    let alloc = rt.alloc();
+    let mut id = entry(alloc, "1-0", "f", text(alloc, "v")?)?;
+    assert!(rt; is_sample(alloc, &id)? && is_sample(alloc, &id.try_clone(alloc)?)?);
+    id.delivered_count = Some(1);
+    assert!(rt; !is_sample(alloc, &id)?);
+    assert!(rt; !is_sample(alloc, &entry(alloc, "1-1", "f", text(alloc, "v")?)?)?);
+    assert!(rt; !is_sample(alloc, &entry(alloc, "1-0", "g", text(alloc, "v")?)?)?);
+    assert!(rt; !is_sample(alloc, &entry(alloc, "1-0", "f", text(alloc, "w")?)?)?);
+    Ok(())
+}
+
+#[test]
+fn ranges_are_read(rt: HostRuntime) -> Result<(), Fail> {
+    let alloc = rt.alloc();
+    for count in [1, 1000, 10000] {
+        let (lent, owned) = both::<StreamRangeReply>(alloc, rows(alloc, count)?)?;
+        assert!(rt; lent.ids.len() == count && are_samples(alloc, &lent.ids)?);
+        let copy = owned.try_clone(alloc)?;
+        assert!(rt; copy.ids.len() == count && are_samples(alloc, &copy.ids)?);
+    }
+    assert!(rt; StreamRangeReply::empty(alloc)?.ids.is_empty());
+    Ok(())
+}
+
+#[test]
+fn claims_are_read(rt: HostRuntime) -> Result<(), Fail> {
+    let alloc = rt.alloc();
+    for count in [1, 1000, 10000] {
+        let (lent, owned) = both::<StreamClaimReply>(alloc, rows(alloc, count)?)?;
+        assert!(rt; lent.ids.len() == count && are_samples(alloc, &lent.ids)?);
+        let copy = owned.try_clone(alloc)?;
+        assert!(rt; copy.ids.len() == count && are_samples(alloc, &copy.ids)?);
+    }
+    assert!(rt; StreamClaimReply::empty(alloc)?.ids.is_empty());
+    Ok(())
+}
+
+// Whether the reply has one stream `s` with that many sample entries.
+fn has_samples(alloc: Global, reply: &StreamReadReply, count: usize) -> Result<bool, AllocError> {
+    for key in &reply.keys {
+        if key.key.as_str() != "s" || key.ids.len() != count || !are_samples(alloc, &key.ids)? {
+            return Ok(false);
+        }
+    }
+    Ok(reply.keys.len() == 1)
+}
+
+#[test]
+fn reads_are_read(rt: HostRuntime) -> Result<(), Fail> {
+    let alloc = rt.alloc();
+    for count in [0, 1000, 10000] {
+        let stream = two(alloc, text(alloc, "s")?, rows(alloc, count)?)?;
+        let reply = Value::Array(vec![in alloc; stream]?);
+        let (lent, owned) = both::<StreamReadReply>(alloc, reply)?;
+        assert!(rt; has_samples(alloc, &lent, count)?);
+        assert!(rt; has_samples(alloc, &owned.try_clone(alloc)?, count)?);
+    }
+    assert!(rt; StreamReadReply::empty(alloc)?.keys.is_empty());
+    let key = StreamKey::empty(alloc)?.try_clone(alloc)?;
+    assert!(rt; key.key.is_empty() && key.ids.is_empty());
+    Ok(())
+}
+
+#[test]
+fn reads_of_no_form_are_refused(rt: HostRuntime) -> Result<(), Fail> {
+    let alloc = rt.alloc();
+    let items = Value::Array(vec![in alloc; Value::Int(1)]?);
+    let stream = two(alloc, text(alloc, "s")?, items)?;
+    let reply = Value::Array(vec![in alloc; stream]?);
+    let read = from_redis_value::<StreamReadReply>(alloc, reply);
+    assert!(rt; read.is_err_and(|error| error == ParsingError::UnknownReadFormat));
+    Ok(())
+}
+
+#[test]
+fn automatic_claims_are_read(rt: HostRuntime) -> Result<(), Fail> {
+    let alloc = rt.alloc();
+    for count in [1, 1000, 10000] {
+        let reply = two(alloc, text(alloc, "0-0")?, rows(alloc, count)?)?;
+        let (lent, owned) = both::<StreamAutoClaimReply>(alloc, reply)?;
+        assert!(rt; lent.next_stream_id.as_str() == "0-0" && lent.claimed.len() == count);
+        let copy = owned.try_clone(alloc)?;
+        assert!(rt; are_samples(alloc, &copy.claimed)? && !copy.invalid_entries);
+        assert!(rt; copy.deleted_ids.is_empty());
+    }
+    assert!(rt; StreamAutoClaimReply::empty(alloc)?.claimed.is_empty());
+    invalid_entries_tell_nil();
+    Ok(())
+}
+
+#[test]
+fn no_entries_are_marked_invalid(rt: HostRuntime) -> Result<(), Fail> {
+    let alloc = rt.alloc();
+    let nil = Value::Array(vec![in alloc; Value::Nil]?);
+    let reply = two(alloc, text(alloc, "0-0")?, nil)?;
+    let (lent, owned) = both::<StreamAutoClaimReply>(alloc, reply)?;
+    assert!(rt; lent.claimed.is_empty() && lent.invalid_entries && owned.invalid_entries);
+    Ok(())
+}
