@@ -1,10 +1,10 @@
 -- A writer of a fixed size that has room for a list does not stop within it.
-use Rattle.std.proofs.Common.{◌≡◌, ℕ, ◌+◌, ◌<◌, ◌≤◌, ◌⊎◌, inl, inr, List, ◌∷◌, ◌++◌, length, length-append, ap, refl, arith, Result, Ok, Err}
-use Rattle.std.specs.Prelude.{sum_by, IsOk}
+use Rattle.std.proofs.Common.{ℕ, inl, inr, List, ◌∷◌, ◌++◌, length, length-append, refl, arith, Result, Ok, Err}
+use Rattle.std.specs.Prelude.{IsOk}
 use Rattle.std.proofs.lemmas.List.Sums.{sum_by-append, sum_by-cons}
 use Rattle.redis_resp.specs.declared.args.writer.WriteError.{WriteError}
 use Rattle.redis_resp.specs.Room.{LacksRoom, MayRefuse, HasRoom}
-use Rattle.redis_resp.specs.Writer.{StopsWithin, Wrote}
+use Rattle.redis_resp.specs.Writer.{Wrote}
 
 -- a beginning of the list leaves room for the next argument of it
 lacks_none : (count size : ℕ) (old written rest : List (List ℕ)) (next : List ℕ) → HasRoom count size old (written ++ next ∷ rest) → LacksRoom count size (old ++ written) next → ⊥

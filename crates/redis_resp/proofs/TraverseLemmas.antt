@@ -1,5 +1,5 @@
 -- Lists that are read member by member: one reading after another, and where all are read.
-use Rattle.std.proofs.Common.{◌≡◌, ◌&&◌, List, [], ◌∷◌, Bool, Option, Some, None, option_map, option_and_then, refl, sym, ◌∙◌, map, flat_map}
+use Rattle.std.proofs.Common.{◌≡◌, ◌&&◌, List, [], ◌∷◌, Bool, Option, Some, None, option_map, option_and_then, refl, sym, ◌∙◌, flat_map}
 use Rattle.std.specs.Option.{is_some}
 use Rattle.std.specs.List.{list_all}
 use Rattle.std.proofs.lemmas.List.Folds.{list_all-append}

@@ -12,6 +12,8 @@ mod flag;
 mod itself;
 mod list;
 mod members;
+#[cfg(test)]
+mod memory_tests;
 mod number;
 mod option;
 mod pair;

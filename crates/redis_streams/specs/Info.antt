@@ -131,10 +131,11 @@ consumer_of_fields fields =
     (number_field 64 fields (codes "pending")))
     (text_field fields (codes "name"))
 
--- what a value says as a row of the reply of XINFO CONSUMERS, and as the reply: a list of rows
+-- what a value says as a row of the reply of XINFO CONSUMERS
 abbrev pub consumer_reading : Tree → Option Consumer
 consumer_reading t = option_and_then consumer_of_fields (fields_in t)
 
+-- what a value says as the reply of XINFO CONSUMERS: a list of rows
 abbrev pub consumers_reading : Tree → Option (List Consumer)
 consumers_reading = list_reading consumer_reading
 
@@ -167,9 +168,10 @@ group_of fields =
     (number_field 64 fields (codes "consumers")))
     (text_field fields (codes "name"))
 
--- what a value says as a row of the reply of XINFO GROUPS, and as the reply: a list of rows
+-- what a value says as a row of the reply of XINFO GROUPS
 abbrev pub group_reading : Tree → Option Group
 group_reading t = option_and_then group_of (fields_in t)
 
+-- what a value says as the reply of XINFO GROUPS: a list of rows
 abbrev pub groups_reading : Tree → Option (List Group)
 groups_reading = list_reading group_reading

@@ -1,6 +1,16 @@
 //! For tests: values, and what both calls of a reading answer.
 use redis_resp::{FromRedisValue, ParsingError, Value, from_redis_value, from_redis_value_ref};
 use std::alloc::{AllocError, Global};
+use std::test::Fail;
+
+#[test]
+fn a_wrong_refusal_is_told(rt: HostRuntime) -> Result<(), Fail> {
+    let alloc = rt.alloc();
+    assert!(rt; both_refuse::<usize>(alloc, Value::Nil, ParsingError::NotNumber)?);
+    assert!(rt; !both_refuse::<usize>(alloc, Value::Nil, ParsingError::NotText)?);
+    assert!(rt; !both_refuse::<usize>(alloc, Value::Int(1), ParsingError::NotNumber)?);
+    Ok(())
+}
 
 /// What both calls read, the lent one first; None where they do not answer the same way, or the
 /// value that was lent did not stay as it was.
