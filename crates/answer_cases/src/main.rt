@@ -9,6 +9,8 @@
 //! behind a tab in a line is left out. Each value is read by both readings, owned and lent; where
 //! they differ both answers are printed. Control characters of an answer are printed as `\n`, `\t`
 //! or `\xNN`. Another implementation of the readings can so be compared line by line.
+//!
+//! It ends with 0, or with 2 where memory was wanting or standard input or output failed.
 #![tactic(auto)]
 
 ghost use Rattle.std.specs.Prelude.{◌≡◌, ◌==◌, IfOk, string_bytes};
@@ -27,11 +29,23 @@ use redis_streams::{
 use std::alloc::{AllocError, Global};
 use std::io;
 use std::io::{BufRead, BufReader, BufWriter, Write};
+use std::process::ExitCode;
 use stream_text::{NotationError, PrintedForm, read_value};
 
-fn main(rt: HostRuntime) -> anyhow::Result<()> {
+// Memory was wanting, or standard input or output failed.
+const FAILED: u8 = 2;
+
+fn main(rt: HostRuntime) -> ExitCode {
+    match answer_lines(&rt) {
+        Ok(()) => ExitCode::SUCCESS,
+        Err(_error) => ExitCode::from(FAILED),
+    }
+}
+
+// Answers each line of standard input on standard output.
+fn answer_lines<R: Input + Print + AllocGlobal>(rt: &R) -> io::Result<()> {
     let alloc = rt.alloc();
-    let mut output = BufWriter::new(alloc, io::writer(&rt))?;
+    let mut output = BufWriter::new(alloc, io::writer(rt))?;
     for line in BufReader::new(alloc, rt.reader())?.lines(alloc) {
         let line = line?;
         let case = case_in(&line);

@@ -21,51 +21,49 @@ fn right<T: FromRedisValue + PartialEq>(
     lent && agrees(&from_redis_value(alloc, value), want)
 }
 
-fn readings_are_right(alloc: Global) -> Result<bool, AllocError> {
-    let texts = [("a", "b"), ("c", "d"), ("a", "e")];
+fn lists_are_right(alloc: Global) -> Result<bool, AllocError> {
+    let texts = [("a", "b"), ("c", "d")];
     let mut maps = Vec::new(alloc);
     for pair in texts {
         maps.push(Value::Map(pairs(alloc, &[pair])?))?;
     }
+    let tuple = (String::from_str(alloc, "x")?, Some(7u16));
+    let members = Value::Array(bulks(alloc, &["x", "7"])?);
+    Ok(
+        right::<Vec<Value>>(alloc, Value::Map(pairs(alloc, &texts)?), &Ok(maps))
+            && right::<(String, Option<u16>)>(alloc, members, &Ok(tuple)),
+    )
+}
+
+fn tables_are_right(alloc: Global) -> Result<bool, AllocError> {
     let mut table = IndexMap::new(alloc);
     let mut fields = HashMap::new(alloc);
     for (key, value) in [("a", "e"), ("c", "d")] {
-        table.insert(
-            String::from_str(alloc, key)?,
-            String::from_str(alloc, value)?,
-        )?;
+        let text = String::from_str(alloc, value)?;
+        table.insert(String::from_str(alloc, key)?, text)?;
         let value = Value::BulkString(Vec::from_slice(alloc, value.as_bytes())?);
         fields.insert(String::from_str(alloc, key)?, value)?;
     }
-    let tuple = (String::from_str(alloc, "x")?, Some(7u16));
+    let twice = [("a", "b"), ("c", "d"), ("a", "e")];
+    let map = Value::Map(pairs(alloc, &twice)?);
+    let again = Value::Map(pairs(alloc, &twice)?);
     Ok(
-        right::<Vec<Value>>(alloc, Value::Map(pairs(alloc, &texts)?), &Ok(maps))
-            && right::<IndexMap<String, String>>(
-                alloc,
-                Value::Map(pairs(alloc, &texts)?),
-                &Ok(table),
-            )
-            && right::<HashMap<String, Value>>(
-                alloc,
-                Value::Map(pairs(alloc, &texts)?),
-                &Ok(fields),
-            )
-            && right::<(String, Option<u16>)>(
-                alloc,
-                Value::Array(bulks(alloc, &["x", "7"])?),
-                &Ok(tuple),
-            )
-            && right::<IndexMap<String, u16>>(
-                alloc,
-                Value::Array(bulks(alloc, &["a", "x", "a", "3"])?),
-                &Err(ParsingError::NotNumber),
-            )
-            && right::<HashMap<String, Value>>(
-                alloc,
-                Value::Array(bulks(alloc, &["a"])?),
-                &Err(ParsingError::NotPairs),
-            ),
+        right::<IndexMap<String, String>>(alloc, map, &Ok(table))
+            && right::<HashMap<String, Value>>(alloc, again, &Ok(fields)),
     )
+}
+
+fn refusals_are_right(alloc: Global) -> Result<bool, AllocError> {
+    let unreadable = Value::Array(bulks(alloc, &["a", "x", "a", "3"])?);
+    let odd = Value::Array(bulks(alloc, &["a"])?);
+    Ok(
+        right::<IndexMap<String, u16>>(alloc, unreadable, &Err(ParsingError::NotNumber))
+            && right::<HashMap<String, Value>>(alloc, odd, &Err(ParsingError::NotPairs)),
+    )
+}
+
+fn readings_are_right(alloc: Global) -> Result<bool, AllocError> {
+    Ok(lists_are_right(alloc)? && tables_are_right(alloc)? && refusals_are_right(alloc)?)
 }
 
 #[test]

@@ -12,7 +12,7 @@ use std::alloc::Global;
 
 /// The pairs of a value in order, each key as text and each value by its own reading. A key that
 /// comes again stands again, which tells it from a table.
-#[derive(Drop)]
+#[derive(Debug, Drop)]
 pub struct PairList<V>(pub Vec<(String, V)>);
 
 /// Reads a key as text and its value by its own reading.

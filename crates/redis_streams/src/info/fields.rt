@@ -44,7 +44,13 @@ fn lent_pairs<'a>(alloc: Global, v: &'a Value) -> Result<Vec<LentPair<'a>>, Pars
 {
     match v.as_plain() {
         Value::Nil => Ok(Vec::new(alloc)),
-        Value::Array(values) => lent_members(alloc, values),
+        Value::Array(values) => {
+            if values.len() % 2 == 0 {
+                lent_members(alloc, values)
+            } else {
+                Err(ParsingError::NotPairs)
+            }
+        }
         Value::Map(entries) => lent_entries(alloc, entries),
         _ => Err(ParsingError::NotPairs),
     }

@@ -1,5 +1,5 @@
 //! The reply of XPENDING with a range: one row for each pending entry.
-ghost use Rattle.std.specs.Prelude.{◌≡◌, ◌≢◌, [], List, Some, None, Err, IfOk, IfErr};
+ghost use Rattle.std.specs.Prelude.{◌≡◌, ◌≢◌, [], List, Some, None, Err, IfOk, IfErr, OnErr};
 ghost use Rattle.std.specs.Prelude.{ok_or, string_bytes, map};
 ghost use Rattle.redis_resp.specs.Tree.{array_of_plain};
 ghost use Rattle.redis_resp.specs.Value.{tree};
@@ -103,6 +103,18 @@ fn read_text_ref(alloc: Global, v: &Value) -> Result<String, ParsingError>
     }
 }
 
+/// Refuses what is no literal bulk string with `NotPendingRow(3)`: the kinds of a row are decided
+/// before its texts are read.
+fn expect_bulk(v: &Value) -> Result<(), ParsingError>
+    ensures refused { OnErr result (literal_text (tree v.now) ≡ None) }
+    ensures cause { IfErr result (λ e. e ≡ ParsingError.NotPendingRow 3) }
+{
+    match v {
+        Value::BulkString(_) => Ok(()),
+        _ => Err(ParsingError::NotPendingRow(3)),
+    }
+}
+
 /// A literal whole number as one of 64 bits without a sign: a negative one stands as itself plus
 /// 2 ^ 64. Takes no memory, and refuses any other kind with `NotPendingRow(3)`.
 fn read_number(v: &Value) -> Result<usize, ParsingError>
@@ -128,11 +140,14 @@ fn read_row(alloc: Global, row: Value) -> Result<StreamPendingId, ParsingError>
     let Some((id, consumer, elapsed, delivered)) = into_four(row) else {
         return Err(ParsingError::NotPendingRow(3));
     };
+    let last_delivered_ms = read_number(&elapsed)?;
+    let times_delivered = read_number(&delivered)?;
+    expect_bulk(&consumer)?;
     Ok(StreamPendingId {
         id: read_text(alloc, id)?,
         consumer: read_text(alloc, consumer)?,
-        last_delivered_ms: read_number(&elapsed)?,
-        times_delivered: read_number(&delivered)?,
+        last_delivered_ms,
+        times_delivered,
     })
 }
 
@@ -149,11 +164,14 @@ fn read_row_ref(alloc: Global, row: &Value) -> Result<StreamPendingId, ParsingEr
     let Some((id, consumer, elapsed, delivered)) = four_ref(row) else {
         return Err(ParsingError::NotPendingRow(3));
     };
+    let last_delivered_ms = read_number(elapsed)?;
+    let times_delivered = read_number(delivered)?;
+    expect_bulk(consumer)?;
     Ok(StreamPendingId {
         id: read_text_ref(alloc, id)?,
         consumer: read_text_ref(alloc, consumer)?,
-        last_delivered_ms: read_number(elapsed)?,
-        times_delivered: read_number(delivered)?,
+        last_delivered_ms,
+        times_delivered,
     })
 }
 
