@@ -70,7 +70,8 @@ impl FromRedisValue for StreamAutoClaimReply {
             → auto_claim_reading (tree v) ≡ None) }
         ensures kind { array_of_plain (tree v) ≡ None → result ≡ Err ParsingError.NotArray }
         ensures count { (items : List Tree) → array_of_plain (tree v) ≡ Some items
-            → two_or_three items ≡ None → result ≡ Err (ParsingError.WrongItemCount (length items)) }
+            → two_or_three items ≡ None
+            → result ≡ Err (ParsingError.WrongItemCount (length items)) }
         ensures claimed { (parts : Parts) → parts_in (tree v) ≡ Some parts
             → claimed_shape parts.1 ≡ None → result ≡ Err ParsingError.WrongClaimedType }
     {
@@ -94,7 +95,8 @@ impl FromRedisValue for StreamAutoClaimReply {
             → auto_claim_reading (tree v.now) ≡ None) }
         ensures kind { array_of_plain (tree v.now) ≡ None → result ≡ Err ParsingError.NotArray }
         ensures count { (items : List Tree) → array_of_plain (tree v.now) ≡ Some items
-            → two_or_three items ≡ None → result ≡ Err (ParsingError.WrongItemCount (length items)) }
+            → two_or_three items ≡ None
+            → result ≡ Err (ParsingError.WrongItemCount (length items)) }
         ensures claimed { (parts : Parts) → parts_in (tree v.now) ≡ Some parts
             → claimed_shape parts.1 ≡ None → result ≡ Err ParsingError.WrongClaimedType }
     {

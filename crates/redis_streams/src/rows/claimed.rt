@@ -45,7 +45,8 @@ pub(crate) fn read_claimed_ref(
     v: &Value,
 ) -> Result<(Vec<StreamId>, bool), ParsingError>
     ensures ok { IfOk result (λ r. claimed_reading (tree v.now) ≡ Some (entries_of r.0, r.1)) }
-    ensures err { IfErr result (λ e. e ≢ ParsingError.Memory → claimed_reading (tree v.now) ≡ None) }
+    ensures err { IfErr result (λ e. e ≢ ParsingError.Memory
+        → claimed_reading (tree v.now) ≡ None) }
     ensures shape { claimed_shape (tree v.now) ≡ None → result ≡ Err ParsingError.WrongClaimedType }
 {
     let Some((kind, count)) = shape_of(v) else {

@@ -52,7 +52,8 @@ impl FromRedisValue for StreamReadReply {
     fn from_redis_value(alloc: Global, v: Value) -> Result<StreamReadReply, ParsingError>
         ensures ok { IfOk result (λ r. read_reading (tree v) ≡ Some (streams_of r.keys)) }
         ensures err { IfErr result (λ e. e ≢ ParsingError.Memory → read_reading (tree v) ≡ None) }
-        ensures kind { IfErr result (λ e. e ≢ ParsingError.Memory → e ≡ ParsingError.UnknownReadFormat) }
+        ensures kind { IfErr result (λ e. e ≢ ParsingError.Memory
+            → e ≡ ParsingError.UnknownReadFormat) }
     {
         if let Some(keys) = standard_streams(alloc, &v)? {
             return Ok(StreamReadReply { keys });
@@ -65,8 +66,10 @@ impl FromRedisValue for StreamReadReply {
 
     fn from_redis_value_ref(alloc: Global, v: &Value) -> Result<StreamReadReply, ParsingError>
         ensures ok { IfOk result (λ r. read_reading (tree v.now) ≡ Some (streams_of r.keys)) }
-        ensures err { IfErr result (λ e. e ≢ ParsingError.Memory → read_reading (tree v.now) ≡ None) }
-        ensures kind { IfErr result (λ e. e ≢ ParsingError.Memory → e ≡ ParsingError.UnknownReadFormat) }
+        ensures err { IfErr result (λ e. e ≢ ParsingError.Memory
+            → read_reading (tree v.now) ≡ None) }
+        ensures kind { IfErr result (λ e. e ≢ ParsingError.Memory
+            → e ≡ ParsingError.UnknownReadFormat) }
     {
         if let Some(keys) = standard_streams(alloc, v)? {
             return Ok(StreamReadReply { keys });

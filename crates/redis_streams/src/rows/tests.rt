@@ -141,7 +141,7 @@ fn no_entries_are_marked_invalid(rt: HostRuntime) -> Result<(), Fail> {
 }
 
 // The records of both calls, the lent one first; it fails where the value that was lent changed.
-pub fn both<T: FromRedisValue>(alloc: Global, value: Value) -> Result<(T, T), Fail> {
+fn both<T: FromRedisValue>(alloc: Global, value: Value) -> Result<(T, T), Fail> {
     let before = value.try_clone(alloc)?;
     let lent = from_redis_value_ref::<T>(alloc, &value).map_err(|_| "lent")?;
     if value != before {
@@ -152,23 +152,23 @@ pub fn both<T: FromRedisValue>(alloc: Global, value: Value) -> Result<(T, T), Fa
 }
 
 // A bulk string.
-pub fn text(alloc: Global, text: &str) -> Result<Value, AllocError> {
+fn text(alloc: Global, text: &str) -> Result<Value, AllocError> {
     Ok(Value::BulkString(Vec::from_slice(alloc, text.as_bytes())?))
 }
 
 // An array of two.
-pub fn two(alloc: Global, first: Value, second: Value) -> Result<Value, AllocError> {
+fn two(alloc: Global, first: Value, second: Value) -> Result<Value, AllocError> {
     Ok(Value::Array(vec![in alloc; first, second]?))
 }
 
 // A row of one entry with one field.
-pub fn row(alloc: Global, id: &str, name: &str, value: Value) -> Result<Value, AllocError> {
+fn row(alloc: Global, id: &str, name: &str, value: Value) -> Result<Value, AllocError> {
     let fields = two(alloc, text(alloc, name)?, value)?;
     two(alloc, text(alloc, id)?, fields)
 }
 
 // An array of rows of the entry `1-0` with the field `f` of the value `v`.
-pub fn rows(alloc: Global, count: usize) -> Result<Value, AllocError> {
+fn rows(alloc: Global, count: usize) -> Result<Value, AllocError> {
     let mut rows = Vec::new(alloc);
     for _ in 0..count {
         rows.push(row(alloc, "1-0", "f", text(alloc, "v")?)?)?;
@@ -177,7 +177,7 @@ pub fn rows(alloc: Global, count: usize) -> Result<Value, AllocError> {
 }
 
 // The entry with one field.
-pub fn entry(alloc: Global, id: &str, name: &str, value: Value) -> Result<StreamId, AllocError> {
+fn entry(alloc: Global, id: &str, name: &str, value: Value) -> Result<StreamId, AllocError> {
     let mut map = HashMap::new(alloc);
     map.insert(String::from_str(alloc, name)?, value)?;
     Ok(StreamId {
@@ -189,7 +189,7 @@ pub fn entry(alloc: Global, id: &str, name: &str, value: Value) -> Result<Stream
 }
 
 // Whether each entry is `1-0` with the field `f` of the value `v`.
-pub fn are_samples(alloc: Global, ids: &[StreamId]) -> Result<bool, AllocError> {
+fn are_samples(alloc: Global, ids: &[StreamId]) -> Result<bool, AllocError> {
     let sample = entry(alloc, "1-0", "f", text(alloc, "v")?)?;
     Ok(ids.iter().all(|id| *id == sample))
 }
