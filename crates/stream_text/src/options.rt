@@ -16,8 +16,8 @@ use crate::form::{PrintedForm, print_listed};
 use redis_resp::ToRedisArgs;
 use std::alloc::{AllocError, Global};
 use stream_options::{
-    StreamAddOptions, StreamAutoClaimOptions, StreamClaimOptions, StreamConfigOptions, StreamMaxlen,
-    StreamNackOptions, StreamReadOptions, StreamTrimOptions,
+    StreamAddOptions, StreamAutoClaimOptions, StreamClaimOptions, StreamConfigOptions,
+    StreamMaxlen, StreamNackOptions, StreamReadOptions, StreamTrimOptions,
 };
 
 /// An argument as it is, or `?` where it is no text.
