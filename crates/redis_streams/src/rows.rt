@@ -9,8 +9,6 @@ mod flag;
 mod listed;
 mod range;
 mod read;
-#[cfg(test)]
-mod samples;
 mod stream_id;
 mod stream_key;
 #[cfg(test)]
