@@ -2,9 +2,9 @@
 use Rattle.std.specs.Prelude.{ℕ, List, ◌++◌, codes, string_bytes, if◌then◌else◌}
 use Rattle.std.specs.List.{join_by}
 use Rattle.redis_streams.specs.declared.rows.auto_claim.StreamAutoClaimReply.{StreamAutoClaimReply}
-use Rattle.redis_streams.specs.declared.rows.range.StreamClaimReply.{StreamClaimReply}
+use Rattle.redis_streams.specs.declared.rows.claim.StreamClaimReply.{StreamClaimReply}
 use Rattle.redis_streams.specs.declared.rows.range.StreamRangeReply.{StreamRangeReply}
-use Rattle.redis_streams.specs.declared.rows.read.StreamKey.{StreamKey}
+use Rattle.redis_streams.specs.declared.rows.stream_key.StreamKey.{StreamKey}
 use Rattle.redis_streams.specs.declared.rows.read.StreamReadReply.{StreamReadReply}
 use Rattle.stream_text.specs.Entry.{entry_form}
 use Rattle.stream_text.specs.Form.{listed}
