@@ -16,11 +16,12 @@
 ghost use Rattle.std.specs.Prelude.{◌≡◌, ◌==◌, IfOk, string_bytes};
 ghost use Rattle.std.specs.List.{before_first};
 ghost use Rattle.redis_resp.specs.Value.{tree};
+ghost use Rattle.stream_text.specs.Refusal.{answer_form};
 ghost use Rattle.answer_cases.specs.Answer.{IsAnswer, compared};
 
 mod plain_line;
 
-use redis_resp::{FromRedisValue, Value, from_redis_value, from_redis_value_ref};
+use redis_resp::{FromRedisValue, ParsingError, Value, from_redis_value, from_redis_value_ref};
 use redis_streams::{
     StreamAutoClaimReply, StreamClaimReply, StreamInfoConsumersReply, StreamInfoGroupsReply,
     StreamInfoStreamReply, StreamInfoStreamReplyWithIdempotency, StreamPendingCountReply,
@@ -107,9 +108,22 @@ fn by_both<T: FromRedisValue + PrintedForm>(
     ensures { IfOk result (λ line.
         IsAnswer T.meaning T.reading T.form (tree value) (string_bytes line)) }
 {
-    let lent = from_redis_value_ref::<T>(alloc, &value).printed(alloc)?;
-    let owned = from_redis_value::<T>(alloc, value).printed(alloc)?;
+    let lent = answer_text(alloc, from_redis_value_ref::<T>(alloc, &value))?;
+    let owned = answer_text(alloc, from_redis_value::<T>(alloc, value))?;
     shown(alloc, owned, &lent)
+}
+
+/// The printed form of a record or a refusal. Want of memory is no answer, and is passed on.
+fn answer_text<T: PrintedForm + Drop>(
+    alloc: Global,
+    answer: Result<T, ParsingError>,
+) -> Result<String, AllocError>
+    ensures { IfOk result (λ text. string_bytes text ≡ answer_form T.form answer) }
+{
+    match answer {
+        Err(ParsingError::Memory) => Err(AllocError),
+        answer => answer.printed(alloc),
+    }
 }
 
 /// One form where both are the same, else both, with which is which.
