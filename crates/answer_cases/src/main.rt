@@ -13,15 +13,12 @@
 //! It ends with 0, or with 2 where memory was wanting or standard input or output failed.
 #![tactic(auto)]
 
-ghost use Rattle.std.specs.Prelude.{◌≡◌, ◌==◌, IfOk, string_bytes};
+ghost use Rattle.std.specs.Prelude.{◌≡◌, ◌==◌};
 ghost use Rattle.std.specs.List.{before_first};
-ghost use Rattle.redis_resp.specs.Value.{tree};
-ghost use Rattle.stream_text.specs.Refusal.{answer_form};
-ghost use Rattle.answer_cases.specs.Answer.{IsAnswer, compared};
 
 mod plain_line;
 
-use redis_resp::{FromRedisValue, ParsingError, Value, from_redis_value, from_redis_value_ref};
+use redis_resp::Value;
 use redis_streams::{
     StreamAutoClaimReply, StreamClaimReply, StreamInfoConsumersReply, StreamInfoGroupsReply,
     StreamInfoStreamReply, StreamInfoStreamReplyWithIdempotency, StreamPendingCountReply,
@@ -31,7 +28,7 @@ use std::alloc::{AllocError, Global};
 use std::io;
 use std::io::{BufRead, BufReader, BufWriter, Write};
 use std::process::ExitCode;
-use stream_text::{NotationError, PrintedForm, read_value};
+use stream_text::{NotationError, both_answers, read_value};
 
 // Memory was wanting, or standard input or output failed.
 const FAILED: u8 = 2;
@@ -84,55 +81,18 @@ fn answer(alloc: Global, case: &str) -> Result<String, AllocError> {
 
 fn answer_of(alloc: Global, kind: &str, value: Value) -> Result<String, AllocError> {
     match kind {
-        "range" => by_both::<StreamRangeReply>(alloc, value),
-        "claim" => by_both::<StreamClaimReply>(alloc, value),
-        "read" => by_both::<StreamReadReply>(alloc, value),
-        "autoclaim" => by_both::<StreamAutoClaimReply>(alloc, value),
-        "pending" => by_both::<StreamPendingReply>(alloc, value),
-        "pendingcount" => by_both::<StreamPendingCountReply>(alloc, value),
-        "stream" => by_both::<StreamInfoStreamReply>(alloc, value),
-        "streamidmp" => by_both::<StreamInfoStreamReplyWithIdempotency>(alloc, value),
-        "consumers" => by_both::<StreamInfoConsumersReply>(alloc, value),
-        "groups" => by_both::<StreamInfoGroupsReply>(alloc, value),
-        "xdelex" => by_both::<XDelExStatusCode>(alloc, value),
-        "xackdel" => by_both::<XAckDelStatusCode>(alloc, value),
+        "range" => both_answers::<StreamRangeReply>(alloc, value),
+        "claim" => both_answers::<StreamClaimReply>(alloc, value),
+        "read" => both_answers::<StreamReadReply>(alloc, value),
+        "autoclaim" => both_answers::<StreamAutoClaimReply>(alloc, value),
+        "pending" => both_answers::<StreamPendingReply>(alloc, value),
+        "pendingcount" => both_answers::<StreamPendingCountReply>(alloc, value),
+        "stream" => both_answers::<StreamInfoStreamReply>(alloc, value),
+        "streamidmp" => both_answers::<StreamInfoStreamReplyWithIdempotency>(alloc, value),
+        "consumers" => both_answers::<StreamInfoConsumersReply>(alloc, value),
+        "groups" => both_answers::<StreamInfoGroupsReply>(alloc, value),
+        "xdelex" => both_answers::<XDelExStatusCode>(alloc, value),
+        "xackdel" => both_answers::<XAckDelStatusCode>(alloc, value),
         _ => String::from_str(alloc, "no such kind"),
-    }
-}
-
-/// The printed form of what both readings answer, or both forms where they differ.
-fn by_both<T: FromRedisValue + PrintedForm>(
-    alloc: Global,
-    value: Value,
-) -> Result<String, AllocError>
-    ensures { IfOk result (λ line.
-        IsAnswer T.meaning T.reading T.form (tree value) (string_bytes line)) }
-{
-    let lent = answer_text(alloc, from_redis_value_ref::<T>(alloc, &value))?;
-    let owned = answer_text(alloc, from_redis_value::<T>(alloc, value))?;
-    shown(alloc, owned, &lent)
-}
-
-/// The printed form of a record or a refusal. Want of memory is no answer, and is passed on.
-fn answer_text<T: PrintedForm + Drop>(
-    alloc: Global,
-    answer: Result<T, ParsingError>,
-) -> Result<String, AllocError>
-    ensures { IfOk result (λ text. string_bytes text ≡ answer_form T.form answer) }
-{
-    match answer {
-        Err(ParsingError::Memory) => Err(AllocError),
-        answer => answer.printed(alloc),
-    }
-}
-
-/// One form where both are the same, else both, with which is which.
-fn shown(alloc: Global, owned: String, lent: &str) -> Result<String, AllocError>
-    ensures { IfOk result (λ line. string_bytes line ≡ compared (string_bytes owned) lent.now) }
-{
-    if owned.as_str() == lent {
-        Ok(owned)
-    } else {
-        format!(in alloc; "{owned} owned, {lent} lent")
     }
 }

@@ -1,3 +1,4 @@
+mod AnswerLemmas
 mod EntryLemmas
 mod FormLemmas
 pub mod OptionsLemmas

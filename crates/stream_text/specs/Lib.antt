@@ -1,3 +1,4 @@
+pub mod Answer
 pub mod Entry
 pub mod Form
 pub mod Info

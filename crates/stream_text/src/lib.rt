@@ -1,6 +1,6 @@
 //! Redis values, stream options and replies as lines of text: a notation that values are read from
-//! (`notation`), and the printed forms of options and replies (`form`, `options`, `replies`), for
-//! tests and for programs that compare answers.
+//! (`notation`), the printed forms of options and replies (`form`, `options`, `replies`), and the
+//! printed answer of both readings (`answer`), for tests and for programs that compare answers.
 //!
 //! ```text
 //! let reply = read_value(alloc, "Array[Array[1-0, Array[f, v]]]")?;
@@ -9,10 +9,12 @@
 //! ```
 #![tactic(auto)]
 
+pub mod answer;
 pub mod form;
 pub mod notation;
 pub mod options;
 pub mod replies;
 
+pub use answer::both_answers;
 pub use form::PrintedForm;
 pub use notation::{NotationError, read_value};

@@ -1,5 +1,5 @@
 //! The reply of XINFO CONSUMERS.
-ghost use Rattle.std.specs.Prelude.{◌≡◌, ◌≢◌, [], List, Some, None, IfOk, IfErr, map};
+ghost use Rattle.std.specs.Prelude.{◌≡◌, ◌≢◌, [], List, Some, None, IsOk, IfOk, IfErr, map};
 ghost use Rattle.redis_streams.specs.Pending.{Consumer};
 ghost use Rattle.redis_streams.specs.PendingRecords.{consumer_meaning};
 ghost use Rattle.redis_streams.specs.Info.{consumer_of_fields, consumer_reading};
@@ -21,9 +21,10 @@ pub struct StreamInfoConsumersReply {
 }
 
 impl StreamInfoConsumersReply {
-    /// The reply without consumers. It fails only by want of memory.
+    /// The reply without consumers. It takes no memory and is always Ok.
     pub fn empty(alloc: Global) -> Result<StreamInfoConsumersReply, AllocError>
-        ensures { IfOk result (λ r. consumers_meaning r ≡ []) }
+        ensures ok { IsOk result }
+        ensures consumers { IfOk result (λ r. consumers_meaning r ≡ []) }
     {
         Ok(StreamInfoConsumersReply {
             consumers: Vec::new(alloc),

@@ -1,5 +1,5 @@
 //! The reply of XINFO GROUPS.
-ghost use Rattle.std.specs.Prelude.{◌≡◌, ◌≢◌, [], List, Some, None, IfOk, IfErr, map};
+ghost use Rattle.std.specs.Prelude.{◌≡◌, ◌≢◌, [], List, Some, None, IsOk, IfOk, IfErr, map};
 ghost use Rattle.redis_streams.specs.Info.{Group, empty_group, group_of, group_reading};
 ghost use Rattle.redis_streams.specs.Info.{groups_reading};
 ghost use Rattle.redis_streams.specs.InfoRecords.{named, group_meaning, groups_meaning};
@@ -36,9 +36,10 @@ pub struct StreamInfoGroup {
 }
 
 impl StreamInfoGroupsReply {
-    /// The reply without groups. It fails only by want of memory.
+    /// The reply without groups. It takes no memory and is always Ok.
     pub fn empty(alloc: Global) -> Result<StreamInfoGroupsReply, AllocError>
-        ensures { IfOk result (λ r. groups_meaning r ≡ []) }
+        ensures ok { IsOk result }
+        ensures groups { IfOk result (λ r. groups_meaning r ≡ []) }
     {
         Ok(StreamInfoGroupsReply {
             groups: Vec::new(alloc),
@@ -58,9 +59,10 @@ impl StreamInfoGroupsReply {
 }
 
 impl StreamInfoGroup {
-    /// The group of which nothing is said. It fails only by want of memory.
+    /// The group of which nothing is said. It takes no memory and is always Ok.
     pub fn empty(alloc: Global) -> Result<StreamInfoGroup, AllocError>
-        ensures { IfOk result (λ g. group_meaning g ≡ empty_group) }
+        ensures ok { IsOk result }
+        ensures group { IfOk result (λ g. group_meaning g ≡ empty_group) }
     {
         Ok(StreamInfoGroup {
             name: String::new(alloc),

@@ -1,5 +1,5 @@
 //! The reply of XINFO STREAM on a server that tracks idempotent producers.
-ghost use Rattle.std.specs.Prelude.{◌≡◌, ◌≢◌, Some, None, IfOk, IfErr};
+ghost use Rattle.std.specs.Prelude.{◌≡◌, ◌≢◌, Some, None, IsOk, IfOk, IfErr};
 ghost use Rattle.redis_streams.specs.Info.{TrackedStream, empty_tracked, tracked_of};
 ghost use Rattle.redis_streams.specs.Info.{tracked_reading};
 ghost use Rattle.redis_streams.specs.InfoRecords.{named, tracked_meaning};
@@ -31,10 +31,11 @@ pub struct StreamInfoStreamReplyWithIdempotency {
 }
 
 impl StreamInfoStreamReplyWithIdempotency {
-    /// The reply that says nothing: no id, no counts, empty entries. It fails only by want of
-    /// memory.
+    /// The reply that says nothing: no id, no counts, empty entries. It takes no memory
+    /// and is always Ok.
     pub fn empty(alloc: Global) -> Result<StreamInfoStreamReplyWithIdempotency, AllocError>
-        ensures { IfOk result (λ r. tracked_meaning r ≡ empty_tracked) }
+        ensures ok { IsOk result }
+        ensures reply { IfOk result (λ r. tracked_meaning r ≡ empty_tracked) }
     {
         Ok(StreamInfoStreamReplyWithIdempotency {
             base: StreamInfoStreamReply::empty(alloc)?,

@@ -1,5 +1,5 @@
 //! The reply of XINFO STREAM.
-ghost use Rattle.std.specs.Prelude.{◌≡◌, ◌≢◌, Some, None, IfOk, IfErr};
+ghost use Rattle.std.specs.Prelude.{◌≡◌, ◌≢◌, Some, None, IsOk, IfOk, IfErr};
 ghost use Rattle.redis_streams.specs.Info.{StreamInfo, empty_stream, stream_of, stream_reading};
 ghost use Rattle.redis_streams.specs.InfoRecords.{named, stream_meaning};
 
@@ -30,10 +30,11 @@ pub struct StreamInfoStreamReply {
 }
 
 impl StreamInfoStreamReply {
-    /// The reply that says nothing: no id, no counts, empty entries. It fails only by want of
-    /// memory.
+    /// The reply that says nothing: no id, no counts, empty entries. It takes no memory
+    /// and is always Ok.
     pub fn empty(alloc: Global) -> Result<StreamInfoStreamReply, AllocError>
-        ensures { IfOk result (λ r. stream_meaning r ≡ empty_stream) }
+        ensures ok { IsOk result }
+        ensures reply { IfOk result (λ r. stream_meaning r ≡ empty_stream) }
     {
         Ok(StreamInfoStreamReply {
             last_generated_id: String::new(alloc),

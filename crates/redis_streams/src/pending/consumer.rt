@@ -1,5 +1,5 @@
 //! A consumer of a group, as XPENDING and XINFO CONSUMERS tell of it.
-ghost use Rattle.std.specs.Prelude.{◌≡◌, [], IfOk, map, string_bytes};
+ghost use Rattle.std.specs.Prelude.{◌≡◌, [], IsOk, IfOk, map, string_bytes};
 ghost use Rattle.redis_streams.specs.Pending.{consumer_of, empty_consumer};
 ghost use Rattle.redis_streams.specs.PendingRecords.{consumer_meaning};
 
@@ -17,9 +17,10 @@ pub struct StreamInfoConsumer {
 }
 
 impl StreamInfoConsumer {
-    /// A consumer with no name and nothing pending. It fails only by want of memory.
+    /// A consumer with no name and nothing pending. It takes no memory and is always Ok.
     pub fn empty(alloc: Global) -> Result<StreamInfoConsumer, AllocError>
-        ensures { IfOk result (λ c. consumer_meaning c ≡ empty_consumer) }
+        ensures ok { IsOk result }
+        ensures consumer { IfOk result (λ c. consumer_meaning c ≡ empty_consumer) }
     {
         Ok(StreamInfoConsumer {
             name: String::new(alloc),

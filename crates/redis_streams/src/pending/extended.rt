@@ -1,5 +1,5 @@
 //! The reply of XPENDING with a range: one row for each pending entry.
-ghost use Rattle.std.specs.Prelude.{◌≡◌, ◌≢◌, [], List, Some, None, Err, IfOk, IfErr, OnErr};
+ghost use Rattle.std.specs.Prelude.{◌≡◌, ◌≢◌, [], List, Some, None, Err, IsOk, IfOk, IfErr, OnErr};
 ghost use Rattle.std.specs.Prelude.{ok_or, string_bytes, map};
 ghost use Rattle.redis_resp.specs.Tree.{array_of_plain};
 ghost use Rattle.redis_resp.specs.Value.{tree};
@@ -32,9 +32,10 @@ pub struct StreamPendingId {
 }
 
 impl StreamPendingCountReply {
-    /// The reply with no entries. It fails only by want of memory.
+    /// The reply with no entries. It takes no memory and is always Ok.
     pub fn empty(alloc: Global) -> Result<StreamPendingCountReply, AllocError>
-        ensures { IfOk result (λ r. pending_ids_meaning r ≡ []) }
+        ensures ok { IsOk result }
+        ensures entries { IfOk result (λ r. pending_ids_meaning r ≡ []) }
     {
         Ok(StreamPendingCountReply {
             ids: Vec::new(alloc),
@@ -54,9 +55,10 @@ impl StreamPendingCountReply {
 }
 
 impl StreamPendingId {
-    /// A pending entry of which nothing is said. It fails only by want of memory.
+    /// A pending entry of which nothing is said. It takes no memory and is always Ok.
     pub fn empty(alloc: Global) -> Result<StreamPendingId, AllocError>
-        ensures { IfOk result (λ p. pending_id_meaning p ≡ empty_pending_entry) }
+        ensures ok { IsOk result }
+        ensures entry { IfOk result (λ p. pending_id_meaning p ≡ empty_pending_entry) }
     {
         Ok(StreamPendingId {
             id: String::new(alloc),

@@ -1,5 +1,5 @@
 //! The reply of XPENDING without a range: how much is pending in a group, and with whom.
-ghost use Rattle.std.specs.Prelude.{◌≡◌, ◌≢◌, Option, Some, None, IfOk, IfErr, map, option_map};
+ghost use Rattle.std.specs.Prelude.{◌≡◌, ◌≢◌, Option, Some, None, IsOk, IfOk, IfErr, map, option_map};
 ghost use Rattle.redis_streams.specs.Pending.{PendingSummary, pending_reading, summary_of};
 ghost use Rattle.redis_streams.specs.Pending.{consumers_of, empty_summary};
 ghost use Rattle.redis_streams.specs.PendingRecords.{consumer_meaning, data_meaning, count_of};
@@ -55,9 +55,10 @@ impl StreamPendingReply {
 }
 
 impl StreamPendingData {
-    /// Nothing pending: no count, no ids, no consumers. It fails only by want of memory.
+    /// Nothing pending: no count, no ids, no consumers. It takes no memory and is always Ok.
     pub fn empty(alloc: Global) -> Result<StreamPendingData, AllocError>
-        ensures { IfOk result (λ d. data_meaning d ≡ empty_summary) }
+        ensures ok { IsOk result }
+        ensures summary { IfOk result (λ d. data_meaning d ≡ empty_summary) }
     {
         Ok(StreamPendingData {
             count: 0,

@@ -3,9 +3,9 @@ ghost use Rattle.std.specs.Prelude.{◌≡◌, ◌+◌, ◌∷◌, ◌++◌, [],
 ghost use Rattle.streams_bench.specs.Row.{texts_of};
 
 use crate::print::Row;
-use redis_resp::{FromRedisValue, ParsingError};
+use redis_resp::FromRedisValue;
 use std::alloc::{AllocError, Global};
-use stream_text::{NotationError, PrintedForm, read_value};
+use stream_text::{NotationError, PrintedForm, both_answers, read_value};
 
 /// Adds the row of a vector: its name, the text that was computed, and the stored text.
 pub fn push_text_row(
@@ -55,23 +55,5 @@ pub fn push_reply_row<T: FromRedisValue + PrintedForm>(
         Err(NotationError::Memory) => return Err(AllocError),
         Err(error) => return push_text_row(alloc, rows, name, error.to_string(alloc)?, stored),
     };
-    let lent = answer_text(alloc, T::from_redis_value_ref(alloc, &value))?;
-    let owned = answer_text(alloc, T::from_redis_value(alloc, value))?;
-    let text = if lent == owned {
-        owned
-    } else {
-        format!(in alloc; "{owned}, but {lent} where it is lent")?
-    };
-    push_text_row(alloc, rows, name, text, stored)
-}
-
-// The printed form of a record, or of why there is none.
-fn answer_text<T: PrintedForm + Drop>(
-    alloc: Global,
-    answer: Result<T, ParsingError>,
-) -> Result<String, AllocError> {
-    match answer {
-        Err(ParsingError::Memory) => Err(AllocError),
-        answer => answer.printed(alloc),
-    }
+    push_text_row(alloc, rows, name, both_answers::<T>(alloc, value)?, stored)
 }

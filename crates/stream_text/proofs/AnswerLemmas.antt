@@ -5,7 +5,7 @@ use Rattle.std.specs.declared.alloc.Global.{Global}
 use Rattle.redis_resp.specs.declared.value.error.ParsingError.{ParsingError}
 use Rattle.redis_resp.specs.declared.value.error.ParsingError.TheVariants.{Memory}
 use Rattle.redis_resp.specs.Tree.{Tree}
-use Rattle.answer_cases.specs.Answer.{MayAnswer, IsAnswer, compared}
+use Rattle.stream_text.specs.Answer.{MayAnswer, IsAnswer, compared}
 use Rattle.stream_text.specs.Refusal.{answer_form}
 
 -- what a reading ensures of its answer

@@ -1,7 +1,7 @@
 use Rattle.std.proofs.Common.{ap, sym, ◌∙◌}
 use Rattle.redis_resp.specs.Value.{tree}
-use Rattle.answer_cases.proofs.AnswerLemmas.{is_answer, may_answer}
-use Rattle.answer_cases.proofs.by_both.Goals as goal
+use Rattle.stream_text.proofs.AnswerLemmas.{is_answer, may_answer}
+use Rattle.stream_text.proofs.answer.both_answers.Goals as goal
 
 pub returns : goal.returns
 returns g c =
@@ -10,4 +10,4 @@ returns g c =
     let t = tree c.args.value in
     let owned = may_answer meaning reading t c.from_redis_value.result c.from_redis_value.ensures.ok c.from_redis_value.ensures.err in
     let lent = may_answer meaning reading t c.from_redis_value_ref.result c.from_redis_value_ref.ensures.ok c.from_redis_value_ref.ensures.err in
-    is_answer meaning reading g.T.PrintedForm.form t c.from_redis_value.result c.from_redis_value_ref.result _ _ c.shown.result c.in_ok-owned.ensures (c.deref.ensures ∙ c.in_ok-lent.ensures) owned lent c.shown.ensures
+    is_answer meaning reading g.T.PrintedForm.form t c.from_redis_value.result c.from_redis_value_ref.result _ _ c.compared_forms.result c.in_ok-owned.ensures (c.deref.ensures ∙ c.in_ok-lent.ensures) owned lent c.compared_forms.ensures
