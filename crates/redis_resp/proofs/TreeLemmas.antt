@@ -1,6 +1,6 @@
 -- A value's tree, variant by variant.
 use Rattle.std.proofs.Common.{◌≡◌, ℕ, ℤ, List, [], ◌∷◌, map, String, Vec, Box, Global, string_bytes, refl, ap, rules, sym, ◌∙◌, Some}
-use Rattle.redis_resp.specs.Tree.{Tree, int, bulk, array, simple, table, attribute, set, trees, pairs, list_of_trees, list_of_pairs, plain, items, items_of_plain, single, pairs_in, pairs_of_plain, two_by_two}
+use Rattle.redis_resp.specs.Tree.{Tree, int, bulk, array, simple, map_of_pairs, attribute, set, trees, pairs, list_of_trees, list_of_pairs, plain, items, items_of_plain, single, pairs_in, pairs_of_plain, two_by_two}
 use Rattle.redis_resp.specs.Value.{tree, tree_of_pair}
 use Rattle.redis_resp.specs.declared.value.Value.{Value, Int, BulkString, Array, SimpleString, Map, Attribute, Set, the_lemmas}
 
@@ -13,7 +13,7 @@ tree-Array v = search (rules, the_lemmas)
 pub tree-Set : (v : Vec Value Global) → tree (Set v) ≡ set (trees (map tree v.items))
 tree-Set v = search (rules, the_lemmas)
 
-pub tree-Map : (v : Vec (Value × Value) Global) → tree (Map v) ≡ table (pairs (map tree_of_pair v.items))
+pub tree-Map : (v : Vec (Value × Value) Global) → tree (Map v) ≡ map_of_pairs (pairs (map tree_of_pair v.items))
 tree-Map v = search (rules, the_lemmas)
 
 pub tree-Attribute : (p : Box Value Global) (v : Vec (Value × Value) Global) → tree (Attribute p v) ≡ attribute (tree p.value) (pairs (map tree_of_pair v.items))
@@ -27,7 +27,7 @@ pub listed_pairs : (ps : List (Tree × Tree)) → list_of_pairs (pairs ps) ≡ p
 listed_pairs [] = refl
 listed_pairs (p ∷ ps) = ap (λ us. p ∷ us) (listed_pairs ps)
 
-pub tree_of_map : (v : Vec (Value × Value) Global) → tree (Map v) ≡ table (pairs (map tree_of_pair v.items))
+pub tree_of_map : (v : Vec (Value × Value) Global) → tree (Map v) ≡ map_of_pairs (pairs (map tree_of_pair v.items))
 tree_of_map v = tree-Map v
 
 -- what a list is read from

@@ -3,7 +3,7 @@ use Rattle.std.specs.Prelude.{Bool, true, false, ◌&&◌}
 use Rattle.std.specs.Bool.{beq}
 use Rattle.std.specs.Ordering.{int_eq}
 use Rattle.std.specs.Str.{bytes_eq}
-use Rattle.redis_resp.specs.Tree.{Tree, nil, int, bulk, array, simple, okay, table, attribute, set, boolean, verbatim, push, Trees, no_trees, more_trees, Pairs, no_pairs, more_pairs}
+use Rattle.redis_resp.specs.Tree.{Tree, nil, int, bulk, array, simple, okay, map_of_pairs, attribute, set, boolean, verbatim, push, Trees, no_trees, more_trees, Pairs, no_pairs, more_pairs}
 
 abbrev mutual
   -- the two are of one kind, and their parts are the same
@@ -14,7 +14,7 @@ abbrev mutual
   same (array x) (array y) = same_each x y
   same (simple x) (simple y) = bytes_eq x y
   same okay okay = true
-  same (table x) (table y) = same_pairs x y
+  same (map_of_pairs x) (map_of_pairs y) = same_pairs x y
   same (attribute x m) (attribute y n) = same x y && same_pairs m n
   same (set x) (set y) = same_each x y
   same (boolean x) (boolean y) = beq x y

@@ -7,7 +7,7 @@ use Rattle.std.proofs.lemmas.Bool.{and_parts}
 use Rattle.std.proofs.lemmas.Bool.Decides.{Decides-int_eq}
 use Rattle.std.proofs.lemmas.Slice.Eq.{bytes_eq-Decides}
 use Rattle.std.specs.Str.{bytes_eq}
-use Rattle.redis_resp.specs.Tree.{Tree, nil, int, bulk, array, simple, okay, table, attribute, set, boolean, verbatim, push, Trees, no_trees, more_trees, Pairs, no_pairs, more_pairs}
+use Rattle.redis_resp.specs.Tree.{Tree, nil, int, bulk, array, simple, okay, map_of_pairs, attribute, set, boolean, verbatim, push, Trees, no_trees, more_trees, Pairs, no_pairs, more_pairs}
 use Rattle.redis_resp.specs.Same.{same, same_each, same_pairs}
 use Rattle.redis_resp.specs.Value.{tree}
 use Rattle.redis_resp.specs.declared.value.Value.{Value}
@@ -26,7 +26,7 @@ mutual
   same_true (array x) (array y) h = ap array (each_true x y h)
   same_true (simple x) (simple y) h = ap simple ((bytes_eq-Decides x y).0 h)
   same_true okay okay h = refl
-  same_true (table x) (table y) h = ap table (pairs_true x y h)
+  same_true (map_of_pairs x) (map_of_pairs y) h = ap map_of_pairs (pairs_true x y h)
   same_true (attribute x m) (attribute y n) h =
       let p = and_parts (same x y) (same_pairs m n) h in
       ap (λ t. attribute t m) (same_true x y p.0) ∙ ap (λ ps. attribute y ps) (pairs_true m n p.1)
@@ -63,7 +63,7 @@ mutual
   same_refl (array x) = each_refl x
   same_refl (simple x) = (bytes_eq-Decides x x).1 refl
   same_refl okay = refl
-  same_refl (table x) = pairs_refl x
+  same_refl (map_of_pairs x) = pairs_refl x
   same_refl (attribute x m) = both _ _ (same_refl x) (pairs_refl m)
   same_refl (set x) = each_refl x
   same_refl (boolean x) = (booleans_Decides x x).1 refl

@@ -1,7 +1,7 @@
 -- The tree that a `Value` stands for.
 use Rattle.std.specs.Prelude.{string_bytes}
 use Rattle.std.specs.Borrow.{Bor}
-use Rattle.redis_resp.specs.Tree.{Tree, nil, int, bulk, array, simple, okay, table, attribute, set, boolean, verbatim, push, trees, pairs}
+use Rattle.redis_resp.specs.Tree.{Tree, nil, int, bulk, array, simple, okay, map_of_pairs, attribute, set, boolean, verbatim, push, trees, pairs}
 use Rattle.redis_resp.specs.declared.value.Value.{Value, fold-Value}
 use Rattle.redis_resp.specs.declared.value.Value.TheOpen.{Value-F}
 
@@ -13,7 +13,7 @@ tree_step (Value-F.BulkString b) = bulk b.items
 tree_step (Value-F.Array v) = array (trees v.items)
 tree_step (Value-F.SimpleString s) = simple (string_bytes s)
 tree_step Value-F.Okay = okay
-tree_step (Value-F.Map v) = table (pairs v.items)
+tree_step (Value-F.Map v) = map_of_pairs (pairs v.items)
 tree_step (Value-F.Attribute p v) = attribute p.value (pairs v.items)
 tree_step (Value-F.Set v) = set (trees v.items)
 tree_step (Value-F.Boolean b) = boolean b

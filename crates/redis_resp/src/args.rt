@@ -1,8 +1,8 @@
 //! Argument lists of commands, and the writers that they go into.
 
+mod containers;
 mod fixed_args;
 mod number;
-mod sequence;
 #[cfg(test)]
 mod tests;
 mod text;

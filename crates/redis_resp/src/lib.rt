@@ -17,5 +17,5 @@ pub mod value;
 pub use args::{FixedArgs, RawBytes, RedisWrite, ToRedisArgs, ToSingleRedisArg, WriteError};
 pub use value::{
     FourRefs, FromRedisValue, PairList, ParsingError, Value, four_ref, from_redis_value,
-    from_redis_value_ref, hashed, into_four, into_two, tabled, two_ref,
+    from_redis_value_ref, hash_map_of, index_map_of, into_four, into_two, two_ref,
 };

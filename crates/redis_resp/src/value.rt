@@ -3,13 +3,14 @@ ghost use Rattle.std.specs.Prelude.{◌≡◌};
 ghost use Rattle.redis_resp.specs.Tree.{plain};
 ghost use Rattle.redis_resp.specs.Value.{tree};
 
+mod any_value;
 mod bytes;
 mod clone;
 mod equality;
 mod error;
 #[cfg(test)]
 mod flag;
-mod itself;
+mod from_value;
 mod list;
 mod members;
 #[cfg(test)]
@@ -17,7 +18,6 @@ mod memory_tests;
 mod number;
 mod option;
 mod pair;
-mod reading;
 #[cfg(test)]
 mod samples;
 mod table;
@@ -25,11 +25,11 @@ mod text;
 mod tuple;
 
 pub use error::ParsingError;
+pub use from_value::{FromRedisValue, from_redis_value, from_redis_value_ref};
 pub use members::{FourRefs, four_ref, into_four, into_two, two_ref};
 pub use number::usize_of;
 pub use pair::PairList;
-pub use reading::{FromRedisValue, from_redis_value, from_redis_value_ref};
-pub use table::{hashed, tabled};
+pub use table::{hash_map_of, index_map_of};
 
 /// A value of the RESP protocol, as a server sends it.
 #[derive(Debug, Drop)]

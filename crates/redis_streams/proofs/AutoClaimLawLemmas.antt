@@ -4,13 +4,13 @@ use Rattle.std.specs.List.{AllByRecursion, list_any}
 use Rattle.std.proofs.lemmas.Bool.{lt-ltb, ltb_from_iff, ltb-true}
 use Rattle.std.proofs.lemmas.List.{length-append}
 use Rattle.std.proofs.lemmas.Option.{same_Some}
-use Rattle.redis_resp.specs.Tree.{Tree, nil, int, bulk, array, simple, okay, table, set, boolean, verbatim, push, attribute, plain, items, array_of_plain, pairs_in, pairs_of_plain}
+use Rattle.redis_resp.specs.Tree.{Tree, nil, int, bulk, array, simple, okay, map_of_pairs, set, boolean, verbatim, push, attribute, plain, items, array_of_plain, pairs_in, pairs_of_plain}
 use Rattle.redis_resp.specs.Text.{text_reading, text_of_plain}
 use Rattle.redis_resp.specs.Reading.{is_nil, traverse, list_reading, option_reading}
 use Rattle.redis_resp.specs.Table.{Fields, entry_reading, table_of}
 use Rattle.redis_streams.specs.Entry.{Entry, entry_of}
 use Rattle.redis_streams.specs.Rows.{joined, field_reading, standard_entries, rows_reading}
-use Rattle.redis_streams.specs.AutoClaim.{AutoClaim, ClaimedKind, nils, ids, rows, kind_of_items, shape_of_items, claimed_by_shape, claimed_reading, entries_by_kind, id_entries, Parts, deleted_reading, auto_claim_of}
+use Rattle.redis_streams.specs.AutoClaim.{AutoClaim, ClaimedKind, nils, ids, rows, kind_of_items, shape_of_items, claimed_by_shape, claimed_reading, entries_by_kind, id_entries, Parts, deleted_reading, autoclaim_of}
 use Rattle.redis_streams.specs.AutoClaimLaws.{holds_nil, IsOneEntry, InvalidEntriesTellNil}
 use Rattle.redis_streams.proofs.RowsLemmas.{list_shown}
 
@@ -37,7 +37,7 @@ id_counted item es h = by (is_nil (plain item)) (text_reading item) h
 text_or_pairs : (t : Tree) (text : List ℕ) → text_of_plain t ≡ Some text → pairs_of_plain t ≡ None
 text_or_pairs nil text h = cc
 text_or_pairs (array ts) text h = cc
-text_or_pairs (table ps) text h = cc
+text_or_pairs (map_of_pairs ps) text h = cc
 text_or_pairs (int z) text h = refl
 text_or_pairs (bulk b) text h = refl
 text_or_pairs (simple s) text h = refl
@@ -158,7 +158,7 @@ claimed_back t ts entries invalid there h = by (kind_of_items ts) refl (sym (ap 
     by None e h = cc
     by (Some kind) e h = marked_so kind (entries_by_kind kind t) e refl h
 
-claimed_of_reply : (parts : Parts) (reply : AutoClaim) → auto_claim_of parts ≡ Some reply → claimed_reading parts.1 ≡ Some (reply.claimed, reply.invalid)
+claimed_of_reply : (parts : Parts) (reply : AutoClaim) → autoclaim_of parts ≡ Some reply → claimed_reading parts.1 ≡ Some (reply.claimed, reply.invalid)
 claimed_of_reply parts reply h = by (claimed_reading parts.1) (deleted_reading parts.2) (text_reading parts.0) h
   where
     by : (c : Option (List Entry × Bool)) (d : Option (List (List ℕ))) (n : Option (List ℕ))
@@ -185,5 +185,5 @@ told t ts entries invalid there c a = c.marked ∙ by c.kind c.decided c.read
 
 pub invalid_entries : InvalidEntriesTellNil
 invalid_entries t reply parts ts read there list a =
-    let of_parts : auto_claim_of parts ≡ Some reply = sym (ap (option_and_then auto_claim_of) there) ∙ read in
+    let of_parts : autoclaim_of parts ≡ Some reply = sym (ap (option_and_then autoclaim_of) there) ∙ read in
     told parts.1 ts reply.claimed reply.invalid list (claimed_back parts.1 ts reply.claimed reply.invalid list (claimed_of_reply parts reply of_parts)) a

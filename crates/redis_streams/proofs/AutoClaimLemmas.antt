@@ -9,7 +9,7 @@ use Rattle.redis_resp.proofs.TreeLemmas.{tree-Array, tree-BulkString, listed_tre
 use Rattle.std.proofs.lemmas.List.{length-map}
 use Rattle.std.proofs.lemmas.Option.{same_Some}
 use Rattle.redis_streams.specs.Entry.{Entry}
-use Rattle.redis_streams.specs.AutoClaim.{ClaimedKind, ids, rows, kind_of_items, claimed_shape, claimed_reading, entries_by_kind, id_entries, Parts, two_or_three, parts_in, deleted_reading, auto_claim_of, auto_claim_reading}
+use Rattle.redis_streams.specs.AutoClaim.{ClaimedKind, ids, rows, kind_of_items, claimed_shape, claimed_reading, entries_by_kind, id_entries, Parts, two_or_three, parts_in, deleted_reading, autoclaim_of, autoclaim_reading}
 use Rattle.redis_streams.proofs.RowsLemmas.{flat_map-map}
 
 pub kind_of_bulk : (v : Value) (b : Vec ℕ Global) (ts : List Tree) → v ≡ BulkString b → kind_of_items (tree v ∷ ts) ≡ Some ids
@@ -58,22 +58,22 @@ count_told answer result v w xs items is same told there none =
 
 -- a reply is read from its parts, and refused where one of them is
 module _ (t : Tree) (parts : Parts) (there : parts_in t ≡ Some parts) where
-  by_parts : auto_claim_reading t ≡ auto_claim_of parts
-  by_parts = ap (option_and_then auto_claim_of) there
+  by_parts : autoclaim_reading t ≡ autoclaim_of parts
+  by_parts = ap (option_and_then autoclaim_of) there
 
-  pub auto_claim_read : (claimed : List Entry) (deleted : List (List ℕ)) (next : List ℕ) (invalid : Bool) → claimed_reading parts.1 ≡ Some (claimed, invalid) → deleted_reading parts.2 ≡ Some deleted
-      → text_reading parts.0 ≡ Some next → auto_claim_reading t ≡ Some (record { next = next; claimed = claimed; deleted = deleted; invalid = invalid })
-  auto_claim_read claimed deleted next invalid c d n = by_parts ∙ rw (c, d, n) refl
+  pub autoclaim_read : (claimed : List Entry) (deleted : List (List ℕ)) (next : List ℕ) (invalid : Bool) → claimed_reading parts.1 ≡ Some (claimed, invalid) → deleted_reading parts.2 ≡ Some deleted
+      → text_reading parts.0 ≡ Some next → autoclaim_reading t ≡ Some (record { next = next; claimed = claimed; deleted = deleted; invalid = invalid })
+  autoclaim_read claimed deleted next invalid c d n = by_parts ∙ rw (c, d, n) refl
 
-  pub no_claimed : claimed_reading parts.1 ≡ None → auto_claim_reading t ≡ None
+  pub no_claimed : claimed_reading parts.1 ≡ None → autoclaim_reading t ≡ None
   no_claimed c = by_parts ∙ rw c refl
 
-  pub no_deleted : (claimed : List Entry × Bool) → claimed_reading parts.1 ≡ Some claimed → deleted_reading parts.2 ≡ None → auto_claim_reading t ≡ None
+  pub no_deleted : (claimed : List Entry × Bool) → claimed_reading parts.1 ≡ Some claimed → deleted_reading parts.2 ≡ None → autoclaim_reading t ≡ None
   no_deleted claimed c d = by_parts ∙ rw (c, d) refl
 
   pub no_next : (claimed : List Entry × Bool) (deleted : List (List ℕ)) → claimed_reading parts.1 ≡ Some claimed → deleted_reading parts.2 ≡ Some deleted → text_reading parts.0 ≡ None
-      → auto_claim_reading t ≡ None
+      → autoclaim_reading t ≡ None
   no_next claimed deleted c d n = by_parts ∙ rw (c, d, n) refl
 
-pub no_parts : (t : Tree) → parts_in t ≡ None → auto_claim_reading t ≡ None
-no_parts t h = ap (option_and_then auto_claim_of) h
+pub no_parts : (t : Tree) → parts_in t ≡ None → autoclaim_reading t ≡ None
+no_parts t h = ap (option_and_then autoclaim_of) h

@@ -4,7 +4,7 @@ use Rattle.std.specs.List.{AllByRecursion, list_any}
 use Rattle.redis_resp.specs.Tree.{Tree, plain, array_of_plain, pairs_in}
 use Rattle.redis_resp.specs.Text.{text_reading}
 use Rattle.redis_resp.specs.Reading.{is_nil}
-use Rattle.redis_streams.specs.AutoClaim.{AutoClaim, Parts, auto_claim_reading, parts_in}
+use Rattle.redis_streams.specs.AutoClaim.{AutoClaim, Parts, autoclaim_reading, parts_in}
 
 -- nil stands there, whatever attributes are round it
 abbrev pub holds_nil : Tree → Bool
@@ -16,5 +16,5 @@ IsOneEntry item = IsSome (text_reading item) ⊎ ((pair : Tree × Tree) × (pair
 
 -- Where each item of an accepted claimed list is nil, one id or a row of one pair, entries are marked invalid exactly where a nil stands there.
 abbrev pub InvalidEntriesTellNil : Type 0
-InvalidEntriesTellNil = (t : Tree) (reply : AutoClaim) (parts : Parts) (items : List Tree) → auto_claim_reading t ≡ Some reply → parts_in t ≡ Some parts
+InvalidEntriesTellNil = (t : Tree) (reply : AutoClaim) (parts : Parts) (items : List Tree) → autoclaim_reading t ≡ Some reply → parts_in t ≡ Some parts
     → array_of_plain parts.1 ≡ Some items → AllByRecursion (λ item. (holds_nil item ≡ true) ⊎ IsOneEntry item) items → reply.invalid ≡ list_any holds_nil items

@@ -85,8 +85,8 @@ same_entry_Decides a b =
     let elapsed = numbers-Decides a.milliseconds_elapsed_from_delivery b.milliseconds_elapsed_from_delivery in
     let delivered = numbers-Decides a.delivered_count b.delivered_count in
     let all = Decides-and _ _ id (Decides-and _ _ fields (Decides-and _ _ elapsed delivered)) in (
-      λ h. let parts = all.0 h in (λ i. record { id = parts.0 i; fields = parts.1.0 i; elapsed = parts.1.1.0 i; delivered = parts.1.1.1 i }),
-      λ e. all.1 (ap (λ x. x.id) e, (ap (λ x. x.fields) e, (ap (λ x. x.elapsed) e, ap (λ x. x.delivered) e))),
+      λ h. let parts = all.0 h in (λ i. record { id = parts.0 i; fields = parts.1.0 i; milliseconds_elapsed_from_delivery = parts.1.1.0 i; delivered_count = parts.1.1.1 i }),
+      λ e. all.1 (ap (λ x. x.id) e, (ap (λ x. x.fields) e, (ap (λ x. x.milliseconds_elapsed_from_delivery) e, ap (λ x. x.delivered_count) e))),
     )
 
 -- the laws of `==` of `StreamId`s

@@ -6,7 +6,7 @@ use Rattle.redis_resp.specs.Value.{tree}
 use Rattle.redis_resp.specs.declared.value.Value.{Value}
 use Rattle.redis_streams.specs.AutoClaim.{AutoClaim, Parts, ClaimedKind, nils, ids, rows}
 use Rattle.redis_streams.specs.StreamId.{entries_of}
-use Rattle.redis_streams.specs.declared.rows.auto_claim.StreamAutoClaimReply.{StreamAutoClaimReply}
+use Rattle.redis_streams.specs.declared.rows.autoclaim.StreamAutoClaimReply.{StreamAutoClaimReply}
 use Rattle.redis_streams.specs.declared.rows.claimed.ListKind.{ListKind}
 use Rattle.redis_streams.specs.declared.rows.claimed.ListKind.TheVariants.{Nils, Ids, Rows}
 
@@ -15,8 +15,8 @@ abbrev pub texts_of : Vec (String Global) Global → List (List ℕ)
 texts_of texts = map string_bytes texts.items
 
 -- the reply that a `StreamAutoClaimReply` holds
-abbrev pub auto_claim_meaning : StreamAutoClaimReply → AutoClaim
-auto_claim_meaning r = record { next = string_bytes r.next_stream_id; claimed = entries_of r.claimed; deleted = texts_of r.deleted_ids; invalid = r.invalid_entries }
+abbrev pub autoclaim_meaning : StreamAutoClaimReply → AutoClaim
+autoclaim_meaning r = record { next = string_bytes r.next_stream_id; claimed = entries_of r.claimed; deleted = texts_of r.deleted_ids; invalid = r.invalid_entries }
 
 -- the kind that a `ListKind` names
 abbrev pub kind_meaning : ListKind → ClaimedKind

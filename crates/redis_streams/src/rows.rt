@@ -1,5 +1,5 @@
 //! Replies that hold entries of streams: ranges, claims, reads and automatic claims.
-mod auto_claim;
+mod autoclaim;
 mod claim;
 mod claimed;
 mod clone;
@@ -14,7 +14,7 @@ mod stream_key;
 #[cfg(test)]
 mod tests;
 
-pub use auto_claim::StreamAutoClaimReply;
+pub use autoclaim::StreamAutoClaimReply;
 pub use claim::StreamClaimReply;
 pub use range::StreamRangeReply;
 pub use read::StreamReadReply;

@@ -1,7 +1,7 @@
 -- How the replies that hold entries stand in a line.
 use Rattle.std.specs.Prelude.{ℕ, List, ◌++◌, codes, string_bytes, if◌then◌else◌}
 use Rattle.std.specs.List.{join_by}
-use Rattle.redis_streams.specs.declared.rows.auto_claim.StreamAutoClaimReply.{StreamAutoClaimReply}
+use Rattle.redis_streams.specs.declared.rows.autoclaim.StreamAutoClaimReply.{StreamAutoClaimReply}
 use Rattle.redis_streams.specs.declared.rows.claim.StreamClaimReply.{StreamClaimReply}
 use Rattle.redis_streams.specs.declared.rows.range.StreamRangeReply.{StreamRangeReply}
 use Rattle.redis_streams.specs.declared.rows.stream_key.StreamKey.{StreamKey}
@@ -26,8 +26,8 @@ abbrev pub read_form : StreamReadReply → List ℕ
 read_form r = listed key_form (codes " ") r.keys.items
 
 -- the next id, the entries, the deleted ids, and whether there were others
-abbrev pub auto_claim_form : StreamAutoClaimReply → List ℕ
-auto_claim_form r =
+abbrev pub autoclaim_form : StreamAutoClaimReply → List ℕ
+autoclaim_form r =
     codes "next=" ++ string_bytes r.next_stream_id ++ codes " claimed=["
     ++ join_by entry_form (codes " ") r.claimed.items ++ codes "] deleted=["
     ++ join_by string_bytes (codes " ") r.deleted_ids.items ++ codes "] invalid="

@@ -9,7 +9,7 @@ use Rattle.stream_options.specs.Policy.{Policy}
 use Rattle.stream_options.specs.Read.{Group, Read}
 use Rattle.stream_options.specs.Trim.{Strategy}
 use Rattle.streams_bench.specs.AddCalls as add
-use Rattle.streams_bench.specs.Calls.{latest}
+use Rattle.streams_bench.specs.Calls.{last_said}
 use Rattle.streams_bench.specs.ReadCalls as read
 
 option_or_assoc : {T : Type 0} (a b c : Option T) → option_or (option_or a b) c ≡ option_or a (option_or b c)
@@ -21,9 +21,9 @@ option_or_none None = refl
 option_or_none (Some x) = refl
 
 -- what two lists of calls say, one behind the other
-pub latest-append : {C T : Type 0} (said : C → Option T) (cs ds : List C) → latest said (cs ++ ds) ≡ option_or (latest said ds) (latest said cs)
-latest-append said [] ds = sym (option_or_none (latest said ds))
-latest-append said (c ∷ cs) ds = ap (λ o. option_or o (said c)) (latest-append said cs ds) ∙ option_or_assoc (latest said ds) (latest said cs) (said c)
+pub last_said-append : {C T : Type 0} (said : C → Option T) (cs ds : List C) → last_said said (cs ++ ds) ≡ option_or (last_said said ds) (last_said said cs)
+last_said-append said [] ds = sym (option_or_none (last_said said ds))
+last_said-append said (c ∷ cs) ds = ap (λ o. option_or o (said c)) (last_said-append said cs ds) ∙ option_or_assoc (last_said said ds) (last_said said cs) (said c)
 
 -- the settings of an addition that these last values leave
 abbrev add_of : Option Bool → Option Policy → Option Idempotency → Option Strategy → Add
@@ -41,8 +41,8 @@ pub add_final_push : {C : Type 0} (of : C → add.Call) (calls : List C) (c : C)
 add_final_push of calls c =
     let before = map of calls in
     let one = of c ∷ [] in
-    rw (map_push of calls c, latest-append add.nomkstream_in before one, latest-append add.policy_in before one, latest-append add.idempotency_in before one, latest-append add.trim_in before one)
-    (add_pushed (of c) (latest add.nomkstream_in before) (latest add.policy_in before) (latest add.idempotency_in before) (latest add.trim_in before))
+    rw (map_push of calls c, last_said-append add.nomkstream_in before one, last_said-append add.policy_in before one, last_said-append add.idempotency_in before one, last_said-append add.trim_in before one)
+    (add_pushed (of c) (last_said add.nomkstream_in before) (last_said add.policy_in before) (last_said add.idempotency_in before) (last_said add.trim_in before))
 
 -- the settings of a read that these last values leave
 abbrev read_of : Option Group → Option ℕ → Option ℕ → Option Bool → Option ℕ → Read
@@ -61,5 +61,5 @@ pub read_final_push : {C : Type 0} (of : C → read.Call) (calls : List C) (c : 
 read_final_push of calls c =
     let before = map of calls in
     let one = of c ∷ [] in
-    rw (map_push of calls c, latest-append read.group_in before one, latest-append read.block_in before one, latest-append read.count_in before one, latest-append read.noack_in before one, latest-append read.claim_in before one)
-    (read_pushed (of c) (latest read.group_in before) (latest read.block_in before) (latest read.count_in before) (latest read.noack_in before) (latest read.claim_in before))
+    rw (map_push of calls c, last_said-append read.group_in before one, last_said-append read.block_in before one, last_said-append read.count_in before one, last_said-append read.noack_in before one, last_said-append read.claim_in before one)
+    (read_pushed (of c) (last_said read.group_in before) (last_said read.block_in before) (last_said read.count_in before) (last_said read.noack_in before) (last_said read.claim_in before))

@@ -4,7 +4,7 @@ use Rattle.stream_options.specs.Add.{Add}
 use Rattle.stream_options.specs.Idempotency.{Idempotency}
 use Rattle.stream_options.specs.Policy.{Policy}
 use Rattle.stream_options.specs.Trim.{Strategy}
-use Rattle.streams_bench.specs.Calls.{latest}
+use Rattle.streams_bench.specs.Calls.{last_said}
 
 -- a call: the setting that it names, with its value
 pub data Call : Type 0 where
@@ -44,10 +44,10 @@ idempotency_in (policy _) = None
 -- the settings that the calls leave: each is that of the last call that names it, else the default
 abbrev pub final_settings : List Call → Add
 final_settings calls = record {
-  nomkstream = is_some (latest nomkstream_in calls);
-  policy = latest policy_in calls;
-  idempotency = latest idempotency_in calls;
-  trim = latest trim_in calls;
+  nomkstream = is_some (last_said nomkstream_in calls);
+  policy = last_said policy_in calls;
+  idempotency = last_said idempotency_in calls;
+  trim = last_said trim_in calls;
 }
 
 -- one call more: the one setting that it names has its value

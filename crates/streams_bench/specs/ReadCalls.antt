@@ -1,7 +1,7 @@
 -- Calls on the options of a read, and the settings that a list of them leaves.
 use Rattle.std.specs.Prelude.{ℕ, Bool, true, List, Option, Some, None, is_some}
 use Rattle.stream_options.specs.Read.{Group, Read}
-use Rattle.streams_bench.specs.Calls.{latest}
+use Rattle.streams_bench.specs.Calls.{last_said}
 
 -- a call: the setting that it names, with its value
 pub data Call : Type 0 where
@@ -54,11 +54,11 @@ group_in (claim _) = None
 -- the settings that the calls leave: each is that of the last call that names it, else the default
 abbrev pub final_settings : List Call → Read
 final_settings calls = record {
-  group = latest group_in calls;
-  block = latest block_in calls;
-  count = latest count_in calls;
-  noack = is_some (latest noack_in calls);
-  claim = latest claim_in calls;
+  group = last_said group_in calls;
+  block = last_said block_in calls;
+  count = last_said count_in calls;
+  noack = is_some (last_said noack_in calls);
+  claim = last_said claim_in calls;
 }
 
 -- one call more: the one setting that it names has its value

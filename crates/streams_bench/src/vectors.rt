@@ -5,11 +5,11 @@ mod add;
 mod autoclaim;
 mod claim;
 mod config;
-mod entries;
 mod info;
 mod pending;
 mod read;
 mod row;
+mod rows;
 mod status;
 mod trim;
 
@@ -27,8 +27,8 @@ pub fn vector_rows(alloc: Global) -> Result<Vec<Row>, AllocError>
     config::push_config_rows(alloc, &mut rows)?;
     claim::push_claim_rows(alloc, &mut rows)?;
     read::push_read_rows(alloc, &mut rows)?;
-    entries::push_range_rows(alloc, &mut rows)?;
-    entries::push_read_reply_rows(alloc, &mut rows)?;
+    rows::push_range_rows(alloc, &mut rows)?;
+    rows::push_read_reply_rows(alloc, &mut rows)?;
     autoclaim::push_autoclaim_rows(alloc, &mut rows)?;
     pending::push_pending_rows(alloc, &mut rows)?;
     info::push_info_rows(alloc, &mut rows)?;

@@ -9,7 +9,7 @@ ghost use Rattle.redis_resp.specs.Value.{tree};
 
 use crate::value::Value;
 use crate::value::error::ParsingError;
-use crate::value::reading::FromRedisValue;
+use crate::value::from_value::FromRedisValue;
 use std::alloc::Global;
 
 /// The number that a text writes with digits behind one `+` or none, where it fits 64 bits.

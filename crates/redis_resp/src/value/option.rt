@@ -6,7 +6,7 @@ ghost use Rattle.redis_resp.specs.Reading.{is_nil, option_reading};
 
 use crate::value::Value;
 use crate::value::error::ParsingError;
-use crate::value::reading::FromRedisValue;
+use crate::value::from_value::FromRedisValue;
 use std::alloc::Global;
 
 /// None for `Nil`, whatever attributes stand round it, and for any other value Some of what `T`

@@ -7,7 +7,7 @@ ghost use Rattle.redis_resp.specs.Table.{entries_meaning, entry_reading, members
 
 use crate::value::Value;
 use crate::value::error::ParsingError;
-use crate::value::reading::FromRedisValue;
+use crate::value::from_value::FromRedisValue;
 use std::alloc::Global;
 
 /// The pairs of a value in order, each key as text and each value by its own reading. A key that

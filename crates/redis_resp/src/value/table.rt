@@ -9,15 +9,15 @@ ghost use Rattle.redis_resp.specs.Table.{entries_meaning, pairs_reading, table_o
 
 use crate::value::Value;
 use crate::value::error::ParsingError;
+use crate::value::from_value::FromRedisValue;
 use crate::value::pair::{read_pairs, read_pairs_ref};
-use crate::value::reading::FromRedisValue;
 use indexmap::IndexMap;
 use std::alloc::{AllocError, Global};
 use std::collections::HashMap;
 
 /// The table of pairs in order: a key that comes again keeps its place and takes the last value.
 /// It fails only by want of memory.
-pub fn tabled<V: Drop>(
+pub fn index_map_of<V: Drop>(
     alloc: Global,
     pairs: Vec<(String, V)>,
 ) -> Result<IndexMap<String, V>, AllocError>
@@ -29,7 +29,7 @@ pub fn tabled<V: Drop>(
 
 /// The pairs as a map: each key with the last value that it has among them. It fails only by want
 /// of memory.
-pub fn hashed<V: Drop>(
+pub fn hash_map_of<V: Drop>(
     alloc: Global,
     pairs: Vec<(String, V)>,
 ) -> Result<HashMap<String, V>, AllocError>
@@ -59,7 +59,7 @@ impl<V: FromRedisValue> FromRedisValue for IndexMap<String, V> {
             → Some (option_map V.meaning (get_by_text m key))
             ≡ option_map (last_with key) (pairs_reading V.reading (tree v))) }
     {
-        Ok(tabled(alloc, read_pairs(alloc, v)?)?)
+        Ok(index_map_of(alloc, read_pairs(alloc, v)?)?)
     }
 
     fn from_redis_value_ref(alloc: Global, v: &Value) -> Result<IndexMap<String, V>, ParsingError>
@@ -72,7 +72,7 @@ impl<V: FromRedisValue> FromRedisValue for IndexMap<String, V> {
             → Some (option_map V.meaning (get_by_text m key))
             ≡ option_map (last_with key) (pairs_reading V.reading (tree v.now))) }
     {
-        Ok(tabled(alloc, read_pairs_ref(alloc, v)?)?)
+        Ok(index_map_of(alloc, read_pairs_ref(alloc, v)?)?)
     }
 }
 
@@ -95,7 +95,7 @@ impl<V: FromRedisValue> FromRedisValue for HashMap<String, V> {
             → Some (option_map V.meaning (get_by_text m key))
             ≡ option_map (last_with key) (pairs_reading V.reading (tree v))) }
     {
-        Ok(hashed(alloc, read_pairs(alloc, v)?)?)
+        Ok(hash_map_of(alloc, read_pairs(alloc, v)?)?)
     }
 
     fn from_redis_value_ref(alloc: Global, v: &Value) -> Result<HashMap<String, V>, ParsingError>
@@ -108,7 +108,7 @@ impl<V: FromRedisValue> FromRedisValue for HashMap<String, V> {
             → Some (option_map V.meaning (get_by_text m key))
             ≡ option_map (last_with key) (pairs_reading V.reading (tree v.now))) }
     {
-        Ok(hashed(alloc, read_pairs_ref(alloc, v)?)?)
+        Ok(hash_map_of(alloc, read_pairs_ref(alloc, v)?)?)
     }
 }
 

@@ -6,7 +6,7 @@ ghost use Rattle.redis_resp.specs.Value.{tree};
 
 use crate::value::Value;
 use crate::value::error::ParsingError;
-use crate::value::reading::FromRedisValue;
+use crate::value::from_value::FromRedisValue;
 use std::alloc::Global;
 
 impl FromRedisValue for String {

@@ -5,8 +5,8 @@ ghost use Rattle.redis_resp.specs.Reading.{two_in, two_reading, four_in, four_re
 
 use crate::value::Value;
 use crate::value::error::ParsingError;
+use crate::value::from_value::FromRedisValue;
 use crate::value::members::{four_ref, into_four, into_two, two_ref};
-use crate::value::reading::FromRedisValue;
 use std::alloc::Global;
 
 /// An `Array` of exactly two, each member by its own reading, and `NotTuple(2)` for any other kind

@@ -7,7 +7,7 @@ ghost use Rattle.redis_resp.specs.Table.{pairs_reading};
 ghost use Rattle.redis_streams.specs.Info.{fields_in};
 ghost use Rattle.redis_streams.specs.InfoRecords.{named, lent_tree};
 
-use redis_resp::{FromRedisValue, ParsingError, Value, hashed};
+use redis_resp::{FromRedisValue, ParsingError, Value, hash_map_of};
 use std::alloc::Global;
 use std::collections::HashMap;
 
@@ -31,7 +31,7 @@ pub(crate) fn lent_fields<'a>(
     ensures err { IfErr result (λ e. e ≢ ParsingError.Memory → fields_in (tree v.now) ≡ None) }
 {
     let pairs = lent_pairs(alloc, v)?;
-    Ok(hashed(alloc, pairs)?)
+    Ok(hash_map_of(alloc, pairs)?)
 }
 
 /// The pairs of a value that is lent, as they arrive.

@@ -1,5 +1,5 @@
 //! Replies that hold entries.
-ghost use Rattle.stream_text.specs.Rows.{range_form, claim_form, key_form, read_form, auto_claim_form};
+ghost use Rattle.stream_text.specs.Rows.{range_form, claim_form, key_form, read_form, autoclaim_form};
 
 use crate::form::{PrintedForm, print_joined, print_listed};
 use redis_streams::{
@@ -47,7 +47,7 @@ impl PrintedForm for StreamReadReply {
 
 /// The next id, the entries and the deleted ids in brackets, and whether there were others.
 impl PrintedForm for StreamAutoClaimReply {
-    ghost form = { auto_claim_form };
+    ghost form = { autoclaim_form };
 
     fn print(&self, alloc: Global, line: &mut String) -> Result<(), AllocError> {
         write!(line, "next={} claimed=[", self.next_stream_id)?;

@@ -2,8 +2,8 @@
 ghost use Rattle.std.specs.Prelude.{◌≡◌, ◌≢◌, [], false, Some, None, IsOk, IfOk, IfErr, OnErr, List, length, map, option_map, string_bytes};
 ghost use Rattle.redis_resp.specs.Tree.{Tree, array_of_plain};
 ghost use Rattle.redis_resp.specs.Value.{tree};
-ghost use Rattle.redis_streams.specs.AutoClaim.{AutoClaim, Parts, auto_claim_reading, claimed_shape, deleted_reading, empty_auto_claim, parts_in, two_or_three};
-ghost use Rattle.redis_streams.specs.StreamAutoClaimReply.{auto_claim_meaning, texts_of, trees_of_parts, trees_of_lent_parts};
+ghost use Rattle.redis_streams.specs.AutoClaim.{AutoClaim, Parts, autoclaim_reading, claimed_shape, deleted_reading, empty_autoclaim, parts_in, two_or_three};
+ghost use Rattle.redis_streams.specs.StreamAutoClaimReply.{autoclaim_meaning, texts_of, trees_of_parts, trees_of_lent_parts};
 ghost use Rattle.redis_streams.specs.StreamId.{entries_of};
 
 use crate::rows::claimed::{read_claimed, read_claimed_ref};
@@ -29,7 +29,7 @@ impl StreamAutoClaimReply {
     /// The reply without ids and entries. It takes no memory and is always Ok.
     pub fn empty(alloc: Global) -> Result<StreamAutoClaimReply, AllocError>
         ensures ok { IsOk result }
-        ensures reply { IfOk result (λ r. auto_claim_meaning r ≡ empty_auto_claim) }
+        ensures reply { IfOk result (λ r. autoclaim_meaning r ≡ empty_autoclaim) }
     {
         Ok(StreamAutoClaimReply {
             next_stream_id: String::new(alloc),
@@ -41,7 +41,7 @@ impl StreamAutoClaimReply {
 
     /// The same reply. It fails only by want of memory.
     pub fn try_clone(&self, alloc: Global) -> Result<StreamAutoClaimReply, AllocError>
-        ensures { IfOk result (λ r. auto_claim_meaning r ≡ auto_claim_meaning self.now) }
+        ensures { IfOk result (λ r. autoclaim_meaning r ≡ autoclaim_meaning self.now) }
     {
         Ok(StreamAutoClaimReply {
             next_stream_id: String::from_str(alloc, &self.next_stream_id)?,
@@ -59,15 +59,15 @@ impl StreamAutoClaimReply {
 impl FromRedisValue for StreamAutoClaimReply {
     ghost Meaning = { AutoClaim };
 
-    ghost meaning = { auto_claim_meaning };
+    ghost meaning = { autoclaim_meaning };
 
-    ghost reading = { auto_claim_reading };
+    ghost reading = { autoclaim_reading };
 
-    #[tactic(auto, using(crate::proofs::AutoClaimLemmas::auto_claim_read, crate::proofs::AutoClaimLemmas::no_parts, crate::proofs::AutoClaimLemmas::no_claimed, crate::proofs::AutoClaimLemmas::no_deleted, crate::proofs::AutoClaimLemmas::no_next))]
+    #[tactic(auto, using(crate::proofs::AutoClaimLemmas::autoclaim_read, crate::proofs::AutoClaimLemmas::no_parts, crate::proofs::AutoClaimLemmas::no_claimed, crate::proofs::AutoClaimLemmas::no_deleted, crate::proofs::AutoClaimLemmas::no_next))]
     fn from_redis_value(alloc: Global, v: Value) -> Result<StreamAutoClaimReply, ParsingError>
-        ensures ok { IfOk result (λ r. auto_claim_reading (tree v) ≡ Some (auto_claim_meaning r)) }
+        ensures ok { IfOk result (λ r. autoclaim_reading (tree v) ≡ Some (autoclaim_meaning r)) }
         ensures err { IfErr result (λ e. e ≢ ParsingError.Memory
-            → auto_claim_reading (tree v) ≡ None) }
+            → autoclaim_reading (tree v) ≡ None) }
         ensures kind { array_of_plain (tree v) ≡ None → result ≡ Err ParsingError.NotArray }
         ensures count { (items : List Tree) → array_of_plain (tree v) ≡ Some items
             → two_or_three items ≡ None
@@ -87,12 +87,12 @@ impl FromRedisValue for StreamAutoClaimReply {
         })
     }
 
-    #[tactic(auto, using(crate::proofs::AutoClaimLemmas::auto_claim_read, crate::proofs::AutoClaimLemmas::no_parts, crate::proofs::AutoClaimLemmas::no_claimed, crate::proofs::AutoClaimLemmas::no_deleted, crate::proofs::AutoClaimLemmas::no_next))]
+    #[tactic(auto, using(crate::proofs::AutoClaimLemmas::autoclaim_read, crate::proofs::AutoClaimLemmas::no_parts, crate::proofs::AutoClaimLemmas::no_claimed, crate::proofs::AutoClaimLemmas::no_deleted, crate::proofs::AutoClaimLemmas::no_next))]
     fn from_redis_value_ref(alloc: Global, v: &Value) -> Result<StreamAutoClaimReply, ParsingError>
-        ensures ok { IfOk result (λ r. auto_claim_reading (tree v.now)
-            ≡ Some (auto_claim_meaning r)) }
+        ensures ok { IfOk result (λ r. autoclaim_reading (tree v.now)
+            ≡ Some (autoclaim_meaning r)) }
         ensures err { IfErr result (λ e. e ≢ ParsingError.Memory
-            → auto_claim_reading (tree v.now) ≡ None) }
+            → autoclaim_reading (tree v.now) ≡ None) }
         ensures kind { array_of_plain (tree v.now) ≡ None → result ≡ Err ParsingError.NotArray }
         ensures count { (items : List Tree) → array_of_plain (tree v.now) ≡ Some items
             → two_or_three items ≡ None

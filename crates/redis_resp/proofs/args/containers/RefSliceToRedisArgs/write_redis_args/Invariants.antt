@@ -1,6 +1,6 @@
 use Rattle.std.proofs.Common.{◌≡◌, ◌++◌, take}
 use Rattle.std.specs.List.{flat_map}
-use Rattle.redis_resp.proofs.args.sequence.RefSliceToRedisArgs.write_redis_args.Given as goal
+use Rattle.redis_resp.proofs.args.containers.RefSliceToRedisArgs.write_redis_args.Given as goal
 
 -- the arguments of the elements so far have been written
 abbrev pub invariant-loop-item : goal.invariant-loop-item

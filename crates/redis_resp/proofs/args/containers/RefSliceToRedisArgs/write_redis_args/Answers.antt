@@ -1,5 +1,5 @@
 use Rattle.redis_resp.proofs.WriterLemmas.{wrote_at_exit, stops_in_element}
-use Rattle.redis_resp.proofs.args.sequence.RefSliceToRedisArgs.write_redis_args.Goals as goal
+use Rattle.redis_resp.proofs.args.containers.RefSliceToRedisArgs.write_redis_args.Goals as goal
 
 pub returns-in_err-write_redis_args : goal.returns-in_err-write_redis_args
 returns-in_err-write_redis_args g c = wrote_at_exit _ c.from_residual.ensures.1
