@@ -1,10 +1,10 @@
 pub mod FixedArgsLemmas
-pub mod ListLemmas
 pub mod RoomLemmas
 pub mod MembersLemmas
 pub mod NumberLemmas
 pub mod SameLemmas
 pub mod PairLemmas
+pub mod ReadLemmas
 pub mod TableLemmas
 pub mod TextLemmas
 pub mod TreeLemmas

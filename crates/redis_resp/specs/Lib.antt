@@ -1,13 +1,14 @@
 pub mod Bytes
 pub mod Clause
 pub mod FixedArgs
-pub mod Members
 pub mod Number
 pub mod Reading
 pub mod Record
+pub mod Refusal
 pub mod Room
 pub mod Same
 pub mod SameLaws
+pub mod Source
 pub mod Table
 pub mod Text
 pub mod Tree
