@@ -11,6 +11,7 @@ pub mod SameLaws
 pub mod Source
 pub mod Table
 pub mod Text
+pub mod Then
 pub mod Tree
 pub mod Value
 pub mod Writer
