@@ -1,4 +1,6 @@
 pub mod FixedArgsLemmas
+pub mod ReadableLemmas
+pub mod RefusalLemmas
 pub mod RoomLemmas
 pub mod MembersLemmas
 pub mod NumberLemmas
@@ -7,5 +9,6 @@ pub mod PairLemmas
 pub mod ReadLemmas
 pub mod TableLemmas
 pub mod TextLemmas
+pub mod TraverseLemmas
 pub mod TreeLemmas
 pub mod WriterLemmas

@@ -3,6 +3,7 @@ use Rattle.std.specs.Prelude.{◌≡◌, ◌≢◌, ◌⊎◌, List, Option, Non
 use Rattle.std.specs.List.{Any}
 use Rattle.redis_resp.specs.Tree.{Tree, plain, items, pairs_in}
 use Rattle.redis_resp.specs.Reading.{is_nil, two_in, four_in}
+use Rattle.redis_resp.specs.Bytes.{bytes_reading}
 use Rattle.redis_resp.specs.Text.{text_reading}
 use Rattle.redis_resp.specs.declared.value.error.ParsingError.{ParsingError}
 use Rattle.redis_resp.specs.declared.value.error.ParsingError.TheVariants.{NotText, NotNumber, NotBytes, NotList, NotPairs, NotTuple, Memory}
@@ -15,13 +16,13 @@ Refuses reading may_refuse t error = may_refuse t error × (error ≢ Memory →
 abbrev pub OrMemory : ParsingError → ParsingError → Type 0
 OrMemory cause error = (error ≡ cause) ⊎ (error ≡ Memory)
 
--- a text: `NotText`, or want of memory
+-- a text: `NotText` where the tree has none, and out of memory alone where it has one
 abbrev pub RefusesText : Tree → ParsingError → Type 0
-RefusesText _ error = OrMemory NotText error
+RefusesText t error = MatchOption (text_reading t) (error ≡ NotText) (λ _. error ≡ Memory)
 
--- bytes: `NotBytes`, or want of memory
+-- bytes: `NotBytes` where the tree has none, and out of memory alone where it has some
 abbrev pub RefusesBytes : Tree → ParsingError → Type 0
-RefusesBytes _ error = OrMemory NotBytes error
+RefusesBytes t error = MatchOption (bytes_reading t) (error ≡ NotBytes) (λ _. error ≡ Memory)
 
 -- a number: `NotNumber` alone, since it takes no memory
 abbrev pub RefusesNumber : Tree → ParsingError → Type 0

@@ -20,6 +20,7 @@ mod number;
 mod option;
 mod pair;
 mod pairs_left;
+mod readable;
 #[cfg(test)]
 mod samples;
 mod source;
@@ -34,6 +35,7 @@ pub use members::{into_four, into_two};
 pub use number::usize_of;
 pub use pair::{PairList, read_pairs};
 pub use pairs_left::{PairsLeft, count_left, into_pairs, next_left};
+pub use readable::{is_fields, is_nil, is_text, is_usize};
 pub use source::Source;
 pub use table::{hash_map_of, index_map_of};
 
