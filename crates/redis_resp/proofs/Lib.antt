@@ -1,3 +1,5 @@
+pub mod DecimalLemmas
+pub mod FieldLemmas
 pub mod FixedArgsLemmas
 pub mod ReadableLemmas
 pub mod RefusalLemmas

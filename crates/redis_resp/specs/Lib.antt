@@ -1,5 +1,6 @@
 pub mod Bytes
 pub mod Clause
+pub mod FieldsMeaning
 pub mod FixedArgs
 pub mod Number
 pub mod Reading

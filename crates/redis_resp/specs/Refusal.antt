@@ -63,3 +63,7 @@ RefusesTwo a b t error = MatchOption (two_in t) (error ≡ NotTuple 2) (λ q. a 
 -- four, likewise
 abbrev pub RefusesFour : (Tree → ParsingError → Type 0) → (Tree → ParsingError → Type 0) → (Tree → ParsingError → Type 0) → (Tree → ParsingError → Type 0) → Tree → ParsingError → Type 0
 RefusesFour a b c d t error = MatchOption (four_in t) (error ≡ NotTuple 4) (λ q. a q.0 error ⊎ (b q.1 error ⊎ (c q.2 error ⊎ d q.3 error)))
+
+-- a field: what its value is refused with, where there is one
+abbrev pub RefusesField : (Tree → ParsingError → Type 0) → Option Tree → ParsingError → Type 0
+RefusesField refuses field error = MatchOption field ⊥ (λ t. refuses t error)

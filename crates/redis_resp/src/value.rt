@@ -9,27 +9,25 @@ mod clone;
 mod contents;
 mod equality;
 mod error;
-#[cfg(test)]
-mod flag;
+mod field;
 mod from_value;
 mod list;
 mod members;
-#[cfg(test)]
-mod memory_tests;
 mod number;
 mod option;
 mod pair;
 mod pairs_left;
 mod readable;
-#[cfg(test)]
-mod samples;
 mod source;
 mod table;
+#[cfg(test)]
+mod tests;
 mod text;
 mod tuple;
 
 pub use contents::Contents;
 pub use error::ParsingError;
+pub use field::field_of;
 pub use from_value::{FromRedisValue, from_redis_value, from_redis_value_ref};
 pub use members::{into_four, into_two};
 pub use number::usize_of;

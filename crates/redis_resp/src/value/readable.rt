@@ -59,3 +59,6 @@ pub fn is_fields(v: &Value) -> bool
     }
     true
 }
+
+#[cfg(test)]
+mod tests;

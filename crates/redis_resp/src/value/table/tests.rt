@@ -1,6 +1,6 @@
 //! Pairs and tables by both calls.
-use crate::value::flag::Flag;
-use crate::value::samples::{attributed, both_answer, bulk, pairs};
+use crate::value::tests::samples::{attributed, both_answer, bulk, pairs};
+use crate::value::tests::user_type::Flag;
 use crate::value::{
     FromRedisValue, PairList, ParsingError, Value, from_redis_value, from_redis_value_ref,
 };

@@ -1,5 +1,5 @@
 //! Tuples by both calls, and the members that they are read from.
-use crate::value::samples::{attributed, both_answer, bulk, bulks, pairs};
+use crate::value::tests::samples::{attributed, both_answer, bulk, bulks, pairs};
 use crate::value::{ParsingError, Value, into_four, into_two};
 use std::test::Fail;
 
@@ -45,8 +45,13 @@ fn only_arrays_of_the_length_are_tuples(rt: HostRuntime) -> Result<(), Fail> {
         let four = Err(ParsingError::NotTuple(4));
         assert!(rt; both_answer::<(String, String, String, String)>(alloc, again, &four)?);
     }
+    let one = Value::Map(vec![in alloc; (bulk(alloc, b"x")?, Value::Int(1))]?);
+    assert!(rt; both_answer::<(String, u32)>(alloc, one, &Err(ParsingError::NotTuple(2)))?);
     let unreadable = Value::Array(bulks(alloc, &["x", "y"])?);
     assert!(rt; both_answer::<(String, u32)>(alloc, unreadable, &Err(ParsingError::NotNumber))?);
+    let last = Value::Array(bulks(alloc, &["w", "x", "y", "z"])?);
+    let refusal = Err(ParsingError::NotNumber);
+    assert!(rt; both_answer::<(String, String, String, u32)>(alloc, last, &refusal)?);
     Ok(())
 }
 

@@ -1,6 +1,6 @@
 //! Readings that take memory: where a request is refused they answer the record, its refusal or
 //! `Memory`, and nothing else. `tools/sweep-refused-memory` refuses each request in turn.
-use crate::value::samples::{bulks, pairs};
+use crate::value::tests::samples::{bulks, pairs};
 use crate::value::{FromRedisValue, ParsingError, Value, from_redis_value, from_redis_value_ref};
 use indexmap::IndexMap;
 use std::alloc::{AllocError, Global};
