@@ -1,11 +1,9 @@
 pub mod AutoClaimLawLemmas
 pub mod AutoClaimLemmas
 pub mod FieldsLemmas
+pub mod InfoLemmas
+pub mod OtherKeysLemmas
 pub mod PendingLemmas
 pub mod ReadLemmas
+pub mod RefusalLemmas
 pub mod RowsLemmas
-pub mod InfoLemmas
-pub mod StreamInfoLemmas
-pub mod GroupInfoLemmas
-pub mod TrackedInfoLemmas
-pub mod OtherKeysLemmas
