@@ -7,5 +7,6 @@ pub mod SameLemmas
 pub mod PairLemmas
 pub mod TableLemmas
 pub mod TextLemmas
+pub mod TraverseLemmas
 pub mod TreeLemmas
 pub mod WriterLemmas
