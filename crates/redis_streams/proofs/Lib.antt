@@ -9,3 +9,7 @@ pub mod StreamInfoLemmas
 pub mod GroupInfoLemmas
 pub mod TrackedInfoLemmas
 pub mod OtherKeysLemmas
+pub mod AutoclaimRespellingLemmas
+pub mod OverlapLemmas
+pub mod RespellingLemmas
+pub mod SkeletonLemmas

@@ -14,3 +14,7 @@ pub mod Info
 pub mod InfoRecords
 pub mod StreamAutoClaimReply
 pub mod OtherKeys
+pub mod Overlap
+pub mod OverlapLaws
+pub mod Respelling
+pub mod RespellingLaws

@@ -1,0 +1,19 @@
+-- What holds of each relation of respelling, as statements.
+use Rattle.std.specs.Prelude.{◌≡◌, ◌≢◌, Option, Some, None}
+use Rattle.redis_resp.specs.Tree.{Tree}
+
+-- it holds of equal values
+abbrev pub HoldsOfEqual : (Tree → Tree → Type 0) → Type 0
+HoldsOfEqual R = (v w : Tree) → v ≡ w → R v w
+
+-- it asks for no direction
+abbrev pub IsSymmetric : (Tree → Tree → Type 0) → Type 0
+IsSymmetric R = (v w : Tree) → R v w → R w v
+
+-- values that it relates read as one record, or both as none
+abbrev pub KeepsRecord : {M : Type 0} → (Tree → Tree → Type 0) → (Tree → Option M) → Type 0
+KeepsRecord R reading = (v w : Tree) → R v w → reading v ≡ reading w
+
+-- Of two values that are alike, answers mean the same: two records are one, and a record of the one is no refusal of the other.
+abbrev pub SameAnswers : {T M : Type 0} → (Tree → Option M) → (T → M) → Tree → Tree → Type 0
+SameAnswers {T} reading meaning v w = (a : T) → reading v ≡ Some (meaning a) → (reading w ≢ None) × ((b : T) → reading w ≡ Some (meaning b) → meaning a ≡ meaning b)
