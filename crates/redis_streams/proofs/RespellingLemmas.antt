@@ -3,16 +3,17 @@ use Rattle.std.proofs.Common.{◌≡◌, inl, inr, List, [], ◌∷◌, Bool, tr
 use Rattle.std.proofs.lemmas.Option.{same_Some}
 use Rattle.std.specs.Option.{is_some, option_or}
 use Rattle.std.specs.FinMap.{from_entries}
-use Rattle.redis_resp.specs.Tree.{Tree, array, plain, items, pairs_in, pairs_of_plain, two_by_two, list_of_trees, array_of_plain, exactly_four}
+use Rattle.redis_resp.specs.Tree.{Tree, array, map_of_pairs, trees, pairs, single, list_of_pairs, plain, items, pairs_in, pairs_of_plain, two_by_two, list_of_trees, array_of_plain, exactly_four}
 use Rattle.redis_resp.specs.Text.{text_reading}
 use Rattle.redis_resp.specs.Number.{unsigned_reading}
 use Rattle.redis_resp.specs.Reading.{traverse, list_reading, option_reading, four_in, four_of}
 use Rattle.redis_resp.specs.Table.{Fields, entry_reading, table_reading, table_of}
+use Rattle.redis_resp.proofs.TreeLemmas.{listed_trees, listed_pairs}
 use Rattle.redis_streams.specs.Entry.{Entry, entry_of}
 use Rattle.redis_streams.specs.Rows.{joined, field_reading, standard_entries, entries_reading, rows_reading}
 use Rattle.redis_streams.specs.Read.{Delivery, delivered_entry, claim_entries, Streams, streams_reading, standard_reading, claim_reading, read_reading}
 use Rattle.redis_streams.specs.Respelling.{Alike, BothAlike, FieldsAlike, PairAlike, TablesAlike, ListsAlike, RowsAlike, RangeAlike, ClaimAlike, FourAlike, DeliveriesAlike, EntriesAlike, StreamsAlike, ReadAlike}
-use Rattle.redis_streams.specs.RespellingLaws.{HoldsOfEqual, IsSymmetric, KeepsRecord, SameAnswers}
+use Rattle.redis_streams.specs.RespellingLaws.{HoldsOfEqual, IsSymmetric, KeepsRecord, SameAnswers, rows_of_two, ProtocolsAreAlike}
 
 -- Relations turned round.
 
@@ -190,11 +191,27 @@ read_of_equal v w e = inl e
 pub read_back : IsSymmetric ReadAlike
 read_back v w a = subst (λ q. StreamsAlike (EntriesAlike q) w v) (ap is_some (read_standard v w a)) (streams_back (EntriesAlike (is_some (standard_reading v))) (entries_back (is_some (standard_reading v))) v w a)
 
+-- RESP2 and RESP3 spell the streams of a read alike.
+
+row_of_two : (R : Tree → Tree → Type 0) (p : Tree × Tree) → TablesAlike (ListsAlike R) (array (trees (p.0 ∷ p.1 ∷ []))) (single p)
+row_of_two R p = inr ((refl, inl refl), tt)
+
+rows_alike_each : (R : Tree → Tree → Type 0) (ps : List (Tree × Tree)) → Alike (TablesAlike (ListsAlike R)) (map (λ p. array (trees (p.0 ∷ p.1 ∷ []))) ps) (map single ps)
+rows_alike_each R [] = tt
+rows_alike_each R (p ∷ ps) = (row_of_two R p, rows_alike_each R ps)
+
+streams_of_two : (R : Tree → Tree → Type 0) (ps : List (Tree × Tree)) → StreamsAlike R (rows_of_two ps) (map_of_pairs (pairs ps))
+streams_of_two R ps = inr (subst (λ xs. Alike (TablesAlike (ListsAlike R)) xs (map single (list_of_pairs (pairs ps)))) (sym (listed_trees (map (λ p. array (trees (p.0 ∷ p.1 ∷ []))) ps)))
+    (subst (λ qs. Alike (TablesAlike (ListsAlike R)) (map (λ p. array (trees (p.0 ∷ p.1 ∷ []))) ps) (map single qs)) (sym (listed_pairs ps)) (rows_alike_each R ps)))
+
+pub protocols_alike : ProtocolsAreAlike
+protocols_alike ps = streams_of_two (EntriesAlike (is_some (standard_reading (rows_of_two ps)))) ps
+
 pub ruleset range_laws = (range_respells, range_of_equal, range_back)
 
 pub ruleset claim_laws = (claim_respells, claim_of_equal, claim_back)
 
-pub ruleset read_laws = (read_respells, read_standard, read_of_equal, read_back)
+pub ruleset read_laws = (read_respells, read_standard, read_of_equal, read_back, protocols_alike)
 
 -- For a caller that knows two values to be alike: what was read of both means the same, and where the one was read the other is not refused.
 pub same_answers : {T M : Type 0} (R : Tree → Tree → Type 0) (reading : Tree → Option M) (meaning : T → M) → KeepsRecord R reading → (v w : Tree) → R v w → SameAnswers reading meaning v w

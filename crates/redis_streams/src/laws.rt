@@ -14,7 +14,12 @@ ghost use Rattle.redis_streams.specs.OverlapLaws.{
 };
 ghost use Rattle.redis_streams.specs.Read.{read_reading, standard_reading};
 ghost use Rattle.redis_streams.specs.Respelling.{AutoclaimAlike, ClaimAlike, RangeAlike, ReadAlike};
-ghost use Rattle.redis_streams.specs.RespellingLaws.{HoldsOfEqual, IsSymmetric, KeepsRecord};
+ghost use Rattle.redis_streams.specs.RespellingLaws.{
+  HoldsOfEqual,
+  IsSymmetric,
+  KeepsRecord,
+  ProtocolsAreAlike,
+};
 ghost use Rattle.redis_streams.specs.Rows.{rows_reading};
 
 /// What `invalid_entries` of an automatic claim tells: where each item of the claimed list is nil,
@@ -45,13 +50,15 @@ pub fn respell_claim()
 /// The same of what XREAD or XREADGROUP answers, at the list of rows, the rows, the lists of
 /// entries and the fields, and at the entries too where the value has a standard record: an entry
 /// of the claim form is an array of four in every spelling. Both values then have the same standard
-/// record or both none, which is why the relation has no direction. It takes no memory.
+/// record or both none, which is why the relation has no direction. The array of rows that RESP2
+/// answers and the map that RESP3 answers are such values. It takes no memory.
 #[tactic(auto, using(crate::proofs::RespellingLemmas::read_laws))]
 pub fn respell_read()
     ensures record { KeepsRecord ReadAlike read_reading }
     ensures standard { KeepsRecord ReadAlike standard_reading }
     ensures equal { HoldsOfEqual ReadAlike }
     ensures symmetric { IsSymmetric ReadAlike }
+    ensures protocols { ProtocolsAreAlike }
 {}
 
 /// The same of what XAUTOCLAIM answers, at the fields of claimed rows that are arrays in both
