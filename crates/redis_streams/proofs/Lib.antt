@@ -1,9 +1,13 @@
 pub mod AutoClaimLawLemmas
 pub mod AutoClaimLemmas
+pub mod AutoclaimRespellingLemmas
 pub mod FieldsLemmas
 pub mod InfoLemmas
 pub mod OtherKeysLemmas
+pub mod OverlapLemmas
 pub mod PendingLemmas
 pub mod ReadLemmas
 pub mod RefusalLemmas
+pub mod RespellingLemmas
 pub mod RowsLemmas
+pub mod SkeletonLemmas

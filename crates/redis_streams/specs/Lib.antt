@@ -7,12 +7,16 @@ pub mod Info
 pub mod InfoMeaning
 pub mod InfoRefusal
 pub mod OtherKeys
+pub mod Overlap
+pub mod OverlapLaws
 pub mod Pending
 pub mod PendingMeaning
 pub mod PendingRefusal
 pub mod Read
 pub mod ReadMeaning
 pub mod Refusal
+pub mod Respelling
+pub mod RespellingLaws
 pub mod Rows
 pub mod SameEntryLaws
 pub mod SameEntryMeaning
