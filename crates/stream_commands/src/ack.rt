@@ -18,11 +18,11 @@ use stream_options::StreamDeletionPolicy;
 /// ```text
 /// xack("orders", "g", AtLeastOne::one(&"1-0"))    // XACK orders g 1-0
 /// ```
-pub fn xack<'a, K: ToSingleRedisArg, G: ToSingleRedisArg, I: ToSingleRedisArg>(
+pub fn xack<'w, 'a, K: ToSingleRedisArg, G: ToSingleRedisArg, I: ToSingleRedisArg>(
     key: K,
     group: G,
     ids: AtLeastOne<'a, I>,
-) -> Command<(Word, K, G, AtLeastOne<'a, I>), usize>
+) -> Command<(Word<'w>, K, G, AtLeastOne<'a, I>), usize>
     ensures { result
         ≡ codes "XACK" ∷ K.args key ++ (G.args group ++ flat_map I.args (all ids.entry)) }
 {
@@ -36,12 +36,22 @@ pub fn xack<'a, K: ToSingleRedisArg, G: ToSingleRedisArg, I: ToSingleRedisArg>(
 /// xack_del("orders", "g", AtLeastOne::one(&"1-0"), StreamDeletionPolicy::Acked)
 ///                                                 // XACKDEL orders g ACKED IDS 1 1-0
 /// ```
-pub fn xack_del<'a, K: ToSingleRedisArg, G: ToSingleRedisArg, I: ToSingleRedisArg>(
+pub fn xack_del<'w, 'a, K: ToSingleRedisArg, G: ToSingleRedisArg, I: ToSingleRedisArg>(
     key: K,
     group: G,
     ids: AtLeastOne<'a, I>,
     policy: StreamDeletionPolicy,
-) -> Command<(Word, K, G, StreamDeletionPolicy, Word, CountedIds<'a, I>), Vec<XAckDelStatusCode>>
+) -> Command<
+    (
+        Word<'w>,
+        K,
+        G,
+        StreamDeletionPolicy,
+        Word<'w>,
+        CountedIds<'a, I>,
+    ),
+    Vec<XAckDelStatusCode>,
+>
     ensures { result ≡ codes "XACKDEL" ∷ K.args key
         ++ (G.args group ++ policy_word (policy_of policy)
         ∷ codes "IDS" ∷ decimal (length (all ids.entry)) ∷ flat_map I.args (all ids.entry)) }

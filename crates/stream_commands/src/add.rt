@@ -15,11 +15,11 @@ use stream_options::{StreamAddOptions, StreamMaxlen};
 /// ```text
 /// xadd("orders", "*", ("item", "tea"))            // XADD orders * item tea
 /// ```
-pub fn xadd<K: ToSingleRedisArg, I: ToSingleRedisArg, F: ToFieldArgs>(
+pub fn xadd<'w, K: ToSingleRedisArg, I: ToSingleRedisArg, F: ToFieldArgs>(
     key: K,
     id: I,
     fields: F,
-) -> Command<(Word, K, I, F), String>
+) -> Command<(Word<'w>, K, I, F), String>
     ensures { result ≡ codes "XADD" ∷ K.args key ++ (I.args id ++ F.args fields) }
 {
     Command::new((Word("XADD"), key, id, fields))
@@ -33,12 +33,12 @@ pub fn xadd<K: ToSingleRedisArg, I: ToSingleRedisArg, F: ToFieldArgs>(
 /// xadd_options("orders", "*", ("item", "tea"), &options)
 ///                                                 // XADD orders NOMKSTREAM * item tea
 /// ```
-pub fn xadd_options<'a, K: ToSingleRedisArg, I: ToSingleRedisArg, F: ToFieldArgs>(
+pub fn xadd_options<'w, 'a, K: ToSingleRedisArg, I: ToSingleRedisArg, F: ToFieldArgs>(
     key: K,
     id: I,
     fields: F,
     options: &'a StreamAddOptions,
-) -> Command<(Word, K, &'a StreamAddOptions, (I, F)), Option<String>>
+) -> Command<(Word<'w>, K, &'a StreamAddOptions, (I, F)), Option<String>>
     ensures { result
         ≡ codes "XADD" ∷ K.args key ++ (add_sentence options.now ++ (I.args id ++ F.args fields)) }
 {
@@ -52,12 +52,12 @@ pub fn xadd_options<'a, K: ToSingleRedisArg, I: ToSingleRedisArg, F: ToFieldArgs
 /// xadd_maxlen("orders", StreamMaxlen::Approx(1000), "*", ("item", "tea"))
 ///                                                 // XADD orders MAXLEN ~ 1000 * item tea
 /// ```
-pub fn xadd_maxlen<K: ToSingleRedisArg, I: ToSingleRedisArg, F: ToFieldArgs>(
+pub fn xadd_maxlen<'w, K: ToSingleRedisArg, I: ToSingleRedisArg, F: ToFieldArgs>(
     key: K,
     maxlen: StreamMaxlen,
     id: I,
     fields: F,
-) -> Command<(Word, K, StreamMaxlen, (I, F)), String>
+) -> Command<(Word<'w>, K, StreamMaxlen, (I, F)), String>
     ensures { result ≡ codes "XADD" ∷ K.args key
         ++ (maxlen_sentence (maxlen_of maxlen) ++ (I.args id ++ F.args fields)) }
 {

@@ -17,6 +17,7 @@ use stream_options::StreamAutoClaimOptions;
 ///                                                 // XAUTOCLAIM orders g c 60000 0-0 COUNT 10
 /// ```
 pub fn xautoclaim_options<
+    'w,
     'a,
     K: ToSingleRedisArg,
     G: ToSingleRedisArg,
@@ -29,7 +30,7 @@ pub fn xautoclaim_options<
     min_idle: usize,
     start: S,
     options: &'a StreamAutoClaimOptions,
-) -> Command<(Word, K, G, C, usize, (S, &'a StreamAutoClaimOptions)), StreamAutoClaimReply>
+) -> Command<(Word<'w>, K, G, C, usize, (S, &'a StreamAutoClaimOptions)), StreamAutoClaimReply>
     ensures { result ≡ codes "XAUTOCLAIM" ∷ K.args key ++ (G.args group ++ (C.args consumer
         ++ decimal min_idle ∷ S.args start ++ autoclaim_sentence options.now)) }
 {

@@ -18,6 +18,7 @@ use stream_options::StreamClaimOptions;
 ///                                                 // XCLAIM orders g c 60000 1-0
 /// ```
 pub fn xclaim<
+    'w,
     'a,
     K: ToSingleRedisArg,
     G: ToSingleRedisArg,
@@ -29,7 +30,7 @@ pub fn xclaim<
     consumer: C,
     min_idle: usize,
     ids: AtLeastOne<'a, I>,
-) -> Command<(Word, K, G, C, usize, AtLeastOne<'a, I>), StreamClaimReply>
+) -> Command<(Word<'w>, K, G, C, usize, AtLeastOne<'a, I>), StreamClaimReply>
     ensures { result ≡ codes "XCLAIM" ∷ K.args key ++ (G.args group ++ (C.args consumer
         ++ decimal min_idle ∷ flat_map I.args (all ids.entry))) }
 {
@@ -44,6 +45,7 @@ pub fn xclaim<
 ///                                                 // XCLAIM orders g c 60000 1-0 RETRYCOUNT 3
 /// ```
 pub fn xclaim_options<
+    'w,
     'a,
     K: ToSingleRedisArg,
     G: ToSingleRedisArg,
@@ -58,7 +60,7 @@ pub fn xclaim_options<
     options: &'a StreamClaimOptions,
 ) -> Command<
     (
-        Word,
+        Word<'w>,
         K,
         G,
         C,
@@ -90,6 +92,7 @@ pub fn xclaim_options<
 ///                                                 // XCLAIM orders g c 60000 1-0 JUSTID
 /// ```
 pub fn xclaim_justid<
+    'w,
     'a,
     K: ToSingleRedisArg,
     G: ToSingleRedisArg,
@@ -104,7 +107,7 @@ pub fn xclaim_justid<
     options: StreamClaimOptions,
 ) -> Command<
     (
-        Word,
+        Word<'w>,
         K,
         G,
         C,

@@ -61,9 +61,9 @@ impl<A: ToRedisArgs, R: FromRedisValue> Command<A, R> {
 
 /// A fixed word of a command: its name, or a keyword.
 #[derive(Debug, Drop)]
-pub struct Word(pub &'static str);
+pub struct Word<'w>(pub &'w str);
 
-impl ToRedisArgs for Word {
+impl<'w> ToRedisArgs for Word<'w> {
     ghost args = { λ word. word.0.now ∷ [] };
 
     fn write_redis_args<W: RedisWrite>(&self, out: &mut W) -> Result<(), WriteError> {

@@ -17,10 +17,10 @@ use stream_options::StreamDeletionPolicy;
 /// ```text
 /// xdel("orders", AtLeastOne::one(&"1-0"))         // XDEL orders 1-0
 /// ```
-pub fn xdel<'a, K: ToSingleRedisArg, I: ToSingleRedisArg>(
+pub fn xdel<'w, 'a, K: ToSingleRedisArg, I: ToSingleRedisArg>(
     key: K,
     ids: AtLeastOne<'a, I>,
-) -> Command<(Word, K, AtLeastOne<'a, I>), usize>
+) -> Command<(Word<'w>, K, AtLeastOne<'a, I>), usize>
     ensures { result ≡ codes "XDEL" ∷ K.args key ++ flat_map I.args (all ids.entry) }
 {
     Command::new((Word("XDEL"), key, ids))
@@ -33,11 +33,19 @@ pub fn xdel<'a, K: ToSingleRedisArg, I: ToSingleRedisArg>(
 /// xdel_ex("orders", AtLeastOne::one(&"1-0"), StreamDeletionPolicy::KeepRef)
 ///                                                 // XDELEX orders KEEPREF IDS 1 1-0
 /// ```
-pub fn xdel_ex<'a, K: ToSingleRedisArg, I: ToSingleRedisArg>(
+pub fn xdel_ex<'w, 'a, K: ToSingleRedisArg, I: ToSingleRedisArg>(
     key: K,
     ids: AtLeastOne<'a, I>,
     policy: StreamDeletionPolicy,
-) -> Command<(Word, K, StreamDeletionPolicy, (Word, CountedIds<'a, I>)), Vec<XDelExStatusCode>>
+) -> Command<
+    (
+        Word<'w>,
+        K,
+        StreamDeletionPolicy,
+        (Word<'w>, CountedIds<'a, I>),
+    ),
+    Vec<XDelExStatusCode>,
+>
     ensures { result ≡ codes "XDELEX" ∷ K.args key ++ policy_word (policy_of policy)
         ∷ codes "IDS" ∷ decimal (length (all ids.entry)) ∷ flat_map I.args (all ids.entry) }
 {

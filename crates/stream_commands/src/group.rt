@@ -10,11 +10,11 @@ use redis_resp::ToSingleRedisArg;
 /// ```text
 /// xgroup_create("orders", "g", "$")               // XGROUP CREATE orders g $
 /// ```
-pub fn xgroup_create<K: ToSingleRedisArg, G: ToSingleRedisArg, I: ToSingleRedisArg>(
+pub fn xgroup_create<'w, K: ToSingleRedisArg, G: ToSingleRedisArg, I: ToSingleRedisArg>(
     key: K,
     group: G,
     id: I,
-) -> Command<(Word, Word, K, (G, I)), String>
+) -> Command<(Word<'w>, Word<'w>, K, (G, I)), String>
     ensures { result ≡ codes "XGROUP" ∷ codes "CREATE"
         ∷ K.args key ++ (G.args group ++ I.args id) }
 {
@@ -26,11 +26,11 @@ pub fn xgroup_create<K: ToSingleRedisArg, G: ToSingleRedisArg, I: ToSingleRedisA
 /// ```text
 /// xgroup_create_mkstream("orders", "g", "$")      // XGROUP CREATE orders g $ MKSTREAM
 /// ```
-pub fn xgroup_create_mkstream<K: ToSingleRedisArg, G: ToSingleRedisArg, I: ToSingleRedisArg>(
+pub fn xgroup_create_mkstream<'w, K: ToSingleRedisArg, G: ToSingleRedisArg, I: ToSingleRedisArg>(
     key: K,
     group: G,
     id: I,
-) -> Command<(Word, Word, K, G, I, Word), String>
+) -> Command<(Word<'w>, Word<'w>, K, G, I, Word<'w>), String>
     ensures { result ≡ codes "XGROUP" ∷ codes "CREATE"
         ∷ K.args key ++ (G.args group ++ (I.args id ++ codes "MKSTREAM" ∷ [])) }
 {
@@ -50,11 +50,11 @@ pub fn xgroup_create_mkstream<K: ToSingleRedisArg, G: ToSingleRedisArg, I: ToSin
 /// ```text
 /// xgroup_createconsumer("orders", "g", "c")       // XGROUP CREATECONSUMER orders g c
 /// ```
-pub fn xgroup_createconsumer<K: ToSingleRedisArg, G: ToSingleRedisArg, C: ToSingleRedisArg>(
+pub fn xgroup_createconsumer<'w, K: ToSingleRedisArg, G: ToSingleRedisArg, C: ToSingleRedisArg>(
     key: K,
     group: G,
     consumer: C,
-) -> Command<(Word, Word, K, (G, C)), usize>
+) -> Command<(Word<'w>, Word<'w>, K, (G, C)), usize>
     ensures { result ≡ codes "XGROUP" ∷ codes "CREATECONSUMER"
         ∷ K.args key ++ (G.args group ++ C.args consumer) }
 {
@@ -72,11 +72,11 @@ pub fn xgroup_createconsumer<K: ToSingleRedisArg, G: ToSingleRedisArg, C: ToSing
 /// ```text
 /// xgroup_setid("orders", "g", "0-0")              // XGROUP SETID orders g 0-0
 /// ```
-pub fn xgroup_setid<K: ToSingleRedisArg, G: ToSingleRedisArg, I: ToSingleRedisArg>(
+pub fn xgroup_setid<'w, K: ToSingleRedisArg, G: ToSingleRedisArg, I: ToSingleRedisArg>(
     key: K,
     group: G,
     id: I,
-) -> Command<(Word, Word, K, (G, I)), String>
+) -> Command<(Word<'w>, Word<'w>, K, (G, I)), String>
     ensures { result ≡ codes "XGROUP" ∷ codes "SETID" ∷ K.args key ++ (G.args group ++ I.args id) }
 {
     Command::new((Word("XGROUP"), Word("SETID"), key, (group, id)))
@@ -88,10 +88,10 @@ pub fn xgroup_setid<K: ToSingleRedisArg, G: ToSingleRedisArg, I: ToSingleRedisAr
 /// ```text
 /// xgroup_destroy("orders", "g")                   // XGROUP DESTROY orders g
 /// ```
-pub fn xgroup_destroy<K: ToSingleRedisArg, G: ToSingleRedisArg>(
+pub fn xgroup_destroy<'w, K: ToSingleRedisArg, G: ToSingleRedisArg>(
     key: K,
     group: G,
-) -> Command<(Word, Word, K, G), usize>
+) -> Command<(Word<'w>, Word<'w>, K, G), usize>
     ensures { result ≡ codes "XGROUP" ∷ codes "DESTROY" ∷ K.args key ++ G.args group }
 {
     Command::new((Word("XGROUP"), Word("DESTROY"), key, group))
@@ -103,11 +103,11 @@ pub fn xgroup_destroy<K: ToSingleRedisArg, G: ToSingleRedisArg>(
 /// ```text
 /// xgroup_delconsumer("orders", "g", "c")          // XGROUP DELCONSUMER orders g c
 /// ```
-pub fn xgroup_delconsumer<K: ToSingleRedisArg, G: ToSingleRedisArg, C: ToSingleRedisArg>(
+pub fn xgroup_delconsumer<'w, K: ToSingleRedisArg, G: ToSingleRedisArg, C: ToSingleRedisArg>(
     key: K,
     group: G,
     consumer: C,
-) -> Command<(Word, Word, K, (G, C)), usize>
+) -> Command<(Word<'w>, Word<'w>, K, (G, C)), usize>
     ensures { result ≡ codes "XGROUP" ∷ codes "DELCONSUMER"
         ∷ K.args key ++ (G.args group ++ C.args consumer) }
 {

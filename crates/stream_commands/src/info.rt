@@ -13,7 +13,9 @@ use redis_streams::{
 /// ```text
 /// xinfo_stream("orders")                          // XINFO STREAM orders
 /// ```
-pub fn xinfo_stream<K: ToSingleRedisArg>(key: K) -> Command<(Word, Word, K), StreamInfoStreamReply>
+pub fn xinfo_stream<'w, K: ToSingleRedisArg>(
+    key: K,
+) -> Command<(Word<'w>, Word<'w>, K), StreamInfoStreamReply>
     ensures { result ≡ codes "XINFO" ∷ codes "STREAM" ∷ K.args key }
 {
     Command::new((Word("XINFO"), Word("STREAM"), key))
@@ -24,9 +26,9 @@ pub fn xinfo_stream<K: ToSingleRedisArg>(key: K) -> Command<(Word, Word, K), Str
 /// ```text
 /// xinfo_stream_with_idempotency("orders")         // XINFO STREAM orders
 /// ```
-pub fn xinfo_stream_with_idempotency<K: ToSingleRedisArg>(
+pub fn xinfo_stream_with_idempotency<'w, K: ToSingleRedisArg>(
     key: K,
-) -> Command<(Word, Word, K), StreamInfoStreamReplyWithIdempotency>
+) -> Command<(Word<'w>, Word<'w>, K), StreamInfoStreamReplyWithIdempotency>
     ensures { result ≡ codes "XINFO" ∷ codes "STREAM" ∷ K.args key }
 {
     Command::new((Word("XINFO"), Word("STREAM"), key))
@@ -37,7 +39,9 @@ pub fn xinfo_stream_with_idempotency<K: ToSingleRedisArg>(
 /// ```text
 /// xinfo_groups("orders")                          // XINFO GROUPS orders
 /// ```
-pub fn xinfo_groups<K: ToSingleRedisArg>(key: K) -> Command<(Word, Word, K), StreamInfoGroupsReply>
+pub fn xinfo_groups<'w, K: ToSingleRedisArg>(
+    key: K,
+) -> Command<(Word<'w>, Word<'w>, K), StreamInfoGroupsReply>
     ensures { result ≡ codes "XINFO" ∷ codes "GROUPS" ∷ K.args key }
 {
     Command::new((Word("XINFO"), Word("GROUPS"), key))
@@ -48,10 +52,10 @@ pub fn xinfo_groups<K: ToSingleRedisArg>(key: K) -> Command<(Word, Word, K), Str
 /// ```text
 /// xinfo_consumers("orders", "g")                  // XINFO CONSUMERS orders g
 /// ```
-pub fn xinfo_consumers<K: ToSingleRedisArg, G: ToSingleRedisArg>(
+pub fn xinfo_consumers<'w, K: ToSingleRedisArg, G: ToSingleRedisArg>(
     key: K,
     group: G,
-) -> Command<(Word, Word, K, G), StreamInfoConsumersReply>
+) -> Command<(Word<'w>, Word<'w>, K, G), StreamInfoConsumersReply>
     ensures { result ≡ codes "XINFO" ∷ codes "CONSUMERS" ∷ K.args key ++ G.args group }
 {
     Command::new((Word("XINFO"), Word("CONSUMERS"), key, group))

@@ -11,10 +11,10 @@ use redis_streams::{StreamPendingCountReply, StreamPendingReply};
 /// ```text
 /// xpending("orders", "g")                         // XPENDING orders g
 /// ```
-pub fn xpending<K: ToSingleRedisArg, G: ToSingleRedisArg>(
+pub fn xpending<'w, K: ToSingleRedisArg, G: ToSingleRedisArg>(
     key: K,
     group: G,
-) -> Command<(Word, K, G), StreamPendingReply>
+) -> Command<(Word<'w>, K, G), StreamPendingReply>
     ensures { result ≡ codes "XPENDING" ∷ K.args key ++ G.args group }
 {
     Command::new((Word("XPENDING"), key, group))
@@ -27,6 +27,7 @@ pub fn xpending<K: ToSingleRedisArg, G: ToSingleRedisArg>(
 /// xpending_count("orders", "g", "-", "+", 10)     // XPENDING orders g - + 10
 /// ```
 pub fn xpending_count<
+    'w,
     K: ToSingleRedisArg,
     G: ToSingleRedisArg,
     S: ToSingleRedisArg,
@@ -37,7 +38,7 @@ pub fn xpending_count<
     start: S,
     end: E,
     count: usize,
-) -> Command<(Word, K, G, S, E, usize), StreamPendingCountReply>
+) -> Command<(Word<'w>, K, G, S, E, usize), StreamPendingCountReply>
     ensures { result ≡ codes "XPENDING" ∷ K.args key ++ (G.args group
         ++ (S.args start ++ (E.args end ++ decimal count ∷ []))) }
 {
@@ -51,6 +52,7 @@ pub fn xpending_count<
 ///                                                 // XPENDING orders g - + 10 c
 /// ```
 pub fn xpending_consumer_count<
+    'w,
     K: ToSingleRedisArg,
     G: ToSingleRedisArg,
     S: ToSingleRedisArg,
@@ -63,7 +65,7 @@ pub fn xpending_consumer_count<
     end: E,
     count: usize,
     consumer: C,
-) -> Command<(Word, K, G, S, E, (usize, C)), StreamPendingCountReply>
+) -> Command<(Word<'w>, K, G, S, E, (usize, C)), StreamPendingCountReply>
     ensures { result ≡ codes "XPENDING" ∷ K.args key ++ (G.args group
         ++ (S.args start ++ (E.args end ++ decimal count ∷ C.args consumer))) }
 {
@@ -78,6 +80,7 @@ pub fn xpending_consumer_count<
 ///                                                 // XPENDING orders g IDLE 60000 - + 10
 /// ```
 pub fn xpending_idle_count<
+    'w,
     K: ToSingleRedisArg,
     G: ToSingleRedisArg,
     S: ToSingleRedisArg,
@@ -89,7 +92,7 @@ pub fn xpending_idle_count<
     start: S,
     end: E,
     count: usize,
-) -> Command<(Word, K, G, (Word, usize), S, (E, usize)), StreamPendingCountReply>
+) -> Command<(Word<'w>, K, G, (Word<'w>, usize), S, (E, usize)), StreamPendingCountReply>
     ensures { result ≡ codes "XPENDING" ∷ K.args key ++ (G.args group
         ++ codes "IDLE" ∷ decimal min_idle ∷ S.args start ++ (E.args end ++ decimal count ∷ [])) }
 {

@@ -10,7 +10,7 @@ use redis_streams::StreamRangeReply;
 /// ```text
 /// xlen("orders")                                  // XLEN orders
 /// ```
-pub fn xlen<K: ToSingleRedisArg>(key: K) -> Command<(Word, K), usize>
+pub fn xlen<'w, K: ToSingleRedisArg>(key: K) -> Command<(Word<'w>, K), usize>
     ensures { result ≡ codes "XLEN" ∷ K.args key }
 {
     Command::new((Word("XLEN"), key))
@@ -21,11 +21,11 @@ pub fn xlen<K: ToSingleRedisArg>(key: K) -> Command<(Word, K), usize>
 /// ```text
 /// xrange("orders", "1-0", "+")                    // XRANGE orders 1-0 +
 /// ```
-pub fn xrange<K: ToSingleRedisArg, S: ToSingleRedisArg, E: ToSingleRedisArg>(
+pub fn xrange<'w, K: ToSingleRedisArg, S: ToSingleRedisArg, E: ToSingleRedisArg>(
     key: K,
     start: S,
     end: E,
-) -> Command<(Word, K, S, E), StreamRangeReply>
+) -> Command<(Word<'w>, K, S, E), StreamRangeReply>
     ensures { result ≡ codes "XRANGE" ∷ K.args key ++ (S.args start ++ E.args end) }
 {
     Command::new((Word("XRANGE"), key, start, end))
@@ -36,7 +36,9 @@ pub fn xrange<K: ToSingleRedisArg, S: ToSingleRedisArg, E: ToSingleRedisArg>(
 /// ```text
 /// xrange_all("orders")                            // XRANGE orders - +
 /// ```
-pub fn xrange_all<K: ToSingleRedisArg>(key: K) -> Command<(Word, K, Word, Word), StreamRangeReply>
+pub fn xrange_all<'w, K: ToSingleRedisArg>(
+    key: K,
+) -> Command<(Word<'w>, K, Word<'w>, Word<'w>), StreamRangeReply>
     ensures { result ≡ codes "XRANGE" ∷ K.args key ++ codes "-" ∷ codes "+" ∷ [] }
 {
     Command::new((Word("XRANGE"), key, Word("-"), Word("+")))
@@ -47,12 +49,12 @@ pub fn xrange_all<K: ToSingleRedisArg>(key: K) -> Command<(Word, K, Word, Word),
 /// ```text
 /// xrange_count("orders", "-", "+", 10)            // XRANGE orders - + COUNT 10
 /// ```
-pub fn xrange_count<K: ToSingleRedisArg, S: ToSingleRedisArg, E: ToSingleRedisArg>(
+pub fn xrange_count<'w, K: ToSingleRedisArg, S: ToSingleRedisArg, E: ToSingleRedisArg>(
     key: K,
     start: S,
     end: E,
     count: usize,
-) -> Command<(Word, K, S, E, Word, usize), StreamRangeReply>
+) -> Command<(Word<'w>, K, S, E, Word<'w>, usize), StreamRangeReply>
     ensures { result ≡ codes "XRANGE" ∷ K.args key
         ++ (S.args start ++ (E.args end ++ codes "COUNT" ∷ decimal count ∷ [])) }
 {
@@ -65,11 +67,11 @@ pub fn xrange_count<K: ToSingleRedisArg, S: ToSingleRedisArg, E: ToSingleRedisAr
 /// ```text
 /// xrevrange("orders", "+", "1-0")                 // XREVRANGE orders + 1-0
 /// ```
-pub fn xrevrange<K: ToSingleRedisArg, E: ToSingleRedisArg, S: ToSingleRedisArg>(
+pub fn xrevrange<'w, K: ToSingleRedisArg, E: ToSingleRedisArg, S: ToSingleRedisArg>(
     key: K,
     end: E,
     start: S,
-) -> Command<(Word, K, E, S), StreamRangeReply>
+) -> Command<(Word<'w>, K, E, S), StreamRangeReply>
     ensures { result ≡ codes "XREVRANGE" ∷ K.args key ++ (E.args end ++ S.args start) }
 {
     Command::new((Word("XREVRANGE"), key, end, start))
@@ -80,9 +82,9 @@ pub fn xrevrange<K: ToSingleRedisArg, E: ToSingleRedisArg, S: ToSingleRedisArg>(
 /// ```text
 /// xrevrange_all("orders")                         // XREVRANGE orders + -
 /// ```
-pub fn xrevrange_all<K: ToSingleRedisArg>(
+pub fn xrevrange_all<'w, K: ToSingleRedisArg>(
     key: K,
-) -> Command<(Word, K, Word, Word), StreamRangeReply>
+) -> Command<(Word<'w>, K, Word<'w>, Word<'w>), StreamRangeReply>
     ensures { result ≡ codes "XREVRANGE" ∷ K.args key ++ codes "+" ∷ codes "-" ∷ [] }
 {
     Command::new((Word("XREVRANGE"), key, Word("+"), Word("-")))
@@ -93,12 +95,12 @@ pub fn xrevrange_all<K: ToSingleRedisArg>(
 /// ```text
 /// xrevrange_count("orders", "+", "-", 1)          // XREVRANGE orders + - COUNT 1
 /// ```
-pub fn xrevrange_count<K: ToSingleRedisArg, E: ToSingleRedisArg, S: ToSingleRedisArg>(
+pub fn xrevrange_count<'w, K: ToSingleRedisArg, E: ToSingleRedisArg, S: ToSingleRedisArg>(
     key: K,
     end: E,
     start: S,
     count: usize,
-) -> Command<(Word, K, E, S, Word, usize), StreamRangeReply>
+) -> Command<(Word<'w>, K, E, S, Word<'w>, usize), StreamRangeReply>
     ensures { result ≡ codes "XREVRANGE" ∷ K.args key
         ++ (E.args end ++ (S.args start ++ codes "COUNT" ∷ decimal count ∷ [])) }
 {

@@ -18,9 +18,9 @@ use stream_options::StreamReadOptions;
 /// ```text
 /// xread(AtLeastOne::one(&("orders", "1-0")))      // XREAD STREAMS orders 1-0
 /// ```
-pub fn xread<'a, K: ToSingleRedisArg, I: ToSingleRedisArg>(
+pub fn xread<'w, 'a, K: ToSingleRedisArg, I: ToSingleRedisArg>(
     streams: AtLeastOne<'a, (K, I)>,
-) -> Command<(Word, Word, Streams<'a, K, I>), Option<StreamReadReply>>
+) -> Command<(Word<'w>, Word<'w>, Streams<'a, K, I>), Option<StreamReadReply>>
     ensures { result ≡ codes "XREAD" ∷ codes "STREAMS"
         ∷ flat_map (λ s. K.args s.0) (all streams.entry)
         ++ flat_map (λ s. I.args s.1) (all streams.entry) }
@@ -37,10 +37,13 @@ pub fn xread<'a, K: ToSingleRedisArg, I: ToSingleRedisArg>(
 /// xread_options(AtLeastOne::one(&("orders", ">")), &options)
 ///                         // XREADGROUP GROUP g c COUNT 10 STREAMS orders >
 /// ```
-pub fn xread_options<'a, K: ToSingleRedisArg, I: ToSingleRedisArg>(
+pub fn xread_options<'w, 'a, K: ToSingleRedisArg, I: ToSingleRedisArg>(
     streams: AtLeastOne<'a, (K, I)>,
     options: &'a StreamReadOptions,
-) -> Command<(Word, &'a StreamReadOptions, Word, Streams<'a, K, I>), Option<StreamReadReply>>
+) -> Command<
+    (Word<'w>, &'a StreamReadOptions, Word<'w>, Streams<'a, K, I>),
+    Option<StreamReadReply>,
+>
     ensures { result ≡ read_word options.now ∷ read_sentence options.now ++ codes "STREAMS"
         ∷ flat_map (λ s. K.args s.0) (all streams.entry)
         ++ flat_map (λ s. I.args s.1) (all streams.entry) }

@@ -14,10 +14,10 @@ use stream_options::{StreamMaxlen, StreamTrimOptions};
 /// ```text
 /// xtrim("orders", StreamMaxlen::Equals(1000))     // XTRIM orders MAXLEN = 1000
 /// ```
-pub fn xtrim<K: ToSingleRedisArg>(
+pub fn xtrim<'w, K: ToSingleRedisArg>(
     key: K,
     maxlen: StreamMaxlen,
-) -> Command<(Word, K, StreamMaxlen), usize>
+) -> Command<(Word<'w>, K, StreamMaxlen), usize>
     ensures { result ≡ codes "XTRIM" ∷ K.args key ++ maxlen_sentence (maxlen_of maxlen) }
 {
     Command::new((Word("XTRIM"), key, maxlen))
@@ -30,10 +30,10 @@ pub fn xtrim<K: ToSingleRedisArg>(
 /// let options = StreamTrimOptions::maxlen(StreamTrimmingMode::Approx, 1000).limit(50);
 /// xtrim_options("orders", &options)               // XTRIM orders MAXLEN ~ 1000 LIMIT 50
 /// ```
-pub fn xtrim_options<'a, K: ToSingleRedisArg>(
+pub fn xtrim_options<'w, 'a, K: ToSingleRedisArg>(
     key: K,
     options: &'a StreamTrimOptions,
-) -> Command<(Word, K, &'a StreamTrimOptions), usize>
+) -> Command<(Word<'w>, K, &'a StreamTrimOptions), usize>
     ensures { result ≡ codes "XTRIM" ∷ K.args key ++ trim_sentence options.now }
 {
     Command::new((Word("XTRIM"), key, options))
