@@ -1,1 +1,4 @@
+pub mod CallLemmas
 mod NamesLemmas
+pub mod Sentences
+pub mod UniqueDecoding

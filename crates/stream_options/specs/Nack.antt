@@ -16,3 +16,7 @@ nack_word fatal = codes "FATAL"
 -- the word alone
 abbrev pub nack_sentence : Nack → List (List ℕ)
 nack_sentence mode = nack_word mode ∷ []
+
+-- the fixed words
+abbrev pub nack_words : List (List ℕ)
+nack_words = codes "SILENT" ∷ codes "FAIL" ∷ codes "FATAL" ∷ []

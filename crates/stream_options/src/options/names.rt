@@ -1,7 +1,7 @@
 //! The names of a group and its consumer, whatever their type.
 ghost use Rattle.std.specs.Prelude.{◌≡◌, map, IfOk};
 ghost use Rattle.stream_options.specs.Names.{group_of};
-ghost use Rattle.stream_options.specs.Read.{named, group_sentence};
+ghost use Rattle.stream_options.specs.Read.{group_with, group_sentence};
 
 use redis_resp::{RedisWrite, ToRedisArgs, WriteError};
 use std::alloc::{AllocError, Global};
@@ -36,7 +36,7 @@ impl Names {
         consumer: &CN,
     ) -> Result<Names, AllocError>
         ensures { IfOk result (λ names.
-            group_of names ≡ named (GN.args group.now) (CN.args consumer.now)) }
+            group_of names ≡ group_with (GN.args group.now) (CN.args consumer.now)) }
     {
         Ok(Names {
             group: Written(group.to_redis_args(alloc)?),

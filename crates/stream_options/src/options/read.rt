@@ -1,6 +1,6 @@
 //! How streams are read.
 ghost use Rattle.std.specs.Prelude.{◌≡◌, true, is_none, IfOk};
-ghost use Rattle.stream_options.specs.Read.{named, default_read, read_sentence};
+ghost use Rattle.stream_options.specs.Read.{group_with, default_read, read_sentence};
 
 use crate::options::clause::{FlagClause, ValueClause};
 use crate::options::names::Names;
@@ -102,7 +102,7 @@ impl StreamReadOptions {
         group: GN,
         consumer: CN,
     ) -> Result<Self, AllocError>
-        ensures { let names = named (GN.args group) (CN.args consumer) in
+        ensures { let names = group_with (GN.args group) (CN.args consumer) in
             IfOk result (λ options. options ≡ record self { group = Some names }) }
     {
         self.group = Some(Names::new(alloc, &group, &consumer)?);
