@@ -1,7 +1,7 @@
 -- What the order of calls means.
 use Rattle.std.proofs.Common.{◌≡◌, ◌≢◌, ℕ, Bool, List, [], ◌∷◌, ◌++◌, Option, Some, None, true, refl, sym, ◌∙◌, ap, ◌⊎◌, inl, inr}
 use Rattle.std.specs.Prelude.{is_some}
-use Rattle.std.specs.Option.{option_or}
+use Rattle.std.specs.Option.{option_or, unwrap_or}
 use Rattle.stream_options.specs.AddCalls as add
 use Rattle.stream_options.specs.AddCalls.{AddValue, AddCall, add_said, final_add, after_add}
 use Rattle.stream_options.specs.Add.{Add}
@@ -12,10 +12,13 @@ use Rattle.stream_options.specs.ClaimCalls as claim
 use Rattle.stream_options.specs.ClaimCalls.{ClaimValue, claim_said, final_claim}
 use Rattle.stream_options.specs.ConfigCalls as config
 use Rattle.stream_options.specs.ConfigCalls.{config_said, final_config}
+use Rattle.stream_options.specs.Idempotency.{Idempotency}
 use Rattle.stream_options.specs.Laws.{LastCallWins, SettersCommute}
-use Rattle.stream_options.specs.Read.{Read}
+use Rattle.stream_options.specs.Policy.{Policy}
+use Rattle.stream_options.specs.Read.{Group, Read}
 use Rattle.stream_options.specs.ReadCalls as read
 use Rattle.stream_options.specs.ReadCalls.{ReadValue, ReadCall, read_said, final_read, after_read}
+use Rattle.stream_options.specs.Trim.{Strategy}
 use Rattle.stream_options.specs.TrimCalls as trim
 use Rattle.stream_options.specs.TrimCalls.{TrimValue, trim_said, final_trim}
 
@@ -187,3 +190,59 @@ pub read_commutes : SettersCommute final_read
 read_commutes start before after c d e =
     let w = swaps read_said read_names before after c d e in
     rw (w read.group, w read.block, w read.count, w read.noack, w read.claim) refl
+
+-- ---- one call more
+
+-- the settings of an addition that these last values leave
+abbrev add_of : Add → Option Bool → Option Policy → Option Idempotency → Option Strategy → Add
+add_of start n p i t = record {
+  nomkstream = unwrap_or n start.nomkstream;
+  policy = option_or p start.policy;
+  idempotency = option_or i start.idempotency;
+  trim = option_or t start.trim;
+}
+
+add_pushed : (start : Add) (c : AddCall) (n : Option Bool) (p : Option Policy) (i : Option Idempotency) (t : Option Strategy)
+    → add_of start (option_or (add_said add.nomkstream c) n) (option_or (add_said add.policy c) p) (option_or (add_said add.idempotency c) i) (option_or (add_said add.trim c) t) ≡ after_add (add_of start n p i t) c
+add_pushed start (add.nomkstream, x) n p i t = refl
+add_pushed start (add.policy, x) n p i t = refl
+add_pushed start (add.idempotency, x) n p i t = refl
+add_pushed start (add.trim, x) n p i t = refl
+
+-- one call more on the options of an addition
+pub add_final_push : (start : Add) (calls : List AddCall) (c : AddCall) → final_add start (calls ++ c ∷ []) ≡ after_add (final_add start calls) c
+add_final_push start calls c =
+    let one = c ∷ [] in
+    rw (last_said-append (add_said add.nomkstream) calls one, last_said-append (add_said add.policy) calls one, last_said-append (add_said add.idempotency) calls one, last_said-append (add_said add.trim) calls one)
+    (add_pushed start c (last_said (add_said add.nomkstream) calls) (last_said (add_said add.policy) calls) (last_said (add_said add.idempotency) calls) (last_said (add_said add.trim) calls))
+
+-- the settings of a read that these last values leave
+abbrev read_of : Read → Option Group → Option ℕ → Option ℕ → Option Bool → Option ℕ → Read
+read_of start g b n a c = record {
+  group = option_or g start.group;
+  block = option_or b start.block;
+  count = option_or n start.count;
+  noack = unwrap_or a start.noack;
+  claim = option_or c start.claim;
+}
+
+read_pushed : (start : Read) (c : ReadCall) (g : Option Group) (b n : Option ℕ) (a : Option Bool) (m : Option ℕ)
+    → read_of start (option_or (read_said read.group c) g) (option_or (read_said read.block c) b) (option_or (read_said read.count c) n) (option_or (read_said read.noack c) a) (option_or (read_said read.claim c) m) ≡ after_read (read_of start g b n a m) c
+read_pushed start (read.group, x) g b n a m = refl
+read_pushed start (read.block, x) g b n a m = refl
+read_pushed start (read.count, x) g b n a m = refl
+read_pushed start (read.noack, x) g b n a m = refl
+read_pushed start (read.claim, x) g b n a m = refl
+
+-- one call more on the options of a read
+pub read_final_push : (start : Read) (calls : List ReadCall) (c : ReadCall) → final_read start (calls ++ c ∷ []) ≡ after_read (final_read start calls) c
+read_final_push start calls c =
+    let one = c ∷ [] in
+    rw (last_said-append (read_said read.group) calls one, last_said-append (read_said read.block) calls one, last_said-append (read_said read.count) calls one, last_said-append (read_said read.noack) calls one, last_said-append (read_said read.claim) calls one)
+    (read_pushed start c (last_said (read_said read.group) calls) (last_said (read_said read.block) calls) (last_said (read_said read.count) calls) (last_said (read_said read.noack) calls) (last_said (read_said read.claim) calls))
+
+-- ---- the laws of all types
+
+pub ruleset last_wins = (trim_last_wins, add_last_wins, config_last_wins, autoclaim_last_wins, claim_last_wins, read_last_wins)
+
+pub ruleset commute = (trim_commutes, add_commutes, config_commutes, autoclaim_commutes, claim_commutes, read_commutes)

@@ -1,4 +1,4 @@
 pub mod CallLemmas
-mod NamesLemmas
+mod GroupLemmas
 pub mod Sentences
 pub mod UniqueDecoding

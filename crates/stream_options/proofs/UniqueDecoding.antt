@@ -463,3 +463,29 @@ same_read a b h =
 
 pub read_exact : IsExact ReadFits read_sentence CountAlike
 read_exact a b fa fb = (same_read a b, λ e. (read_determined a b [] [] fa fb refl refl (ap (λ t. t ++ []) e)).0)
+
+-- ---- the laws by type
+
+pub ruleset maxlen_law = (maxlen_determined, maxlen_exact)
+
+pub ruleset mode_law = (mode_determined, mode_exact)
+
+pub ruleset strategy_law = (strategy_determined, strategy_exact)
+
+pub ruleset trim_law = (trim_determined, trim_exact)
+
+pub ruleset idempotency_law = (idempotency_determined, idempotency_exact)
+
+pub ruleset config_law = (config_determined, config_exact)
+
+pub ruleset add_law = (add_determined, add_exact)
+
+pub ruleset autoclaim_law = (autoclaim_determined, autoclaim_exact)
+
+pub ruleset claim_law = (claim_determined, claim_exact)
+
+pub ruleset policy_law = (policy_determined, policy_exact)
+
+pub ruleset nack_law = (nack_determined, nack_exact)
+
+pub ruleset read_law = (read_determined, read_exact, same_read)

@@ -8,11 +8,11 @@ pub mod ClaimCalls
 pub mod Clauses
 pub mod Config
 pub mod ConfigCalls
+pub mod GroupMeaning
 pub mod Idempotency
 pub mod Laws
 pub mod Maxlen
 pub mod Nack
-pub mod Names
 pub mod Policy
 pub mod Read
 pub mod ReadBack

@@ -1,4 +1,4 @@
--- What giving back an entry says of it.
+-- Why an entry is given back.
 use Rattle.std.specs.Prelude.{ℕ, List, [], ◌∷◌, codes}
 
 -- the settings of `XNACK`: its mode

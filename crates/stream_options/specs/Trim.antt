@@ -1,4 +1,4 @@
--- What is cut off a stream, as settings, and how it reads as arguments.
+-- How a stream is trimmed, as settings, and how it reads as arguments.
 use Rattle.std.specs.Prelude.{ℕ, List, [], ◌∷◌, ◌++◌, codes, decimal, Option, None, IfSome}
 use Rattle.std.specs.Str.{IsUtf8}
 use Rattle.redis_resp.specs.Clause.{clause}

@@ -23,80 +23,74 @@ ghost use Rattle.stream_options.specs.ReadCalls.{final_read};
 ghost use Rattle.stream_options.specs.Trim.{mode_sentence, mode_words, StrategyFits, strategy_sentence, strategy_words, TrimFits, trim_sentence, trim_words};
 ghost use Rattle.stream_options.specs.TrimCalls.{final_trim};
 
-/// The sentence of a `StreamMaxlen`, before any free rest, determines it and the rest. Equal settings are those with equal
-/// sentences.
-#[tactic(auto, using(crate::proofs::UniqueDecoding::maxlen_determined, crate::proofs::UniqueDecoding::maxlen_exact))]
+/// The sentence of a `StreamMaxlen`, before any free rest, determines it and the rest. Equal
+/// settings are those with equal sentences.
+#[tactic(auto, using(crate::proofs::UniqueDecoding::maxlen_law))]
 pub fn unique_maxlen()
     ensures determined { Determines MaxlenFits maxlen_sentence maxlen_words Equal }
     ensures exact { IsExact MaxlenFits maxlen_sentence Equal }
 {}
 
-/// The word of a `StreamTrimmingMode`, before any free rest, determines it and the rest. Equal settings are those with equal
-/// sentences.
-#[tactic(auto, using(crate::proofs::UniqueDecoding::mode_determined, crate::proofs::UniqueDecoding::mode_exact))]
+/// The word of a `StreamTrimmingMode`, before any free rest, determines it and the rest. Equal
+/// settings are those with equal sentences.
+#[tactic(auto, using(crate::proofs::UniqueDecoding::mode_law))]
 pub fn unique_mode()
     ensures determined { Determines Any mode_sentence mode_words Equal }
     ensures exact { IsExact Any mode_sentence Equal }
 {}
 
 /// The sentence of a `StreamTrimStrategy`, before any free rest, determines its settings and the
-/// rest. Equal settings are those with equal
-/// sentences.
-#[tactic(auto, using(crate::proofs::UniqueDecoding::strategy_determined, crate::proofs::UniqueDecoding::strategy_exact))]
+/// rest. Settings are equal exactly where their sentences are.
+#[tactic(auto, using(crate::proofs::UniqueDecoding::strategy_law))]
 pub fn unique_strategy()
     ensures determined { Determines StrategyFits strategy_sentence strategy_words Equal }
     ensures exact { IsExact StrategyFits strategy_sentence Equal }
 {}
 
 /// The sentence of `StreamTrimOptions`, before any free rest, determines their settings and the
-/// rest. Equal settings are those with equal
-/// sentences.
-#[tactic(auto, using(crate::proofs::UniqueDecoding::trim_determined, crate::proofs::UniqueDecoding::trim_exact))]
+/// rest. Settings are equal exactly where their sentences are.
+#[tactic(auto, using(crate::proofs::UniqueDecoding::trim_law))]
 pub fn unique_trim()
     ensures determined { Determines TrimFits trim_sentence trim_words Equal }
     ensures exact { IsExact TrimFits trim_sentence Equal }
 {}
 
 /// The sentence of a `StreamIdempotencyMode`, before any free rest, determines its ids and the
-/// rest. Equal settings are those with equal
-/// sentences.
-#[tactic(auto, using(crate::proofs::UniqueDecoding::idempotency_determined, crate::proofs::UniqueDecoding::idempotency_exact))]
+/// rest. Settings are equal exactly where their sentences are.
+#[tactic(auto, using(crate::proofs::UniqueDecoding::idempotency_law))]
 pub fn unique_idempotency()
     ensures determined { Determines IdempotencyFits idempotency_sentence idempotency_words Equal }
     ensures exact { IsExact IdempotencyFits idempotency_sentence Equal }
 {}
 
 /// The sentence of `StreamConfigOptions`, before any free rest, determines their settings and the
-/// rest. Settings are in the ranges of the configuration, and at least one is set. Equal settings are those with equal
-/// sentences.
-#[tactic(auto, using(crate::proofs::UniqueDecoding::config_determined, crate::proofs::UniqueDecoding::config_exact))]
+/// rest. Settings are in the ranges of the configuration, and at least one is set. Equal settings
+/// are those with equal sentences.
+#[tactic(auto, using(crate::proofs::UniqueDecoding::config_law))]
 pub fn unique_config()
     ensures determined { Determines IsConfig config_sentence config_words Equal }
     ensures exact { IsExact IsConfig config_sentence Equal }
 {}
 
 /// The sentence of `StreamAddOptions`, before any free rest, determines their settings and the
-/// rest. Equal settings are those with equal
-/// sentences.
-#[tactic(auto, using(crate::proofs::UniqueDecoding::add_determined, crate::proofs::UniqueDecoding::add_exact))]
+/// rest. Settings are equal exactly where their sentences are.
+#[tactic(auto, using(crate::proofs::UniqueDecoding::add_law))]
 pub fn unique_add()
     ensures determined { Determines AddFits add_sentence add_words Equal }
     ensures exact { IsExact AddFits add_sentence Equal }
 {}
 
-/// The sentence of `StreamAutoClaimOptions`, before any free rest, determines their settings and the
-/// rest. Equal settings are those with equal
-/// sentences.
-#[tactic(auto, using(crate::proofs::UniqueDecoding::autoclaim_determined, crate::proofs::UniqueDecoding::autoclaim_exact))]
+/// The sentence of `StreamAutoClaimOptions`, before any free rest, determines their settings and
+/// the rest. Settings are equal exactly where their sentences are.
+#[tactic(auto, using(crate::proofs::UniqueDecoding::autoclaim_law))]
 pub fn unique_autoclaim()
     ensures determined { Determines AutoClaimFits autoclaim_sentence autoclaim_words Equal }
     ensures exact { IsExact AutoClaimFits autoclaim_sentence Equal }
 {}
 
 /// The sentence of `StreamClaimOptions`, before any free rest, determines their settings and the
-/// rest. Equal settings are those with equal
-/// sentences.
-#[tactic(auto, using(crate::proofs::UniqueDecoding::claim_determined, crate::proofs::UniqueDecoding::claim_exact))]
+/// rest. Settings are equal exactly where their sentences are.
+#[tactic(auto, using(crate::proofs::UniqueDecoding::claim_law))]
 pub fn unique_claim()
     ensures determined { Determines ClaimFits claim_sentence claim_words Equal }
     ensures exact { IsExact ClaimFits claim_sentence Equal }
@@ -106,25 +100,24 @@ pub fn unique_claim()
 /// settings that count and the rest: the group, the block and the count, and where a group is set
 /// noack and claim. The settings that count are equal exactly where the sentences are; equal ones
 /// give equal sentences also where names are not single.
-#[tactic(auto, using(crate::proofs::UniqueDecoding::read_determined, crate::proofs::UniqueDecoding::read_exact, crate::proofs::UniqueDecoding::same_read))]
+#[tactic(auto, using(crate::proofs::UniqueDecoding::read_law))]
 pub fn unique_read()
     ensures determined { Determines ReadFits read_sentence read_words CountAlike }
     ensures exact { IsExact ReadFits read_sentence CountAlike }
     ensures alike { (a b : Read) → CountAlike a b → read_sentence a ≡ read_sentence b }
 {}
 
-/// The word of a `StreamDeletionPolicy`, before any free rest, determines it and the rest. Equal settings are those with equal
-/// sentences.
-#[tactic(auto, using(crate::proofs::UniqueDecoding::policy_determined, crate::proofs::UniqueDecoding::policy_exact))]
+/// The word of a `StreamDeletionPolicy`, before any free rest, determines it and the rest. Equal
+/// settings are those with equal sentences.
+#[tactic(auto, using(crate::proofs::UniqueDecoding::policy_law))]
 pub fn unique_policy()
     ensures determined { Determines Any policy_sentence policy_words Equal }
     ensures exact { IsExact Any policy_sentence Equal }
 {}
 
 /// The word of `StreamNackOptions` and of a `StreamNackMode`, before any free rest, determines it
-/// and the rest. Equal settings are those with equal
-/// sentences.
-#[tactic(auto, using(crate::proofs::UniqueDecoding::nack_determined, crate::proofs::UniqueDecoding::nack_exact))]
+/// and the rest. Settings are equal exactly where their sentences are.
+#[tactic(auto, using(crate::proofs::UniqueDecoding::nack_law))]
 pub fn unique_nack()
     ensures determined { Determines Any nack_sentence nack_words Equal }
     ensures exact { IsExact Any nack_sentence Equal }
@@ -138,7 +131,7 @@ pub fn unique_nack()
 /// setting, and `trim` names a strategy with its limit; the accepted calls of
 /// `StreamConfigOptions`; and the calls of `StreamAutoClaimOptions`, of `StreamClaimOptions` and of
 /// `StreamReadOptions`, where `group` names both names.
-#[tactic(auto, using(crate::proofs::CallLemmas::trim_last_wins, crate::proofs::CallLemmas::add_last_wins, crate::proofs::CallLemmas::config_last_wins, crate::proofs::CallLemmas::autoclaim_last_wins, crate::proofs::CallLemmas::claim_last_wins, crate::proofs::CallLemmas::read_last_wins))]
+#[tactic(auto, using(crate::proofs::CallLemmas::last_wins))]
 pub fn last_call_wins()
     ensures trim { LastCallWins final_trim }
     ensures add { LastCallWins final_add }
@@ -154,7 +147,7 @@ pub fn last_call_wins()
 /// It speaks of the same calls as [`last_call_wins`]: those of `StreamTrimOptions`,
 /// `StreamAddOptions`, `StreamConfigOptions`, `StreamAutoClaimOptions`, `StreamClaimOptions` and
 /// `StreamReadOptions`.
-#[tactic(auto, using(crate::proofs::CallLemmas::trim_commutes, crate::proofs::CallLemmas::add_commutes, crate::proofs::CallLemmas::config_commutes, crate::proofs::CallLemmas::autoclaim_commutes, crate::proofs::CallLemmas::claim_commutes, crate::proofs::CallLemmas::read_commutes))]
+#[tactic(auto, using(crate::proofs::CallLemmas::commute))]
 pub fn setters_commute()
     ensures trim { SettersCommute final_trim }
     ensures add { SettersCommute final_add }
