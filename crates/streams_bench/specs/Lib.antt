@@ -1,5 +1,4 @@
 pub mod AddCalls
-pub mod Calls
 pub mod Play
 pub mod ReadCalls
 pub mod Row

@@ -1,4 +1,5 @@
--- What a list of calls leaves of one setting.
+-- What a list of calls leaves of one setting. A call is a pair: the setting that it names, and
+-- its value.
 use Rattle.std.specs.Prelude.{List, [], ◌∷◌, Option, None}
 use Rattle.std.specs.Option.{option_or}
 

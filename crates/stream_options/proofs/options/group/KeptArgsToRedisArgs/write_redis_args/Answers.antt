@@ -1,6 +1,6 @@
 use Rattle.redis_resp.proofs.WriterLemmas.{wrote_at_exit}
-use Rattle.stream_options.proofs.NamesLemmas.{stops_at_argument}
-use Rattle.stream_options.proofs.options.names.WrittenToRedisArgs.write_redis_args.Goals as goal
+use Rattle.stream_options.proofs.GroupLemmas.{stops_at_argument}
+use Rattle.stream_options.proofs.options.group.KeptArgsToRedisArgs.write_redis_args.Goals as goal
 
 pub returns-in_err-write_arg : goal.returns-in_err-write_arg
 returns-in_err-write_arg g c =

@@ -1,5 +1,5 @@
 use Rattle.std.proofs.Common.{◌≡◌, ◌++◌, map, take}
-use Rattle.stream_options.proofs.options.names.WrittenToRedisArgs.write_redis_args.Given as goal
+use Rattle.stream_options.proofs.options.group.KeptArgsToRedisArgs.write_redis_args.Given as goal
 
 -- the arguments so far have been written
 abbrev pub invariant-loop-arg : goal.invariant-loop-arg
