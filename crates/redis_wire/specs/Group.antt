@@ -6,7 +6,7 @@ use Rattle.redis_wire.specs.declared.fault.Fault.TheVariants.{BadLength, BadPush
 use Rattle.redis_wire.specs.declared.kind.GroupKind.{GroupKind}
 use Rattle.redis_wire.specs.declared.kind.GroupKind.TheVariants as groups
 use Rattle.redis_wire.specs.Reading.{Halt, bad, Read, ◌>>=◌}
-use Rattle.redis_wire.specs.Reply.{Answer, value, refused, Answers, values, first_refused, joined, one}
+use Rattle.redis_wire.specs.Reply.{Answer, value, refused, Answers, values, first_refused, join, one}
 
 -- how many values stand behind a count: twice as many for pairs, and one more behind attributes
 abbrev pub member_count : GroupKind → ℕ → ℕ
@@ -19,18 +19,18 @@ member_count groups.Attribute n = 2 * n + 1
 -- so many values, one after the other
 unfoldable pub many : (List ℕ → Read Answer) → ℕ → List ℕ → Read Answers
 many inner zero bytes = Ok (values [], bytes)
-many inner (suc n) bytes = inner bytes >>= λ x. many inner n x.1 >>= λ y. Ok (joined (one x.0) y.0, y.1)
+many inner (suc n) bytes = inner bytes >>= λ x. many inner n x.1 >>= λ y. Ok (join (one x.0) y.0, y.1)
 
 -- the pairs of members two by two
-abbrev pub paired_option : Option (List (Tree × Tree)) → Result (List (Tree × Tree)) Halt
-paired_option None = Err (bad BadLength)
-paired_option (Some ps) = Ok ps
+abbrev pub pairs_or_fault : Option (List (Tree × Tree)) → Result (List (Tree × Tree)) Halt
+pairs_or_fault None = Err (bad BadLength)
+pairs_or_fault (Some ps) = Ok ps
 
-abbrev pub paired : List Tree → Result (List (Tree × Tree)) Halt
-paired ts = paired_option (two_by_two ts)
+abbrev pub pairs_of : List Tree → Result (List (Tree × Tree)) Halt
+pairs_of ts = pairs_or_fault (two_by_two ts)
 
 abbrev pub map_answer : List Tree → Result Answer Halt
-map_answer ts = paired ts >>= λ ps. Ok (value (map_of_pairs (pairs ps)))
+map_answer ts = pairs_of ts >>= λ ps. Ok (value (map_of_pairs (pairs ps)))
 
 -- a kind, and what was sent with it
 abbrev pub push_behind : Option (List ℕ) → List Tree → Result Answer Halt
@@ -47,7 +47,7 @@ attribute_round None r = Err (bad BadLength)
 attribute_round (Some t) r = r >>= λ ps. Ok (value (attribute t (pairs ps)))
 
 abbrev pub attribute_answer : List Tree → Result Answer Halt
-attribute_answer ts = attribute_round (slice_get ts (length ts - 1)) (paired (take (length ts - 1) ts))
+attribute_answer ts = attribute_round (slice_get ts (length ts - 1)) (pairs_of (take (length ts - 1) ts))
 
 unfoldable pub group_tree : GroupKind → List Tree → Result Answer Halt
 group_tree groups.Array ts = Ok (value (array (trees ts)))
