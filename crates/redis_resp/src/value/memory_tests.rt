@@ -6,7 +6,7 @@ use indexmap::IndexMap;
 use std::alloc::{AllocError, Global};
 use std::collections::HashMap;
 
-// Whether the answer is what is wanted, or that memory was wanting.
+// Whether the answer is what is wanted, or that memory ran out.
 fn agrees<T: PartialEq>(answer: &Result<T, ParsingError>, want: &Result<T, ParsingError>) -> bool {
     answer == want || *answer == Err(ParsingError::Memory)
 }
@@ -17,8 +17,8 @@ fn right<T: FromRedisValue + PartialEq>(
     value: Value,
     want: &Result<T, ParsingError>,
 ) -> bool {
-    let lent = agrees(&from_redis_value_ref(alloc, &value), want);
-    lent && agrees(&from_redis_value(alloc, value), want)
+    let borrowed = agrees(&from_redis_value_ref(alloc, &value), want);
+    borrowed && agrees(&from_redis_value(alloc, value), want)
 }
 
 fn lists_are_right(alloc: Global) -> Result<bool, AllocError> {

@@ -13,17 +13,17 @@ fn a_wrong_answer_is_told(rt: HostRuntime) -> Result<(), Fail> {
     Ok(())
 }
 
-/// Whether both calls answer `want`, and the value that was lent stayed as it was.
+/// Whether both calls answer `want`, and the borrowed value stayed as it was.
 pub fn both_answer<T: FromRedisValue + PartialEq>(
     alloc: Global,
     value: Value,
     want: &Result<T, ParsingError>,
 ) -> Result<bool, AllocError> {
     let before = value.try_clone(alloc)?;
-    let lent = from_redis_value_ref::<T>(alloc, &value);
+    let borrowed = from_redis_value_ref::<T>(alloc, &value);
     let unchanged = value == before;
     let moved = from_redis_value::<T>(alloc, value);
-    Ok(unchanged && lent == *want && moved == *want)
+    Ok(unchanged && borrowed == *want && moved == *want)
 }
 
 /// A bulk string.
@@ -36,7 +36,7 @@ pub fn simple(alloc: Global, text: &str) -> Result<Value, AllocError> {
     Ok(Value::SimpleString(String::from_str(alloc, text)?))
 }
 
-/// The value with attributes round it.
+/// The value with attributes around it.
 pub fn attributed(alloc: Global, payload: Value) -> Result<Value, AllocError> {
     let attributes = vec![in alloc; (Value::Okay, Value::Nil)]?;
     Ok(Value::Attribute {

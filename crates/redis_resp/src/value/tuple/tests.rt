@@ -1,6 +1,6 @@
 //! Tuples by both calls, and the members that they are read from.
 use crate::value::samples::{attributed, both_answer, bulk, bulks, pairs};
-use crate::value::{ParsingError, Value, four_ref, into_four, into_two, two_ref};
+use crate::value::{ParsingError, Value, into_four, into_two};
 use std::test::Fail;
 
 #[test]
@@ -51,15 +51,15 @@ fn only_arrays_of_the_length_are_tuples(rt: HostRuntime) -> Result<(), Fail> {
 }
 
 #[test]
-fn members_are_lent_and_moved(rt: HostRuntime) -> Result<(), Fail> {
+fn members_are_borrowed_and_moved(rt: HostRuntime) -> Result<(), Fail> {
     let alloc = rt.alloc();
     let two = Value::Array(vec![in alloc; Value::Int(1), Value::Int(2)]?);
-    assert!(rt; two_ref(&two) == Some((&Value::Int(1), &Value::Int(2))));
-    assert!(rt; four_ref(&two).is_none());
+    assert!(rt; into_two(&two) == Some((&Value::Int(1), &Value::Int(2))));
+    assert!(rt; into_four(&two).is_none());
     assert!(rt; into_two(two) == Some((Value::Int(1), Value::Int(2))));
     let four = Value::Array(vec![in alloc; Value::Int(1), Value::Nil, Value::Okay, Value::Nil]?);
-    assert!(rt; two_ref(&four).is_none());
-    assert!(rt; four_ref(&four) == Some((&Value::Int(1), &Value::Nil, &Value::Okay, &Value::Nil)));
+    assert!(rt; into_two(&four).is_none());
+    assert!(rt; into_four(&four) == Some((&Value::Int(1), &Value::Nil, &Value::Okay, &Value::Nil)));
     assert!(rt; into_four(four) == Some((Value::Int(1), Value::Nil, Value::Okay, Value::Nil)));
     Ok(())
 }
