@@ -27,3 +27,29 @@ impl ToRedisArgs for &str {
 impl ToSingleRedisArg for &str {
     ghost single = { λ _. refl };
 }
+
+/// Borrowed bytes are one argument as they stand, with no copy of them.
+impl ToRedisArgs for &[u8] {
+    ghost args = { λ bytes. bytes.now ∷ [] };
+
+    fn write_redis_args<W: RedisWrite>(&self, out: &mut W) -> Result<(), WriteError> {
+        out.write_arg(self)
+    }
+}
+
+impl ToSingleRedisArg for &[u8] {
+    ghost single = { λ _. refl };
+}
+
+/// Bytes of one's own are one argument too.
+impl ToRedisArgs for Vec<u8> {
+    ghost args = { λ bytes. bytes.items ∷ [] };
+
+    fn write_redis_args<W: RedisWrite>(&self, out: &mut W) -> Result<(), WriteError> {
+        out.write_arg(self)
+    }
+}
+
+impl ToSingleRedisArg for Vec<u8> {
+    ghost single = { λ _. refl };
+}
