@@ -21,6 +21,7 @@ pub mod delete;
 pub mod fields;
 pub mod group;
 pub mod info;
+pub mod laws;
 pub mod pending;
 pub mod range;
 pub mod read;
