@@ -1,1 +1,2 @@
+mod IdLemmas
 pub mod WholeCommandLemmas

@@ -1,8 +1,8 @@
 -- What the arguments of whole commands determine.
-use Rattle.std.proofs.Common.{◌≡◌, ℕ, ◌+◌, suc, Bool, true, false, List, [], ◌∷◌, ◌++◌, length, map, decimal, codes, refl, sym, ◌∙◌, ap, arith, ◌⊎◌, inl, inr}
+use Rattle.std.proofs.Common.{◌≡◌, ℕ, ◌+◌, suc, Bool, true, false, List, [], ◌∷◌, ◌++◌, length, map, codes, refl, sym, ◌∙◌, ap, arith, ◌⊎◌, inl, inr}
 use Rattle.std.proofs.lemmas.List.{length-append}
 use Rattle.std.proofs.lemmas.Fmt.{decimal_injective}
-use Rattle.stream_commands.specs.WholeCommands.{IsDetermined, IsApart, AreApart, AddParts, add_list, AddPartsFit, SameAdd, TrimParts, trim_list, TrimPartsFit, SameTrim, ReadParts, read_list, ReadPartsFit, SameRead, ClaimParts, claim_list, ClaimPartsFit, SameClaim, AutoClaimParts, autoclaim_list, AutoClaimPartsFit, SameAutoClaim}
+use Rattle.stream_commands.specs.WholeCommands.{IsDetermined, IsApart, AreApart, add_list, AddPartsFit, SameAdd, trim_list, TrimPartsFit, SameTrim, read_list, ReadPartsFit, SameRead, claim_list, ClaimPartsFit, SameClaim, autoclaim_list, AutoClaimPartsFit, SameAutoClaim}
 use Rattle.stream_options.proofs.UniqueDecoding.{add_determined, trim_exact, read_determined, claim_reads, claim_exact, autoclaim_exact}
 use Rattle.stream_options.specs.Claim.{claim_sentence, claim_words}
 use Rattle.stream_options.specs.Words.{among, begins}

@@ -1,5 +1,5 @@
 -- Whole commands by their parts, and what their arguments determine.
-use Rattle.std.specs.Prelude.{◌≡◌, ℕ, false, List, [], ◌∷◌, ◌++◌, map, codes, decimal}
+use Rattle.std.specs.Prelude.{◌≡◌, ◌<◌, ◌^◌, ℕ, false, List, [], ◌∷◌, ◌++◌, map, codes, decimal}
 use Rattle.stream_commands.specs.Read.{read_word}
 use Rattle.stream_options.specs.Add.{Add, AddFits, add_sentence, add_words}
 use Rattle.stream_options.specs.AutoClaim.{AutoClaim, AutoClaimFits, autoclaim_sentence}
@@ -15,6 +15,10 @@ IsDetermined {T = T} Fits list Alike = (a b : T) → Fits a → Fits b → list 
 -- the argument is none of the fixed words of the options, as no id of an entry is
 abbrev pub IsApart : List (List ℕ) → List ℕ → Type 0
 IsApart words arg = among words arg ≡ false
+
+-- so is each text that begins with a number, as an id of a time and a place among its entries does
+abbrev pub NumbersAreApart : List (List ℕ) → Type 0
+NumbersAreApart words = (n : ℕ) (rest : List ℕ) → n < 2 ^ 64 → IsApart words (decimal n ++ rest)
 
 -- each of the arguments is
 abbrev pub AreApart : List (List ℕ) → List (List ℕ) → Type 0

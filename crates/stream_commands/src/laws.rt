@@ -1,8 +1,11 @@
 //! What the arguments of whole commands determine, over the definitions alone.
 //!
 //! Numbers are in the ranges of their types, texts are UTF-8, and an id is none of the fixed words
-//! of the options that stand beside it.
-ghost use Rattle.stream_commands.specs.WholeCommands.{IsDetermined, AddPartsFit, add_list, SameAdd, TrimPartsFit, trim_list, SameTrim, ReadPartsFit, read_list, SameRead, ClaimPartsFit, claim_list, SameClaim, AutoClaimPartsFit, autoclaim_list, SameAutoClaim};
+//! of the options that stand beside it: [`ids_are_apart`] says which are not.
+ghost use Rattle.std.specs.Prelude.{codes};
+ghost use Rattle.stream_options.specs.Add.{add_words};
+ghost use Rattle.stream_options.specs.Claim.{claim_words};
+ghost use Rattle.stream_commands.specs.WholeCommands.{IsApart, NumbersAreApart, IsDetermined, AddPartsFit, add_list, SameAdd, TrimPartsFit, trim_list, SameTrim, ReadPartsFit, read_list, SameRead, ClaimPartsFit, claim_list, SameClaim, AutoClaimPartsFit, autoclaim_list, SameAutoClaim};
 
 /// The arguments of an XADD determine its key, its settings, its id and its fields.
 #[tactic(auto, using(crate::proofs::WholeCommandLemmas::add_law))]
@@ -35,4 +38,13 @@ pub fn unique_xclaim()
 #[tactic(auto, using(crate::proofs::WholeCommandLemmas::autoclaim_law))]
 pub fn unique_xautoclaim()
     ensures { IsDetermined AutoClaimPartsFit autoclaim_list SameAutoClaim }
+{}
+
+/// A text that begins with a number, as `5-1`, `5-*` and `5` do, is none of the fixed words of an
+/// XADD or an XCLAIM, and nor is `*`.
+#[tactic(auto, using(crate::proofs::IdLemmas::add_ids, crate::proofs::IdLemmas::claim_ids))]
+pub fn ids_are_apart()
+    ensures add { NumbersAreApart add_words }
+    ensures made { IsApart add_words (codes "*") }
+    ensures claim { NumbersAreApart claim_words }
 {}

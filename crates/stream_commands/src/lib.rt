@@ -31,7 +31,7 @@ pub mod trim;
 pub use ack::{xack, xack_del};
 pub use add::{xadd, xadd_maxlen, xadd_options};
 pub use at_least_one::AtLeastOne;
-pub use autoclaim::xautoclaim_options;
+pub use autoclaim::{xautoclaim_justid, xautoclaim_options};
 pub use claim::{xclaim, xclaim_justid, xclaim_options};
 pub use command::{Command, Word};
 pub use counted::CountedIds;
