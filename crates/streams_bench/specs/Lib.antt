@@ -1,4 +1,5 @@
 pub mod AddCalls
+pub mod Calls
 pub mod Play
 pub mod ReadCalls
 pub mod Row
