@@ -1,4 +1,4 @@
-//! Lists, options and references as arguments.
+//! Lists, arrays, options and references as arguments.
 ghost use Rattle.std.specs.List.{flat_map};
 ghost use Rattle.redis_resp.specs.Clause.{clause};
 
@@ -21,6 +21,15 @@ impl<T: ToRedisArgs> ToRedisArgs for Vec<T> {
 
     fn write_redis_args<W: RedisWrite>(&self, out: &mut W) -> Result<(), WriteError> {
         self.as_slice().write_redis_args(out)
+    }
+}
+
+impl<T: ToRedisArgs, const N: usize> ToRedisArgs for [T; N] {
+    ghost args = { λ items. flat_map T.args items };
+
+    fn write_redis_args<W: RedisWrite>(&self, out: &mut W) -> Result<(), WriteError> {
+        let items: &[T] = self;
+        items.write_redis_args(out)
     }
 }
 

@@ -1,3 +1,5 @@
+ghost use Rattle.std.specs.Prelude.{◌≡◌, ◌↔◌, IsTrue};
+
 use crate::args::{FixedArgs, RawBytes, RedisWrite, ToRedisArgs, WriteError};
 use std::alloc::AllocError;
 use std::process::Abort;
@@ -56,6 +58,42 @@ fn values_mean_their_arguments(rt: HostRuntime) -> Result<(), Fail> {
 }
 
 #[test]
+fn numbers_flags_and_bytes_are_one_argument_each(rt: HostRuntime) -> Result<(), Fail> {
+    let payload = Vec::from_slice(rt.alloc(), &[255, 0])?;
+    check(
+        &rt,
+        &(i32::MIN, isize::MAX, true, false),
+        &[b"-2147483648", b"9223372036854775807", b"1", b"0"],
+    )?;
+    check(
+        &rt,
+        &("body", payload.as_slice(), &payload, b"".as_slice()),
+        &[b"body", &[255, 0], &[255, 0], b""],
+    )
+}
+
+#[test]
+fn arrays_and_wide_tuples_are_joined(rt: HostRuntime) -> Result<(), Fail> {
+    check(&rt, &["a", "b"], &[b"a", b"b"])?;
+    check(&rt, &[("f", 1u64), ("g", 2)], &[b"f", b"1", b"g", b"2"])?;
+    check(
+        &rt,
+        &("a", "b", "c", "d", "e"),
+        &[b"a", b"b", b"c", b"d", b"e"],
+    )?;
+    check(
+        &rt,
+        &("a", "b", "c", "d", "e", "f", "g"),
+        &[b"a", b"b", b"c", b"d", b"e", b"f", b"g"],
+    )?;
+    check(
+        &rt,
+        &("a", "b", "c", "d", "e", "f", "g", "h"),
+        &[b"a", b"b", b"c", b"d", b"e", b"f", b"g", b"h"],
+    )
+}
+
+#[test]
 fn fixed_args_refuse_what_has_no_room(rt: HostRuntime) {
     let mut none: FixedArgs<0, 0> = FixedArgs::new();
     assert_eq!(rt; none.write_arg(b""), Err(WriteError::Full));
@@ -103,4 +141,16 @@ fn a_long_list_is_written(rt: HostRuntime) -> Result<(), Fail> {
     assert_eq!(rt; listed.len(), 10_000);
     assert_eq!(rt; listed[9_999].as_slice(), b"9999".as_slice());
     Ok(())
+}
+
+fn are_equal(a: WriteError, b: WriteError) -> bool
+    ensures { IsTrue result ↔ (a ≡ b) }
+{
+    a == b
+}
+
+#[test]
+fn equal_refusals_are_told(rt: HostRuntime) {
+    assert!(rt; are_equal(WriteError::Full, WriteError::Full));
+    assert!(rt; !are_equal(WriteError::Full, WriteError::Memory));
 }

@@ -1,24 +1,8 @@
-//! Texts and bytes as arguments.
+//! Texts as arguments.
 ghost use Rattle.std.specs.Prelude.{[], ◌∷◌, string_bytes, refl};
 
 use crate::args::to_redis_args::{ToRedisArgs, ToSingleRedisArg};
 use crate::args::writer::{RedisWrite, WriteError};
-
-/// Bytes that are one argument as they stand, whatever they are.
-#[derive(Debug, PartialEq, Eq, Drop)]
-pub struct RawBytes(pub Vec<u8>);
-
-impl ToRedisArgs for RawBytes {
-    ghost args = { λ bytes. bytes.0.items ∷ [] };
-
-    fn write_redis_args<W: RedisWrite>(&self, out: &mut W) -> Result<(), WriteError> {
-        out.write_arg(self.0.as_slice())
-    }
-}
-
-impl ToSingleRedisArg for RawBytes {
-    ghost single = { λ _. refl };
-}
 
 impl ToRedisArgs for String {
     ghost args = { λ text. string_bytes text ∷ [] };
@@ -41,5 +25,31 @@ impl ToRedisArgs for &str {
 }
 
 impl ToSingleRedisArg for &str {
+    ghost single = { λ _. refl };
+}
+
+/// Borrowed bytes are one argument as they stand, with no copy of them.
+impl ToRedisArgs for &[u8] {
+    ghost args = { λ bytes. bytes.now ∷ [] };
+
+    fn write_redis_args<W: RedisWrite>(&self, out: &mut W) -> Result<(), WriteError> {
+        out.write_arg(self)
+    }
+}
+
+impl ToSingleRedisArg for &[u8] {
+    ghost single = { λ _. refl };
+}
+
+/// Bytes of one's own are one argument too.
+impl ToRedisArgs for Vec<u8> {
+    ghost args = { λ bytes. bytes.items ∷ [] };
+
+    fn write_redis_args<W: RedisWrite>(&self, out: &mut W) -> Result<(), WriteError> {
+        out.write_arg(self)
+    }
+}
+
+impl ToSingleRedisArg for Vec<u8> {
     ghost single = { λ _. refl };
 }

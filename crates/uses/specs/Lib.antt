@@ -1,0 +1,5 @@
+-- What the callers' contracts speak of.
+pub mod Worker
+pub mod Order
+pub mod Stalled
+pub mod Monitoring

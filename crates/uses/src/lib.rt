@@ -1,0 +1,18 @@
+//! Callers of the stream layer to copy from, each proved from the public contracts and run by a
+//! test.
+//!
+//! `worker` and `batch` are the pure part of a consumer-group worker, `stalled` takes over what
+//! other consumers left, `monitoring` reads XPENDING and XINFO, `producer` sends entries so that
+//! one that is sent twice is added once, `order` has types of a user's own as arguments and as
+//! records, and `readme` the code of the README.
+#![tactic(auto)]
+
+pub mod batch;
+pub mod monitoring;
+pub mod order;
+pub mod producer;
+pub mod readme;
+pub mod stalled;
+#[cfg(test)]
+mod tests;
+pub mod worker;

@@ -1,0 +1,91 @@
+//! A consumer-group worker's pure part: what it sends, and which ids it acknowledges.
+ghost use Rattle.std.specs.Prelude.{◌≡◌, ◌≢◌, [], ◌∷◌, ◌++◌, Some, None, codes, decimal, map};
+ghost use Rattle.std.specs.Prelude.{option_map, string_bytes, IfOk, IfErr, OnOk};
+ghost use Rattle.redis_resp.specs.Value.{tree};
+ghost use Rattle.redis_streams.specs.Read.{read_reading};
+ghost use Rattle.redis_streams.specs.StreamId.{entries_of, entry_meaning};
+ghost use Rattle.redis_streams.specs.StreamKey.{streams_of};
+ghost use Rattle.uses.specs.Worker.{ids_in, ids_of};
+
+use redis_resp::{ParsingError, ToRedisArgs, Value, from_redis_value};
+use redis_streams::{StreamId, StreamKey, StreamReadReply};
+use std::alloc::{AllocError, Global};
+use stream_options::StreamReadOptions;
+
+/// `XREADGROUP GROUP g c BLOCK ms COUNT n STREAMS key >`: entries that no consumer has had.
+pub fn read_arguments(
+    alloc: Global,
+    group: &str,
+    consumer: &str,
+    milliseconds: usize,
+    count: usize,
+    key: &str,
+) -> Result<Vec<Vec<u8>>, AllocError>
+    ensures { IfOk result (λ list. map (λ arg. arg.items) list.items ≡
+        codes "XREADGROUP" ∷ codes "GROUP" ∷ group.now ∷ consumer.now
+        ∷ codes "BLOCK" ∷ decimal milliseconds ∷ codes "COUNT" ∷ decimal count
+        ∷ codes "STREAMS" ∷ key.now ∷ codes ">" ∷ []) }
+{
+    let options = StreamReadOptions::default()
+        .count(count)
+        .block(milliseconds)
+        .group(alloc, group, consumer)?;
+    ("XREADGROUP", &options, "STREAMS", (key, ">")).to_redis_args(alloc)
+}
+
+/// Appends the ids of entries, in order.
+fn push_ids(ids: &mut Vec<String>, entries: &[StreamId]) -> Result<(), AllocError>
+    ensures { OnOk result (map string_bytes ids.new.items
+        ≡ map string_bytes ids.old.items ++ ids_of (map entry_meaning entries.now)) }
+{
+    for entry in entries {
+        ids.push(entry.id.clone()?)?;
+    }
+    Ok(())
+}
+
+/// The ids of entries, in order.
+pub fn ids_of_entries(alloc: Global, entries: &[StreamId]) -> Result<Vec<String>, AllocError>
+    ensures { IfOk result (λ ids. map string_bytes ids.items
+        ≡ ids_of (map entry_meaning entries.now)) }
+{
+    let mut ids = Vec::new(alloc);
+    push_ids(&mut ids, entries)?;
+    Ok(ids)
+}
+
+/// The ids of all entries of a reply, in order.
+pub fn ids_to_acknowledge(alloc: Global, reply: &StreamReadReply) -> Result<Vec<String>, AllocError>
+    ensures { IfOk result (λ ids. map string_bytes ids.items ≡ ids_in (streams_of reply.now.keys)) }
+{
+    let mut ids = Vec::new(alloc);
+    for stream in &reply.keys {
+        push_ids(&mut ids, &stream.ids)?;
+    }
+    Ok(ids)
+}
+
+/// The ids that an answer of XREADGROUP asks to acknowledge: exactly those of the entries of the
+/// record that the answer is, in order; refused where it is none.
+pub fn ids_answered(alloc: Global, answer: Value) -> Result<Vec<String>, ParsingError>
+    ensures ok { IfOk result (λ ids. option_map ids_in (read_reading (tree answer))
+        ≡ Some (map string_bytes ids.items)) }
+    ensures err { IfErr result (λ e. e ≢ ParsingError.Memory
+        → read_reading (tree answer) ≡ None) }
+{
+    let reply: StreamReadReply = from_redis_value(alloc, answer)?;
+    Ok(ids_to_acknowledge(alloc, &reply)?)
+}
+
+/// `XACK key group id..`: the ids of the stream's entries, in order.
+pub fn acknowledge_arguments(
+    alloc: Global,
+    group: &str,
+    stream: &StreamKey,
+) -> Result<Vec<Vec<u8>>, AllocError>
+    ensures { IfOk result (λ list. map (λ arg. arg.items) list.items ≡ codes "XACK"
+        ∷ string_bytes stream.now.key ∷ group.now ∷ ids_of (entries_of stream.now.ids)) }
+{
+    let ids = ids_of_entries(alloc, &stream.ids)?;
+    ("XACK", &stream.key, group, &ids).to_redis_args(alloc)
+}
