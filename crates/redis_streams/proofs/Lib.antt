@@ -5,5 +5,6 @@ pub mod InfoLemmas
 pub mod OtherKeysLemmas
 pub mod PendingLemmas
 pub mod ReadLemmas
+pub mod ReadableLemmas
 pub mod RefusalLemmas
 pub mod RowsLemmas

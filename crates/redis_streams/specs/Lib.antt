@@ -12,6 +12,7 @@ pub mod PendingMeaning
 pub mod PendingRefusal
 pub mod Read
 pub mod ReadMeaning
+pub mod Readable
 pub mod Refusal
 pub mod Rows
 pub mod SameEntryLaws
