@@ -137,16 +137,6 @@ pub fn order_named(alloc: Global, entry: &StreamId) -> Result<Option<OrderId>, A
     entry.get(alloc, "order")
 }
 
-/// The orders of a list of numbers.
-pub fn orders_numbered(alloc: Global, v: Value) -> Result<Vec<OrderId>, ParsingError>
-    ensures ok { IfOk result (λ r. list_reading (unsigned_reading 64) (tree v)
-        ≡ Some (map (λ id. id.0) r.items)) }
-    ensures err { IfErr result (λ e. e ≢ ParsingError.Memory
-        → list_reading (unsigned_reading 64) (tree v) ≡ None) }
-{
-    Vec::from_redis_value(alloc, v)
-}
-
 /// The orders of a list of maps of fields.
 pub fn orders_listed(alloc: Global, v: Value) -> Result<Vec<Order>, ParsingError>
     ensures ok { IfOk result (λ r. list_reading order_reading (tree v)
