@@ -1,11 +1,16 @@
+pub mod DecimalLemmas
+pub mod FieldLemmas
 pub mod FixedArgsLemmas
-pub mod ListLemmas
+pub mod ReadableLemmas
+pub mod RefusalLemmas
 pub mod RoomLemmas
 pub mod MembersLemmas
 pub mod NumberLemmas
 pub mod SameLemmas
 pub mod PairLemmas
+pub mod ReadLemmas
 pub mod TableLemmas
 pub mod TextLemmas
+pub mod TraverseLemmas
 pub mod TreeLemmas
 pub mod WriterLemmas

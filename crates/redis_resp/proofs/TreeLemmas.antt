@@ -1,6 +1,7 @@
 -- A value's tree, variant by variant.
 use Rattle.std.proofs.Common.{◌≡◌, ℕ, ℤ, List, [], ◌∷◌, map, String, Vec, Box, Global, string_bytes, refl, ap, rules, sym, ◌∙◌, Some}
-use Rattle.redis_resp.specs.Tree.{Tree, int, bulk, array, simple, map_of_pairs, attribute, set, trees, pairs, list_of_trees, list_of_pairs, plain, items, items_of_plain, single, pairs_in, pairs_of_plain, two_by_two}
+use Rattle.std.proofs.lemmas.List.{take_all}
+use Rattle.redis_resp.specs.Tree.{Tree, int, bulk, array, simple, map_of_pairs, attribute, set, trees, pairs, list_of_trees, list_of_pairs, plain, items, items_of_plain, single, pairs_in, pairs_of_plain, two_by_two, array_of_plain}
 use Rattle.redis_resp.specs.Value.{tree, tree_of_pair}
 use Rattle.redis_resp.specs.declared.value.Value.{Value, Int, BulkString, Array, SimpleString, Map, Attribute, Set, the_lemmas}
 
@@ -51,3 +52,15 @@ pairs_in_Map t w v h is = ap pairs_of_plain (sym h ∙ ap tree is ∙ tree-Map v
 
 pub tree-Int : (z : ℤ) → tree (Int z) ≡ int z
 tree-Int z = search (rules, the_lemmas)
+
+-- the items of an array with no attribute around it
+pub array_there : (w : Value) (v : Vec Value Global) → w ≡ Array v → array_of_plain (tree w) ≡ Some (map tree v.items)
+array_there w v is = ap array_of_plain (ap tree is ∙ tree-Array v) ∙ ap Some (listed_trees (map tree v.items))
+
+-- what a value holds
+pub ruleset contents_read = (items_Array, items_Set, items_Map, pairs_in_Array, pairs_in_Map)
+
+-- the same where all that a `Vec` gives is still left
+pub ruleset owned_contents_read = (items_Array, items_Set, items_Map, pairs_in_Array, pairs_in_Map, take_all)
+
+pub ruleset owned_array_there = (array_there, take_all)

@@ -1,6 +1,5 @@
 -- The tree that a `Value` stands for.
 use Rattle.std.specs.Prelude.{string_bytes}
-use Rattle.std.specs.Borrow.{Bor}
 use Rattle.redis_resp.specs.Tree.{Tree, nil, int, bulk, array, simple, okay, map_of_pairs, attribute, set, boolean, verbatim, push, trees, pairs}
 use Rattle.redis_resp.specs.declared.value.Value.{Value, fold-Value}
 use Rattle.redis_resp.specs.declared.value.Value.TheOpen.{Value-F}
@@ -27,7 +26,3 @@ tree = fold-Value Tree tree_step
 -- a pair of values as a pair of trees
 abbrev pub tree_of_pair : Value × Value → Tree × Tree
 tree_of_pair p = (tree p.0, tree p.1)
-
--- the same for a pair that is lent
-abbrev pub tree_of_refs : Bor Value × Bor Value → Tree × Tree
-tree_of_refs p = (tree p.0.now, tree p.1.now)

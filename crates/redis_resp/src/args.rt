@@ -2,7 +2,9 @@
 
 mod containers;
 mod fixed_args;
+mod law;
 mod number;
+mod raw_bytes;
 #[cfg(test)]
 mod tests;
 mod text;
@@ -11,6 +13,7 @@ mod tuple;
 mod writer;
 
 pub use fixed_args::FixedArgs;
-pub use text::RawBytes;
+pub use law::unique_decimal;
+pub use raw_bytes::RawBytes;
 pub use to_redis_args::{ToRedisArgs, ToSingleRedisArg};
 pub use writer::{RedisWrite, WriteError};

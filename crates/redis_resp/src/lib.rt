@@ -14,8 +14,11 @@
 pub mod args;
 pub mod value;
 
-pub use args::{FixedArgs, RawBytes, RedisWrite, ToRedisArgs, ToSingleRedisArg, WriteError};
+pub use args::{
+    FixedArgs, RawBytes, RedisWrite, ToRedisArgs, ToSingleRedisArg, WriteError, unique_decimal,
+};
 pub use value::{
-    FourRefs, FromRedisValue, PairList, ParsingError, Value, four_ref, from_redis_value,
-    from_redis_value_ref, hash_map_of, index_map_of, into_four, into_two, two_ref,
+    Contents, FromRedisValue, PairList, PairsLeft, ParsingError, Source, Value, count_left,
+    field_of, from_redis_value, from_redis_value_ref, hash_map_of, index_map_of, into_four,
+    into_pairs, into_two, is_fields, is_nil, is_text, is_usize, next_left, read_pairs,
 };

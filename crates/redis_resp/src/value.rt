@@ -6,29 +6,35 @@ ghost use Rattle.redis_resp.specs.Value.{tree};
 mod any_value;
 mod bytes;
 mod clone;
+mod contents;
 mod equality;
 mod error;
-#[cfg(test)]
-mod flag;
+mod field;
 mod from_value;
 mod list;
 mod members;
-#[cfg(test)]
-mod memory_tests;
 mod number;
 mod option;
 mod pair;
-#[cfg(test)]
-mod samples;
+mod pairs_left;
+mod readable;
+mod source;
 mod table;
+#[cfg(test)]
+mod tests;
 mod text;
 mod tuple;
 
+pub use contents::Contents;
 pub use error::ParsingError;
+pub use field::field_of;
 pub use from_value::{FromRedisValue, from_redis_value, from_redis_value_ref};
-pub use members::{FourRefs, four_ref, into_four, into_two, two_ref};
+pub use members::{into_four, into_two};
 pub use number::usize_of;
-pub use pair::PairList;
+pub use pair::{PairList, read_pairs};
+pub use pairs_left::{PairsLeft, count_left, into_pairs, next_left};
+pub use readable::{is_fields, is_nil, is_text, is_usize};
+pub use source::Source;
 pub use table::{hash_map_of, index_map_of};
 
 /// A value of the RESP protocol, as a server sends it.
@@ -48,7 +54,7 @@ pub enum Value {
     Okay,
     /// Keys with their values, in the order in which they were sent.
     Map(Vec<(Value, Value)>),
-    /// A value with attributes round it, which no reading looks at.
+    /// A value with attributes around it, which no reading looks at.
     Attribute {
         payload: Box<Value>,
         attributes: Vec<(Value, Value)>,

@@ -129,8 +129,8 @@ nils_counted [] h = refl
 nils_counted (nil ∷ ts) h = lt-ltb 0 (length (nil ∷ ts)) (omega arith)
 nils_counted (_ ∷ ts) h = cc
 
--- the items of a value that is literally an array
-items_of_array : (t : Tree) (ts : List Tree) → array_of_plain t ≡ Some ts → items t ≡ Some ts
+-- the items of a value that is an array with no attribute around it
+pub items_of_array : (t : Tree) (ts : List Tree) → array_of_plain t ≡ Some ts → items t ≡ Some ts
 items_of_array (array us) ts h = h
 items_of_array _ ts h = cc
 

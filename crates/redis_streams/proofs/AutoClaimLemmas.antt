@@ -1,5 +1,5 @@
 -- Lists of claimed entries.
-use Rattle.std.proofs.Common.{◌≡◌, ℕ, List, ◌∷◌, length, nat_lt, Bool, Option, Some, None, option_map, option_and_then, map, flat_map, Vec, String, string_bytes, Global, refl, sym, ◌∙◌, ap}
+use Rattle.std.proofs.Common.{◌≡◌, ◌⊎◌, inl, inr, ℕ, List, ◌∷◌, length, nat_lt, Bool, Option, Some, None, option_map, option_and_then, map, flat_map, Vec, String, string_bytes, Global, refl, sym, ◌∙◌, ap}
 use Rattle.redis_resp.specs.Tree.{Tree, array_of_plain}
 use Rattle.redis_resp.specs.Text.{text_reading}
 use Rattle.redis_resp.specs.Reading.{list_reading, option_reading}
@@ -7,9 +7,13 @@ use Rattle.redis_resp.specs.Value.{tree}
 use Rattle.redis_resp.specs.declared.value.Value.{Value, BulkString, Array}
 use Rattle.redis_resp.proofs.TreeLemmas.{tree-Array, tree-BulkString, listed_trees}
 use Rattle.std.proofs.lemmas.List.{length-map}
-use Rattle.std.proofs.lemmas.Option.{same_Some}
 use Rattle.redis_streams.specs.Entry.{Entry}
 use Rattle.redis_streams.specs.AutoClaim.{ClaimedKind, ids, rows, kind_of_items, claimed_shape, claimed_reading, entries_by_kind, id_entries, Parts, two_or_three, parts_in, deleted_reading, autoclaim_of, autoclaim_reading}
+use Rattle.std.specs.Prelude.{MatchOption}
+use Rattle.redis_resp.specs.Refusal.{Refuses}
+use Rattle.redis_resp.specs.declared.value.error.ParsingError.{ParsingError}
+use Rattle.redis_resp.specs.declared.value.error.ParsingError.TheVariants.{NotArray, WrongItemCount}
+use Rattle.redis_streams.specs.Refusal.{RefusesClaimed, RefusesDeleted, RefusesPart, RefusesParts, RefusesTextIn, RefusesAutoClaim}
 use Rattle.redis_streams.proofs.RowsLemmas.{flat_map-map}
 
 pub kind_of_bulk : (v : Value) (b : Vec ℕ Global) (ts : List Tree) → v ≡ BulkString b → kind_of_items (tree v ∷ ts) ≡ Some ids
@@ -44,18 +48,6 @@ claimed_read t kind count entries s e = rw (s, e) refl
 pub claimed_refused : (t : Tree) (kind : ClaimedKind) (count : ℕ) → claimed_shape t ≡ Some (kind, count) → entries_by_kind kind t ≡ None → claimed_reading t ≡ None
 claimed_refused t kind count s e = rw (s, e) refl
 
--- the items of a value that is literally an array
-pub items_there : (v : Value) (w : Vec Value Global) → v ≡ Array w → array_of_plain (tree v) ≡ Some (map tree w.items)
-items_there v w is = ap array_of_plain (ap tree is ∙ tree-Array w) ∙ ap Some (listed_trees (map tree w.items))
-
--- what is answered of another number of items names that number
-pub count_told : {A : Type 0} (answer : ℕ → A) (result : A) (v : Value) (w : Vec Value Global) (xs : List Value) (items : List Tree) → v ≡ Array w → xs ≡ w.items
-    → (two_or_three (map tree xs) ≡ None → result ≡ answer (length xs)) → array_of_plain (tree v) ≡ Some items → two_or_three items ≡ None → result ≡ answer (length items)
-count_told answer result v w xs items is same told there none =
-    let these : map tree w.items ≡ items = same_Some _ _ (sym (items_there v w is) ∙ there) in
-    let mapped : map tree xs ≡ items = ap (map tree) same ∙ these in
-    told (ap two_or_three mapped ∙ none) ∙ ap answer (sym (length-map xs tree) ∙ ap length mapped)
-
 -- a reply is read from its parts, and refused where one of them is
 module _ (t : Tree) (parts : Parts) (there : parts_in t ≡ Some parts) where
   by_parts : autoclaim_reading t ≡ autoclaim_of parts
@@ -65,15 +57,35 @@ module _ (t : Tree) (parts : Parts) (there : parts_in t ≡ Some parts) where
       → text_reading parts.0 ≡ Some next → autoclaim_reading t ≡ Some (record { next = next; claimed = claimed; deleted = deleted; invalid = invalid })
   autoclaim_read claimed deleted next invalid c d n = by_parts ∙ rw (c, d, n) refl
 
-  pub no_claimed : claimed_reading parts.1 ≡ None → autoclaim_reading t ≡ None
-  no_claimed c = by_parts ∙ rw c refl
+  -- a reply whose parts are there is refused with what one of them is refused with
+  module _ (error : ParsingError) where
+    told : RefusesPart parts error → RefusesAutoClaim t error
+    told p = in_parts (array_of_plain t) there
+      where
+        in_parts : (o : Option (List Tree)) → option_and_then two_or_three o ≡ Some parts
+            → MatchOption o (error ≡ NotArray) (λ ts. MatchOption (two_or_three ts) (error ≡ WrongItemCount (length ts)) (λ q. RefusesPart q error))
+        in_parts None is = absurd cc
+        in_parts (Some ts) is = rw is p
 
-  pub no_deleted : (claimed : List Entry × Bool) → claimed_reading parts.1 ≡ Some claimed → deleted_reading parts.2 ≡ None → autoclaim_reading t ≡ None
-  no_deleted claimed c d = by_parts ∙ rw (c, d) refl
+    pub claimed_part : Refuses claimed_reading RefusesClaimed parts.1 error → Refuses autoclaim_reading RefusesAutoClaim t error
+    claimed_part r = (told (inl r.0), λ h. by_parts ∙ rw (r.1 h) refl)
 
-  pub no_next : (claimed : List Entry × Bool) (deleted : List (List ℕ)) → claimed_reading parts.1 ≡ Some claimed → deleted_reading parts.2 ≡ Some deleted → text_reading parts.0 ≡ None
-      → autoclaim_reading t ≡ None
-  no_next claimed deleted c d n = by_parts ∙ rw (c, d, n) refl
+    module _ (claimed : List Entry × Bool) (c : claimed_reading parts.1 ≡ Some claimed) where
+      pub deleted_part : Refuses deleted_reading RefusesDeleted parts.2 error → Refuses autoclaim_reading RefusesAutoClaim t error
+      deleted_part r = (told (inr (inl r.0)), λ h. by_parts ∙ rw (c, r.1 h) refl)
 
-pub no_parts : (t : Tree) → parts_in t ≡ None → autoclaim_reading t ≡ None
-no_parts t h = ap (option_and_then autoclaim_of) h
+      pub next_part : (deleted : List (List ℕ)) → deleted_reading parts.2 ≡ Some deleted → RefusesTextIn parts.0 error → Refuses autoclaim_reading RefusesAutoClaim t error
+      next_part deleted d r = (told (inr (inr r)), λ h. by_parts ∙ rw (c, d, r.1 h) refl)
+
+-- a reply whose parts are not there
+pub no_parts : (t : Tree) (error : ParsingError) → Refuses parts_in (RefusesParts (λ _ _. ⊥)) t error → Refuses autoclaim_reading RefusesAutoClaim t error
+no_parts t error r = (by (array_of_plain t) r.0, λ h. ap (option_and_then autoclaim_of) (r.1 h))
+  where
+    inside : (count : ℕ) (o : Option Parts) → MatchOption o (error ≡ WrongItemCount count) (λ _. ⊥) → MatchOption o (error ≡ WrongItemCount count) (λ q. RefusesPart q error)
+    inside count None e = e
+    inside count (Some q) e = absurd e
+
+    by : (o : Option (List Tree)) → MatchOption o (error ≡ NotArray) (λ ts. MatchOption (two_or_three ts) (error ≡ WrongItemCount (length ts)) (λ _. ⊥))
+        → MatchOption o (error ≡ NotArray) (λ ts. MatchOption (two_or_three ts) (error ≡ WrongItemCount (length ts)) (λ q. RefusesPart q error))
+    by None e = e
+    by (Some ts) e = inside (length ts) (two_or_three ts) e

@@ -19,7 +19,7 @@ use Rattle.redis_resp.specs.Value.{tree}
 use Rattle.redis_resp.specs.Table.{Fields, entries_meaning}
 use Rattle.redis_resp.specs.declared.value.Value.{Value}
 use Rattle.redis_resp.proofs.TableLemmas.{get_of_fields}
-use Rattle.redis_streams.specs.StreamId.{fields_of}
+use Rattle.redis_streams.specs.EntryMeaning.{fields_of}
 
 pub get_field : {S : Type 0} (m : HashMap (String Global) Value S) (q : List ℕ) → get (fields_of m) q ≡ option_map tree (get_by_text m q)
 get_field m q = get_of_fields tree m q

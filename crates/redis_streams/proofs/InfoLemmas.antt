@@ -1,27 +1,24 @@
 -- Fields by name, and what is left of them after one is taken out.
-use Rattle.std.proofs.Common.{◌≡◌, ℕ, Bool, true, false, cond, List, [], Option, Some, None, option_map, String, string_bytes, Global, Vec, map, refl, ap, sym, subst, ◌∙◌, Result, Ok, Err, IfErr, IsErrAnd}
+use Rattle.std.proofs.Common.{◌≡◌, ℕ, Bool, true, false, cond, List, [], Option, Some, None, option_map, option_and_then, String, string_bytes, Global, refl, ap, sym, subst, ◌∙◌, Result, Ok, Err, IfErr, IsErrAnd}
 use Rattle.std.specs.Map.{update}
 use Rattle.std.specs.HashMap.{HashMap, UpdatesBy, get_by_text}
 use Rattle.std.specs.Str.{bytes_eq}
 use Rattle.std.specs.String.{string_eq}
 use Rattle.std.proofs.lemmas.Map.Text.{hash_map_updates_text}
 use Rattle.redis_resp.specs.Tree.{Tree}
-use Rattle.redis_resp.specs.Value.{tree}
-use Rattle.redis_resp.specs.declared.value.Value.{Value, Array}
-use Rattle.redis_resp.proofs.TreeLemmas.{tree-Array, listed_trees}
 use Rattle.std.proofs.lemmas.Option.{none-some, same_Some}
 use Rattle.redis_resp.specs.Table.{pairs_reading, entries_meaning, last_with}
 use Rattle.redis_resp.proofs.TableLemmas.{fields_last}
-use Rattle.redis_streams.specs.Info.{NamedFields, fields_in, entry_of_items, info_entry_reading}
-use Rattle.redis_streams.specs.InfoRecords.{named}
+use Rattle.redis_streams.specs.Info.{NamedFields, fields_in, stream_of, tracked_of}
+use Rattle.redis_streams.specs.InfoMeaning.{fields_by_name}
 
 none_seen : {V : Type 0} (seen : V → Tree) (b : Bool) (o : Option V) → option_map seen (cond b None o) ≡ cond b None (option_map seen o)
 none_seen seen true o = refl
 none_seen seen false o = refl
 
 pub named_removed : {V S : Type 0} (seen : V → Tree) (m n : HashMap (String Global) V S) (name : List ℕ) → UpdatesBy string_eq (λ k. bytes_eq name (string_bytes k)) m n None
-    → named seen n ≡ update bytes_eq (named seen m) name None
-unfolding named
+    → fields_by_name seen n ≡ update bytes_eq (fields_by_name seen m) name None
+unfolding fields_by_name
 named_removed seen m n name updates = λ i q. (ap (option_map seen) (hash_map_updates_text name m n None updates q) ∙ none_seen seen (bytes_eq name q) (get_by_text m q)) i
 
 -- the fields of a value are those of a map that has each key's last value
@@ -34,19 +31,23 @@ fields_found t fields each = by (pairs_reading (λ u. Some u) t) each
 
 -- a map that has each key's last value holds the fields of a value
 pub fields_of_map : {V S : Type 0} (seen : V → Tree) (t : Tree) (m : HashMap (String Global) V S) → ((name : List ℕ) → Some (option_map seen (get_by_text m name)) ≡ option_map (last_with name) (pairs_reading (λ u. Some u) t))
-    → fields_in t ≡ Some (named seen m)
-unfolding named
-fields_of_map seen t m each = fields_found t (named seen m) each
+    → fields_in t ≡ Some (fields_by_name seen m)
+unfolding fields_by_name
+fields_of_map seen t m each = fields_found t (fields_by_name seen m) each
 
 -- the fields of a value are those of the map of its pairs
 pub fields_of_pairs : {V S : Type 0} (seen : V → Tree) (t : Tree) (pairs : List (String Global × V)) (m : HashMap (String Global) V S) → pairs_reading (λ u. Some u) t ≡ Some (entries_meaning seen pairs)
-    → ((name : List ℕ) → get_by_text m name ≡ last_with name (entries_meaning (λ x. x) pairs)) → fields_in t ≡ Some (named seen m)
-unfolding named
-fields_of_pairs seen t pairs m read last = fields_found t (named seen m) (fields_last (λ u. Some u) seen t pairs read m last)
+    → ((name : List ℕ) → get_by_text m name ≡ last_with name (entries_meaning (λ x. x) pairs)) → fields_in t ≡ Some (fields_by_name seen m)
+unfolding fields_by_name
+fields_of_pairs seen t pairs m read last = fields_found t (fields_by_name seen m) (fields_last (λ u. Some u) seen t pairs read m last)
 
--- the entry of an array is that of its items
-pub entry_of_array : (v : Value) (items : Vec Value Global) → v ≡ Array items → info_entry_reading (tree v) ≡ entry_of_items (map tree items.items)
-entry_of_array v items is = ap (λ u. info_entry_reading (tree u)) is ∙ ap info_entry_reading (tree-Array items) ∙ ap entry_of_items (listed_trees (map tree items.items))
+never : {A B : Type 0} (o : Option A) → option_and_then (λ _. let none : Option B = None in none) o ≡ None
+never None = refl
+never (Some a) = refl
+
+-- a stream and its producers are nothing where the stream is nothing
+pub no_base : (f : NamedFields) → stream_of f ≡ None → tracked_of f ≡ None
+no_base f h = simp (h, never)
 
 -- what holds of an error holds of a result that passes it on
 pub passed_on : {T E : Type 0} (P : E → Type 0) (error : E) (r : Result T E) → IsErrAnd r (λ e. e ≡ error) → P error → IfErr r P

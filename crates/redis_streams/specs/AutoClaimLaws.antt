@@ -6,7 +6,7 @@ use Rattle.redis_resp.specs.Text.{text_reading}
 use Rattle.redis_resp.specs.Reading.{is_nil}
 use Rattle.redis_streams.specs.AutoClaim.{AutoClaim, Parts, autoclaim_reading, parts_in}
 
--- nil stands there, whatever attributes are round it
+-- nil stands there, whatever attributes are around it
 abbrev pub holds_nil : Tree → Bool
 holds_nil item = is_nil (plain item)
 

@@ -1,31 +1,22 @@
 -- What the replies of XPENDING mean, and which value means what.
-use Rattle.std.specs.Prelude.{ℕ, ◌-◌, ◌^◌, ℤ, pos, negsuc, suc, List, [], Option, Some, None, option_map, option_and_then, unwrap_or, option_to_list, flat_map, if◌then◌else◌, nat_eq}
-use Rattle.std.specs.Str.{is_utf8}
+use Rattle.std.specs.Prelude.{ℕ, ◌-◌, ◌^◌, ℤ, pos, negsuc, suc, List, [], Option, Some, None, option_map, option_and_then, unwrap_or, option_to_list, flat_map, if◌then◌else◌, nat_eq, Bool, true, false, ◌&&◌}
+use Rattle.redis_resp.specs.Then.{◌>>=◌}
 use Rattle.redis_resp.specs.Tree.{Tree, int, bulk, array_of_plain, exactly_four}
 use Rattle.redis_resp.specs.Text.{text_reading}
 use Rattle.redis_resp.specs.Number.{unsigned_of, within, unsigned_reading}
-use Rattle.redis_resp.specs.Reading.{option_reading, list_reading, traverse, two_reading, four_of, four_reading}
-
--- a consumer of a group: its name, how many entries it has pending, and for how long it has been idle
-pub record Consumer : Type 0 where
-  pub name : List ℕ
-  pub pending : ℕ
-  pub idle : ℕ
-
--- a consumer with no name and nothing pending
-abbrev pub empty_consumer : Consumer
-empty_consumer = record { name = []; pending = 0; idle = 0 }
+use Rattle.redis_resp.specs.Reading.{option_reading, list_reading, traverse, both_read, two_reading, four_reading}
+use Rattle.redis_streams.specs.Info.{Consumer}
 
 -- what is pending in a group: how much, from which id to which, and with whom
 pub record PendingSummary : Type 0 where
   pub count : ℕ
-  pub first_id : List ℕ
-  pub last_id : List ℕ
+  pub start_id : List ℕ
+  pub end_id : List ℕ
   pub consumers : List Consumer
 
 -- nothing pending, as a summary
 abbrev pub empty_summary : PendingSummary
-empty_summary = record { count = 0; first_id = []; last_id = []; consumers = [] }
+empty_summary = record { count = 0; start_id = []; end_id = []; consumers = [] }
 
 -- the four parts of a summary as the server sends them
 abbrev pub SummaryParts : Type 0
@@ -49,7 +40,10 @@ consumers_of rows = flat_map (λ row. option_to_list (option_map consumer_of row
 
 -- a summary of something pending, which wants both ids
 abbrev pub filled_summary : SummaryParts → Option PendingSummary
-filled_summary parts = option_and_then (λ first. option_map (λ last. record { count = parts.0; first_id = first; last_id = last; consumers = consumers_of parts.3 }) parts.2) parts.1
+filled_summary parts =
+    parts.1 >>= λ start.
+    parts.2 >>= λ end.
+    Some (record { count = parts.0; start_id = start; end_id = end; consumers = consumers_of parts.3 })
 
 -- nothing is pending where the count is 0, whatever else is said
 abbrev pub summary_of : SummaryParts → Option (Option PendingSummary)
@@ -57,23 +51,18 @@ summary_of parts = if nat_eq parts.0 0 then Some None else option_map Some (fill
 
 -- what a value says as the reply of XPENDING without a range: None where nothing is pending
 abbrev pub pending_reading : Tree → Option (Option PendingSummary)
-pending_reading t = option_and_then summary_of (summary_parts t)
+pending_reading t = summary_parts t >>= summary_of
 
 -- a pending entry: its id, its consumer, how long ago it was delivered last, and how often it was
 pub record PendingEntry : Type 0 where
   pub id : List ℕ
   pub consumer : List ℕ
-  pub elapsed : ℕ
-  pub delivered : ℕ
+  pub last_delivered_ms : ℕ
+  pub times_delivered : ℕ
 
 -- a pending entry of which nothing is said
 abbrev pub empty_pending_entry : PendingEntry
-empty_pending_entry = record { id = []; consumer = []; elapsed = 0; delivered = 0 }
-
--- a bulk string that is UTF-8, with no attribute around it
-abbrev pub literal_text : Tree → Option (List ℕ)
-literal_text (bulk bytes) = if is_utf8 bytes then Some bytes else None
-literal_text _ = None
+empty_pending_entry = record { id = []; consumer = []; last_delivered_ms = 0; times_delivered = 0 }
 
 -- a whole number as one of 64 bits without a sign: a negative one stands as itself plus 2 ^ 64
 abbrev pub without_sign : ℤ → ℕ
@@ -85,14 +74,35 @@ abbrev pub literal_number : Tree → Option ℕ
 literal_number (int z) = Some (without_sign z)
 literal_number _ = None
 
+-- it is a bulk string, with no attribute around it
+abbrev pub is_bulk : Tree → Bool
+is_bulk (bulk bytes) = true
+is_bulk _ = false
+
+-- the four members of a row
+abbrev pub Members : Type 0
+Members = Tree × Tree × Tree × Tree
+
+-- the two numbers of a row of two bulk strings and two whole numbers
+abbrev pub row_numbers : Members → Option (ℕ × ℕ)
+row_numbers q = if is_bulk q.0 && is_bulk q.1 then both_read (literal_number q.2) (literal_number q.3) else None
+
 -- a pending entry by its four members
-abbrev pub pending_entry : List ℕ × List ℕ × ℕ × ℕ → PendingEntry
-pending_entry parts = record { id = parts.0; consumer = parts.1; elapsed = parts.2; delivered = parts.3 }
+abbrev pub entry_of_members : Members → Option PendingEntry
+entry_of_members q =
+    row_numbers q >>= λ numbers.
+    text_reading q.0 >>= λ id.
+    text_reading q.1 >>= λ consumer.
+    Some (record { id = id; consumer = consumer; last_delivered_ms = numbers.0; times_delivered = numbers.1 })
+
+-- the same of a list of exactly four
+abbrev pub entry_of_four : List Tree → Option PendingEntry
+entry_of_four ts = exactly_four ts >>= entry_of_members
 
 -- exactly an id, a name and two numbers, in an array with no attribute around it
 abbrev pub pending_row : Tree → Option PendingEntry
-pending_row t = option_map pending_entry (option_and_then (four_of literal_text literal_text literal_number literal_number) (option_and_then exactly_four (array_of_plain t)))
+pending_row t = array_of_plain t >>= entry_of_four
 
 -- what a value says as the reply of XPENDING with a range: a row for each entry, in an array with no attribute around it
 abbrev pub pending_count_reading : Tree → Option (List PendingEntry)
-pending_count_reading t = option_and_then (traverse pending_row) (array_of_plain t)
+pending_count_reading t = array_of_plain t >>= traverse pending_row

@@ -1,18 +1,18 @@
 //! What XINFO tells of a stream, of its groups and of their consumers.
+mod consumer;
 mod consumers;
 mod entry;
-mod field;
-mod fields;
 mod groups;
 mod idempotency;
-mod known;
-mod law;
+mod named_fields;
+mod number_or_nil;
 mod stream;
 #[cfg(test)]
 mod tests;
 
+pub use consumer::StreamInfoConsumer;
+pub(crate) use consumer::copy_consumers;
 pub use consumers::StreamInfoConsumersReply;
 pub use groups::{StreamInfoGroup, StreamInfoGroupsReply};
 pub use idempotency::StreamInfoStreamReplyWithIdempotency;
-pub use law::other_keys_change_nothing;
 pub use stream::StreamInfoStreamReply;

@@ -1,9 +1,97 @@
 //! Laws of the replies, each a function whose contract stands over the definitions alone.
+//!
+//! RESP2 and RESP3 spell a list of pairs in two ways, as an array of even length and as a map, and
+//! a list as an array, a set or a map's pairs. The four laws of respelling say at which places of a
+//! reply the one may stand for the other: both values then read as one record, or both as none.
+ghost use Rattle.redis_streams.specs.AutoClaim.{autoclaim_reading};
 ghost use Rattle.redis_streams.specs.AutoClaimLaws.{InvalidEntriesTellNil};
+ghost use Rattle.redis_streams.specs.Info.{consumer_reading, group_reading, stream_reading, tracked_reading};
+ghost use Rattle.redis_streams.specs.OtherKeys.{OtherKeysChangeNothing, consumer_names, group_names, stream_names, tracked_names};
+ghost use Rattle.redis_streams.specs.OverlapLaws.{
+  BothRecordsAreShape,
+  ClaimIsGiven,
+  EachEntryIsRead,
+  RecordsDiffer,
+  StandardIsGiven,
+};
+ghost use Rattle.redis_streams.specs.Read.{read_reading, standard_reading};
+ghost use Rattle.redis_streams.specs.Respelling.{AutoclaimAlike, ClaimAlike, RangeAlike, ReadAlike};
+ghost use Rattle.redis_streams.specs.RespellingLaws.{
+  HoldsOfEqual,
+  IsSymmetric,
+  KeepsRecord,
+  ProtocolsAreAlike,
+};
+ghost use Rattle.redis_streams.specs.Rows.{rows_reading};
 
 /// What `invalid_entries` of an automatic claim tells: where each item of the claimed list is nil,
 /// one id or a row of one pair, it is true exactly where a nil stands there. It takes no memory.
 #[tactic(auto, using(crate::proofs::AutoClaimLawLemmas::invalid_entries))]
 pub fn invalid_entries_tell_nil()
     ensures { InvalidEntriesTellNil }
+{}
+
+/// Other keys change nothing: a stream, a stream with its producers, a consumer and a group that
+/// XINFO tells of are each read as if a pair were not there, wherever it stands, whose key is a
+/// text and none of the names that they read. It does nothing; its clauses are the law.
+pub fn other_keys_change_nothing()
+    ensures stream { OtherKeysChangeNothing stream_names stream_reading }
+    ensures tracked { OtherKeysChangeNothing tracked_names tracked_reading }
+    ensures consumer { OtherKeysChangeNothing consumer_names consumer_reading }
+    ensures group { OtherKeysChangeNothing group_names group_reading }
+{}
+
+/// What XRANGE or XREVRANGE answers and a respelling of it, at the list of rows, the rows and the
+/// fields, read as one record or both as none. The relation holds of equal values, and in both
+/// directions. It takes no memory.
+#[tactic(auto, using(crate::proofs::RespellingLemmas::range_laws))]
+pub fn respell_range()
+    ensures record { KeepsRecord RangeAlike rows_reading }
+    ensures equal { HoldsOfEqual RangeAlike }
+    ensures symmetric { IsSymmetric RangeAlike }
+{}
+
+/// The same of what XCLAIM answers. It takes no memory.
+#[tactic(auto, using(crate::proofs::RespellingLemmas::claim_laws))]
+pub fn respell_claim()
+    ensures record { KeepsRecord ClaimAlike rows_reading }
+    ensures equal { HoldsOfEqual ClaimAlike }
+    ensures symmetric { IsSymmetric ClaimAlike }
+{}
+
+/// The same of what XREAD or XREADGROUP answers, at the list of rows, the rows, the lists of
+/// entries and the fields, and at the entries too where the value has a standard record: an entry
+/// of the claim form is an array of four in every spelling. Both values then have the same standard
+/// record or both none, which is why the relation has no direction. The array of rows that RESP2
+/// answers and the map that RESP3 answers are such values. It takes no memory.
+#[tactic(auto, using(crate::proofs::RespellingLemmas::read_laws))]
+pub fn respell_read()
+    ensures record { KeepsRecord ReadAlike read_reading }
+    ensures standard { KeepsRecord ReadAlike standard_reading }
+    ensures equal { HoldsOfEqual ReadAlike }
+    ensures symmetric { IsSymmetric ReadAlike }
+    ensures protocols { ProtocolsAreAlike }
+{}
+
+/// The same of what XAUTOCLAIM answers, at the fields of claimed rows that are arrays in both
+/// values, or maps in both, with no attribute around them. It takes no memory.
+#[tactic(auto, using(crate::proofs::AutoclaimRespellingLemmas::autoclaim_laws))]
+pub fn respell_autoclaim()
+    ensures record { KeepsRecord AutoclaimAlike autoclaim_reading }
+    ensures equal { HoldsOfEqual AutoclaimAlike }
+    ensures symmetric { IsSymmetric AutoclaimAlike }
+{}
+
+/// Where a read has both a standard and a claim record: exactly where its skeleton is readable and
+/// each entry is an array of four, a text, fields, a number and nil. Such an entry gives its id with
+/// the fields and its number's text without fields in the standard record (the second alone where
+/// the two texts are one), and one delivered entry in the claim record. So the records differ
+/// exactly where a list that a row's table keeps has an entry. It takes no memory.
+#[tactic(auto, using(crate::proofs::OverlapLemmas::overlap_laws))]
+pub fn overlap()
+    ensures shape { BothRecordsAreShape }
+    ensures entries { EachEntryIsRead }
+    ensures standard { StandardIsGiven }
+    ensures claim { ClaimIsGiven }
+    ensures differ { RecordsDiffer }
 {}

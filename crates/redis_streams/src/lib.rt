@@ -13,21 +13,20 @@
 //! `specs/` say which. A refusal other than `ParsingError::Memory` means that there is none.
 #![tactic(auto)]
 
-#[cfg(test)]
-mod both_calls;
 pub mod info;
 pub mod laws;
 pub mod pending;
 pub mod rows;
 pub mod status;
+#[cfg(test)]
+mod tests;
 
 pub use info::{
-    StreamInfoConsumersReply, StreamInfoGroup, StreamInfoGroupsReply, StreamInfoStreamReply,
-    StreamInfoStreamReplyWithIdempotency,
+    StreamInfoConsumer, StreamInfoConsumersReply, StreamInfoGroup, StreamInfoGroupsReply,
+    StreamInfoStreamReply, StreamInfoStreamReplyWithIdempotency,
 };
 pub use pending::{
-    StreamInfoConsumer, StreamPendingCountReply, StreamPendingData, StreamPendingId,
-    StreamPendingReply,
+    StreamPendingCountReply, StreamPendingData, StreamPendingId, StreamPendingReply,
 };
 pub use rows::{
     StreamAutoClaimReply, StreamClaimReply, StreamId, StreamKey, StreamRangeReply, StreamReadReply,

@@ -1,11 +1,8 @@
 //! Replies on pending entries: those that were delivered to a consumer and not yet acknowledged.
-mod consumer;
 mod extended;
 mod summary;
 #[cfg(test)]
 mod tests;
 
-pub use consumer::StreamInfoConsumer;
-pub(crate) use consumer::copied_consumers;
 pub use extended::{StreamPendingCountReply, StreamPendingId};
 pub use summary::{StreamPendingData, StreamPendingReply};

@@ -2,11 +2,7 @@
 mod autoclaim;
 mod claim;
 mod claimed;
-mod clone;
-mod equality;
-#[cfg(test)]
-mod flag;
-mod listed;
+mod items;
 mod range;
 mod read;
 mod stream_id;

@@ -1,9 +1,8 @@
 //! The status codes that XDELEX and XACKDEL answer, one for each entry that was named.
-ghost use Rattle.std.specs.Prelude.{◌≡◌, ◌≢◌, Some, None, IfOk, IfErr, ok_or};
-ghost use Rattle.redis_resp.specs.Value.{tree};
-ghost use Rattle.redis_streams.specs.Status.{xdelex_code, xdelex_of_code, xdelex_reading};
-ghost use Rattle.redis_streams.specs.Status.{xackdel_code, xackdel_of_code, xackdel_reading};
-ghost use Rattle.redis_streams.specs.Status.{xdelex_refusal, xackdel_refusal};
+ghost use Rattle.std.specs.Prelude.{◌≡◌, Some};
+ghost use Rattle.redis_streams.specs.StatusMeaning.{xdelex_code, xdelex_of_code, xdelex_reading};
+ghost use Rattle.redis_streams.specs.StatusMeaning.{xackdel_code, xackdel_of_code, xackdel_reading};
+ghost use Rattle.redis_streams.specs.StatusMeaning.{xdelex_refusal, xackdel_refusal};
 
 use redis_resp::{FromRedisValue, ParsingError, Value};
 use std::alloc::Global;
@@ -44,23 +43,13 @@ impl FromRedisValue for XDelExStatusCode {
 
     ghost reading = { xdelex_reading };
 
-    fn from_redis_value(alloc: Global, v: Value) -> Result<XDelExStatusCode, ParsingError>
-        ensures ok { IfOk result (λ r. xdelex_reading (tree v) ≡ Some r) }
-        ensures err { IfErr result (λ e. e ≢ ParsingError.Memory
-            → xdelex_reading (tree v) ≡ None) }
-        ensures answer { result
-            ≡ ok_or (xdelex_reading (tree v)) (xdelex_refusal (tree v)) }
-    {
+    ghost may_refuse = { λ t error. error ≡ xdelex_refusal t };
+
+    fn from_redis_value(alloc: Global, v: Value) -> Result<XDelExStatusCode, ParsingError> {
         XDelExStatusCode::from_redis_value_ref(alloc, &v)
     }
 
-    fn from_redis_value_ref(_alloc: Global, v: &Value) -> Result<XDelExStatusCode, ParsingError>
-        ensures ok { IfOk result (λ r. xdelex_reading (tree v.now) ≡ Some r) }
-        ensures err { IfErr result (λ e. e ≢ ParsingError.Memory
-            → xdelex_reading (tree v.now) ≡ None) }
-        ensures answer { result
-            ≡ ok_or (xdelex_reading (tree v.now)) (xdelex_refusal (tree v.now)) }
-    {
+    fn from_redis_value_ref(_alloc: Global, v: &Value) -> Result<XDelExStatusCode, ParsingError> {
         match v {
             Value::Int(code) => match *code {
                 -1 => Ok(XDelExStatusCode::IdNotFound),
@@ -109,23 +98,13 @@ impl FromRedisValue for XAckDelStatusCode {
 
     ghost reading = { xackdel_reading };
 
-    fn from_redis_value(alloc: Global, v: Value) -> Result<XAckDelStatusCode, ParsingError>
-        ensures ok { IfOk result (λ r. xackdel_reading (tree v) ≡ Some r) }
-        ensures err { IfErr result (λ e. e ≢ ParsingError.Memory
-            → xackdel_reading (tree v) ≡ None) }
-        ensures answer { result
-            ≡ ok_or (xackdel_reading (tree v)) (xackdel_refusal (tree v)) }
-    {
+    ghost may_refuse = { λ t error. error ≡ xackdel_refusal t };
+
+    fn from_redis_value(alloc: Global, v: Value) -> Result<XAckDelStatusCode, ParsingError> {
         XAckDelStatusCode::from_redis_value_ref(alloc, &v)
     }
 
-    fn from_redis_value_ref(_alloc: Global, v: &Value) -> Result<XAckDelStatusCode, ParsingError>
-        ensures ok { IfOk result (λ r. xackdel_reading (tree v.now) ≡ Some r) }
-        ensures err { IfErr result (λ e. e ≢ ParsingError.Memory
-            → xackdel_reading (tree v.now) ≡ None) }
-        ensures answer { result
-            ≡ ok_or (xackdel_reading (tree v.now)) (xackdel_refusal (tree v.now)) }
-    {
+    fn from_redis_value_ref(_alloc: Global, v: &Value) -> Result<XAckDelStatusCode, ParsingError> {
         match v {
             Value::Int(code) => match *code {
                 -1 => Ok(XAckDelStatusCode::IdNotFound),
@@ -137,6 +116,18 @@ impl FromRedisValue for XAckDelStatusCode {
         }
     }
 }
+
+const _: () = prove!(XDelExStatusCode::IdNotFound as i64 == -1);
+
+const _: () = prove!(XDelExStatusCode::Deleted as i64 == 1);
+
+const _: () = prove!(XDelExStatusCode::NotDeletedUnacknowledgedOrStillReferenced as i64 == 2);
+
+const _: () = prove!(XAckDelStatusCode::IdNotFound as i64 == -1);
+
+const _: () = prove!(XAckDelStatusCode::AcknowledgedAndDeleted as i64 == 1);
+
+const _: () = prove!(XAckDelStatusCode::AcknowledgedNotDeletedStillReferenced as i64 == 2);
 
 #[cfg(test)]
 mod tests;

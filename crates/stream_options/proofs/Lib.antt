@@ -1,1 +1,4 @@
-mod NamesLemmas
+pub mod CallLemmas
+mod GroupLemmas
+pub mod Sentences
+pub mod UniqueDecoding

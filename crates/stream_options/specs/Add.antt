@@ -1,10 +1,10 @@
 -- What an entry is added with, as settings, and how it reads as arguments.
-use Rattle.std.specs.Prelude.{ℕ, Bool, false, List, ◌++◌, codes, Option, None}
+use Rattle.std.specs.Prelude.{ℕ, Bool, false, List, ◌∷◌, ◌++◌, codes, Option, None, IfSome}
 use Rattle.redis_resp.specs.Clause.{clause}
 use Rattle.stream_options.specs.Clauses.{flag}
-use Rattle.stream_options.specs.Idempotency.{Idempotency, idempotency_sentence}
-use Rattle.stream_options.specs.Policy.{Policy, policy_sentence}
-use Rattle.stream_options.specs.Trim.{Strategy, strategy_sentence}
+use Rattle.stream_options.specs.Idempotency.{Idempotency, idempotency_sentence, idempotency_words, IdempotencyFits}
+use Rattle.stream_options.specs.Policy.{Policy, policy_sentence, policy_words}
+use Rattle.stream_options.specs.Trim.{Strategy, strategy_sentence, strategy_words, StrategyFits}
 
 -- the settings of `XADD`
 pub record Add : Type 0 where
@@ -24,3 +24,12 @@ add_sentence a =
     ++ (clause policy_sentence a.policy
     ++ (clause idempotency_sentence a.idempotency
     ++ clause strategy_sentence a.trim))
+
+-- the fixed words
+abbrev pub add_words : List (List ℕ)
+add_words = codes "NOMKSTREAM" ∷ (policy_words ++ (idempotency_words ++ strategy_words))
+
+-- numbers are in their ranges, ids are texts
+pub record AddFits (a : Add) : Type 0 where
+  pub idempotency : IfSome a.idempotency IdempotencyFits
+  pub trim : IfSome a.trim StrategyFits

@@ -1,7 +1,8 @@
 -- What an automatic claim is asked for, as settings, and how it reads as arguments.
-use Rattle.std.specs.Prelude.{ℕ, Bool, false, List, ◌++◌, codes, Option, None}
+use Rattle.std.specs.Prelude.{ℕ, Bool, false, List, [], ◌∷◌, ◌++◌, codes, Option, None, IfSome}
 use Rattle.redis_resp.specs.Clause.{clause}
 use Rattle.stream_options.specs.Clauses.{word_number, flag}
+use Rattle.stream_options.specs.Words.{IsUsize}
 
 -- the settings of `XAUTOCLAIM`
 pub record AutoClaim : Type 0 where
@@ -15,3 +16,11 @@ default_autoclaim = record { count = None; justid = false }
 -- `[COUNT n] [JUSTID]`
 abbrev pub autoclaim_sentence : AutoClaim → List (List ℕ)
 autoclaim_sentence c = clause (word_number (codes "COUNT")) c.count ++ flag (codes "JUSTID") c.justid
+
+-- the fixed words
+abbrev pub autoclaim_words : List (List ℕ)
+autoclaim_words = codes "COUNT" ∷ codes "JUSTID" ∷ []
+
+-- the number is in its range
+abbrev pub AutoClaimFits : AutoClaim → Type 0
+AutoClaimFits c = IfSome c.count IsUsize

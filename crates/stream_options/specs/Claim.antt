@@ -1,7 +1,9 @@
 -- What a claim is asked for, as settings, and how it reads as arguments.
-use Rattle.std.specs.Prelude.{ℕ, Bool, false, List, ◌++◌, codes, Option, None}
+use Rattle.std.specs.Prelude.{ℕ, Bool, false, List, [], ◌∷◌, ◌++◌, codes, Option, None, IfSome}
+use Rattle.std.specs.Str.{IsUtf8}
 use Rattle.redis_resp.specs.Clause.{clause}
 use Rattle.stream_options.specs.Clauses.{word_number, word_text, flag}
+use Rattle.stream_options.specs.Words.{IsUsize}
 
 -- the settings of `XCLAIM`; `idle` in milliseconds, `time` in milliseconds since 1970
 pub record Claim : Type 0 where
@@ -32,3 +34,14 @@ claim_sentence c =
     ++ (flag (codes "FORCE") c.force
     ++ (flag (codes "JUSTID") c.justid
     ++ clause (word_text (codes "LASTID")) c.lastid))))
+
+-- the fixed words
+abbrev pub claim_words : List (List ℕ)
+claim_words = codes "IDLE" ∷ codes "TIME" ∷ codes "RETRYCOUNT" ∷ codes "FORCE" ∷ codes "JUSTID" ∷ codes "LASTID" ∷ []
+
+-- numbers are in their ranges, the id is a text
+pub record ClaimFits (c : Claim) : Type 0 where
+  pub idle : IfSome c.idle IsUsize
+  pub time : IfSome c.time IsUsize
+  pub retry : IfSome c.retry IsUsize
+  pub lastid : IfSome c.lastid IsUtf8

@@ -1,6 +1,6 @@
--- How long and how many ids a stream keeps to tell entries that are sent twice, as settings, and
--- how it reads as arguments.
-use Rattle.std.specs.Prelude.{ℕ, ◌≤◌, ◌⊎◌, List, ◌++◌, codes, Option, IfSome, IsSome}
+-- How long and how many ids a stream keeps to recognize duplicate entries, as settings, and how it
+-- reads as arguments.
+use Rattle.std.specs.Prelude.{ℕ, ◌≤◌, ◌⊎◌, List, [], ◌∷◌, ◌++◌, codes, Option, IfSome, IsSome}
 use Rattle.redis_resp.specs.Clause.{clause}
 use Rattle.stream_options.specs.Clauses.{word_number}
 
@@ -28,3 +28,7 @@ abbrev pub config_sentence : Config → List (List ℕ)
 config_sentence c =
     clause (word_number (codes "IDMP-DURATION")) c.seconds
     ++ clause (word_number (codes "IDMP-MAXSIZE")) c.maxsize
+
+-- the fixed words
+abbrev pub config_words : List (List ℕ)
+config_words = codes "IDMP-DURATION" ∷ codes "IDMP-MAXSIZE" ∷ []

@@ -1,5 +1,6 @@
--- How an entry that is sent twice is told, as settings, and how it reads as arguments.
+-- How a duplicate entry is recognized, as settings, and how it reads as arguments.
 use Rattle.std.specs.Prelude.{ℕ, List, [], ◌∷◌, codes}
+use Rattle.std.specs.Str.{IsUtf8}
 
 -- by a producer and an id of its own, or by a producer and what the entry holds
 pub data Idempotency : Type 0 where
@@ -10,3 +11,12 @@ pub data Idempotency : Type 0 where
 abbrev pub idempotency_sentence : Idempotency → List (List ℕ)
 idempotency_sentence (manual producer idempotent) = codes "IDMP" ∷ producer ∷ idempotent ∷ []
 idempotency_sentence (automatic producer) = codes "IDMPAUTO" ∷ producer ∷ []
+
+-- the fixed words
+abbrev pub idempotency_words : List (List ℕ)
+idempotency_words = codes "IDMP" ∷ codes "IDMPAUTO" ∷ []
+
+-- the ids are texts
+abbrev pub IdempotencyFits : Idempotency → Type 0
+IdempotencyFits (manual producer idempotent) = IsUtf8 producer × IsUtf8 idempotent
+IdempotencyFits (automatic producer) = IsUtf8 producer

@@ -1,6 +1,7 @@
 -- The most entries that a stream keeps.
 use Rattle.std.specs.Prelude.{ℕ, List, [], ◌∷◌, codes, decimal}
-use Rattle.stream_options.specs.Trim.{Mode, mode_word}
+use Rattle.stream_options.specs.Trim.{Mode, mode_word, mode_words}
+use Rattle.stream_options.specs.Words.{IsUsize}
 
 -- so many, by a mode
 pub record Maxlen : Type 0 where
@@ -10,3 +11,11 @@ pub record Maxlen : Type 0 where
 -- `MAXLEN = n` or `MAXLEN ~ n`
 abbrev pub maxlen_sentence : Maxlen → List (List ℕ)
 maxlen_sentence m = codes "MAXLEN" ∷ mode_word m.mode ∷ decimal m.count ∷ []
+
+-- the fixed words
+abbrev pub maxlen_words : List (List ℕ)
+maxlen_words = codes "MAXLEN" ∷ mode_words
+
+-- the number is in its range
+abbrev pub MaxlenFits : Maxlen → Type 0
+MaxlenFits m = IsUsize m.count

@@ -1,4 +1,4 @@
--- What giving back an entry says of it.
+-- Why an entry is given back.
 use Rattle.std.specs.Prelude.{ℕ, List, [], ◌∷◌, codes}
 
 -- the settings of `XNACK`: its mode
@@ -16,3 +16,7 @@ nack_word fatal = codes "FATAL"
 -- the word alone
 abbrev pub nack_sentence : Nack → List (List ℕ)
 nack_sentence mode = nack_word mode ∷ []
+
+-- the fixed words
+abbrev pub nack_words : List (List ℕ)
+nack_words = codes "SILENT" ∷ codes "FAIL" ∷ codes "FATAL" ∷ []

@@ -16,3 +16,7 @@ policy_word acked = codes "ACKED"
 -- the word alone
 abbrev pub policy_sentence : Policy → List (List ℕ)
 policy_sentence policy = policy_word policy ∷ []
+
+-- the fixed words
+abbrev pub policy_words : List (List ℕ)
+policy_words = codes "KEEPREF" ∷ codes "DELREF" ∷ codes "ACKED" ∷ []

@@ -1,7 +1,8 @@
 -- What a read is asked for, as settings, and how it reads as arguments.
-use Rattle.std.specs.Prelude.{ℕ, Bool, false, List, [], ◌∷◌, ◌++◌, codes, Option, None, is_some, if◌then◌else◌}
+use Rattle.std.specs.Prelude.{◌≡◌, ℕ, Bool, false, List, [], ◌∷◌, ◌++◌, codes, length, Option, None, is_some, IfSome, true, if◌then◌else◌}
 use Rattle.redis_resp.specs.Clause.{clause}
 use Rattle.stream_options.specs.Clauses.{word_number, flag}
+use Rattle.stream_options.specs.Words.{IsUsize}
 
 -- the arguments of a group's name and those of a consumer's
 pub record Group : Type 0 where
@@ -9,8 +10,8 @@ pub record Group : Type 0 where
   pub consumer : List (List ℕ)
 
 -- the group and the consumer with these arguments
-abbrev pub named : List (List ℕ) → List (List ℕ) → Group
-named group consumer = record { group = group; consumer = consumer }
+abbrev pub group_with : List (List ℕ) → List (List ℕ) → Group
+group_with group consumer = record { group = group; consumer = consumer }
 
 -- `GROUP g.. c..`
 abbrev pub group_sentence : Group → List (List ℕ)
@@ -38,3 +39,26 @@ read_sentence r =
     ++ (if is_some r.group
     then flag (codes "NOACK") r.noack ++ clause (word_number (codes "CLAIM")) r.claim
     else [])))
+
+-- the fixed words
+abbrev pub read_words : List (List ℕ)
+read_words = codes "GROUP" ∷ codes "BLOCK" ∷ codes "COUNT" ∷ codes "NOACK" ∷ codes "CLAIM" ∷ []
+
+-- single names: each writes exactly one argument
+abbrev pub IsSingle : Group → Type 0
+IsSingle g = (length g.group ≡ 1) × (length g.consumer ≡ 1)
+
+-- numbers are in their ranges, and names single
+pub record ReadFits (r : Read) : Type 0 where
+  pub group : IfSome r.group IsSingle
+  pub block : IfSome r.block IsUsize
+  pub count : IfSome r.count IsUsize
+  pub claim : IfSome r.claim IsUsize
+
+-- the settings that count are equal
+pub record CountAlike (a b : Read) : Type 0 where
+  pub group : a.group ≡ b.group
+  pub block : a.block ≡ b.block
+  pub count : a.count ≡ b.count
+  pub noack : is_some a.group ≡ true → a.noack ≡ b.noack
+  pub claim : is_some a.group ≡ true → a.claim ≡ b.claim

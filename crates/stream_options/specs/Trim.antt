@@ -1,8 +1,10 @@
--- What is cut off a stream, as settings, and how it reads as arguments.
-use Rattle.std.specs.Prelude.{ℕ, List, [], ◌∷◌, ◌++◌, codes, decimal, Option, None}
+-- How a stream is trimmed, as settings, and how it reads as arguments.
+use Rattle.std.specs.Prelude.{ℕ, List, [], ◌∷◌, ◌++◌, codes, decimal, Option, None, IfSome}
+use Rattle.std.specs.Str.{IsUtf8}
 use Rattle.redis_resp.specs.Clause.{clause}
 use Rattle.stream_options.specs.Clauses.{word_number}
-use Rattle.stream_options.specs.Policy.{Policy, policy_sentence}
+use Rattle.stream_options.specs.Policy.{Policy, policy_sentence, policy_words}
+use Rattle.stream_options.specs.Words.{IsUsize}
 
 -- to the bound itself, or about so
 pub data Mode : Type 0 where
@@ -14,6 +16,14 @@ abbrev pub mode_word : Mode → List ℕ
 mode_word exact = codes "="
 mode_word approx = codes "~"
 
+-- the word alone
+abbrev pub mode_sentence : Mode → List (List ℕ)
+mode_sentence mode = mode_word mode ∷ []
+
+-- the fixed words
+abbrev pub mode_words : List (List ℕ)
+mode_words = codes "=" ∷ codes "~" ∷ []
+
 -- so many entries stay, or those from an id on
 pub data Bound : Type 0 where
   max_len : Mode → ℕ → Bound
@@ -23,6 +33,11 @@ pub data Bound : Type 0 where
 abbrev pub bound_sentence : Bound → List (List ℕ)
 bound_sentence (max_len mode n) = codes "MAXLEN" ∷ mode_word mode ∷ decimal n ∷ []
 bound_sentence (min_id mode id) = codes "MINID" ∷ mode_word mode ∷ id ∷ []
+
+-- the number is in its range, the id a text
+abbrev pub BoundFits : Bound → Type 0
+BoundFits (max_len mode n) = IsUsize n
+BoundFits (min_id mode id) = IsUtf8 id
 
 -- a bound, and how many entries one call removes at most
 pub record Strategy : Type 0 where
@@ -37,6 +52,15 @@ unlimited bound = record { bound = bound; limit = None }
 abbrev pub strategy_sentence : Strategy → List (List ℕ)
 strategy_sentence s = bound_sentence s.bound ++ clause (word_number (codes "LIMIT")) s.limit
 
+-- the fixed words
+abbrev pub strategy_words : List (List ℕ)
+strategy_words = codes "MAXLEN" ∷ codes "MINID" ∷ codes "LIMIT" ∷ mode_words
+
+-- numbers are in their ranges, the id is a text
+pub record StrategyFits (s : Strategy) : Type 0 where
+  pub bound : BoundFits s.bound
+  pub limit : IfSome s.limit IsUsize
+
 -- the settings of `XTRIM`
 pub record Trim : Type 0 where
   pub strategy : Strategy
@@ -45,3 +69,11 @@ pub record Trim : Type 0 where
 -- `strategy [policy]`
 abbrev pub trim_sentence : Trim → List (List ℕ)
 trim_sentence t = strategy_sentence t.strategy ++ clause policy_sentence t.policy
+
+-- the fixed words
+abbrev pub trim_words : List (List ℕ)
+trim_words = strategy_words ++ policy_words
+
+-- numbers are in their ranges, the id is a text
+abbrev pub TrimFits : Trim → Type 0
+TrimFits t = StrategyFits t.strategy

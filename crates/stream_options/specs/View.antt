@@ -34,7 +34,7 @@ policy_of policy.KeepRef = keep_ref
 policy_of policy.DelRef = del_ref
 policy_of policy.Acked = acked
 
--- how an entry that is sent twice is told
+-- how a duplicate entry is recognized
 abbrev pub idempotency_of : StreamIdempotencyMode → Idempotency
 idempotency_of (idempotency.Manual producer idempotent) = manual (string_bytes producer) (string_bytes idempotent)
 idempotency_of (idempotency.Automatic producer) = automatic (string_bytes producer)

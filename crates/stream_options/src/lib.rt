@@ -8,6 +8,7 @@
 //! A contract sees options as their settings, and what they write as the sentence of these.
 #![tactic(auto)]
 
+pub mod laws;
 pub mod options;
 
 pub use options::{

@@ -1,32 +1,34 @@
 //! Written options and refused settings, against tables of words and texts.
 use redis_resp::ToRedisArgs;
 use std::alloc::{AllocError, Global};
+use std::process::Abort;
 use std::test::Fail;
 
 mod config;
+mod law;
 mod read;
 mod sentence;
 mod user;
 mod variant;
 
-// The arguments that the value writes, joined by spaces; `-` where there is none.
-fn words<T: ToRedisArgs>(alloc: Global, value: &T) -> Result<String, Fail> {
+// Both calls write these words, each one argument; `-` stands for no argument.
+fn assert_words<T: ToRedisArgs>(
+    rt: &impl Abort,
+    alloc: Global,
+    value: &T,
+    sentence: &str,
+) -> Result<(), Fail> {
+    let mut words = Vec::new(alloc);
+    if sentence != "-" {
+        for word in sentence.split(' ') {
+            words.push(Vec::from_slice(alloc, word.as_bytes())?)?;
+        }
+    }
     let mut args = Vec::new(alloc);
     value.write_redis_args(&mut args)?;
-    if value.to_redis_args(alloc)? != args {
-        return Err(Fail::new("the two calls differ"));
-    }
-    if args.is_empty() {
-        return Ok(text(alloc, "-")?);
-    }
-    let mut line = Vec::new(alloc);
-    for (index, arg) in args.iter().enumerate() {
-        if index > 0 {
-            line.push(b' ')?;
-        }
-        line.extend_from_slice(arg)?;
-    }
-    Ok(String::from_utf8(line)?)
+    assert!(rt; args == words, "of {sentence}");
+    assert!(rt; value.to_redis_args(alloc)? == words, "of {sentence}");
+    Ok(())
 }
 
 // A text on the heap.

@@ -11,7 +11,7 @@ use Rattle.redis_resp.specs.Tree.{Tree}
 use Rattle.redis_resp.specs.Value.{tree}
 use Rattle.redis_streams.specs.declared.rows.stream_id.StreamId.{StreamId}
 use denote.Ref.{Bor}
-use Rattle.stream_text.specs.declared.replies.entry.Field.{Field}
+use Rattle.stream_text.specs.declared.replies.rows.stream_id.Field.{Field}
 
 -- the text that a tree reads as, or a question mark
 abbrev pub tree_form : Tree → List ℕ

@@ -15,11 +15,8 @@
 //! | a refusal | `refused N`, the number of the cause in the order in which `ParsingError` lists them |
 //!
 //! Range, claim, read, pending with count, consumers and groups stand as `-` where they are empty.
-mod entry;
 mod info;
 mod pending;
 mod refusal;
 mod rows;
 mod status;
-#[cfg(test)]
-mod tests;

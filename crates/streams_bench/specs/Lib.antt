@@ -1,5 +1,6 @@
 pub mod AddCalls
-pub mod Calls
-pub mod Play
+pub mod CallsMeaning
+pub mod Config
 pub mod ReadCalls
 pub mod Row
+pub mod Vector

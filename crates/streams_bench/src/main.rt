@@ -5,15 +5,15 @@
 //! v01 MAXLEN ~ 10 LIMIT 5
 //! ```
 //!
-//! It ends with 0 where no text differs, with 1 where one does, and with 2 where memory was wanting
+//! It ends with 0 where no text differs, with 1 where one does, and with 2 where memory ran out
 //! or standard output failed.
 #![tactic(auto)]
 
-mod in_place;
-#[cfg(test)]
-mod memory_tests;
-mod play;
+mod call_sequences;
+mod fixed_args;
 mod print;
+#[cfg(test)]
+mod tests;
 mod vectors;
 
 use print::{PrintError, print_rows};
@@ -25,7 +25,7 @@ use vectors::vector_rows;
 // A text differed.
 const DIFFERENT: u8 = 1;
 
-// Memory was wanting, or standard output failed.
+// Memory ran out, or standard output failed.
 const FAILED: u8 = 2;
 
 // Why the program could not do its work.

@@ -1,37 +1,95 @@
 //! The vectors: texts that the layer has to compute, beside how it computes them.
-ghost use Rattle.std.specs.Prelude.{◌≡◌, IfOk, vec_len};
+ghost use Rattle.std.specs.Prelude.{◌≡◌, ◌+◌, IfOk, OnOk, vec_len};
 
-mod add;
-mod autoclaim;
-mod claim;
-mod config;
-mod info;
-mod pending;
-mod read;
+pub mod add;
+pub mod autoclaim;
+pub mod claim;
+pub mod config;
+pub mod info;
+pub mod pending;
+pub mod read;
 mod row;
-mod rows;
-mod status;
-mod trim;
+pub mod rows;
+pub mod status;
+pub mod trim;
 
 use crate::print::Row;
+use redis_streams::{
+    StreamAutoClaimReply, StreamClaimReply, StreamInfoConsumersReply, StreamInfoGroupsReply,
+    StreamInfoStreamReply, StreamInfoStreamReplyWithIdempotency, StreamPendingCountReply,
+    StreamPendingReply, StreamRangeReply, StreamReadReply, XAckDelStatusCode, XDelExStatusCode,
+};
+pub use row::{OptionsVector, ReplyVector};
+use row::{push_options_rows, push_reply_rows};
 use std::alloc::{AllocError, Global};
 
-/// A row for each vector, in ascending order. It fails only by want of memory.
+/// A row for each vector, in ascending order. It fails only where memory runs out.
 pub fn vector_rows(alloc: Global) -> Result<Vec<Row>, AllocError>
-    ensures { IfOk result (λ rows. vec_len rows ≡ 65) }
+    ensures { IfOk result (λ rows. vec_len rows ≡ 86) }
 {
     let mut rows = Vec::new(alloc);
-    trim::push_trim_rows(alloc, &mut rows)?;
-    trim::push_maxlen_rows(alloc, &mut rows)?;
-    add::push_add_rows(alloc, &mut rows)?;
-    config::push_config_rows(alloc, &mut rows)?;
-    claim::push_claim_rows(alloc, &mut rows)?;
-    read::push_read_rows(alloc, &mut rows)?;
-    rows::push_range_rows(alloc, &mut rows)?;
-    rows::push_read_reply_rows(alloc, &mut rows)?;
-    autoclaim::push_autoclaim_rows(alloc, &mut rows)?;
-    pending::push_pending_rows(alloc, &mut rows)?;
-    info::push_info_rows(alloc, &mut rows)?;
-    status::push_status_rows(alloc, &mut rows)?;
+    push_options(alloc, &mut rows)?;
+    push_replies(alloc, &mut rows)?;
+    push_keyword_options(alloc, &mut rows)?;
+    push_odd_replies(alloc, &mut rows)?;
     Ok(rows)
+}
+
+// Adds the vectors of options, v01 to v35.
+fn push_options(alloc: Global, rows: &mut Vec<Row>) -> Result<(), AllocError>
+    ensures { OnOk result (vec_len rows.new ≡ vec_len rows.old + 35) }
+{
+    push_options_rows(alloc, rows, &trim::trim_vectors(alloc)?)?;
+    push_options_rows(alloc, rows, &trim::maxlen_vectors())?;
+    push_options_rows(alloc, rows, &add::trimmed_vectors())?;
+    push_options_rows(alloc, rows, &add::idempotent_vectors(alloc)?)?;
+    push_options_rows(alloc, rows, &add::full_vectors(alloc)?)?;
+    config::push_config_rows(alloc, rows, &config::accepted_vectors())?;
+    config::push_config_rows(alloc, rows, &config::refused_vectors())?;
+    push_options_rows(alloc, rows, &claim::autoclaim_vectors())?;
+    push_options_rows(alloc, rows, &claim::claim_vectors(alloc)?)?;
+    push_options_rows(alloc, rows, &read::read_vectors(alloc)?)?;
+    push_options_rows(alloc, rows, &read::nack_vectors())
+}
+
+// Adds the vectors of options whose texts spell keywords, or whose names are odd, v66 to v69.
+fn push_keyword_options(alloc: Global, rows: &mut Vec<Row>) -> Result<(), AllocError>
+    ensures { OnOk result (vec_len rows.new ≡ vec_len rows.old + 4) }
+{
+    push_options_rows(alloc, rows, &add::keyword_vectors(alloc)?)?;
+    push_options_rows(alloc, rows, &claim::keyword_vectors(alloc)?)?;
+    push_options_rows(alloc, rows, &read::names_vectors(alloc)?)
+}
+
+// Adds the vectors of replies, v36 to v65.
+fn push_replies(alloc: Global, rows: &mut Vec<Row>) -> Result<(), AllocError>
+    ensures { OnOk result (vec_len rows.new ≡ vec_len rows.old + 30) }
+{
+    push_reply_rows::<StreamRangeReply>(alloc, rows, &rows::range_vectors())?;
+    push_reply_rows::<StreamClaimReply>(alloc, rows, &rows::claim_vectors())?;
+    push_reply_rows::<StreamReadReply>(alloc, rows, &rows::read_vectors())?;
+    push_reply_rows::<StreamAutoClaimReply>(alloc, rows, &autoclaim::autoclaim_vectors())?;
+    push_reply_rows::<StreamPendingReply>(alloc, rows, &pending::summary_vectors())?;
+    push_reply_rows::<StreamPendingCountReply>(alloc, rows, &pending::entry_vectors())?;
+    push_reply_rows::<StreamInfoStreamReply>(alloc, rows, &info::stream_vectors())?;
+    push_reply_rows::<StreamInfoStreamReplyWithIdempotency>(
+        alloc,
+        rows,
+        &info::idempotency_vectors(),
+    )?;
+    push_reply_rows::<StreamInfoConsumersReply>(alloc, rows, &info::consumer_vectors())?;
+    push_reply_rows::<StreamInfoGroupsReply>(alloc, rows, &info::group_vectors())?;
+    push_reply_rows::<XDelExStatusCode>(alloc, rows, &status::deletion_vectors())?;
+    push_reply_rows::<XAckDelStatusCode>(alloc, rows, &status::acknowledgement_vectors())
+}
+
+// Adds the vectors of odd replies, v70 to v86.
+fn push_odd_replies(alloc: Global, rows: &mut Vec<Row>) -> Result<(), AllocError>
+    ensures { OnOk result (vec_len rows.new ≡ vec_len rows.old + 17) }
+{
+    push_reply_rows::<StreamRangeReply>(alloc, rows, &rows::odd_range_vectors())?;
+    push_reply_rows::<StreamReadReply>(alloc, rows, &rows::odd_read_vectors())?;
+    push_reply_rows::<StreamAutoClaimReply>(alloc, rows, &autoclaim::odd_autoclaim_vectors())?;
+    push_reply_rows::<StreamPendingCountReply>(alloc, rows, &pending::odd_entry_vectors())?;
+    push_reply_rows::<StreamInfoStreamReply>(alloc, rows, &info::odd_stream_vectors())
 }

@@ -1,3 +1,5 @@
+ghost use Rattle.std.specs.Prelude.{◌≡◌, ◌↔◌, IsTrue};
+
 use crate::args::{FixedArgs, RawBytes, RedisWrite, ToRedisArgs, WriteError};
 use std::alloc::AllocError;
 use std::process::Abort;
@@ -139,4 +141,16 @@ fn a_long_list_is_written(rt: HostRuntime) -> Result<(), Fail> {
     assert_eq!(rt; listed.len(), 10_000);
     assert_eq!(rt; listed[9_999].as_slice(), b"9999".as_slice());
     Ok(())
+}
+
+fn are_equal(a: WriteError, b: WriteError) -> bool
+    ensures { IsTrue result ↔ (a ≡ b) }
+{
+    a == b
+}
+
+#[test]
+fn equal_refusals_are_told(rt: HostRuntime) {
+    assert!(rt; are_equal(WriteError::Full, WriteError::Full));
+    assert!(rt; !are_equal(WriteError::Full, WriteError::Memory));
 }

@@ -1,24 +1,8 @@
-//! Texts and bytes as arguments.
+//! Texts as arguments.
 ghost use Rattle.std.specs.Prelude.{[], ◌∷◌, string_bytes, refl};
 
 use crate::args::to_redis_args::{ToRedisArgs, ToSingleRedisArg};
 use crate::args::writer::{RedisWrite, WriteError};
-
-/// Bytes that are one argument as they stand, whatever they are.
-#[derive(Debug, PartialEq, Eq, Drop)]
-pub struct RawBytes(pub Vec<u8>);
-
-impl ToRedisArgs for RawBytes {
-    ghost args = { λ bytes. bytes.0.items ∷ [] };
-
-    fn write_redis_args<W: RedisWrite>(&self, out: &mut W) -> Result<(), WriteError> {
-        out.write_arg(self.0.as_slice())
-    }
-}
-
-impl ToSingleRedisArg for RawBytes {
-    ghost single = { λ _. refl };
-}
 
 impl ToRedisArgs for String {
     ghost args = { λ text. string_bytes text ∷ [] };

@@ -29,7 +29,7 @@ pub trait ToRedisArgs {
     fn write_redis_args<W: RedisWrite>(&self, out: &mut W) -> Result<(), WriteError>
         ensures { Wrote result (W.written out.old) (args self.now) (W.written out.new) (W.may_refuse out.new) };
 
-    /// The arguments of this value, as a list on the heap. It fails only by want of memory.
+    /// The arguments of this value, as a list on the heap. It fails only where it runs out of memory.
     fn to_redis_args(&self, alloc: Global) -> Result<Vec<Vec<u8>>, AllocError>
         ensures { IfOk result (λ list. map (λ arg. arg.items) list.items ≡ args self.now) }
     {

@@ -1,6 +1,7 @@
 //! Values that are read as they are.
-ghost use Rattle.std.specs.Prelude.{◌≡◌, ◌≢◌, IfOk, IfErr, Ok, Some, None};
+ghost use Rattle.std.specs.Prelude.{◌≡◌, Ok, Some};
 ghost use Rattle.redis_resp.specs.Tree.{Tree};
+ghost use Rattle.redis_resp.specs.Refusal.{RefusesValue};
 ghost use Rattle.redis_resp.specs.Value.{tree};
 
 use crate::value::Value;
@@ -14,6 +15,8 @@ impl FromRedisValue for Value {
     ghost meaning = { tree };
 
     ghost reading = { λ t. Some t };
+
+    ghost may_refuse = { RefusesValue };
 
     /// The value itself, its attributes kept. It copies nothing and never fails.
     fn from_redis_value(_alloc: Global, v: Value) -> Result<Value, ParsingError>

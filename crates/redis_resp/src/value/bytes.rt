@@ -1,6 +1,7 @@
 //! Bytes that are read from values.
-ghost use Rattle.std.specs.Prelude.{◌≡◌, ◌≢◌, IfOk, IfErr, ℕ, List, Some, None};
+ghost use Rattle.std.specs.Prelude.{◌≡◌, ◌≢◌, ℕ, List, Some, Err, IfOk, IfErr};
 ghost use Rattle.redis_resp.specs.Bytes.{bytes_reading};
+ghost use Rattle.redis_resp.specs.Refusal.{Refuses, RefusesBytes};
 ghost use Rattle.redis_resp.specs.Value.{tree};
 
 use crate::args::RawBytes;
@@ -16,11 +17,13 @@ impl FromRedisValue for RawBytes {
 
     ghost reading = { bytes_reading };
 
+    ghost may_refuse = { RefusesBytes };
+
     /// The bytes of a bulk string. They are moved, so it takes no memory.
     fn from_redis_value(_alloc: Global, v: Value) -> Result<RawBytes, ParsingError>
         ensures ok { IfOk result (λ r. bytes_reading (tree v) ≡ Some r.0.items) }
-        ensures err { IfErr result (λ _. bytes_reading (tree v) ≡ None) }
-        ensures cause { IfErr result (λ e. e ≡ ParsingError.NotBytes) }
+        ensures err { IfErr result (Refuses bytes_reading RefusesBytes (tree v)) }
+        ensures moved { result ≢ Err ParsingError.Memory }
     {
         match v.into_plain() {
             Value::BulkString(bytes) => Ok(RawBytes(bytes)),
@@ -29,12 +32,7 @@ impl FromRedisValue for RawBytes {
     }
 
     /// A copy of the bytes of a bulk string.
-    fn from_redis_value_ref(alloc: Global, v: &Value) -> Result<RawBytes, ParsingError>
-        ensures ok { IfOk result (λ r. bytes_reading (tree v.now) ≡ Some r.0.items) }
-        ensures err { IfErr result (λ e. e ≢ ParsingError.Memory
-            → bytes_reading (tree v.now) ≡ None) }
-        ensures cause { IfErr result (λ e. e ≢ ParsingError.Memory → e ≡ ParsingError.NotBytes) }
-    {
+    fn from_redis_value_ref(alloc: Global, v: &Value) -> Result<RawBytes, ParsingError> {
         match v.as_plain() {
             Value::BulkString(bytes) => Ok(RawBytes(Vec::from_slice(alloc, bytes)?)),
             _ => Err(ParsingError::NotBytes),

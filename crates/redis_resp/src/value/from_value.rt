@@ -1,7 +1,9 @@
 //! Records that are read from values.
-ghost use Rattle.std.specs.Prelude.{◌≡◌, ◌≢◌, IfOk, IfErr, Option, Some, None};
+ghost use Rattle.std.specs.Prelude.{◌≡◌, IfOk, IfErr, Option, Some, ⊤};
 ghost use Rattle.redis_resp.specs.Tree.{Tree};
+ghost use Rattle.redis_resp.specs.declared.value.error.ParsingError.{ParsingError};
 ghost use Rattle.redis_resp.specs.Record.{HasOneRecord, same_record};
+ghost use Rattle.redis_resp.specs.Refusal.{Refuses};
 ghost use Rattle.redis_resp.specs.Value.{tree};
 
 use crate::value::Value;
@@ -11,7 +13,8 @@ use std::alloc::Global;
 /// A record that values are read as.
 ///
 /// A type of your own says what its records mean, a mathematical type, and which meaning a tree
-/// has. It then works inside lists, options, tuples and tables with no change here.
+/// has. It then works inside lists, options, tuples and tables with no change here. Where it also
+/// says with which error it may refuse a tree, so does each list, option, tuple and table of it.
 pub trait FromRedisValue: Drop {
     /// What a record means: two records are the same where their meanings are equal.
     ghost Meaning: { Type 0 };
@@ -22,17 +25,21 @@ pub trait FromRedisValue: Drop {
     /// The one meaning that a tree has, or None where it has none.
     ghost reading: { Tree → Option Meaning };
 
+    /// With which error a tree may be refused; any, where a type does not say.
+    ghost may_refuse: { Tree → ParsingError → Type 0 } = { λ _ _. ⊤ };
+
     /// Reads the record of a value, and consumes the value.
     ///
-    /// An Err other than `Memory` means that the value has no record.
+    /// An Err is one with which the value may be refused, and means that it has no record, unless
+    /// it is `Memory`.
     fn from_redis_value(alloc: Global, v: Value) -> Result<Self, ParsingError>
         ensures ok { IfOk result (λ r. reading (tree v) ≡ Some (meaning r)) }
-        ensures err { IfErr result (λ e. e ≢ ParsingError.Memory → reading (tree v) ≡ None) };
+        ensures err { IfErr result (Refuses reading may_refuse (tree v)) };
 
-    /// Reads the same record from a value that is lent, and copies only what the record keeps.
+    /// Reads the same record from a borrowed value, and copies only what the record keeps.
     fn from_redis_value_ref(alloc: Global, v: &Value) -> Result<Self, ParsingError>
         ensures ok { IfOk result (λ r. reading (tree v.now) ≡ Some (meaning r)) }
-        ensures err { IfErr result (λ e. e ≢ ParsingError.Memory → reading (tree v.now) ≡ None) };
+        ensures err { IfErr result (Refuses reading may_refuse (tree v.now)) };
 
     /// A value has one record at most.
     ghost one_record: { HasOneRecord reading meaning } = { same_record reading meaning };
@@ -41,15 +48,15 @@ pub trait FromRedisValue: Drop {
 /// Reads a value as a record of the type asked for, and consumes the value.
 pub fn from_redis_value<T: FromRedisValue>(alloc: Global, v: Value) -> Result<T, ParsingError>
     ensures ok { IfOk result (λ r. T.reading (tree v) ≡ Some (T.meaning r)) }
-    ensures err { IfErr result (λ e. e ≢ ParsingError.Memory → T.reading (tree v) ≡ None) }
+    ensures err { IfErr result (Refuses T.reading T.may_refuse (tree v)) }
 {
     T::from_redis_value(alloc, v)
 }
 
-/// Reads a value that is lent as a record of the type asked for.
+/// Reads a borrowed value as a record of the type asked for.
 pub fn from_redis_value_ref<T: FromRedisValue>(alloc: Global, v: &Value) -> Result<T, ParsingError>
     ensures ok { IfOk result (λ r. T.reading (tree v.now) ≡ Some (T.meaning r)) }
-    ensures err { IfErr result (λ e. e ≢ ParsingError.Memory → T.reading (tree v.now) ≡ None) }
+    ensures err { IfErr result (Refuses T.reading T.may_refuse (tree v.now)) }
 {
     T::from_redis_value_ref(alloc, v)
 }

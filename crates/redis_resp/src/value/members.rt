@@ -1,103 +1,36 @@
 //! The members of arrays of a fixed length.
-ghost use Rattle.std.specs.Prelude.{◌≡◌, map, option_map};
-ghost use Rattle.redis_resp.specs.Tree.{exactly_two, exactly_four};
-ghost use Rattle.redis_resp.specs.Value.{tree, tree_of_pair, tree_of_refs};
+ghost use Rattle.std.specs.Prelude.{◌≡◌, option_map};
 ghost use Rattle.redis_resp.specs.Reading.{two_in, four_in};
-ghost use Rattle.redis_resp.specs.Members.{tree_of_four, tree_of_four_refs};
+ghost use Rattle.redis_resp.specs.Source.{both, all_four};
 
-use crate::value::Value;
+use crate::value::source::Source;
 
-/// Four values that are lent.
-pub type FourRefs<'a> = (&'a Value, &'a Value, &'a Value, &'a Value);
-
-fn two_of_slice<'a>(values: &'a [Value]) -> Option<(&'a Value, &'a Value)>
-    ensures { option_map tree_of_refs result ≡ exactly_two (map tree values.now) }
+/// The members of an `Array` of exactly two, whatever attributes stand around it, and None for any
+/// other value. It takes no memory.
+pub fn into_two<S: Source>(v: S) -> Option<(S, S)>
+    ensures { option_map (both S.seen) result ≡ two_in (S.seen v) }
 {
-    match values {
-        [a, b] => Some((a, b)),
-        [] => None,
-        [_] => None,
-        [_, _, _, ..] => None,
+    let mut values = v.into_plain().into_array()?;
+    if S::count_values(&values) > 2 {
+        return None;
     }
+    let a = S::next_value(&mut values)?;
+    let b = S::next_value(&mut values)?;
+    Some((a, b))
 }
 
-fn four_of_slice<'a>(values: &'a [Value]) -> Option<FourRefs<'a>>
-    ensures { option_map tree_of_four_refs result ≡ exactly_four (map tree values.now) }
+/// The members of an `Array` of exactly four, whatever attributes stand around it, and None for any
+/// other value. It takes no memory.
+pub fn into_four<S: Source>(v: S) -> Option<(S, S, S, S)>
+    ensures { option_map (all_four S.seen) result ≡ four_in (S.seen v) }
 {
-    match values {
-        [a, b, c, d] => Some((a, b, c, d)),
-        [] => None,
-        [_] => None,
-        [_, _] => None,
-        [_, _, _] => None,
-        [_, _, _, _, _, ..] => None,
+    let mut values = v.into_plain().into_array()?;
+    if S::count_values(&values) > 4 {
+        return None;
     }
-}
-
-#[tactic(auto, using(crate::proofs::MembersLemmas::not_two))]
-fn two_of_vec(values: Vec<Value>) -> Option<(Value, Value)>
-    ensures { option_map tree_of_pair result ≡ exactly_two (map tree values.items) }
-{
-    match <[Value; 2]>::try_from(values) {
-        Ok([a, b]) => Some((a, b)),
-        Err(_values) => None,
-    }
-}
-
-#[tactic(auto, using(crate::proofs::MembersLemmas::not_four))]
-fn four_of_vec(values: Vec<Value>) -> Option<(Value, Value, Value, Value)>
-    ensures { option_map tree_of_four result ≡ exactly_four (map tree values.items) }
-{
-    match <[Value; 4]>::try_from(values) {
-        Ok([a, b, c, d]) => Some((a, b, c, d)),
-        Err(_values) => None,
-    }
-}
-
-/// The members of an `Array` of exactly two, whatever attributes stand round it, and None for any
-/// other value. It consumes the value and takes no memory.
-#[tactic(auto, using(crate::proofs::MembersLemmas::two_in_Array))]
-pub fn into_two(v: Value) -> Option<(Value, Value)>
-    ensures { option_map tree_of_pair result ≡ two_in (tree v) }
-{
-    match v.into_plain() {
-        Value::Array(values) => two_of_vec(values),
-        _ => None,
-    }
-}
-
-/// The members of an `Array` of exactly two, whatever attributes stand round it, and None for any
-/// other value.
-#[tactic(auto, using(crate::proofs::MembersLemmas::two_in_Array))]
-pub fn two_ref<'a>(v: &'a Value) -> Option<(&'a Value, &'a Value)>
-    ensures { option_map tree_of_refs result ≡ two_in (tree v.now) }
-{
-    match v.as_plain() {
-        Value::Array(values) => two_of_slice(values),
-        _ => None,
-    }
-}
-
-/// The members of an `Array` of exactly four, whatever attributes stand round it, and None for any
-/// other value. It consumes the value and takes no memory.
-#[tactic(auto, using(crate::proofs::MembersLemmas::four_in_Array))]
-pub fn into_four(v: Value) -> Option<(Value, Value, Value, Value)>
-    ensures { option_map tree_of_four result ≡ four_in (tree v) }
-{
-    match v.into_plain() {
-        Value::Array(values) => four_of_vec(values),
-        _ => None,
-    }
-}
-
-/// The members of an `Array` of exactly four, whatever attributes stand round it, and None for any
-/// other value.
-#[tactic(auto, using(crate::proofs::MembersLemmas::four_in_Array))]
-pub fn four_ref<'a>(v: &'a Value) -> Option<FourRefs<'a>>
-    ensures { option_map tree_of_four_refs result ≡ four_in (tree v.now) }
-{
-    match v.as_plain() {
-        Value::Array(values) => four_of_slice(values),
-        _ => None,
-    }
+    let a = S::next_value(&mut values)?;
+    let b = S::next_value(&mut values)?;
+    let c = S::next_value(&mut values)?;
+    let d = S::next_value(&mut values)?;
+    Some((a, b, c, d))
 }

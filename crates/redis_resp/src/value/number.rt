@@ -2,9 +2,9 @@
 //!
 //! No call here takes memory, so the one refusal is `NotNumber`.
 ghost use Rattle.std.specs.Prelude.{◌≡◌, ℕ, ℤ, option_and_then};
-ghost use Rattle.std.specs.Option.{ok_or};
 ghost use Rattle.redis_resp.specs.Number.{unsigned_of, signed_of, within, signed_within};
 ghost use Rattle.redis_resp.specs.Number.{unsigned_reading, signed_reading};
+ghost use Rattle.redis_resp.specs.Refusal.{RefusesNumber};
 ghost use Rattle.redis_resp.specs.Value.{tree};
 
 use crate::value::Value;
@@ -88,17 +88,15 @@ impl FromRedisValue for u16 {
 
     ghost reading = { unsigned_reading 16 };
 
+    ghost may_refuse = { RefusesNumber };
+
     /// A number below 2^16. It takes no memory, so the one refusal is `NotNumber`.
-    fn from_redis_value(_alloc: Global, v: Value) -> Result<u16, ParsingError>
-        ensures { result ≡ ok_or (unsigned_reading 16 (tree v)) ParsingError.NotNumber }
-    {
+    fn from_redis_value(_alloc: Global, v: Value) -> Result<u16, ParsingError> {
         u16_of(&v).ok_or(ParsingError::NotNumber)
     }
 
-    /// The same number of a value that is lent.
-    fn from_redis_value_ref(_alloc: Global, v: &Value) -> Result<u16, ParsingError>
-        ensures { result ≡ ok_or (unsigned_reading 16 (tree v.now)) ParsingError.NotNumber }
-    {
+    /// The same number of a borrowed value.
+    fn from_redis_value_ref(_alloc: Global, v: &Value) -> Result<u16, ParsingError> {
         u16_of(v).ok_or(ParsingError::NotNumber)
     }
 }
@@ -110,17 +108,15 @@ impl FromRedisValue for u32 {
 
     ghost reading = { unsigned_reading 32 };
 
+    ghost may_refuse = { RefusesNumber };
+
     /// A number below 2^32. It takes no memory, so the one refusal is `NotNumber`.
-    fn from_redis_value(_alloc: Global, v: Value) -> Result<u32, ParsingError>
-        ensures { result ≡ ok_or (unsigned_reading 32 (tree v)) ParsingError.NotNumber }
-    {
+    fn from_redis_value(_alloc: Global, v: Value) -> Result<u32, ParsingError> {
         u32_of(&v).ok_or(ParsingError::NotNumber)
     }
 
-    /// The same number of a value that is lent.
-    fn from_redis_value_ref(_alloc: Global, v: &Value) -> Result<u32, ParsingError>
-        ensures { result ≡ ok_or (unsigned_reading 32 (tree v.now)) ParsingError.NotNumber }
-    {
+    /// The same number of a borrowed value.
+    fn from_redis_value_ref(_alloc: Global, v: &Value) -> Result<u32, ParsingError> {
         u32_of(v).ok_or(ParsingError::NotNumber)
     }
 }
@@ -132,17 +128,15 @@ impl FromRedisValue for u64 {
 
     ghost reading = { unsigned_reading 64 };
 
+    ghost may_refuse = { RefusesNumber };
+
     /// A number below 2^64. It takes no memory, so the one refusal is `NotNumber`.
-    fn from_redis_value(_alloc: Global, v: Value) -> Result<u64, ParsingError>
-        ensures { result ≡ ok_or (unsigned_reading 64 (tree v)) ParsingError.NotNumber }
-    {
+    fn from_redis_value(_alloc: Global, v: Value) -> Result<u64, ParsingError> {
         u64_of(&v).ok_or(ParsingError::NotNumber)
     }
 
-    /// The same number of a value that is lent.
-    fn from_redis_value_ref(_alloc: Global, v: &Value) -> Result<u64, ParsingError>
-        ensures { result ≡ ok_or (unsigned_reading 64 (tree v.now)) ParsingError.NotNumber }
-    {
+    /// The same number of a borrowed value.
+    fn from_redis_value_ref(_alloc: Global, v: &Value) -> Result<u64, ParsingError> {
         u64_of(v).ok_or(ParsingError::NotNumber)
     }
 }
@@ -154,17 +148,15 @@ impl FromRedisValue for usize {
 
     ghost reading = { unsigned_reading 64 };
 
+    ghost may_refuse = { RefusesNumber };
+
     /// A number below 2^64. It takes no memory, so the one refusal is `NotNumber`.
-    fn from_redis_value(_alloc: Global, v: Value) -> Result<usize, ParsingError>
-        ensures { result ≡ ok_or (unsigned_reading 64 (tree v)) ParsingError.NotNumber }
-    {
+    fn from_redis_value(_alloc: Global, v: Value) -> Result<usize, ParsingError> {
         usize_of(&v).ok_or(ParsingError::NotNumber)
     }
 
-    /// The same number of a value that is lent.
-    fn from_redis_value_ref(_alloc: Global, v: &Value) -> Result<usize, ParsingError>
-        ensures { result ≡ ok_or (unsigned_reading 64 (tree v.now)) ParsingError.NotNumber }
-    {
+    /// The same number of a borrowed value.
+    fn from_redis_value_ref(_alloc: Global, v: &Value) -> Result<usize, ParsingError> {
         usize_of(v).ok_or(ParsingError::NotNumber)
     }
 }
@@ -176,17 +168,15 @@ impl FromRedisValue for i64 {
 
     ghost reading = { signed_reading 63 };
 
+    ghost may_refuse = { RefusesNumber };
+
     /// A number from -2^63 to 2^63 - 1. It takes no memory, so the one refusal is `NotNumber`.
-    fn from_redis_value(_alloc: Global, v: Value) -> Result<i64, ParsingError>
-        ensures { result ≡ ok_or (signed_reading 63 (tree v)) ParsingError.NotNumber }
-    {
+    fn from_redis_value(_alloc: Global, v: Value) -> Result<i64, ParsingError> {
         i64_of(&v).ok_or(ParsingError::NotNumber)
     }
 
-    /// The same number of a value that is lent.
-    fn from_redis_value_ref(_alloc: Global, v: &Value) -> Result<i64, ParsingError>
-        ensures { result ≡ ok_or (signed_reading 63 (tree v.now)) ParsingError.NotNumber }
-    {
+    /// The same number of a borrowed value.
+    fn from_redis_value_ref(_alloc: Global, v: &Value) -> Result<i64, ParsingError> {
         i64_of(v).ok_or(ParsingError::NotNumber)
     }
 }

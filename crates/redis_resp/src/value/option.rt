@@ -1,15 +1,29 @@
 //! Values that may be missing.
-ghost use Rattle.std.specs.Prelude.{◌≡◌, ◌≢◌, IfOk, IfErr, IsTrue, Option, option_map};
-ghost use Rattle.redis_resp.specs.Tree.{plain};
-ghost use Rattle.redis_resp.specs.Value.{tree};
-ghost use Rattle.redis_resp.specs.Reading.{is_nil, option_reading};
+ghost use Rattle.std.specs.Prelude.{◌≡◌, IfOk, IfErr, Option, Some, option_map};
+ghost use Rattle.redis_resp.specs.Reading.{option_reading};
+ghost use Rattle.redis_resp.specs.Refusal.{Refuses, RefusesOption};
 
 use crate::value::Value;
 use crate::value::error::ParsingError;
 use crate::value::from_value::FromRedisValue;
+use crate::value::source::Source;
 use std::alloc::Global;
 
-/// None for `Nil`, whatever attributes stand round it, and for any other value Some of what `T`
+/// Reads a value that may be nil.
+fn read_option<S: Source, T: FromRedisValue>(alloc: Global, v: S) -> Result<Option<T>, ParsingError>
+    ensures ok { IfOk result (λ r. option_reading T.reading (S.seen v)
+        ≡ Some (option_map T.meaning r)) }
+    ensures err { IfErr result (Refuses (option_reading T.reading)
+        (RefusesOption (Refuses T.reading T.may_refuse)) (S.seen v)) }
+{
+    if let Value::Nil = v.as_value().as_plain() {
+        return Ok(None);
+    }
+    let record: T = v.read(alloc)?;
+    Ok(Some(record))
+}
+
+/// None for `Nil`, whatever attributes stand around it, and for any other value Some of what `T`
 /// reads, refused as `T` refuses it. A `Nil` takes no memory.
 impl<T: FromRedisValue> FromRedisValue for Option<T> {
     ghost Meaning = { Option T.Meaning };
@@ -18,30 +32,14 @@ impl<T: FromRedisValue> FromRedisValue for Option<T> {
 
     ghost reading = { option_reading T.reading };
 
-    fn from_redis_value(alloc: Global, v: Value) -> Result<Option<T>, ParsingError>
-        ensures ok { IfOk result (λ r. option_reading T.reading (tree v)
-            ≡ Some (option_map T.meaning r)) }
-        ensures err { IfErr result (λ e. e ≢ ParsingError.Memory
-            → option_reading T.reading (tree v) ≡ None) }
-        ensures none { IsTrue (is_nil (plain (tree v))) → result ≡ Ok None }
-    {
-        if let Value::Nil = v.as_plain() {
-            return Ok(None);
-        }
-        Ok(Some(T::from_redis_value(alloc, v)?))
+    ghost may_refuse = { RefusesOption (Refuses T.reading T.may_refuse) };
+
+    fn from_redis_value(alloc: Global, v: Value) -> Result<Option<T>, ParsingError> {
+        read_option(alloc, v)
     }
 
-    fn from_redis_value_ref(alloc: Global, v: &Value) -> Result<Option<T>, ParsingError>
-        ensures ok { IfOk result (λ r. option_reading T.reading (tree v.now)
-            ≡ Some (option_map T.meaning r)) }
-        ensures err { IfErr result (λ e. e ≢ ParsingError.Memory
-            → option_reading T.reading (tree v.now) ≡ None) }
-        ensures none { IsTrue (is_nil (plain (tree v.now))) → result ≡ Ok None }
-    {
-        if let Value::Nil = v.as_plain() {
-            return Ok(None);
-        }
-        Ok(Some(T::from_redis_value_ref(alloc, v)?))
+    fn from_redis_value_ref(alloc: Global, v: &Value) -> Result<Option<T>, ParsingError> {
+        read_option(alloc, v)
     }
 }
 

@@ -4,25 +4,28 @@ ghost use Rattle.std.specs.Prelude.{◌≡◌, ◌≢◌, IfOk, IfErr, List, ℕ
 ghost use Rattle.std.specs.FinMap.{from_entries};
 ghost use Rattle.std.specs.HashMap.{get_by_text};
 ghost use Rattle.redis_resp.specs.Tree.{pairs_in};
-ghost use Rattle.redis_resp.specs.Value.{tree};
-ghost use Rattle.redis_resp.specs.Table.{entries_meaning, pairs_reading, table_of, table_reading, last_with, Fields, fields_reading};
+ghost use Rattle.redis_resp.specs.Refusal.{Refuses, RefusesPairs};
+ghost use Rattle.redis_resp.specs.Table.{entries_meaning, pairs_reading, table_of, table_reading};
+ghost use Rattle.redis_resp.specs.Table.{last_with, Fields, fields_reading};
 
 use crate::value::Value;
 use crate::value::error::ParsingError;
 use crate::value::from_value::FromRedisValue;
-use crate::value::pair::{read_pairs, read_pairs_ref};
+use crate::value::pair::read_pairs;
 use indexmap::IndexMap;
 use std::alloc::{AllocError, Global};
 use std::collections::HashMap;
 
 /// The table of pairs in order: a key that comes again keeps its place and takes the last value.
-/// It fails only by want of memory.
+/// It fails only where it runs out of memory.
 pub fn index_map_of<V: Drop>(
     alloc: Global,
     pairs: Vec<(String, V)>,
 ) -> Result<IndexMap<String, V>, AllocError>
-    ensures { IfOk result (λ m. entries_meaning (λ x. x) m.entries
+    ensures entries { IfOk result (λ m. entries_meaning (λ x. x) m.entries
         ≡ table_of (entries_meaning (λ x. x) pairs.items)) }
+    ensures last { IfOk result (λ m. (key : List ℕ)
+        → get_by_text m key ≡ last_with key (entries_meaning (λ x. x) pairs.items)) }
 {
     IndexMap::from_iter(alloc, pairs)
 }
@@ -49,30 +52,14 @@ impl<V: FromRedisValue> FromRedisValue for IndexMap<String, V> {
 
     ghost reading = { table_reading V.reading };
 
-    fn from_redis_value(alloc: Global, v: Value) -> Result<IndexMap<String, V>, ParsingError>
-        ensures ok { IfOk result (λ m. table_reading V.reading (tree v)
-            ≡ Some (entries_meaning V.meaning m.entries)) }
-        ensures err { IfErr result (λ e. e ≢ ParsingError.Memory
-            → table_reading V.reading (tree v) ≡ None) }
-        ensures kind { pairs_in (tree v) ≡ None → result ≡ Err ParsingError.NotPairs }
-        ensures last { IfOk result (λ m. (key : List ℕ)
-            → Some (option_map V.meaning (get_by_text m key))
-            ≡ option_map (last_with key) (pairs_reading V.reading (tree v))) }
-    {
+    ghost may_refuse = { RefusesPairs (Refuses V.reading V.may_refuse) };
+
+    fn from_redis_value(alloc: Global, v: Value) -> Result<IndexMap<String, V>, ParsingError> {
         Ok(index_map_of(alloc, read_pairs(alloc, v)?)?)
     }
 
-    fn from_redis_value_ref(alloc: Global, v: &Value) -> Result<IndexMap<String, V>, ParsingError>
-        ensures ok { IfOk result (λ m. table_reading V.reading (tree v.now)
-            ≡ Some (entries_meaning V.meaning m.entries)) }
-        ensures err { IfErr result (λ e. e ≢ ParsingError.Memory
-            → table_reading V.reading (tree v.now) ≡ None) }
-        ensures kind { pairs_in (tree v.now) ≡ None → result ≡ Err ParsingError.NotPairs }
-        ensures last { IfOk result (λ m. (key : List ℕ)
-            → Some (option_map V.meaning (get_by_text m key))
-            ≡ option_map (last_with key) (pairs_reading V.reading (tree v.now))) }
-    {
-        Ok(index_map_of(alloc, read_pairs_ref(alloc, v)?)?)
+    fn from_redis_value_ref(alloc: Global, v: &Value) -> Result<IndexMap<String, V>, ParsingError> {
+        Ok(index_map_of(alloc, read_pairs(alloc, v)?)?)
     }
 }
 
@@ -85,30 +72,14 @@ impl<V: FromRedisValue> FromRedisValue for HashMap<String, V> {
 
     ghost reading = { fields_reading V.reading };
 
-    fn from_redis_value(alloc: Global, v: Value) -> Result<HashMap<String, V>, ParsingError>
-        ensures ok { IfOk result (λ m. fields_reading V.reading (tree v)
-            ≡ Some (from_entries (entries_meaning V.meaning m.entries))) }
-        ensures err { IfErr result (λ e. e ≢ ParsingError.Memory
-            → fields_reading V.reading (tree v) ≡ None) }
-        ensures kind { pairs_in (tree v) ≡ None → result ≡ Err ParsingError.NotPairs }
-        ensures last { IfOk result (λ m. (key : List ℕ)
-            → Some (option_map V.meaning (get_by_text m key))
-            ≡ option_map (last_with key) (pairs_reading V.reading (tree v))) }
-    {
+    ghost may_refuse = { RefusesPairs (Refuses V.reading V.may_refuse) };
+
+    fn from_redis_value(alloc: Global, v: Value) -> Result<HashMap<String, V>, ParsingError> {
         Ok(hash_map_of(alloc, read_pairs(alloc, v)?)?)
     }
 
-    fn from_redis_value_ref(alloc: Global, v: &Value) -> Result<HashMap<String, V>, ParsingError>
-        ensures ok { IfOk result (λ m. fields_reading V.reading (tree v.now)
-            ≡ Some (from_entries (entries_meaning V.meaning m.entries))) }
-        ensures err { IfErr result (λ e. e ≢ ParsingError.Memory
-            → fields_reading V.reading (tree v.now) ≡ None) }
-        ensures kind { pairs_in (tree v.now) ≡ None → result ≡ Err ParsingError.NotPairs }
-        ensures last { IfOk result (λ m. (key : List ℕ)
-            → Some (option_map V.meaning (get_by_text m key))
-            ≡ option_map (last_with key) (pairs_reading V.reading (tree v.now))) }
-    {
-        Ok(hash_map_of(alloc, read_pairs_ref(alloc, v)?)?)
+    fn from_redis_value_ref(alloc: Global, v: &Value) -> Result<HashMap<String, V>, ParsingError> {
+        Ok(hash_map_of(alloc, read_pairs(alloc, v)?)?)
     }
 }
 

@@ -1,6 +1,7 @@
 //! Texts that are read from values.
-ghost use Rattle.std.specs.Prelude.{◌≡◌, ◌≢◌, IfOk, IfErr, IsTrue, ℕ, List, string_bytes};
+ghost use Rattle.std.specs.Prelude.{◌≡◌, IfOk, IfErr, IsTrue, ℕ, List, string_bytes};
 ghost use Rattle.redis_resp.specs.Tree.{plain};
+ghost use Rattle.redis_resp.specs.Refusal.{Refuses, RefusesText};
 ghost use Rattle.redis_resp.specs.Text.{text_reading, is_written_out};
 ghost use Rattle.redis_resp.specs.Value.{tree};
 
@@ -16,12 +17,13 @@ impl FromRedisValue for String {
 
     ghost reading = { text_reading };
 
+    ghost may_refuse = { RefusesText };
+
     /// The text of a value. It moves the text that the value holds, and takes memory only where
     /// the value holds none: for `OK` and for a number in decimal.
     fn from_redis_value(alloc: Global, v: Value) -> Result<String, ParsingError>
         ensures ok { IfOk result (λ s. text_reading (tree v) ≡ Some (string_bytes s)) }
-        ensures err { IfErr result (λ e. e ≢ ParsingError.Memory → text_reading (tree v) ≡ None) }
-        ensures cause { IfErr result (λ e. e ≢ ParsingError.Memory → e ≡ ParsingError.NotText) }
+        ensures err { IfErr result (Refuses text_reading RefusesText (tree v)) }
         ensures moved { result ≡ Err ParsingError.Memory
             → IsTrue (is_written_out (plain (tree v))) }
     {
@@ -41,13 +43,8 @@ impl FromRedisValue for String {
         }
     }
 
-    /// A copy of the text of a value that is lent.
-    fn from_redis_value_ref(alloc: Global, v: &Value) -> Result<String, ParsingError>
-        ensures ok { IfOk result (λ s. text_reading (tree v.now) ≡ Some (string_bytes s)) }
-        ensures err { IfErr result (λ e. e ≢ ParsingError.Memory
-            → text_reading (tree v.now) ≡ None) }
-        ensures cause { IfErr result (λ e. e ≢ ParsingError.Memory → e ≡ ParsingError.NotText) }
-    {
+    /// A copy of the text of a borrowed value.
+    fn from_redis_value_ref(alloc: Global, v: &Value) -> Result<String, ParsingError> {
         match v.as_plain() {
             Value::BulkString(bytes) => match std::str::from_utf8(bytes) {
                 Ok(text) => Ok(String::from_str(alloc, text)?),

@@ -1,16 +1,57 @@
 //! Tuples that are read from values.
-ghost use Rattle.std.specs.Prelude.{◌≡◌, ◌≢◌, IfOk, IfErr, Some, None};
-ghost use Rattle.redis_resp.specs.Value.{tree};
-ghost use Rattle.redis_resp.specs.Reading.{two_in, two_reading, four_in, four_reading};
+ghost use Rattle.std.specs.Prelude.{◌≡◌, IfOk, IfErr, Some};
+ghost use Rattle.redis_resp.specs.Reading.{two_reading, four_reading};
+ghost use Rattle.redis_resp.specs.Refusal.{Refuses, RefusesTwo, RefusesFour};
 
 use crate::value::Value;
 use crate::value::error::ParsingError;
 use crate::value::from_value::FromRedisValue;
-use crate::value::members::{four_ref, into_four, into_two, two_ref};
+use crate::value::members::{into_four, into_two};
+use crate::value::source::Source;
 use std::alloc::Global;
 
+#[tactic(auto, using(crate::proofs::MembersLemmas::two_reading_is))]
+fn read_two<S: Source, A: FromRedisValue, B: FromRedisValue>(
+    alloc: Global,
+    v: S,
+) -> Result<(A, B), ParsingError>
+    ensures ok { IfOk result (λ r. two_reading A.reading B.reading (S.seen v)
+        ≡ Some (A.meaning r.0, B.meaning r.1)) }
+    ensures err { IfErr result (Refuses (two_reading A.reading B.reading)
+        (RefusesTwo (Refuses A.reading A.may_refuse) (Refuses B.reading B.may_refuse))
+        (S.seen v)) }
+{
+    let Some((a, b)) = into_two(v) else {
+        return Err(ParsingError::NotTuple(2));
+    };
+    let a: A = a.read(alloc)?;
+    let b: B = b.read(alloc)?;
+    Ok((a, b))
+}
+
+#[tactic(auto, using(crate::proofs::MembersLemmas::four_reading_is))]
+fn read_four<S: Source, A: FromRedisValue, B: FromRedisValue, C: FromRedisValue, D: FromRedisValue>(
+    alloc: Global,
+    v: S,
+) -> Result<(A, B, C, D), ParsingError>
+    ensures ok { IfOk result (λ r. four_reading A.reading B.reading C.reading D.reading (S.seen v)
+        ≡ Some (A.meaning r.0, B.meaning r.1, C.meaning r.2, D.meaning r.3)) }
+    ensures err { IfErr result (Refuses (four_reading A.reading B.reading C.reading D.reading)
+        (RefusesFour (Refuses A.reading A.may_refuse) (Refuses B.reading B.may_refuse)
+        (Refuses C.reading C.may_refuse) (Refuses D.reading D.may_refuse)) (S.seen v)) }
+{
+    let Some((a, b, c, d)) = into_four(v) else {
+        return Err(ParsingError::NotTuple(4));
+    };
+    let a: A = a.read(alloc)?;
+    let b: B = b.read(alloc)?;
+    let c: C = c.read(alloc)?;
+    let d: D = d.read(alloc)?;
+    Ok((a, b, c, d))
+}
+
 /// An `Array` of exactly two, each member by its own reading, and `NotTuple(2)` for any other kind
-/// or length. Reading an owned value moves its members; reading one that is lent copies only what
+/// or length. Reading an owned value moves its members; reading a borrowed one copies only what
 /// the members' readings keep.
 impl<A: FromRedisValue, B: FromRedisValue> FromRedisValue for (A, B) {
     ghost Meaning = { A.Meaning × B.Meaning };
@@ -19,41 +60,20 @@ impl<A: FromRedisValue, B: FromRedisValue> FromRedisValue for (A, B) {
 
     ghost reading = { two_reading A.reading B.reading };
 
-    #[tactic(auto, using(crate::proofs::MembersLemmas::two_reading_is))]
-    fn from_redis_value(alloc: Global, v: Value) -> Result<(A, B), ParsingError>
-        ensures ok { IfOk result (λ r. two_reading A.reading B.reading (tree v)
-            ≡ Some (A.meaning r.0, B.meaning r.1)) }
-        ensures err { IfErr result (λ e. e ≢ ParsingError.Memory
-            → two_reading A.reading B.reading (tree v) ≡ None) }
-        ensures kind { two_in (tree v) ≡ None → result ≡ Err (ParsingError.NotTuple 2) }
-    {
-        let Some((a, b)) = into_two(v) else {
-            return Err(ParsingError::NotTuple(2));
-        };
-        let a = A::from_redis_value(alloc, a)?;
-        let b = B::from_redis_value(alloc, b)?;
-        Ok((a, b))
+    ghost may_refuse = { RefusesTwo (Refuses A.reading A.may_refuse)
+        (Refuses B.reading B.may_refuse) };
+
+    fn from_redis_value(alloc: Global, v: Value) -> Result<(A, B), ParsingError> {
+        read_two(alloc, v)
     }
 
-    #[tactic(auto, using(crate::proofs::MembersLemmas::two_reading_is))]
-    fn from_redis_value_ref(alloc: Global, v: &Value) -> Result<(A, B), ParsingError>
-        ensures ok { IfOk result (λ r. two_reading A.reading B.reading (tree v.now)
-            ≡ Some (A.meaning r.0, B.meaning r.1)) }
-        ensures err { IfErr result (λ e. e ≢ ParsingError.Memory
-            → two_reading A.reading B.reading (tree v.now) ≡ None) }
-        ensures kind { two_in (tree v.now) ≡ None → result ≡ Err (ParsingError.NotTuple 2) }
-    {
-        let Some((a, b)) = two_ref(v) else {
-            return Err(ParsingError::NotTuple(2));
-        };
-        let a = A::from_redis_value_ref(alloc, a)?;
-        let b = B::from_redis_value_ref(alloc, b)?;
-        Ok((a, b))
+    fn from_redis_value_ref(alloc: Global, v: &Value) -> Result<(A, B), ParsingError> {
+        read_two(alloc, v)
     }
 }
 
 /// An `Array` of exactly four, each member by its own reading, and `NotTuple(4)` for any other kind
-/// or length. Reading an owned value moves its members; reading one that is lent copies only what
+/// or length. Reading an owned value moves its members; reading a borrowed one copies only what
 /// the members' readings keep.
 impl<A: FromRedisValue, B: FromRedisValue, C: FromRedisValue, D: FromRedisValue> FromRedisValue
     for (A, B, C, D) {
@@ -63,40 +83,16 @@ impl<A: FromRedisValue, B: FromRedisValue, C: FromRedisValue, D: FromRedisValue>
 
     ghost reading = { four_reading A.reading B.reading C.reading D.reading };
 
-    #[tactic(auto, using(crate::proofs::MembersLemmas::four_reading_is))]
-    fn from_redis_value(alloc: Global, v: Value) -> Result<(A, B, C, D), ParsingError>
-        ensures ok { IfOk result (λ r. four_reading A.reading B.reading C.reading D.reading (tree v)
-            ≡ Some (A.meaning r.0, B.meaning r.1, C.meaning r.2, D.meaning r.3)) }
-        ensures err { IfErr result (λ e. e ≢ ParsingError.Memory
-            → four_reading A.reading B.reading C.reading D.reading (tree v) ≡ None) }
-        ensures kind { four_in (tree v) ≡ None → result ≡ Err (ParsingError.NotTuple 4) }
-    {
-        let Some((a, b, c, d)) = into_four(v) else {
-            return Err(ParsingError::NotTuple(4));
-        };
-        let a = A::from_redis_value(alloc, a)?;
-        let b = B::from_redis_value(alloc, b)?;
-        let c = C::from_redis_value(alloc, c)?;
-        let d = D::from_redis_value(alloc, d)?;
-        Ok((a, b, c, d))
+    ghost may_refuse = { RefusesFour (Refuses A.reading A.may_refuse)
+        (Refuses B.reading B.may_refuse) (Refuses C.reading C.may_refuse)
+        (Refuses D.reading D.may_refuse) };
+
+    fn from_redis_value(alloc: Global, v: Value) -> Result<(A, B, C, D), ParsingError> {
+        read_four(alloc, v)
     }
 
-    #[tactic(auto, using(crate::proofs::MembersLemmas::four_reading_is))]
-    fn from_redis_value_ref(alloc: Global, v: &Value) -> Result<(A, B, C, D), ParsingError>
-        ensures ok { IfOk result (λ r. four_reading A.reading B.reading C.reading D.reading (tree v.now)
-            ≡ Some (A.meaning r.0, B.meaning r.1, C.meaning r.2, D.meaning r.3)) }
-        ensures err { IfErr result (λ e. e ≢ ParsingError.Memory
-            → four_reading A.reading B.reading C.reading D.reading (tree v.now) ≡ None) }
-        ensures kind { four_in (tree v.now) ≡ None → result ≡ Err (ParsingError.NotTuple 4) }
-    {
-        let Some((a, b, c, d)) = four_ref(v) else {
-            return Err(ParsingError::NotTuple(4));
-        };
-        let a = A::from_redis_value_ref(alloc, a)?;
-        let b = B::from_redis_value_ref(alloc, b)?;
-        let c = C::from_redis_value_ref(alloc, c)?;
-        let d = D::from_redis_value_ref(alloc, d)?;
-        Ok((a, b, c, d))
+    fn from_redis_value_ref(alloc: Global, v: &Value) -> Result<(A, B, C, D), ParsingError> {
+        read_four(alloc, v)
     }
 }
 

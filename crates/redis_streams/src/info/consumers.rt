@@ -1,15 +1,13 @@
 //! The reply of XINFO CONSUMERS.
-ghost use Rattle.std.specs.Prelude.{◌≡◌, ◌≢◌, [], List, Some, None, IsOk, IfOk, IfErr, map};
-ghost use Rattle.redis_streams.specs.Pending.{Consumer};
-ghost use Rattle.redis_streams.specs.PendingRecords.{consumer_meaning};
-ghost use Rattle.redis_streams.specs.Info.{consumer_of_fields, consumer_reading};
-ghost use Rattle.redis_streams.specs.Info.{consumers_reading};
-ghost use Rattle.redis_streams.specs.InfoRecords.{named, consumers_meaning};
+ghost use Rattle.std.specs.Prelude.{◌≡◌, [], List, Some, IsOk, IfOk, IfErr, codes, map, option_map};
+ghost use Rattle.redis_resp.specs.Refusal.{Refuses};
+ghost use Rattle.redis_streams.specs.Info.{Consumer, consumer_of_fields, consumer_reading, consumers_reading};
+ghost use Rattle.redis_streams.specs.InfoMeaning.{consumer_meaning, consumers_meaning, fields_by_name};
+ghost use Rattle.redis_streams.specs.InfoRefusal.{RefusesConsumerField, RefusesConsumers, RefusesNamed};
 
-use crate::info::field::{Source, take_field};
-use crate::info::fields::{lent_fields, owned_fields};
-use crate::pending::{StreamInfoConsumer, copied_consumers};
-use redis_resp::{FromRedisValue, ParsingError, Value};
+use crate::info::consumer::{StreamInfoConsumer, copy_consumers};
+use crate::info::named_fields::{named_fields, read_or, take_field};
+use redis_resp::{FromRedisValue, ParsingError, Source, Value};
 use std::alloc::{AllocError, Global};
 use std::collections::HashMap;
 
@@ -31,13 +29,37 @@ impl StreamInfoConsumersReply {
         })
     }
 
-    /// The same reply once more. It fails only by want of memory.
+    /// A copy of the reply. It fails only where it is out of memory.
     pub fn try_clone(&self, alloc: Global) -> Result<StreamInfoConsumersReply, AllocError>
         ensures { IfOk result (λ r. consumers_meaning r ≡ consumers_meaning self.now) }
     {
         Ok(StreamInfoConsumersReply {
-            consumers: copied_consumers(alloc, &self.consumers)?,
+            consumers: copy_consumers(alloc, &self.consumers)?,
         })
+    }
+}
+
+/// The fields of a consumer, each where it is there.
+#[derive(Drop)]
+struct ConsumerFields<S> {
+    name: Option<S>,
+    pending: Option<S>,
+    idle: Option<S>,
+}
+
+/// Takes a consumer's fields out of the fields.
+fn consumer_fields<S: Source>(fields: &mut HashMap<String, S>) -> ConsumerFields<S>
+    ensures name { option_map S.seen result.name
+        ≡ fields_by_name S.seen fields.old (codes "name") }
+    ensures pending { option_map S.seen result.pending
+        ≡ fields_by_name S.seen fields.old (codes "pending") }
+    ensures idle { option_map S.seen result.idle
+        ≡ fields_by_name S.seen fields.old (codes "idle") }
+{
+    ConsumerFields {
+        name: take_field(fields, "name"),
+        pending: take_field(fields, "pending"),
+        idle: take_field(fields, "idle"),
     }
 }
 
@@ -46,24 +68,33 @@ fn read_consumer<S: Source>(
     alloc: Global,
     mut fields: HashMap<String, S>,
 ) -> Result<StreamInfoConsumer, ParsingError>
-    ensures ok { IfOk result (λ r. consumer_of_fields (named S.seen fields)
+    ensures ok { IfOk result (λ r. consumer_of_fields (fields_by_name S.seen fields)
         ≡ Some (consumer_meaning r)) }
-    ensures err { IfErr result (λ e. e ≢ ParsingError.Memory
-        → consumer_of_fields (named S.seen fields) ≡ None) }
+    ensures err { IfErr result (Refuses consumer_of_fields RefusesConsumerField
+        (fields_by_name S.seen fields)) }
 {
-    let name = take_field(alloc, &mut fields, "name", String::new(alloc))?;
-    let pending = take_field(alloc, &mut fields, "pending", 0)?;
-    let idle = take_field(alloc, &mut fields, "idle", 0)?;
+    let fields = consumer_fields(&mut fields);
     Ok(StreamInfoConsumer {
-        name,
-        pending,
-        idle,
+        name: read_or(alloc, fields.name, String::new(alloc))?,
+        pending: read_or(alloc, fields.pending, 0)?,
+        idle: read_or(alloc, fields.idle, 0)?,
     })
 }
 
 /// A row of the reply.
 #[derive(Drop)]
 struct Row(StreamInfoConsumer);
+
+/// The row of a value.
+fn read_row<S: Source>(alloc: Global, v: S) -> Result<Row, ParsingError>
+    ensures ok { IfOk result (λ row. consumer_reading (S.seen v)
+        ≡ Some (consumer_meaning row.0)) }
+    ensures err { IfErr result (Refuses consumer_reading (RefusesNamed RefusesConsumerField)
+        (S.seen v)) }
+{
+    let fields = named_fields(alloc, v)?;
+    Ok(Row(read_consumer(alloc, fields)?))
+}
 
 impl FromRedisValue for Row {
     ghost Meaning = { Consumer };
@@ -72,18 +103,18 @@ impl FromRedisValue for Row {
 
     ghost reading = { consumer_reading };
 
+    ghost may_refuse = { RefusesNamed RefusesConsumerField };
+
     fn from_redis_value(alloc: Global, v: Value) -> Result<Row, ParsingError> {
-        let fields = owned_fields(alloc, v)?;
-        Ok(Row(read_consumer(alloc, fields)?))
+        read_row(alloc, v)
     }
 
     fn from_redis_value_ref(alloc: Global, v: &Value) -> Result<Row, ParsingError> {
-        let fields = lent_fields(alloc, v)?;
-        Ok(Row(read_consumer(alloc, fields)?))
+        read_row(alloc, v)
     }
 }
 
-/// The reply of these rows. It fails only by want of memory.
+/// The reply of these rows. It fails only where it is out of memory.
 fn reply_of(alloc: Global, rows: Vec<Row>) -> Result<StreamInfoConsumersReply, AllocError>
     ensures { IfOk result (λ r. consumers_meaning r
         ≡ map (λ row. consumer_meaning row.0) rows.items) }
@@ -95,7 +126,17 @@ fn reply_of(alloc: Global, rows: Vec<Row>) -> Result<StreamInfoConsumersReply, A
     Ok(StreamInfoConsumersReply { consumers })
 }
 
-/// Read from a list of rows, each of fields by name.
+/// The consumers of a value that is a list of rows.
+fn read_reply<S: Source>(alloc: Global, v: S) -> Result<StreamInfoConsumersReply, ParsingError>
+    ensures ok { IfOk result (λ r. consumers_reading (S.seen v) ≡ Some (consumers_meaning r)) }
+    ensures err { IfErr result (Refuses consumers_reading RefusesConsumers (S.seen v)) }
+{
+    let rows: Vec<Row> = v.read(alloc)?;
+    Ok(reply_of(alloc, rows)?)
+}
+
+/// Read from a list of rows, each of fields by name. `NotList` for what is no list, and else what
+/// one of the rows is refused with.
 impl FromRedisValue for StreamInfoConsumersReply {
     ghost Meaning = { List Consumer };
 
@@ -103,16 +144,16 @@ impl FromRedisValue for StreamInfoConsumersReply {
 
     ghost reading = { consumers_reading };
 
+    ghost may_refuse = { RefusesConsumers };
+
     fn from_redis_value(alloc: Global, v: Value) -> Result<StreamInfoConsumersReply, ParsingError> {
-        let rows: Vec<Row> = Vec::from_redis_value(alloc, v)?;
-        Ok(reply_of(alloc, rows)?)
+        read_reply(alloc, v)
     }
 
     fn from_redis_value_ref(
         alloc: Global,
         v: &Value,
     ) -> Result<StreamInfoConsumersReply, ParsingError> {
-        let rows: Vec<Row> = Vec::from_redis_value_ref(alloc, v)?;
-        Ok(reply_of(alloc, rows)?)
+        read_reply(alloc, v)
     }
 }

@@ -1,16 +1,18 @@
 //! An entry as XINFO STREAM tells of it.
-ghost use Rattle.std.specs.Prelude.{◌≡◌, ◌≢◌, Some, None, IfOk, IfErr, map, string_bytes};
-ghost use Rattle.redis_resp.specs.Value.{tree};
+ghost use Rattle.std.specs.Prelude.{◌≡◌, Some, IfOk, IfErr, string_bytes};
+ghost use Rattle.redis_resp.specs.Refusal.{Refuses};
 ghost use Rattle.redis_streams.specs.Entry.{Entry, entry_of, empty_entry};
-ghost use Rattle.redis_streams.specs.StreamId.{entry_meaning, fields_of};
+ghost use Rattle.redis_streams.specs.EntryMeaning.{entry_meaning, fields_of};
 ghost use Rattle.redis_streams.specs.Info.{entry_of_items, info_entry_reading};
+ghost use Rattle.redis_streams.specs.InfoRefusal.{RefusesInfoEntry, RefusesItems};
 
 use crate::rows::StreamId;
-use redis_resp::{FromRedisValue, ParsingError, Value};
+use redis_resp::{FromRedisValue, ParsingError, Source, Value};
 use std::alloc::Global;
 use std::collections::HashMap;
 
-/// An entry as XINFO STREAM tells of it: a literal `Array` of the id and the fields. The empty
+/// An entry as XINFO STREAM tells of it: an `Array` with no attribute around it,
+/// of the id and the fields. The empty
 /// entry stands for any other value and for an `Array` without items; fields that are not there
 /// are none, and later items are ignored.
 #[derive(Drop)]
@@ -37,44 +39,34 @@ impl InfoEntry {
     }
 }
 
-/// The entry that the items make, which are moved.
-fn read_items(alloc: Global, items: Vec<Value>) -> Result<InfoEntry, ParsingError>
-    ensures ok { IfOk result (λ r. entry_of_items (map tree items.items)
+/// The entry that the items make.
+fn read_items<S: Source>(alloc: Global, mut items: S::Values) -> Result<InfoEntry, ParsingError>
+    ensures ok { IfOk result (λ r. entry_of_items (S.values_left items)
         ≡ Some (entry_meaning r.0)) }
-    ensures err { IfErr result (λ e. e ≢ ParsingError.Memory
-        → entry_of_items (map tree items.items) ≡ None) }
+    ensures err { IfErr result (Refuses entry_of_items RefusesItems (S.values_left items)) }
 {
-    let mut items = items.into_iter();
-    let Some(id) = items.next() else {
+    let Some(id) = S::next_value(&mut items) else {
         return Ok(InfoEntry::empty(alloc));
     };
-    let id = String::from_redis_value(alloc, id)?;
-    let Some(fields) = items.next() else {
+    let id: String = id.read(alloc)?;
+    let Some(fields) = S::next_value(&mut items) else {
         return Ok(entry(id, HashMap::new(alloc)));
     };
-    let map = HashMap::from_redis_value(alloc, fields)?;
+    let map: HashMap<String, Value> = fields.read(alloc)?;
     Ok(entry(id, map))
 }
 
-/// The entry that the items make, which are lent.
-fn read_items_ref(alloc: Global, items: &[Value]) -> Result<InfoEntry, ParsingError>
-    ensures ok { IfOk result (λ r. entry_of_items (map tree items.now)
-        ≡ Some (entry_meaning r.0)) }
-    ensures err { IfErr result (λ e. e ≢ ParsingError.Memory
-        → entry_of_items (map tree items.now) ≡ None) }
+/// The entry of a value.
+fn read_entry<S: Source>(alloc: Global, v: S) -> Result<InfoEntry, ParsingError>
+    ensures ok { IfOk result (λ r. info_entry_reading (S.seen v) ≡ Some (entry_meaning r.0)) }
+    ensures err { IfErr result (Refuses info_entry_reading RefusesInfoEntry (S.seen v)) }
 {
-    let Some((id, rest)) = items.split_first() else {
-        return Ok(InfoEntry::empty(alloc));
-    };
-    let id = String::from_redis_value_ref(alloc, id)?;
-    let Some((fields, _)) = rest.split_first() else {
-        return Ok(entry(id, HashMap::new(alloc)));
-    };
-    let map = HashMap::from_redis_value_ref(alloc, fields)?;
-    Ok(entry(id, map))
+    match v.into_array() {
+        Some(items) => read_items::<S>(alloc, items),
+        None => Ok(InfoEntry::empty(alloc)),
+    }
 }
 
-#[tactic(auto, using(crate::proofs::InfoLemmas::entry_of_array))]
 impl FromRedisValue for InfoEntry {
     ghost Meaning = { Entry };
 
@@ -82,17 +74,13 @@ impl FromRedisValue for InfoEntry {
 
     ghost reading = { info_entry_reading };
 
+    ghost may_refuse = { RefusesInfoEntry };
+
     fn from_redis_value(alloc: Global, v: Value) -> Result<InfoEntry, ParsingError> {
-        match v {
-            Value::Array(items) => read_items(alloc, items),
-            _ => Ok(InfoEntry::empty(alloc)),
-        }
+        read_entry(alloc, v)
     }
 
     fn from_redis_value_ref(alloc: Global, v: &Value) -> Result<InfoEntry, ParsingError> {
-        match v {
-            Value::Array(items) => read_items_ref(alloc, items),
-            _ => Ok(InfoEntry::empty(alloc)),
-        }
+        read_entry(alloc, v)
     }
 }

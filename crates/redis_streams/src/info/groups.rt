@@ -1,13 +1,13 @@
 //! The reply of XINFO GROUPS.
-ghost use Rattle.std.specs.Prelude.{◌≡◌, ◌≢◌, [], List, Some, None, IsOk, IfOk, IfErr, map};
-ghost use Rattle.redis_streams.specs.Info.{Group, empty_group, group_of, group_reading};
-ghost use Rattle.redis_streams.specs.Info.{groups_reading};
-ghost use Rattle.redis_streams.specs.InfoRecords.{named, group_meaning, groups_meaning};
+ghost use Rattle.std.specs.Prelude.{◌≡◌, [], List, Some, IsOk, IfOk, IfErr, codes, map, option_map};
+ghost use Rattle.redis_resp.specs.Refusal.{Refuses};
+ghost use Rattle.redis_streams.specs.Info.{Group, empty_group, group_of, group_reading, groups_reading};
+ghost use Rattle.redis_streams.specs.InfoMeaning.{fields_by_name, group_meaning, groups_meaning};
+ghost use Rattle.redis_streams.specs.InfoRefusal.{RefusesGroupField, RefusesGroups, RefusesNamed};
 
-use crate::info::field::{Source, take_field};
-use crate::info::fields::{lent_fields, owned_fields};
-use crate::info::known::Known;
-use redis_resp::{FromRedisValue, ParsingError, Value};
+use crate::info::named_fields::{named_fields, read_or, take_field};
+use crate::info::number_or_nil::NumberOrNil;
+use redis_resp::{FromRedisValue, ParsingError, Source, Value};
 use std::alloc::{AllocError, Global};
 use std::collections::HashMap;
 
@@ -46,7 +46,7 @@ impl StreamInfoGroupsReply {
         })
     }
 
-    /// The same reply once more. It fails only by want of memory.
+    /// A copy of the reply. It fails only where it is out of memory.
     pub fn try_clone(&self, alloc: Global) -> Result<StreamInfoGroupsReply, AllocError>
         ensures { IfOk result (λ r. groups_meaning r ≡ groups_meaning self.now) }
     {
@@ -74,7 +74,7 @@ impl StreamInfoGroup {
         })
     }
 
-    /// The same group once more. It fails only by want of memory.
+    /// A copy of the group. It fails only where it is out of memory.
     pub fn try_clone(&self, alloc: Global) -> Result<StreamInfoGroup, AllocError>
         ensures { IfOk result (λ g. group_meaning g ≡ group_meaning self.now) }
     {
@@ -89,21 +89,59 @@ impl StreamInfoGroup {
     }
 }
 
+/// The fields of a group, each where it is there.
+#[derive(Drop)]
+struct GroupFields<S> {
+    name: Option<S>,
+    consumers: Option<S>,
+    pending: Option<S>,
+    last_delivered_id: Option<S>,
+    entries_read: Option<S>,
+    lag: Option<S>,
+}
+
+/// Takes a group's fields out of the fields.
+fn group_fields<S: Source>(fields: &mut HashMap<String, S>) -> GroupFields<S>
+    ensures name { option_map S.seen result.name
+        ≡ fields_by_name S.seen fields.old (codes "name") }
+    ensures consumers { option_map S.seen result.consumers
+        ≡ fields_by_name S.seen fields.old (codes "consumers") }
+    ensures pending { option_map S.seen result.pending
+        ≡ fields_by_name S.seen fields.old (codes "pending") }
+    ensures last_delivered_id { option_map S.seen result.last_delivered_id
+        ≡ fields_by_name S.seen fields.old (codes "last-delivered-id") }
+    ensures entries_read { option_map S.seen result.entries_read
+        ≡ fields_by_name S.seen fields.old (codes "entries-read") }
+    ensures lag { option_map S.seen result.lag
+        ≡ fields_by_name S.seen fields.old (codes "lag") }
+{
+    GroupFields {
+        name: take_field(fields, "name"),
+        consumers: take_field(fields, "consumers"),
+        pending: take_field(fields, "pending"),
+        last_delivered_id: take_field(fields, "last-delivered-id"),
+        entries_read: take_field(fields, "entries-read"),
+        lag: take_field(fields, "lag"),
+    }
+}
+
 /// The group that the fields of a row tell of; other fields change nothing.
 fn read_group<S: Source>(
     alloc: Global,
     mut fields: HashMap<String, S>,
 ) -> Result<StreamInfoGroup, ParsingError>
-    ensures ok { IfOk result (λ r. group_of (named S.seen fields) ≡ Some (group_meaning r)) }
-    ensures err { IfErr result (λ e. e ≢ ParsingError.Memory
-        → group_of (named S.seen fields) ≡ None) }
+    ensures ok { IfOk result (λ r. group_of (fields_by_name S.seen fields)
+        ≡ Some (group_meaning r)) }
+    ensures err { IfErr result (Refuses group_of RefusesGroupField
+        (fields_by_name S.seen fields)) }
 {
-    let name = take_field(alloc, &mut fields, "name", String::new(alloc))?;
-    let consumers = take_field(alloc, &mut fields, "consumers", 0)?;
-    let pending = take_field(alloc, &mut fields, "pending", 0)?;
-    let id = take_field(alloc, &mut fields, "last-delivered-id", String::new(alloc))?;
-    let read = take_field(alloc, &mut fields, "entries-read", Known(None))?;
-    let lag = take_field(alloc, &mut fields, "lag", Known(None))?;
+    let fields = group_fields(&mut fields);
+    let name = read_or(alloc, fields.name, String::new(alloc))?;
+    let consumers = read_or(alloc, fields.consumers, 0)?;
+    let pending = read_or(alloc, fields.pending, 0)?;
+    let id = read_or(alloc, fields.last_delivered_id, String::new(alloc))?;
+    let read = read_or(alloc, fields.entries_read, NumberOrNil(None))?;
+    let lag = read_or(alloc, fields.lag, NumberOrNil(None))?;
     Ok(StreamInfoGroup {
         name,
         consumers,
@@ -118,6 +156,16 @@ fn read_group<S: Source>(
 #[derive(Drop)]
 struct Row(StreamInfoGroup);
 
+/// The row of a value.
+fn read_row<S: Source>(alloc: Global, v: S) -> Result<Row, ParsingError>
+    ensures ok { IfOk result (λ row. group_reading (S.seen v) ≡ Some (group_meaning row.0)) }
+    ensures err { IfErr result (Refuses group_reading (RefusesNamed RefusesGroupField)
+        (S.seen v)) }
+{
+    let fields = named_fields(alloc, v)?;
+    Ok(Row(read_group(alloc, fields)?))
+}
+
 impl FromRedisValue for Row {
     ghost Meaning = { Group };
 
@@ -125,18 +173,18 @@ impl FromRedisValue for Row {
 
     ghost reading = { group_reading };
 
+    ghost may_refuse = { RefusesNamed RefusesGroupField };
+
     fn from_redis_value(alloc: Global, v: Value) -> Result<Row, ParsingError> {
-        let fields = owned_fields(alloc, v)?;
-        Ok(Row(read_group(alloc, fields)?))
+        read_row(alloc, v)
     }
 
     fn from_redis_value_ref(alloc: Global, v: &Value) -> Result<Row, ParsingError> {
-        let fields = lent_fields(alloc, v)?;
-        Ok(Row(read_group(alloc, fields)?))
+        read_row(alloc, v)
     }
 }
 
-/// The reply of these rows. It fails only by want of memory.
+/// The reply of these rows. It fails only where it is out of memory.
 fn reply_of(alloc: Global, rows: Vec<Row>) -> Result<StreamInfoGroupsReply, AllocError>
     ensures { IfOk result (λ r. groups_meaning r ≡ map (λ row. group_meaning row.0) rows.items) }
 {
@@ -147,7 +195,17 @@ fn reply_of(alloc: Global, rows: Vec<Row>) -> Result<StreamInfoGroupsReply, Allo
     Ok(StreamInfoGroupsReply { groups })
 }
 
-/// Read from a list of rows, each of fields by name.
+/// The groups of a value that is a list of rows.
+fn read_reply<S: Source>(alloc: Global, v: S) -> Result<StreamInfoGroupsReply, ParsingError>
+    ensures ok { IfOk result (λ r. groups_reading (S.seen v) ≡ Some (groups_meaning r)) }
+    ensures err { IfErr result (Refuses groups_reading RefusesGroups (S.seen v)) }
+{
+    let rows: Vec<Row> = v.read(alloc)?;
+    Ok(reply_of(alloc, rows)?)
+}
+
+/// Read from a list of rows, each of fields by name. `NotList` for what is no list, and else what
+/// one of the rows is refused with.
 impl FromRedisValue for StreamInfoGroupsReply {
     ghost Meaning = { List Group };
 
@@ -155,16 +213,16 @@ impl FromRedisValue for StreamInfoGroupsReply {
 
     ghost reading = { groups_reading };
 
+    ghost may_refuse = { RefusesGroups };
+
     fn from_redis_value(alloc: Global, v: Value) -> Result<StreamInfoGroupsReply, ParsingError> {
-        let rows: Vec<Row> = Vec::from_redis_value(alloc, v)?;
-        Ok(reply_of(alloc, rows)?)
+        read_reply(alloc, v)
     }
 
     fn from_redis_value_ref(
         alloc: Global,
         v: &Value,
     ) -> Result<StreamInfoGroupsReply, ParsingError> {
-        let rows: Vec<Row> = Vec::from_redis_value_ref(alloc, v)?;
-        Ok(reply_of(alloc, rows)?)
+        read_reply(alloc, v)
     }
 }

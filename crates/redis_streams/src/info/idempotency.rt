@@ -1,13 +1,14 @@
 //! The reply of XINFO STREAM on a server that tracks idempotent producers.
-ghost use Rattle.std.specs.Prelude.{◌≡◌, ◌≢◌, Some, None, IsOk, IfOk, IfErr};
-ghost use Rattle.redis_streams.specs.Info.{TrackedStream, empty_tracked, tracked_of};
-ghost use Rattle.redis_streams.specs.Info.{tracked_reading};
-ghost use Rattle.redis_streams.specs.InfoRecords.{named, tracked_meaning};
+ghost use Rattle.std.specs.Prelude.{◌≡◌, Some, IsOk, IfOk, IfErr, codes, option_map};
+ghost use Rattle.redis_resp.specs.Refusal.{Refuses};
+ghost use Rattle.redis_resp.specs.declared.value.error.ParsingError.{ParsingError};
+ghost use Rattle.redis_streams.specs.Info.{TrackedStream, empty_tracked, stream_of, tracked_of, tracked_reading};
+ghost use Rattle.redis_streams.specs.InfoMeaning.{fields_by_name, tracked_meaning};
+ghost use Rattle.redis_streams.specs.InfoRefusal.{RefusesStreamField, RefusesTracked, RefusesTrackedField};
 
-use crate::info::field::{Source, take_field};
-use crate::info::fields::{lent_fields, owned_fields};
+use crate::info::named_fields::{named_fields, read_or, take_field};
 use crate::info::stream::{StreamInfoStreamReply, read_stream};
-use redis_resp::{FromRedisValue, ParsingError, Value};
+use redis_resp::{FromRedisValue, ParsingError, Source, Value};
 use std::alloc::{AllocError, Global};
 use std::collections::HashMap;
 
@@ -48,7 +49,7 @@ impl StreamInfoStreamReplyWithIdempotency {
         })
     }
 
-    /// The same reply once more. It fails only by want of memory.
+    /// A copy of the reply. It fails only where it is out of memory.
     pub fn try_clone(
         &self,
         alloc: Global,
@@ -67,21 +68,64 @@ impl StreamInfoStreamReplyWithIdempotency {
     }
 }
 
+/// The fields of idempotent producers, each where it is there.
+#[derive(Drop)]
+struct ProducerFields<S> {
+    idmp_duration: Option<S>,
+    idmp_maxsize: Option<S>,
+    pids_tracked: Option<S>,
+    iids_tracked: Option<S>,
+    iids_added: Option<S>,
+    iids_duplicates: Option<S>,
+}
+
+/// Takes the producers' fields out of the fields.
+fn producer_fields<S: Source>(fields: &mut HashMap<String, S>) -> ProducerFields<S>
+    ensures idmp_duration { option_map S.seen result.idmp_duration
+        ≡ fields_by_name S.seen fields.old (codes "idmp-duration") }
+    ensures idmp_maxsize { option_map S.seen result.idmp_maxsize
+        ≡ fields_by_name S.seen fields.old (codes "idmp-maxsize") }
+    ensures pids_tracked { option_map S.seen result.pids_tracked
+        ≡ fields_by_name S.seen fields.old (codes "pids-tracked") }
+    ensures iids_tracked { option_map S.seen result.iids_tracked
+        ≡ fields_by_name S.seen fields.old (codes "iids-tracked") }
+    ensures iids_added { option_map S.seen result.iids_added
+        ≡ fields_by_name S.seen fields.old (codes "iids-added") }
+    ensures iids_duplicates { option_map S.seen result.iids_duplicates
+        ≡ fields_by_name S.seen fields.old (codes "iids-duplicates") }
+    ensures stream { stream_of (fields_by_name S.seen fields.new)
+        ≡ stream_of (fields_by_name S.seen fields.old) }
+    ensures refused { (error : ParsingError)
+        → RefusesStreamField (fields_by_name S.seen fields.new) error
+        → RefusesStreamField (fields_by_name S.seen fields.old) error }
+{
+    ProducerFields {
+        idmp_duration: take_field(fields, "idmp-duration"),
+        idmp_maxsize: take_field(fields, "idmp-maxsize"),
+        pids_tracked: take_field(fields, "pids-tracked"),
+        iids_tracked: take_field(fields, "iids-tracked"),
+        iids_added: take_field(fields, "iids-added"),
+        iids_duplicates: take_field(fields, "iids-duplicates"),
+    }
+}
+
 /// The stream and the producers that the fields tell of; other fields change nothing.
 fn read_tracked<S: Source>(
     alloc: Global,
     mut fields: HashMap<String, S>,
 ) -> Result<StreamInfoStreamReplyWithIdempotency, ParsingError>
-    ensures ok { IfOk result (λ r. tracked_of (named S.seen fields) ≡ Some (tracked_meaning r)) }
-    ensures err { IfErr result (λ e. e ≢ ParsingError.Memory
-        → tracked_of (named S.seen fields) ≡ None) }
+    ensures ok { IfOk result (λ r. tracked_of (fields_by_name S.seen fields)
+        ≡ Some (tracked_meaning r)) }
+    ensures err { IfErr result (Refuses tracked_of RefusesTrackedField
+        (fields_by_name S.seen fields)) }
 {
-    let idmp_duration = take_field(alloc, &mut fields, "idmp-duration", 0)?;
-    let idmp_maxsize = take_field(alloc, &mut fields, "idmp-maxsize", 0)?;
-    let pids_tracked = take_field(alloc, &mut fields, "pids-tracked", 0)?;
-    let iids_tracked = take_field(alloc, &mut fields, "iids-tracked", 0)?;
-    let iids_added = take_field(alloc, &mut fields, "iids-added", 0)?;
-    let iids_duplicates = take_field(alloc, &mut fields, "iids-duplicates", 0)?;
+    let producers = producer_fields(&mut fields);
+    let idmp_duration = read_or(alloc, producers.idmp_duration, 0)?;
+    let idmp_maxsize = read_or(alloc, producers.idmp_maxsize, 0)?;
+    let pids_tracked = read_or(alloc, producers.pids_tracked, 0)?;
+    let iids_tracked = read_or(alloc, producers.iids_tracked, 0)?;
+    let iids_added = read_or(alloc, producers.iids_added, 0)?;
+    let iids_duplicates = read_or(alloc, producers.iids_duplicates, 0)?;
     let base = read_stream(alloc, fields)?;
     Ok(StreamInfoStreamReplyWithIdempotency {
         base,
@@ -94,7 +138,20 @@ fn read_tracked<S: Source>(
     })
 }
 
-/// Read from fields by name, of which the last of equal names counts.
+/// The stream and the producers of a value.
+fn read_reply<S: Source>(
+    alloc: Global,
+    v: S,
+) -> Result<StreamInfoStreamReplyWithIdempotency, ParsingError>
+    ensures ok { IfOk result (λ r. tracked_reading (S.seen v) ≡ Some (tracked_meaning r)) }
+    ensures err { IfErr result (Refuses tracked_reading RefusesTracked (S.seen v)) }
+{
+    let fields = named_fields(alloc, v)?;
+    read_tracked(alloc, fields)
+}
+
+/// Read from fields by name, of which the last of equal names counts. `NotPairs` for what holds no
+/// pairs, and else what the key of a pair is refused with as a text, or one of the fields.
 impl FromRedisValue for StreamInfoStreamReplyWithIdempotency {
     ghost Meaning = { TrackedStream };
 
@@ -102,19 +159,19 @@ impl FromRedisValue for StreamInfoStreamReplyWithIdempotency {
 
     ghost reading = { tracked_reading };
 
+    ghost may_refuse = { RefusesTracked };
+
     fn from_redis_value(
         alloc: Global,
         v: Value,
     ) -> Result<StreamInfoStreamReplyWithIdempotency, ParsingError> {
-        let fields = owned_fields(alloc, v)?;
-        read_tracked(alloc, fields)
+        read_reply(alloc, v)
     }
 
     fn from_redis_value_ref(
         alloc: Global,
         v: &Value,
     ) -> Result<StreamInfoStreamReplyWithIdempotency, ParsingError> {
-        let fields = lent_fields(alloc, v)?;
-        read_tracked(alloc, fields)
+        read_reply(alloc, v)
     }
 }

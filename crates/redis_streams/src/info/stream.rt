@@ -1,13 +1,14 @@
 //! The reply of XINFO STREAM.
-ghost use Rattle.std.specs.Prelude.{◌≡◌, ◌≢◌, Some, None, IsOk, IfOk, IfErr};
+ghost use Rattle.std.specs.Prelude.{◌≡◌, Some, IsOk, IfOk, IfErr, codes, option_map};
+ghost use Rattle.redis_resp.specs.Refusal.{Refuses};
 ghost use Rattle.redis_streams.specs.Info.{StreamInfo, empty_stream, stream_of, stream_reading};
-ghost use Rattle.redis_streams.specs.InfoRecords.{named, stream_meaning};
+ghost use Rattle.redis_streams.specs.InfoMeaning.{fields_by_name, stream_info_meaning};
+ghost use Rattle.redis_streams.specs.InfoRefusal.{RefusesStream, RefusesStreamField};
 
 use crate::info::entry::InfoEntry;
-use crate::info::field::{Source, take_field};
-use crate::info::fields::{lent_fields, owned_fields};
+use crate::info::named_fields::{named_fields, read_or, take_field};
 use crate::rows::StreamId;
-use redis_resp::{FromRedisValue, ParsingError, Value};
+use redis_resp::{FromRedisValue, ParsingError, Source, Value};
 use std::alloc::{AllocError, Global};
 use std::collections::HashMap;
 
@@ -34,7 +35,7 @@ impl StreamInfoStreamReply {
     /// and is always Ok.
     pub fn empty(alloc: Global) -> Result<StreamInfoStreamReply, AllocError>
         ensures ok { IsOk result }
-        ensures reply { IfOk result (λ r. stream_meaning r ≡ empty_stream) }
+        ensures reply { IfOk result (λ r. stream_info_meaning r ≡ empty_stream) }
     {
         Ok(StreamInfoStreamReply {
             last_generated_id: String::new(alloc),
@@ -46,9 +47,9 @@ impl StreamInfoStreamReply {
         })
     }
 
-    /// The same reply once more. It fails only by want of memory.
+    /// A copy of the reply. It fails only where it is out of memory.
     pub fn try_clone(&self, alloc: Global) -> Result<StreamInfoStreamReply, AllocError>
-        ensures { IfOk result (λ r. stream_meaning r ≡ stream_meaning self.now) }
+        ensures { IfOk result (λ r. stream_info_meaning r ≡ stream_info_meaning self.now) }
     {
         Ok(StreamInfoStreamReply {
             last_generated_id: String::from_str(alloc, &self.last_generated_id)?,
@@ -61,21 +62,59 @@ impl StreamInfoStreamReply {
     }
 }
 
+/// The fields of a stream, each where it is there.
+#[derive(Drop)]
+struct StreamFields<S> {
+    last_generated_id: Option<S>,
+    radix_tree_keys: Option<S>,
+    groups: Option<S>,
+    length: Option<S>,
+    first_entry: Option<S>,
+    last_entry: Option<S>,
+}
+
+/// Takes a stream's fields out of the fields.
+fn stream_fields<S: Source>(fields: &mut HashMap<String, S>) -> StreamFields<S>
+    ensures last_generated_id { option_map S.seen result.last_generated_id
+        ≡ fields_by_name S.seen fields.old (codes "last-generated-id") }
+    ensures radix_tree_keys { option_map S.seen result.radix_tree_keys
+        ≡ fields_by_name S.seen fields.old (codes "radix-tree-nodes") }
+    ensures groups { option_map S.seen result.groups
+        ≡ fields_by_name S.seen fields.old (codes "groups") }
+    ensures length { option_map S.seen result.length
+        ≡ fields_by_name S.seen fields.old (codes "length") }
+    ensures first_entry { option_map S.seen result.first_entry
+        ≡ fields_by_name S.seen fields.old (codes "first-entry") }
+    ensures last_entry { option_map S.seen result.last_entry
+        ≡ fields_by_name S.seen fields.old (codes "last-entry") }
+{
+    StreamFields {
+        last_generated_id: take_field(fields, "last-generated-id"),
+        radix_tree_keys: take_field(fields, "radix-tree-nodes"),
+        groups: take_field(fields, "groups"),
+        length: take_field(fields, "length"),
+        first_entry: take_field(fields, "first-entry"),
+        last_entry: take_field(fields, "last-entry"),
+    }
+}
+
 /// The stream that the fields tell of; other fields than its own change nothing.
 pub(crate) fn read_stream<S: Source>(
     alloc: Global,
     mut fields: HashMap<String, S>,
 ) -> Result<StreamInfoStreamReply, ParsingError>
-    ensures ok { IfOk result (λ r. stream_of (named S.seen fields) ≡ Some (stream_meaning r)) }
-    ensures err { IfErr result (λ e. e ≢ ParsingError.Memory
-        → stream_of (named S.seen fields) ≡ None) }
+    ensures ok { IfOk result (λ r. stream_of (fields_by_name S.seen fields)
+        ≡ Some (stream_info_meaning r)) }
+    ensures err { IfErr result (Refuses stream_of RefusesStreamField
+        (fields_by_name S.seen fields)) }
 {
-    let id = take_field(alloc, &mut fields, "last-generated-id", String::new(alloc))?;
-    let radix_tree_keys = take_field(alloc, &mut fields, "radix-tree-nodes", 0)?;
-    let groups = take_field(alloc, &mut fields, "groups", 0)?;
-    let length = take_field(alloc, &mut fields, "length", 0)?;
-    let first = take_field(alloc, &mut fields, "first-entry", InfoEntry::empty(alloc))?;
-    let last = take_field(alloc, &mut fields, "last-entry", InfoEntry::empty(alloc))?;
+    let fields = stream_fields(&mut fields);
+    let id = read_or(alloc, fields.last_generated_id, String::new(alloc))?;
+    let radix_tree_keys = read_or(alloc, fields.radix_tree_keys, 0)?;
+    let groups = read_or(alloc, fields.groups, 0)?;
+    let length = read_or(alloc, fields.length, 0)?;
+    let first = read_or(alloc, fields.first_entry, InfoEntry::empty(alloc))?;
+    let last = read_or(alloc, fields.last_entry, InfoEntry::empty(alloc))?;
     Ok(StreamInfoStreamReply {
         last_generated_id: id,
         radix_tree_keys,
@@ -86,24 +125,34 @@ pub(crate) fn read_stream<S: Source>(
     })
 }
 
-/// Read from fields by name, of which the last of equal names counts.
+/// The stream of a value.
+fn read_reply<S: Source>(alloc: Global, v: S) -> Result<StreamInfoStreamReply, ParsingError>
+    ensures ok { IfOk result (λ r. stream_reading (S.seen v) ≡ Some (stream_info_meaning r)) }
+    ensures err { IfErr result (Refuses stream_reading RefusesStream (S.seen v)) }
+{
+    let fields = named_fields(alloc, v)?;
+    read_stream(alloc, fields)
+}
+
+/// Read from fields by name, of which the last of equal names counts. `NotPairs` for what holds no
+/// pairs, and else what the key of a pair is refused with as a text, or one of the fields.
 impl FromRedisValue for StreamInfoStreamReply {
     ghost Meaning = { StreamInfo };
 
-    ghost meaning = { stream_meaning };
+    ghost meaning = { stream_info_meaning };
 
     ghost reading = { stream_reading };
 
+    ghost may_refuse = { RefusesStream };
+
     fn from_redis_value(alloc: Global, v: Value) -> Result<StreamInfoStreamReply, ParsingError> {
-        let fields = owned_fields(alloc, v)?;
-        read_stream(alloc, fields)
+        read_reply(alloc, v)
     }
 
     fn from_redis_value_ref(
         alloc: Global,
         v: &Value,
     ) -> Result<StreamInfoStreamReply, ParsingError> {
-        let fields = lent_fields(alloc, v)?;
-        read_stream(alloc, fields)
+        read_reply(alloc, v)
     }
 }

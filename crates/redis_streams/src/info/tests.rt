@@ -1,9 +1,10 @@
 //! The replies of XINFO by both calls.
-use crate::both_calls::{both, both_refuse, bulk};
 use crate::info::{
     StreamInfoConsumersReply, StreamInfoGroup, StreamInfoGroupsReply, StreamInfoStreamReply,
-    StreamInfoStreamReplyWithIdempotency, other_keys_change_nothing,
+    StreamInfoStreamReplyWithIdempotency,
 };
+use crate::laws::other_keys_change_nothing;
+use crate::tests::both_calls::{both_read, both_refuse, bulk};
 use redis_resp::{ParsingError, Value};
 use std::alloc::{AllocError, Global};
 use std::test::Fail;
@@ -40,10 +41,9 @@ fn streams_are_read(rt: HostRuntime) -> Result<(), Fail> {
             ("unknown", Value::Nil),
         ]?,
     )?;
-    let read = both::<StreamInfoStreamReplyWithIdempotency>(alloc, told)?.ok_or("both")?;
-    let (lent, moved) = read.map_err(|_| "refused")?;
+    let (borrowed, moved) = both_read::<StreamInfoStreamReplyWithIdempotency>(alloc, told)?;
     let copy = moved.try_clone(alloc)?;
-    for reply in vec![in alloc; lent, moved, copy]? {
+    for reply in vec![in alloc; borrowed, moved, copy]? {
         assert_eq!(rt; (reply.base.length, reply.base.groups), (3, 0));
         assert_eq!(rt; (reply.idmp_maxsize, reply.idmp_duration), (65535, 0));
         assert_eq!(rt; reply.base.first_entry.id.as_str(), "1-0");
@@ -51,10 +51,9 @@ fn streams_are_read(rt: HostRuntime) -> Result<(), Fail> {
         assert!(rt; reply.base.first_entry.map.contains_key("f"));
         assert_eq!(rt; reply.base.last_entry.id.as_str(), "");
     }
-    let read = both::<StreamInfoStreamReply>(alloc, Value::Nil)?.ok_or("both")?;
-    let (lent, moved) = read.map_err(|_| "refused")?;
+    let (borrowed, moved) = both_read::<StreamInfoStreamReply>(alloc, Value::Nil)?;
     assert_eq!(rt;
-        (lent.length, moved.try_clone(alloc)?.radix_tree_keys),
+        (borrowed.length, moved.try_clone(alloc)?.radix_tree_keys),
         (0, 0)
     );
     let empty = StreamInfoStreamReplyWithIdempotency::empty(alloc)?;
@@ -101,10 +100,9 @@ fn groups_are_read(rt: HostRuntime) -> Result<(), Fail> {
         ]?,
     )?;
     let rows = Value::Array(vec![in alloc; told]?);
-    let read = both::<StreamInfoGroupsReply>(alloc, rows)?.ok_or("both")?;
-    let (lent, moved) = read.map_err(|_| "refused")?;
+    let (borrowed, moved) = both_read::<StreamInfoGroupsReply>(alloc, rows)?;
     let copy = moved.try_clone(alloc)?;
-    for reply in vec![in alloc; lent, moved, copy]? {
+    for reply in vec![in alloc; borrowed, moved, copy]? {
         assert_eq!(rt; reply.groups.len(), 1);
         for group in &reply.groups {
             assert_eq!(rt; group.name.as_str(), "g");
@@ -130,16 +128,17 @@ fn consumers_are_read(rt: HostRuntime) -> Result<(), Fail> {
         alloc,
         vec![in alloc; ("name", bulk(alloc, "c")?), ("pending", Value::Int(4))]?,
     )?;
-    let read = both::<StreamInfoConsumersReply>(alloc, one)?.ok_or("both")?;
-    let (lent, moved) = read.map_err(|_| "refused")?;
+    let (borrowed, moved) = both_read::<StreamInfoConsumersReply>(alloc, one)?;
     let copy = moved.try_clone(alloc)?;
-    for reply in vec![in alloc; lent, moved, copy]? {
+    for reply in vec![in alloc; borrowed, moved, copy]? {
         let mut told = Vec::new(alloc);
         for consumer in &reply.consumers {
             told.push((consumer.name.len(), consumer.pending, consumer.idle))?;
         }
         assert_eq!(rt; told.as_slice(), [(1, 0, 0), (0, 4, 0)].as_slice());
     }
+    let no_pairs = Value::Array(vec![in alloc; Value::Int(1)]?);
+    assert!(rt; both_refuse::<StreamInfoConsumersReply>(alloc, no_pairs, ParsingError::NotPairs)?);
     assert_eq!(rt; StreamInfoConsumersReply::empty(alloc)?.consumers.len(), 0);
     other_keys_change_nothing();
     Ok(())

@@ -1,14 +1,13 @@
 //! The reply of XPENDING with a range: one row for each pending entry.
-ghost use Rattle.std.specs.Prelude.{◌≡◌, ◌≢◌, [], List, Some, None, Err, IsOk, IfOk, IfErr, OnErr};
-ghost use Rattle.std.specs.Prelude.{ok_or, string_bytes, map};
-ghost use Rattle.redis_resp.specs.Tree.{array_of_plain};
-ghost use Rattle.redis_resp.specs.Value.{tree};
+ghost use Rattle.std.specs.Prelude.{◌≡◌, [], List, Some, IsOk, IfOk, IfErr, map};
 ghost use Rattle.redis_resp.specs.Reading.{traverse};
-ghost use Rattle.redis_streams.specs.Pending.{PendingEntry, empty_pending_entry, literal_text};
-ghost use Rattle.redis_streams.specs.Pending.{literal_number, pending_row, pending_count_reading};
-ghost use Rattle.redis_streams.specs.PendingRecords.{pending_id_meaning, pending_ids_meaning};
+ghost use Rattle.redis_resp.specs.Refusal.{Refuses, OneRefused};
+ghost use Rattle.redis_resp.specs.Value.{tree};
+ghost use Rattle.redis_streams.specs.Pending.{PendingEntry, empty_pending_entry, entry_of_four, entry_of_members, is_bulk, literal_number, pending_count_reading, pending_row, row_numbers};
+ghost use Rattle.redis_streams.specs.PendingMeaning.{pending_id_meaning, pending_ids_meaning};
+ghost use Rattle.redis_streams.specs.PendingRefusal.{RefusesFourMembers, RefusesMembers, RefusesPendingCount, RefusesPendingRow};
 
-use redis_resp::{FromRedisValue, ParsingError, Value, four_ref, into_four};
+use redis_resp::{FromRedisValue, ParsingError, Source, Value};
 use std::alloc::{AllocError, Global};
 
 /// What XPENDING answers with a range and a count.
@@ -42,7 +41,7 @@ impl StreamPendingCountReply {
         })
     }
 
-    /// The same reply once more. It fails only by want of memory.
+    /// A copy of the reply. It fails only where it is out of memory.
     pub fn try_clone(&self, alloc: Global) -> Result<StreamPendingCountReply, AllocError>
         ensures { IfOk result (λ r. pending_ids_meaning r ≡ pending_ids_meaning self.now) }
     {
@@ -68,7 +67,7 @@ impl StreamPendingId {
         })
     }
 
-    /// The same pending entry once more. It fails only by want of memory.
+    /// A copy of the pending entry. It fails only where it is out of memory.
     pub fn try_clone(&self, alloc: Global) -> Result<StreamPendingId, AllocError>
         ensures { IfOk result (λ p. pending_id_meaning p ≡ pending_id_meaning self.now) }
     {
@@ -81,132 +80,149 @@ impl StreamPendingId {
     }
 }
 
-/// The text of a literal bulk string. Refuses bytes that are no text with `NotText`, and any other
-/// kind with `NotPendingRow(3)`.
-fn read_text(alloc: Global, v: Value) -> Result<String, ParsingError>
-    ensures ok { IfOk result (λ s. literal_text (tree v) ≡ Some (string_bytes s)) }
-    ensures err { IfErr result (λ e. e ≢ ParsingError.Memory → literal_text (tree v) ≡ None) }
+/// Whether a value is a bulk string with no attribute around it.
+fn is_bulk_string(v: &Value) -> bool
+    ensures { result ≡ is_bulk (tree v.now) }
+{
+    matches!(v, Value::BulkString(_))
+}
+
+/// A whole number with no attribute around it as one of 64 bits without a sign: a negative one
+/// stands as itself plus 2 ^ 64.
+fn number_of(v: &Value) -> Option<usize>
+    ensures { result ≡ literal_number (tree v.now) }
 {
     match v {
-        Value::BulkString(_) => String::from_redis_value(alloc, v),
-        _ => Err(ParsingError::NotPendingRow(3)),
+        Value::Int(number) => Some(number.cast_unsigned() as usize),
+        _ => None,
     }
 }
 
-/// The text of a literal bulk string that is lent, as `read_text` reads it.
-fn read_text_ref(alloc: Global, v: &Value) -> Result<String, ParsingError>
-    ensures ok { IfOk result (λ s. literal_text (tree v.now) ≡ Some (string_bytes s)) }
-    ensures err { IfErr result (λ e. e ≢ ParsingError.Memory
-        → literal_text (tree v.now) ≡ None) }
+/// The two numbers of a row of two bulk strings and two `Int`s, and None where a member has another
+/// kind.
+fn numbers_of(
+    id: &Value,
+    consumer: &Value,
+    elapsed: &Value,
+    delivered: &Value,
+) -> Option<(usize, usize)>
+    ensures { result ≡ row_numbers (
+      tree id.now,
+      tree consumer.now,
+      tree elapsed.now,
+      tree delivered.now,
+    ) }
 {
-    match v {
-        Value::BulkString(_) => String::from_redis_value_ref(alloc, v),
-        _ => Err(ParsingError::NotPendingRow(3)),
+    if is_bulk_string(id) && is_bulk_string(consumer) {
+        let elapsed = number_of(elapsed)?;
+        let delivered = number_of(delivered)?;
+        Some((elapsed, delivered))
+    } else {
+        None
     }
 }
 
-/// Refuses what is no literal bulk string with `NotPendingRow(3)`: the kinds of a row are decided
-/// before its texts are read.
-fn expect_bulk(v: &Value) -> Result<(), ParsingError>
-    ensures refused { OnErr result (literal_text (tree v.now) ≡ None) }
-    ensures cause { IfErr result (λ e. e ≡ ParsingError.NotPendingRow 3) }
+/// The pending entry of an id, a name and two numbers: `NotPendingRow(3)` where one has another
+/// kind, and `NotText` for a bulk string that is no text.
+fn read_members<S: Source>(
+    alloc: Global,
+    id: S,
+    consumer: S,
+    elapsed: S,
+    delivered: S,
+) -> Result<StreamPendingId, ParsingError>
+    ensures ok { IfOk result (λ p. entry_of_members (
+      S.seen id,
+      S.seen consumer,
+      S.seen elapsed,
+      S.seen delivered,
+    ) ≡ Some (pending_id_meaning p)) }
+    ensures err { IfErr result (Refuses entry_of_members RefusesMembers
+        (S.seen id, S.seen consumer, S.seen elapsed, S.seen delivered)) }
 {
-    match v {
-        Value::BulkString(_) => Ok(()),
-        _ => Err(ParsingError::NotPendingRow(3)),
-    }
-}
-
-/// A literal whole number as one of 64 bits without a sign: a negative one stands as itself plus
-/// 2 ^ 64. Takes no memory, and refuses any other kind with `NotPendingRow(3)`.
-fn read_number(v: &Value) -> Result<usize, ParsingError>
-    ensures { result ≡ ok_or (literal_number (tree v.now)) (ParsingError.NotPendingRow 3) }
-{
-    match v {
-        Value::Int(number) => Ok(number.cast_unsigned() as usize),
-        _ => Err(ParsingError::NotPendingRow(3)),
-    }
-}
-
-/// A pending entry, read from a row. Refuses what is no literal `Array` with `NotPendingRow(2)`,
-/// and other members than an id, a name and two numbers with `NotPendingRow(3)` or `NotText`.
-fn read_row(alloc: Global, row: Value) -> Result<StreamPendingId, ParsingError>
-    ensures ok { IfOk result (λ p. pending_row (tree row) ≡ Some (pending_id_meaning p)) }
-    ensures err { IfErr result (λ e. e ≢ ParsingError.Memory → pending_row (tree row) ≡ None) }
-    ensures kind { array_of_plain (tree row) ≡ None
-        → result ≡ Err (ParsingError.NotPendingRow 2) }
-{
-    let Value::Array(_) = &row else {
-        return Err(ParsingError::NotPendingRow(2));
-    };
-    let Some((id, consumer, elapsed, delivered)) = into_four(row) else {
+    let Some((last_delivered_ms, times_delivered)) = numbers_of(
+        id.as_value(),
+        consumer.as_value(),
+        elapsed.as_value(),
+        delivered.as_value(),
+    ) else {
         return Err(ParsingError::NotPendingRow(3));
     };
-    let last_delivered_ms = read_number(&elapsed)?;
-    let times_delivered = read_number(&delivered)?;
-    expect_bulk(&consumer)?;
+    let id: String = id.read(alloc)?;
+    let consumer: String = consumer.read(alloc)?;
     Ok(StreamPendingId {
-        id: read_text(alloc, id)?,
-        consumer: read_text(alloc, consumer)?,
+        id,
+        consumer,
         last_delivered_ms,
         times_delivered,
     })
 }
 
-/// A pending entry, read from a row that is lent, as `read_row` reads it.
-fn read_row_ref(alloc: Global, row: &Value) -> Result<StreamPendingId, ParsingError>
-    ensures ok { IfOk result (λ p. pending_row (tree row.now) ≡ Some (pending_id_meaning p)) }
-    ensures err { IfErr result (λ e. e ≢ ParsingError.Memory → pending_row (tree row.now) ≡ None) }
-    ensures kind { array_of_plain (tree row.now) ≡ None
-        → result ≡ Err (ParsingError.NotPendingRow 2) }
+/// The pending entry of a list of exactly four members, and `NotPendingRow(3)` for any other.
+fn read_four<S: Source>(
+    alloc: Global,
+    mut members: S::Values,
+) -> Result<StreamPendingId, ParsingError>
+    ensures ok { IfOk result (λ p. entry_of_four (S.values_left members)
+        ≡ Some (pending_id_meaning p)) }
+    ensures err { IfErr result (Refuses entry_of_four RefusesFourMembers
+        (S.values_left members)) }
 {
-    let Value::Array(_) = row else {
-        return Err(ParsingError::NotPendingRow(2));
-    };
-    let Some((id, consumer, elapsed, delivered)) = four_ref(row) else {
+    if S::count_values(&members) > 4 {
         return Err(ParsingError::NotPendingRow(3));
-    };
-    let last_delivered_ms = read_number(elapsed)?;
-    let times_delivered = read_number(delivered)?;
-    expect_bulk(consumer)?;
-    Ok(StreamPendingId {
-        id: read_text_ref(alloc, id)?,
-        consumer: read_text_ref(alloc, consumer)?,
-        last_delivered_ms,
-        times_delivered,
-    })
+    }
+    let id = S::next_value(&mut members).ok_or(ParsingError::NotPendingRow(3))?;
+    let consumer = S::next_value(&mut members).ok_or(ParsingError::NotPendingRow(3))?;
+    let elapsed = S::next_value(&mut members).ok_or(ParsingError::NotPendingRow(3))?;
+    let delivered = S::next_value(&mut members).ok_or(ParsingError::NotPendingRow(3))?;
+    read_members(alloc, id, consumer, elapsed, delivered)
+}
+
+/// The pending entry of a row: `NotPendingRow(2)` for what is no `Array`, attributes included.
+fn read_row<S: Source>(alloc: Global, row: S) -> Result<StreamPendingId, ParsingError>
+    ensures ok { IfOk result (λ p. pending_row (S.seen row) ≡ Some (pending_id_meaning p)) }
+    ensures err { IfErr result (Refuses pending_row RefusesPendingRow (S.seen row)) }
+{
+    match row.into_array() {
+        Some(members) => read_four::<S>(alloc, members),
+        None => Err(ParsingError::NotPendingRow(2)),
+    }
 }
 
 /// The pending entries of rows, in order.
-fn read_rows(alloc: Global, rows: Vec<Value>) -> Result<Vec<StreamPendingId>, ParsingError>
-    ensures ok { IfOk result (λ r. traverse pending_row (map tree rows.items)
+fn read_rows<S: Source>(
+    alloc: Global,
+    mut rows: S::Values,
+) -> Result<Vec<StreamPendingId>, ParsingError>
+    ensures ok { IfOk result (λ r. traverse pending_row (S.values_left rows)
         ≡ Some (map pending_id_meaning r.items)) }
-    ensures err { IfErr result (λ e. e ≢ ParsingError.Memory
-        → traverse pending_row (map tree rows.items) ≡ None) }
+    ensures err { IfErr result (Refuses (traverse pending_row)
+        (OneRefused (Refuses pending_row RefusesPendingRow)) (S.values_left rows)) }
 {
-    let mut ids = Vec::with_capacity(alloc, rows.len())?;
-    for row in rows {
+    let mut ids = Vec::with_capacity(alloc, S::count_values(&rows))?;
+    while let Some(row) = S::next_value(&mut rows) {
         ids.push(read_row(alloc, row)?)?;
     }
     Ok(ids)
 }
 
-/// The pending entries of rows that are lent, in order.
-fn read_rows_ref(alloc: Global, rows: &[Value]) -> Result<Vec<StreamPendingId>, ParsingError>
-    ensures ok { IfOk result (λ r. traverse pending_row (map tree rows.now)
-        ≡ Some (map pending_id_meaning r.items)) }
-    ensures err { IfErr result (λ e. e ≢ ParsingError.Memory
-        → traverse pending_row (map tree rows.now) ≡ None) }
+/// The reply of a value.
+fn read_reply<S: Source>(alloc: Global, v: S) -> Result<StreamPendingCountReply, ParsingError>
+    ensures ok { IfOk result (λ r. pending_count_reading (S.seen v)
+        ≡ Some (pending_ids_meaning r)) }
+    ensures err { IfErr result (Refuses pending_count_reading RefusesPendingCount (S.seen v)) }
 {
-    let mut ids = Vec::with_capacity(alloc, rows.len())?;
-    for row in rows {
-        ids.push(read_row_ref(alloc, row)?)?;
-    }
-    Ok(ids)
+    let Some(rows) = v.into_array() else {
+        return Err(ParsingError::NotPendingRow(1));
+    };
+    Ok(StreamPendingCountReply {
+        ids: read_rows::<S>(alloc, rows)?,
+    })
 }
 
-/// Read from a literal `Array` of rows, and `NotPendingRow(1)` for any other kind; see `read_row`.
-#[tactic(auto, using(crate::proofs::PendingLemmas::rows_of_array))]
+/// Read from an `Array` of rows, and `NotPendingRow(1)` for any other kind, attributes included. A
+/// row is an `Array` (`NotPendingRow(2)`) of exactly two bulk strings and two `Int`s
+/// (`NotPendingRow(3)`), and a bulk string that is no text is refused with `NotText`.
 impl FromRedisValue for StreamPendingCountReply {
     ghost Meaning = { List PendingEntry };
 
@@ -214,36 +230,16 @@ impl FromRedisValue for StreamPendingCountReply {
 
     ghost reading = { pending_count_reading };
 
-    fn from_redis_value(alloc: Global, v: Value) -> Result<StreamPendingCountReply, ParsingError>
-        ensures ok { IfOk result (λ r. pending_count_reading (tree v)
-            ≡ Some (pending_ids_meaning r)) }
-        ensures err { IfErr result (λ e. e ≢ ParsingError.Memory
-            → pending_count_reading (tree v) ≡ None) }
-        ensures kind { array_of_plain (tree v) ≡ None
-            → result ≡ Err (ParsingError.NotPendingRow 1) }
-    {
-        let Value::Array(rows) = v else {
-            return Err(ParsingError::NotPendingRow(1));
-        };
-        let ids = read_rows(alloc, rows)?;
-        Ok(StreamPendingCountReply { ids })
+    ghost may_refuse = { RefusesPendingCount };
+
+    fn from_redis_value(alloc: Global, v: Value) -> Result<StreamPendingCountReply, ParsingError> {
+        read_reply(alloc, v)
     }
 
     fn from_redis_value_ref(
         alloc: Global,
         v: &Value,
-    ) -> Result<StreamPendingCountReply, ParsingError>
-        ensures ok { IfOk result (λ r. pending_count_reading (tree v.now)
-            ≡ Some (pending_ids_meaning r)) }
-        ensures err { IfErr result (λ e. e ≢ ParsingError.Memory
-            → pending_count_reading (tree v.now) ≡ None) }
-        ensures kind { array_of_plain (tree v.now) ≡ None
-            → result ≡ Err (ParsingError.NotPendingRow 1) }
-    {
-        let Value::Array(rows) = v else {
-            return Err(ParsingError::NotPendingRow(1));
-        };
-        let ids = read_rows_ref(alloc, rows)?;
-        Ok(StreamPendingCountReply { ids })
+    ) -> Result<StreamPendingCountReply, ParsingError> {
+        read_reply(alloc, v)
     }
 }

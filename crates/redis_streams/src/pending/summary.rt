@@ -1,12 +1,13 @@
 //! The reply of XPENDING without a range: how much is pending in a group, and with whom.
-ghost use Rattle.std.specs.Prelude.{◌≡◌, ◌≢◌, Option, Some, None, IsOk, IfOk, IfErr, map, option_map};
-ghost use Rattle.redis_streams.specs.Pending.{PendingSummary, pending_reading, summary_of};
-ghost use Rattle.redis_streams.specs.Pending.{consumers_of, empty_summary};
-ghost use Rattle.redis_streams.specs.PendingRecords.{consumer_meaning, data_meaning, count_of};
-ghost use Rattle.redis_streams.specs.PendingRecords.{pending_meaning, parts_meaning, row_meaning};
+ghost use Rattle.std.specs.Prelude.{◌≡◌, Option, Some, Ok, IsOk, IfOk, IfErr, map, option_map, string_bytes};
+ghost use Rattle.redis_resp.specs.Refusal.{Refuses};
+ghost use Rattle.redis_streams.specs.InfoMeaning.{consumer_meaning};
+ghost use Rattle.redis_streams.specs.Pending.{PendingSummary, consumer_of, consumers_of, empty_summary, pending_reading, summary_of};
+ghost use Rattle.redis_streams.specs.PendingMeaning.{count_of, data_meaning, parts_meaning, pending_meaning, row_meaning};
+ghost use Rattle.redis_streams.specs.PendingRefusal.{RefusesPending, RefusesSummary};
 
-use crate::pending::consumer::{StreamInfoConsumer, copied_consumers};
-use redis_resp::{FromRedisValue, ParsingError, Value};
+use crate::info::{StreamInfoConsumer, copy_consumers};
+use redis_resp::{FromRedisValue, ParsingError, Source, Value};
 use std::alloc::{AllocError, Global};
 
 /// What XPENDING answers without a range.
@@ -43,9 +44,11 @@ impl StreamPendingReply {
         }
     }
 
-    /// The same reply once more. It fails only by want of memory.
+    /// A copy of the reply. It fails only where it is out of memory, and `Empty` takes none.
     pub fn try_clone(&self, alloc: Global) -> Result<StreamPendingReply, AllocError>
-        ensures { IfOk result (λ r. pending_meaning r ≡ pending_meaning self.now) }
+        ensures copy { IfOk result (λ r. pending_meaning r ≡ pending_meaning self.now) }
+        ensures empty { self.now ≡ StreamPendingReply.Empty
+            → result ≡ Ok StreamPendingReply.Empty }
     {
         match self {
             StreamPendingReply::Empty => Ok(StreamPendingReply::Empty),
@@ -68,7 +71,7 @@ impl StreamPendingData {
         })
     }
 
-    /// The same data once more. It fails only by want of memory.
+    /// A copy of the data. It fails only where it is out of memory.
     pub fn try_clone(&self, alloc: Global) -> Result<StreamPendingData, AllocError>
         ensures { IfOk result (λ d. data_meaning d ≡ data_meaning self.now) }
     {
@@ -76,7 +79,7 @@ impl StreamPendingData {
             count: self.count,
             start_id: String::from_str(alloc, &self.start_id)?,
             end_id: String::from_str(alloc, &self.end_id)?,
-            consumers: copied_consumers(alloc, &self.consumers)?,
+            consumers: copy_consumers(alloc, &self.consumers)?,
         })
     }
 }
@@ -87,7 +90,19 @@ type Row = Option<(String, String)>;
 /// The parts of the reply as the server sends them: count, first and last id, consumers.
 type Parts = (usize, Option<String>, Option<String>, Vec<Row>);
 
-/// The consumers of those rows that are there, in order. It fails only by want of memory.
+/// The consumer that a row tells of, whose pending entries are 0 where its text writes no number.
+/// It takes no memory.
+fn consumer_of_row(name: String, count: String) -> StreamInfoConsumer
+    ensures { consumer_meaning result ≡ consumer_of (string_bytes name, string_bytes count) }
+{
+    StreamInfoConsumer {
+        name,
+        pending: count.as_str().parse::<usize>().unwrap_or(0),
+        idle: 0,
+    }
+}
+
+/// The consumers of those rows that are there, in order. It fails only where it is out of memory.
 fn read_consumers(alloc: Global, rows: Vec<Row>) -> Result<Vec<StreamInfoConsumer>, AllocError>
     ensures { IfOk result (λ r. map consumer_meaning r.items
         ≡ consumers_of (map (option_map row_meaning) rows.items)) }
@@ -97,7 +112,7 @@ fn read_consumers(alloc: Global, rows: Vec<Row>) -> Result<Vec<StreamInfoConsume
         let Some((name, count)) = row else {
             continue;
         };
-        consumers.push(StreamInfoConsumer::of_row(name, count))?;
+        consumers.push(consumer_of_row(name, count))?;
     }
     Ok(consumers)
 }
@@ -106,10 +121,7 @@ fn read_consumers(alloc: Global, rows: Vec<Row>) -> Result<Vec<StreamInfoConsume
 /// refused with `PendingWithoutStart` or `PendingWithoutEnd` where one is missing.
 fn read_parts(alloc: Global, parts: Parts) -> Result<StreamPendingReply, ParsingError>
     ensures ok { IfOk result (λ r. summary_of (parts_meaning parts) ≡ Some (pending_meaning r)) }
-    ensures err { IfErr result (λ e. e ≢ ParsingError.Memory
-        → summary_of (parts_meaning parts) ≡ None) }
-    ensures no_start { result ≡ Err ParsingError.PendingWithoutStart → parts.1 ≡ None }
-    ensures no_end { result ≡ Err ParsingError.PendingWithoutEnd → parts.2 ≡ None }
+    ensures err { IfErr result (Refuses summary_of RefusesSummary (parts_meaning parts)) }
 {
     let (count, start, end, rows) = parts;
     if count == 0 {
@@ -130,7 +142,18 @@ fn read_parts(alloc: Global, parts: Parts) -> Result<StreamPendingReply, Parsing
     }))
 }
 
-/// Read from a count, the first and the last id and a list of consumers; see `read_parts`.
+/// The reply of a value.
+fn read_reply<S: Source>(alloc: Global, v: S) -> Result<StreamPendingReply, ParsingError>
+    ensures ok { IfOk result (λ r. pending_reading (S.seen v) ≡ Some (pending_meaning r)) }
+    ensures err { IfErr result (Refuses pending_reading RefusesPending (S.seen v)) }
+{
+    let parts: Parts = v.read(alloc)?;
+    read_parts(alloc, parts)
+}
+
+/// Read from a count, the first and the last id and a list of consumers. Where the count is
+/// positive it is refused with `PendingWithoutStart` without a first id, with `PendingWithoutEnd`
+/// where the last alone is missing, and else only as these four are refused.
 impl FromRedisValue for StreamPendingReply {
     ghost Meaning = { Option PendingSummary };
 
@@ -138,13 +161,13 @@ impl FromRedisValue for StreamPendingReply {
 
     ghost reading = { pending_reading };
 
+    ghost may_refuse = { RefusesPending };
+
     fn from_redis_value(alloc: Global, v: Value) -> Result<StreamPendingReply, ParsingError> {
-        let parts = Parts::from_redis_value(alloc, v)?;
-        read_parts(alloc, parts)
+        read_reply(alloc, v)
     }
 
     fn from_redis_value_ref(alloc: Global, v: &Value) -> Result<StreamPendingReply, ParsingError> {
-        let parts = Parts::from_redis_value_ref(alloc, v)?;
-        read_parts(alloc, parts)
+        read_reply(alloc, v)
     }
 }

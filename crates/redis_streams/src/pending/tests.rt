@@ -1,9 +1,9 @@
 //! The replies of XPENDING by both calls.
-use crate::both_calls::{both, both_refuse, bulk};
+use crate::info::StreamInfoConsumer;
 use crate::pending::{
-    StreamInfoConsumer, StreamPendingCountReply, StreamPendingData, StreamPendingId,
-    StreamPendingReply,
+    StreamPendingCountReply, StreamPendingData, StreamPendingId, StreamPendingReply,
 };
+use crate::tests::both_calls::{both_read, both_refuse, bulk};
 use redis_resp::{ParsingError, Value};
 use std::alloc::{AllocError, Global};
 use std::test::Fail;
@@ -23,10 +23,9 @@ fn summary(alloc: Global) -> Result<Value, AllocError> {
 #[test]
 fn summaries_are_read(rt: HostRuntime) -> Result<(), Fail> {
     let alloc = rt.alloc();
-    let read = both::<StreamPendingReply>(alloc, summary(alloc)?)?.ok_or("both")?;
-    let (lent, moved) = read.map_err(|_| "refused")?;
+    let (borrowed, moved) = both_read::<StreamPendingReply>(alloc, summary(alloc)?)?;
     let copy = moved.try_clone(alloc)?;
-    for reply in vec![in alloc; lent, moved, copy]? {
+    for reply in vec![in alloc; borrowed, moved, copy]? {
         assert_eq!(rt; reply.count(), 2);
         let StreamPendingReply::Data(data) = reply else {
             return Err("empty".into());
@@ -75,10 +74,9 @@ fn entries_are_read(rt: HostRuntime) -> Result<(), Fail> {
         Value::Int(0),
     ]?;
     let rows = Value::Array(vec![in alloc; Value::Array(row)]?);
-    let read = both::<StreamPendingCountReply>(alloc, rows)?.ok_or("both")?;
-    let (lent, moved) = read.map_err(|_| "refused")?;
+    let (borrowed, moved) = both_read::<StreamPendingCountReply>(alloc, rows)?;
     let copy = moved.try_clone(alloc)?;
-    for reply in vec![in alloc; lent, moved, copy]? {
+    for reply in vec![in alloc; borrowed, moved, copy]? {
         assert_eq!(rt; reply.ids.len(), 1);
         for entry in &reply.ids {
             assert_eq!(rt; entry.id.as_str(), "1-0");

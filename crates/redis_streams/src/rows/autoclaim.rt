@@ -1,15 +1,13 @@
 //! The reply of XAUTOCLAIM.
-ghost use Rattle.std.specs.Prelude.{◌≡◌, ◌≢◌, [], false, Some, None, IsOk, IfOk, IfErr, OnErr, List, length, map, option_map, string_bytes};
-ghost use Rattle.redis_resp.specs.Tree.{Tree, array_of_plain};
-ghost use Rattle.redis_resp.specs.Value.{tree};
-ghost use Rattle.redis_streams.specs.AutoClaim.{AutoClaim, Parts, autoclaim_reading, claimed_shape, deleted_reading, empty_autoclaim, parts_in, two_or_three};
-ghost use Rattle.redis_streams.specs.StreamAutoClaimReply.{autoclaim_meaning, texts_of, trees_of_parts, trees_of_lent_parts};
-ghost use Rattle.redis_streams.specs.StreamId.{entries_of};
+ghost use Rattle.std.specs.Prelude.{◌≡◌, [], false, Some, None, IsOk, IfOk, IfErr, length, map, option_map, string_bytes};
+ghost use Rattle.redis_resp.specs.Refusal.{Refuses};
+ghost use Rattle.redis_streams.specs.AutoClaim.{AutoClaim, autoclaim_reading, deleted_reading, empty_autoclaim, parts_in, two_or_three};
+ghost use Rattle.redis_streams.specs.AutoClaimMeaning.{autoclaim_meaning, text_bytes_of, trees_of_parts};
+ghost use Rattle.redis_streams.specs.Refusal.{RefusesAutoClaim, RefusesDeleted, RefusesParts};
 
-use crate::rows::claimed::{read_claimed, read_claimed_ref};
-use crate::rows::clone::copy_ids;
-use crate::rows::stream_id::StreamId;
-use redis_resp::{FromRedisValue, ParsingError, Value};
+use crate::rows::claimed::read_claimed;
+use crate::rows::stream_id::{StreamId, copy_ids};
+use redis_resp::{FromRedisValue, ParsingError, Source, Value};
 use std::alloc::{AllocError, Global};
 
 /// What XAUTOCLAIM answers.
@@ -39,7 +37,7 @@ impl StreamAutoClaimReply {
         })
     }
 
-    /// The same reply. It fails only by want of memory.
+    /// The same reply. It fails only where it is out of memory.
     pub fn try_clone(&self, alloc: Global) -> Result<StreamAutoClaimReply, AllocError>
         ensures { IfOk result (λ r. autoclaim_meaning r ≡ autoclaim_meaning self.now) }
     {
@@ -55,7 +53,7 @@ impl StreamAutoClaimReply {
 /// An array of two or three: the next id, the claimed list and the deleted ids, of which a reply of
 /// two has none. `NotArray` for any other kind, attributes included, `WrongItemCount` for another
 /// length, and `WrongClaimedType` where the claimed list is no array, or its first item that is not
-/// nil is neither a bulk string nor an array.
+/// nil is neither a bulk string nor an array. A part that is unreadable is told by its own refusal.
 impl FromRedisValue for StreamAutoClaimReply {
     ghost Meaning = { AutoClaim };
 
@@ -63,152 +61,87 @@ impl FromRedisValue for StreamAutoClaimReply {
 
     ghost reading = { autoclaim_reading };
 
-    #[tactic(auto, using(crate::proofs::AutoClaimLemmas::autoclaim_read, crate::proofs::AutoClaimLemmas::no_parts, crate::proofs::AutoClaimLemmas::no_claimed, crate::proofs::AutoClaimLemmas::no_deleted, crate::proofs::AutoClaimLemmas::no_next))]
-    fn from_redis_value(alloc: Global, v: Value) -> Result<StreamAutoClaimReply, ParsingError>
-        ensures ok { IfOk result (λ r. autoclaim_reading (tree v) ≡ Some (autoclaim_meaning r)) }
-        ensures err { IfErr result (λ e. e ≢ ParsingError.Memory
-            → autoclaim_reading (tree v) ≡ None) }
-        ensures kind { array_of_plain (tree v) ≡ None → result ≡ Err ParsingError.NotArray }
-        ensures count { (items : List Tree) → array_of_plain (tree v) ≡ Some items
-            → two_or_three items ≡ None
-            → result ≡ Err (ParsingError.WrongItemCount (length items)) }
-        ensures claimed { (parts : Parts) → parts_in (tree v) ≡ Some parts
-            → claimed_shape parts.1 ≡ None → result ≡ Err ParsingError.WrongClaimedType }
-    {
-        let (next, claimed, deleted) = into_parts(v)?;
-        let (claimed, invalid_entries) = read_claimed(alloc, claimed)?;
-        let deleted_ids = read_deleted(alloc, deleted)?;
-        let next_stream_id = String::from_redis_value(alloc, next)?;
-        Ok(StreamAutoClaimReply {
-            next_stream_id,
-            claimed,
-            deleted_ids,
-            invalid_entries,
-        })
+    ghost may_refuse = { RefusesAutoClaim };
+
+    fn from_redis_value(alloc: Global, v: Value) -> Result<StreamAutoClaimReply, ParsingError> {
+        read_autoclaim(alloc, v)
     }
 
-    #[tactic(auto, using(crate::proofs::AutoClaimLemmas::autoclaim_read, crate::proofs::AutoClaimLemmas::no_parts, crate::proofs::AutoClaimLemmas::no_claimed, crate::proofs::AutoClaimLemmas::no_deleted, crate::proofs::AutoClaimLemmas::no_next))]
-    fn from_redis_value_ref(alloc: Global, v: &Value) -> Result<StreamAutoClaimReply, ParsingError>
-        ensures ok { IfOk result (λ r. autoclaim_reading (tree v.now)
-            ≡ Some (autoclaim_meaning r)) }
-        ensures err { IfErr result (λ e. e ≢ ParsingError.Memory
-            → autoclaim_reading (tree v.now) ≡ None) }
-        ensures kind { array_of_plain (tree v.now) ≡ None → result ≡ Err ParsingError.NotArray }
-        ensures count { (items : List Tree) → array_of_plain (tree v.now) ≡ Some items
-            → two_or_three items ≡ None
-            → result ≡ Err (ParsingError.WrongItemCount (length items)) }
-        ensures claimed { (parts : Parts) → parts_in (tree v.now) ≡ Some parts
-            → claimed_shape parts.1 ≡ None → result ≡ Err ParsingError.WrongClaimedType }
-    {
-        let (next, claimed, deleted) = parts_ref(v)?;
-        let (claimed, invalid_entries) = read_claimed_ref(alloc, claimed)?;
-        let deleted_ids = read_deleted_ref(alloc, deleted)?;
-        let next_stream_id = String::from_redis_value_ref(alloc, next)?;
-        Ok(StreamAutoClaimReply {
-            next_stream_id,
-            claimed,
-            deleted_ids,
-            invalid_entries,
-        })
+    fn from_redis_value_ref(
+        alloc: Global,
+        v: &Value,
+    ) -> Result<StreamAutoClaimReply, ParsingError> {
+        read_autoclaim(alloc, v)
     }
 }
 
-/// The next id, the claimed list and, where there is a third item, the deleted ids.
-#[tactic(auto, using(crate::proofs::AutoClaimLemmas::items_there))]
-fn into_parts(v: Value) -> Result<(Value, Value, Option<Value>), ParsingError>
-    ensures ok { IfOk result (λ parts. parts_in (tree v) ≡ Some (trees_of_parts parts)) }
-    ensures err { OnErr result (parts_in (tree v) ≡ None) }
-    ensures kind { array_of_plain (tree v) ≡ None → result ≡ Err ParsingError.NotArray }
-    ensures count { (items : List Tree) → array_of_plain (tree v) ≡ Some items
-        → two_or_three items ≡ None → result ≡ Err (ParsingError.WrongItemCount (length items)) }
+/// The reply that the parts of a value make.
+#[tactic(auto, using(crate::proofs::AutoClaimLemmas::autoclaim_read))]
+fn read_autoclaim<S: Source>(alloc: Global, v: S) -> Result<StreamAutoClaimReply, ParsingError>
+    ensures ok { IfOk result (λ r. autoclaim_reading (S.seen v) ≡ Some (autoclaim_meaning r)) }
+    ensures err { IfErr result (Refuses autoclaim_reading RefusesAutoClaim (S.seen v)) }
 {
-    match v {
-        Value::Array(items) => two_or_three_of(items),
-        _ => Err(ParsingError::NotArray),
+    let (next, claimed, deleted) = into_parts(v)?;
+    let (claimed, invalid_entries) = read_claimed(alloc, claimed)?;
+    let deleted_ids = read_deleted(alloc, deleted)?;
+    let next_stream_id: String = next.read(alloc)?;
+    Ok(StreamAutoClaimReply {
+        next_stream_id,
+        claimed,
+        deleted_ids,
+        invalid_entries,
+    })
+}
+
+/// The next id, the claimed list and, where there is a third item, the deleted ids. It takes no
+/// memory.
+fn into_parts<S: Source>(v: S) -> Result<(S, S, Option<S>), ParsingError>
+    ensures ok { IfOk result (λ parts. parts_in (S.seen v) ≡ Some (trees_of_parts S.seen parts)) }
+    ensures err { IfErr result (Refuses parts_in (RefusesParts (λ _ _. ⊥)) (S.seen v)) }
+{
+    match v.into_array() {
+        Some(items) => two_or_three_of::<S>(items),
+        None => Err(ParsingError::NotArray),
     }
 }
 
 /// The parts of a list of two or three items.
-fn two_or_three_of(items: Vec<Value>) -> Result<(Value, Value, Option<Value>), ParsingError>
-    ensures ok { IfOk result (λ parts. two_or_three (map tree items.items)
-        ≡ Some (trees_of_parts parts)) }
-    ensures err { OnErr result (two_or_three (map tree items.items) ≡ None) }
-    ensures count { two_or_three (map tree items.items) ≡ None
-        → result ≡ Err (ParsingError.WrongItemCount (length items.items)) }
+fn two_or_three_of<S: Source>(mut items: S::Values) -> Result<(S, S, Option<S>), ParsingError>
+    ensures ok { IfOk result (λ parts. two_or_three (S.values_left items)
+        ≡ Some (trees_of_parts S.seen parts)) }
+    ensures err { IfErr result (λ e. (two_or_three (S.values_left items) ≡ None)
+        × (e ≡ ParsingError.WrongItemCount (length (S.values_left items)))) }
 {
-    let count = items.len();
-    match <[Value; 2]>::try_from(items) {
-        Ok([next, claimed]) => Ok((next, claimed, None)),
-        Err(items) => match <[Value; 3]>::try_from(items) {
-            Ok([next, claimed, deleted]) => Ok((next, claimed, Some(deleted))),
-            Err(_items) => Err(ParsingError::WrongItemCount(count)),
-        },
+    let count = S::count_values(&items);
+    if count > 3 {
+        return Err(ParsingError::WrongItemCount(count));
     }
-}
-
-/// The same of a value that is lent.
-#[tactic(auto, using(crate::proofs::AutoClaimLemmas::items_there))]
-fn parts_ref<'a>(v: &'a Value) -> Result<(&'a Value, &'a Value, Option<&'a Value>), ParsingError>
-    ensures ok { IfOk result (λ parts. parts_in (tree v.now) ≡ Some (trees_of_lent_parts parts)) }
-    ensures err { OnErr result (parts_in (tree v.now) ≡ None) }
-    ensures kind { array_of_plain (tree v.now) ≡ None → result ≡ Err ParsingError.NotArray }
-    ensures count { (items : List Tree) → array_of_plain (tree v.now) ≡ Some items
-        → two_or_three items ≡ None → result ≡ Err (ParsingError.WrongItemCount (length items)) }
-{
-    match v {
-        Value::Array(items) => two_or_three_ref(items),
-        _ => Err(ParsingError::NotArray),
-    }
-}
-
-/// The parts of a list of two or three items that is lent.
-fn two_or_three_ref<'a>(
-    items: &'a [Value],
-) -> Result<(&'a Value, &'a Value, Option<&'a Value>), ParsingError>
-    ensures ok { IfOk result (λ parts. two_or_three (map tree items.now)
-        ≡ Some (trees_of_lent_parts parts)) }
-    ensures err { OnErr result (two_or_three (map tree items.now) ≡ None) }
-    ensures count { two_or_three (map tree items.now) ≡ None
-        → result ≡ Err (ParsingError.WrongItemCount (length items.now)) }
-{
-    match items {
-        [next, claimed] => Ok((next, claimed, None)),
-        [next, claimed, deleted] => Ok((next, claimed, Some(deleted))),
-        [] => Err(ParsingError::WrongItemCount(0)),
-        [_] => Err(ParsingError::WrongItemCount(1)),
-        [_, _, _, _, ..] => Err(ParsingError::WrongItemCount(items.len())),
-    }
+    let Some(next) = S::next_value(&mut items) else {
+        return Err(ParsingError::WrongItemCount(count));
+    };
+    let Some(claimed) = S::next_value(&mut items) else {
+        return Err(ParsingError::WrongItemCount(count));
+    };
+    let deleted = S::next_value(&mut items);
+    Ok((next, claimed, deleted))
 }
 
 /// The deleted ids, and none where the reply has no such item.
-fn read_deleted(alloc: Global, deleted: Option<Value>) -> Result<Vec<String>, ParsingError>
-    ensures ok { IfOk result (λ ids. deleted_reading (option_map tree deleted)
-        ≡ Some (texts_of ids)) }
-    ensures err { IfErr result (λ e. e ≢ ParsingError.Memory
-        → deleted_reading (option_map tree deleted) ≡ None) }
+fn read_deleted<S: Source>(alloc: Global, deleted: Option<S>) -> Result<Vec<String>, ParsingError>
+    ensures ok { IfOk result (λ ids. deleted_reading (option_map S.seen deleted)
+        ≡ Some (text_bytes_of ids)) }
+    ensures err { IfErr result (Refuses deleted_reading RefusesDeleted
+        (option_map S.seen deleted)) }
 {
     match deleted {
-        Some(ids) => Vec::from_redis_value(alloc, ids),
+        Some(ids) => ids.read(alloc),
         None => Ok(Vec::new(alloc)),
     }
 }
 
-/// The same of a value that is lent.
-fn read_deleted_ref(alloc: Global, deleted: Option<&Value>) -> Result<Vec<String>, ParsingError>
-    ensures ok { IfOk result (λ ids. deleted_reading (option_map (λ v. tree v.now) deleted.entry)
-        ≡ Some (texts_of ids)) }
-    ensures err { IfErr result (λ e. e ≢ ParsingError.Memory
-        → deleted_reading (option_map (λ v. tree v.now) deleted.entry) ≡ None) }
-{
-    match deleted {
-        Some(ids) => Vec::from_redis_value_ref(alloc, ids),
-        None => Ok(Vec::new(alloc)),
-    }
-}
-
-/// The same texts, in order. It fails only by want of memory.
+/// The same texts, in order. It fails only where it is out of memory.
 fn copy_texts(alloc: Global, texts: &[String]) -> Result<Vec<String>, AllocError>
-    ensures { IfOk result (λ v. texts_of v ≡ map string_bytes texts.now) }
+    ensures { IfOk result (λ v. text_bytes_of v ≡ map string_bytes texts.now) }
 {
     let mut copies = Vec::with_capacity(alloc, texts.len())?;
     for text in texts {

@@ -1,12 +1,12 @@
 //! The reply of XCLAIM.
 ghost use Rattle.std.specs.Prelude.{◌≡◌, [], List, IsOk, IfOk};
 ghost use Rattle.redis_streams.specs.Entry.{Entry};
+ghost use Rattle.redis_streams.specs.EntryMeaning.{entries_of};
+ghost use Rattle.redis_streams.specs.Refusal.{RefusesRows};
 ghost use Rattle.redis_streams.specs.Rows.{rows_reading};
-ghost use Rattle.redis_streams.specs.StreamId.{entries_of};
 
-use crate::rows::clone::copy_ids;
-use crate::rows::listed::{read_rows, read_rows_ref};
-use crate::rows::stream_id::StreamId;
+use crate::rows::items::read_rows;
+use crate::rows::stream_id::{StreamId, copy_ids};
 use redis_resp::{FromRedisValue, ParsingError, Value};
 use std::alloc::{AllocError, Global};
 
@@ -27,7 +27,7 @@ impl StreamClaimReply {
         })
     }
 
-    /// A reply of the same entries. It fails only by want of memory.
+    /// A reply of the same entries. It fails only where it is out of memory.
     pub fn try_clone(&self, alloc: Global) -> Result<StreamClaimReply, AllocError>
         ensures { IfOk result (λ r. entries_of r.ids ≡ entries_of self.now.ids) }
     {
@@ -36,7 +36,8 @@ impl StreamClaimReply {
     }
 }
 
-/// A list of rows; each pair of a row's table is an entry.
+/// A list of rows; each pair of a row's table is an entry. It is refused as a list is, as pairs and
+/// as texts are, or where it is out of memory.
 impl FromRedisValue for StreamClaimReply {
     ghost Meaning = { List Entry };
 
@@ -44,13 +45,17 @@ impl FromRedisValue for StreamClaimReply {
 
     ghost reading = { rows_reading };
 
+    ghost may_refuse = { RefusesRows };
+
     fn from_redis_value(alloc: Global, v: Value) -> Result<StreamClaimReply, ParsingError> {
-        let ids = read_rows(alloc, v)?;
-        Ok(StreamClaimReply { ids })
+        Ok(StreamClaimReply {
+            ids: read_rows(alloc, v)?,
+        })
     }
 
     fn from_redis_value_ref(alloc: Global, v: &Value) -> Result<StreamClaimReply, ParsingError> {
-        let ids = read_rows_ref(alloc, v)?;
-        Ok(StreamClaimReply { ids })
+        Ok(StreamClaimReply {
+            ids: read_rows(alloc, v)?,
+        })
     }
 }

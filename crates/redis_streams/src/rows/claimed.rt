@@ -1,18 +1,20 @@
 //! The list of claimed entries in the reply of XAUTOCLAIM.
-ghost use Rattle.std.specs.Prelude.{◌≡◌, ◌≢◌, Some, None, IfOk, IfErr, map, option_map};
+ghost use Rattle.std.specs.Prelude.{◌≡◌, Some, IfOk, IfErr, map, option_map};
+ghost use Rattle.redis_resp.specs.Refusal.{Refuses};
 ghost use Rattle.redis_resp.specs.Value.{tree};
 ghost use Rattle.redis_streams.specs.AutoClaim.{claimed_reading, claimed_shape, entries_by_kind, kind_of_items};
-ghost use Rattle.redis_streams.specs.StreamAutoClaimReply.{kind_meaning, shape_meaning};
-ghost use Rattle.redis_streams.specs.StreamId.{entries_of};
+ghost use Rattle.redis_streams.specs.AutoClaimMeaning.{kind_meaning, shape_meaning};
+ghost use Rattle.redis_streams.specs.EntryMeaning.{entries_of};
+ghost use Rattle.redis_streams.specs.Refusal.{RefusesByKind, RefusesClaimed};
 
-use crate::rows::listed::{join, read_rows, read_rows_ref};
+use crate::rows::items::{join, read_rows};
 use crate::rows::stream_id::StreamId;
-use redis_resp::{FromRedisValue, ParsingError, Value};
+use redis_resp::{ParsingError, Source, Value};
 use std::alloc::Global;
 
 /// What a list of claimed entries holds.
 #[derive(Clone, Copy, Debug, PartialEq, Eq)]
-pub(crate) enum ListKind {
+pub(crate) enum ClaimedKind {
     /// Nothing but nil.
     Nils,
     /// Ids, where only ids were asked for.
@@ -25,12 +27,14 @@ pub(crate) enum ListKind {
 /// `WrongClaimedType` where the value is no array, or the first item that is not nil is neither a
 /// bulk string nor an array.
 #[tactic(auto, using(crate::proofs::AutoClaimLemmas::claimed_read, crate::proofs::AutoClaimLemmas::claimed_refused))]
-pub(crate) fn read_claimed(alloc: Global, v: Value) -> Result<(Vec<StreamId>, bool), ParsingError>
-    ensures ok { IfOk result (λ r. claimed_reading (tree v) ≡ Some (entries_of r.0, r.1)) }
-    ensures err { IfErr result (λ e. e ≢ ParsingError.Memory → claimed_reading (tree v) ≡ None) }
-    ensures shape { claimed_shape (tree v) ≡ None → result ≡ Err ParsingError.WrongClaimedType }
+pub(crate) fn read_claimed<S: Source>(
+    alloc: Global,
+    v: S,
+) -> Result<(Vec<StreamId>, bool), ParsingError>
+    ensures ok { IfOk result (λ r. claimed_reading (S.seen v) ≡ Some (entries_of r.0, r.1)) }
+    ensures err { IfErr result (Refuses claimed_reading RefusesClaimed (S.seen v)) }
 {
-    let Some((kind, count)) = shape_of(&v) else {
+    let Some((kind, count)) = shape_of(v.as_value()) else {
         return Err(ParsingError::WrongClaimedType);
     };
     let ids = read_entries(alloc, v, kind)?;
@@ -38,28 +42,9 @@ pub(crate) fn read_claimed(alloc: Global, v: Value) -> Result<(Vec<StreamId>, bo
     Ok((ids, invalid))
 }
 
-/// The same of a value that is lent.
-#[tactic(auto, using(crate::proofs::AutoClaimLemmas::claimed_read, crate::proofs::AutoClaimLemmas::claimed_refused))]
-pub(crate) fn read_claimed_ref(
-    alloc: Global,
-    v: &Value,
-) -> Result<(Vec<StreamId>, bool), ParsingError>
-    ensures ok { IfOk result (λ r. claimed_reading (tree v.now) ≡ Some (entries_of r.0, r.1)) }
-    ensures err { IfErr result (λ e. e ≢ ParsingError.Memory
-        → claimed_reading (tree v.now) ≡ None) }
-    ensures shape { claimed_shape (tree v.now) ≡ None → result ≡ Err ParsingError.WrongClaimedType }
-{
-    let Some((kind, count)) = shape_of(v) else {
-        return Err(ParsingError::WrongClaimedType);
-    };
-    let ids = read_entries_ref(alloc, v, kind)?;
-    let invalid = ids.len() < count;
-    Ok((ids, invalid))
-}
-
 /// The kind of a list of claimed entries and the number of its items, and None where it has none.
 #[tactic(auto, using(crate::proofs::AutoClaimLemmas::shape_there, crate::proofs::AutoClaimLemmas::shape_missing))]
-fn shape_of(v: &Value) -> Option<(ListKind, usize)>
+fn shape_of(v: &Value) -> Option<(ClaimedKind, usize)>
     ensures { option_map shape_meaning result ≡ claimed_shape (tree v.now) }
 {
     let Value::Array(items) = v else {
@@ -74,52 +59,38 @@ fn shape_of(v: &Value) -> Option<(ListKind, usize)>
 /// The kind that the first item which is not nil decides, and None where that is neither a bulk
 /// string nor an array.
 #[tactic(auto, using(crate::proofs::AutoClaimLemmas::kind_of_array, crate::proofs::AutoClaimLemmas::kind_of_bulk))]
-fn kind_of(items: &[Value]) -> Option<ListKind>
+fn kind_of(items: &[Value]) -> Option<ClaimedKind>
     ensures { option_map kind_meaning result ≡ kind_of_items (map tree items.now) }
 {
     for item in items {
         match item {
             Value::Nil => {}
-            Value::BulkString(_) => return Some(ListKind::Ids),
-            Value::Array(_) => return Some(ListKind::Rows),
+            Value::BulkString(_) => return Some(ClaimedKind::Ids),
+            Value::Array(_) => return Some(ClaimedKind::Rows),
             _ => return None,
         }
     }
-    Some(ListKind::Nils)
+    Some(ClaimedKind::Nils)
 }
 
 /// The entries of a list of that kind.
 #[tactic(auto, using(crate::proofs::AutoClaimLemmas::ids_read, crate::proofs::AutoClaimLemmas::ids_refused))]
-fn read_entries(alloc: Global, v: Value, kind: ListKind) -> Result<Vec<StreamId>, ParsingError>
-    ensures ok { IfOk result (λ ids. entries_by_kind (kind_meaning kind) (tree v)
+fn read_entries<S: Source>(
+    alloc: Global,
+    v: S,
+    kind: ClaimedKind,
+) -> Result<Vec<StreamId>, ParsingError>
+    ensures ok { IfOk result (λ ids. entries_by_kind (kind_meaning kind) (S.seen v)
         ≡ Some (entries_of ids)) }
-    ensures err { IfErr result (λ e. e ≢ ParsingError.Memory
-        → entries_by_kind (kind_meaning kind) (tree v) ≡ None) }
+    ensures err { IfErr result (Refuses (entries_by_kind (kind_meaning kind))
+        (RefusesByKind (kind_meaning kind)) (S.seen v)) }
 {
     match kind {
-        ListKind::Nils => Ok(Vec::new(alloc)),
-        ListKind::Ids => {
-            let ids: Vec<Option<String>> = Vec::from_redis_value(alloc, v)?;
+        ClaimedKind::Nils => Ok(Vec::new(alloc)),
+        ClaimedKind::Ids => {
+            let ids: Vec<Option<String>> = v.read(alloc)?;
             Ok(join(alloc, ids)?)
         }
-        ListKind::Rows => read_rows(alloc, v),
-    }
-}
-
-/// The same of a value that is lent.
-#[tactic(auto, using(crate::proofs::AutoClaimLemmas::ids_read, crate::proofs::AutoClaimLemmas::ids_refused))]
-fn read_entries_ref(alloc: Global, v: &Value, kind: ListKind) -> Result<Vec<StreamId>, ParsingError>
-    ensures ok { IfOk result (λ ids. entries_by_kind (kind_meaning kind) (tree v.now)
-        ≡ Some (entries_of ids)) }
-    ensures err { IfErr result (λ e. e ≢ ParsingError.Memory
-        → entries_by_kind (kind_meaning kind) (tree v.now) ≡ None) }
-{
-    match kind {
-        ListKind::Nils => Ok(Vec::new(alloc)),
-        ListKind::Ids => {
-            let ids: Vec<Option<String>> = Vec::from_redis_value_ref(alloc, v)?;
-            Ok(join(alloc, ids)?)
-        }
-        ListKind::Rows => read_rows_ref(alloc, v),
+        ClaimedKind::Rows => read_rows(alloc, v),
     }
 }

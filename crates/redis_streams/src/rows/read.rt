@@ -1,13 +1,15 @@
 //! The reply of XREAD and XREADGROUP.
-ghost use Rattle.std.specs.Prelude.{◌≡◌, ◌≢◌, ◌++◌, [], Some, None, IsOk, IfOk, IfErr, OnOk, flat_map, option_map};
-ghost use Rattle.redis_resp.specs.Value.{tree};
+ghost use Rattle.std.specs.Prelude.{◌≡◌, ◌++◌, [], Some, IsOk, IsSome, IfOk, IfErr, OnErr, OnOk, flat_map, option_map};
+ghost use Rattle.redis_resp.specs.Refusal.{Refuses};
+ghost use Rattle.redis_resp.specs.Tree.{items};
 ghost use Rattle.redis_streams.specs.Read.{Streams, standard_reading, claim_reading, read_reading};
-ghost use Rattle.redis_streams.specs.StreamKey.{streams_of, streams_in};
+ghost use Rattle.redis_streams.specs.ReadMeaning.{streams_of, streams_in};
+ghost use Rattle.redis_streams.specs.Refusal.{RefusesRead};
 
-use crate::rows::listed::{Delivery, Listed, Row, join};
+use crate::rows::items::{Delivery, ListItem, Row, join};
 use crate::rows::stream_key::StreamKey;
 use indexmap::IndexMap;
-use redis_resp::{FromRedisValue, ParsingError, Value};
+use redis_resp::{FromRedisValue, ParsingError, Source, Value};
 use std::alloc::{AllocError, Global};
 
 /// The streams that XREAD or XREADGROUP answers, in order.
@@ -27,7 +29,7 @@ impl StreamReadReply {
         })
     }
 
-    /// A reply of the same streams. It fails only by want of memory.
+    /// A reply of the same streams. It fails only where it is out of memory.
     pub fn try_clone(&self, alloc: Global) -> Result<StreamReadReply, AllocError>
         ensures { IfOk result (λ r. streams_of r.keys ≡ streams_of self.now.keys) }
     {
@@ -41,7 +43,8 @@ impl StreamReadReply {
 
 /// A list of rows: the standard form where each item of each list is a row of ids and fields, else
 /// the claim form, where each is an id, fields and the two numbers of its delivery. One form holds
-/// for the whole value, and the refusal is `UnknownReadFormat` where it has neither.
+/// for the whole value, and the refusal is `UnknownReadFormat` where it has neither. A value that
+/// is no list is refused without taking memory.
 impl FromRedisValue for StreamReadReply {
     ghost Meaning = { Streams };
 
@@ -49,44 +52,39 @@ impl FromRedisValue for StreamReadReply {
 
     ghost reading = { read_reading };
 
-    fn from_redis_value(alloc: Global, v: Value) -> Result<StreamReadReply, ParsingError>
-        ensures ok { IfOk result (λ r. read_reading (tree v) ≡ Some (streams_of r.keys)) }
-        ensures err { IfErr result (λ e. e ≢ ParsingError.Memory → read_reading (tree v) ≡ None) }
-        ensures kind { IfErr result (λ e. e ≢ ParsingError.Memory
-            → e ≡ ParsingError.UnknownReadFormat) }
-    {
-        if let Some(keys) = standard_streams(alloc, &v)? {
-            return Ok(StreamReadReply { keys });
-        }
-        match claim_streams(alloc, v)? {
-            Some(keys) => Ok(StreamReadReply { keys }),
-            None => Err(ParsingError::UnknownReadFormat),
-        }
+    ghost may_refuse = { RefusesRead };
+
+    fn from_redis_value(alloc: Global, v: Value) -> Result<StreamReadReply, ParsingError> {
+        read_reply(alloc, v)
     }
 
-    fn from_redis_value_ref(alloc: Global, v: &Value) -> Result<StreamReadReply, ParsingError>
-        ensures ok { IfOk result (λ r. read_reading (tree v.now) ≡ Some (streams_of r.keys)) }
-        ensures err { IfErr result (λ e. e ≢ ParsingError.Memory
-            → read_reading (tree v.now) ≡ None) }
-        ensures kind { IfErr result (λ e. e ≢ ParsingError.Memory
-            → e ≡ ParsingError.UnknownReadFormat) }
-    {
-        if let Some(keys) = standard_streams(alloc, v)? {
-            return Ok(StreamReadReply { keys });
-        }
-        match claim_streams_ref(alloc, v)? {
-            Some(keys) => Ok(StreamReadReply { keys }),
-            None => Err(ParsingError::UnknownReadFormat),
-        }
+    fn from_redis_value_ref(alloc: Global, v: &Value) -> Result<StreamReadReply, ParsingError> {
+        read_reply(alloc, v)
     }
 }
 
-/// The streams of a value in the standard form, and None where it does not have it.
-#[tactic(auto, using(crate::proofs::ReadLemmas::standard_refused))]
-fn standard_streams(alloc: Global, v: &Value) -> Result<Option<Vec<StreamKey>>, AllocError>
-    ensures { IfOk result (λ r. standard_reading (tree v.now) ≡ option_map streams_of r) }
+/// The streams of a value in the standard form, else in the claim form.
+fn read_reply<S: Source>(alloc: Global, v: S) -> Result<StreamReadReply, ParsingError>
+    ensures ok { IfOk result (λ r. read_reading (S.seen v) ≡ Some (streams_of r.keys)) }
+    ensures err { IfErr result (Refuses read_reading RefusesRead (S.seen v)) }
 {
-    let rows: Vec<IndexMap<String, Vec<Row>>> = match Vec::from_redis_value_ref(alloc, v) {
+    if let Some(keys) = standard_streams(alloc, v.as_value())? {
+        return Ok(StreamReadReply { keys });
+    }
+    match claim_streams(alloc, v)? {
+        Some(keys) => Ok(StreamReadReply { keys }),
+        None => Err(ParsingError::UnknownReadFormat),
+    }
+}
+
+/// The streams of a value in the standard form, and None where it does not have it. It fails only
+/// where it is out of memory, and never of a value that is no list.
+#[tactic(auto, using(crate::proofs::ReadLemmas::standard_refused, crate::proofs::RefusalLemmas::memory_has_items, crate::proofs::RefusalLemmas::read_has_items))]
+fn standard_streams<S: Source>(alloc: Global, v: S) -> Result<Option<Vec<StreamKey>>, AllocError>
+    ensures streams { IfOk result (λ r. standard_reading (S.seen v) ≡ option_map streams_of r) }
+    ensures list { OnErr result (IsSome (items (S.seen v))) }
+{
+    let rows: Vec<IndexMap<String, Vec<Row>>> = match v.read(alloc) {
         Ok(rows) => rows,
         Err(ParsingError::Memory) => return Err(AllocError),
         Err(_) => return Ok(None),
@@ -94,25 +92,13 @@ fn standard_streams(alloc: Global, v: &Value) -> Result<Option<Vec<StreamKey>>, 
     Ok(Some(join_streams(alloc, rows)?))
 }
 
-/// The streams of a value in the claim form, and None where it does not have it.
-#[tactic(auto, using(crate::proofs::ReadLemmas::claim_refused))]
-fn claim_streams(alloc: Global, v: Value) -> Result<Option<Vec<StreamKey>>, AllocError>
-    ensures { IfOk result (λ r. claim_reading (tree v) ≡ option_map streams_of r) }
+/// The streams of a value in the claim form, and None where it does not have it, likewise.
+#[tactic(auto, using(crate::proofs::ReadLemmas::claim_refused, crate::proofs::RefusalLemmas::memory_has_items, crate::proofs::RefusalLemmas::read_has_items))]
+fn claim_streams<S: Source>(alloc: Global, v: S) -> Result<Option<Vec<StreamKey>>, AllocError>
+    ensures streams { IfOk result (λ r. claim_reading (S.seen v) ≡ option_map streams_of r) }
+    ensures list { OnErr result (IsSome (items (S.seen v))) }
 {
-    let rows: Vec<IndexMap<String, Vec<Delivery>>> = match Vec::from_redis_value(alloc, v) {
-        Ok(rows) => rows,
-        Err(ParsingError::Memory) => return Err(AllocError),
-        Err(_) => return Ok(None),
-    };
-    Ok(Some(join_streams(alloc, rows)?))
-}
-
-/// The same of a value that is lent.
-#[tactic(auto, using(crate::proofs::ReadLemmas::claim_refused))]
-fn claim_streams_ref(alloc: Global, v: &Value) -> Result<Option<Vec<StreamKey>>, AllocError>
-    ensures { IfOk result (λ r. claim_reading (tree v.now) ≡ option_map streams_of r) }
-{
-    let rows: Vec<IndexMap<String, Vec<Delivery>>> = match Vec::from_redis_value_ref(alloc, v) {
+    let rows: Vec<IndexMap<String, Vec<Delivery>>> = match v.read(alloc) {
         Ok(rows) => rows,
         Err(ParsingError::Memory) => return Err(AllocError),
         Err(_) => return Ok(None),
@@ -121,11 +107,11 @@ fn claim_streams_ref(alloc: Global, v: &Value) -> Result<Option<Vec<StreamKey>>,
 }
 
 /// The streams of all rows, in order.
-fn join_streams<T: Listed>(
+fn join_streams<T: ListItem>(
     alloc: Global,
     rows: Vec<IndexMap<String, Vec<T>>>,
 ) -> Result<Vec<StreamKey>, AllocError>
-    ensures { IfOk result (λ keys. streams_of keys ≡ flat_map (streams_in T.held) rows.items) }
+    ensures { IfOk result (λ keys. streams_of keys ≡ flat_map (streams_in T.entries) rows.items) }
 {
     let mut keys = Vec::new(alloc);
     for row in rows {
@@ -135,12 +121,12 @@ fn join_streams<T: Listed>(
 }
 
 /// Appends the streams of a row.
-fn push_streams<T: Listed>(
+fn push_streams<T: ListItem>(
     alloc: Global,
     keys: &mut Vec<StreamKey>,
     row: IndexMap<String, Vec<T>>,
 ) -> Result<(), AllocError>
-    ensures { OnOk result (streams_of keys.new ≡ streams_of keys.old ++ streams_in T.held row) }
+    ensures { OnOk result (streams_of keys.new ≡ streams_of keys.old ++ streams_in T.entries row) }
 {
     for (key, items) in row {
         let ids = join(alloc, items)?;

@@ -1,8 +1,11 @@
 //! An entry of a stream.
-ghost use Rattle.std.specs.Prelude.{◌≡◌, ◌↔◌, IfOk, IsOk, IsTrue, option_map};
+ghost use Rattle.std.specs.Prelude.{◌≡◌, ◌↔◌, IfOk, IsOk, IsTrue, OnErr, OnOk, map, option_map, string_bytes};
 ghost use Rattle.std.specs.FinMap as fin;
+ghost use Rattle.redis_resp.specs.Value.{tree};
 ghost use Rattle.redis_streams.specs.Entry.{empty_entry, field_record};
-ghost use Rattle.redis_streams.specs.StreamId.{entry_meaning, fields_of};
+ghost use Rattle.redis_streams.specs.EntryMeaning.{entries_of, entry_meaning, fields_of};
+ghost use Rattle.redis_streams.specs.Refusal.{RefusesField};
+ghost use Rattle.redis_streams.specs.SameEntryMeaning.{same_entry};
 
 use redis_resp::{FromRedisValue, ParsingError, Value};
 use std::alloc::{AllocError, Global};
@@ -36,11 +39,14 @@ impl StreamId {
     }
 
     /// The record that the field of this name reads as, and None where there is no such field or it
-    /// has no record of the type. It fails only by want of memory.
+    /// has no record of the type. It fails only where the field is there, its reading takes memory
+    /// and there is none.
     #[tactic(auto, using(crate::proofs::FieldsLemmas::get_field))]
     pub fn get<T: FromRedisValue>(&self, alloc: Global, key: &str) -> Result<Option<T>, AllocError>
-        ensures { IfOk result (λ r. option_map T.meaning r
+        ensures record { IfOk result (λ r. option_map T.meaning r
             ≡ field_record T.reading (fields_of self.now.map) key.now) }
+        ensures memory { OnErr result (RefusesField T.may_refuse
+            (fin.get (fields_of self.now.map) key.now) ParsingError.Memory) }
     {
         let Some(value) = self.map.get(key) else {
             return Ok(None);
@@ -74,4 +80,92 @@ impl StreamId {
     {
         self.len() == 0
     }
+
+    /// A `StreamId` of the same entry. It fails only where it is out of memory.
+    pub fn try_clone(&self, alloc: Global) -> Result<StreamId, AllocError>
+        ensures { IfOk result (λ s. entry_meaning s ≡ entry_meaning self.now) }
+    {
+        Ok(StreamId {
+            id: String::from_str(alloc, &self.id)?,
+            map: copy_fields(alloc, &self.map)?,
+            milliseconds_elapsed_from_delivery: self.milliseconds_elapsed_from_delivery,
+            delivered_count: self.delivered_count,
+        })
+    }
+}
+
+/// The same id, the same fields as a finite map and the same delivery.
+impl PartialEq for StreamId {
+    ghost use Rattle.std.specs.Cmp.{partial_equiv_from_equiv};
+    ghost use Rattle.redis_streams.specs.SameEntryLaws.{same_entry_laws};
+
+    ghost eq = { same_entry };
+
+    ghost laws = { partial_equiv_from_equiv same_entry_laws };
+
+    /// Whether the two are the same entry; the order of their fields plays no part.
+    #[tactic(auto, using(crate::specs::SameEntryLaws::same_entry_Decides))]
+    fn eq(&self, other: &StreamId) -> bool
+        ensures by_parts { result ≡ same_entry self.now other.now }
+        ensures equal_entries { IsTrue result ↔ (entry_meaning self.now ≡ entry_meaning other.now) }
+    {
+        alike(self, other)
+    }
+}
+
+impl Eq for StreamId {
+    ghost use Rattle.redis_streams.specs.SameEntryLaws.{same_entry_laws};
+
+    ghost laws = { same_entry_laws };
+}
+
+fn alike(a: &StreamId, b: &StreamId) -> bool
+    ensures { result ≡ same_entry a.now b.now }
+{
+    a.id == b.id
+        && a.map == b.map
+        && a.milliseconds_elapsed_from_delivery == b.milliseconds_elapsed_from_delivery
+        && a.delivered_count == b.delivered_count
+}
+
+/// The same fields. It fails only where it is out of memory.
+fn copy_fields(
+    alloc: Global,
+    fields: &HashMap<String, Value>,
+) -> Result<HashMap<String, Value>, AllocError>
+    ensures { IfOk result (λ m. fields_of m ≡ fields_of fields.now) }
+{
+    let mut copies = HashMap::new(alloc);
+    for (name, value) in fields {
+        put_copy(alloc, &mut copies, name, value)?;
+    }
+    Ok(copies)
+}
+
+/// Puts a copy of a field. It fails only where it is out of memory.
+#[tactic(auto, using(crate::proofs::FieldsLemmas::fields_put))]
+fn put_copy(
+    alloc: Global,
+    copies: &mut HashMap<String, Value>,
+    name: &String,
+    value: &Value,
+) -> Result<(), AllocError>
+    ensures { OnOk result (fields_of copies.new
+        ≡ fin.insert (fields_of copies.old) (string_bytes name.now) (tree value.now)) }
+{
+    let name = String::from_str(alloc, name)?;
+    let value = value.try_clone(alloc)?;
+    copies.insert(name, value)?;
+    Ok(())
+}
+
+/// The same entries, in order. It fails only where it is out of memory.
+pub(crate) fn copy_ids(alloc: Global, ids: &[StreamId]) -> Result<Vec<StreamId>, AllocError>
+    ensures { IfOk result (λ v. entries_of v ≡ map entry_meaning ids.now) }
+{
+    let mut copies = Vec::with_capacity(alloc, ids.len())?;
+    for id in ids {
+        copies.push(id.try_clone(alloc)?)?;
+    }
+    Ok(copies)
 }

@@ -1,9 +1,8 @@
 //! A stream with its entries.
 ghost use Rattle.std.specs.Prelude.{◌≡◌, [], IsOk, IfOk};
-ghost use Rattle.redis_streams.specs.StreamKey.{stream_meaning};
+ghost use Rattle.redis_streams.specs.ReadMeaning.{stream_key_meaning};
 
-use crate::rows::clone::copy_ids;
-use crate::rows::stream_id::StreamId;
+use crate::rows::stream_id::{StreamId, copy_ids};
 use std::alloc::{AllocError, Global};
 
 /// A stream with the entries that were read from it.
@@ -19,7 +18,7 @@ impl StreamKey {
     /// The stream without a name and without entries. It takes no memory and is always Ok.
     pub fn empty(alloc: Global) -> Result<StreamKey, AllocError>
         ensures ok { IsOk result }
-        ensures stream { IfOk result (λ k. stream_meaning k ≡ ([], [])) }
+        ensures stream { IfOk result (λ k. stream_key_meaning k ≡ ([], [])) }
     {
         Ok(StreamKey {
             key: String::new(alloc),
@@ -27,9 +26,9 @@ impl StreamKey {
         })
     }
 
-    /// The same stream. It fails only by want of memory.
+    /// A copy of the stream. It fails only where it is out of memory.
     pub fn try_clone(&self, alloc: Global) -> Result<StreamKey, AllocError>
-        ensures { IfOk result (λ k. stream_meaning k ≡ stream_meaning self.now) }
+        ensures { IfOk result (λ k. stream_key_meaning k ≡ stream_key_meaning self.now) }
     {
         let key = String::from_str(alloc, &self.key)?;
         let ids = copy_ids(alloc, &self.ids)?;

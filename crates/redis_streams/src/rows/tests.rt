@@ -1,10 +1,13 @@
 //! Entries, and the replies that hold them, by both calls.
+mod user_type;
+
 use crate::laws::invalid_entries_tell_nil;
-use crate::rows::flag::Flag;
+use crate::rows::tests::user_type::Flag;
 use crate::rows::{
     StreamAutoClaimReply, StreamClaimReply, StreamId, StreamKey, StreamRangeReply, StreamReadReply,
 };
-use redis_resp::{FromRedisValue, ParsingError, Value, from_redis_value, from_redis_value_ref};
+use crate::tests::both_calls::{both_read, both_refuse, bulk};
+use redis_resp::{ParsingError, Value};
 use std::alloc::{AllocError, Global};
 use std::collections::HashMap;
 use std::test::Fail;
@@ -12,7 +15,7 @@ use std::test::Fail;
 #[test]
 fn fields_are_got_by_name(rt: HostRuntime) -> Result<(), Fail> {
     let alloc = rt.alloc();
-    let seven = entry(alloc, "1-0", "f", text(alloc, "7")?)?;
+    let seven = entry(alloc, "1-0", "f", bulk(alloc, "7")?)?;
     assert_eq!(rt; seven.get::<u16>(alloc, "f")?, Some(7));
     assert_eq!(rt; seven.get::<u16>(alloc, "g")?, None);
     assert!(rt; seven.get::<Vec<Value>>(alloc, "f")?.is_none());
@@ -26,7 +29,7 @@ fn fields_are_nil_or_of_a_new_type(rt: HostRuntime) -> Result<(), Fail> {
     let alloc = rt.alloc();
     let nil = entry(alloc, "1-0", "f", Value::Nil)?;
     assert!(rt; matches!(&nil.get::<Option<String>>(alloc, "f")?, Some(None)));
-    let yes = entry(alloc, "1-0", "f", text(alloc, "yes")?)?;
+    let yes = entry(alloc, "1-0", "f", bulk(alloc, "yes")?)?;
     assert_eq!(rt; yes.get::<Flag>(alloc, "f")?, Some(Flag(true)));
     assert!(rt; StreamId::empty(alloc)?.is_empty());
     Ok(())
@@ -34,20 +37,20 @@ fn fields_are_nil_or_of_a_new_type(rt: HostRuntime) -> Result<(), Fail> {
 
 // Whether the entry is `1-0` with the field `f` of the value `v`.
 fn is_sample(alloc: Global, id: &StreamId) -> Result<bool, AllocError> {
-    let sample = entry(alloc, "1-0", "f", text(alloc, "v")?)?;
+    let sample = entry(alloc, "1-0", "f", bulk(alloc, "v")?)?;
     Ok(*id == sample)
 }
 
 #[test]
 fn entries_are_equal_by_their_parts(rt: HostRuntime) -> Result<(), Fail> {
     let alloc = rt.alloc();
-    let mut id = entry(alloc, "1-0", "f", text(alloc, "v")?)?;
+    let mut id = entry(alloc, "1-0", "f", bulk(alloc, "v")?)?;
     assert!(rt; is_sample(alloc, &id)? && is_sample(alloc, &id.try_clone(alloc)?)?);
     id.delivered_count = Some(1);
     assert!(rt; !is_sample(alloc, &id)?);
-    assert!(rt; !is_sample(alloc, &entry(alloc, "1-1", "f", text(alloc, "v")?)?)?);
-    assert!(rt; !is_sample(alloc, &entry(alloc, "1-0", "g", text(alloc, "v")?)?)?);
-    assert!(rt; !is_sample(alloc, &entry(alloc, "1-0", "f", text(alloc, "w")?)?)?);
+    assert!(rt; !is_sample(alloc, &entry(alloc, "1-1", "f", bulk(alloc, "v")?)?)?);
+    assert!(rt; !is_sample(alloc, &entry(alloc, "1-0", "g", bulk(alloc, "v")?)?)?);
+    assert!(rt; !is_sample(alloc, &entry(alloc, "1-0", "f", bulk(alloc, "w")?)?)?);
     Ok(())
 }
 
@@ -55,8 +58,8 @@ fn entries_are_equal_by_their_parts(rt: HostRuntime) -> Result<(), Fail> {
 fn ranges_are_read(rt: HostRuntime) -> Result<(), Fail> {
     let alloc = rt.alloc();
     for count in [1, 1000, 10000] {
-        let (lent, owned) = both::<StreamRangeReply>(alloc, rows(alloc, count)?)?;
-        assert!(rt; lent.ids.len() == count && are_samples(alloc, &lent.ids)?);
+        let (borrowed, owned) = both_read::<StreamRangeReply>(alloc, rows(alloc, count)?)?;
+        assert!(rt; borrowed.ids.len() == count && are_samples(alloc, &borrowed.ids)?);
         let copy = owned.try_clone(alloc)?;
         assert!(rt; copy.ids.len() == count && are_samples(alloc, &copy.ids)?);
     }
@@ -68,8 +71,8 @@ fn ranges_are_read(rt: HostRuntime) -> Result<(), Fail> {
 fn claims_are_read(rt: HostRuntime) -> Result<(), Fail> {
     let alloc = rt.alloc();
     for count in [1, 1000, 10000] {
-        let (lent, owned) = both::<StreamClaimReply>(alloc, rows(alloc, count)?)?;
-        assert!(rt; lent.ids.len() == count && are_samples(alloc, &lent.ids)?);
+        let (borrowed, owned) = both_read::<StreamClaimReply>(alloc, rows(alloc, count)?)?;
+        assert!(rt; borrowed.ids.len() == count && are_samples(alloc, &borrowed.ids)?);
         let copy = owned.try_clone(alloc)?;
         assert!(rt; copy.ids.len() == count && are_samples(alloc, &copy.ids)?);
     }
@@ -91,10 +94,10 @@ fn has_samples(alloc: Global, reply: &StreamReadReply, count: usize) -> Result<b
 fn reads_are_read(rt: HostRuntime) -> Result<(), Fail> {
     let alloc = rt.alloc();
     for count in [0, 1000, 10000] {
-        let stream = two(alloc, text(alloc, "s")?, rows(alloc, count)?)?;
+        let stream = two(alloc, bulk(alloc, "s")?, rows(alloc, count)?)?;
         let reply = Value::Array(vec![in alloc; stream]?);
-        let (lent, owned) = both::<StreamReadReply>(alloc, reply)?;
-        assert!(rt; has_samples(alloc, &lent, count)?);
+        let (borrowed, owned) = both_read::<StreamReadReply>(alloc, reply)?;
+        assert!(rt; has_samples(alloc, &borrowed, count)?);
         assert!(rt; has_samples(alloc, &owned.try_clone(alloc)?, count)?);
     }
     assert!(rt; StreamReadReply::empty(alloc)?.keys.is_empty());
@@ -107,10 +110,40 @@ fn reads_are_read(rt: HostRuntime) -> Result<(), Fail> {
 fn reads_of_no_form_are_refused(rt: HostRuntime) -> Result<(), Fail> {
     let alloc = rt.alloc();
     let items = Value::Array(vec![in alloc; Value::Int(1)]?);
-    let stream = two(alloc, text(alloc, "s")?, items)?;
-    let reply = Value::Array(vec![in alloc; stream]?);
-    let read = from_redis_value::<StreamReadReply>(alloc, reply);
-    assert!(rt; read.is_err_and(|error| error == ParsingError::UnknownReadFormat));
+    let stream = two(alloc, bulk(alloc, "s")?, items)?;
+    let of_no_form = Value::Array(vec![in alloc; stream]?);
+    for value in vec![in alloc; of_no_form, Value::Int(1)]? {
+        let refusal = ParsingError::UnknownReadFormat;
+        assert!(rt; both_refuse::<StreamReadReply>(alloc, value, refusal)?);
+    }
+    Ok(())
+}
+
+#[test]
+fn unreadable_parts_are_told_by_their_own_errors(rt: HostRuntime) -> Result<(), Fail> {
+    let alloc = rt.alloc();
+    let no_row = Value::Array(vec![in alloc; Value::Array(vec![in alloc; Value::Nil]?)]?);
+    let no_pairs = two(alloc, bulk(alloc, "0-0")?, no_row)?;
+    let no_next = two(alloc, Value::Nil, rows(alloc, 1)?)?;
+    let no_id = Value::Array(vec![in alloc; Value::Nil]?);
+    let deleted = vec![in alloc; bulk(alloc, "0-0")?, rows(alloc, 1)?, no_id]?;
+    let table = [
+        (no_pairs, ParsingError::NotPairs),
+        (no_next, ParsingError::NotText),
+        (Value::Array(deleted), ParsingError::NotText),
+        (
+            two(alloc, bulk(alloc, "0-0")?, Value::Nil)?,
+            ParsingError::WrongClaimedType,
+        ),
+        (
+            Value::Array(vec![in alloc; Value::Nil]?),
+            ParsingError::WrongItemCount(1),
+        ),
+        (Value::Nil, ParsingError::NotArray),
+    ];
+    for (value, refusal) in table {
+        assert!(rt; both_refuse::<StreamAutoClaimReply>(alloc, value, refusal)?);
+    }
     Ok(())
 }
 
@@ -118,9 +151,9 @@ fn reads_of_no_form_are_refused(rt: HostRuntime) -> Result<(), Fail> {
 fn automatic_claims_are_read(rt: HostRuntime) -> Result<(), Fail> {
     let alloc = rt.alloc();
     for count in [1, 1000, 10000] {
-        let reply = two(alloc, text(alloc, "0-0")?, rows(alloc, count)?)?;
-        let (lent, owned) = both::<StreamAutoClaimReply>(alloc, reply)?;
-        assert!(rt; lent.next_stream_id.as_str() == "0-0" && lent.claimed.len() == count);
+        let reply = two(alloc, bulk(alloc, "0-0")?, rows(alloc, count)?)?;
+        let (borrowed, owned) = both_read::<StreamAutoClaimReply>(alloc, reply)?;
+        assert!(rt; borrowed.next_stream_id.as_str() == "0-0" && borrowed.claimed.len() == count);
         let copy = owned.try_clone(alloc)?;
         assert!(rt; are_samples(alloc, &copy.claimed)? && !copy.invalid_entries);
         assert!(rt; copy.deleted_ids.is_empty());
@@ -134,26 +167,10 @@ fn automatic_claims_are_read(rt: HostRuntime) -> Result<(), Fail> {
 fn no_entries_are_marked_invalid(rt: HostRuntime) -> Result<(), Fail> {
     let alloc = rt.alloc();
     let nil = Value::Array(vec![in alloc; Value::Nil]?);
-    let reply = two(alloc, text(alloc, "0-0")?, nil)?;
-    let (lent, owned) = both::<StreamAutoClaimReply>(alloc, reply)?;
-    assert!(rt; lent.claimed.is_empty() && lent.invalid_entries && owned.invalid_entries);
+    let reply = two(alloc, bulk(alloc, "0-0")?, nil)?;
+    let (borrowed, owned) = both_read::<StreamAutoClaimReply>(alloc, reply)?;
+    assert!(rt; borrowed.claimed.is_empty() && borrowed.invalid_entries && owned.invalid_entries);
     Ok(())
-}
-
-// The records of both calls, the lent one first; it fails where the value that was lent changed.
-fn both<T: FromRedisValue>(alloc: Global, value: Value) -> Result<(T, T), Fail> {
-    let before = value.try_clone(alloc)?;
-    let lent = from_redis_value_ref::<T>(alloc, &value).map_err(|_| "lent")?;
-    if value != before {
-        return Err("changed")?;
-    }
-    let owned = from_redis_value::<T>(alloc, value).map_err(|_| "owned")?;
-    Ok((lent, owned))
-}
-
-// A bulk string.
-fn text(alloc: Global, text: &str) -> Result<Value, AllocError> {
-    Ok(Value::BulkString(Vec::from_slice(alloc, text.as_bytes())?))
 }
 
 // An array of two.
@@ -163,15 +180,15 @@ fn two(alloc: Global, first: Value, second: Value) -> Result<Value, AllocError> 
 
 // A row of one entry with one field.
 fn row(alloc: Global, id: &str, name: &str, value: Value) -> Result<Value, AllocError> {
-    let fields = two(alloc, text(alloc, name)?, value)?;
-    two(alloc, text(alloc, id)?, fields)
+    let fields = two(alloc, bulk(alloc, name)?, value)?;
+    two(alloc, bulk(alloc, id)?, fields)
 }
 
 // An array of rows of the entry `1-0` with the field `f` of the value `v`.
 fn rows(alloc: Global, count: usize) -> Result<Value, AllocError> {
     let mut rows = Vec::new(alloc);
     for _ in 0..count {
-        rows.push(row(alloc, "1-0", "f", text(alloc, "v")?)?)?;
+        rows.push(row(alloc, "1-0", "f", bulk(alloc, "v")?)?)?;
     }
     Ok(Value::Array(rows))
 }
@@ -190,6 +207,6 @@ fn entry(alloc: Global, id: &str, name: &str, value: Value) -> Result<StreamId, 
 
 // Whether each entry is `1-0` with the field `f` of the value `v`.
 fn are_samples(alloc: Global, ids: &[StreamId]) -> Result<bool, AllocError> {
-    let sample = entry(alloc, "1-0", "f", text(alloc, "v")?)?;
+    let sample = entry(alloc, "1-0", "f", bulk(alloc, "v")?)?;
     Ok(ids.iter().all(|id| *id == sample))
 }

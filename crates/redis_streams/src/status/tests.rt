@@ -1,6 +1,8 @@
-//! Status codes by both calls.
-use crate::both_calls::{both, both_refuse};
+//! Status codes by both calls, and their equality as a caller can prove of it.
+ghost use Rattle.std.specs.Prelude.{◌≡◌, ◌↔◌, IsTrue};
+
 use crate::status::{XAckDelStatusCode, XDelExStatusCode};
+use crate::tests::both_calls::{both_read, both_refuse};
 use redis_resp::{ParsingError, Value};
 use std::test::Fail;
 
@@ -27,12 +29,10 @@ fn codes_are_read_and_told(rt: HostRuntime) -> Result<(), Fail> {
     for (number, deletion, acknowledgement) in known {
         assert_eq!(rt; deletion.code(), number);
         assert_eq!(rt; acknowledgement.code(), number);
-        let read = both::<XDelExStatusCode>(alloc, Value::Int(number))?;
-        let (lent, moved) = read.ok_or("deletion")?.map_err(|_| "deletion refused")?;
-        assert!(rt; lent == deletion && moved == deletion);
-        let read = both::<XAckDelStatusCode>(alloc, Value::Int(number))?;
-        let (lent, moved) = read.ok_or("both")?.map_err(|_| "acknowledgement refused")?;
-        assert!(rt; lent == acknowledgement && moved == acknowledgement);
+        let (borrowed, moved) = both_read::<XDelExStatusCode>(alloc, Value::Int(number))?;
+        assert!(rt; borrowed == deletion && moved == deletion);
+        let (borrowed, moved) = both_read::<XAckDelStatusCode>(alloc, Value::Int(number))?;
+        assert!(rt; borrowed == acknowledgement && moved == acknowledgement);
     }
     Ok(())
 }
@@ -49,4 +49,25 @@ fn other_values_are_refused(rt: HostRuntime) -> Result<(), Fail> {
     assert!(rt; both_refuse::<XDelExStatusCode>(alloc, Value::Nil, ParsingError::NotXDelEx)?);
     assert!(rt; both_refuse::<XAckDelStatusCode>(alloc, Value::Nil, ParsingError::NotXAckDel)?);
     Ok(())
+}
+
+#[test]
+fn codes_are_equal_where_they_are_the_same(rt: HostRuntime) -> Result<(), Fail> {
+    assert!(rt; are_equal(XDelExStatusCode::Deleted, XDelExStatusCode::Deleted));
+    assert!(rt; !are_equal(XDelExStatusCode::Deleted, XDelExStatusCode::IdNotFound));
+    let deleted = XAckDelStatusCode::AcknowledgedAndDeleted;
+    assert!(rt; !are_both(deleted, XAckDelStatusCode::IdNotFound));
+    Ok(())
+}
+
+fn are_equal(a: XDelExStatusCode, b: XDelExStatusCode) -> bool
+    ensures { IsTrue result ↔ (a ≡ b) }
+{
+    a == b
+}
+
+fn are_both(a: XAckDelStatusCode, b: XAckDelStatusCode) -> bool
+    ensures { IsTrue result ↔ (a ≡ b) }
+{
+    a == b
 }

@@ -50,7 +50,7 @@ impl Default for StreamAddOptions {
 }
 
 impl StreamAddOptions {
-    /// A stream that does not exist is not made.
+    /// `NOMKSTREAM`: a stream that does not exist is not made.
     pub fn nomkstream(mut self) -> Self
         ensures { result ≡ record self { nomkstream = true } }
     {
@@ -58,7 +58,8 @@ impl StreamAddOptions {
         self
     }
 
-    /// The stream is trimmed by this strategy, in place of any before with its limit.
+    /// `MAXLEN` or `MINID`, and `LIMIT`: the stream is trimmed by this strategy, in place of any
+    /// before with its limit.
     pub fn trim(mut self, strategy: StreamTrimStrategy) -> Self
         ensures { result ≡ record self { trim = Some (strategy_of strategy) } }
     {
@@ -66,7 +67,8 @@ impl StreamAddOptions {
         self
     }
 
-    /// This becomes of references to what trimming removes, in place of any policy before.
+    /// `KEEPREF`, `DELREF` or `ACKED`: what becomes of consumer groups' references to trimmed
+    /// entries, in place of any policy before.
     pub fn set_deletion_policy(mut self, deletion_policy: StreamDeletionPolicy) -> Self
         ensures { result ≡ record self { policy = Some (policy_of deletion_policy) } }
     {
@@ -74,7 +76,7 @@ impl StreamAddOptions {
         self
     }
 
-    /// An entry that is sent twice is told by this id of its producer's, in place of any
+    /// `IDMP`: a duplicate entry is recognized by the id that its producer gives it, in place of any
     /// `idmp` or `idmpauto` before.
     pub fn idmp(mut self, producer_id: String, idempotent_id: String) -> Self
         ensures { let mode = manual (string_bytes producer_id) (string_bytes idempotent_id) in
@@ -87,8 +89,8 @@ impl StreamAddOptions {
         self
     }
 
-    /// An entry that is sent twice is told by what it holds, in place of any `idmp` or
-    /// `idmpauto` before.
+    /// `IDMPAUTO`: a duplicate entry is recognized by its producer and its content, in place of any
+    /// `idmp` or `idmpauto` before.
     pub fn idmpauto(mut self, producer_id: String) -> Self
         ensures { result ≡ record self {
           idempotency = Some (automatic (string_bytes producer_id));

@@ -34,7 +34,7 @@ impl Default for StreamAutoClaimOptions {
 }
 
 impl StreamAutoClaimOptions {
-    /// At most so many entries are claimed.
+    /// `COUNT`: at most so many entries are claimed.
     pub fn count(mut self, count: usize) -> Self
         ensures { result ≡ record self { count = Some count } }
     {
@@ -42,7 +42,7 @@ impl StreamAutoClaimOptions {
         self
     }
 
-    /// The reply has the ids alone, and the claim is no delivery.
+    /// `JUSTID`: the reply has the ids alone, and the claim is no delivery.
     pub fn with_justid(mut self) -> Self
         ensures { result ≡ record self { justid = true } }
     {

@@ -50,7 +50,7 @@ impl Default for StreamClaimOptions {
 }
 
 impl StreamClaimOptions {
-    /// The entries count as idle for so many milliseconds.
+    /// `IDLE`: the entries count as idle for so many milliseconds.
     pub fn idle(mut self, milliseconds: usize) -> Self
         ensures { result ≡ record self { idle = Some milliseconds } }
     {
@@ -58,7 +58,7 @@ impl StreamClaimOptions {
         self
     }
 
-    /// The entries count as last delivered so many milliseconds after the start of 1970.
+    /// `TIME`: the entries count as last delivered so many milliseconds after the start of 1970.
     pub fn time(mut self, milliseconds: usize) -> Self
         ensures { result ≡ record self { time = Some milliseconds } }
     {
@@ -66,7 +66,7 @@ impl StreamClaimOptions {
         self
     }
 
-    /// The entries count as delivered so many times.
+    /// `RETRYCOUNT`: the entries count as delivered so many times.
     pub fn retry(mut self, count: usize) -> Self
         ensures { result ≡ record self { retry = Some count } }
     {
@@ -74,7 +74,7 @@ impl StreamClaimOptions {
         self
     }
 
-    /// An entry that is pending for nobody is claimed too.
+    /// `FORCE`: an entry that is pending for nobody is claimed too.
     pub fn with_force(mut self) -> Self
         ensures { result ≡ record self { force = true } }
     {
@@ -82,7 +82,7 @@ impl StreamClaimOptions {
         self
     }
 
-    /// The reply has the ids alone, and the claim is no delivery.
+    /// `JUSTID`: the reply has the ids alone, and the claim is no delivery.
     pub fn with_justid(mut self) -> Self
         ensures { result ≡ record self { justid = true } }
     {
@@ -90,7 +90,7 @@ impl StreamClaimOptions {
         self
     }
 
-    /// This is noted as the last id that the group was given.
+    /// `LASTID`: this is noted as the id that the group was delivered last.
     pub fn with_lastid(mut self, lastid: String) -> Self
         ensures { result ≡ record self { lastid = Some (string_bytes lastid) } }
     {

@@ -1,4 +1,4 @@
-//! How a stream tells entries that are sent twice.
+//! How a stream recognizes duplicate entries.
 ghost use Rattle.std.specs.Prelude.{◌≡◌, OkIff, IfOk, IfErr};
 ghost use Rattle.redis_resp.specs.Writer.{Wrote};
 ghost use Rattle.stream_options.specs.Config.{IsDuration, IsMaxsize, IsConfig, config_sentence};
@@ -50,7 +50,7 @@ impl Model for StreamConfigOptions {
 }
 
 impl StreamConfigOptions {
-    /// Ids are kept for so many seconds. `Seconds` where that is not in 1..=86400.
+    /// `IDMP-DURATION`: ids are kept for so many seconds. `Seconds` where that is not in 1..=86400.
     pub fn with_idempotency_seconds(seconds: u32) -> Result<Self, ConfigError>
         ensures ok { OkIff result (IsDuration seconds) (record {
           seconds = Some seconds;
@@ -64,7 +64,8 @@ impl StreamConfigOptions {
         })
     }
 
-    /// So many ids are kept of each producer. `Maxsize` where that is not in 1..=10000.
+    /// `IDMP-MAXSIZE`: the ids of so many entries are kept of each producer. `Maxsize` where that is
+    /// not in 1..=10000.
     pub fn with_idempotency_maxsize(maxsize: u16) -> Result<Self, ConfigError>
         ensures ok { OkIff result (IsMaxsize maxsize) (record {
           seconds = None;
@@ -78,7 +79,7 @@ impl StreamConfigOptions {
         })
     }
 
-    /// Ids are kept for so many seconds, in place of any duration before.
+    /// `IDMP-DURATION`: ids are kept for so many seconds, in place of any duration before.
     ///
     /// `Seconds` where that is not in 1..=86400; the options are then dropped.
     pub fn idempotency_seconds(mut self, seconds: u32) -> Result<Self, ConfigError>
@@ -90,7 +91,8 @@ impl StreamConfigOptions {
         Ok(self)
     }
 
-    /// So many ids are kept of each producer, in place of any number before.
+    /// `IDMP-MAXSIZE`: the ids of so many entries are kept of each producer, in place of any number
+    /// before.
     ///
     /// `Maxsize` where that is not in 1..=10000; the options are then dropped.
     pub fn idempotency_maxsize(mut self, maxsize: u16) -> Result<Self, ConfigError>

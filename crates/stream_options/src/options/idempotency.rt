@@ -1,4 +1,4 @@
-//! How an entry that is sent twice is told.
+//! How a duplicate entry is recognized.
 ghost use Rattle.std.specs.Prelude.{◌≡◌, IfOk};
 ghost use Rattle.stream_options.specs.Idempotency.{idempotency_sentence};
 ghost use Rattle.stream_options.specs.View.{idempotency_of};
@@ -6,18 +6,18 @@ ghost use Rattle.stream_options.specs.View.{idempotency_of};
 use redis_resp::{RedisWrite, ToRedisArgs, WriteError};
 use std::alloc::{AllocError, Global};
 
-/// How an entry that is sent twice is told: `IDMP producer idempotent` or `IDMPAUTO producer` of
+/// How a duplicate entry is recognized: `IDMP producer idempotent` or `IDMPAUTO producer` of
 /// `XADD`.
 #[derive(Debug, Drop)]
 pub enum StreamIdempotencyMode {
-    /// By an id that its producer gives it.
+    /// `IDMP`: by an id that its producer gives it.
     Manual {
         /// The producer of the entry.
         producer_id: String,
         /// The id that the producer gives this one entry.
         idempotent_id: String,
     },
-    /// By an id that the server makes of what the entry holds.
+    /// `IDMPAUTO`: by an id that the server makes of its content.
     Automatic {
         /// The producer of the entry.
         producer_id: String,
@@ -25,7 +25,7 @@ pub enum StreamIdempotencyMode {
 }
 
 impl StreamIdempotencyMode {
-    /// A copy with the same ids. It fails only by want of memory.
+    /// A copy with the same ids. It fails only out of memory.
     pub fn try_clone(&self, alloc: Global) -> Result<Self, AllocError>
         ensures { IfOk result (λ copy. idempotency_of copy ≡ idempotency_of self.now) }
     {

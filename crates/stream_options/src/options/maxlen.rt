@@ -1,4 +1,4 @@
-//! The length that a stream is cut to.
+//! The length that a stream is trimmed to.
 ghost use Rattle.stream_options.specs.Maxlen.{maxlen_sentence};
 ghost use Rattle.stream_options.specs.View.{maxlen_of};
 
@@ -8,9 +8,9 @@ use redis_resp::{RedisWrite, ToRedisArgs, WriteError};
 /// The most entries that a stream keeps: `MAXLEN = n` or `MAXLEN ~ n` of `XADD` and `XTRIM`.
 #[derive(Clone, Copy, Debug, PartialEq, Eq)]
 pub enum StreamMaxlen {
-    /// Exactly so many.
+    /// `MAXLEN =`: exactly so many entries.
     Equals(usize),
-    /// So many, or some more where that is cheaper.
+    /// `MAXLEN ~`: so many entries, or some more where that is cheaper.
     Approx(usize),
 }
 

@@ -6,14 +6,14 @@ ghost use Rattle.stream_options.specs.View.{nack_of};
 use redis_resp::{RedisWrite, ToRedisArgs, ToSingleRedisArg, WriteError};
 use std::marker::Model;
 
-/// What giving an entry back says of it: the word `SILENT`, `FAIL` or `FATAL` of `XNACK`.
+/// Why a consumer gives an entry back: the word `SILENT`, `FAIL` or `FATAL` of `XNACK`.
 #[derive(Clone, Copy, Debug, PartialEq, Eq)]
 pub enum StreamNackMode {
-    /// Nothing: the delivery does not count.
+    /// `SILENT`: it says nothing of the entry, and the delivery does not count.
     Silent,
-    /// Handling it failed, and may be tried again.
+    /// `FAIL`: handling it failed, and may be tried again.
     Fail,
-    /// It can't be handled.
+    /// `FATAL`: it can't be handled.
     Fatal,
 }
 

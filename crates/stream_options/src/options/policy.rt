@@ -10,11 +10,11 @@ use redis_resp::{RedisWrite, ToRedisArgs, ToSingleRedisArg, WriteError};
 /// `KEEPREF`, `DELREF` or `ACKED` of `XTRIM`, `XADD`, `XDELEX` and `XACKDEL`.
 #[derive(Clone, Debug, Drop)]
 pub enum StreamDeletionPolicy {
-    /// The references stay.
+    /// `KEEPREF`: the references stay.
     KeepRef,
-    /// The references are removed as well.
+    /// `DELREF`: the references are removed as well.
     DelRef,
-    /// Only entries that all groups have acknowledged are deleted.
+    /// `ACKED`: only entries that all groups have acknowledged are deleted.
     Acked,
 }
 

@@ -1,9 +1,9 @@
 //! How streams are read.
 ghost use Rattle.std.specs.Prelude.{◌≡◌, true, is_none, IfOk};
-ghost use Rattle.stream_options.specs.Read.{named, default_read, read_sentence};
+ghost use Rattle.stream_options.specs.Read.{group_with, default_read, read_sentence};
 
 use crate::options::clause::{FlagClause, ValueClause};
-use crate::options::names::Names;
+use crate::options::group::Group;
 use redis_resp::{RedisWrite, ToRedisArgs, WriteError};
 use std::alloc::{AllocError, Global};
 use std::marker::Model;
@@ -14,7 +14,7 @@ use std::marker::Model;
 /// The default has no setting, and writes no argument.
 #[derive(Debug, Drop)]
 pub struct StreamReadOptions {
-    group: Option<Names>,
+    group: Option<Group>,
     block: Option<usize>,
     count: Option<usize>,
     noack: bool,
@@ -23,7 +23,7 @@ pub struct StreamReadOptions {
 
 impl Model for StreamReadOptions {
     ghost use Rattle.std.specs.Prelude.{option_map};
-    ghost use Rattle.stream_options.specs.Names.{group_of};
+    ghost use Rattle.stream_options.specs.GroupMeaning.{group_of};
     ghost use Rattle.stream_options.specs.Read.{Read};
 
     ghost Value = { Read };
@@ -59,7 +59,7 @@ impl StreamReadOptions {
         self.group.is_none()
     }
 
-    /// What is read needs no acknowledgement. It counts only where a group is set.
+    /// `NOACK`: what is read needs no acknowledgement. It counts only where a group is set.
     pub fn noack(mut self) -> Self
         ensures { result ≡ record self { noack = true } }
     {
@@ -67,7 +67,7 @@ impl StreamReadOptions {
         self
     }
 
-    /// The read waits so many milliseconds for entries; 0 is without end.
+    /// `BLOCK`: the read waits so many milliseconds for entries; 0 waits without end.
     pub fn block(mut self, milliseconds: usize) -> Self
         ensures { result ≡ record self { block = Some milliseconds } }
     {
@@ -75,7 +75,7 @@ impl StreamReadOptions {
         self
     }
 
-    /// At most so many entries are read of each stream.
+    /// `COUNT`: at most so many entries are read of each stream.
     pub fn count(mut self, count: usize) -> Self
         ensures { result ≡ record self { count = Some count } }
     {
@@ -83,8 +83,8 @@ impl StreamReadOptions {
         self
     }
 
-    /// Entries that are idle for so many milliseconds are claimed and read first. It counts only
-    /// where a group is set.
+    /// `CLAIM`: entries that are idle for so many milliseconds are claimed and read first. It counts
+    /// only where a group is set.
     pub fn claim(mut self, milliseconds: usize) -> Self
         ensures { result ≡ record self { claim = Some milliseconds } }
     {
@@ -92,20 +92,20 @@ impl StreamReadOptions {
         self
     }
 
-    /// The streams are read for this consumer of this group, in place of any before. All the
-    /// arguments that each name writes are kept.
+    /// `GROUP`: the streams are read for this consumer of this group, in place of any before. All
+    /// the arguments that each name writes are kept.
     ///
-    /// It fails only by want of memory; the options are then dropped.
+    /// It fails only out of memory; the options are then dropped.
     pub fn group<GN: ToRedisArgs + Drop, CN: ToRedisArgs + Drop>(
         mut self,
         alloc: Global,
         group: GN,
         consumer: CN,
     ) -> Result<Self, AllocError>
-        ensures { let names = named (GN.args group) (CN.args consumer) in
+        ensures { let names = group_with (GN.args group) (CN.args consumer) in
             IfOk result (λ options. options ≡ record self { group = Some names }) }
     {
-        self.group = Some(Names::new(alloc, &group, &consumer)?);
+        self.group = Some(Group::new(alloc, &group, &consumer)?);
         Ok(self)
     }
 }

@@ -1,4 +1,4 @@
-//! What is cut off a stream.
+//! How a stream is trimmed.
 ghost use Rattle.std.specs.Prelude.{◌≡◌, [], ◌∷◌, string_bytes};
 ghost use Rattle.stream_options.specs.Trim.{max_len, min_id, unlimited, mode_word, strategy_sentence, trim_sentence};
 ghost use Rattle.stream_options.specs.View.{mode_of, strategy_of, policy_of};
@@ -11,9 +11,9 @@ use std::marker::Model;
 /// How exactly a stream is trimmed: the word `=` or `~`.
 #[derive(Debug, Drop)]
 pub enum StreamTrimmingMode {
-    /// To the bound itself.
+    /// `=`: to the bound itself.
     Exact,
-    /// About to the bound, where that is cheaper.
+    /// `~`: about to the bound, where that is cheaper.
     Approx,
 }
 
@@ -33,28 +33,28 @@ impl ToRedisArgs for StreamTrimmingMode {
 /// The last member is the limit: the most entries that one call removes.
 #[derive(Debug, Drop)]
 pub enum StreamTrimStrategy {
-    /// All but the newest entries, so many of which stay.
+    /// `MAXLEN`: all but the newest entries, so many of which stay.
     MaxLen(StreamTrimmingMode, usize, Option<usize>),
-    /// The entries with ids below this one.
+    /// `MINID`: the entries with ids below this one.
     MinId(StreamTrimmingMode, String, Option<usize>),
 }
 
 impl StreamTrimStrategy {
-    /// At most `max_entries` entries stay; there is no limit yet.
+    /// `MAXLEN`: at most `max_entries` entries stay; there is no limit yet.
     pub fn maxlen(trim: StreamTrimmingMode, max_entries: usize) -> Self
         ensures { strategy_of result ≡ unlimited (max_len (mode_of trim) max_entries) }
     {
         StreamTrimStrategy::MaxLen(trim, max_entries, None)
     }
 
-    /// Entries from `stream_id` on stay; there is no limit yet.
+    /// `MINID`: entries from `stream_id` on stay; there is no limit yet.
     pub fn minid(trim: StreamTrimmingMode, stream_id: String) -> Self
         ensures { strategy_of result ≡ unlimited (min_id (mode_of trim) (string_bytes stream_id)) }
     {
         StreamTrimStrategy::MinId(trim, stream_id, None)
     }
 
-    /// One call removes at most `limit` entries, in place of any limit before.
+    /// `LIMIT`: one call removes at most `limit` entries, in place of any limit before.
     pub fn limit(self, limit: usize) -> Self
         ensures { strategy_of result ≡ record (strategy_of self) { limit = Some limit } }
     {
@@ -84,7 +84,8 @@ impl ToRedisArgs for StreamTrimStrategy {
     }
 }
 
-/// The options of `XTRIM`: a strategy, and what becomes of references to what it removes.
+/// The options of `XTRIM`: `strategy [policy]`, and nothing else. The policy says what becomes of
+/// consumer groups' references to trimmed entries.
 #[derive(Debug, Drop)]
 pub struct StreamTrimOptions {
     strategy: StreamTrimStrategy,
@@ -105,7 +106,7 @@ impl Model for StreamTrimOptions {
 }
 
 impl StreamTrimOptions {
-    /// At most `max_entries` entries stay; no limit and no policy is set yet.
+    /// `MAXLEN`: at most `max_entries` entries stay; no limit and no policy is set yet.
     pub fn maxlen(mode: StreamTrimmingMode, max_entries: usize) -> Self
         ensures strategy { result.strategy ≡ unlimited (max_len (mode_of mode) max_entries) }
         ensures policy { result.policy ≡ None }
@@ -116,7 +117,7 @@ impl StreamTrimOptions {
         }
     }
 
-    /// Entries from `stream_id` on stay; no limit and no policy is set yet.
+    /// `MINID`: entries from `stream_id` on stay; no limit and no policy is set yet.
     pub fn minid(mode: StreamTrimmingMode, stream_id: String) -> Self
         ensures strategy { result.strategy
             ≡ unlimited (min_id (mode_of mode) (string_bytes stream_id)) }
@@ -128,7 +129,7 @@ impl StreamTrimOptions {
         }
     }
 
-    /// One call removes at most `limit` entries, in place of any limit before.
+    /// `LIMIT`: one call removes at most `limit` entries, in place of any limit before.
     pub fn limit(mut self, limit: usize) -> Self
         ensures { result ≡ record self { strategy = record self.strategy { limit = Some limit } } }
     {
@@ -136,7 +137,8 @@ impl StreamTrimOptions {
         self
     }
 
-    /// This becomes of references to what is removed, in place of any policy before.
+    /// `KEEPREF`, `DELREF` or `ACKED`: what becomes of consumer groups' references to trimmed
+    /// entries, in place of any policy before.
     pub fn set_deletion_policy(mut self, deletion_policy: StreamDeletionPolicy) -> Self
         ensures { result ≡ record self { policy = Some (policy_of deletion_policy) } }
     {

@@ -1,5 +1,5 @@
 //! Config options in and outside their ranges.
-use crate::tests::words;
+use crate::tests::assert_words;
 use crate::{
     ConfigError, IDMP_DURATION_MAX, IDMP_DURATION_MIN, IDMP_MAXSIZE_MAX, IDMP_MAXSIZE_MIN,
     StreamConfigOptions,
@@ -36,7 +36,7 @@ fn numbers_in_range(rt: HostRuntime) -> Result<(), Fail> {
         (seconds(300)?.idempotency_seconds(1)?, "IDMP-DURATION 1"),
     ];
     for (options, sentence) in &table {
-        assert_eq!(rt; words(rt.alloc(), options)?.as_str(), *sentence);
+        assert_words(&rt, rt.alloc(), options, sentence)?;
     }
     Ok(())
 }

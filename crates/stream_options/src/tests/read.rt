@@ -1,7 +1,7 @@
 //! Read options, with names of several types.
 use crate::StreamReadOptions;
 use crate::tests::user::Flag;
-use crate::tests::{text, words};
+use crate::tests::{assert_words, text};
 use redis_resp::RawBytes;
 use std::test::Fail;
 
@@ -9,16 +9,18 @@ use std::test::Fail;
 fn settings(rt: HostRuntime) -> Result<(), Fail> {
     let ungrouped = StreamReadOptions::default().noack().claim(100);
     assert!(rt; ungrouped.read_only());
-    assert_eq!(rt; words(rt.alloc(), &ungrouped)?.as_str(), "-");
+    assert_words(&rt, rt.alloc(), &ungrouped, "-")?;
     let grouped = ungrouped
         .block(5)
         .count(2)
         .group(rt.alloc(), text(rt.alloc(), "g")?, text(rt.alloc(), "c")?)?;
     assert!(rt; !grouped.read_only());
-    assert_eq!(rt;
-        words(rt.alloc(), &grouped)?.as_str(),
-        "GROUP g c BLOCK 5 COUNT 2 NOACK CLAIM 100"
-    );
+    assert_words(
+        &rt,
+        rt.alloc(),
+        &grouped,
+        "GROUP g c BLOCK 5 COUNT 2 NOACK CLAIM 100",
+    )?;
     Ok(())
 }
 
@@ -49,7 +51,7 @@ fn names(rt: HostRuntime) -> Result<(), Fail> {
     ];
     for (options, sentence) in &table {
         assert!(rt; !options.read_only(), "of {sentence}");
-        assert_eq!(rt; words(rt.alloc(), options)?.as_str(), *sentence);
+        assert_words(&rt, rt.alloc(), options, sentence)?;
     }
     Ok(())
 }

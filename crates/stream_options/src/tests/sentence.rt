@@ -1,5 +1,5 @@
 //! Options and the words that they write.
-use crate::tests::{text, words};
+use crate::tests::{assert_words, text};
 use crate::{
     StreamAddOptions, StreamAutoClaimOptions, StreamClaimOptions, StreamDeletionPolicy,
     StreamIdempotencyMode, StreamMaxlen, StreamNackMode, StreamNackOptions, StreamTrimOptions,
@@ -27,7 +27,7 @@ fn trim(rt: HostRuntime) -> Result<(), Fail> {
         ),
     ];
     for (options, sentence) in &table {
-        assert_eq!(rt; words(rt.alloc(), options)?.as_str(), *sentence);
+        assert_words(&rt, rt.alloc(), options, sentence)?;
     }
     Ok(())
 }
@@ -41,18 +41,15 @@ fn words_alone(rt: HostRuntime) -> Result<(), Fail> {
             "MAXLEN ~ 18446744073709551615",
         ),
     ] {
-        assert_eq!(rt; words(rt.alloc(), &maxlen)?.as_str(), sentence);
+        assert_words(&rt, rt.alloc(), &maxlen, sentence)?;
     }
     for (mode, sentence) in [
         (StreamNackMode::Silent, "SILENT"),
         (StreamNackMode::Fail, "FAIL"),
         (StreamNackMode::Fatal, "FATAL"),
     ] {
-        assert_eq!(rt; words(rt.alloc(), &mode)?.as_str(), sentence);
-        assert_eq!(rt;
-            words(rt.alloc(), &StreamNackOptions::new(mode))?.as_str(),
-            sentence
-        );
+        assert_words(&rt, rt.alloc(), &mode, sentence)?;
+        assert_words(&rt, rt.alloc(), &StreamNackOptions::new(mode), sentence)?;
     }
     let policies = [
         (StreamDeletionPolicy::default(), "KEEPREF"),
@@ -60,7 +57,7 @@ fn words_alone(rt: HostRuntime) -> Result<(), Fail> {
         (StreamDeletionPolicy::Acked, "ACKED"),
     ];
     for (policy, sentence) in &policies {
-        assert_eq!(rt; words(rt.alloc(), policy)?.as_str(), *sentence);
+        assert_words(&rt, rt.alloc(), policy, sentence)?;
     }
     Ok(())
 }
@@ -88,7 +85,7 @@ fn add(rt: HostRuntime) -> Result<(), Fail> {
         ),
     ];
     for (options, sentence) in &table {
-        assert_eq!(rt; words(rt.alloc(), options)?.as_str(), *sentence);
+        assert_words(&rt, rt.alloc(), options, sentence)?;
     }
     Ok(())
 }
@@ -106,11 +103,8 @@ fn idempotency(rt: HostRuntime) -> Result<(), Fail> {
         (&manual, "IDMP producer-1 iid-1"),
         (&automatic, "IDMPAUTO producer-2"),
     ] {
-        assert_eq!(rt; words(rt.alloc(), mode)?.as_str(), sentence);
-        assert_eq!(rt;
-            words(rt.alloc(), &mode.try_clone(rt.alloc())?)?.as_str(),
-            sentence
-        );
+        assert_words(&rt, rt.alloc(), mode, sentence)?;
+        assert_words(&rt, rt.alloc(), &mode.try_clone(rt.alloc())?, sentence)?;
     }
     Ok(())
 }
@@ -133,13 +127,10 @@ fn claims(rt: HostRuntime) -> Result<(), Fail> {
         (default().with_lastid(text(rt.alloc(), "")?), "LASTID "),
     ];
     for (options, sentence) in &table {
-        assert_eq!(rt; words(rt.alloc(), options)?.as_str(), *sentence);
+        assert_words(&rt, rt.alloc(), options, sentence)?;
     }
     let automatic = StreamAutoClaimOptions::default().with_justid().count(3);
-    assert_eq!(rt; words(rt.alloc(), &automatic)?.as_str(), "COUNT 3 JUSTID");
-    assert_eq!(rt;
-        words(rt.alloc(), &StreamAutoClaimOptions::default())?.as_str(),
-        "-"
-    );
+    assert_words(&rt, rt.alloc(), &automatic, "COUNT 3 JUSTID")?;
+    assert_words(&rt, rt.alloc(), &StreamAutoClaimOptions::default(), "-")?;
     Ok(())
 }

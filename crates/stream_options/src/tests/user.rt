@@ -3,7 +3,7 @@ ghost use Rattle.std.specs.Prelude.{◌≡◌, ◌⊎◌, [], ◌∷◌, codes, 
 ghost use Rattle.redis_resp.specs.Room.{MayRefuse};
 ghost use Rattle.redis_resp.specs.declared.args.writer.WriteError.TheVariants.{Full};
 
-use crate::tests::{text, words};
+use crate::tests::{assert_words, text};
 use crate::{StreamDeletionPolicy, StreamTrimOptions, StreamTrimmingMode};
 use redis_resp::{FixedArgs, RedisWrite, ToRedisArgs, WriteError};
 use std::process::Abort;
@@ -49,9 +49,9 @@ impl RedisWrite for WithoutLimit {
 fn values_of_a_users_own(rt: HostRuntime) -> Result<(), Fail> {
     let alloc = rt.alloc();
     let flags = vec![in alloc; Flag(true), Flag(false)]?;
-    assert_eq!(rt; words(alloc, &flags)?.as_str(), "yes no");
-    assert_eq!(rt; words(alloc, &Some(Flag(false)))?.as_str(), "no");
-    assert_eq!(rt; words(alloc, &&Flag(true))?.as_str(), "yes");
+    assert_words(&rt, rt.alloc(), &flags, "yes no")?;
+    assert_words(&rt, rt.alloc(), &Some(Flag(false)), "no")?;
+    assert_words(&rt, rt.alloc(), &&Flag(true), "yes")?;
     Ok(())
 }
 

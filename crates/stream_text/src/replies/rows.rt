@@ -1,6 +1,8 @@
 //! Replies that hold entries.
 ghost use Rattle.stream_text.specs.Rows.{range_form, claim_form, key_form, read_form, autoclaim_form};
 
+mod stream_id;
+
 use crate::form::{PrintedForm, print_joined, print_listed};
 use redis_streams::{
     StreamAutoClaimReply, StreamClaimReply, StreamKey, StreamRangeReply, StreamReadReply,

@@ -1,85 +1,93 @@
 //! Vectors of `XADD`.
-ghost use Rattle.std.specs.Prelude.{◌≡◌, ◌+◌, OnOk, vec_len};
-
-use crate::print::Row;
-use crate::vectors::row::push_row;
+use crate::vectors::row::OptionsVector;
 use std::alloc::{AllocError, Global};
 use stream_options::{
     StreamAddOptions, StreamDeletionPolicy, StreamTrimStrategy, StreamTrimmingMode,
 };
 
-/// Adds the vectors of add options, v09 to v19.
-pub fn push_add_rows(alloc: Global, rows: &mut Vec<Row>) -> Result<(), AllocError>
-    ensures { OnOk result (vec_len rows.new ≡ vec_len rows.old + 11) }
-{
-    push_trimmed_rows(alloc, rows)?;
-    push_idempotent_rows(alloc, rows)?;
-    push_full_rows(alloc, rows)
+/// Add options without idempotency, v09 to v12.
+pub fn trimmed_vectors() -> [OptionsVector<StreamAddOptions>; 4] {
+    [
+        ("v09", StreamAddOptions::default(), "-"),
+        (
+            "v10",
+            StreamAddOptions::default().trim(exactly(10)),
+            "MAXLEN = 10",
+        ),
+        (
+            "v11",
+            StreamAddOptions::default().nomkstream(),
+            "NOMKSTREAM",
+        ),
+        (
+            "v12",
+            StreamAddOptions::default().nomkstream().trim(exactly(10)),
+            "NOMKSTREAM MAXLEN = 10",
+        ),
+    ]
 }
 
-fn push_trimmed_rows(alloc: Global, rows: &mut Vec<Row>) -> Result<(), AllocError>
-    ensures { OnOk result (vec_len rows.new ≡ vec_len rows.old + 4) }
-{
-    push_row(alloc, rows, "v09", &StreamAddOptions::default(), "-")?;
-    let v10 = StreamAddOptions::default().trim(exactly(10));
-    push_row(alloc, rows, "v10", &v10, "MAXLEN = 10")?;
-    let v11 = StreamAddOptions::default().nomkstream();
-    push_row(alloc, rows, "v11", &v11, "NOMKSTREAM")?;
-    let v12 = StreamAddOptions::default().nomkstream().trim(exactly(10));
-    push_row(alloc, rows, "v12", &v12, "NOMKSTREAM MAXLEN = 10")
+/// Add options with idempotency, v13 to v16.
+pub fn idempotent_vectors(
+    alloc: Global,
+) -> Result<[OptionsVector<StreamAddOptions>; 4], AllocError> {
+    let automatic = StreamAddOptions::default().idmpauto(String::from_str(alloc, "producer-1")?);
+    Ok([
+        (
+            "v13",
+            produced(alloc, StreamAddOptions::default())?,
+            "IDMP producer-1 iid-1",
+        ),
+        ("v14", automatic, "IDMPAUTO producer-1"),
+        (
+            "v15",
+            produced(alloc, StreamAddOptions::default().nomkstream())?,
+            "NOMKSTREAM IDMP producer-1 iid-1",
+        ),
+        (
+            "v16",
+            produced(alloc, StreamAddOptions::default().trim(exactly(100)))?,
+            "IDMP producer-1 iid-1 MAXLEN = 100",
+        ),
+    ])
 }
 
-fn push_idempotent_rows(alloc: Global, rows: &mut Vec<Row>) -> Result<(), AllocError>
-    ensures { OnOk result (vec_len rows.new ≡ vec_len rows.old + 4) }
-{
-    let v13 = produced(alloc, StreamAddOptions::default())?;
-    push_row(alloc, rows, "v13", &v13, "IDMP producer-1 iid-1")?;
-    let v14 = StreamAddOptions::default().idmpauto(String::from_str(alloc, "producer-1")?);
-    push_row(alloc, rows, "v14", &v14, "IDMPAUTO producer-1")?;
-    let v15 = produced(alloc, StreamAddOptions::default().nomkstream())?;
-    push_row(alloc, rows, "v15", &v15, "NOMKSTREAM IDMP producer-1 iid-1")?;
-    let v16 = produced(alloc, StreamAddOptions::default().trim(exactly(100)))?;
-    push_row(
-        alloc,
-        rows,
-        "v16",
-        &v16,
-        "IDMP producer-1 iid-1 MAXLEN = 100",
-    )
-}
-
-fn push_full_rows(alloc: Global, rows: &mut Vec<Row>) -> Result<(), AllocError>
-    ensures { OnOk result (vec_len rows.new ≡ vec_len rows.old + 3) }
-{
+/// Add options with all settings, and with one that is set twice, v17 to v19.
+pub fn full_vectors(alloc: Global) -> Result<[OptionsVector<StreamAddOptions>; 3], AllocError> {
     let about = StreamTrimStrategy::maxlen(StreamTrimmingMode::Approx, 100);
-    let v17 = produced(
-        alloc,
-        StreamAddOptions::default().nomkstream().trim(about),
-    )?.set_deletion_policy(StreamDeletionPolicy::KeepRef);
-    push_row(
-        alloc,
-        rows,
-        "v17",
-        &v17,
-        "NOMKSTREAM KEEPREF IDMP producer-1 iid-1 MAXLEN ~ 100",
-    )?;
+    let manual = produced(alloc, StreamAddOptions::default().nomkstream().trim(about))?;
     let from = String::from_str(alloc, "123456-0")?;
-    let v18 = StreamAddOptions::default()
+    let automatic = StreamAddOptions::default()
         .nomkstream()
         .trim(StreamTrimStrategy::minid(StreamTrimmingMode::Exact, from))
-        .idmpauto(String::from_str(alloc, "producer-2")?)
-        .set_deletion_policy(StreamDeletionPolicy::DelRef);
-    push_row(
-        alloc,
-        rows,
-        "v18",
-        &v18,
-        "NOMKSTREAM DELREF IDMPAUTO producer-2 MINID = 123456-0",
-    )?;
-    let v19 = StreamAddOptions::default()
+        .idmpauto(String::from_str(alloc, "producer-2")?);
+    let twice = StreamAddOptions::default()
         .idmp(String::from_str(alloc, "a")?, String::from_str(alloc, "b")?)
         .idmpauto(String::from_str(alloc, "NOMKSTREAM")?);
-    push_row(alloc, rows, "v19", &v19, "IDMPAUTO NOMKSTREAM")
+    Ok([
+        (
+            "v17",
+            manual.set_deletion_policy(StreamDeletionPolicy::KeepRef),
+            "NOMKSTREAM KEEPREF IDMP producer-1 iid-1 MAXLEN ~ 100",
+        ),
+        (
+            "v18",
+            automatic.set_deletion_policy(StreamDeletionPolicy::DelRef),
+            "NOMKSTREAM DELREF IDMPAUTO producer-2 MINID = 123456-0",
+        ),
+        ("v19", twice, "IDMPAUTO NOMKSTREAM"),
+    ])
+}
+
+/// Add options whose texts spell keywords, v66.
+pub fn keyword_vectors(alloc: Global) -> Result<[OptionsVector<StreamAddOptions>; 1], AllocError> {
+    let from = String::from_str(alloc, "=")?;
+    let producer_id = String::from_str(alloc, "NOMKSTREAM")?;
+    let idempotent_id = String::from_str(alloc, "IDMPAUTO")?;
+    let options = StreamAddOptions::default()
+        .idmp(producer_id, idempotent_id)
+        .trim(StreamTrimStrategy::minid(StreamTrimmingMode::Approx, from).limit(0));
+    Ok([("v66", options, "IDMP NOMKSTREAM IDMPAUTO MINID ~ = LIMIT 0")])
 }
 
 // So many entries stay, exactly.

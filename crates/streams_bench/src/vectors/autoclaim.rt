@@ -1,62 +1,62 @@
-//! Vectors of `XAUTOCLAIM`.
-ghost use Rattle.std.specs.Prelude.{◌≡◌, ◌+◌, OnOk, vec_len};
+//! Vectors of replies to `XAUTOCLAIM`.
+use crate::vectors::row::ReplyVector;
 
-use crate::print::Row;
-use crate::vectors::row::push_reply_row;
-use redis_streams::StreamAutoClaimReply;
-use std::alloc::{AllocError, Global};
-
-/// Adds the vectors of automatic claim replies, v44 to v52.
-pub fn push_autoclaim_rows(alloc: Global, rows: &mut Vec<Row>) -> Result<(), AllocError>
-    ensures { OnOk result (vec_len rows.new ≡ vec_len rows.old + 9) }
-{
-    push_claimed_rows(alloc, rows)?;
-    push_invalid_rows(alloc, rows)
+/// Automatic claims, v44 to v52.
+pub fn autoclaim_vectors() -> [ReplyVector<'static>; 9] {
+    [
+        ("v44", "Array[1713465536578-0]", "refused 7"),
+        (
+            "v45",
+            "Array[0-0, Array[], Array[]]",
+            "next=0-0 claimed=[] deleted=[] invalid=false",
+        ),
+        (
+            "v46",
+            "Array[1713465536578-0, Array[Array[1713465533411-0, Array[name, test, other, whaterver]], Array[1713465536069-0, Array[name, \"another test\", other, something]]], Array[123456789-0]]",
+            "next=1713465536578-0 claimed=[1713465533411-0(name=test,other=whaterver) 1713465536069-0(name=another test,other=something)] deleted=[123456789-0] invalid=false",
+        ),
+        (
+            "v47",
+            "Array[1713465536578-0, Array[Array[1713465533411-0, Array[name, test, other, whaterver]], Array[1713465536069-0, Array[name, \"another test\", other, something]]]]",
+            "next=1713465536578-0 claimed=[1713465533411-0(name=test,other=whaterver) 1713465536069-0(name=another test,other=something)] deleted=[] invalid=false",
+        ),
+        (
+            "v48",
+            "Array[1713465536578-0, Array[1713465533411-0, 1713465536069-0], Array[123456789-0]]",
+            "next=1713465536578-0 claimed=[1713465533411-0() 1713465536069-0()] deleted=[123456789-0] invalid=false",
+        ),
+        (
+            "v49",
+            "Array[1713465536578-0, Array[1713465533411-0, 1713465536069-0]]",
+            "next=1713465536578-0 claimed=[1713465533411-0() 1713465536069-0()] deleted=[] invalid=false",
+        ),
+        (
+            "v50",
+            "Array[0-0, Array[Nil, Nil]]",
+            "next=0-0 claimed=[] deleted=[] invalid=true",
+        ),
+        (
+            "v51",
+            "Array[0-0, Array[Nil, Array[1-0, Array[], 2-0, Array[]]]]",
+            "next=0-0 claimed=[1-0() 2-0()] deleted=[] invalid=false",
+        ),
+        ("v52", "Array[0-0, Map[]]", "refused 8"),
+    ]
 }
 
-fn push_claimed_rows(alloc: Global, rows: &mut Vec<Row>) -> Result<(), AllocError>
-    ensures { OnOk result (vec_len rows.new ≡ vec_len rows.old + 6) }
-{
-    let value = "Array[1713465536578-0]";
-    let stored = "refused 7";
-    push_reply_row::<StreamAutoClaimReply>(alloc, rows, "v44", value, stored)?;
-    let value = "Array[0-0, Array[], Array[]]";
-    let stored = "next=0-0 claimed=[] deleted=[] invalid=false";
-    push_reply_row::<StreamAutoClaimReply>(alloc, rows, "v45", value, stored)?;
-    let value = "Array[1713465536578-0, Array[Array[1713465533411-0, Array[name, test, \
-        other, whaterver]], Array[1713465536069-0, Array[name, \"another test\", \
-        other, something]]], Array[123456789-0]]";
-    let stored = "next=1713465536578-0 claimed=[1713465533411-0(name=test,other=whaterver) \
-        1713465536069-0(name=another test,other=something)] deleted=[123456789-0] \
-        invalid=false";
-    push_reply_row::<StreamAutoClaimReply>(alloc, rows, "v46", value, stored)?;
-    let value = "Array[1713465536578-0, Array[Array[1713465533411-0, Array[name, test, \
-        other, whaterver]], Array[1713465536069-0, Array[name, \"another test\", \
-        other, something]]]]";
-    let stored = "next=1713465536578-0 claimed=[1713465533411-0(name=test,other=whaterver) \
-        1713465536069-0(name=another test,other=something)] deleted=[] invalid=false";
-    push_reply_row::<StreamAutoClaimReply>(alloc, rows, "v47", value, stored)?;
-    let value = "Array[1713465536578-0, Array[1713465533411-0, 1713465536069-0], \
-        Array[123456789-0]]";
-    let stored = "next=1713465536578-0 claimed=[1713465533411-0() 1713465536069-0()] \
-        deleted=[123456789-0] invalid=false";
-    push_reply_row::<StreamAutoClaimReply>(alloc, rows, "v48", value, stored)?;
-    let value = "Array[1713465536578-0, Array[1713465533411-0, 1713465536069-0]]";
-    let stored = "next=1713465536578-0 claimed=[1713465533411-0() 1713465536069-0()] \
-        deleted=[] invalid=false";
-    push_reply_row::<StreamAutoClaimReply>(alloc, rows, "v49", value, stored)
-}
-
-fn push_invalid_rows(alloc: Global, rows: &mut Vec<Row>) -> Result<(), AllocError>
-    ensures { OnOk result (vec_len rows.new ≡ vec_len rows.old + 3) }
-{
-    let value = "Array[0-0, Array[Nil, Nil]]";
-    let stored = "next=0-0 claimed=[] deleted=[] invalid=true";
-    push_reply_row::<StreamAutoClaimReply>(alloc, rows, "v50", value, stored)?;
-    let value = "Array[0-0, Array[Nil, Array[1-0, Array[], 2-0, Array[]]]]";
-    let stored = "next=0-0 claimed=[1-0() 2-0()] deleted=[] invalid=false";
-    push_reply_row::<StreamAutoClaimReply>(alloc, rows, "v51", value, stored)?;
-    let value = "Array[0-0, Map[]]";
-    let stored = "refused 8";
-    push_reply_row::<StreamAutoClaimReply>(alloc, rows, "v52", value, stored)
+/// Automatic claims with attributes around nil, and of mixed kinds, v81 to v83.
+pub fn odd_autoclaim_vectors() -> [ReplyVector<'static>; 3] {
+    [
+        ("v81", "Array[0-0, Array[Nil, Attr(Nil), 1-0]]", "refused 8"),
+        (
+            "v82",
+            "Array[0-0, Array[1-0, Attr(Nil)]]",
+            "next=0-0 claimed=[1-0()] deleted=[] invalid=true",
+        ),
+        (
+            "v83",
+            "Array[0-0, Array[Array[1-0, Nil], 2-0]]",
+            "refused 4",
+        ),
+    ]
 }

@@ -1,33 +1,38 @@
 //! Vectors of `XAUTOCLAIM` and `XCLAIM`.
-ghost use Rattle.std.specs.Prelude.{◌≡◌, ◌+◌, OnOk, vec_len};
-
-use crate::print::Row;
-use crate::vectors::row::push_row;
+use crate::vectors::row::OptionsVector;
 use std::alloc::{AllocError, Global};
 use stream_options::{StreamAutoClaimOptions, StreamClaimOptions};
 
-/// Adds the vectors of claim options, v29 to v31.
-pub fn push_claim_rows(alloc: Global, rows: &mut Vec<Row>) -> Result<(), AllocError>
-    ensures { OnOk result (vec_len rows.new ≡ vec_len rows.old + 3) }
-{
-    let v29 = StreamAutoClaimOptions::default().with_justid().count(3);
-    push_row(alloc, rows, "v29", &v29, "COUNT 3 JUSTID")?;
-    let last = String::from_str(alloc, "1-0")?;
-    let v30 = StreamClaimOptions::default()
-        .with_lastid(last)
+/// Automatic claim options, v29.
+pub fn autoclaim_vectors() -> [OptionsVector<StreamAutoClaimOptions>; 1] {
+    [(
+        "v29",
+        StreamAutoClaimOptions::default().with_justid().count(3),
+        "COUNT 3 JUSTID",
+    )]
+}
+
+/// Claim options, v30 and v31.
+pub fn claim_vectors(alloc: Global) -> Result<[OptionsVector<StreamClaimOptions>; 2], AllocError> {
+    let forced = StreamClaimOptions::default()
+        .with_lastid(String::from_str(alloc, "1-0")?)
         .with_force()
         .idle(7);
-    push_row(alloc, rows, "v30", &v30, "IDLE 7 FORCE LASTID 1-0")?;
-    let v31 = StreamClaimOptions::default()
+    let retried = StreamClaimOptions::default()
         .retry(4)
         .time(9)
         .with_justid()
         .idle(0);
-    push_row(
-        alloc,
-        rows,
-        "v31",
-        &v31,
-        "IDLE 0 TIME 9 RETRYCOUNT 4 JUSTID",
-    )
+    Ok([
+        ("v30", forced, "IDLE 7 FORCE LASTID 1-0"),
+        ("v31", retried, "IDLE 0 TIME 9 RETRYCOUNT 4 JUSTID"),
+    ])
+}
+
+/// Claim options whose id spells a keyword, v67.
+pub fn keyword_vectors(
+    alloc: Global,
+) -> Result<[OptionsVector<StreamClaimOptions>; 1], AllocError> {
+    let options = StreamClaimOptions::default().with_lastid(String::from_str(alloc, "FORCE")?);
+    Ok([("v67", options, "LASTID FORCE")])
 }

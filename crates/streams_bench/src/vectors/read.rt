@@ -1,36 +1,48 @@
-//! Vectors of `XREADGROUP` and `XNACK`.
-ghost use Rattle.std.specs.Prelude.{◌≡◌, ◌+◌, OnOk, vec_len};
-
-use crate::print::Row;
-use crate::vectors::row::push_row;
+//! Vectors of `XREAD`, `XREADGROUP` and `XNACK`.
+use crate::vectors::row::OptionsVector;
 use std::alloc::{AllocError, Global};
 use stream_options::{StreamNackMode, StreamNackOptions, StreamReadOptions};
 
-/// Adds the vectors of read and nack options, v32 to v35.
-pub fn push_read_rows(alloc: Global, rows: &mut Vec<Row>) -> Result<(), AllocError>
-    ensures { OnOk result (vec_len rows.new ≡ vec_len rows.old + 4) }
-{
-    let v32 = StreamReadOptions::default().noack().claim(100);
-    push_row(alloc, rows, "v32", &v32, "-")?;
-    let v33 = StreamReadOptions::default()
+/// Read options, v32 to v34.
+pub fn read_vectors(alloc: Global) -> Result<[OptionsVector<StreamReadOptions>; 3], AllocError> {
+    let alone = StreamReadOptions::default().noack().claim(100);
+    let grouped = StreamReadOptions::default()
         .claim(100)
         .noack()
         .count(2)
         .block(5)
         .group(alloc, "g", "c")?;
-    push_row(
-        alloc,
-        rows,
-        "v33",
-        &v33,
-        "GROUP g c BLOCK 5 COUNT 2 NOACK CLAIM 100",
-    )?;
-    let nobody: Vec<&str> = Vec::new(alloc);
+    let nothing: Vec<&str> = Vec::new(alloc);
     let somebody = vec![in alloc; "c", "BLOCK"]?;
-    let v34 = StreamReadOptions::default()
-        .group(alloc, nobody, somebody)?
+    let unnamed = StreamReadOptions::default()
+        .group(alloc, nothing, somebody)?
         .count(2);
-    push_row(alloc, rows, "v34", &v34, "GROUP c BLOCK COUNT 2")?;
-    let v35 = StreamNackOptions::new(StreamNackMode::Fail);
-    push_row(alloc, rows, "v35", &v35, "FAIL")
+    Ok([
+        ("v32", alone, "-"),
+        ("v33", grouped, "GROUP g c BLOCK 5 COUNT 2 NOACK CLAIM 100"),
+        ("v34", unnamed, "GROUP c BLOCK COUNT 2"),
+    ])
+}
+
+/// Nack options, v35.
+pub fn nack_vectors() -> [OptionsVector<StreamNackOptions>; 1] {
+    [("v35", StreamNackOptions::new(StreamNackMode::Fail), "FAIL")]
+}
+
+/// Read options whose names are no argument, or several, v68 and v69.
+pub fn names_vectors(alloc: Global) -> Result<[OptionsVector<StreamReadOptions>; 2], AllocError> {
+    let nothing: Vec<&str> = Vec::new(alloc);
+    let nobody: Vec<&str> = Vec::new(alloc);
+    let unnamed = StreamReadOptions::default()
+        .group(alloc, nothing, nobody)?
+        .noack();
+    let groups = vec![in alloc; "g", "h"]?;
+    let consumers = vec![in alloc; "c"]?;
+    let named = StreamReadOptions::default()
+        .group(alloc, groups, consumers)?
+        .claim(1);
+    Ok([
+        ("v68", unnamed, "GROUP NOACK"),
+        ("v69", named, "GROUP g h c CLAIM 1"),
+    ])
 }

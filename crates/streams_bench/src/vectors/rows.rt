@@ -1,44 +1,93 @@
-//! Vectors of `XRANGE`, `XCLAIM`, `XREAD` and `XREADGROUP`.
-ghost use Rattle.std.specs.Prelude.{◌≡◌, ◌+◌, OnOk, vec_len};
+//! Vectors of replies to `XRANGE`, `XCLAIM`, `XREAD` and `XREADGROUP`.
+use crate::vectors::row::ReplyVector;
 
-use crate::print::Row;
-use crate::vectors::row::push_reply_row;
-use redis_streams::{StreamClaimReply, StreamRangeReply, StreamReadReply};
-use std::alloc::{AllocError, Global};
-
-/// Adds the vectors of range and claim replies, v36 to v39.
-pub fn push_range_rows(alloc: Global, rows: &mut Vec<Row>) -> Result<(), AllocError>
-    ensures { OnOk result (vec_len rows.new ≡ vec_len rows.old + 4) }
-{
-    let value = "Array[Array[1-0, Array[f, v]]]";
-    let stored = "1-0(f=v)";
-    push_reply_row::<StreamRangeReply>(alloc, rows, "v36", value, stored)?;
-    let value = "Map[1-0: Array[f, v]]";
-    let stored = "1-0(f=v)";
-    push_reply_row::<StreamRangeReply>(alloc, rows, "v37", value, stored)?;
-    let value = "Array[Array[1-0, Array[a, b], 2-0, Nil, 1-0, Array[]]]";
-    let stored = "1-0() 2-0()";
-    push_reply_row::<StreamRangeReply>(alloc, rows, "v38", value, stored)?;
-    let value = "Nil";
-    let stored = "-";
-    push_reply_row::<StreamClaimReply>(alloc, rows, "v39", value, stored)
+/// Ranges, v36 to v38.
+pub fn range_vectors() -> [ReplyVector<'static>; 3] {
+    [
+        ("v36", "Array[Array[1-0, Array[f, v]]]", "1-0(f=v)"),
+        ("v37", "Map[1-0: Array[f, v]]", "1-0(f=v)"),
+        (
+            "v38",
+            "Array[Array[1-0, Array[a, b], 2-0, Nil, 1-0, Array[]]]",
+            "1-0() 2-0()",
+        ),
+    ]
 }
 
-/// Adds the vectors of read replies, v40 to v43.
-pub fn push_read_reply_rows(alloc: Global, rows: &mut Vec<Row>) -> Result<(), AllocError>
-    ensures { OnOk result (vec_len rows.new ≡ vec_len rows.old + 4) }
-{
-    let value = "Map[s: Array[Array[1-0, Array[f, v], Int 5, Int 2]]]";
-    let stored = "s[1-0(f=v)@5#2]";
-    push_reply_row::<StreamReadReply>(alloc, rows, "v40", value, stored)?;
-    let value = "Array[Array[s, Array[Array[1-0, Array[f, v], Int 5, Nil]]]]";
-    let stored = "s[1-0(f=v) 5()]";
-    push_reply_row::<StreamReadReply>(alloc, rows, "v41", value, stored)?;
-    let value = "Array[Array[s, Array[Array[5, Array[f, v], Int 5, Nil]]]]";
-    let stored = "s[5()]";
-    push_reply_row::<StreamReadReply>(alloc, rows, "v42", value, stored)?;
-    let value = "Array[Array[s, Array[Array[1-0, Array[f, v]], Array[2-0, Array[f, v], Int \
-        5, Int 2]]]]";
-    let stored = "refused 9";
-    push_reply_row::<StreamReadReply>(alloc, rows, "v43", value, stored)
+/// Claims, v39.
+pub fn claim_vectors() -> [ReplyVector<'static>; 1] {
+    [("v39", "Nil", "-")]
+}
+
+/// Reads, v40 to v43.
+pub fn read_vectors() -> [ReplyVector<'static>; 4] {
+    [
+        (
+            "v40",
+            "Map[s: Array[Array[1-0, Array[f, v], Int 5, Int 2]]]",
+            "s[1-0(f=v)@5#2]",
+        ),
+        (
+            "v41",
+            "Array[Array[s, Array[Array[1-0, Array[f, v], Int 5, Nil]]]]",
+            "s[1-0(f=v) 5()]",
+        ),
+        (
+            "v42",
+            "Array[Array[s, Array[Array[5, Array[f, v], Int 5, Nil]]]]",
+            "s[5()]",
+        ),
+        (
+            "v43",
+            "Array[Array[s, Array[Array[1-0, Array[f, v]], Array[2-0, Array[f, v], Int 5, Int 2]]]]",
+            "refused 9",
+        ),
+    ]
+}
+
+/// Ranges with attributes, bytes that are no text, and odd shapes, v70 to v76.
+pub fn odd_range_vectors() -> [ReplyVector<'static>; 7] {
+    [
+        (
+            "v70",
+            "Attr(Array[Attr(Array[Attr(1-0), Attr(Map[Attr(f): Attr(v)])])])",
+            "1-0(f=v)",
+        ),
+        ("v71", "Array[Array[1-0, Array[f]]]", "refused 4"),
+        ("v72", "Array[Array[Bytes(255), Nil]]", "refused 1"),
+        ("v73", "Array[Array[1-0, Array[f, Bytes(255)]]]", "1-0(f=?)"),
+        ("v74", "Array[Array[1-0, x, 1-0, Nil]]", "refused 4"),
+        (
+            "v75",
+            "Set[Array[Int 7, Array[f, Boolean(true)]]]",
+            "7(f=?)",
+        ),
+        ("v76", "Push(message)[Array[1-0, Nil]]", "refused 3"),
+    ]
+}
+
+/// Reads with numbers at their bounds and missing ones, v77 to v80.
+pub fn odd_read_vectors() -> [ReplyVector<'static>; 4] {
+    [
+        (
+            "v77",
+            "Array[Array[s, Array[Array[1-0, Nil, 18446744073709551615, Int 0]]]]",
+            "s[1-0()@18446744073709551615#0]",
+        ),
+        (
+            "v78",
+            "Array[Array[s, Array[Array[1-0, Nil, 18446744073709551616, Int 0]]]]",
+            "refused 9",
+        ),
+        (
+            "v79",
+            "Array[Array[s, Array[Array[1-0, Nil, Nil, Int 2]]]]",
+            "s[1-0()#2]",
+        ),
+        (
+            "v80",
+            "Array[Array[s, Array[Array[1-0, Nil, Nil, Nil]]]]",
+            "s[1-0()]",
+        ),
+    ]
 }

@@ -1,6 +1,6 @@
 //! Bytes by both calls.
 use crate::args::RawBytes;
-use crate::value::samples::{attributed, both_answer, bulk, collections, simple, verbatim};
+use crate::value::tests::samples::{attributed, both_answer, bulk, collections, simple, verbatim};
 use crate::value::{ParsingError, Value};
 use std::test::Fail;
 

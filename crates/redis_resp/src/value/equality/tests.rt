@@ -1,5 +1,5 @@
 //! Values that differ, copies, and values that are read as they are.
-use crate::value::samples::{attributed, both_answer, bulk, collections, simple, verbatim};
+use crate::value::tests::samples::{attributed, both_answer, bulk, collections, simple, verbatim};
 use crate::value::{ParsingError, Value};
 use std::test::Fail;
 

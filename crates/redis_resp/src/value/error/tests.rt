@@ -1,4 +1,6 @@
-//! The text of each refusal.
+//! The text of each refusal, and equality, as a caller can prove of it.
+ghost use Rattle.std.specs.Prelude.{◌≡◌, ◌↔◌, IsTrue};
+
 use crate::value::ParsingError;
 use std::test::Fail;
 
@@ -58,4 +60,17 @@ fn refusals_are_printed(rt: HostRuntime) -> Result<(), Fail> {
         assert_eq!(rt; format!(in rt.alloc(); "{error}")?.as_str(), text);
     }
     Ok(())
+}
+
+fn are_equal(a: ParsingError, b: ParsingError) -> bool
+    ensures { IsTrue result ↔ (a ≡ b) }
+{
+    a == b
+}
+
+#[test]
+fn equal_refusals_are_told(rt: HostRuntime) {
+    assert!(rt; are_equal(ParsingError::NotTuple(2), ParsingError::NotTuple(2)));
+    assert!(rt; !are_equal(ParsingError::NotTuple(2), ParsingError::NotTuple(4)));
+    assert!(rt; !are_equal(ParsingError::NotList, ParsingError::NotPairs));
 }

@@ -1,5 +1,5 @@
 //! Numbers by both calls of each type.
-use crate::value::samples::{attributed, both_answer, bulk, collections, simple};
+use crate::value::tests::samples::{attributed, both_answer, bulk, collections, simple};
 use crate::value::{FromRedisValue, ParsingError, Value, usize_of};
 use std::alloc::{AllocError, Global};
 use std::test::Fail;

@@ -1,6 +1,6 @@
 //! Options by both calls.
-use crate::value::flag::Flag;
-use crate::value::samples::{attributed, both_answer, bulk};
+use crate::value::tests::samples::{attributed, both_answer, bulk};
+use crate::value::tests::user_type::Flag;
 use crate::value::{ParsingError, Value};
 use std::test::Fail;
 

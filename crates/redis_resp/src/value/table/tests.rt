@@ -1,6 +1,6 @@
 //! Pairs and tables by both calls.
-use crate::value::flag::Flag;
-use crate::value::samples::{attributed, both_answer, bulk, pairs};
+use crate::value::tests::samples::{attributed, both_answer, bulk, pairs};
+use crate::value::tests::user_type::Flag;
 use crate::value::{
     FromRedisValue, PairList, ParsingError, Value, from_redis_value, from_redis_value_ref,
 };
@@ -144,12 +144,12 @@ fn numbered(alloc: Global, count: i64) -> Result<Value, AllocError> {
 fn a_large_table_is_read(rt: HostRuntime) -> Result<(), Fail> {
     let alloc = rt.alloc();
     let value = numbered(alloc, 10000)?;
-    let lent: HashMap<String, Value> = HashMap::from_redis_value_ref(alloc, &value)?;
-    assert_eq!(rt; lent.len(), 10000);
-    assert!(rt; lent.get("n9999") == Some(&Value::Int(9999)));
-    let lent: IndexMap<String, i64> = IndexMap::from_redis_value_ref(alloc, &value)?;
+    let borrowed: HashMap<String, Value> = HashMap::from_redis_value_ref(alloc, &value)?;
+    assert_eq!(rt; borrowed.len(), 10000);
+    assert!(rt; borrowed.get("n9999") == Some(&Value::Int(9999)));
+    let borrowed: IndexMap<String, i64> = IndexMap::from_redis_value_ref(alloc, &value)?;
     let owned: IndexMap<String, i64> = IndexMap::from_redis_value(alloc, value)?;
-    for table in [lent, owned] {
+    for table in [borrowed, owned] {
         assert_eq!(rt; table.len(), 10000);
         for (i, entry) in table.iter().enumerate() {
             assert_eq!(rt; usize::try_from(*entry.1), Ok(i));

@@ -1,5 +1,5 @@
 //! Texts by both calls.
-use crate::value::samples::{attributed, both_answer, bulk, collections, simple, verbatim};
+use crate::value::tests::samples::{attributed, both_answer, bulk, collections, simple, verbatim};
 use crate::value::{ParsingError, Value};
 use std::test::Fail;
 

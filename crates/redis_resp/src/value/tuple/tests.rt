@@ -1,6 +1,6 @@
 //! Tuples by both calls, and the members that they are read from.
-use crate::value::samples::{attributed, both_answer, bulk, bulks, pairs};
-use crate::value::{ParsingError, Value, four_ref, into_four, into_two, two_ref};
+use crate::value::tests::samples::{attributed, both_answer, bulk, bulks, pairs};
+use crate::value::{ParsingError, Value, into_four, into_two};
 use std::test::Fail;
 
 #[test]
@@ -45,21 +45,26 @@ fn only_arrays_of_the_length_are_tuples(rt: HostRuntime) -> Result<(), Fail> {
         let four = Err(ParsingError::NotTuple(4));
         assert!(rt; both_answer::<(String, String, String, String)>(alloc, again, &four)?);
     }
+    let one = Value::Map(vec![in alloc; (bulk(alloc, b"x")?, Value::Int(1))]?);
+    assert!(rt; both_answer::<(String, u32)>(alloc, one, &Err(ParsingError::NotTuple(2)))?);
     let unreadable = Value::Array(bulks(alloc, &["x", "y"])?);
     assert!(rt; both_answer::<(String, u32)>(alloc, unreadable, &Err(ParsingError::NotNumber))?);
+    let last = Value::Array(bulks(alloc, &["w", "x", "y", "z"])?);
+    let refusal = Err(ParsingError::NotNumber);
+    assert!(rt; both_answer::<(String, String, String, u32)>(alloc, last, &refusal)?);
     Ok(())
 }
 
 #[test]
-fn members_are_lent_and_moved(rt: HostRuntime) -> Result<(), Fail> {
+fn members_are_borrowed_and_moved(rt: HostRuntime) -> Result<(), Fail> {
     let alloc = rt.alloc();
     let two = Value::Array(vec![in alloc; Value::Int(1), Value::Int(2)]?);
-    assert!(rt; two_ref(&two) == Some((&Value::Int(1), &Value::Int(2))));
-    assert!(rt; four_ref(&two).is_none());
+    assert!(rt; into_two(&two) == Some((&Value::Int(1), &Value::Int(2))));
+    assert!(rt; into_four(&two).is_none());
     assert!(rt; into_two(two) == Some((Value::Int(1), Value::Int(2))));
     let four = Value::Array(vec![in alloc; Value::Int(1), Value::Nil, Value::Okay, Value::Nil]?);
-    assert!(rt; two_ref(&four).is_none());
-    assert!(rt; four_ref(&four) == Some((&Value::Int(1), &Value::Nil, &Value::Okay, &Value::Nil)));
+    assert!(rt; into_two(&four).is_none());
+    assert!(rt; into_four(&four) == Some((&Value::Int(1), &Value::Nil, &Value::Okay, &Value::Nil)));
     assert!(rt; into_four(four) == Some((Value::Int(1), Value::Nil, Value::Okay, Value::Nil)));
     Ok(())
 }

@@ -1,7 +1,8 @@
 use Rattle.std.proofs.Common.{◌≡◌, ◌++◌, map, option_map, length}
 use Rattle.std.specs.Vec.Iter.{into_iter_items, into_iter_len}
 use Rattle.redis_streams.specs.Pending.{consumers_of}
-use Rattle.redis_streams.specs.PendingRecords.{consumer_meaning, row_meaning}
+use Rattle.redis_streams.specs.InfoMeaning.{consumer_meaning}
+use Rattle.redis_streams.specs.PendingMeaning.{row_meaning}
 use Rattle.redis_streams.proofs.pending.summary.read_consumers.Given as goal
 
 abbrev pub invariant-loop-row : goal.invariant-loop-row

@@ -1,0 +1,9 @@
+use Rattle.redis_streams.proofs.info.stream.stream_fields.Goals as goal
+
+pub returns-clause-first_entry : goal.returns-clause-first_entry
+returns-clause-first_entry g c =
+    let after_first = c.take_field.ensures.rest in
+    let after_second = rw after_first at c.take_field-2.ensures.rest in
+    let after_third = rw after_second at c.take_field-3.ensures.rest in
+    let after_fourth = rw after_third at c.take_field-4.ensures.rest in
+    rw after_fourth at c.take_field-5.ensures.field

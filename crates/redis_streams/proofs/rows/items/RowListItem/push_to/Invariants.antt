@@ -1,0 +1,10 @@
+use Rattle.std.proofs.Common.{◌≡◌, ◌++◌, map}
+use Rattle.redis_resp.specs.Table.{entries_meaning}
+use Rattle.redis_streams.specs.Entry.{entry_of}
+use Rattle.redis_streams.specs.EntryMeaning.{entries_of, fields_of}
+use Rattle.redis_streams.proofs.rows.items.RowListItem.push_to.Given as goal
+
+abbrev pub invariant-loop-id : goal.invariant-loop-id
+invariant-loop-id l =
+    entries_of l.ids ++ map entry_of (entries_meaning fields_of l.id-iterator)
+    ≡ entries_of l.initial.ids ++ map entry_of (entries_meaning fields_of l.initial.id-iterator)

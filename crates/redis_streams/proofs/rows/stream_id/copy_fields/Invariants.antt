@@ -1,0 +1,6 @@
+use Rattle.redis_streams.proofs.FieldsLemmas.{Copied}
+use Rattle.redis_streams.specs.EntryMeaning.{fields_of}
+use Rattle.redis_streams.proofs.rows.stream_id.copy_fields.Given as goal
+
+abbrev pub invariant-loop-name : goal.invariant-loop-name
+invariant-loop-name l = Copied l.fields.entries l.name-iterator (fields_of l.copies)

@@ -1,0 +1,101 @@
+//! What stands in a list of entries.
+ghost use Rattle.std.specs.Prelude.{◌≡◌, ◌++◌, ◌∷◌, [], List, map, flat_map, Some, IfOk, IfErr, OnOk, option_map, string_bytes};
+ghost use Rattle.redis_resp.specs.Refusal.{Refuses};
+ghost use Rattle.redis_streams.specs.AutoClaim.{id_entries};
+ghost use Rattle.redis_streams.specs.Entry.{Entry, entry_of};
+ghost use Rattle.redis_streams.specs.EntryMeaning.{delivery_of, entries_of, row_of};
+ghost use Rattle.redis_streams.specs.Read.{delivered_entry};
+ghost use Rattle.redis_streams.specs.Refusal.{RefusesRows};
+ghost use Rattle.redis_streams.specs.Rows.{rows_reading};
+
+use crate::rows::stream_id::StreamId;
+use indexmap::IndexMap;
+use redis_resp::{ParsingError, Source, Value};
+use std::alloc::{AllocError, Global};
+use std::collections::HashMap;
+
+/// An item of a list of entries, which holds none, one or several of them.
+pub(crate) trait ListItem: Drop {
+    /// The entries that it holds, in order.
+    ghost entries: { Self → List Entry };
+
+    /// Appends its entries. It fails only where it is out of memory.
+    fn push_to(self, ids: &mut Vec<StreamId>) -> Result<(), AllocError>
+        ensures { OnOk result (entries_of ids.new ≡ entries_of ids.old ++ entries self) };
+}
+
+/// A row: ids with their fields, each of which is an entry.
+pub(crate) type Row = IndexMap<String, HashMap<String, Value>>;
+
+impl ListItem for Row {
+    ghost entries = { λ row. map entry_of (row_of row) };
+
+    fn push_to(self, ids: &mut Vec<StreamId>) -> Result<(), AllocError> {
+        for (id, map) in self {
+            ids.push(StreamId {
+                id,
+                map,
+                milliseconds_elapsed_from_delivery: None,
+                delivered_count: None,
+            })?;
+        }
+        Ok(())
+    }
+}
+
+/// An id with its fields, how many milliseconds ago it was delivered and how often: one entry.
+pub(crate) type Delivery = (String, HashMap<String, Value>, Option<usize>, Option<usize>);
+
+impl ListItem for Delivery {
+    ghost entries = { λ d. delivered_entry (delivery_of d) ∷ [] };
+
+    fn push_to(self, ids: &mut Vec<StreamId>) -> Result<(), AllocError> {
+        let (id, map, milliseconds_elapsed_from_delivery, delivered_count) = self;
+        ids.push(StreamId {
+            id,
+            map,
+            milliseconds_elapsed_from_delivery,
+            delivered_count,
+        })?;
+        Ok(())
+    }
+}
+
+/// An id, which is an entry without fields, or none.
+impl ListItem for Option<String> {
+    ghost entries = { λ id. id_entries (option_map string_bytes id) };
+
+    fn push_to(self, ids: &mut Vec<StreamId>) -> Result<(), AllocError> {
+        let Some(id) = self else {
+            return Ok(());
+        };
+        let alloc = *ids.allocator();
+        ids.push(StreamId {
+            id,
+            map: HashMap::new(alloc),
+            milliseconds_elapsed_from_delivery: None,
+            delivered_count: None,
+        })?;
+        Ok(())
+    }
+}
+
+/// The entries of a list of items, joined in order. It fails only where it is out of memory.
+pub(crate) fn join<T: ListItem>(alloc: Global, items: Vec<T>) -> Result<Vec<StreamId>, AllocError>
+    ensures { IfOk result (λ ids. entries_of ids ≡ flat_map T.entries items.items) }
+{
+    let mut ids = Vec::new(alloc);
+    for item in items {
+        item.push_to(&mut ids)?;
+    }
+    Ok(ids)
+}
+
+/// The entries of a value that is a list of rows.
+pub(crate) fn read_rows<S: Source>(alloc: Global, v: S) -> Result<Vec<StreamId>, ParsingError>
+    ensures ok { IfOk result (λ ids. rows_reading (S.seen v) ≡ Some (entries_of ids)) }
+    ensures err { IfErr result (Refuses rows_reading RefusesRows (S.seen v)) }
+{
+    let rows: Vec<Row> = v.read(alloc)?;
+    Ok(join(alloc, rows)?)
+}

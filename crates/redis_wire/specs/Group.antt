@@ -1,0 +1,67 @@
+-- What values that stand one after the other are together.
+use Rattle.std.specs.Prelude.{ℕ, zero, suc, ◌+◌, ◌*◌, ◌-◌, List, [], ◌∷◌, length, take, slice_get, Option, Some, None, Result, Ok, Err}
+use Rattle.redis_resp.specs.Tree.{Tree, nil, array, set, map_of_pairs, push, attribute, trees, pairs, two_by_two}
+use Rattle.redis_resp.specs.Text.{text_reading}
+use Rattle.redis_wire.specs.declared.fault.Fault.TheVariants.{BadLength, BadPush}
+use Rattle.redis_wire.specs.declared.kind.GroupKind.{GroupKind}
+use Rattle.redis_wire.specs.declared.kind.GroupKind.TheVariants as groups
+use Rattle.redis_wire.specs.Reading.{Halt, bad, Read, ◌>>=◌}
+use Rattle.redis_wire.specs.Reply.{Answer, value, refused, Answers, values, first_refused, join, one}
+
+-- how many values stand behind a count: twice as many for pairs, and one more behind attributes
+abbrev pub member_count : GroupKind → ℕ → ℕ
+member_count groups.Array n = n
+member_count groups.Set n = n
+member_count groups.Push n = n
+member_count groups.Map n = 2 * n
+member_count groups.Attribute n = 2 * n + 1
+
+-- so many values, one after the other
+unfoldable pub many : (List ℕ → Read Answer) → ℕ → List ℕ → Read Answers
+many inner zero bytes = Ok (values [], bytes)
+many inner (suc n) bytes = inner bytes >>= λ x. many inner n x.1 >>= λ y. Ok (join (one x.0) y.0, y.1)
+
+-- the pairs of members two by two
+abbrev pub pairs_or_fault : Option (List (Tree × Tree)) → Result (List (Tree × Tree)) Halt
+pairs_or_fault None = Err (bad BadLength)
+pairs_or_fault (Some ps) = Ok ps
+
+abbrev pub pairs_of : List Tree → Result (List (Tree × Tree)) Halt
+pairs_of ts = pairs_or_fault (two_by_two ts)
+
+abbrev pub map_answer : List Tree → Result Answer Halt
+map_answer ts = pairs_of ts >>= λ ps. Ok (value (map_of_pairs (pairs ps)))
+
+-- a kind, and what was sent with it
+abbrev pub push_behind : Option (List ℕ) → List Tree → Result Answer Halt
+push_behind None ts = Err (bad BadPush)
+push_behind (Some kind) ts = Ok (value (push kind (trees ts)))
+
+abbrev pub push_answer : List Tree → Result Answer Halt
+push_answer [] = Err (bad BadPush)
+push_answer (t ∷ ts) = push_behind (text_reading t) ts
+
+-- pairs, and the value that they are attributes of
+abbrev pub attribute_round : Option Tree → Result (List (Tree × Tree)) Halt → Result Answer Halt
+attribute_round None r = Err (bad BadLength)
+attribute_round (Some t) r = r >>= λ ps. Ok (value (attribute t (pairs ps)))
+
+abbrev pub attribute_answer : List Tree → Result Answer Halt
+attribute_answer ts = attribute_round (slice_get ts (length ts - 1)) (pairs_of (take (length ts - 1) ts))
+
+unfoldable pub group_tree : GroupKind → List Tree → Result Answer Halt
+group_tree groups.Array ts = Ok (value (array (trees ts)))
+group_tree groups.Set ts = Ok (value (set (trees ts)))
+group_tree groups.Map ts = map_answer ts
+group_tree groups.Push ts = push_answer ts
+group_tree groups.Attribute ts = attribute_answer ts
+
+-- what a group is whose members are these: the first error among them, if any
+abbrev pub group_answer : GroupKind → Answers → Result Answer Halt
+group_answer k (values ts) = group_tree k ts
+group_answer k (first_refused e) = Ok (refused e)
+
+-- an array of length -1 is no value
+unfoldable pub no_group_answer : GroupKind → Result Answer Halt
+no_group_answer groups.Array = Ok (value nil)
+no_group_answer _ = Err (bad BadLength)

@@ -1,0 +1,4 @@
+pub mod Fields
+pub mod NonEmpty
+pub mod Read
+pub mod Single

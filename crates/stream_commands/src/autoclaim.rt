@@ -1,0 +1,45 @@
+//! Idle entries that pass to another consumer, whichever they are: XAUTOCLAIM.
+ghost use Rattle.std.specs.Prelude.{◌≡◌, ◌∷◌, ◌++◌, codes, decimal};
+ghost use Rattle.stream_options.specs.AutoClaim.{autoclaim_sentence};
+
+use crate::command::{Command, Word};
+use redis_resp::ToSingleRedisArg;
+use redis_streams::StreamAutoClaimReply;
+use stream_options::StreamAutoClaimOptions;
+
+/// `XAUTOCLAIM key group consumer min-idle start [options]`: entries from `start` on that are
+/// pending for `min_idle` milliseconds pass to the consumer. The answer has them, and the id from
+/// which the next call goes on; with `JUSTID` they have no fields.
+///
+/// ```text
+/// let options = StreamAutoClaimOptions::default().count(10);
+/// xautoclaim_options("orders", "g", "c", 60000, "0-0", &options)
+///                                                 // XAUTOCLAIM orders g c 60000 0-0 COUNT 10
+/// ```
+pub fn xautoclaim_options<
+    'w,
+    'a,
+    K: ToSingleRedisArg,
+    G: ToSingleRedisArg,
+    C: ToSingleRedisArg,
+    S: ToSingleRedisArg,
+>(
+    key: K,
+    group: G,
+    consumer: C,
+    min_idle: usize,
+    start: S,
+    options: &'a StreamAutoClaimOptions,
+) -> Command<(Word<'w>, K, G, C, usize, (S, &'a StreamAutoClaimOptions)), StreamAutoClaimReply>
+    ensures { result ≡ codes "XAUTOCLAIM" ∷ K.args key ++ (G.args group ++ (C.args consumer
+        ++ decimal min_idle ∷ S.args start ++ autoclaim_sentence options.now)) }
+{
+    Command::new((
+        Word("XAUTOCLAIM"),
+        key,
+        group,
+        consumer,
+        min_idle,
+        (start, options),
+    ))
+}

@@ -1,0 +1,131 @@
+//! Pending entries that pass to another consumer: XCLAIM.
+ghost use Rattle.std.specs.Prelude.{◌≡◌, ◌∷◌, ◌++◌, true, codes, decimal};
+ghost use Rattle.std.specs.List.{flat_map};
+ghost use Rattle.stream_commands.specs.NonEmpty.{all};
+ghost use Rattle.stream_options.specs.Claim.{claim_sentence};
+
+use crate::at_least_one::AtLeastOne;
+use crate::command::{Command, Word};
+use redis_resp::ToSingleRedisArg;
+use redis_streams::StreamClaimReply;
+use stream_options::StreamClaimOptions;
+
+/// `XCLAIM key group consumer min-idle id ..`: those of these entries that are pending for
+/// `min_idle` milliseconds pass to the consumer. The answer has them with their fields.
+///
+/// ```text
+/// xclaim("orders", "g", "c", 60000, AtLeastOne::one(&"1-0"))
+///                                                 // XCLAIM orders g c 60000 1-0
+/// ```
+pub fn xclaim<
+    'w,
+    'a,
+    K: ToSingleRedisArg,
+    G: ToSingleRedisArg,
+    C: ToSingleRedisArg,
+    I: ToSingleRedisArg,
+>(
+    key: K,
+    group: G,
+    consumer: C,
+    min_idle: usize,
+    ids: AtLeastOne<'a, I>,
+) -> Command<(Word<'w>, K, G, C, usize, AtLeastOne<'a, I>), StreamClaimReply>
+    ensures { result ≡ codes "XCLAIM" ∷ K.args key ++ (G.args group ++ (C.args consumer
+        ++ decimal min_idle ∷ flat_map I.args (all ids.entry))) }
+{
+    Command::new((Word("XCLAIM"), key, group, consumer, min_idle, ids))
+}
+
+/// `XCLAIM key group consumer min-idle id .. [options]`: the same as `xclaim`, as the options say.
+///
+/// ```text
+/// let options = StreamClaimOptions::default().retry(3);
+/// xclaim_options("orders", "g", "c", 60000, AtLeastOne::one(&"1-0"), &options)
+///                                                 // XCLAIM orders g c 60000 1-0 RETRYCOUNT 3
+/// ```
+pub fn xclaim_options<
+    'w,
+    'a,
+    K: ToSingleRedisArg,
+    G: ToSingleRedisArg,
+    C: ToSingleRedisArg,
+    I: ToSingleRedisArg,
+>(
+    key: K,
+    group: G,
+    consumer: C,
+    min_idle: usize,
+    ids: AtLeastOne<'a, I>,
+    options: &'a StreamClaimOptions,
+) -> Command<
+    (
+        Word<'w>,
+        K,
+        G,
+        C,
+        usize,
+        (AtLeastOne<'a, I>, &'a StreamClaimOptions),
+    ),
+    StreamClaimReply,
+>
+    ensures { result ≡ codes "XCLAIM" ∷ K.args key ++ (G.args group ++ (C.args consumer
+        ++ decimal min_idle ∷ flat_map I.args (all ids.entry) ++ claim_sentence options.now)) }
+{
+    Command::new((
+        Word("XCLAIM"),
+        key,
+        group,
+        consumer,
+        min_idle,
+        (ids, options),
+    ))
+}
+
+/// `XCLAIM key group consumer min-idle id .. [options] JUSTID`: the same, with `JUSTID` among the
+/// options whether they had it or not. The answer has the ids of the entries alone, and the claim
+/// is no delivery.
+///
+/// ```text
+/// let options = StreamClaimOptions::default();
+/// xclaim_justid("orders", "g", "c", 60000, AtLeastOne::one(&"1-0"), options)
+///                                                 // XCLAIM orders g c 60000 1-0 JUSTID
+/// ```
+pub fn xclaim_justid<
+    'w,
+    'a,
+    K: ToSingleRedisArg,
+    G: ToSingleRedisArg,
+    C: ToSingleRedisArg,
+    I: ToSingleRedisArg,
+>(
+    key: K,
+    group: G,
+    consumer: C,
+    min_idle: usize,
+    ids: AtLeastOne<'a, I>,
+    options: StreamClaimOptions,
+) -> Command<
+    (
+        Word<'w>,
+        K,
+        G,
+        C,
+        usize,
+        (AtLeastOne<'a, I>, StreamClaimOptions),
+    ),
+    Vec<String>,
+>
+    ensures { result ≡ codes "XCLAIM" ∷ K.args key ++ (G.args group ++ (C.args consumer
+        ++ decimal min_idle ∷ flat_map I.args (all ids.entry)
+        ++ claim_sentence (record options { justid = true }))) }
+{
+    Command::new((
+        Word("XCLAIM"),
+        key,
+        group,
+        consumer,
+        min_idle,
+        (ids, options.with_justid()),
+    ))
+}

@@ -1,0 +1,72 @@
+//! A whole command: its arguments, and the type of its answer.
+ghost use Rattle.std.specs.Prelude.{◌≡◌, ◌≢◌, [], ◌∷◌, IfOk, IfErr, Some, None};
+ghost use Rattle.redis_resp.specs.Value.{tree};
+
+use redis_resp::{FromRedisValue, ParsingError, RedisWrite, ToRedisArgs, Value, WriteError};
+use std::alloc::Global;
+use std::marker::{Model, PhantomData};
+
+/// A command whose arguments are those of an `A`, and whose answer is an `R`.
+///
+/// A contract sees it as its list of arguments, the name of the command first.
+#[derive(Drop)]
+pub struct Command<A: ToRedisArgs, R> {
+    arguments: A,
+    answer: PhantomData<R>,
+}
+
+impl<A: ToRedisArgs, R> Model for Command<A, R> {
+    ghost use Rattle.std.specs.Prelude.{List, ℕ};
+
+    ghost Value = { List (List ℕ) };
+
+    ghost view = { λ command. A.args command.arguments };
+}
+
+impl<A: ToRedisArgs, R> ToRedisArgs for Command<A, R> {
+    ghost args = { λ command. command };
+
+    fn write_redis_args<W: RedisWrite>(&self, out: &mut W) -> Result<(), WriteError> {
+        self.arguments.write_redis_args(out)
+    }
+}
+
+impl<A: ToRedisArgs, R: FromRedisValue> Command<A, R> {
+    /// The command of these arguments.
+    pub fn new(arguments: A) -> Self
+        ensures { result ≡ A.args arguments }
+    {
+        Command {
+            arguments,
+            answer: PhantomData,
+        }
+    }
+
+    /// Reads the answer to this command, and consumes it.
+    pub fn read(&self, alloc: Global, v: Value) -> Result<R, ParsingError>
+        ensures ok { IfOk result (λ r. R.reading (tree v) ≡ Some (R.meaning r)) }
+        ensures err { IfErr result (λ e. e ≢ ParsingError.Memory → R.reading (tree v) ≡ None) }
+    {
+        R::from_redis_value(alloc, v)
+    }
+
+    /// Reads the answer to this command from a borrowed value.
+    pub fn read_ref(&self, alloc: Global, v: &Value) -> Result<R, ParsingError>
+        ensures ok { IfOk result (λ r. R.reading (tree v.now) ≡ Some (R.meaning r)) }
+        ensures err { IfErr result (λ e. e ≢ ParsingError.Memory → R.reading (tree v.now) ≡ None) }
+    {
+        R::from_redis_value_ref(alloc, v)
+    }
+}
+
+/// A fixed word of a command: its name, or a keyword.
+#[derive(Debug, Drop)]
+pub struct Word<'w>(pub &'w str);
+
+impl<'w> ToRedisArgs for Word<'w> {
+    ghost args = { λ word. word.0.now ∷ [] };
+
+    fn write_redis_args<W: RedisWrite>(&self, out: &mut W) -> Result<(), WriteError> {
+        self.0.write_redis_args(out)
+    }
+}

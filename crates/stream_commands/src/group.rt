@@ -1,0 +1,115 @@
+//! Groups of consumers: XGROUP.
+ghost use Rattle.std.specs.Prelude.{◌≡◌, [], ◌∷◌, ◌++◌, codes};
+
+use crate::command::{Command, Word};
+use redis_resp::ToSingleRedisArg;
+
+/// `XGROUP CREATE key group id`: makes a group that is given the entries behind `id`. The answer
+/// is `OK`; the server refuses where there is no stream.
+///
+/// ```text
+/// xgroup_create("orders", "g", "$")               // XGROUP CREATE orders g $
+/// ```
+pub fn xgroup_create<'w, K: ToSingleRedisArg, G: ToSingleRedisArg, I: ToSingleRedisArg>(
+    key: K,
+    group: G,
+    id: I,
+) -> Command<(Word<'w>, Word<'w>, K, (G, I)), String>
+    ensures { result ≡ codes "XGROUP" ∷ codes "CREATE"
+        ∷ K.args key ++ (G.args group ++ I.args id) }
+{
+    Command::new((Word("XGROUP"), Word("CREATE"), key, (group, id)))
+}
+
+/// `XGROUP CREATE key group id MKSTREAM`: the same, and makes the stream where there is none.
+///
+/// ```text
+/// xgroup_create_mkstream("orders", "g", "$")      // XGROUP CREATE orders g $ MKSTREAM
+/// ```
+pub fn xgroup_create_mkstream<'w, K: ToSingleRedisArg, G: ToSingleRedisArg, I: ToSingleRedisArg>(
+    key: K,
+    group: G,
+    id: I,
+) -> Command<(Word<'w>, Word<'w>, K, G, I, Word<'w>), String>
+    ensures { result ≡ codes "XGROUP" ∷ codes "CREATE"
+        ∷ K.args key ++ (G.args group ++ (I.args id ++ codes "MKSTREAM" ∷ [])) }
+{
+    Command::new((
+        Word("XGROUP"),
+        Word("CREATE"),
+        key,
+        group,
+        id,
+        Word("MKSTREAM"),
+    ))
+}
+
+/// `XGROUP CREATECONSUMER key group consumer`: makes a consumer. The answer is how many were made,
+/// 0 where the group has it.
+///
+/// ```text
+/// xgroup_createconsumer("orders", "g", "c")       // XGROUP CREATECONSUMER orders g c
+/// ```
+pub fn xgroup_createconsumer<'w, K: ToSingleRedisArg, G: ToSingleRedisArg, C: ToSingleRedisArg>(
+    key: K,
+    group: G,
+    consumer: C,
+) -> Command<(Word<'w>, Word<'w>, K, (G, C)), usize>
+    ensures { result ≡ codes "XGROUP" ∷ codes "CREATECONSUMER"
+        ∷ K.args key ++ (G.args group ++ C.args consumer) }
+{
+    Command::new((
+        Word("XGROUP"),
+        Word("CREATECONSUMER"),
+        key,
+        (group, consumer),
+    ))
+}
+
+/// `XGROUP SETID key group id`: the group is given the entries behind `id` from now on. The answer
+/// is `OK`.
+///
+/// ```text
+/// xgroup_setid("orders", "g", "0-0")              // XGROUP SETID orders g 0-0
+/// ```
+pub fn xgroup_setid<'w, K: ToSingleRedisArg, G: ToSingleRedisArg, I: ToSingleRedisArg>(
+    key: K,
+    group: G,
+    id: I,
+) -> Command<(Word<'w>, Word<'w>, K, (G, I)), String>
+    ensures { result ≡ codes "XGROUP" ∷ codes "SETID" ∷ K.args key ++ (G.args group ++ I.args id) }
+{
+    Command::new((Word("XGROUP"), Word("SETID"), key, (group, id)))
+}
+
+/// `XGROUP DESTROY key group`: removes a group and what is pending for it. The answer is how many
+/// groups were removed, 0 where there was none.
+///
+/// ```text
+/// xgroup_destroy("orders", "g")                   // XGROUP DESTROY orders g
+/// ```
+pub fn xgroup_destroy<'w, K: ToSingleRedisArg, G: ToSingleRedisArg>(
+    key: K,
+    group: G,
+) -> Command<(Word<'w>, Word<'w>, K, G), usize>
+    ensures { result ≡ codes "XGROUP" ∷ codes "DESTROY" ∷ K.args key ++ G.args group }
+{
+    Command::new((Word("XGROUP"), Word("DESTROY"), key, group))
+}
+
+/// `XGROUP DELCONSUMER key group consumer`: removes a consumer and what is pending for it. The
+/// answer is how many entries were pending.
+///
+/// ```text
+/// xgroup_delconsumer("orders", "g", "c")          // XGROUP DELCONSUMER orders g c
+/// ```
+pub fn xgroup_delconsumer<'w, K: ToSingleRedisArg, G: ToSingleRedisArg, C: ToSingleRedisArg>(
+    key: K,
+    group: G,
+    consumer: C,
+) -> Command<(Word<'w>, Word<'w>, K, (G, C)), usize>
+    ensures { result ≡ codes "XGROUP" ∷ codes "DELCONSUMER"
+        ∷ K.args key ++ (G.args group ++ C.args consumer) }
+{
+    Command::new((Word("XGROUP"), Word("DELCONSUMER"), key, (group, consumer)))
+}

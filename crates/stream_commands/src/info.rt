@@ -1,0 +1,62 @@
+//! What is told of a stream: XINFO.
+ghost use Rattle.std.specs.Prelude.{◌≡◌, ◌∷◌, ◌++◌, codes};
+
+use crate::command::{Command, Word};
+use redis_resp::ToSingleRedisArg;
+use redis_streams::{
+    StreamInfoConsumersReply, StreamInfoGroupsReply, StreamInfoStreamReply,
+    StreamInfoStreamReplyWithIdempotency,
+};
+
+/// `XINFO STREAM key`: what is told of the stream.
+///
+/// ```text
+/// xinfo_stream("orders")                          // XINFO STREAM orders
+/// ```
+pub fn xinfo_stream<'w, K: ToSingleRedisArg>(
+    key: K,
+) -> Command<(Word<'w>, Word<'w>, K), StreamInfoStreamReply>
+    ensures { result ≡ codes "XINFO" ∷ codes "STREAM" ∷ K.args key }
+{
+    Command::new((Word("XINFO"), Word("STREAM"), key))
+}
+
+/// `XINFO STREAM key`: what is told of the stream, and how it tells entries that are sent twice.
+///
+/// ```text
+/// xinfo_stream_with_idempotency("orders")         // XINFO STREAM orders
+/// ```
+pub fn xinfo_stream_with_idempotency<'w, K: ToSingleRedisArg>(
+    key: K,
+) -> Command<(Word<'w>, Word<'w>, K), StreamInfoStreamReplyWithIdempotency>
+    ensures { result ≡ codes "XINFO" ∷ codes "STREAM" ∷ K.args key }
+{
+    Command::new((Word("XINFO"), Word("STREAM"), key))
+}
+
+/// `XINFO GROUPS key`: what is told of the groups of the stream.
+///
+/// ```text
+/// xinfo_groups("orders")                          // XINFO GROUPS orders
+/// ```
+pub fn xinfo_groups<'w, K: ToSingleRedisArg>(
+    key: K,
+) -> Command<(Word<'w>, Word<'w>, K), StreamInfoGroupsReply>
+    ensures { result ≡ codes "XINFO" ∷ codes "GROUPS" ∷ K.args key }
+{
+    Command::new((Word("XINFO"), Word("GROUPS"), key))
+}
+
+/// `XINFO CONSUMERS key group`: what is told of the consumers of the group.
+///
+/// ```text
+/// xinfo_consumers("orders", "g")                  // XINFO CONSUMERS orders g
+/// ```
+pub fn xinfo_consumers<'w, K: ToSingleRedisArg, G: ToSingleRedisArg>(
+    key: K,
+    group: G,
+) -> Command<(Word<'w>, Word<'w>, K, G), StreamInfoConsumersReply>
+    ensures { result ≡ codes "XINFO" ∷ codes "CONSUMERS" ∷ K.args key ++ G.args group }
+{
+    Command::new((Word("XINFO"), Word("CONSUMERS"), key, group))
+}

@@ -1,0 +1,26 @@
+//! The line of each command, against outside words, and answers that are read.
+use crate::command::Command;
+use redis_resp::ToRedisArgs;
+use std::process::Abort;
+use std::test::Fail;
+
+mod answer;
+mod entry;
+mod group;
+
+// The command writes these words: its arguments, joined by spaces.
+fn check<A: ToRedisArgs, R>(
+    rt: &(impl Abort + AllocGlobal),
+    command: &Command<A, R>,
+    line: &str,
+) -> Result<(), Fail> {
+    let mut words = Vec::new(rt.alloc());
+    for (index, arg) in command.to_redis_args(rt.alloc())?.iter().enumerate() {
+        if index > 0 {
+            words.push(b' ')?;
+        }
+        words.extend_from_slice(arg)?;
+    }
+    assert_eq!(rt; String::from_utf8(words)?.as_str(), line);
+    Ok(())
+}

@@ -1,0 +1,121 @@
+//! Commands on groups and what is pending for them.
+use crate::tests::check;
+use crate::{
+    AtLeastOne, xack, xack_del, xautoclaim_options, xclaim, xclaim_justid, xclaim_options,
+    xgroup_create, xgroup_create_mkstream, xgroup_createconsumer, xgroup_delconsumer,
+    xgroup_destroy, xgroup_setid, xinfo_consumers, xinfo_groups, xinfo_stream,
+    xinfo_stream_with_idempotency, xpending, xpending_consumer_count, xpending_count,
+    xpending_idle_count,
+};
+use std::test::Fail;
+use stream_options::{StreamAutoClaimOptions, StreamClaimOptions, StreamDeletionPolicy};
+
+#[test]
+fn groups_are_kept(rt: HostRuntime) -> Result<(), Fail> {
+    check(
+        &rt,
+        &xgroup_create("orders", "g", "0"),
+        "XGROUP CREATE orders g 0",
+    )?;
+    check(
+        &rt,
+        &xgroup_create_mkstream("made", "g", "$"),
+        "XGROUP CREATE made g $ MKSTREAM",
+    )?;
+    check(
+        &rt,
+        &xgroup_createconsumer("orders", "g", "c"),
+        "XGROUP CREATECONSUMER orders g c",
+    )?;
+    check(
+        &rt,
+        &xgroup_setid("orders", "g", "0-0"),
+        "XGROUP SETID orders g 0-0",
+    )?;
+    check(
+        &rt,
+        &xgroup_delconsumer("orders", "g", "c"),
+        "XGROUP DELCONSUMER orders g c",
+    )?;
+    check(
+        &rt,
+        &xgroup_destroy("orders", "g"),
+        "XGROUP DESTROY orders g",
+    )
+}
+
+#[test]
+fn pending_entries_are_told(rt: HostRuntime) -> Result<(), Fail> {
+    check(&rt, &xpending("orders", "g"), "XPENDING orders g")?;
+    check(
+        &rt,
+        &xpending_count("orders", "g", "-", "+", 10),
+        "XPENDING orders g - + 10",
+    )?;
+    check(
+        &rt,
+        &xpending_consumer_count("orders", "g", "-", "+", 10, "c"),
+        "XPENDING orders g - + 10 c",
+    )?;
+    check(
+        &rt,
+        &xpending_idle_count("orders", "g", 60_000, "-", "+", 10),
+        "XPENDING orders g IDLE 60000 - + 10",
+    )?;
+    let ids = ["3-0", "4-0"];
+    let Some(both) = AtLeastOne::new(&ids) else {
+        return Err(Fail::new("no ids"));
+    };
+    check(&rt, &xack("orders", "g", both), "XACK orders g 3-0 4-0")?;
+    let Some(both) = AtLeastOne::new(&ids) else {
+        return Err(Fail::new("no ids"));
+    };
+    check(
+        &rt,
+        &xack_del("orders", "g", both, StreamDeletionPolicy::DelRef),
+        "XACKDEL orders g DELREF IDS 2 3-0 4-0",
+    )
+}
+
+#[test]
+fn pending_entries_are_claimed(rt: HostRuntime) -> Result<(), Fail> {
+    let id = "3-0";
+    check(
+        &rt,
+        &xclaim("orders", "g", "d", 0, AtLeastOne::one(&id)),
+        "XCLAIM orders g d 0 3-0",
+    )?;
+    let options = StreamClaimOptions::default().retry(3).with_force();
+    check(
+        &rt,
+        &xclaim_options("orders", "g", "d", 0, AtLeastOne::one(&id), &options),
+        "XCLAIM orders g d 0 3-0 RETRYCOUNT 3 FORCE",
+    )?;
+    check(
+        &rt,
+        &xclaim_justid("orders", "g", "c", 0, AtLeastOne::one(&id), options),
+        "XCLAIM orders g c 0 3-0 RETRYCOUNT 3 FORCE JUSTID",
+    )?;
+    let options = StreamAutoClaimOptions::default().count(10);
+    check(
+        &rt,
+        &xautoclaim_options("orders", "g", "d", 0, "0-0", &options),
+        "XAUTOCLAIM orders g d 0 0-0 COUNT 10",
+    )
+}
+
+#[test]
+fn streams_are_described(rt: HostRuntime) -> Result<(), Fail> {
+    check(&rt, &xinfo_stream("orders"), "XINFO STREAM orders")?;
+    check(
+        &rt,
+        &xinfo_stream_with_idempotency("orders"),
+        "XINFO STREAM orders",
+    )?;
+    check(&rt, &xinfo_groups("orders"), "XINFO GROUPS orders")?;
+    check(
+        &rt,
+        &xinfo_consumers("orders", "g"),
+        "XINFO CONSUMERS orders g",
+    )
+}

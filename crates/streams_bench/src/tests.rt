@@ -1,0 +1,6 @@
+//! Tests that cross crates.
+mod depth;
+mod memory;
+mod plain;
+mod replies;
+mod sentences;
