@@ -4,7 +4,7 @@ use Rattle.std.specs.List.{flat_map}
 use Rattle.std.proofs.Common.{sym, ◌∙◌, ap, refl}
 use Rattle.std.proofs.lemmas.Grind.{flat_map-append}
 use Rattle.stream_commands.specs.NonEmpty.{NonEmpty, all}
-use Rattle.stream_commands.specs.Single.{One, the_one}
+use Rattle.stream_commands.specs.Single.{the_one}
 
 -- `field value`
 abbrev pub field_sentence : List ℕ × List ℕ → List (List ℕ)

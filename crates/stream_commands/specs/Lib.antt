@@ -2,3 +2,4 @@ pub mod Fields
 pub mod NonEmpty
 pub mod Read
 pub mod Single
+pub mod WholeCommands

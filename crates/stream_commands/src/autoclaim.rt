@@ -1,5 +1,5 @@
 //! Idle entries that pass to another consumer, whichever they are: XAUTOCLAIM.
-ghost use Rattle.std.specs.Prelude.{◌≡◌, ◌∷◌, ◌++◌, codes, decimal};
+ghost use Rattle.std.specs.Prelude.{◌≡◌, ◌∷◌, ◌++◌, true, codes, decimal};
 ghost use Rattle.stream_options.specs.AutoClaim.{autoclaim_sentence};
 
 use crate::command::{Command, Word};
@@ -41,5 +41,42 @@ pub fn xautoclaim_options<
         consumer,
         min_idle,
         (start, options),
+    ))
+}
+
+/// `XAUTOCLAIM key group consumer min-idle start [options] JUSTID`: the same, with `JUSTID` among
+/// the options whether they had it or not. The answer has the entries by their ids alone, without
+/// fields, and the claim is no delivery.
+///
+/// ```text
+/// let options = StreamAutoClaimOptions::default();
+/// xautoclaim_justid("orders", "g", "c", 60000, "0-0", options)
+///                                                 // XAUTOCLAIM orders g c 60000 0-0 JUSTID
+/// ```
+pub fn xautoclaim_justid<
+    'w,
+    K: ToSingleRedisArg,
+    G: ToSingleRedisArg,
+    C: ToSingleRedisArg,
+    S: ToSingleRedisArg,
+>(
+    key: K,
+    group: G,
+    consumer: C,
+    min_idle: usize,
+    start: S,
+    options: StreamAutoClaimOptions,
+) -> Command<(Word<'w>, K, G, C, usize, (S, StreamAutoClaimOptions)), StreamAutoClaimReply>
+    ensures { result ≡ codes "XAUTOCLAIM" ∷ K.args key ++ (G.args group ++ (C.args consumer
+        ++ decimal min_idle ∷ S.args start
+        ++ autoclaim_sentence (record options { justid = true }))) }
+{
+    Command::new((
+        Word("XAUTOCLAIM"),
+        key,
+        group,
+        consumer,
+        min_idle,
+        (start, options.with_justid()),
     ))
 }

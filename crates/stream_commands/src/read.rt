@@ -28,9 +28,9 @@ pub fn xread<'w, 'a, K: ToSingleRedisArg, I: ToSingleRedisArg>(
     Command::new((Word("XREAD"), Word("STREAMS"), Streams(streams)))
 }
 
-/// `XREAD [options] STREAMS key .. id ..`, and `XREADGROUP GROUP g c [options] STREAMS key .. id ..`
-/// exactly where the options have a group: of each stream the entries behind its id. The answer
-/// is None where none came in time.
+/// `XREAD [options] STREAMS key .. id ..`, and `XREADGROUP` in place of `XREAD` exactly where the
+/// options have a group, which they write as `GROUP g c`: of each stream the entries behind its
+/// id. The answer is None where none came in time.
 ///
 /// ```text
 /// let options = StreamReadOptions::default().count(10).group(alloc, "g", "c")?;

@@ -1,4 +1,5 @@
 pub mod AddCalls
+pub mod Calls
 pub mod CallsMeaning
 pub mod Config
 pub mod ReadCalls

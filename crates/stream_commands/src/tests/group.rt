@@ -1,9 +1,9 @@
 //! Commands on groups and what is pending for them.
 use crate::tests::check;
 use crate::{
-    AtLeastOne, xack, xack_del, xautoclaim_options, xclaim, xclaim_justid, xclaim_options,
-    xgroup_create, xgroup_create_mkstream, xgroup_createconsumer, xgroup_delconsumer,
-    xgroup_destroy, xgroup_setid, xinfo_consumers, xinfo_groups, xinfo_stream,
+    AtLeastOne, xack, xack_del, xautoclaim_justid, xautoclaim_options, xclaim, xclaim_justid,
+    xclaim_options, xgroup_create, xgroup_create_mkstream, xgroup_createconsumer,
+    xgroup_delconsumer, xgroup_destroy, xgroup_setid, xinfo_consumers, xinfo_groups, xinfo_stream,
     xinfo_stream_with_idempotency, xpending, xpending_consumer_count, xpending_count,
     xpending_idle_count,
 };
@@ -101,6 +101,11 @@ fn pending_entries_are_claimed(rt: HostRuntime) -> Result<(), Fail> {
         &rt,
         &xautoclaim_options("orders", "g", "d", 0, "0-0", &options),
         "XAUTOCLAIM orders g d 0 0-0 COUNT 10",
+    )?;
+    check(
+        &rt,
+        &xautoclaim_justid("orders", "g", "d", 0, "3", options),
+        "XAUTOCLAIM orders g d 0 3 COUNT 10 JUSTID",
     )
 }
 

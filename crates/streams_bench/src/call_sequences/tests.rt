@@ -1,5 +1,5 @@
 use crate::call_sequences::{AddCall, ReadCall, play_add, play_read};
-use crate::in_place::fixed_args_of;
+use crate::fixed_args::fixed_args_of;
 use redis_resp::{RawBytes, ToRedisArgs};
 use std::alloc::{AllocError, Global};
 use std::process::Abort;

@@ -66,7 +66,9 @@ fn is_written<T: ToRedisArgs>(
     for (arg, word) in args.iter().zip(words) {
         right = right && arg.as_slice() == word.as_bytes();
     }
-    let held = behind.first().is_some_and(|arg| arg.as_slice() == b"held");
+    let held = behind
+        .first()
+        .is_some_and(|arg| arg.as_slice() == b"held".as_slice());
     let stands = behind.len() - 1;
     for (arg, word) in behind.iter().skip(1).zip(words) {
         right = right && arg.as_slice() == word.as_bytes();

@@ -114,7 +114,7 @@ fn bytes_maps_and_tuples(rt: HostRuntime) -> Result<(), Fail> {
     let alloc = rt.alloc();
     let (borrowed, owned) = both::<RawBytes>(alloc, "Bytes(255, 0)")?;
     for answer in [borrowed, owned] {
-        assert!(rt; answer.is_ok_and(|bytes| bytes.0.as_slice() == b"\xff\0"));
+        assert!(rt; answer.is_ok_and(|bytes| bytes.0.as_slice() == b"\xff\0".as_slice()));
     }
     let (borrowed, owned) = both::<HashMap<String, Value>>(alloc, "Map[f: v]")?;
     for answer in [borrowed, owned] {

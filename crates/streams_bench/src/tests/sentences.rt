@@ -35,14 +35,14 @@ fn check_list<T: ToRedisArgs>(
     Ok(())
 }
 
-/// Into a place for `N` arguments of `B` bytes: this answer, and then these words stand there.
+/// Into an empty place for `N` arguments of `B` bytes: this answer, and then these words stand there.
 fn check_place<T: ToRedisArgs, const N: usize, const B: usize>(
     rt: &impl Abort,
+    mut place: FixedArgs<N, B>,
     value: &T,
     answer: Result<(), WriteError>,
     words: &[&str],
 ) {
-    let mut place: FixedArgs<N, B> = FixedArgs::new();
     assert_eq!(rt; value.write_redis_args(&mut place), answer);
     assert_eq!(rt; place.len(), words.len());
     for (index, word) in words.iter().enumerate() {
@@ -51,11 +51,16 @@ fn check_place<T: ToRedisArgs, const N: usize, const B: usize>(
 }
 
 /// Into a place for `N` arguments: all of them where there is room, else `Full` and the first `N`.
-fn check_room<T: ToRedisArgs, const N: usize>(rt: &impl Abort, value: &T, words: &[&str]) {
+fn check_room<T: ToRedisArgs, const N: usize>(
+    rt: &impl Abort,
+    place: FixedArgs<N, 128>,
+    value: &T,
+    words: &[&str],
+) {
     if N < words.len() {
-        check_place::<T, N, 128>(rt, value, Err(WriteError::Full), &words[..N]);
+        check_place(rt, place, value, Err(WriteError::Full), &words[..N]);
     } else {
-        check_place::<T, N, 128>(rt, value, Ok(()), words);
+        check_place(rt, place, value, Ok(()), words);
     }
 }
 
@@ -66,17 +71,17 @@ fn check_value<T: ToRedisArgs>(
 ) -> Result<(), Fail> {
     let words = words_of(rt.alloc(), stored)?;
     check_list(rt, value, &words)?;
-    check_room::<T, 0>(rt, value, &words);
-    check_room::<T, 1>(rt, value, &words);
-    check_room::<T, 2>(rt, value, &words);
-    check_room::<T, 3>(rt, value, &words);
-    check_room::<T, 4>(rt, value, &words);
-    check_room::<T, 5>(rt, value, &words);
-    check_room::<T, 6>(rt, value, &words);
-    check_room::<T, 7>(rt, value, &words);
-    check_room::<T, 8>(rt, value, &words);
-    check_room::<T, 9>(rt, value, &words);
-    check_room::<T, 10>(rt, value, &words);
+    check_room(rt, FixedArgs::<0, 128>::new(), value, &words);
+    check_room(rt, FixedArgs::<1, 128>::new(), value, &words);
+    check_room(rt, FixedArgs::<2, 128>::new(), value, &words);
+    check_room(rt, FixedArgs::<3, 128>::new(), value, &words);
+    check_room(rt, FixedArgs::<4, 128>::new(), value, &words);
+    check_room(rt, FixedArgs::<5, 128>::new(), value, &words);
+    check_room(rt, FixedArgs::<6, 128>::new(), value, &words);
+    check_room(rt, FixedArgs::<7, 128>::new(), value, &words);
+    check_room(rt, FixedArgs::<8, 128>::new(), value, &words);
+    check_room(rt, FixedArgs::<9, 128>::new(), value, &words);
+    check_room(rt, FixedArgs::<10, 128>::new(), value, &words);
     Ok(())
 }
 
@@ -127,13 +132,13 @@ fn places_of_few_bytes(rt: HostRuntime) -> Result<(), Fail> {
     let (_name, v17, stored) = &vectors[0];
     let words = words_of(rt.alloc(), stored)?;
     let full = Err(WriteError::Full);
-    check_place::<_, 8, 46>(&rt, v17, Ok(()), &words);
-    check_place::<_, 8, 45>(&rt, v17, full, &words[..7]);
-    check_place::<_, 8, 21>(&rt, v17, full, &words[..3]);
+    check_place(&rt, FixedArgs::<8, 46>::new(), v17, Ok(()), &words);
+    check_place(&rt, FixedArgs::<8, 45>::new(), v17, full, &words[..7]);
+    check_place(&rt, FixedArgs::<8, 21>::new(), v17, full, &words[..3]);
     let vectors = read::read_vectors(rt.alloc())?;
     let (_name, v33, stored) = &vectors[1];
     let words = words_of(rt.alloc(), stored)?;
-    check_place::<_, 10, 32>(&rt, v33, Ok(()), &words);
-    check_place::<_, 9, 64>(&rt, v33, full, &words[..9]);
+    check_place(&rt, FixedArgs::<10, 32>::new(), v33, Ok(()), &words);
+    check_place(&rt, FixedArgs::<9, 64>::new(), v33, full, &words[..9]);
     Ok(())
 }

@@ -23,7 +23,7 @@ fn line_of(alloc: Global, line: Line<'_>, count: usize) -> Result<String, AllocE
         }
         for letter in item.chars() {
             if letter == '$' {
-                write!(text, "{}", 10_000 + number)?;
+                write!(text, "{}", number.saturating_add(10_000))?;
             } else {
                 text.push(letter)?;
             }

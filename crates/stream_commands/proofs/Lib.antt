@@ -1,0 +1,2 @@
+mod IdLemmas
+pub mod WholeCommandLemmas
