@@ -7,6 +7,7 @@ pub mod OtherKeysLemmas
 pub mod OverlapLemmas
 pub mod PendingLemmas
 pub mod ReadLemmas
+pub mod ReadableLemmas
 pub mod RefusalLemmas
 pub mod RespellingLemmas
 pub mod RowsLemmas

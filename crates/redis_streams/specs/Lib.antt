@@ -14,6 +14,7 @@ pub mod PendingMeaning
 pub mod PendingRefusal
 pub mod Read
 pub mod ReadMeaning
+pub mod Readable
 pub mod Refusal
 pub mod Respelling
 pub mod RespellingLaws

@@ -29,6 +29,7 @@ pub use pending::{
     StreamPendingCountReply, StreamPendingData, StreamPendingId, StreamPendingReply,
 };
 pub use rows::{
-    StreamAutoClaimReply, StreamClaimReply, StreamId, StreamKey, StreamRangeReply, StreamReadReply,
+    ReadForms, StreamAutoClaimReply, StreamClaimReply, StreamId, StreamKey, StreamRangeReply,
+    StreamReadReply,
 };
 pub use status::{XAckDelStatusCode, XDelExStatusCode};

@@ -5,6 +5,7 @@ mod claimed;
 mod items;
 mod range;
 mod read;
+mod read_forms;
 mod stream_id;
 mod stream_key;
 #[cfg(test)]
@@ -14,5 +15,6 @@ pub use autoclaim::StreamAutoClaimReply;
 pub use claim::StreamClaimReply;
 pub use range::StreamRangeReply;
 pub use read::StreamReadReply;
+pub use read_forms::ReadForms;
 pub use stream_id::StreamId;
 pub use stream_key::StreamKey;

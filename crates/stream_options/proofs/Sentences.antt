@@ -299,7 +299,7 @@ text_reads = record {
 
 -- ---- the same seen as another type
 
-seen_some : {T S : Type 0} (from : T → S) (z : Option (T × List (List ℕ))) (x : S) (r : List (List ℕ)) {P : Type 0} → gives (option_map (seen from) z) x r → ((t : T) → z ≡ Some (t, r) → from t ≡ x → P) → P
+pub seen_some : {T S : Type 0} (from : T → S) (z : Option (T × List (List ℕ))) (x : S) (r : List (List ℕ)) {P : Type 0} → gives (option_map (seen from) z) x r → ((t : T) → z ≡ Some (t, r) → from t ≡ x → P) → P
 seen_some from None x r e k = absurd cc
 seen_some from (Some z) x r e k = let s = some_pair_parts (from z.0) x z.1 r e in k z.0 (ap (λ t. Some (z.0, t)) s.1) s.0
 
@@ -425,4 +425,19 @@ argument_at_reads F write of words p strict = record {
         subst (λ y. (a ∷ rest ≡ write y ∷ r) × F y) is (rw (k.0, s) refl, k.1))
   ];
   opens = λ x. inr (strict x);
+}
+
+-- ---- what a reader of sentences needs
+
+-- The same where what is read again may differ in settings that are not compared.
+pub record ReadsAlike {T : Type 0} (Fits : T → Type 0) (write : T → List (List ℕ)) (words : List (List ℕ)) (Alike : T → T → Type 0) (read : List (List ℕ) → Option (T × List (List ℕ))) : Type 0 where
+  pub again : (x : T) (r : List (List ℕ)) → Fits x → begins words r ≡ false → (y : T) × (read (write x ++ r) ≡ Some (y, r)) × Alike x y
+  pub takes : (args : List (List ℕ)) (x : T) (r : List (List ℕ)) → read args ≡ Some (x, r) → (args ≡ write x ++ r) × Fits x
+
+-- an inverse, where all settings are compared
+pub alike : {T : Type 0} {Fits : T → Type 0} {write : T → List (List ℕ)} {words : List (List ℕ)} {read : List (List ℕ) → Option (T × List (List ℕ))}
+    → ReadsBack Fits write words read → ReadsAlike Fits write words Equal read
+alike p = record {
+  again = λ x r fits free. (x, p.again x r fits free, refl);
+  takes = p.takes;
 }

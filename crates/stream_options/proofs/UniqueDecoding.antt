@@ -2,6 +2,7 @@
 -- them.
 use Rattle.std.proofs.Common.{◌≡◌, ℕ, ◌≤◌, ◌<◌, ◌^◌, Bool, true, false, cond, leb, ◌&&◌, ◌||◌, List, [], ◌∷◌, ◌++◌, codes, decimal, Option, Some, None, refl, sym, ◌∙◌, ap, subst, ◌⊎◌, inl, inr, arith, append-nil}
 use Rattle.std.specs.Prelude.{IfSome, IsSome, is_some, length}
+use Rattle.std.specs.Option.{option_map}
 use Rattle.std.specs.Str.{bytes_eq, IsUtf8}
 use Rattle.std.proofs.lemmas.Bool.{leb-true, le-leb}
 use Rattle.std.proofs.lemmas.Option.{some_pair_parts, same_Some}
@@ -18,10 +19,10 @@ use Rattle.stream_options.specs.Maxlen.{Maxlen, maxlen_sentence, maxlen_words, M
 use Rattle.stream_options.specs.Nack.{Nack, silent, fail, fatal, nack_word, nack_sentence, nack_words}
 use Rattle.stream_options.specs.Policy.{Policy, keep_ref, del_ref, acked, policy_word, policy_sentence, policy_words}
 use Rattle.stream_options.specs.Read.{Group, Read, group_sentence, read_sentence, read_words, IsSingle, ReadFits, CountAlike}
-use Rattle.stream_options.specs.ReadBack.{number_of, text_of, number_clause, text_clause, both, one, two, ClaimParts, claim_with, claim_at, policy_of, policy_clause, idempotency_at, mode_of, bound_at, bound_words, strategy_with, strategy_at, trim_with, trim_at, maxlen_with, maxlen_at, add_with, add_at, optional, single_group, group_at, Ungrouped, Grouped, grouped_with, grouped_at, ungrouped_at, counted_at, nack_of, argument_at, autoclaim_with, autoclaim_at, argument_clause, kept, in_duration, in_maxsize, any_set, config_with, config_at}
+use Rattle.stream_options.specs.ReadBack.{number_of, text_of, number_clause, text_clause, both, one, two, ClaimParts, claim_with, claim_at, policy_of, policy_clause, idempotency_at, mode_of, bound_at, bound_words, strategy_with, strategy_at, trim_with, trim_at, maxlen_with, maxlen_at, add_with, add_at, optional, single_group, group_at, Ungrouped, Grouped, grouped_with, grouped_at, ungrouped_at, counted_at, read_with, read_at, seen, nack_of, nack_at, argument_at, autoclaim_with, autoclaim_at, argument_clause, kept, in_duration, in_maxsize, any_set, config_with, config_at}
 use Rattle.stream_options.specs.Trim.{Mode, exact, approx, mode_word, mode_sentence, mode_words, Bound, max_len, min_id, bound_sentence, BoundFits, Strategy, strategy_sentence, strategy_words, StrategyFits, Trim, trim_sentence, trim_words, TrimFits}
 use Rattle.stream_options.specs.Words.{begins, IsUsize}
-use Rattle.stream_options.proofs.Sentences.{cases, CasesFit, and_true, free_within, ReadsBack, ReadsArgument, gives, optional_reads, either_reads, determined, whole, kept_reads, filtered_reads, apart, as_reads, told, both_reads, argument_reads, argument_at_reads, one_takes, flag_reads, number_reads, text_reads}
+use Rattle.stream_options.proofs.Sentences.{seen_some, ReadsAlike, cases, CasesFit, and_true, free_within, ReadsBack, ReadsArgument, gives, optional_reads, either_reads, determined, whole, kept_reads, filtered_reads, apart, as_reads, told, both_reads, argument_reads, argument_at_reads, one_takes, flag_reads, number_reads, text_reads}
 use Rattle.stream_options.proofs.Sentences as sentences
 
 number : (word : List ℕ) → ReadsBack (λ o. IfSome o IsUsize) (clause (word_number word)) (word ∷ []) (number_clause word)
@@ -185,7 +186,7 @@ nack_begins silent = refl
 nack_begins fail = refl
 nack_begins fatal = refl
 
-pub nack_reads : ReadsBack Any nack_sentence nack_words (argument_at nack_of)
+pub nack_reads : ReadsBack Any nack_sentence nack_words nack_at
 nack_reads = argument_at_reads Any nack_word nack_of nack_words nack_reads_word nack_begins
 
 pub nack_determined : Determines Any nack_sentence nack_words Equal
@@ -463,6 +464,57 @@ same_read a b h =
 
 pub read_exact : IsExact ReadFits read_sentence CountAlike
 read_exact a b fa fb = (same_read a b, λ e. (read_determined a b [] [] fa fb refl refl (ap (λ t. t ++ []) e)).0)
+
+-- ---- for the readers of sentences
+
+counted_alike : (g : Option Group) (b c : Option ℕ) (n : Bool) (l : Option ℕ) → CountAlike (read_from g b c n l) (read_with (counting g b c n l))
+counted_alike (Some g) b c n l = record {
+  group = refl;
+  block = refl;
+  count = refl;
+  noack = λ _. refl;
+  claim = λ _. refl;
+}
+counted_alike None b c n l = record {
+  group = refl;
+  block = refl;
+  count = refl;
+  noack = λ h. absurd cc;
+  claim = λ h. absurd cc;
+}
+
+-- what counts, as it is written
+counted_written : (x : Grouped ⊎ Ungrouped) → cases (λ g. read_sentence (grouped_with g)) ungrouped_sentence x ≡ read_sentence (read_with x)
+counted_written (inl g) = refl
+counted_written (inr y) = sym (counting_sentence None y.0 y.1 false None)
+
+counted_fits : (x : Grouped ⊎ Ungrouped) → CasesFit GroupedFits UngroupedFits x → ReadFits (read_with x)
+counted_fits (inl g) h = record {
+  group = h.0;
+  block = h.1.0;
+  count = h.1.1.0;
+  claim = h.1.1.1.1;
+}
+counted_fits (inr y) h = record {
+  group = tt;
+  block = h.0;
+  count = h.1;
+  claim = tt;
+}
+
+read_again : (x : Read) (r : List (List ℕ)) → ReadFits x → begins read_words r ≡ false → read_at (read_sentence x ++ r) ≡ Some (read_with (counted x), r)
+read_again x r fits free =
+    ap read_at (ap (λ t. t ++ r) (counting_sentence x.group x.block x.count x.noack x.claim))
+    ∙ ap (λ o. option_map (seen read_with) o) (read_reads.again (counted x) r (counting_fits x.group x.block x.count x.noack x.claim fits)
+    (free_within (read_words ++ codes "BLOCK" ∷ codes "COUNT" ∷ []) read_words r refl free))
+
+pub read_alike : ReadsAlike ReadFits read_sentence read_words CountAlike read_at
+read_alike = record {
+  again = λ x r fits free. (read_with (counted x), read_again x r fits free, counted_alike x.group x.block x.count x.noack x.claim);
+  takes = λ args x r e. seen_some read_with (counted_at args) x r e (λ t h is.
+      let k = read_reads.takes args t r h in
+      subst (λ y. (args ≡ read_sentence y ++ r) × ReadFits y) is (k.0 ∙ ap (λ s. s ++ r) (counted_written t), counted_fits t k.1));
+}
 
 -- ---- the laws by type
 

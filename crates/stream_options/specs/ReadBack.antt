@@ -37,7 +37,7 @@ mode_of arg = if bytes_eq arg (codes "=") then Some exact else if bytes_eq arg (
 abbrev pub policy_of : List ℕ → Option Policy
 policy_of arg = if bytes_eq arg (codes "KEEPREF") then Some keep_ref else if bytes_eq arg (codes "DELREF") then Some del_ref else if bytes_eq arg (codes "ACKED") then Some acked else None
 
--- the mode of giving back of a word
+-- why an entry is given back, of a word
 abbrev pub nack_of : List ℕ → Option Nack
 nack_of arg = if bytes_eq arg (codes "SILENT") then Some silent else if bytes_eq arg (codes "FAIL") then Some fail else if bytes_eq arg (codes "FATAL") then Some fatal else None
 
@@ -134,6 +134,12 @@ kept test of bytes = option_and_then (if_passes test) (of bytes)
 abbrev pub filtered : {T : Type 0} → (T → Bool) → ReadsAs T → ReadsAs T
 filtered test read args = option_and_then (if_passes (λ x. test x.0)) (read args)
 
+-- ---- giving back
+
+-- the options of giving back
+abbrev pub nack_at : ReadsAs Nack
+nack_at = argument_at nack_of
+
 -- ---- trimming
 
 -- a length and its mode
@@ -221,9 +227,17 @@ config_with x = record { seconds = x.0; maxsize = x.1 }
 abbrev pub any_set : Config → Bool
 any_set c = is_some c.seconds || is_some c.maxsize
 
+-- `[IDMP-DURATION d]`
+abbrev pub duration_clause : ReadsAs (Option ℕ)
+duration_clause args = argument_clause (kept in_duration number_of) (codes "IDMP-DURATION") args
+
+-- `[IDMP-MAXSIZE m]`
+abbrev pub maxsize_clause : ReadsAs (Option ℕ)
+maxsize_clause args = argument_clause (kept in_maxsize number_of) (codes "IDMP-MAXSIZE") args
+
 -- the options of a configuration
 abbrev pub config_at : ReadsAs Config
-config_at = filtered any_set (reading_as config_with (both (argument_clause (kept in_duration number_of) (codes "IDMP-DURATION")) (argument_clause (kept in_maxsize number_of) (codes "IDMP-MAXSIZE"))))
+config_at = filtered any_set (reading_as config_with (both duration_clause maxsize_clause))
 
 -- ---- claims
 

@@ -5,7 +5,7 @@ use Rattle.redis_streams.specs.declared.info.groups.StreamInfoGroup.{StreamInfoG
 use Rattle.redis_streams.specs.declared.info.groups.StreamInfoGroupsReply.{StreamInfoGroupsReply}
 use Rattle.redis_streams.specs.declared.info.idempotency.StreamInfoStreamReplyWithIdempotency.{StreamInfoStreamReplyWithIdempotency}
 use Rattle.redis_streams.specs.declared.info.stream.StreamInfoStreamReply.{StreamInfoStreamReply}
-use Rattle.redis_streams.specs.declared.pending.consumer.StreamInfoConsumer.{StreamInfoConsumer}
+use Rattle.redis_streams.specs.declared.info.consumer.StreamInfoConsumer.{StreamInfoConsumer}
 use Rattle.stream_text.specs.Entry.{entry_form}
 use Rattle.stream_text.specs.Form.{listed, number_form}
 

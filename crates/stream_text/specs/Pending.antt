@@ -1,7 +1,7 @@
 -- How the replies on pending entries stand in a line.
 use Rattle.std.specs.Prelude.{ℕ, List, ◌++◌, codes, decimal, string_bytes}
 use Rattle.std.specs.List.{join_by}
-use Rattle.redis_streams.specs.declared.pending.consumer.StreamInfoConsumer.{StreamInfoConsumer}
+use Rattle.redis_streams.specs.declared.info.consumer.StreamInfoConsumer.{StreamInfoConsumer}
 use Rattle.redis_streams.specs.declared.pending.extended.StreamPendingCountReply.{StreamPendingCountReply}
 use Rattle.redis_streams.specs.declared.pending.extended.StreamPendingId.{StreamPendingId}
 use Rattle.redis_streams.specs.declared.pending.summary.StreamPendingReply.{StreamPendingReply}

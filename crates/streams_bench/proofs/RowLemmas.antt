@@ -9,6 +9,7 @@ use Rattle.std.proofs.lemmas.List.Elements.{All-more}
 use Rattle.std.specs.List.{AllZip}
 use Rattle.std.specs.Prelude.{Result, Ok, Err, OnOk}
 use Rattle.redis_resp.specs.Tree.{Tree}
+use Rattle.redis_resp.specs.declared.value.error.ParsingError.{ParsingError}
 use Rattle.stream_text.specs.Answer.{IsAnswer}
 use Rattle.streams_bench.specs.Vector.{IsReplyText, answered}
 use Rattle.streams_bench.specs.Row.{AddsRow, AddsRows, IsRow, row_texts}
@@ -75,11 +76,11 @@ adds_more IsText old before new vectors i v within is so_far one =
     }
 
 -- the row of an answer is the row of the notation of its value
-pub answered_row : {T M E : Type 0} (meaning : T → M) (reading : Tree → Option M) (form : T → List ℕ) (t : Tree) (notation : Bor (List ℕ)) (old new : List Row) (name stored : List ℕ) (result : Result (Unit {0}) E)
-    → OnOk result (AddsRow (IsAnswer meaning reading form t) old new name stored) → OnOk result (AddsRow (IsReplyText meaning reading form notation) old new name stored)
-answered_row meaning reading form t notation old new name stored (Ok _) one = record {
+pub answered_row : {T M E : Type 0} (meaning : T → M) (reading : Tree → Option M) (may_refuse : Tree → ParsingError → Type 0) (form : T → List ℕ) (t : Tree) (notation : Bor (List ℕ)) (old new : List Row) (name stored : List ℕ) (result : Result (Unit {0}) E)
+    → OnOk result (AddsRow (IsAnswer meaning reading may_refuse form t) old new name stored) → OnOk result (AddsRow (IsReplyText meaning reading may_refuse form notation) old new name stored)
+answered_row meaning reading may_refuse form t notation old new name stored (Ok _) one = record {
   text = one.text;
   is_text = answered t one.is_text;
   adds = one.adds;
 }
-answered_row meaning reading form t notation old new name stored (Err _) one = tt
+answered_row meaning reading may_refuse form t notation old new name stored (Err _) one = tt

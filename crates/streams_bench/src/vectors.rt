@@ -65,31 +65,31 @@ fn push_keyword_options(alloc: Global, rows: &mut Vec<Row>) -> Result<(), AllocE
 fn push_replies(alloc: Global, rows: &mut Vec<Row>) -> Result<(), AllocError>
     ensures { OnOk result (vec_len rows.new ≡ vec_len rows.old + 30) }
 {
-    push_reply_rows::<StreamRangeReply>(alloc, rows, &rows::range_vectors())?;
-    push_reply_rows::<StreamClaimReply>(alloc, rows, &rows::claim_vectors())?;
-    push_reply_rows::<StreamReadReply>(alloc, rows, &rows::read_vectors())?;
-    push_reply_rows::<StreamAutoClaimReply>(alloc, rows, &autoclaim::autoclaim_vectors())?;
-    push_reply_rows::<StreamPendingReply>(alloc, rows, &pending::summary_vectors())?;
-    push_reply_rows::<StreamPendingCountReply>(alloc, rows, &pending::entry_vectors())?;
-    push_reply_rows::<StreamInfoStreamReply>(alloc, rows, &info::stream_vectors())?;
+    push_reply_rows::<StreamRangeReply>(alloc, rows, &rows::RANGE_VECTORS)?;
+    push_reply_rows::<StreamClaimReply>(alloc, rows, &rows::CLAIM_VECTORS)?;
+    push_reply_rows::<StreamReadReply>(alloc, rows, &rows::READ_VECTORS)?;
+    push_reply_rows::<StreamAutoClaimReply>(alloc, rows, &autoclaim::AUTOCLAIM_VECTORS)?;
+    push_reply_rows::<StreamPendingReply>(alloc, rows, &pending::SUMMARY_VECTORS)?;
+    push_reply_rows::<StreamPendingCountReply>(alloc, rows, &pending::ENTRY_VECTORS)?;
+    push_reply_rows::<StreamInfoStreamReply>(alloc, rows, &info::STREAM_VECTORS)?;
     push_reply_rows::<StreamInfoStreamReplyWithIdempotency>(
         alloc,
         rows,
-        &info::idempotency_vectors(),
+        &info::IDEMPOTENCY_VECTORS,
     )?;
-    push_reply_rows::<StreamInfoConsumersReply>(alloc, rows, &info::consumer_vectors())?;
-    push_reply_rows::<StreamInfoGroupsReply>(alloc, rows, &info::group_vectors())?;
-    push_reply_rows::<XDelExStatusCode>(alloc, rows, &status::deletion_vectors())?;
-    push_reply_rows::<XAckDelStatusCode>(alloc, rows, &status::acknowledgement_vectors())
+    push_reply_rows::<StreamInfoConsumersReply>(alloc, rows, &info::CONSUMER_VECTORS)?;
+    push_reply_rows::<StreamInfoGroupsReply>(alloc, rows, &info::GROUP_VECTORS)?;
+    push_reply_rows::<XDelExStatusCode>(alloc, rows, &status::DELETION_VECTORS)?;
+    push_reply_rows::<XAckDelStatusCode>(alloc, rows, &status::ACKNOWLEDGEMENT_VECTORS)
 }
 
 // Adds the vectors of odd replies, v70 to v86.
 fn push_odd_replies(alloc: Global, rows: &mut Vec<Row>) -> Result<(), AllocError>
     ensures { OnOk result (vec_len rows.new ≡ vec_len rows.old + 17) }
 {
-    push_reply_rows::<StreamRangeReply>(alloc, rows, &rows::odd_range_vectors())?;
-    push_reply_rows::<StreamReadReply>(alloc, rows, &rows::odd_read_vectors())?;
-    push_reply_rows::<StreamAutoClaimReply>(alloc, rows, &autoclaim::odd_autoclaim_vectors())?;
-    push_reply_rows::<StreamPendingCountReply>(alloc, rows, &pending::odd_entry_vectors())?;
-    push_reply_rows::<StreamInfoStreamReply>(alloc, rows, &info::odd_stream_vectors())
+    push_reply_rows::<StreamRangeReply>(alloc, rows, &rows::ODD_RANGE_VECTORS)?;
+    push_reply_rows::<StreamReadReply>(alloc, rows, &rows::ODD_READ_VECTORS)?;
+    push_reply_rows::<StreamAutoClaimReply>(alloc, rows, &autoclaim::ODD_AUTOCLAIM_VECTORS)?;
+    push_reply_rows::<StreamPendingCountReply>(alloc, rows, &pending::ODD_ENTRY_VECTORS)?;
+    push_reply_rows::<StreamInfoStreamReply>(alloc, rows, &info::ODD_STREAM_VECTORS)
 }

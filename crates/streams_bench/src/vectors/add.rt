@@ -1,4 +1,6 @@
 //! Vectors of `XADD`.
+ghost use Rattle.std.specs.Prelude.{◌≡◌, [], ◌∷◌, IfOk, codes, map};
+
 use crate::vectors::row::OptionsVector;
 use std::alloc::{AllocError, Global};
 use stream_options::{
@@ -6,7 +8,10 @@ use stream_options::{
 };
 
 /// Add options without idempotency, v09 to v12.
-pub fn trimmed_vectors() -> [OptionsVector<StreamAddOptions>; 4] {
+pub fn trimmed_vectors() -> [OptionsVector<StreamAddOptions>; 4]
+    ensures { map (λ v. v.0.now) result
+        ≡ codes "v09" ∷ codes "v10" ∷ codes "v11" ∷ codes "v12" ∷ [] }
+{
     [
         ("v09", StreamAddOptions::default(), "-"),
         (
@@ -28,9 +33,10 @@ pub fn trimmed_vectors() -> [OptionsVector<StreamAddOptions>; 4] {
 }
 
 /// Add options with idempotency, v13 to v16.
-pub fn idempotent_vectors(
-    alloc: Global,
-) -> Result<[OptionsVector<StreamAddOptions>; 4], AllocError> {
+pub fn idempotent_vectors(alloc: Global) -> Result<[OptionsVector<StreamAddOptions>; 4], AllocError>
+    ensures { IfOk result (λ vectors. map (λ v. v.0.now) vectors
+        ≡ codes "v13" ∷ codes "v14" ∷ codes "v15" ∷ codes "v16" ∷ []) }
+{
     let automatic = StreamAddOptions::default().idmpauto(String::from_str(alloc, "producer-1")?);
     Ok([
         (
@@ -53,7 +59,10 @@ pub fn idempotent_vectors(
 }
 
 /// Add options with all settings, and with one that is set twice, v17 to v19.
-pub fn full_vectors(alloc: Global) -> Result<[OptionsVector<StreamAddOptions>; 3], AllocError> {
+pub fn full_vectors(alloc: Global) -> Result<[OptionsVector<StreamAddOptions>; 3], AllocError>
+    ensures { IfOk result (λ vectors. map (λ v. v.0.now) vectors
+        ≡ codes "v17" ∷ codes "v18" ∷ codes "v19" ∷ []) }
+{
     let about = StreamTrimStrategy::maxlen(StreamTrimmingMode::Approx, 100);
     let manual = produced(alloc, StreamAddOptions::default().nomkstream().trim(about))?;
     let from = String::from_str(alloc, "123456-0")?;
@@ -80,7 +89,10 @@ pub fn full_vectors(alloc: Global) -> Result<[OptionsVector<StreamAddOptions>; 3
 }
 
 /// Add options whose texts spell keywords, v66.
-pub fn keyword_vectors(alloc: Global) -> Result<[OptionsVector<StreamAddOptions>; 1], AllocError> {
+pub fn keyword_vectors(alloc: Global) -> Result<[OptionsVector<StreamAddOptions>; 1], AllocError>
+    ensures { IfOk result (λ vectors. map (λ v. v.0.now) vectors
+        ≡ codes "v66" ∷ []) }
+{
     let from = String::from_str(alloc, "=")?;
     let producer_id = String::from_str(alloc, "NOMKSTREAM")?;
     let idempotent_id = String::from_str(alloc, "IDMPAUTO")?;

@@ -1,5 +1,5 @@
 //! Vectors of the idempotency configuration, `XCFGSET`.
-ghost use Rattle.std.specs.Prelude.{◌≡◌, ◌+◌, IfOk, OnOk, length, string_bytes, vec_len};
+ghost use Rattle.std.specs.Prelude.{◌≡◌, ◌+◌, [], ◌∷◌, IfOk, OnOk, codes, length, map, string_bytes, vec_len};
 ghost use Rattle.streams_bench.specs.Config.{IsConfigText, IsRefusalText, refusal_text};
 ghost use Rattle.streams_bench.specs.Row.{AddsRow, AddsRows};
 
@@ -12,7 +12,10 @@ use stream_options::{ConfigError, StreamConfigOptions};
 pub type ConfigAnswer = Result<StreamConfigOptions, ConfigError>;
 
 /// Accepted config calls, v20 to v24.
-pub fn accepted_vectors() -> [OptionsVector<ConfigAnswer>; 5] {
+pub fn accepted_vectors() -> [OptionsVector<ConfigAnswer>; 5]
+    ensures { map (λ v. v.0.now) result
+        ≡ codes "v20" ∷ codes "v21" ∷ codes "v22" ∷ codes "v23" ∷ codes "v24" ∷ [] }
+{
     let maxsize_first = StreamConfigOptions::with_idempotency_maxsize(1000).and_then(
         |options| options.idempotency_seconds(300),
     );
@@ -38,7 +41,10 @@ pub fn accepted_vectors() -> [OptionsVector<ConfigAnswer>; 5] {
 }
 
 /// Refused config calls, v25 to v28.
-pub fn refused_vectors() -> [OptionsVector<ConfigAnswer>; 4] {
+pub fn refused_vectors() -> [OptionsVector<ConfigAnswer>; 4]
+    ensures { map (λ v. v.0.now) result
+        ≡ codes "v25" ∷ codes "v26" ∷ codes "v27" ∷ codes "v28" ∷ [] }
+{
     [
         (
             "v25",

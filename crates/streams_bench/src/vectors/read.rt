@@ -1,10 +1,15 @@
 //! Vectors of `XREAD`, `XREADGROUP` and `XNACK`.
+ghost use Rattle.std.specs.Prelude.{◌≡◌, [], ◌∷◌, IfOk, codes, map};
+
 use crate::vectors::row::OptionsVector;
 use std::alloc::{AllocError, Global};
 use stream_options::{StreamNackMode, StreamNackOptions, StreamReadOptions};
 
 /// Read options, v32 to v34.
-pub fn read_vectors(alloc: Global) -> Result<[OptionsVector<StreamReadOptions>; 3], AllocError> {
+pub fn read_vectors(alloc: Global) -> Result<[OptionsVector<StreamReadOptions>; 3], AllocError>
+    ensures { IfOk result (λ vectors. map (λ v. v.0.now) vectors
+        ≡ codes "v32" ∷ codes "v33" ∷ codes "v34" ∷ []) }
+{
     let alone = StreamReadOptions::default().noack().claim(100);
     let grouped = StreamReadOptions::default()
         .claim(100)
@@ -25,12 +30,18 @@ pub fn read_vectors(alloc: Global) -> Result<[OptionsVector<StreamReadOptions>; 
 }
 
 /// Nack options, v35.
-pub fn nack_vectors() -> [OptionsVector<StreamNackOptions>; 1] {
+pub fn nack_vectors() -> [OptionsVector<StreamNackOptions>; 1]
+    ensures { map (λ v. v.0.now) result
+        ≡ codes "v35" ∷ [] }
+{
     [("v35", StreamNackOptions::new(StreamNackMode::Fail), "FAIL")]
 }
 
 /// Read options whose names are no argument, or several, v68 and v69.
-pub fn names_vectors(alloc: Global) -> Result<[OptionsVector<StreamReadOptions>; 2], AllocError> {
+pub fn names_vectors(alloc: Global) -> Result<[OptionsVector<StreamReadOptions>; 2], AllocError>
+    ensures { IfOk result (λ vectors. map (λ v. v.0.now) vectors
+        ≡ codes "v68" ∷ codes "v69" ∷ []) }
+{
     let nothing: Vec<&str> = Vec::new(alloc);
     let nobody: Vec<&str> = Vec::new(alloc);
     let unnamed = StreamReadOptions::default()

@@ -2,92 +2,82 @@
 use crate::vectors::row::ReplyVector;
 
 /// Ranges, v36 to v38.
-pub fn range_vectors() -> [ReplyVector<'static>; 3] {
-    [
-        ("v36", "Array[Array[1-0, Array[f, v]]]", "1-0(f=v)"),
-        ("v37", "Map[1-0: Array[f, v]]", "1-0(f=v)"),
-        (
-            "v38",
-            "Array[Array[1-0, Array[a, b], 2-0, Nil, 1-0, Array[]]]",
-            "1-0() 2-0()",
-        ),
-    ]
-}
+pub const RANGE_VECTORS: [ReplyVector<'static>; 3] = [
+    ("v36", "Array[Array[1-0, Array[f, v]]]", "1-0(f=v)"),
+    ("v37", "Map[1-0: Array[f, v]]", "1-0(f=v)"),
+    (
+        "v38",
+        "Array[Array[1-0, Array[a, b], 2-0, Nil, 1-0, Array[]]]",
+        "1-0() 2-0()",
+    ),
+];
 
 /// Claims, v39.
-pub fn claim_vectors() -> [ReplyVector<'static>; 1] {
-    [("v39", "Nil", "-")]
-}
+pub const CLAIM_VECTORS: [ReplyVector<'static>; 1] = [("v39", "Nil", "-")];
 
 /// Reads, v40 to v43.
-pub fn read_vectors() -> [ReplyVector<'static>; 4] {
-    [
-        (
-            "v40",
-            "Map[s: Array[Array[1-0, Array[f, v], Int 5, Int 2]]]",
-            "s[1-0(f=v)@5#2]",
-        ),
-        (
-            "v41",
-            "Array[Array[s, Array[Array[1-0, Array[f, v], Int 5, Nil]]]]",
-            "s[1-0(f=v) 5()]",
-        ),
-        (
-            "v42",
-            "Array[Array[s, Array[Array[5, Array[f, v], Int 5, Nil]]]]",
-            "s[5()]",
-        ),
-        (
-            "v43",
-            "Array[Array[s, Array[Array[1-0, Array[f, v]], Array[2-0, Array[f, v], Int 5, Int 2]]]]",
-            "refused 9",
-        ),
-    ]
-}
+pub const READ_VECTORS: [ReplyVector<'static>; 4] = [
+    (
+        "v40",
+        "Map[s: Array[Array[1-0, Array[f, v], Int 5, Int 2]]]",
+        "s[1-0(f=v)@5#2]",
+    ),
+    (
+        "v41",
+        "Array[Array[s, Array[Array[1-0, Array[f, v], Int 5, Nil]]]]",
+        "s[1-0(f=v) 5()]",
+    ),
+    (
+        "v42",
+        "Array[Array[s, Array[Array[5, Array[f, v], Int 5, Nil]]]]",
+        "s[5()]",
+    ),
+    (
+        "v43",
+        "Array[Array[s, Array[Array[1-0, Array[f, v]], Array[2-0, Array[f, v], Int 5, Int 2]]]]",
+        "refused 9",
+    ),
+];
 
 /// Ranges with attributes, bytes that are no text, and odd shapes, v70 to v76.
-pub fn odd_range_vectors() -> [ReplyVector<'static>; 7] {
-    [
-        (
-            "v70",
-            "Attr(Array[Attr(Array[Attr(1-0), Attr(Map[Attr(f): Attr(v)])])])",
-            "1-0(f=v)",
-        ),
-        ("v71", "Array[Array[1-0, Array[f]]]", "refused 4"),
-        ("v72", "Array[Array[Bytes(255), Nil]]", "refused 1"),
-        ("v73", "Array[Array[1-0, Array[f, Bytes(255)]]]", "1-0(f=?)"),
-        ("v74", "Array[Array[1-0, x, 1-0, Nil]]", "refused 4"),
-        (
-            "v75",
-            "Set[Array[Int 7, Array[f, Boolean(true)]]]",
-            "7(f=?)",
-        ),
-        ("v76", "Push(message)[Array[1-0, Nil]]", "refused 3"),
-    ]
-}
+pub const ODD_RANGE_VECTORS: [ReplyVector<'static>; 7] = [
+    (
+        "v70",
+        "Attr(Array[Attr(Array[Attr(1-0), Attr(Map[Attr(f): Attr(v)])])])",
+        "1-0(f=v)",
+    ),
+    ("v71", "Array[Array[1-0, Array[f]]]", "refused 4"),
+    ("v72", "Array[Array[Bytes(255), Nil]]", "refused 1"),
+    ("v73", "Array[Array[1-0, Array[f, Bytes(255)]]]", "1-0(f=?)"),
+    ("v74", "Array[Array[1-0, x, 1-0, Nil]]", "refused 4"),
+    (
+        "v75",
+        "Set[Array[Int 7, Array[f, Boolean(true)]]]",
+        "7(f=?)",
+    ),
+    ("v76", "Push(message)[Array[1-0, Nil]]", "refused 3"),
+];
 
 /// Reads with numbers at their bounds and missing ones, v77 to v80.
-pub fn odd_read_vectors() -> [ReplyVector<'static>; 4] {
-    [
-        (
-            "v77",
-            "Array[Array[s, Array[Array[1-0, Nil, 18446744073709551615, Int 0]]]]",
-            "s[1-0()@18446744073709551615#0]",
-        ),
-        (
-            "v78",
-            "Array[Array[s, Array[Array[1-0, Nil, 18446744073709551616, Int 0]]]]",
-            "refused 9",
-        ),
-        (
-            "v79",
-            "Array[Array[s, Array[Array[1-0, Nil, Nil, Int 2]]]]",
-            "s[1-0()#2]",
-        ),
-        (
-            "v80",
-            "Array[Array[s, Array[Array[1-0, Nil, Nil, Nil]]]]",
-            "s[1-0()]",
-        ),
-    ]
-}
+pub const ODD_READ_VECTORS: [ReplyVector<'static>; 4] = [
+    (
+        "v77",
+        "Array[Array[s, Array[Array[1-0, Nil, 18446744073709551615, Int 0]]]]",
+        "s[1-0()@18446744073709551615#0]",
+    ),
+    (
+        "v78",
+        "Array[Array[s, Array[Array[1-0, Nil, 18446744073709551616, Int 0]]]]",
+        "refused 9",
+    ),
+    (
+        "v79",
+        "Array[Array[s, Array[Array[1-0, Nil, Nil, Int 2]]]]",
+        "s[1-0()#2]",
+    ),
+    (
+        "v80",
+        "Array[Array[s, Array[Array[1-0, Nil, Nil, Nil]]]]",
+        "s[1-0()]",
+    ),
+];

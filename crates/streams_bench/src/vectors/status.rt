@@ -2,11 +2,14 @@
 use crate::vectors::row::ReplyVector;
 
 /// Deletions, v63 and v64.
-pub fn deletion_vectors() -> [ReplyVector<'static>; 2] {
-    [("v63", "Int 2", "2"), ("v64", "Int 0", "refused 13")]
-}
+pub const DELETION_VECTORS: [ReplyVector<'static>; 2] = [
+    ("v63", "Int 2", "2"),
+    ("v64", "Int 0", "refused 13"),
+];
 
 /// Acknowledgements, v65.
-pub fn acknowledgement_vectors() -> [ReplyVector<'static>; 1] {
-    [("v65", "Attr(Int 1)", "refused 16")]
-}
+pub const ACKNOWLEDGEMENT_VECTORS: [ReplyVector<'static>; 1] = [(
+    "v65",
+    "Attr(Int 1)",
+    "refused 16",
+)];

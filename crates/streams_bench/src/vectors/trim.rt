@@ -1,10 +1,15 @@
 //! Vectors of `XTRIM`.
+ghost use Rattle.std.specs.Prelude.{◌≡◌, [], ◌∷◌, IfOk, codes, map};
+
 use crate::vectors::row::OptionsVector;
 use std::alloc::{AllocError, Global};
 use stream_options::{StreamDeletionPolicy, StreamMaxlen, StreamTrimOptions, StreamTrimmingMode};
 
 /// Trim options, v01 to v06.
-pub fn trim_vectors(alloc: Global) -> Result<[OptionsVector<StreamTrimOptions>; 6], AllocError> {
+pub fn trim_vectors(alloc: Global) -> Result<[OptionsVector<StreamTrimOptions>; 6], AllocError>
+    ensures { IfOk result (λ vectors. map (λ v. v.0.now) vectors
+        ≡ codes "v01" ∷ codes "v02" ∷ codes "v03" ∷ codes "v04" ∷ codes "v05" ∷ codes "v06" ∷ []) }
+{
     let about_ten = StreamTrimOptions::maxlen(StreamTrimmingMode::Approx, 10);
     let from_id = StreamTrimOptions::minid(
         StreamTrimmingMode::Exact,
@@ -43,7 +48,10 @@ pub fn trim_vectors(alloc: Global) -> Result<[OptionsVector<StreamTrimOptions>; 
 }
 
 /// Lengths, v07 and v08.
-pub fn maxlen_vectors() -> [OptionsVector<StreamMaxlen>; 2] {
+pub fn maxlen_vectors() -> [OptionsVector<StreamMaxlen>; 2]
+    ensures { map (λ v. v.0.now) result
+        ≡ codes "v07" ∷ codes "v08" ∷ [] }
+{
     [
         ("v07", StreamMaxlen::Equals(0), "MAXLEN = 0"),
         (

@@ -24,33 +24,33 @@ fn check_vectors<T: FromRedisValue + PrintedForm>(
 
 #[test]
 fn vectors_of_rows(rt: HostRuntime) -> Result<(), Fail> {
-    check_vectors::<StreamRangeReply>(&rt, &rows::range_vectors())?;
-    check_vectors::<StreamRangeReply>(&rt, &rows::odd_range_vectors())?;
-    check_vectors::<StreamClaimReply>(&rt, &rows::claim_vectors())?;
-    check_vectors::<StreamReadReply>(&rt, &rows::read_vectors())?;
-    check_vectors::<StreamReadReply>(&rt, &rows::odd_read_vectors())?;
-    check_vectors::<StreamAutoClaimReply>(&rt, &autoclaim::autoclaim_vectors())?;
-    check_vectors::<StreamAutoClaimReply>(&rt, &autoclaim::odd_autoclaim_vectors())
+    check_vectors::<StreamRangeReply>(&rt, &rows::RANGE_VECTORS)?;
+    check_vectors::<StreamRangeReply>(&rt, &rows::ODD_RANGE_VECTORS)?;
+    check_vectors::<StreamClaimReply>(&rt, &rows::CLAIM_VECTORS)?;
+    check_vectors::<StreamReadReply>(&rt, &rows::READ_VECTORS)?;
+    check_vectors::<StreamReadReply>(&rt, &rows::ODD_READ_VECTORS)?;
+    check_vectors::<StreamAutoClaimReply>(&rt, &autoclaim::AUTOCLAIM_VECTORS)?;
+    check_vectors::<StreamAutoClaimReply>(&rt, &autoclaim::ODD_AUTOCLAIM_VECTORS)
 }
 
 #[test]
 fn vectors_of_pending_entries(rt: HostRuntime) -> Result<(), Fail> {
-    check_vectors::<StreamPendingReply>(&rt, &pending::summary_vectors())?;
-    check_vectors::<StreamPendingCountReply>(&rt, &pending::entry_vectors())?;
-    check_vectors::<StreamPendingCountReply>(&rt, &pending::odd_entry_vectors())
+    check_vectors::<StreamPendingReply>(&rt, &pending::SUMMARY_VECTORS)?;
+    check_vectors::<StreamPendingCountReply>(&rt, &pending::ENTRY_VECTORS)?;
+    check_vectors::<StreamPendingCountReply>(&rt, &pending::ODD_ENTRY_VECTORS)
 }
 
 #[test]
 fn vectors_of_information(rt: HostRuntime) -> Result<(), Fail> {
-    check_vectors::<StreamInfoStreamReply>(&rt, &info::stream_vectors())?;
-    check_vectors::<StreamInfoStreamReply>(&rt, &info::odd_stream_vectors())?;
-    check_vectors::<StreamInfoStreamReplyWithIdempotency>(&rt, &info::idempotency_vectors())?;
-    check_vectors::<StreamInfoConsumersReply>(&rt, &info::consumer_vectors())?;
-    check_vectors::<StreamInfoGroupsReply>(&rt, &info::group_vectors())
+    check_vectors::<StreamInfoStreamReply>(&rt, &info::STREAM_VECTORS)?;
+    check_vectors::<StreamInfoStreamReply>(&rt, &info::ODD_STREAM_VECTORS)?;
+    check_vectors::<StreamInfoStreamReplyWithIdempotency>(&rt, &info::IDEMPOTENCY_VECTORS)?;
+    check_vectors::<StreamInfoConsumersReply>(&rt, &info::CONSUMER_VECTORS)?;
+    check_vectors::<StreamInfoGroupsReply>(&rt, &info::GROUP_VECTORS)
 }
 
 #[test]
 fn vectors_of_status_codes(rt: HostRuntime) -> Result<(), Fail> {
-    check_vectors::<XDelExStatusCode>(&rt, &status::deletion_vectors())?;
-    check_vectors::<XAckDelStatusCode>(&rt, &status::acknowledgement_vectors())
+    check_vectors::<XDelExStatusCode>(&rt, &status::DELETION_VECTORS)?;
+    check_vectors::<XAckDelStatusCode>(&rt, &status::ACKNOWLEDGEMENT_VECTORS)
 }
