@@ -31,18 +31,6 @@ pub(crate) fn entry(alloc: Global, id: &str, order: &str) -> Result<Value, Alloc
     Ok(Value::Array(vec![in alloc; bulk(alloc, id)?, bulks(alloc, &fields)?]?))
 }
 
-/// The texts on one line, with spaces between.
-pub(crate) fn joined(alloc: Global, texts: &[String]) -> Result<String, AllocError> {
-    let mut line = String::new(alloc);
-    for text in texts {
-        if !line.is_empty() {
-            line.push(' ')?;
-        }
-        line.push_str(text)?;
-    }
-    Ok(line)
-}
-
 /// The arguments on one line, with spaces between.
 pub(crate) fn words(alloc: Global, arguments: &[Vec<u8>]) -> Result<String, Fail> {
     let mut line = String::new(alloc);
