@@ -32,7 +32,10 @@ fn assert_answer<T: ToRedisArgs + Drop>(
         Ok((options, k)) => {
             assert!(rt; wanted == Some(k), "{k} arguments of {args:?}");
             let written = options.to_redis_args(alloc)?;
-            assert!(rt; written.as_slice() == &args[..k], "{written:?} of {args:?}");
+            assert_eq!(rt; written.len(), k);
+            for (arg, word) in args.iter().zip(written.iter()) {
+                assert!(rt; arg == word, "{written:?} of {args:?}");
+            }
         }
         Err(SentenceError::NotASentence) => assert!(rt; wanted.is_none(), "none of {args:?}"),
         Err(SentenceError::Memory) => return Err(Fail::new("out of memory")),
