@@ -12,13 +12,11 @@
 //! It ends with 0, or with 2 where memory ran out, or standard input or output failed.
 #![tactic(auto)]
 
-mod pieces;
 #[cfg(test)]
 mod tests;
 
-use pieces::{differs_in_pieces, differs_where_cut, reply_text};
-use redis_wire::{Decoded, Limits, WireError, decode};
-use std::alloc::Global;
+use redis_wire::{Decoded, Limits, Reply, ReplyStream, WireError, decode};
+use std::alloc::{AllocError, Global};
 use std::io::{BufRead, BufReader, BufWriter, Write};
 use std::process::ExitCode;
 use std::{env, io};
@@ -72,4 +70,73 @@ fn answer_of(alloc: Global, bytes: &[u8]) -> Result<String, anyhow::Error> {
         Err(WireError::Memory) => Err(WireError::Memory.into()),
         Err(WireError::Fault(fault)) => Ok(format!(in alloc; "refused: {fault}")?),
     }
+}
+
+// A reply behind its length.
+fn reply_text(alloc: Global, len: usize, reply: &Reply) -> Result<String, AllocError> {
+    format!(in alloc; "{len} {reply:?}")
+}
+
+// Whether this reply comes out otherwise where it is cut in two, or a beginning of it is taken
+// for a reply or for none.
+fn differs_where_cut(alloc: Global, bytes: &[u8], text: &str) -> Result<bool, WireError> {
+    for len in 0..bytes.len() {
+        let (front, back) = bytes.split_at(len);
+        if !matches!(
+            decode(alloc, front, Limits::default())?,
+            Decoded::Incomplete
+        ) {
+            return Ok(true);
+        }
+        let mut stream = ReplyStream::new(alloc, Limits::default());
+        stream.feed(front)?;
+        if stream.next(alloc)?.is_some() {
+            return Ok(true);
+        }
+        stream.feed(back)?;
+        match stream.next(alloc)? {
+            Some(reply) => {
+                let Ok(other) = reply_text(alloc, bytes.len(), &reply) else {
+                    return Err(WireError::Memory);
+                };
+                if other.as_str() != text {
+                    return Ok(true);
+                }
+            }
+            None => return Ok(true),
+        }
+    }
+    Ok(false)
+}
+
+// Whether these replies come out otherwise where their bytes come in pieces of this size.
+fn differs_in_pieces(
+    alloc: Global,
+    bytes: &[u8],
+    size: usize,
+    texts: &[String],
+) -> Result<bool, WireError> {
+    let mut stream = ReplyStream::new(alloc, Limits::default());
+    let mut wanted = texts.iter();
+    let mut rest = bytes;
+    for _ in 0..bytes.len() {
+        let (piece, behind) = rest.split_at(size.min(rest.len()));
+        rest = behind;
+        stream.feed(piece)?;
+        for _ in 0..bytes.len() {
+            let Some(reply) = stream.next(alloc)? else {
+                break;
+            };
+            let Some(text) = wanted.next() else {
+                return Ok(true);
+            };
+            let Ok(other) = format!(in alloc; " {reply:?}") else {
+                return Err(WireError::Memory);
+            };
+            if !text.as_str().ends_with(other.as_str()) {
+                return Ok(true);
+            }
+        }
+    }
+    Ok(wanted.next().is_some())
 }
