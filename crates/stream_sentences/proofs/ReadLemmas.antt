@@ -1,8 +1,7 @@
 -- A read is one with a group, or one without.
-use Rattle.std.proofs.Common.{◌≡◌, ℕ, true, false, List, [], ◌∷◌, codes, Option, Some, None, refl, ◌∙◌, ◌⊎◌}
+use Rattle.std.proofs.Common.{◌≡◌, ℕ, true, false, List, [], ◌∷◌, codes, Option, Some, None, refl}
 use Rattle.std.specs.Option.{option_map}
-use Rattle.stream_options.specs.Read.{Read}
-use Rattle.stream_options.specs.ReadBack.{seen, reading_as, counted_at, read_at, read_with, Grouped, Ungrouped, grouped_with, grouped_at, ungrouped_with, ungrouped_at}
+use Rattle.stream_options.specs.ReadBack.{seen, reading_as, read_at, read_with, grouped_with, grouped_at, ungrouped_with, ungrouped_at}
 use Rattle.stream_options.specs.Words.{begins}
 
 -- one view after the other is one view

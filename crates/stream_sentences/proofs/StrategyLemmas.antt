@@ -1,8 +1,8 @@
 -- A strategy is a bound, and a limit where one is set.
-use Rattle.std.proofs.Common.{◌≡◌, ℕ, List, codes, Option, Some, None, refl, sym, ◌∙◌, ap}
+use Rattle.std.proofs.Common.{◌≡◌, ℕ, List, codes, Option, Some, None, refl, ◌∙◌, ap}
 use Rattle.std.proofs.lemmas.Option.{some_pair_parts}
 use Rattle.std.specs.Option.{option_map, option_and_then}
-use Rattle.stream_options.specs.ReadBack.{seen, followed, both, bound_at, number_clause, strategy_with, strategy_at}
+use Rattle.stream_options.specs.ReadBack.{seen, followed, bound_at, number_clause, strategy_with, strategy_at}
 use Rattle.stream_options.specs.Trim.{Bound, Strategy, unlimited}
 use Rattle.stream_sentences.specs.Split.{unlimited_at}
 
