@@ -1,9 +1,9 @@
-//! A caller that names this crate alone.
+//! A caller that takes every name of code from this crate.
 ghost use Rattle.std.specs.Prelude.{◌≡◌, ◌≢◌, [], ◌∷◌, None, codes, decimal, map};
 ghost use Rattle.std.specs.Prelude.{option_map, string_bytes, IfOk, IfErr, Some};
-ghost use Rattle.redis.specs.Streams.Read.{read_reading};
-ghost use Rattle.redis.specs.Streams.StreamKey.{streams_of};
-ghost use Rattle.redis.specs.Resp.Value.{tree};
+ghost use Rattle.redis_streams.specs.Read.{read_reading};
+ghost use Rattle.redis_streams.specs.ReadMeaning.{streams_of};
+ghost use Rattle.redis_resp.specs.Value.{tree};
 
 use crate::streams::{StreamReadOptions, StreamReadReply};
 use crate::{FromRedisValue, ParsingError, ToRedisArgs, Value};
@@ -29,7 +29,7 @@ fn streams_in(alloc: Global, answer: Value) -> Result<StreamReadReply, ParsingEr
 }
 
 #[test]
-fn this_crate_alone_is_named(rt: HostRuntime) -> Result<(), Fail> {
+fn names_are_taken_from_here(rt: HostRuntime) -> Result<(), Fail> {
     let alloc = rt.alloc();
     assert_eq!(rt; read_arguments(alloc, 10, "jobs")?.len(), 6);
     assert!(rt; streams_in(alloc, Value::Nil)?.keys.is_empty());

@@ -4,6 +4,7 @@ pub mod FixedArgsLemmas
 pub mod ReadableLemmas
 pub mod RefusalLemmas
 pub mod RoomLemmas
+pub mod MapLemmas
 pub mod MembersLemmas
 pub mod NumberLemmas
 pub mod SameLemmas

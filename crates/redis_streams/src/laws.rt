@@ -5,8 +5,19 @@
 //! reply the one may stand for the other: both values then read as one record, or both as none.
 ghost use Rattle.redis_streams.specs.AutoClaim.{autoclaim_reading};
 ghost use Rattle.redis_streams.specs.AutoClaimLaws.{InvalidEntriesTellNil};
-ghost use Rattle.redis_streams.specs.Info.{consumer_reading, group_reading, stream_reading, tracked_reading};
-ghost use Rattle.redis_streams.specs.OtherKeys.{OtherKeysChangeNothing, consumer_names, group_names, stream_names, tracked_names};
+ghost use Rattle.redis_streams.specs.Info.{
+  consumer_reading,
+  group_reading,
+  stream_reading,
+  tracked_reading,
+};
+ghost use Rattle.redis_streams.specs.OtherKeys.{
+  OtherKeysChangeNothing,
+  consumer_names,
+  group_names,
+  stream_names,
+  tracked_names,
+};
 ghost use Rattle.redis_streams.specs.OverlapLaws.{
   BothRecordsAreShape,
   ClaimIsGiven,
@@ -83,9 +94,9 @@ pub fn respell_autoclaim()
 {}
 
 /// Where a read has both a standard and a claim record: exactly where its skeleton is readable and
-/// each entry is an array of four, a text, fields, a number and nil. Such an entry gives its id with
-/// the fields and its number's text without fields in the standard record (the second alone where
-/// the two texts are one), and one delivered entry in the claim record. So the records differ
+/// each entry is an array of four: a text, fields, a number and nil. Such an entry gives its id
+/// with the fields and its number's text without fields in the standard record (the second alone
+/// where the two texts are one), and one delivered entry in the claim record. So the records differ
 /// exactly where a list that a row's table keeps has an entry. It takes no memory.
 #[tactic(auto, using(crate::proofs::OverlapLemmas::overlap_laws))]
 pub fn overlap()

@@ -3,13 +3,13 @@ use Rattle.std.proofs.Common.{◌≡◌, ◌≢◌, ℕ, Bool, List, [], ◌∷�
 use Rattle.std.specs.Prelude.{is_some}
 use Rattle.std.specs.Option.{option_or, unwrap_or}
 use Rattle.stream_options.specs.AddCalls as add
-use Rattle.stream_options.specs.AddCalls.{AddValue, AddCall, add_said, final_add, after_add}
+use Rattle.stream_options.specs.AddCalls.{AddCall, add_said, final_add, after_add}
 use Rattle.stream_options.specs.Add.{Add}
 use Rattle.stream_options.specs.AutoClaimCalls as autoclaim
-use Rattle.stream_options.specs.AutoClaimCalls.{AutoClaimValue, autoclaim_said, final_autoclaim}
+use Rattle.stream_options.specs.AutoClaimCalls.{autoclaim_said, final_autoclaim}
 use Rattle.stream_options.specs.Calls.{last_said}
 use Rattle.stream_options.specs.ClaimCalls as claim
-use Rattle.stream_options.specs.ClaimCalls.{ClaimValue, claim_said, final_claim}
+use Rattle.stream_options.specs.ClaimCalls.{claim_said, final_claim}
 use Rattle.stream_options.specs.ConfigCalls as config
 use Rattle.stream_options.specs.ConfigCalls.{config_said, final_config}
 use Rattle.stream_options.specs.Idempotency.{Idempotency}
@@ -17,10 +17,10 @@ use Rattle.stream_options.specs.Laws.{LastCallWins, SettersCommute}
 use Rattle.stream_options.specs.Policy.{Policy}
 use Rattle.stream_options.specs.Read.{Group, Read}
 use Rattle.stream_options.specs.ReadCalls as read
-use Rattle.stream_options.specs.ReadCalls.{ReadValue, ReadCall, read_said, final_read, after_read}
+use Rattle.stream_options.specs.ReadCalls.{ReadCall, read_said, final_read, after_read}
 use Rattle.stream_options.specs.Trim.{Strategy}
 use Rattle.stream_options.specs.TrimCalls as trim
-use Rattle.stream_options.specs.TrimCalls.{TrimValue, trim_said, final_trim}
+use Rattle.stream_options.specs.TrimCalls.{trim_said, final_trim}
 
 option_or_assoc : {T : Type 0} (a b c : Option T) → option_or (option_or a b) c ≡ option_or a (option_or b c)
 option_or_assoc None b c = refl

@@ -1,6 +1,6 @@
 -- The settings of each option type can be read back from their sentence, so the sentence determines
 -- them.
-use Rattle.std.proofs.Common.{◌≡◌, ℕ, ◌≤◌, ◌<◌, ◌^◌, Bool, true, false, cond, leb, ◌&&◌, ◌||◌, List, [], ◌∷◌, ◌++◌, codes, decimal, Option, Some, None, refl, sym, ◌∙◌, ap, subst, ◌⊎◌, inl, inr, arith, append-nil}
+use Rattle.std.proofs.Common.{◌≡◌, ℕ, ◌≤◌, Bool, true, false, cond, leb, ◌&&◌, ◌||◌, List, [], ◌∷◌, ◌++◌, codes, decimal, Option, Some, None, refl, sym, ◌∙◌, ap, subst, ◌⊎◌, inl, inr, arith, append-nil}
 use Rattle.std.specs.Prelude.{IfSome, IsSome, is_some, length}
 use Rattle.std.specs.Option.{option_map}
 use Rattle.std.specs.Str.{bytes_eq, IsUtf8}
@@ -11,8 +11,8 @@ use Rattle.redis_resp.specs.Clause.{clause}
 use Rattle.stream_options.specs.Add.{add_sentence, add_words, AddFits}
 use Rattle.stream_options.specs.AutoClaim.{autoclaim_sentence, autoclaim_words, AutoClaimFits}
 use Rattle.stream_options.specs.Claim.{Claim, claim_sentence, claim_words, ClaimFits}
-use Rattle.stream_options.specs.Clauses.{word_number, word_text, flag}
-use Rattle.stream_options.specs.Config.{Config, config_sentence, config_words, IsConfig, IsDuration, IsMaxsize}
+use Rattle.stream_options.specs.Clauses.{word_number, word_text}
+use Rattle.stream_options.specs.Config.{config_sentence, config_words, IsConfig, IsDuration, IsMaxsize}
 use Rattle.stream_options.specs.Idempotency.{Idempotency, manual, automatic, idempotency_sentence, idempotency_words, IdempotencyFits}
 use Rattle.stream_options.specs.Laws.{Any, Determines, IsExact, Equal}
 use Rattle.stream_options.specs.Maxlen.{Maxlen, maxlen_sentence, maxlen_words, MaxlenFits}
@@ -20,7 +20,7 @@ use Rattle.stream_options.specs.Nack.{Nack, silent, fail, fatal, nack_word, nack
 use Rattle.stream_options.specs.Policy.{Policy, keep_ref, del_ref, acked, policy_word, policy_sentence, policy_words}
 use Rattle.stream_options.specs.Read.{Group, Read, group_sentence, read_sentence, read_words, IsSingle, ReadFits, CountAlike}
 use Rattle.stream_options.specs.ReadBack.{number_of, text_of, number_clause, text_clause, both, one, two, ClaimParts, claim_with, claim_at, policy_of, policy_clause, idempotency_at, mode_of, bound_at, bound_words, strategy_with, strategy_at, trim_with, trim_at, maxlen_with, maxlen_at, add_with, add_at, optional, single_group, group_at, Ungrouped, Grouped, grouped_with, grouped_at, ungrouped_at, counted_at, read_with, read_at, seen, nack_of, nack_at, argument_at, autoclaim_with, autoclaim_at, argument_clause, kept, in_duration, in_maxsize, any_set, config_with, config_at}
-use Rattle.stream_options.specs.Trim.{Mode, exact, approx, mode_word, mode_sentence, mode_words, Bound, max_len, min_id, bound_sentence, BoundFits, Strategy, strategy_sentence, strategy_words, StrategyFits, Trim, trim_sentence, trim_words, TrimFits}
+use Rattle.stream_options.specs.Trim.{Mode, exact, approx, mode_word, mode_sentence, mode_words, Bound, max_len, min_id, bound_sentence, BoundFits, Strategy, strategy_sentence, strategy_words, StrategyFits, trim_sentence, trim_words, TrimFits}
 use Rattle.stream_options.specs.Words.{begins, IsUsize}
 use Rattle.stream_options.proofs.Sentences.{seen_some, ReadsAlike, cases, CasesFit, and_true, free_within, ReadsBack, ReadsArgument, gives, optional_reads, either_reads, determined, whole, kept_reads, filtered_reads, apart, as_reads, told, both_reads, argument_reads, argument_at_reads, one_takes, flag_reads, number_reads, text_reads}
 use Rattle.stream_options.proofs.Sentences as sentences

@@ -3,3 +3,4 @@ pub mod Worker
 pub mod Order
 pub mod Stalled
 pub mod Monitoring
+pub mod Readme

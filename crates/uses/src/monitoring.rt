@@ -3,8 +3,8 @@ ghost use Rattle.std.specs.Prelude.{◌≡◌, ◌≢◌, [], ◌∷◌, Some, N
 ghost use Rattle.std.specs.Prelude.{nat_le, option_map, string_bytes, IfOk, IfErr};
 ghost use Rattle.redis_resp.specs.Value.{tree};
 ghost use Rattle.redis_streams.specs.Info.{groups_reading};
-ghost use Rattle.redis_streams.specs.InfoRecords.{groups_meaning};
-ghost use Rattle.redis_streams.specs.PendingRecords.{pending_ids_meaning};
+ghost use Rattle.redis_streams.specs.InfoMeaning.{groups_meaning};
+ghost use Rattle.redis_streams.specs.PendingMeaning.{pending_ids_meaning};
 ghost use Rattle.uses.specs.Monitoring.{lag_in};
 
 use redis_resp::{ParsingError, ToRedisArgs, Value, from_redis_value};
@@ -33,7 +33,7 @@ pub fn delivered_too_often(
     limit: usize,
 ) -> Result<Vec<String>, AllocError>
     ensures { IfOk result (λ ids. map string_bytes ids.items ≡ map (λ p. p.id)
-        (filter (λ p. nat_le limit p.delivered) (pending_ids_meaning reply.now))) }
+        (filter (λ p. nat_le limit p.times_delivered) (pending_ids_meaning reply.now))) }
 {
     let mut ids = Vec::new(alloc);
     for pending in &reply.ids {

@@ -6,7 +6,7 @@ ghost use Rattle.redis_resp.specs.Number.{unsigned_reading};
 ghost use Rattle.redis_resp.specs.Reading.{list_reading};
 ghost use Rattle.redis_resp.specs.Value.{tree};
 ghost use Rattle.redis_streams.specs.Entry.{field_record};
-ghost use Rattle.redis_streams.specs.StreamId.{fields_of};
+ghost use Rattle.redis_streams.specs.EntryMeaning.{fields_of};
 ghost use Rattle.uses.specs.Order.{Meant, order_meaning, order_of, order_reading};
 
 use redis_resp::{
@@ -135,16 +135,6 @@ pub fn order_named(alloc: Global, entry: &StreamId) -> Result<Option<OrderId>, A
         ≡ field_record (unsigned_reading 64) (fields_of entry.now.map) (codes "order")) }
 {
     entry.get(alloc, "order")
-}
-
-/// The orders of a list of numbers.
-pub fn orders_numbered(alloc: Global, v: Value) -> Result<Vec<OrderId>, ParsingError>
-    ensures ok { IfOk result (λ r. list_reading (unsigned_reading 64) (tree v)
-        ≡ Some (map (λ id. id.0) r.items)) }
-    ensures err { IfErr result (λ e. e ≢ ParsingError.Memory
-        → list_reading (unsigned_reading 64) (tree v) ≡ None) }
-{
-    Vec::from_redis_value(alloc, v)
 }
 
 /// The orders of a list of maps of fields.

@@ -70,3 +70,15 @@ impl Producer {
         Ok(id)
     }
 }
+
+/// `XADD key * body payload`: a payload that need be no text, borrowed and one argument.
+pub fn payload_arguments(
+    alloc: Global,
+    key: &str,
+    payload: &[u8],
+) -> Result<Vec<Vec<u8>>, AllocError>
+    ensures { IfOk result (λ list. map (λ arg. arg.items) list.items ≡
+        codes "XADD" ∷ key.now ∷ codes "*" ∷ codes "body" ∷ payload.now ∷ []) }
+{
+    ("XADD", key, "*", "body", payload).to_redis_args(alloc)
+}

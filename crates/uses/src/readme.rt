@@ -1,28 +1,35 @@
 //! The code of the README.
-ghost use Rattle.std.specs.Prelude.{◌≡◌, [], ◌∷◌, ◌++◌, codes, decimal, map, IfOk};
+ghost use Rattle.std.specs.Prelude.{◌≡◌, [], ◌∷◌, Some, codes, decimal, map, option_map, string_bytes, IfOk};
+ghost use Rattle.redis_resp.specs.Value.{tree};
+ghost use Rattle.redis_streams.specs.Rows.{rows_reading};
+ghost use Rattle.uses.specs.Readme.{first_text};
 
-use redis_resp::{ToRedisArgs, Value, from_redis_value};
+use redis_resp::{ParsingError, ToRedisArgs, Value, from_redis_value};
 use redis_streams::StreamRangeReply;
 use std::alloc::{AllocError, Global};
-use stream_options::{StreamAddOptions, StreamTrimStrategy, StreamTrimmingMode};
+use stream_commands::{AtLeastOne, xread_options};
+use stream_options::StreamReadOptions;
 
-/// `NOMKSTREAM MAXLEN ~ 1000`, whatever the order of the calls.
-pub fn add_arguments(alloc: Global) -> Result<Vec<Vec<u8>>, AllocError>
+/// `XREADGROUP GROUP workers ann COUNT 10 STREAMS orders >`, whatever the order of the calls.
+pub fn read_arguments(alloc: Global) -> Result<Vec<Vec<u8>>, AllocError>
     ensures { IfOk result (λ list. map (λ arg. arg.items) list.items ≡
-        codes "NOMKSTREAM" ∷ codes "MAXLEN" ∷ codes "~" ∷ decimal 1000 ∷ []) }
+        codes "XREADGROUP" ∷ codes "GROUP" ∷ codes "workers" ∷ codes "ann"
+        ∷ codes "COUNT" ∷ decimal 10 ∷ codes "STREAMS" ∷ codes "orders" ∷ codes ">" ∷ []) }
 {
-    let trim = StreamTrimStrategy::maxlen(StreamTrimmingMode::Approx, 1000);
-    StreamAddOptions::default()
-        .trim(trim)
-        .nomkstream()
-        .to_redis_args(alloc)
+    let options = StreamReadOptions::default()
+        .count(10)
+        .group(alloc, "workers", "ann")?;
+    xread_options(AtLeastOne::one(&("orders", ">")), &options).to_redis_args(alloc)
 }
 
-/// The field `name` of the first entry of an answer of XRANGE.
-pub fn first_name(alloc: Global, answer: Value) -> anyhow::Result<Option<String>> {
+/// The customer that the first entry of an answer of XRANGE names.
+pub fn first_customer(alloc: Global, answer: Value) -> Result<Option<String>, ParsingError>
+    ensures { IfOk result (λ customer. option_map (first_text (codes "customer"))
+        (rows_reading (tree answer)) ≡ Some (option_map string_bytes customer)) }
+{
     let reply: StreamRangeReply = from_redis_value(alloc, answer)?; // moves the texts, copies none
     match reply.ids.first() {
-        Some(entry) => Ok(entry.get(alloc, "name")?),
+        Some(entry) => Ok(entry.get(alloc, "customer")?),
         None => Ok(None),
     }
 }

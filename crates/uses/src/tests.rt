@@ -11,13 +11,13 @@ use redis_resp::Value;
 use std::alloc::{AllocError, Global};
 use std::test::Fail;
 
-/// A bulk string.
-pub(crate) fn bulk(alloc: Global, text: &str) -> Result<Value, AllocError> {
+// A bulk string.
+fn bulk(alloc: Global, text: &str) -> Result<Value, AllocError> {
     Ok(Value::BulkString(Vec::from_slice(alloc, text.as_bytes())?))
 }
 
-/// An array of bulk strings.
-pub(crate) fn bulks(alloc: Global, texts: &[&str]) -> Result<Value, AllocError> {
+// An array of bulk strings.
+fn bulks(alloc: Global, texts: &[&str]) -> Result<Value, AllocError> {
     let mut items = Vec::new(alloc);
     for text in texts {
         items.push(bulk(alloc, text)?)?;
@@ -25,26 +25,14 @@ pub(crate) fn bulks(alloc: Global, texts: &[&str]) -> Result<Value, AllocError> 
     Ok(Value::Array(items))
 }
 
-/// An entry with an id and the fields of an order.
-pub(crate) fn entry(alloc: Global, id: &str, order: &str) -> Result<Value, AllocError> {
+// An entry with an id and the fields of an order.
+fn entry(alloc: Global, id: &str, order: &str) -> Result<Value, AllocError> {
     let fields = ["order", order, "customer", "ann", "quantity", "3"];
     Ok(Value::Array(vec![in alloc; bulk(alloc, id)?, bulks(alloc, &fields)?]?))
 }
 
-/// The texts on one line, with spaces between.
-pub(crate) fn joined(alloc: Global, texts: &[String]) -> Result<String, AllocError> {
-    let mut line = String::new(alloc);
-    for text in texts {
-        if !line.is_empty() {
-            line.push(' ')?;
-        }
-        line.push_str(text)?;
-    }
-    Ok(line)
-}
-
-/// The arguments on one line, with spaces between.
-pub(crate) fn words(alloc: Global, arguments: &[Vec<u8>]) -> Result<String, Fail> {
+// The arguments on one line, with spaces between.
+fn words(alloc: Global, arguments: &[Vec<u8>]) -> Result<String, Fail> {
     let mut line = String::new(alloc);
     for argument in arguments {
         if !line.is_empty() {

@@ -3,8 +3,8 @@ ghost use Rattle.std.specs.Prelude.{◌≡◌, ◌≢◌, [], ◌∷◌, ◌++�
 ghost use Rattle.std.specs.Prelude.{option_map, string_bytes, IfOk, IfErr, OnOk};
 ghost use Rattle.redis_resp.specs.Value.{tree};
 ghost use Rattle.redis_streams.specs.Read.{read_reading};
-ghost use Rattle.redis_streams.specs.StreamId.{entries_of, entry_meaning};
-ghost use Rattle.redis_streams.specs.StreamKey.{streams_of};
+ghost use Rattle.redis_streams.specs.EntryMeaning.{entries_of, entry_meaning};
+ghost use Rattle.redis_streams.specs.ReadMeaning.{streams_of};
 ghost use Rattle.uses.specs.Worker.{ids_in, ids_of};
 
 use redis_resp::{ParsingError, ToRedisArgs, Value, from_redis_value};

@@ -59,7 +59,7 @@ fn values_mean_their_arguments(rt: HostRuntime) -> Result<(), Fail> {
 
 #[test]
 fn numbers_flags_and_bytes_are_one_argument_each(rt: HostRuntime) -> Result<(), Fail> {
-    let payload = Vec::from_slice(rt.alloc(), &[255, 0])?;
+    let payload = Vec::from_slice(rt.alloc(), &[255u8, 0])?;
     check(
         &rt,
         &(i32::MIN, isize::MAX, true, false),

@@ -1,4 +1,4 @@
-//! Texts as arguments.
+//! Texts and bytes as arguments.
 ghost use Rattle.std.specs.Prelude.{[], ◌∷◌, string_bytes, refl};
 
 use crate::args::to_redis_args::{ToRedisArgs, ToSingleRedisArg};

@@ -1,17 +1,20 @@
 //! Tables that are read from values: a key stands where it came first, with the value that came
 //! last.
-ghost use Rattle.std.specs.Prelude.{◌≡◌, ◌≢◌, IfOk, IfErr, List, ℕ, Some, None, option_map};
+ghost use Rattle.std.specs.Prelude.{◌≡◌, IfOk, IfErr, List, ℕ, Some, option_map};
 ghost use Rattle.std.specs.FinMap.{from_entries};
 ghost use Rattle.std.specs.HashMap.{get_by_text};
-ghost use Rattle.redis_resp.specs.Tree.{pairs_in};
-ghost use Rattle.redis_resp.specs.Refusal.{Refuses, RefusesPairs};
-ghost use Rattle.redis_resp.specs.Table.{entries_meaning, pairs_reading, table_of, table_reading};
-ghost use Rattle.redis_resp.specs.Table.{last_with, Fields, fields_reading};
+ghost use Rattle.redis_resp.specs.Reading.{traverse};
+ghost use Rattle.redis_resp.specs.Refusal.{Refuses, OneRefused, RefusesEntry, RefusesPairs};
+ghost use Rattle.redis_resp.specs.Source.{all_left};
+ghost use Rattle.redis_resp.specs.Table.{entries_meaning, entry_reading, table_of, table_reading};
+ghost use Rattle.redis_resp.specs.Table.{last_with, Fields, fields_of_read, fields_reading};
 
 use crate::value::Value;
 use crate::value::error::ParsingError;
 use crate::value::from_value::FromRedisValue;
-use crate::value::pair::read_pairs;
+use crate::value::pair::read_pair;
+use crate::value::pairs_left::{PairsLeft, count_left, into_pairs, next_left};
+use crate::value::source::Source;
 use indexmap::IndexMap;
 use std::alloc::{AllocError, Global};
 use std::collections::HashMap;
@@ -42,6 +45,77 @@ pub fn hash_map_of<V: Drop>(
     HashMap::from_iter(alloc, pairs)
 }
 
+/// Reads each pair, in order, into an index map with room for all of them.
+fn insert_in_order<S: Source, V: FromRedisValue>(
+    alloc: Global,
+    mut pairs: PairsLeft<S::Values, S::Pairs>,
+) -> Result<IndexMap<String, V>, ParsingError>
+    ensures ok { IfOk result (λ m. option_map table_of (traverse (entry_reading V.reading)
+        (all_left S.values_left S.pairs_left pairs)) ≡ Some (entries_meaning V.meaning m.entries)) }
+    ensures err { IfErr result (Refuses (traverse (entry_reading V.reading))
+        (OneRefused (RefusesEntry (Refuses V.reading V.may_refuse)))
+        (all_left S.values_left S.pairs_left pairs)) }
+{
+    let mut table = IndexMap::with_capacity(alloc, count_left::<S>(&pairs))?;
+    while let Some((key, value)) = next_left::<S>(&mut pairs) {
+        let entry: (String, V) = read_pair(alloc, key, value)?;
+        table.insert(entry.0, entry.1)?;
+    }
+    Ok(table)
+}
+
+/// Reads each pair, in order, into a hash map with room for all of them.
+fn insert_fields<S: Source, V: FromRedisValue>(
+    alloc: Global,
+    mut pairs: PairsLeft<S::Values, S::Pairs>,
+) -> Result<HashMap<String, V>, ParsingError>
+    ensures ok { IfOk result (λ m. fields_of_read (traverse (entry_reading V.reading)
+        (all_left S.values_left S.pairs_left pairs))
+        ≡ Some (from_entries (entries_meaning V.meaning m.entries))) }
+    ensures err { IfErr result (Refuses (traverse (entry_reading V.reading))
+        (OneRefused (RefusesEntry (Refuses V.reading V.may_refuse)))
+        (all_left S.values_left S.pairs_left pairs)) }
+{
+    let mut fields = HashMap::with_capacity(alloc, count_left::<S>(&pairs))?;
+    while let Some((key, value)) = next_left::<S>(&mut pairs) {
+        let entry: (String, V) = read_pair(alloc, key, value)?;
+        fields.insert(entry.0, entry.1)?;
+    }
+    Ok(fields)
+}
+
+/// Reads pairs as an index map.
+fn read_in_order<S: Source, V: FromRedisValue>(
+    alloc: Global,
+    v: S,
+) -> Result<IndexMap<String, V>, ParsingError>
+    ensures ok { IfOk result (λ m. table_reading V.reading (S.seen v)
+        ≡ Some (entries_meaning V.meaning m.entries)) }
+    ensures err { IfErr result (Refuses (table_reading V.reading)
+        (RefusesPairs (Refuses V.reading V.may_refuse)) (S.seen v)) }
+{
+    match into_pairs(v) {
+        Some(pairs) => insert_in_order::<S, V>(alloc, pairs),
+        None => Err(ParsingError::NotPairs),
+    }
+}
+
+/// Reads pairs as a hash map.
+fn read_fields<S: Source, V: FromRedisValue>(
+    alloc: Global,
+    v: S,
+) -> Result<HashMap<String, V>, ParsingError>
+    ensures ok { IfOk result (λ m. fields_reading V.reading (S.seen v)
+        ≡ Some (from_entries (entries_meaning V.meaning m.entries))) }
+    ensures err { IfErr result (Refuses (fields_reading V.reading)
+        (RefusesPairs (Refuses V.reading V.may_refuse)) (S.seen v)) }
+{
+    match into_pairs(v) {
+        Some(pairs) => insert_fields::<S, V>(alloc, pairs),
+        None => Err(ParsingError::NotPairs),
+    }
+}
+
 /// The pairs of a `Map`, of an `Array` two by two, or of `Nil`, which has none: keys as text and
 /// values by the reading of `V`, all of them, also those whose key comes again. A key stands where
 /// it came first, with its last value. `NotPairs` for any other kind or an odd length.
@@ -55,11 +129,11 @@ impl<V: FromRedisValue> FromRedisValue for IndexMap<String, V> {
     ghost may_refuse = { RefusesPairs (Refuses V.reading V.may_refuse) };
 
     fn from_redis_value(alloc: Global, v: Value) -> Result<IndexMap<String, V>, ParsingError> {
-        Ok(index_map_of(alloc, read_pairs(alloc, v)?)?)
+        read_in_order(alloc, v)
     }
 
     fn from_redis_value_ref(alloc: Global, v: &Value) -> Result<IndexMap<String, V>, ParsingError> {
-        Ok(index_map_of(alloc, read_pairs(alloc, v)?)?)
+        read_in_order(alloc, v)
     }
 }
 
@@ -75,11 +149,11 @@ impl<V: FromRedisValue> FromRedisValue for HashMap<String, V> {
     ghost may_refuse = { RefusesPairs (Refuses V.reading V.may_refuse) };
 
     fn from_redis_value(alloc: Global, v: Value) -> Result<HashMap<String, V>, ParsingError> {
-        Ok(hash_map_of(alloc, read_pairs(alloc, v)?)?)
+        read_fields(alloc, v)
     }
 
     fn from_redis_value_ref(alloc: Global, v: &Value) -> Result<HashMap<String, V>, ParsingError> {
-        Ok(hash_map_of(alloc, read_pairs(alloc, v)?)?)
+        read_fields(alloc, v)
     }
 }
 

@@ -84,7 +84,7 @@ impl ListItem for Option<String> {
 pub(crate) fn join<T: ListItem>(alloc: Global, items: Vec<T>) -> Result<Vec<StreamId>, AllocError>
     ensures { IfOk result (λ ids. entries_of ids ≡ flat_map T.entries items.items) }
 {
-    let mut ids = Vec::new(alloc);
+    let mut ids = Vec::with_capacity(alloc, items.len())?;
     for item in items {
         item.push_to(&mut ids)?;
     }

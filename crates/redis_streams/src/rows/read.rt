@@ -113,7 +113,7 @@ fn join_streams<T: ListItem>(
 ) -> Result<Vec<StreamKey>, AllocError>
     ensures { IfOk result (λ keys. streams_of keys ≡ flat_map (streams_in T.entries) rows.items) }
 {
-    let mut keys = Vec::new(alloc);
+    let mut keys = Vec::with_capacity(alloc, rows.len())?;
     for row in rows {
         push_streams(alloc, &mut keys, row)?;
     }

@@ -1,8 +1,13 @@
 //! Vectors of replies to `XAUTOCLAIM`.
+ghost use Rattle.std.specs.Prelude.{◌≡◌, [], ◌∷◌, codes, map};
+
 use crate::vectors::row::ReplyVector;
 
 /// Automatic claims, v44 to v52.
-pub fn autoclaim_vectors() -> [ReplyVector<'static>; 9] {
+pub fn autoclaim_vectors() -> [ReplyVector<'static>; 9]
+    ensures { map (λ v. v.0.now) result
+        ≡ codes "v44" ∷ codes "v45" ∷ codes "v46" ∷ codes "v47" ∷ codes "v48" ∷ codes "v49" ∷ codes "v50" ∷ codes "v51" ∷ codes "v52" ∷ [] }
+{
     [
         ("v44", "Array[1713465536578-0]", "refused 7"),
         (
@@ -45,7 +50,10 @@ pub fn autoclaim_vectors() -> [ReplyVector<'static>; 9] {
 }
 
 /// Automatic claims with attributes around nil, and of mixed kinds, v81 to v83.
-pub fn odd_autoclaim_vectors() -> [ReplyVector<'static>; 3] {
+pub fn odd_autoclaim_vectors() -> [ReplyVector<'static>; 3]
+    ensures { map (λ v. v.0.now) result
+        ≡ codes "v81" ∷ codes "v82" ∷ codes "v83" ∷ [] }
+{
     [
         ("v81", "Array[0-0, Array[Nil, Attr(Nil), 1-0]]", "refused 8"),
         (

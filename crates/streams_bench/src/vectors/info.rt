@@ -1,8 +1,13 @@
 //! Vectors of replies to `XINFO`.
+ghost use Rattle.std.specs.Prelude.{◌≡◌, [], ◌∷◌, codes, map};
+
 use crate::vectors::row::ReplyVector;
 
 /// A stream, v58.
-pub fn stream_vectors() -> [ReplyVector<'static>; 1] {
+pub fn stream_vectors() -> [ReplyVector<'static>; 1]
+    ensures { map (λ v. v.0.now) result
+        ≡ codes "v58" ∷ [] }
+{
     [(
         "v58",
         "Array[length, Nil, length, Int 3, first-entry, Array[1-0, Array[f, v], Int 9], last-entry, Map[1-0: Nil]]",
@@ -11,7 +16,10 @@ pub fn stream_vectors() -> [ReplyVector<'static>; 1] {
 }
 
 /// A stream with idempotent producers, v59.
-pub fn idempotency_vectors() -> [ReplyVector<'static>; 1] {
+pub fn idempotency_vectors() -> [ReplyVector<'static>; 1]
+    ensures { map (λ v. v.0.now) result
+        ≡ codes "v59" ∷ [] }
+{
     [(
         "v59",
         "Map[length: Int 2, idmp-duration: Int 100, idmp-maxsize: 100, pids-tracked: +3]",
@@ -20,7 +28,10 @@ pub fn idempotency_vectors() -> [ReplyVector<'static>; 1] {
 }
 
 /// Consumers, v60.
-pub fn consumer_vectors() -> [ReplyVector<'static>; 1] {
+pub fn consumer_vectors() -> [ReplyVector<'static>; 1]
+    ensures { map (λ v. v.0.now) result
+        ≡ codes "v60" ∷ [] }
+{
     [(
         "v60",
         "Array[Map[name: c, pending: Int 4], Array[idle, 9, name, d]]",
@@ -29,7 +40,10 @@ pub fn consumer_vectors() -> [ReplyVector<'static>; 1] {
 }
 
 /// Groups, v61 and v62.
-pub fn group_vectors() -> [ReplyVector<'static>; 2] {
+pub fn group_vectors() -> [ReplyVector<'static>; 2]
+    ensures { map (λ v. v.0.now) result
+        ≡ codes "v61" ∷ codes "v62" ∷ [] }
+{
     [
         (
             "v61",
@@ -41,7 +55,10 @@ pub fn group_vectors() -> [ReplyVector<'static>; 2] {
 }
 
 /// Streams whose fields are not readable, v85 and v86.
-pub fn odd_stream_vectors() -> [ReplyVector<'static>; 2] {
+pub fn odd_stream_vectors() -> [ReplyVector<'static>; 2]
+    ensures { map (λ v. v.0.now) result
+        ≡ codes "v85" ∷ codes "v86" ∷ [] }
+{
     [
         ("v85", "Array[length]", "refused 4"),
         ("v86", "Map[first-entry: Array[1-0, x]]", "refused 4"),

@@ -1,8 +1,13 @@
 //! Vectors of replies to `XRANGE`, `XCLAIM`, `XREAD` and `XREADGROUP`.
+ghost use Rattle.std.specs.Prelude.{◌≡◌, [], ◌∷◌, codes, map};
+
 use crate::vectors::row::ReplyVector;
 
 /// Ranges, v36 to v38.
-pub fn range_vectors() -> [ReplyVector<'static>; 3] {
+pub fn range_vectors() -> [ReplyVector<'static>; 3]
+    ensures { map (λ v. v.0.now) result
+        ≡ codes "v36" ∷ codes "v37" ∷ codes "v38" ∷ [] }
+{
     [
         ("v36", "Array[Array[1-0, Array[f, v]]]", "1-0(f=v)"),
         ("v37", "Map[1-0: Array[f, v]]", "1-0(f=v)"),
@@ -15,12 +20,18 @@ pub fn range_vectors() -> [ReplyVector<'static>; 3] {
 }
 
 /// Claims, v39.
-pub fn claim_vectors() -> [ReplyVector<'static>; 1] {
+pub fn claim_vectors() -> [ReplyVector<'static>; 1]
+    ensures { map (λ v. v.0.now) result
+        ≡ codes "v39" ∷ [] }
+{
     [("v39", "Nil", "-")]
 }
 
 /// Reads, v40 to v43.
-pub fn read_vectors() -> [ReplyVector<'static>; 4] {
+pub fn read_vectors() -> [ReplyVector<'static>; 4]
+    ensures { map (λ v. v.0.now) result
+        ≡ codes "v40" ∷ codes "v41" ∷ codes "v42" ∷ codes "v43" ∷ [] }
+{
     [
         (
             "v40",
@@ -46,7 +57,10 @@ pub fn read_vectors() -> [ReplyVector<'static>; 4] {
 }
 
 /// Ranges with attributes, bytes that are no text, and odd shapes, v70 to v76.
-pub fn odd_range_vectors() -> [ReplyVector<'static>; 7] {
+pub fn odd_range_vectors() -> [ReplyVector<'static>; 7]
+    ensures { map (λ v. v.0.now) result
+        ≡ codes "v70" ∷ codes "v71" ∷ codes "v72" ∷ codes "v73" ∷ codes "v74" ∷ codes "v75" ∷ codes "v76" ∷ [] }
+{
     [
         (
             "v70",
@@ -67,7 +81,10 @@ pub fn odd_range_vectors() -> [ReplyVector<'static>; 7] {
 }
 
 /// Reads with numbers at their bounds and missing ones, v77 to v80.
-pub fn odd_read_vectors() -> [ReplyVector<'static>; 4] {
+pub fn odd_read_vectors() -> [ReplyVector<'static>; 4]
+    ensures { map (λ v. v.0.now) result
+        ≡ codes "v77" ∷ codes "v78" ∷ codes "v79" ∷ codes "v80" ∷ [] }
+{
     [
         (
             "v77",

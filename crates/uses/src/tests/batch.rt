@@ -1,7 +1,7 @@
 use crate::batch::sort_out;
 use crate::order::OrderId;
-use crate::tests::{entry, joined};
-use redis_resp::{Value, from_redis_value};
+use crate::tests::{entry, words};
+use redis_resp::{ToRedisArgs, Value, from_redis_value};
 use redis_streams::StreamRangeReply;
 use std::test::Fail;
 
@@ -17,6 +17,9 @@ fn each_entry_is_an_order_or_strange(rt: HostRuntime) -> Result<(), Fail> {
     let batch = sort_out(alloc, &reply.ids)?;
     assert_eq!(rt; batch.orders.len(), 2);
     assert_eq!(rt; batch.orders[1].id, OrderId(18));
-    assert_eq!(rt; joined(alloc, &batch.strange)?.as_str(), "2-0");
+    assert_eq!(rt;
+        words(alloc, &batch.strange.to_redis_args(alloc)?)?.as_str(),
+        "2-0"
+    );
     Ok(())
 }

@@ -1,6 +1,6 @@
 use crate::monitoring::{delivered_too_often, lag_answered, pending_arguments};
-use crate::tests::{bulk, joined, words};
-use redis_resp::{Value, from_redis_value};
+use crate::tests::{bulk, words};
+use redis_resp::{ToRedisArgs, Value, from_redis_value};
 use redis_streams::StreamPendingCountReply;
 use std::alloc::{AllocError, Global};
 use std::test::Fail;
@@ -26,7 +26,7 @@ fn entries_delivered_too_often_are_named(rt: HostRuntime) -> Result<(), Fail> {
     let answer = vec![in alloc; pending(alloc, "1-0", 4)?, pending(alloc, "2-0", 5)?]?;
     let reply: StreamPendingCountReply = from_redis_value(alloc, Value::Array(answer))?;
     let ids = delivered_too_often(alloc, &reply, 5)?;
-    assert_eq!(rt; joined(alloc, &ids)?.as_str(), "2-0");
+    assert_eq!(rt; words(alloc, &ids.to_redis_args(alloc)?)?.as_str(), "2-0");
     Ok(())
 }
 

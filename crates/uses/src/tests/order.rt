@@ -1,6 +1,4 @@
-use crate::order::{
-    Order, OrderId, delete_arguments, group_arguments, order_named, orders_listed, orders_numbered,
-};
+use crate::order::{Order, OrderId, delete_arguments, group_arguments, order_named, orders_listed};
 use crate::tests::{bulks, entry, words};
 use redis_resp::{FromRedisValue, Value, from_redis_value};
 use redis_streams::StreamRangeReply;
@@ -21,11 +19,8 @@ fn orders_are_arguments(rt: HostRuntime) -> Result<(), Fail> {
 }
 
 #[test]
-fn orders_are_read_from_numbers_and_fields(rt: HostRuntime) -> Result<(), Fail> {
+fn orders_are_read_from_fields(rt: HostRuntime) -> Result<(), Fail> {
     let alloc = rt.alloc();
-    let numbered = orders_numbered(alloc, bulks(alloc, &["17", "18"])?)?;
-    assert_eq!(rt; numbered.as_slice(), [OrderId(17), OrderId(18)].as_slice());
-
     let fields = ["quantity", "3", "order", "17", "customer", "ann"];
     let listed = Value::Array(vec![in alloc; bulks(alloc, &fields)?]?);
     let listed = orders_listed(alloc, listed)?;

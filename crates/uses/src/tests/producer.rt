@@ -1,4 +1,4 @@
-use crate::producer::Producer;
+use crate::producer::{Producer, payload_arguments};
 use crate::tests::{bulk, words};
 use redis_resp::Value;
 use std::test::Fail;
@@ -21,5 +21,15 @@ fn an_entry_is_sent_again_until_it_is_answered(rt: HostRuntime) -> Result<(), Fa
     assert_eq!(rt; id.as_str(), "1-0");
     let next = producer.arguments(alloc, "jobs", 1000, &[("order", "17")])?;
     assert_eq!(rt; words(alloc, &next)?.as_str(), second);
+    Ok(())
+}
+
+#[test]
+fn a_payload_is_one_argument(rt: HostRuntime) -> Result<(), Fail> {
+    let sent = payload_arguments(rt.alloc(), "jobs", &[255, 0])?;
+    assert_eq!(rt;
+        sent.last().map(|arg| arg.as_slice()),
+        Some([255, 0].as_slice())
+    );
     Ok(())
 }

@@ -1,6 +1,6 @@
 use crate::stalled::{claim_arguments, stalled_in};
-use crate::tests::{bulk, entry, joined, words};
-use redis_resp::Value;
+use crate::tests::{bulk, entry, words};
+use redis_resp::{ToRedisArgs, Value};
 use std::test::Fail;
 
 #[test]
@@ -15,7 +15,10 @@ fn claims_go_on_until_the_start(rt: HostRuntime) -> Result<(), Fail> {
         let claimed = Value::Array(vec![in alloc; entry(alloc, "1-0", "17")?]?);
         let answer = vec![in alloc; bulk(alloc, next)?, claimed]?;
         let stalled = stalled_in(alloc, Value::Array(answer))?;
-        assert_eq!(rt; joined(alloc, &stalled.ids)?.as_str(), "1-0");
+        assert_eq!(rt;
+            words(alloc, &stalled.ids.to_redis_args(alloc)?)?.as_str(),
+            "1-0"
+        );
         assert_eq!(rt; stalled.next.as_ref().map(|id| id.as_str()), start);
     }
     Ok(())

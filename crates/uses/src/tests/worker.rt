@@ -1,6 +1,6 @@
-use crate::tests::{bulk, entry, joined, words};
+use crate::tests::{bulk, entry, words};
 use crate::worker::{acknowledge_arguments, ids_answered, read_arguments};
-use redis_resp::{Value, from_redis_value};
+use redis_resp::{ToRedisArgs, Value, from_redis_value};
 use redis_streams::StreamReadReply;
 use std::alloc::{AllocError, Global};
 use std::test::Fail;
@@ -25,7 +25,10 @@ fn a_worker_reads_and_acknowledges(rt: HostRuntime) -> Result<(), Fail> {
     let arguments = acknowledge_arguments(alloc, "g", &reply.keys[0])?;
     assert_eq!(rt; words(alloc, &arguments)?.as_str(), "XACK jobs g 1-0 2-0");
     let ids = ids_answered(alloc, answer(alloc)?)?;
-    assert_eq!(rt; joined(alloc, &ids)?.as_str(), "1-0 2-0");
+    assert_eq!(rt;
+        words(alloc, &ids.to_redis_args(alloc)?)?.as_str(),
+        "1-0 2-0"
+    );
     Ok(())
 }
 

@@ -1,8 +1,8 @@
 use Rattle.std.proofs.Common.{◌≡◌, map, take, string_bytes}
-use Rattle.redis_streams.specs.StreamKey.{stream_meaning}
+use Rattle.redis_streams.specs.ReadMeaning.{stream_key_meaning}
 use Rattle.uses.specs.Worker.{ids_in}
 use Rattle.uses.proofs.worker.ids_to_acknowledge.Given as goal
 
 -- the ids of the streams so far
 abbrev pub invariant-loop-stream : goal.invariant-loop-stream
-invariant-loop-stream l = map string_bytes l.ids.items ≡ ids_in (map stream_meaning (take l.stream-index l.reply.keys.items))
+invariant-loop-stream l = map string_bytes l.ids.items ≡ ids_in (map stream_key_meaning (take l.stream-index l.reply.keys.items))

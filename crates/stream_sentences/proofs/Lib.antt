@@ -1,0 +1,6 @@
+pub mod Numbers
+mod PolicyLemmas
+mod ReadLemmas
+pub mod Splits
+mod StrategyLemmas
+pub mod Texts

@@ -1,0 +1,131 @@
+//! `XCLAIM`.
+ghost use Rattle.std.specs.Prelude.{◌≡◌, None, false, string_bytes, IfOk, IfErr};
+ghost use Rattle.std.specs.Option.{option_map};
+ghost use Rattle.stream_options.specs.Claim.{ClaimFits, claim_sentence, claim_words};
+ghost use Rattle.stream_options.specs.Laws.{Equal};
+ghost use Rattle.stream_options.specs.ReadBack as reading;
+ghost use Rattle.stream_sentences.specs.Split.{arguments, IsOneSplit, HasNoSplit, Gives};
+
+use crate::clauses::{flag_clause, number_clause, text_clause};
+use crate::error::SentenceError;
+use crate::values::begins_with;
+use std::alloc::Global;
+use stream_options::StreamClaimOptions;
+
+/// The options of `XCLAIM` that the first arguments are the sentence of, and how many arguments
+/// that is: `[IDLE n] [TIME n] [RETRYCOUNT n] [FORCE] [JUSTID] [LASTID id]`.
+///
+/// `NotASentence` where there are none, or where what follows begins with a fixed word.
+pub fn read_claim(
+    alloc: Global,
+    args: &[Vec<u8>],
+) -> Result<(StreamClaimOptions, usize), SentenceError>
+    ensures split { let list = arguments args.now in IfOk result (λ x.
+        IsOneSplit ClaimFits claim_sentence claim_words Equal list x.0 x.1) }
+    ensures none { IfErr result (λ e. e ≡ SentenceError.NotASentence
+        → HasNoSplit ClaimFits claim_sentence claim_words (arguments args.now)) }
+{
+    let (options, rest) = claim_at(alloc, args)?;
+    let words = ["IDLE", "TIME", "RETRYCOUNT", "FORCE", "JUSTID", "LASTID"];
+    if begins_with(&words, rest) {
+        return Err(SentenceError::NotASentence);
+    }
+    Ok((options, args.len() - rest.len()))
+}
+
+// The options, and the arguments behind them.
+fn claim_at(
+    alloc: Global,
+    args: &[Vec<u8>],
+) -> Result<(StreamClaimOptions, &[Vec<u8>]), SentenceError>
+    ensures { Gives (λ x. (x.0, arguments x.1.now)) result
+        (reading.claim_at (arguments args.now)) }
+{
+    let Some((idle, rest)) = number_clause("IDLE", args) else {
+        return Err(SentenceError::NotASentence);
+    };
+    let Some((time, rest)) = number_clause("TIME", rest) else {
+        return Err(SentenceError::NotASentence);
+    };
+    let Some((retry, rest)) = number_clause("RETRYCOUNT", rest) else {
+        return Err(SentenceError::NotASentence);
+    };
+    let Some((force, rest)) = flag_clause("FORCE", rest) else {
+        return Err(SentenceError::NotASentence);
+    };
+    let Some((justid, rest)) = flag_clause("JUSTID", rest) else {
+        return Err(SentenceError::NotASentence);
+    };
+    let (lastid, rest) = text_clause(alloc, "LASTID", rest)?;
+    let options = with_time(with_idle(StreamClaimOptions::default(), idle), time);
+    let options = with_force(with_retry(options, retry), force);
+    Ok((with_lastid(with_justid(options, justid), lastid), rest))
+}
+
+// The idle time, where there is one.
+fn with_idle(options: StreamClaimOptions, idle: Option<usize>) -> StreamClaimOptions
+    requires { options.idle ≡ None }
+    ensures { result ≡ record options { idle = idle } }
+{
+    match idle {
+        Some(n) => options.idle(n),
+        None => options,
+    }
+}
+
+// The time of delivery, where there is one.
+fn with_time(options: StreamClaimOptions, time: Option<usize>) -> StreamClaimOptions
+    requires { options.time ≡ None }
+    ensures { result ≡ record options { time = time } }
+{
+    match time {
+        Some(n) => options.time(n),
+        None => options,
+    }
+}
+
+// The number of deliveries, where there is one.
+fn with_retry(options: StreamClaimOptions, retry: Option<usize>) -> StreamClaimOptions
+    requires { options.retry ≡ None }
+    ensures { result ≡ record options { retry = retry } }
+{
+    match retry {
+        Some(n) => options.retry(n),
+        None => options,
+    }
+}
+
+// The flag, where it is wanted.
+fn with_force(options: StreamClaimOptions, wanted: bool) -> StreamClaimOptions
+    requires { options.force ≡ false }
+    ensures { result ≡ record options { force = wanted } }
+{
+    if wanted {
+        options.with_force()
+    } else {
+        options
+    }
+}
+
+// The flag, where it is wanted.
+fn with_justid(options: StreamClaimOptions, wanted: bool) -> StreamClaimOptions
+    requires { options.justid ≡ false }
+    ensures { result ≡ record options { justid = wanted } }
+{
+    if wanted {
+        options.with_justid()
+    } else {
+        options
+    }
+}
+
+// The id, where there is one.
+fn with_lastid(options: StreamClaimOptions, lastid: Option<String>) -> StreamClaimOptions
+    requires { options.lastid ≡ None }
+    ensures { result ≡ record options { lastid = option_map string_bytes lastid } }
+{
+    match lastid {
+        Some(id) => options.with_lastid(id),
+        None => options,
+    }
+}

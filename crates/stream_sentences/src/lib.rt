@@ -1,0 +1,36 @@
+//! The options of the Redis stream commands, read back from their arguments: for a server, a proxy
+//! or a log tool.
+//!
+//! ```text
+//! // the arguments `MAXLEN`, `~`, `10`, `LIMIT`, `5`, `x`
+//! let (options, k) = read_trim(alloc, args)?;        // and k is 5
+//! ```
+//!
+//! Each reader answers the options of which the first `k` arguments are the sentence, and what
+//! follows begins with no fixed word of the type. There is never a second answer.
+#![tactic(auto)]
+
+mod add;
+mod autoclaim;
+mod claim;
+mod clauses;
+mod config;
+mod error;
+mod nack;
+mod policy;
+mod read;
+mod strategy;
+mod trim;
+mod values;
+
+pub use add::read_add;
+pub use autoclaim::read_autoclaim;
+pub use claim::read_claim;
+pub use config::read_config;
+pub use error::SentenceError;
+pub use nack::read_nack;
+pub use read::read_read;
+pub use trim::read_trim;
+
+#[cfg(test)]
+mod tests;

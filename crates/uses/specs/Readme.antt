@@ -1,0 +1,9 @@
+-- What the first of a list of entries says in a field.
+use Rattle.std.specs.Prelude.{ℕ, List, [], ◌∷◌, Option, None}
+use Rattle.redis_resp.specs.Text.{text_reading}
+use Rattle.redis_streams.specs.Entry.{Entry, field_record}
+
+-- the text of the field of that name of the first entry, where both are there
+abbrev pub first_text : List ℕ → List Entry → Option (List ℕ)
+first_text name [] = None
+first_text name (e ∷ es) = field_record text_reading e.fields name
