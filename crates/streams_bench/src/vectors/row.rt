@@ -73,7 +73,7 @@ pub fn push_answer_row<T: FromRedisValue + PrintedForm>(
     value: Value,
     stored: &str,
 ) -> Result<(), AllocError>
-    ensures row { OnOk result (AddsRow (IsAnswer T.meaning T.reading T.form (tree value))
+    ensures row { OnOk result (AddsRow (IsAnswer T.meaning T.reading T.may_refuse T.form (tree value))
         rows.old.items rows.new.items name.now stored.now) }
     ensures one { OnOk result (vec_len rows.new ≡ vec_len rows.old + 1) }
 {
@@ -88,7 +88,7 @@ fn push_reply_row<T: FromRedisValue + PrintedForm>(
     notation: &str,
     stored: &str,
 ) -> Result<(), AllocError>
-    ensures row { OnOk result (AddsRow (IsReplyText T.meaning T.reading T.form notation.entry)
+    ensures row { OnOk result (AddsRow (IsReplyText T.meaning T.reading T.may_refuse T.form notation.entry)
         rows.old.items rows.new.items name.now stored.now) }
     ensures one { OnOk result (vec_len rows.new ≡ vec_len rows.old + 1) }
 {
@@ -111,7 +111,7 @@ pub fn push_reply_rows<T: FromRedisValue + PrintedForm>(
     rows: &mut Vec<Row>,
     vectors: &[ReplyVector<'_>],
 ) -> Result<(), AllocError>
-    ensures rows { OnOk result (AddsRows (IsReplyText T.meaning T.reading T.form)
+    ensures rows { OnOk result (AddsRows (IsReplyText T.meaning T.reading T.may_refuse T.form)
         rows.old.items rows.new.items vectors.now) }
     ensures count { OnOk result (vec_len rows.new ≡ vec_len rows.old + length vectors.now) }
 {
