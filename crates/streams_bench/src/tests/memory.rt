@@ -103,7 +103,7 @@ fn plain_values_are_read(alloc: Global) -> Result<bool, AllocError> {
             && is_read::<RawBytes>(alloc, "Bytes(255)")?
             && is_read::<Value>(alloc, "Map[k: Array[x]]")?
             && is_read::<Option<String>>(alloc, "x")?
-            && is_read::<Vec<String>>(alloc, "Map[k: v]")?
+            && is_read::<Vec<Value>>(alloc, "Map[k: v]")?
             && is_read::<(String, u16)>(alloc, "Array[x, 7]")?
             && is_read::<Four>(alloc, "Array[a, b, c, d]")?
             && is_read::<HashMap<String, Value>>(alloc, "Map[f: v, g: w]")?,
