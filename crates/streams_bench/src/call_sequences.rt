@@ -1,7 +1,9 @@
 //! Options that a list of calls makes.
 ghost use Rattle.std.specs.Prelude.{◌≡◌, map, IfOk};
-ghost use Rattle.streams_bench.specs.AddCalls as add;
-ghost use Rattle.streams_bench.specs.ReadCalls as read;
+ghost use Rattle.stream_options.specs.Add.{default_add};
+ghost use Rattle.stream_options.specs.AddCalls.{final_add, after_add};
+ghost use Rattle.stream_options.specs.Read.{default_read};
+ghost use Rattle.stream_options.specs.ReadCalls.{final_read, after_read};
 ghost use Rattle.streams_bench.specs.CallsMeaning.{add_call_of, read_call_of};
 
 #[cfg(test)]
@@ -37,7 +39,7 @@ pub enum ReadCall {
 /// The options that these calls make of the default, in order. It takes no memory.
 #[tactic(auto, using(crate::proofs::PlayLemmas::add_final_push))]
 pub fn play_add(calls: Vec<AddCall>) -> StreamAddOptions
-    ensures { result ≡ add.final_settings (map add_call_of calls.items) }
+    ensures { result ≡ final_add default_add (map add_call_of calls.items) }
 {
     let mut options = StreamAddOptions::default();
     for call in calls {
@@ -47,7 +49,7 @@ pub fn play_add(calls: Vec<AddCall>) -> StreamAddOptions
 }
 
 fn play_add_call(options: StreamAddOptions, call: AddCall) -> StreamAddOptions
-    ensures { result ≡ add.after options (add_call_of call) }
+    ensures { result ≡ after_add options (add_call_of call) }
 {
     match call {
         AddCall::Nomkstream => options.nomkstream(),
@@ -58,11 +60,12 @@ fn play_add_call(options: StreamAddOptions, call: AddCall) -> StreamAddOptions
     }
 }
 
-/// The options that these calls make of the default, in order. It fails only by want of memory,
-/// and then drops what was made.
+/// The options that these calls make of the default, in order. It fails only where memory ran
+/// out, and then drops what was made.
 #[tactic(auto, using(crate::proofs::PlayLemmas::read_final_push))]
 pub fn play_read(alloc: Global, calls: Vec<ReadCall>) -> Result<StreamReadOptions, AllocError>
-    ensures { IfOk result (λ options. options ≡ read.final_settings (map read_call_of calls.items)) }
+    ensures { IfOk result (λ options. options
+        ≡ final_read default_read (map read_call_of calls.items)) }
 {
     let mut options = StreamReadOptions::default();
     for call in calls {
@@ -76,7 +79,7 @@ fn play_read_call(
     options: StreamReadOptions,
     call: ReadCall,
 ) -> Result<StreamReadOptions, AllocError>
-    ensures { IfOk result (λ made. made ≡ read.after options (read_call_of call)) }
+    ensures { IfOk result (λ made. made ≡ after_read options (read_call_of call)) }
 {
     match call {
         ReadCall::Noack => Ok(options.noack()),

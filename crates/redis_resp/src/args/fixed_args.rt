@@ -1,5 +1,6 @@
 //! A writer of a fixed size, which takes no memory.
-ghost use Rattle.std.specs.Prelude.{◌≡◌, ◌<◌, ◌≤◌, ◌↔◌, ℕ, List, [], ◌∷◌, length, OnErr, IsErr, MatchOption, slice_get, slice_index};
+ghost use Rattle.std.specs.Prelude.{◌≡◌, ◌<◌, ◌≤◌, ◌↔◌, ℕ, List, [], ◌∷◌, length};
+ghost use Rattle.std.specs.Prelude.{OnErr, IsErr, MatchOption, slice_get, slice_index};
 ghost use Rattle.redis_resp.specs.declared.args.writer.WriteError.{WriteError};
 ghost use Rattle.redis_resp.specs.Writer.{Wrote};
 ghost use Rattle.redis_resp.specs.Room.{LacksRoom, MayRefuse};
@@ -51,7 +52,8 @@ impl<const N: usize, const B: usize> FixedArgs<N, B> {
 
     /// The argument at `index`, counted from 0; None past the last one.
     pub fn get(&self, index: usize) -> Option<&[u8]>
-        ensures { MatchOption result (length self.now ≤ index) (λ arg. slice_get self.now index ≡ Some arg.now) }
+        ensures { MatchOption result (length self.now ≤ index)
+            (λ arg. slice_get self.now index ≡ Some arg.now) }
     {
         if index >= self.ends.len() {
             return None;
@@ -71,7 +73,8 @@ impl<const N: usize, const B: usize> RedisWrite for FixedArgs<N, B> {
     fn write_arg(&mut self, arg: &[u8]) -> Result<(), WriteError>
         ensures exact { IsErr result ↔ LacksRoom N B self.old arg.now }
         ensures wrote { Wrote result self.old (arg.now ∷ []) self.new (MayRefuse N B self.new) }
-        ensures same { OnErr result ((a : List ℕ) (e : WriteError) → MayRefuse N B self.new a e ↔ MayRefuse N B self.old a e) }
+        ensures same { OnErr result ((a : List ℕ) (e : WriteError)
+            → MayRefuse N B self.new a e ↔ MayRefuse N B self.old a e) }
     {
         if self.ends.is_full() || arg.len() > self.bytes.remaining_capacity() {
             return Err(WriteError::Full);

@@ -27,9 +27,11 @@ pub trait ToRedisArgs {
     /// Where the writer refuses one of them, its error is passed on: the writer then holds the
     /// arguments before that one, each whole, and nothing of the rest.
     fn write_redis_args<W: RedisWrite>(&self, out: &mut W) -> Result<(), WriteError>
-        ensures { Wrote result (W.written out.old) (args self.now) (W.written out.new) (W.may_refuse out.new) };
+        ensures { Wrote result (W.written out.old) (args self.now) (W.written out.new)
+            (W.may_refuse out.new) };
 
-    /// The arguments of this value, as a list on the heap. It fails only where it runs out of memory.
+    /// The arguments of this value, as a list on the heap. It fails only where it runs out of
+    /// memory.
     fn to_redis_args(&self, alloc: Global) -> Result<Vec<Vec<u8>>, AllocError>
         ensures { IfOk result (λ list. map (λ arg. arg.items) list.items ≡ args self.now) }
     {

@@ -47,8 +47,10 @@ pub trait RedisWrite {
     /// An Err comes only where the writer may refuse this argument with this error, and changes
     /// neither what stands in the writer nor what it may refuse.
     fn write_arg(&mut self, arg: &[u8]) -> Result<(), WriteError>
-        ensures wrote { Wrote result (written self.old) (arg.now ∷ []) (written self.new) (may_refuse self.new) }
-        ensures same { OnErr result ((a : List ℕ) (e : WriteError) → may_refuse self.new a e ↔ may_refuse self.old a e) };
+        ensures wrote { Wrote result (written self.old) (arg.now ∷ []) (written self.new)
+            (may_refuse self.new) }
+        ensures same { OnErr result ((a : List ℕ) (e : WriteError)
+            → may_refuse self.new a e ↔ may_refuse self.old a e) };
 }
 
 /// A list on the heap may refuse any argument, with `Memory` alone.

@@ -18,6 +18,7 @@ use std::alloc::Global;
 pub struct PairList<V>(pub Vec<(String, V)>);
 
 /// Reads a key as text and its value by its own reading.
+#[inline(always)]
 pub fn read_pair<S: Source, V: FromRedisValue>(
     alloc: Global,
     key: S,

@@ -50,6 +50,7 @@ pub fn count_left<S: Source>(pairs: &PairsLeft<S::Values, S::Pairs>) -> usize
 }
 
 /// Takes the next pair, and None where none is left.
+#[inline(always)]
 pub fn next_left<S: Source>(pairs: &mut PairsLeft<S::Values, S::Pairs>) -> Option<(S, S)>
     ensures { MatchOption result (all_left S.values_left S.pairs_left pairs.old ≡ [])
         (λ p. all_left S.values_left S.pairs_left pairs.old
