@@ -1,5 +1,6 @@
 //! A whole command: its arguments, and the type of its answer.
-ghost use Rattle.std.specs.Prelude.{◌≡◌, ◌≢◌, [], ◌∷◌, IfOk, IfErr, Some, None};
+ghost use Rattle.std.specs.Prelude.{◌≡◌, [], ◌∷◌, IfOk, IfErr, Some};
+ghost use Rattle.redis_resp.specs.Refusal.{Refuses};
 ghost use Rattle.redis_resp.specs.Value.{tree};
 
 use redis_resp::{FromRedisValue, ParsingError, RedisWrite, ToRedisArgs, Value, WriteError};
@@ -42,18 +43,18 @@ impl<A: ToRedisArgs, R: FromRedisValue> Command<A, R> {
         }
     }
 
-    /// Reads the answer to this command, and consumes it.
+    /// Reads the answer to this command as an `R`, and consumes it. It is refused as `R` refuses.
     pub fn read(&self, alloc: Global, v: Value) -> Result<R, ParsingError>
         ensures ok { IfOk result (λ r. R.reading (tree v) ≡ Some (R.meaning r)) }
-        ensures err { IfErr result (λ e. e ≢ ParsingError.Memory → R.reading (tree v) ≡ None) }
+        ensures err { IfErr result (Refuses R.reading R.may_refuse (tree v)) }
     {
         R::from_redis_value(alloc, v)
     }
 
-    /// Reads the answer to this command from a borrowed value.
+    /// Reads the same from a borrowed value.
     pub fn read_ref(&self, alloc: Global, v: &Value) -> Result<R, ParsingError>
         ensures ok { IfOk result (λ r. R.reading (tree v.now) ≡ Some (R.meaning r)) }
-        ensures err { IfErr result (λ e. e ≢ ParsingError.Memory → R.reading (tree v.now) ≡ None) }
+        ensures err { IfErr result (Refuses R.reading R.may_refuse (tree v.now)) }
     {
         R::from_redis_value_ref(alloc, v)
     }

@@ -131,6 +131,7 @@ fn places_of_few_bytes(rt: HostRuntime) -> Result<(), Fail> {
     let vectors = add::full_vectors(rt.alloc())?;
     let (_name, v17, stored) = &vectors[0];
     let words = words_of(rt.alloc(), stored)?;
+    assert_eq!(rt; words.len(), 8);
     let full = Err(WriteError::Full);
     check_place(&rt, FixedArgs::<8, 46>::new(), v17, Ok(()), &words);
     check_place(&rt, FixedArgs::<8, 45>::new(), v17, full, &words[..7]);
@@ -138,6 +139,7 @@ fn places_of_few_bytes(rt: HostRuntime) -> Result<(), Fail> {
     let vectors = read::read_vectors(rt.alloc())?;
     let (_name, v33, stored) = &vectors[1];
     let words = words_of(rt.alloc(), stored)?;
+    assert_eq!(rt; words.len(), 10);
     check_place(&rt, FixedArgs::<10, 32>::new(), v33, Ok(()), &words);
     check_place(&rt, FixedArgs::<9, 64>::new(), v33, full, &words[..9]);
     Ok(())
