@@ -18,11 +18,8 @@ use Rattle.redis_resp.specs.Tree.{Tree}
 use Rattle.redis_resp.specs.Value.{tree}
 use Rattle.redis_resp.specs.Table.{Fields, entries_meaning}
 use Rattle.redis_resp.specs.declared.value.Value.{Value}
-use Rattle.redis_resp.proofs.TableLemmas.{get_of_fields}
-use Rattle.redis_streams.specs.EntryMeaning.{fields_of}
-
-pub get_field : {S : Type 0} (m : HashMap (String Global) Value S) (q : List ℕ) → get (fields_of m) q ≡ option_map tree (get_by_text m q)
-get_field m q = get_of_fields tree m q
+use Rattle.redis_resp.proofs.FieldLemmas.{get_field}
+use Rattle.redis_resp.specs.FieldsMeaning.{fields_of}
 
 some_mapped : {A B : Type 0} (f : A → B) (o : Option A) → is_some (option_map f o) ≡ is_some o
 some_mapped f None = refl

@@ -1,10 +1,10 @@
 -- With which error a value may be refused as a reply of XINFO.
 use Rattle.std.specs.Prelude.{◌≡◌, ◌⊎◌, List, [], ◌∷◌, Option, Some, MatchOption, unwrap_or, codes}
 use Rattle.redis_resp.specs.Tree.{Tree, array_of_plain}
-use Rattle.redis_resp.specs.Refusal.{Refuses, RefusesText, RefusesNumber, RefusesValue, RefusesList, RefusesPairs}
+use Rattle.redis_resp.specs.Refusal.{Refuses, RefusesText, RefusesNumber, RefusesValue, RefusesList, RefusesPairs, RefusesField}
 use Rattle.redis_resp.specs.declared.value.error.ParsingError.{ParsingError}
 use Rattle.redis_streams.specs.Info.{NamedFields, fields_in, consumer_reading, group_reading}
-use Rattle.redis_streams.specs.Refusal.{RefusesField, RefusesFields, RefusesTextIn}
+use Rattle.redis_streams.specs.Refusal.{RefusesFields, RefusesTextIn}
 use Rattle.redis_streams.specs.Rows.{field_reading}
 
 -- an entry by its items: the id as a text, or the fields as those of an entry

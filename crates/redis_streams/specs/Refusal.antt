@@ -58,7 +58,3 @@ RefusesPart parts error = RefusesClaimed parts.1 error ⊎ (RefusesDeleted parts
 -- an automatic claim: each of its three outer errors stands exactly where the shape is wrong, and a part that is unreadable is told by its own
 abbrev pub RefusesAutoClaim : Tree → ParsingError → Type 0
 RefusesAutoClaim = RefusesParts RefusesPart
-
--- a field: what its value is refused with, where there is one
-abbrev pub RefusesField : (Tree → ParsingError → Type 0) → Option Tree → ParsingError → Type 0
-RefusesField refuses field error = MatchOption field ⊥ (λ t. refuses t error)

@@ -19,7 +19,8 @@ use Rattle.redis_resp.specs.SameLaws.{same-Decides}
 use Rattle.redis_resp.specs.Value.{tree}
 use Rattle.redis_resp.specs.declared.value.Value.{Value}
 use Rattle.redis_streams.specs.SameEntryMeaning.{same_value, same_entry}
-use Rattle.redis_streams.specs.EntryMeaning.{fields_of, entry_meaning}
+use Rattle.redis_resp.specs.FieldsMeaning.{fields_of}
+use Rattle.redis_streams.specs.EntryMeaning.{entry_meaning}
 use Rattle.redis_streams.specs.declared.rows.stream_id.StreamId.{StreamId}
 
 -- the value of the first entry whose key has these bytes

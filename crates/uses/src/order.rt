@@ -5,8 +5,8 @@ ghost use Rattle.std.specs.Prelude.{option_map, string_bytes, IfOk, IfErr};
 ghost use Rattle.redis_resp.specs.Number.{unsigned_reading};
 ghost use Rattle.redis_resp.specs.Reading.{list_reading};
 ghost use Rattle.redis_resp.specs.Value.{tree};
-ghost use Rattle.redis_streams.specs.Entry.{field_record};
-ghost use Rattle.redis_streams.specs.EntryMeaning.{fields_of};
+ghost use Rattle.redis_resp.specs.Table.{field_record};
+ghost use Rattle.redis_resp.specs.FieldsMeaning.{fields_of};
 ghost use Rattle.uses.specs.Order.{Meant, order_meaning, order_of, order_reading};
 
 use redis_resp::{

@@ -2,7 +2,8 @@
 ghost use Rattle.std.specs.Prelude.{◌≡◌, Some, IfOk, IfErr, string_bytes};
 ghost use Rattle.redis_resp.specs.Refusal.{Refuses};
 ghost use Rattle.redis_streams.specs.Entry.{Entry, entry_of, empty_entry};
-ghost use Rattle.redis_streams.specs.EntryMeaning.{entry_meaning, fields_of};
+ghost use Rattle.redis_resp.specs.FieldsMeaning.{fields_of};
+ghost use Rattle.redis_streams.specs.EntryMeaning.{entry_meaning};
 ghost use Rattle.redis_streams.specs.Info.{entry_of_items, info_entry_reading};
 ghost use Rattle.redis_streams.specs.InfoRefusal.{RefusesInfoEntry, RefusesItems};
 

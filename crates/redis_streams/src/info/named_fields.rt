@@ -3,12 +3,11 @@ ghost use Rattle.std.specs.Prelude.{◌≡◌, Some, IfOk, IfErr, option_map};
 ghost use Rattle.std.specs.Map.{update};
 ghost use Rattle.std.specs.Str.{bytes_eq};
 ghost use Rattle.redis_resp.specs.Reading.{traverse};
-ghost use Rattle.redis_resp.specs.Refusal.{Refuses, OneRefused, RefusesEntry, RefusesPairs, RefusesValue};
+ghost use Rattle.redis_resp.specs.Refusal.{Refuses, OneRefused, RefusesEntry, RefusesPairs, RefusesValue, RefusesField};
 ghost use Rattle.redis_resp.specs.Source.{all_left};
 ghost use Rattle.redis_resp.specs.Table.{entries_meaning, entry_reading};
 ghost use Rattle.redis_streams.specs.Info.{field_or, fields_in};
 ghost use Rattle.redis_streams.specs.InfoMeaning.{fields_by_name};
-ghost use Rattle.redis_streams.specs.Refusal.{RefusesField};
 
 use redis_resp::{
     FromRedisValue, PairsLeft, ParsingError, Source, count_left, hash_map_of, into_pairs, next_left,

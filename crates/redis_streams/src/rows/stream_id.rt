@@ -2,12 +2,14 @@
 ghost use Rattle.std.specs.Prelude.{◌≡◌, ◌↔◌, IfOk, IsOk, IsTrue, OnErr, OnOk, map, option_map, string_bytes};
 ghost use Rattle.std.specs.FinMap as fin;
 ghost use Rattle.redis_resp.specs.Value.{tree};
-ghost use Rattle.redis_streams.specs.Entry.{empty_entry, field_record};
-ghost use Rattle.redis_streams.specs.EntryMeaning.{entries_of, entry_meaning, fields_of};
-ghost use Rattle.redis_streams.specs.Refusal.{RefusesField};
+ghost use Rattle.redis_resp.specs.Table.{field_record};
+ghost use Rattle.redis_streams.specs.Entry.{empty_entry};
+ghost use Rattle.redis_resp.specs.FieldsMeaning.{fields_of};
+ghost use Rattle.redis_streams.specs.EntryMeaning.{entries_of, entry_meaning};
+ghost use Rattle.redis_resp.specs.Refusal.{RefusesField};
 ghost use Rattle.redis_streams.specs.SameEntryMeaning.{same_entry};
 
-use redis_resp::{FromRedisValue, ParsingError, Value};
+use redis_resp::{FromRedisValue, ParsingError, Value, field_of};
 use std::alloc::{AllocError, Global};
 use std::collections::HashMap;
 
@@ -41,21 +43,13 @@ impl StreamId {
     /// The record that the field of this name reads as, and None where there is no such field or it
     /// has no record of the type. It fails only where the field is there, its reading takes memory
     /// and there is none.
-    #[tactic(auto, using(crate::proofs::FieldsLemmas::get_field))]
     pub fn get<T: FromRedisValue>(&self, alloc: Global, key: &str) -> Result<Option<T>, AllocError>
         ensures record { IfOk result (λ r. option_map T.meaning r
             ≡ field_record T.reading (fields_of self.now.map) key.now) }
         ensures memory { OnErr result (RefusesField T.may_refuse
             (fin.get (fields_of self.now.map) key.now) ParsingError.Memory) }
     {
-        let Some(value) = self.map.get(key) else {
-            return Ok(None);
-        };
-        match T::from_redis_value_ref(alloc, value) {
-            Ok(record) => Ok(Some(record)),
-            Err(ParsingError::Memory) => Err(AllocError),
-            Err(_) => Ok(None),
-        }
+        field_of(alloc, &self.map, key)
     }
 
     /// Whether there is a field of this name, whatever its value.

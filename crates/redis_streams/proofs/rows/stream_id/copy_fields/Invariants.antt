@@ -1,5 +1,5 @@
 use Rattle.redis_streams.proofs.FieldsLemmas.{Copied}
-use Rattle.redis_streams.specs.EntryMeaning.{fields_of}
+use Rattle.redis_resp.specs.FieldsMeaning.{fields_of}
 use Rattle.redis_streams.proofs.rows.stream_id.copy_fields.Given as goal
 
 abbrev pub invariant-loop-name : goal.invariant-loop-name

@@ -1,7 +1,8 @@
 use Rattle.std.proofs.Common.{◌≡◌, ◌++◌, map}
 use Rattle.redis_resp.specs.Table.{entries_meaning}
 use Rattle.redis_streams.specs.Entry.{entry_of}
-use Rattle.redis_streams.specs.EntryMeaning.{entries_of, fields_of}
+use Rattle.redis_resp.specs.FieldsMeaning.{fields_of}
+use Rattle.redis_streams.specs.EntryMeaning.{entries_of}
 use Rattle.redis_streams.proofs.rows.items.RowListItem.push_to.Given as goal
 
 abbrev pub invariant-loop-id : goal.invariant-loop-id
