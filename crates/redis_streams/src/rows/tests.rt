@@ -1,4 +1,5 @@
 //! Entries, and the replies that hold them, by both calls.
+mod moved;
 mod user_type;
 
 use crate::laws::invalid_entries_tell_nil;
