@@ -63,8 +63,8 @@ impl FromRedisValue for StreamReadReply {
     }
 }
 
-/// The streams of a value in the standard form, else in the claim form. Which of them it has is told
-/// first, with no memory, so that it is read once.
+/// The streams of a value in the standard form, else in the claim form. Which of them it has is
+/// told first, with no memory, so that it is read once.
 fn read_reply<S: Source>(alloc: Global, v: S) -> Result<StreamReadReply, ParsingError>
     ensures ok { IfOk result (λ r. read_reading (S.seen v) ≡ Some (streams_of r.keys)) }
     ensures err { IfErr result (Refuses read_reading RefusesRead (S.seen v)) }
