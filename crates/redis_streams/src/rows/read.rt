@@ -63,15 +63,21 @@ impl FromRedisValue for StreamReadReply {
     }
 }
 
-/// The streams of a value in the standard form, else in the claim form.
+/// The streams of a value in the standard form, else in the claim form. Which of them it has is
+/// told first, with no memory, so that it is read once.
 fn read_reply<S: Source>(alloc: Global, v: S) -> Result<StreamReadReply, ParsingError>
     ensures ok { IfOk result (λ r. read_reading (S.seen v) ≡ Some (streams_of r.keys)) }
     ensures err { IfErr result (Refuses read_reading RefusesRead (S.seen v)) }
 {
-    if let Some(keys) = standard_streams(alloc, v.as_value())? {
-        return Ok(StreamReadReply { keys });
-    }
-    match claim_streams(alloc, v)? {
+    let forms = StreamReadReply::forms(v.as_value());
+    let keys = if forms.standard {
+        standard_streams(alloc, v)?
+    } else if forms.claim {
+        claim_streams(alloc, v)?
+    } else {
+        None
+    };
+    match keys {
         Some(keys) => Ok(StreamReadReply { keys }),
         None => Err(ParsingError::UnknownReadFormat),
     }

@@ -1,11 +1,12 @@
 //! Entries, and the replies that hold them, by both calls.
+mod forms;
+mod moved;
 mod user_type;
 
 use crate::laws::invalid_entries_tell_nil;
 use crate::rows::tests::user_type::Flag;
 use crate::rows::{
-    ReadForms, StreamAutoClaimReply, StreamClaimReply, StreamId, StreamKey, StreamRangeReply,
-    StreamReadReply,
+    StreamAutoClaimReply, StreamClaimReply, StreamId, StreamKey, StreamRangeReply, StreamReadReply,
 };
 use crate::tests::both_calls::{both_read, both_refuse, bulk};
 use redis_resp::{ParsingError, Value};
@@ -124,45 +125,6 @@ fn reads_of_no_form_are_refused(rt: HostRuntime) -> Result<(), Fail> {
 fn stream_of(alloc: Global, items: Vec<Value>) -> Result<Value, AllocError> {
     let stream = two(alloc, bulk(alloc, "s")?, Value::Array(items))?;
     Ok(Value::Array(vec![in alloc; stream]?))
-}
-
-// An entry `1-0` with the field `f`, as an array of four that ends with these two.
-fn delivery(alloc: Global, elapsed: Value, delivered: Value) -> Result<Value, AllocError> {
-    let fields = two(alloc, bulk(alloc, "f")?, bulk(alloc, "v")?)?;
-    Ok(Value::Array(vec![in alloc; bulk(alloc, "1-0")?, fields, elapsed, delivered]?))
-}
-
-#[test]
-fn forms_are_told(rt: HostRuntime) -> Result<(), Fail> {
-    let alloc = rt.alloc();
-    let claim = delivery(alloc, Value::Int(5), Value::Int(2))?;
-    let number = vec![in alloc; delivery(alloc, Value::Int(5), Value::Nil)?]?;
-    let signed = vec![in alloc; delivery(alloc, Value::Int(-1), Value::Nil)?]?;
-    let plus = vec![in alloc; delivery(alloc, bulk(alloc, "+5")?, Value::Nil)?]?;
-    let mixed = vec![in alloc;
-        row(alloc, "1-0", "f", bulk(alloc, "v")?)?,
-        claim.try_clone(alloc)?,
-    ]?;
-    let claimed = Value::Map(vec![in alloc;
-        (bulk(alloc, "s")?, Value::Array(vec![in alloc; claim]?)),
-    ]?);
-    let table = [
-        (Value::Nil, (true, true)),
-        (stream_of(alloc, Vec::new(alloc))?, (true, true)),
-        (stream_of(alloc, number)?, (true, true)),
-        (stream_of(alloc, plus)?, (true, true)),
-        (stream_of(alloc, signed)?, (true, false)),
-        (claimed, (false, true)),
-        (stream_of(alloc, mixed)?, (false, false)),
-        (Value::Int(1), (false, false)),
-    ];
-    for (value, (standard, claim)) in table {
-        assert_eq!(rt;
-            StreamReadReply::forms(&value),
-            ReadForms { standard, claim }
-        );
-    }
-    Ok(())
 }
 
 #[test]
