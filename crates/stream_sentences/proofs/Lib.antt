@@ -1,3 +1,6 @@
+mod AnswerLemmas
+mod Devices
+mod LineLemmas
 pub mod Numbers
 mod PolicyLemmas
 mod ReadLemmas
