@@ -78,4 +78,4 @@ pub args_more : (args new : List (Vec ℕ)) (arg : Vec ℕ) (front : List ℕ) (
     → arg.items ≡ front → new ≡ args ++ arg ∷ [] → arguments new ++ parts_left after ≡ all
 args_more args new arg front rest left after all so_far is e f g = rw (g, map-append (λ a. a.items) args (arg ∷ []), f)
     (append_assoc (arguments args) (front ∷ []) (parts_left after) ∙ ap (λ t. arguments args ++ t) (sym (parts_are rest.now front after e))
-      ∙ ap (λ t. arguments args ++ parts_left t) (sym is) ∙ so_far)
+    ∙ ap (λ t. arguments args ++ parts_left t) (sym is) ∙ so_far)

@@ -25,13 +25,13 @@ pub data OptionType : Type 0 where
 -- the type of a type word
 abbrev pub type_of : List ℕ → Option OptionType
 type_of word = if bytes_eq word (codes "trim") then Some trim
-  else if bytes_eq word (codes "add") then Some add
-  else if bytes_eq word (codes "config") then Some config
-  else if bytes_eq word (codes "autoclaim") then Some autoclaim
-  else if bytes_eq word (codes "claim") then Some claim
-  else if bytes_eq word (codes "read") then Some read
-  else if bytes_eq word (codes "nack") then Some nack
-  else None
+    else if bytes_eq word (codes "add") then Some add
+    else if bytes_eq word (codes "config") then Some config
+    else if bytes_eq word (codes "autoclaim") then Some autoclaim
+    else if bytes_eq word (codes "claim") then Some claim
+    else if bytes_eq word (codes "read") then Some read
+    else if bytes_eq word (codes "nack") then Some nack
+    else None
 
 -- what goes out for a line
 pub data Reply : Type 0 where

@@ -3,6 +3,9 @@ ghost use Rattle.std.specs.Prelude.{◌≡◌, ◌≢◌, IfErr, OnOk, IfSome};
 ghost use Rattle.std.specs.Io.KnownBytes.{Keeps, IsAtEnd};
 ghost use Rattle.stream_sentences.specs.Told.{WroteAnswer, WroteAnswerBeginning};
 
+#[cfg(test)]
+mod tests;
+
 use crate::answer::answer_to;
 use crate::device::{read_all, write_whole};
 use crate::run_error::RunError;
@@ -20,11 +23,7 @@ use std::io::{Read, Write};
 /// Each error of a read or of a write is a failure, `Interrupted` too, and so is a write that takes
 /// no byte; nothing is tried again. After `Read` or `Memory` nothing was written; after `Write` a
 /// beginning of the answer was.
-pub fn run<R: Read, W: Write>(
-    alloc: Global,
-    input: &mut R,
-    output: &mut W,
-) -> Result<(), RunError>
+pub fn run<R: Read, W: Write>(alloc: Global, input: &mut R, output: &mut W) -> Result<(), RunError>
     ensures answered { OnOk result (IfSome (R.remaining input.old) (λ all.
         WroteAnswer all (W.contents output.old) (W.contents output.new))) }
     ensures end { OnOk result (IsAtEnd (R.remaining input.new)) }
@@ -32,7 +31,7 @@ pub fn run<R: Read, W: Write>(
         → Keeps (W.contents output.old) (W.contents output.new)) }
     ensures begun { IfErr result (λ e. e ≡ RunError.Write
         → IfSome (R.remaining input.old) (λ all.
-            WroteAnswerBeginning all (W.contents output.old) (W.contents output.new))) }
+        WroteAnswerBeginning all (W.contents output.old) (W.contents output.new))) }
 {
     let bytes = read_all(alloc, input)?;
     let answer = answer_to(alloc, &bytes)?;
