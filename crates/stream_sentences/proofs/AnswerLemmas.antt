@@ -1,11 +1,7 @@
 -- What the answers to lines make together.
-use Rattle.std.proofs.Common.{◌≡◌, ℕ, List, [], ◌∷◌, ◌++◌, length, refl, sym, ◌∙◌, ap, subst, arith, append_assoc, append-nil, ◌≤◌, Option, Some, None, IfOk, IfErr, Result, Ok, Err}
-use Rattle.stream_sentences.specs.Answer.{Reply, IsAnswer, IsReply, AnswersLines, IsVerdict, reply_line}
-use Rattle.stream_sentences.specs.AnswerMeaning.{reply_of, verdict_of}
+use Rattle.std.proofs.Common.{◌≡◌, ℕ, List, [], ◌∷◌, ◌++◌, length, refl, sym, ◌∙◌, ap, subst, arith, append_assoc, append-nil}
+use Rattle.stream_sentences.specs.Answer.{Reply, IsAnswer, IsReply, AnswersLines, reply_line}
 use Rattle.stream_sentences.specs.Lines.{lines_of, parts_of}
-use Rattle.stream_sentences.specs.Split.{IsOneSplit, HasNoSplit}
-use Rattle.stream_sentences.specs.declared.error.SentenceError.{SentenceError}
-use Rattle.stream_sentences.specs.declared.error.SentenceError.TheVariants.{NotASentence, Memory}
 
 -- the answer to a rest that begins with this line
 answer_more : (rest line after tail : List ℕ) (reply : Reply) → lines_of rest ≡ line ∷ lines_of after → IsReply (parts_of line) reply → IsAnswer after tail

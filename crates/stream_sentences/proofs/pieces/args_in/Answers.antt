@@ -1,4 +1,4 @@
-use Rattle.std.proofs.Common.{◌≡◌, [], ◌∷◌}
+use Rattle.std.proofs.Common.{[], ◌∷◌}
 use Rattle.stream_sentences.proofs.LineLemmas.{args_more}
 use Rattle.stream_sentences.proofs.pieces.args_in.Goals as goal
 

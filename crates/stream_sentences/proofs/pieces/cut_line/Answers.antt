@@ -1,4 +1,4 @@
-use Rattle.std.proofs.Common.{◌≡◌, []}
+use Rattle.std.proofs.Common.{[]}
 use Rattle.stream_sentences.proofs.LineLemmas.{last_line}
 use Rattle.stream_sentences.proofs.pieces.cut_line.Goals as goal
 

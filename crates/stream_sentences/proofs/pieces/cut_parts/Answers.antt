@@ -1,4 +1,4 @@
-use Rattle.std.proofs.Common.{◌≡◌, [], ◌∷◌, sym, ◌∙◌, ap}
+use Rattle.std.proofs.Common.{[], ◌∷◌, sym, ◌∙◌, ap}
 use Rattle.stream_sentences.proofs.LineLemmas.{parts_are}
 use Rattle.stream_sentences.proofs.pieces.cut_parts.Goals as goal
 
