@@ -1,5 +1,6 @@
 //! Lines, and readers and writers that fail.
 use crate::{RunError, run};
+use std::alloc::{AllocError, Global};
 use std::io::{self, ErrorKind, Read, Write};
 use std::test::Fail;
 
@@ -53,24 +54,25 @@ fn chunks_of(text: &str) -> Chunks<'_> {
     }
 }
 
-// It takes so many bytes, in pieces of at most three, and then it fails or takes none.
+// It takes `room` bytes, at most three at a time, and then it fails or takes none.
 #[derive(Drop)]
 struct Page {
-    bytes: [u8; 128],
-    len: usize,
+    written: Vec<u8>,
     room: usize,
     fails: bool,
 }
 
 impl Write for Page {
     fn write(&mut self, bytes: &[u8]) -> io::Result<usize> {
-        if self.fails && self.len == self.room {
+        if self.fails && self.room == 0 {
             return Err(io::Error::from(ErrorKind::Interrupted));
         }
-        let taken = bytes.len().min(3).min(self.room - self.len);
-        self.bytes[self.len..self.len + taken].copy_from_slice(&bytes[..taken]);
-        self.len += taken;
-        Ok(taken)
+        let taken = bytes.len().min(3).min(self.room);
+        self.room -= taken;
+        match self.written.extend_from_slice(&bytes[..taken]) {
+            Ok(()) => Ok(taken),
+            Err(AllocError) => Err(io::Error::from(ErrorKind::OutOfMemory)),
+        }
     }
 
     fn flush(&mut self) -> io::Result<()> {
@@ -78,13 +80,13 @@ impl Write for Page {
     }
 }
 
-fn page_of(room: usize, fails: bool) -> Page {
-    Page {
-        bytes: [0; 128],
-        len: 0,
+// An empty page that asks for no more memory up to 128 bytes.
+fn page_of(alloc: Global, room: usize, fails: bool) -> Result<Page, AllocError> {
+    Ok(Page {
+        written: Vec::with_capacity(alloc, 128)?,
         room,
         fails,
-    }
+    })
 }
 
 #[test]
@@ -125,43 +127,47 @@ fn any_bytes_are_arguments(rt: HostRuntime) -> Result<(), Fail> {
 }
 
 #[test]
-fn nothing_is_written_where_a_read_fails(rt: HostRuntime) {
+fn nothing_is_written_where_a_read_fails(rt: HostRuntime) -> Result<(), Fail> {
     // the last of these would have found the end
     for reads in 0..LINES.len().div_ceil(7) + 1 {
         let mut input = chunks_of(LINES);
         input.reads = reads;
-        let mut output = page_of(ANSWER.len(), true);
+        let mut output = page_of(rt.alloc(), ANSWER.len(), true)?;
         assert_eq!(rt;
             run(rt.alloc(), &mut input, &mut output),
             Err(RunError::Read)
         );
-        assert_eq!(rt; output.len, 0, "after {reads} reads");
+        assert!(rt; output.written.is_empty(), "after {reads} reads");
     }
+    Ok(())
 }
 
 #[test]
-fn a_beginning_is_written_where_a_write_fails(rt: HostRuntime) {
+fn a_beginning_is_written_where_a_write_fails(rt: HostRuntime) -> Result<(), Fail> {
     for fails in [false, true] {
         for room in 0..ANSWER.len() {
-            let mut output = page_of(room, fails);
+            let mut output = page_of(rt.alloc(), room, fails)?;
             let answer = run(rt.alloc(), &mut chunks_of(LINES), &mut output);
             assert_eq!(rt; answer, Err(RunError::Write), "room for {room}");
-            assert_eq!(rt; &output.bytes[..output.len], &ANSWER.as_bytes()[..room]);
+            assert_eq!(rt; output.written.as_slice(), &ANSWER.as_bytes()[..room]);
         }
-        let mut output = page_of(ANSWER.len(), fails);
+        let mut output = page_of(rt.alloc(), ANSWER.len(), fails)?;
         assert_eq!(rt; run(rt.alloc(), &mut chunks_of(LINES), &mut output), Ok(()));
-        assert_eq!(rt; output.len, ANSWER.len());
+        assert_eq!(rt; output.written.as_slice(), ANSWER.as_bytes());
     }
+    Ok(())
 }
 
 #[test]
 fn refused_memory_writes_nothing(rt: HostRuntime) {
-    let mut output = page_of(ANSWER.len(), true);
+    let Ok(mut output) = page_of(rt.alloc(), ANSWER.len(), true) else {
+        return;
+    };
     match run(rt.alloc(), &mut chunks_of(LINES), &mut output) {
-        Ok(()) => assert_eq!(rt; &output.bytes[..output.len], ANSWER.as_bytes()),
+        Ok(()) => assert_eq!(rt; output.written.as_slice(), ANSWER.as_bytes()),
         Err(error) => {
             assert_eq!(rt; error, RunError::Memory);
-            assert_eq!(rt; output.len, 0);
+            assert!(rt; output.written.is_empty());
         }
     }
 }
