@@ -1,4 +1,8 @@
+mod AnswerLemmas
+mod Devices
+mod LineLemmas
 pub mod Numbers
+pub mod OneAnswer
 mod PolicyLemmas
 mod ReadLemmas
 pub mod Splits

@@ -60,6 +60,14 @@ module _ {T : Type 0} (Fits : T → Type 0) (f : T → List (List ℕ)) (words :
             (subst (λ y. Alike other y) d.0 x.2, omega (arith, ap length d.1, length-drop l args, t.within, rest_le args o r e));
       }
 
+  -- all splits have the same k
+  pub same_count : (args : List (List ℕ)) (a b : T) (k l : ℕ) → IsSplit Fits f words args a k → IsSplit Fits f words args b l → k ≡ l
+  same_count args a b k l s t =
+      let x = split_read args a k s in
+      let y = split_read args b l t in
+      let d = some_pair_parts x.0 y.0 (drop k args) (drop l args) (sym x.1 ∙ y.1) in
+      omega (arith, ap length d.1, length-drop k args, length-drop l args, s.within, t.within)
+
   -- where nothing is read there is no split
   pub split_none : (args : List (List ℕ)) → read args ≡ None → HasNoSplit Fits f words args
   split_none args e o k s = let x = split_read args o k s in none-some (x.0, drop k args) (sym e ∙ x.1)

@@ -11,14 +11,19 @@
 #![tactic(auto)]
 
 mod add;
+mod answer;
 mod autoclaim;
 mod claim;
 mod clauses;
 mod config;
+mod device;
 mod error;
+mod lines;
 mod nack;
+mod pieces;
 mod policy;
 mod read;
+mod run_error;
 mod strategy;
 mod trim;
 mod values;
@@ -28,8 +33,10 @@ pub use autoclaim::read_autoclaim;
 pub use claim::read_claim;
 pub use config::read_config;
 pub use error::SentenceError;
+pub use lines::run;
 pub use nack::read_nack;
 pub use read::read_read;
+pub use run_error::RunError;
 pub use trim::read_trim;
 
 #[cfg(test)]
