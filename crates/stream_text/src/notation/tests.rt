@@ -41,7 +41,10 @@ fn plain_kinds(alloc: Global) -> Result<Vec<(&'static str, Value)>, AllocError> 
 fn kinds_of_several(alloc: Global) -> Result<Vec<(&'static str, Value)>, AllocError> {
     let array = Value::Array(vec![in alloc; bulk(alloc, "a")?, Value::Nil]?);
     let set = Value::Set(vec![in alloc; bulk(alloc, "a")?, Value::Nil]?);
-    let pairs = vec![in alloc; (bulk(alloc, "k")?, Value::Okay), (Value::Nil, Value::Int(1))]?;
+    let pairs = vec![in alloc;
+        (bulk(alloc, "k")?, Value::Okay),
+        (Value::Nil, Value::Int(1)),
+    ]?;
     let push = Value::Push {
         kind: text(alloc, "message")?,
         payload: vec![in alloc; bulk(alloc, "a")?, Value::Nil]?,
@@ -52,7 +55,10 @@ fn kinds_of_several(alloc: Global) -> Result<Vec<(&'static str, Value)>, AllocEr
     };
     let around = Value::Attribute {
         payload: Box::new(alloc, bulk(alloc, "a")?)?,
-        attributes: vec![in alloc; (bulk(alloc, "k")?, Value::Okay), (Value::Nil, Value::Int(1))]?,
+        attributes: vec![in alloc;
+            (bulk(alloc, "k")?, Value::Okay),
+            (Value::Nil, Value::Int(1)),
+        ]?,
     };
     Ok(vec![in alloc;
         ("Array[a, Nil]", array),
@@ -67,10 +73,16 @@ fn kinds_of_several(alloc: Global) -> Result<Vec<(&'static str, Value)>, AllocEr
 #[test]
 fn each_kind_is_read(rt: HostRuntime) -> Result<(), Fail> {
     for (text, value) in plain_kinds(rt.alloc())? {
-        assert!(rt; read_value(rt.alloc(), text)? == value, "{text} is another value");
+        assert!(rt;
+            read_value(rt.alloc(), text)? == value,
+            "{text} is another value"
+        );
     }
     for (text, value) in kinds_of_several(rt.alloc())? {
-        assert!(rt; read_value(rt.alloc(), text)? == value, "{text} is another value");
+        assert!(rt;
+            read_value(rt.alloc(), text)? == value,
+            "{text} is another value"
+        );
     }
     Ok(())
 }
@@ -89,7 +101,10 @@ fn bulk_strings_are_read(rt: HostRuntime) -> Result<(), Fail> {
     ];
     for (text, bytes) in table {
         let value = Value::BulkString(Vec::from_slice(rt.alloc(), bytes)?);
-        assert!(rt; read_value(rt.alloc(), text)? == value, "{text} is another value");
+        assert!(rt;
+            read_value(rt.alloc(), text)? == value,
+            "{text} is another value"
+        );
     }
     Ok(())
 }
