@@ -5,7 +5,6 @@ pub mod AutoClaimCalls
 pub mod Calls
 pub mod Claim
 pub mod ClaimCalls
-pub mod Clauses
 pub mod Config
 pub mod ConfigCalls
 pub mod GroupMeaning

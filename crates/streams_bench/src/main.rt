@@ -5,18 +5,23 @@
 //! v01 MAXLEN ~ 10 LIMIT 5
 //! ```
 //!
-//! It ends with 0 where no text differs, with 1 where one does, and with 2 where memory ran out
-//! or standard output failed.
+//! Where no text differs it then answers the lines of standard input, one line for each: `ok k`,
+//! `no` or `unknown`.
+//!
+//! It ends with 0 where no text differs, with 1 where one does, and with 2 where memory ran out,
+//! or standard input or output failed.
 #![tactic(auto)]
 
 mod call_sequences;
 mod fixed_args;
 mod print;
+mod sentences;
 #[cfg(test)]
 mod tests;
 mod vectors;
 
 use print::{PrintError, print_rows};
+use sentences::{RunError, run};
 use std::alloc::AllocError;
 use std::io;
 use std::process::ExitCode;
@@ -25,7 +30,7 @@ use vectors::vector_rows;
 // A text differed.
 const DIFFERENT: u8 = 1;
 
-// Memory ran out, or standard output failed.
+// Memory ran out, or standard input or output failed.
 const FAILED: u8 = 2;
 
 // Why the program could not do its work.
@@ -33,6 +38,7 @@ const FAILED: u8 = 2;
 enum Failure {
     Memory,
     Print,
+    Lines,
 }
 
 impl From<AllocError> for Failure {
@@ -47,12 +53,27 @@ impl From<PrintError> for Failure {
     }
 }
 
+impl From<RunError> for Failure {
+    fn from(_error: RunError) -> Failure {
+        Failure::Lines
+    }
+}
+
 fn main(rt: HostRuntime) -> ExitCode {
-    match print_vectors(&rt) {
+    match print_and_answer(&rt) {
         Ok(true) => ExitCode::SUCCESS,
         Ok(false) => ExitCode::from(DIFFERENT),
         Err(_failure) => ExitCode::from(FAILED),
     }
+}
+
+// Prints the vectors, and then, where no text differs, answers the lines of standard input.
+fn print_and_answer<R: Print + Input + AllocGlobal>(rt: &R) -> Result<bool, Failure> {
+    if !print_vectors(rt)? {
+        return Ok(false);
+    }
+    run(rt.alloc(), &mut rt.reader(), &mut io::writer(rt))?;
+    Ok(true)
 }
 
 // Prints the line of each vector, and says whether all texts are the stored ones.

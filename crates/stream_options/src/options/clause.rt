@@ -1,7 +1,6 @@
 //! The parts of sentences, as values that can be written.
 ghost use Rattle.std.specs.Prelude.{◌∷◌};
-ghost use Rattle.redis_resp.specs.Clause.{clause};
-ghost use Rattle.stream_options.specs.Clauses.{flag};
+ghost use Rattle.redis_resp.specs.Clause.{clause, flag};
 
 use redis_resp::{RedisWrite, ToRedisArgs, WriteError};
 
