@@ -62,7 +62,7 @@ module _ {M : Type 0} (names : List (List ℕ)) (of : NamedFields → Option M) 
   change_nothing t more h = rw (h.pairs, h.more_pairs) (same h.text (pairs_read (h.before ++ (h.key, h.value) ∷ h.after)) (pairs_read (h.before ++ h.after)) h.is_other (still_alike h.before h.after h.key h.value h.text h.is_text))
 
 stream_looks : LooksAt stream_names stream_of
-stream_looks f g key o e = rw (e (codes "last-generated-id") o.0, e (codes "radix-tree-nodes") o.1.0, e (codes "groups") o.1.1.0, e (codes "length") o.1.1.1.0, e (codes "first-entry") o.1.1.1.1.0, e (codes "last-entry") o.1.1.1.1.1.0) refl
+stream_looks f g key o e = rw (e (codes "last-generated-id") o.0, e (codes "radix-tree-keys") o.1.0, e (codes "radix-tree-nodes") o.1.1.0, e (codes "groups") o.1.1.1.0, e (codes "length") o.1.1.1.1.0, e (codes "first-entry") o.1.1.1.1.1.0, e (codes "last-entry") o.1.1.1.1.1.1.0) refl
 
 tracked_looks : LooksAt tracked_names tracked_of
 tracked_looks f g key o e = rw (e (codes "idmp-duration") o.0, e (codes "idmp-maxsize") o.1.0, e (codes "pids-tracked") o.1.1.0, e (codes "iids-tracked") o.1.1.1.0, e (codes "iids-added") o.1.1.1.1.0, e (codes "iids-duplicates") o.1.1.1.1.1.0, stream_looks f g key o.1.1.1.1.1.1 e) refl

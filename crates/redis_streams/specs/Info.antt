@@ -56,6 +56,7 @@ entry_field fields name = field_or empty_entry info_entry_reading (fields name)
 pub record StreamInfo : Type 0 where
   pub last_generated_id : List ℕ
   pub radix_tree_keys : ℕ
+  pub radix_tree_nodes : ℕ
   pub groups : ℕ
   pub length : ℕ
   pub first_entry : Entry
@@ -63,18 +64,19 @@ pub record StreamInfo : Type 0 where
 
 -- a stream of which nothing is said
 abbrev pub empty_stream : StreamInfo
-empty_stream = record { last_generated_id = []; radix_tree_keys = 0; groups = 0; length = 0; first_entry = empty_entry; last_entry = empty_entry }
+empty_stream = record { last_generated_id = []; radix_tree_keys = 0; radix_tree_nodes = 0; groups = 0; length = 0; first_entry = empty_entry; last_entry = empty_entry }
 
 -- a stream by its fields
 abbrev pub stream_of : NamedFields → Option StreamInfo
 stream_of fields =
     text_field fields (codes "last-generated-id") >>= λ id.
-    number_field 64 fields (codes "radix-tree-nodes") >>= λ keys.
+    number_field 64 fields (codes "radix-tree-keys") >>= λ keys.
+    number_field 64 fields (codes "radix-tree-nodes") >>= λ nodes.
     number_field 64 fields (codes "groups") >>= λ groups.
     number_field 64 fields (codes "length") >>= λ length.
     entry_field fields (codes "first-entry") >>= λ first.
     entry_field fields (codes "last-entry") >>= λ last.
-    Some (record { last_generated_id = id; radix_tree_keys = keys; groups = groups; length = length; first_entry = first; last_entry = last })
+    Some (record { last_generated_id = id; radix_tree_keys = keys; radix_tree_nodes = nodes; groups = groups; length = length; first_entry = first; last_entry = last })
 
 -- what a value says as the reply of XINFO STREAM
 abbrev pub stream_reading : Tree → Option StreamInfo

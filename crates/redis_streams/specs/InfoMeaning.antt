@@ -21,6 +21,7 @@ abbrev pub stream_info_meaning : StreamInfoStreamReply → StreamInfo
 stream_info_meaning r = record {
   last_generated_id = string_bytes r.last_generated_id;
   radix_tree_keys = r.radix_tree_keys;
+  radix_tree_nodes = r.radix_tree_nodes;
   groups = r.groups;
   length = r.length;
   first_entry = entry_meaning r.first_entry;

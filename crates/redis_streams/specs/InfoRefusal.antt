@@ -25,11 +25,12 @@ RefusesNamed refuses t error = RefusesPairs (Refuses (λ u. Some u) RefusesValue
 abbrev pub RefusesStreamField : NamedFields → ParsingError → Type 0
 RefusesStreamField fields error =
     RefusesField RefusesText (fields (codes "last-generated-id")) error
+    ⊎ (RefusesField RefusesNumber (fields (codes "radix-tree-keys")) error
     ⊎ (RefusesField RefusesNumber (fields (codes "radix-tree-nodes")) error
     ⊎ (RefusesField RefusesNumber (fields (codes "groups")) error
     ⊎ (RefusesField RefusesNumber (fields (codes "length")) error
     ⊎ (RefusesField RefusesInfoEntry (fields (codes "first-entry")) error
-    ⊎ RefusesField RefusesInfoEntry (fields (codes "last-entry")) error))))
+    ⊎ RefusesField RefusesInfoEntry (fields (codes "last-entry")) error)))))
 
 -- a stream
 abbrev pub RefusesStream : Tree → ParsingError → Type 0

@@ -7,7 +7,7 @@ use Rattle.redis_resp.specs.Text.{text_reading}
 
 -- the names of a stream's fields
 abbrev pub stream_names : List (List ℕ)
-stream_names = codes "last-generated-id" ∷ codes "radix-tree-nodes" ∷ codes "groups" ∷ codes "length" ∷ codes "first-entry" ∷ codes "last-entry" ∷ []
+stream_names = codes "last-generated-id" ∷ codes "radix-tree-keys" ∷ codes "radix-tree-nodes" ∷ codes "groups" ∷ codes "length" ∷ codes "first-entry" ∷ codes "last-entry" ∷ []
 
 -- the names of the fields of a stream and of its idempotent producers
 abbrev pub tracked_names : List (List ℕ)

@@ -8,7 +8,7 @@
 //! | automatic claim | `next=ID claimed=[entries] deleted=[ids] invalid=BOOL` |
 //! | pending | `empty`, or `COUNT START END [name=pending ..]` |
 //! | pending with count | `id consumer milliseconds times`, with `; ` between each two |
-//! | stream information | `last=ID keys=N groups=N length=N first=entry final=entry`, with idempotency also `duration=N maxsize=N pids=N tracked=N added=N duplicates=N` |
+//! | stream information | `last=ID keys=N nodes=N groups=N length=N first=entry final=entry`, with idempotency also `duration=N maxsize=N pids=N tracked=N added=N duplicates=N` |
 //! | consumers | `name pending=N idle=N`, with `; ` between each two |
 //! | groups | `name consumers=N pending=N last=ID read=N lag=N`, `none` for an unknown number, with `; ` between each two |
 //! | a status code | its number |

@@ -25,7 +25,7 @@ use std::alloc::{AllocError, Global};
 
 /// A row for each vector, in ascending order. It fails only where memory runs out.
 pub fn vector_rows(alloc: Global) -> Result<Vec<Row>, AllocError>
-    ensures { IfOk result (λ rows. vec_len rows ≡ 86) }
+    ensures { IfOk result (λ rows. vec_len rows ≡ 89) }
 {
     let mut rows = Vec::new(alloc);
     push_options(alloc, &mut rows)?;
@@ -83,13 +83,14 @@ fn push_replies(alloc: Global, rows: &mut Vec<Row>) -> Result<(), AllocError>
     push_reply_rows::<XAckDelStatusCode>(alloc, rows, &status::acknowledgement_vectors())
 }
 
-// Adds the vectors of odd replies, v70 to v86.
+// Adds the vectors of odd replies, v70 to v89.
 fn push_odd_replies(alloc: Global, rows: &mut Vec<Row>) -> Result<(), AllocError>
-    ensures { OnOk result (vec_len rows.new ≡ vec_len rows.old + 17) }
+    ensures { OnOk result (vec_len rows.new ≡ vec_len rows.old + 20) }
 {
     push_reply_rows::<StreamRangeReply>(alloc, rows, &rows::odd_range_vectors())?;
     push_reply_rows::<StreamReadReply>(alloc, rows, &rows::odd_read_vectors())?;
     push_reply_rows::<StreamAutoClaimReply>(alloc, rows, &autoclaim::odd_autoclaim_vectors())?;
     push_reply_rows::<StreamPendingCountReply>(alloc, rows, &pending::odd_entry_vectors())?;
-    push_reply_rows::<StreamInfoStreamReply>(alloc, rows, &info::odd_stream_vectors())
+    push_reply_rows::<StreamInfoStreamReply>(alloc, rows, &info::odd_stream_vectors())?;
+    push_reply_rows::<StreamInfoStreamReply>(alloc, rows, &info::radix_tree_vectors())
 }

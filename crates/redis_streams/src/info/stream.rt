@@ -17,9 +17,10 @@ use std::collections::HashMap;
 pub struct StreamInfoStreamReply {
     /// The id that was given out last, which may be that of an entry since deleted.
     pub last_generated_id: String,
-    /// How many nodes the radix tree of the stream has, which the server sends as
-    /// `radix-tree-nodes`.
+    /// How many keys the radix tree of the stream has (`radix-tree-keys`).
     pub radix_tree_keys: usize,
+    /// How many nodes the radix tree of the stream has (`radix-tree-nodes`).
+    pub radix_tree_nodes: usize,
     /// How many consumer groups the stream has.
     pub groups: usize,
     /// How many entries the stream has.
@@ -40,6 +41,7 @@ impl StreamInfoStreamReply {
         Ok(StreamInfoStreamReply {
             last_generated_id: String::new(alloc),
             radix_tree_keys: 0,
+            radix_tree_nodes: 0,
             groups: 0,
             length: 0,
             first_entry: StreamId::empty(alloc)?,
@@ -54,6 +56,7 @@ impl StreamInfoStreamReply {
         Ok(StreamInfoStreamReply {
             last_generated_id: String::from_str(alloc, &self.last_generated_id)?,
             radix_tree_keys: self.radix_tree_keys,
+            radix_tree_nodes: self.radix_tree_nodes,
             groups: self.groups,
             length: self.length,
             first_entry: self.first_entry.try_clone(alloc)?,
@@ -67,6 +70,7 @@ impl StreamInfoStreamReply {
 struct StreamFields<S> {
     last_generated_id: Option<S>,
     radix_tree_keys: Option<S>,
+    radix_tree_nodes: Option<S>,
     groups: Option<S>,
     length: Option<S>,
     first_entry: Option<S>,
@@ -78,6 +82,8 @@ fn stream_fields<S: Source>(fields: &mut HashMap<String, S>) -> StreamFields<S>
     ensures last_generated_id { option_map S.seen result.last_generated_id
         ≡ fields_by_name S.seen fields.old (codes "last-generated-id") }
     ensures radix_tree_keys { option_map S.seen result.radix_tree_keys
+        ≡ fields_by_name S.seen fields.old (codes "radix-tree-keys") }
+    ensures radix_tree_nodes { option_map S.seen result.radix_tree_nodes
         ≡ fields_by_name S.seen fields.old (codes "radix-tree-nodes") }
     ensures groups { option_map S.seen result.groups
         ≡ fields_by_name S.seen fields.old (codes "groups") }
@@ -90,7 +96,8 @@ fn stream_fields<S: Source>(fields: &mut HashMap<String, S>) -> StreamFields<S>
 {
     StreamFields {
         last_generated_id: take_field(fields, "last-generated-id"),
-        radix_tree_keys: take_field(fields, "radix-tree-nodes"),
+        radix_tree_keys: take_field(fields, "radix-tree-keys"),
+        radix_tree_nodes: take_field(fields, "radix-tree-nodes"),
         groups: take_field(fields, "groups"),
         length: take_field(fields, "length"),
         first_entry: take_field(fields, "first-entry"),
@@ -111,6 +118,7 @@ pub(crate) fn read_stream<S: Source>(
     let fields = stream_fields(&mut fields);
     let id = read_or(alloc, fields.last_generated_id, String::new(alloc))?;
     let radix_tree_keys = read_or(alloc, fields.radix_tree_keys, 0)?;
+    let radix_tree_nodes = read_or(alloc, fields.radix_tree_nodes, 0)?;
     let groups = read_or(alloc, fields.groups, 0)?;
     let length = read_or(alloc, fields.length, 0)?;
     let first = read_or(alloc, fields.first_entry, InfoEntry::empty(alloc))?;
@@ -118,6 +126,7 @@ pub(crate) fn read_stream<S: Source>(
     Ok(StreamInfoStreamReply {
         last_generated_id: id,
         radix_tree_keys,
+        radix_tree_nodes,
         groups,
         length,
         first_entry: first.0,

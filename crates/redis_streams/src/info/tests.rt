@@ -56,6 +56,17 @@ fn streams_are_read(rt: HostRuntime) -> Result<(), Fail> {
         (borrowed.length, moved.try_clone(alloc)?.radix_tree_keys),
         (0, 0)
     );
+    let counts = fields(
+        alloc,
+        vec![in alloc;
+            ("radix-tree-keys", Value::Int(1)),
+            ("radix-tree-nodes", Value::Int(2)),
+        ]?,
+    )?;
+    let (borrowed, moved) = both_read::<StreamInfoStreamReply>(alloc, counts)?;
+    for reply in vec![in alloc; borrowed, moved.try_clone(alloc)?, moved]? {
+        assert_eq!(rt; (reply.radix_tree_keys, reply.radix_tree_nodes), (1, 2));
+    }
     let empty = StreamInfoStreamReplyWithIdempotency::empty(alloc)?;
     assert_eq!(rt; (empty.iids_added, empty.base.length), (0, 0));
     Ok(())

@@ -18,13 +18,14 @@ impl PrintedForm for StreamInfoStreamReply {
         let StreamInfoStreamReply {
             last_generated_id: last,
             radix_tree_keys: keys,
+            radix_tree_nodes: nodes,
             groups,
             length,
             ..
         } = self;
         write!(
             line,
-            "last={last} keys={keys} groups={groups} length={length}"
+            "last={last} keys={keys} nodes={nodes} groups={groups} length={length}"
         )?;
         print_ends(alloc, self, line)
     }

@@ -182,11 +182,11 @@ fn entries_are_copied(alloc: Global) -> Result<bool, AllocError> {
 
 fn information_is_copied(alloc: Global) -> Result<bool, AllocError> {
     Ok(copied! { alloc;
-        StreamInfoStreamReply: "last= keys=0 groups=0 length=0 first=() final=()",
-            "Map[length: Int 1, first-entry: Array[1-0, Map[f: v]]]" => "last= keys=0 groups=0 length=1 first=1-0(f=v) final=()";
+        StreamInfoStreamReply: "last= keys=0 nodes=0 groups=0 length=0 first=() final=()",
+            "Map[length: Int 1, first-entry: Array[1-0, Map[f: v]]]" => "last= keys=0 nodes=0 groups=0 length=1 first=1-0(f=v) final=()";
         StreamInfoStreamReplyWithIdempotency:
-            "last= keys=0 groups=0 length=0 first=() final=() duration=0 maxsize=0 pids=0 tracked=0 added=0 duplicates=0",
-            "Map[pids-tracked: +3]" => "last= keys=0 groups=0 length=0 first=() final=() duration=0 maxsize=0 pids=3 tracked=0 added=0 duplicates=0";
+            "last= keys=0 nodes=0 groups=0 length=0 first=() final=() duration=0 maxsize=0 pids=0 tracked=0 added=0 duplicates=0",
+            "Map[pids-tracked: +3]" => "last= keys=0 nodes=0 groups=0 length=0 first=() final=() duration=0 maxsize=0 pids=3 tracked=0 added=0 duplicates=0";
         StreamInfoConsumersReply: "-", "Array[Map[name: c, pending: 4]]" => "c pending=4 idle=0";
         StreamInfoGroupsReply: "-", "Array[Map[name: g, lag: 9]]" => "g consumers=0 pending=0 last= read=none lag=9";
     })

@@ -11,7 +11,7 @@ pub fn stream_vectors() -> [ReplyVector<'static>; 1]
     [(
         "v58",
         "Array[length, Nil, length, Int 3, first-entry, Array[1-0, Array[f, v], Int 9], last-entry, Map[1-0: Nil]]",
-        "last= keys=0 groups=0 length=3 first=1-0(f=v) final=()",
+        "last= keys=0 nodes=0 groups=0 length=3 first=1-0(f=v) final=()",
     )]
 }
 
@@ -23,7 +23,7 @@ pub fn idempotency_vectors() -> [ReplyVector<'static>; 1]
     [(
         "v59",
         "Map[length: Int 2, idmp-duration: Int 100, idmp-maxsize: 100, pids-tracked: +3]",
-        "last= keys=0 groups=0 length=2 first=() final=() duration=100 maxsize=100 pids=3 tracked=0 added=0 duplicates=0",
+        "last= keys=0 nodes=0 groups=0 length=2 first=() final=() duration=100 maxsize=100 pids=3 tracked=0 added=0 duplicates=0",
     )]
 }
 
@@ -62,5 +62,25 @@ pub fn odd_stream_vectors() -> [ReplyVector<'static>; 2]
     [
         ("v85", "Array[length]", "refused 4"),
         ("v86", "Map[first-entry: Array[1-0, x]]", "refused 4"),
+    ]
+}
+
+/// Streams with the two counts of their radix tree, v87 to v89.
+pub fn radix_tree_vectors() -> [ReplyVector<'static>; 3]
+    ensures { map (λ v. v.0.now) result
+        ≡ codes "v87" ∷ codes "v88" ∷ codes "v89" ∷ [] }
+{
+    [
+        (
+            "v87",
+            "Map[radix-tree-keys: Int 1, radix-tree-nodes: Int 2]",
+            "last= keys=1 nodes=2 groups=0 length=0 first=() final=()",
+        ),
+        (
+            "v88",
+            "Map[radix-tree-nodes: Int 2]",
+            "last= keys=0 nodes=2 groups=0 length=0 first=() final=()",
+        ),
+        ("v89", "Map[radix-tree-keys: x]", "refused 2"),
     ]
 }

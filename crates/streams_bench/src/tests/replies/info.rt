@@ -13,17 +13,17 @@ fn streams(rt: HostRuntime) -> Result<(), Fail> {
         &[
             (
                 "Map[Attr(length): Int 2]",
-                "last= keys=0 groups=0 length=2 first=() final=()",
+                "last= keys=0 nodes=0 groups=0 length=2 first=() final=()",
             ),
             ("Array[length, Int 3, length, Nil]", "refused 2"),
             ("Int 1", "refused 4"),
             (
                 "Map[first-entry: Array[1-0], last-entry: Attr(Array[2-0])]",
-                "last= keys=0 groups=0 length=0 first=1-0() final=()",
+                "last= keys=0 nodes=0 groups=0 length=0 first=1-0() final=()",
             ),
             (
-                "Map[radix-tree-nodes: 7, radix-tree-keys: x, last-generated-id: Int 5, groups: +1]",
-                "last=5 keys=7 groups=1 length=0 first=() final=()",
+                "Map[radix-tree-nodes: 7, last-generated-id: Int 5, groups: +1]",
+                "last=5 keys=0 nodes=7 groups=1 length=0 first=() final=()",
             ),
             ("Map[last-entry: Array[1-0, x]]", "refused 4"),
         ],

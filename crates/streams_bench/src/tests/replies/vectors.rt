@@ -44,6 +44,7 @@ fn vectors_of_pending_entries(rt: HostRuntime) -> Result<(), Fail> {
 fn vectors_of_information(rt: HostRuntime) -> Result<(), Fail> {
     check_vectors::<StreamInfoStreamReply>(&rt, &info::stream_vectors())?;
     check_vectors::<StreamInfoStreamReply>(&rt, &info::odd_stream_vectors())?;
+    check_vectors::<StreamInfoStreamReply>(&rt, &info::radix_tree_vectors())?;
     check_vectors::<StreamInfoStreamReplyWithIdempotency>(&rt, &info::idempotency_vectors())?;
     check_vectors::<StreamInfoConsumersReply>(&rt, &info::consumer_vectors())?;
     check_vectors::<StreamInfoGroupsReply>(&rt, &info::group_vectors())

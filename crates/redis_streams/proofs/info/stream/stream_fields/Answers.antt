@@ -6,4 +6,5 @@ returns-clause-first_entry g c =
     let after_second = rw after_first at c.take_field-2.ensures.rest in
     let after_third = rw after_second at c.take_field-3.ensures.rest in
     let after_fourth = rw after_third at c.take_field-4.ensures.rest in
-    rw after_fourth at c.take_field-5.ensures.field
+    let after_fifth = rw after_fourth at c.take_field-5.ensures.rest in
+    rw after_fifth at c.take_field-6.ensures.field
