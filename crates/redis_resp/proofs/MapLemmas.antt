@@ -45,6 +45,9 @@ module _ {T M : Type 0} (meaning : T → M) where
   meaning_insert [] k v = refl
   meaning_insert (e ∷ es) k v = mapped_cond (entries_meaning meaning) (string_eq k e.0) _ _ ∙ rw (meaning_insert es k v) refl
 
+  pub meaning_inserted : (es more : List (String Global × T)) (k : String Global) (v : T) → more ≡ insert_entry string_eq es k v → entries_meaning meaning more ≡ put (entries_meaning meaning es) (string_bytes k) (meaning v)
+  meaning_inserted es more k v is = ap (entries_meaning meaning) is ∙ meaning_insert es k v
+
   -- what stands under a key, seen through its meaning
   abbrev pub at_key : {S : Type 0} → HashMap (String Global) T S → List ℕ → Option M
   at_key m q = option_map meaning (get_by_text m q)

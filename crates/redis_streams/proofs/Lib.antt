@@ -3,6 +3,7 @@ pub mod AutoClaimLemmas
 pub mod AutoclaimRespellingLemmas
 pub mod FieldsLemmas
 pub mod InfoLemmas
+pub mod ItemFormLemmas
 pub mod OtherKeysLemmas
 pub mod OverlapLemmas
 pub mod PendingLemmas

@@ -2,6 +2,7 @@
 mod autoclaim;
 mod claim;
 mod claimed;
+mod item_form;
 mod items;
 mod range;
 mod read;

@@ -1,6 +1,7 @@
 //! Entries, and the replies that hold them, by both calls.
 mod forms;
 mod moved;
+mod straight;
 mod user_type;
 
 use crate::laws::invalid_entries_tell_nil;

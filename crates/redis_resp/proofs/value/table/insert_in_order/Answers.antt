@@ -1,10 +1,10 @@
-use Rattle.std.proofs.Common.{◌∙◌, ap, string_bytes}
+use Rattle.std.proofs.Common.{ap, string_bytes}
 use Rattle.std.proofs.lemmas.Result.{err_from_is_err_and}
 use Rattle.redis_resp.specs.Reading.{traverse}
 use Rattle.redis_resp.specs.Refusal.{Refuses, OneRefused, RefusesEntry}
 use Rattle.redis_resp.specs.Source.{all_left}
 use Rattle.redis_resp.specs.Table.{entries_meaning, entry_reading}
-use Rattle.redis_resp.proofs.MapLemmas.{table_start, table_next, table_refused, meaning_insert}
+use Rattle.redis_resp.proofs.MapLemmas.{table_start, table_next, table_refused, meaning_inserted}
 use Rattle.redis_resp.proofs.value.table.insert_in_order.Goals as goal
 
 pub loop-key-init : goal.loop-key-init
@@ -25,11 +25,11 @@ loop-key-preserved g c =
     let meaning = g.V.FromRedisValue.meaning in
     let entry = c.in_ok-entry.entry in
     table_next g.V.FromRedisValue.reading (all_left g.S.Source.values_left g.S.Source.pairs_left c.args.pairs) _ _ (g.S.Source.seen c.in-Some.key, g.S.Source.seen c.in-Some.value)
-    (string_bytes entry.0) (meaning entry.1) _ _ c.in-Some.ensures c.in_ok-entry.ensures.ok (ap (entries_meaning meaning) c.in_ok-insert.ensures.entries ∙ meaning_insert meaning c.loop-key.table.entries entry.0 entry.1) c.loop-key.invariant
+    (string_bytes entry.0) (meaning entry.1) _ _ c.in-Some.ensures c.in_ok-entry.ensures.ok (meaning_inserted meaning c.loop-key.table.entries c.insert.new.self.entries entry.0 entry.1 c.in_ok-insert.ensures.entries) c.loop-key.invariant
 
 pub loop-key-preserved-in_ok-insert : goal.loop-key-preserved-in_ok-insert
 loop-key-preserved-in_ok-insert g c =
     let meaning = g.V.FromRedisValue.meaning in
     let entry = c.in_ok-entry.entry in
     table_next g.V.FromRedisValue.reading (all_left g.S.Source.values_left g.S.Source.pairs_left c.args.pairs) _ _ (g.S.Source.seen c.in-Some.key, g.S.Source.seen c.in-Some.value)
-    (string_bytes entry.0) (meaning entry.1) _ _ c.in-Some.ensures c.in_ok-entry.ensures.ok (ap (entries_meaning meaning) c.in_ok-insert.ensures.entries ∙ meaning_insert meaning c.loop-key.table.entries entry.0 entry.1) c.loop-key.invariant
+    (string_bytes entry.0) (meaning entry.1) _ _ c.in-Some.ensures c.in_ok-entry.ensures.ok (meaning_inserted meaning c.loop-key.table.entries c.insert.new.self.entries entry.0 entry.1 c.in_ok-insert.ensures.entries) c.loop-key.invariant
