@@ -6,7 +6,7 @@
 //! ```
 //!
 //! A case is a kind of reply and a value in the notation of `stream_text::notation`; what stands
-//! behind a tab in a line is left out. Each value is read by both readings, owned and lent; where
+//! behind a tab in a line is left out. Each value is read by both readings, owned and borrowed; where
 //! they differ both answers are printed. Control characters of an answer are printed as `\n`, `\t`
 //! or `\xNN`. Another implementation of the readings can so be compared line by line.
 //!

@@ -14,11 +14,11 @@ pub trait PrintedForm {
 
     /// Appends the printed form of this value to the line.
     ///
-    /// It fails only by want of memory, and a beginning of the form may then stand in the line.
+    /// It fails only out of memory, and a beginning of the form may then stand in the line.
     fn print(&self, alloc: Global, line: &mut String) -> Result<(), AllocError>
         ensures { OnOk result (string_bytes line.new ≡ string_bytes line.old ++ form self.now) };
 
-    /// The printed form of this value. It fails only by want of memory.
+    /// The printed form of this value. It fails only out of memory.
     fn printed(&self, alloc: Global) -> Result<String, AllocError>
         ensures { IfOk result (λ line. string_bytes line ≡ form self.now) }
     {

@@ -5,7 +5,7 @@ ghost use Rattle.redis_streams.specs.InfoMeaning.{consumer_meaning};
 
 use std::alloc::{AllocError, Global};
 
-/// A consumer of a group.
+/// A consumer of a group, as XPENDING and XINFO CONSUMERS tell of it.
 #[derive(Debug, Drop)]
 pub struct StreamInfoConsumer {
     /// The name of the consumer.

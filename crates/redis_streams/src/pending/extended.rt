@@ -10,14 +10,15 @@ ghost use Rattle.redis_streams.specs.PendingRefusal.{RefusesFourMembers, Refuses
 use redis_resp::{FromRedisValue, ParsingError, Source, Value};
 use std::alloc::{AllocError, Global};
 
-/// What XPENDING answers with a range and a count.
+/// What `XPENDING key group [IDLE ms] start end count [consumer]` answers, with a range and a
+/// count.
 #[derive(Debug, Drop)]
 pub struct StreamPendingCountReply {
     /// The pending entries, in order.
     pub ids: Vec<StreamPendingId>,
 }
 
-/// A pending entry.
+/// A pending entry: delivered to a consumer and not yet acknowledged.
 #[derive(Debug, Drop)]
 pub struct StreamPendingId {
     /// The id of the entry.

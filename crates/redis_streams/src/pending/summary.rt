@@ -10,7 +10,7 @@ use crate::info::{StreamInfoConsumer, copy_consumers};
 use redis_resp::{FromRedisValue, ParsingError, Source, Value};
 use std::alloc::{AllocError, Global};
 
-/// What XPENDING answers without a range.
+/// What `XPENDING key group` answers, without a range.
 #[derive(Debug, Drop, Default)]
 pub enum StreamPendingReply {
     /// Nothing is pending.
@@ -20,7 +20,7 @@ pub enum StreamPendingReply {
     Data(StreamPendingData),
 }
 
-/// What is pending in a group.
+/// What is pending in a group: entries delivered to a consumer and not yet acknowledged.
 #[derive(Debug, Drop)]
 pub struct StreamPendingData {
     /// How many entries are pending in all.

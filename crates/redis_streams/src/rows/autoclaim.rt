@@ -13,13 +13,15 @@ use std::alloc::{AllocError, Global};
 /// What XAUTOCLAIM answers.
 #[derive(Debug, Drop)]
 pub struct StreamAutoClaimReply {
-    /// The id with which to go on.
+    /// The id from which the next XAUTOCLAIM goes on; `0-0` where all pending entries were seen.
     pub next_stream_id: String,
-    /// The entries that were claimed, in order; without fields where only ids were asked for.
+    /// The entries that were claimed, in order; without fields where `JUSTID` asked for ids alone.
     pub claimed: Vec<StreamId>,
-    /// The ids of entries that were pending and are no longer in the stream.
+    /// The ids of entries that were pending and are no longer in the stream; a server tells them
+    /// from 7.0 on.
     pub deleted_ids: Vec<String>,
-    /// Whether the list of claimed entries had more items than entries.
+    /// Whether the list of claimed entries had more items than entries: a server up to 6.2 answers
+    /// nil in place of an entry that was deleted meanwhile.
     pub invalid_entries: bool,
 }
 

@@ -10,9 +10,11 @@ use crate::rows::stream_id::{StreamId, copy_ids};
 use redis_resp::{FromRedisValue, ParsingError, Value};
 use std::alloc::{AllocError, Global};
 
-/// The entries that XCLAIM answers, in order.
+/// The entries that XCLAIM answers, in order. With `JUSTID` it answers ids alone, which are read as
+/// a list of texts.
 #[derive(Debug, Drop)]
 pub struct StreamClaimReply {
+    /// The entries that passed to the consumer, in order.
     pub ids: Vec<StreamId>,
 }
 

@@ -13,6 +13,7 @@ use std::alloc::{AllocError, Global};
 /// The entries that XRANGE or XREVRANGE answers, in order.
 #[derive(Debug, Drop)]
 pub struct StreamRangeReply {
+    /// The entries, in order: from the last to the first where XREVRANGE answered.
     pub ids: Vec<StreamId>,
 }
 

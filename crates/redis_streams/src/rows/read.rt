@@ -15,6 +15,7 @@ use std::alloc::{AllocError, Global};
 /// The streams that XREAD or XREADGROUP answers, in order.
 #[derive(Debug, Drop)]
 pub struct StreamReadReply {
+    /// The streams that have entries, in order; none where nil was answered.
     pub keys: Vec<StreamKey>,
 }
 

@@ -13,16 +13,17 @@ use redis_resp::{FromRedisValue, ParsingError, Value, field_of};
 use std::alloc::{AllocError, Global};
 use std::collections::HashMap;
 
-/// An entry of a stream: its id and its fields.
+/// An entry of a stream, as XRANGE, XREAD, XREADGROUP, XCLAIM and XAUTOCLAIM answer it: its id and
+/// its fields.
 #[derive(Debug, Drop)]
 pub struct StreamId {
     /// The id, such as `1526919030474-55`.
     pub id: String,
-    /// The fields by name.
+    /// The fields by name, each value as the server sent it.
     pub map: HashMap<String, Value>,
-    /// How many milliseconds ago it was last delivered, where the reply says so.
+    /// How many milliseconds ago it was last delivered: XREADGROUP with `CLAIM` says so.
     pub milliseconds_elapsed_from_delivery: Option<usize>,
-    /// How many times it was delivered, where the reply says so.
+    /// How many times it was delivered: XREADGROUP with `CLAIM` says so.
     pub delivered_count: Option<usize>,
 }
 

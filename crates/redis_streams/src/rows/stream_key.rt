@@ -5,7 +5,7 @@ ghost use Rattle.redis_streams.specs.ReadMeaning.{stream_key_meaning};
 use crate::rows::stream_id::{StreamId, copy_ids};
 use std::alloc::{AllocError, Global};
 
-/// A stream with the entries that were read from it.
+/// A stream with the entries that XREAD or XREADGROUP read from it.
 #[derive(Debug, Drop)]
 pub struct StreamKey {
     /// The name of the stream.

@@ -90,7 +90,7 @@ impl StreamClaimOptions {
         self
     }
 
-    /// `LASTID`: this is noted as the id that the group was delivered last.
+    /// `LASTID`: this is noted as the id of the entry that the group was delivered last.
     pub fn with_lastid(mut self, lastid: String) -> Self
         ensures { result ≡ record self { lastid = Some (string_bytes lastid) } }
     {

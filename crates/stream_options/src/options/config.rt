@@ -8,22 +8,22 @@ use redis_resp::{RedisWrite, ToRedisArgs, WriteError};
 use std::marker::Model;
 use thiserror::Error;
 
-/// The shortest time, in seconds, that a stream can be told to keep an id: 1.
+/// `IDMP-DURATION`: the shortest time, in seconds, that a stream can be told to keep an id.
 pub const IDMP_DURATION_MIN: u32 = 1;
-/// The longest time, in seconds, that a stream can be told to keep an id: a day.
+/// `IDMP-DURATION`: the longest time, in seconds, that a stream can be told to keep an id: a day.
 pub const IDMP_DURATION_MAX: u32 = 86400;
-/// The fewest ids of a producer that a stream can be told to keep: 1.
+/// `IDMP-MAXSIZE`: the fewest ids of a producer that a stream can be told to keep.
 pub const IDMP_MAXSIZE_MIN: u16 = 1;
-/// The most ids of a producer that a stream can be told to keep.
+/// `IDMP-MAXSIZE`: the most ids of a producer that a stream can be told to keep.
 pub const IDMP_MAXSIZE_MAX: u16 = 10000;
 
 /// A number outside the range of its setting.
 #[derive(Debug, Drop, PartialEq, Eq, Error)]
 pub enum ConfigError {
-    /// Seconds outside `IDMP_DURATION_MIN..=IDMP_DURATION_MAX`.
+    /// Seconds for `IDMP-DURATION` outside `IDMP_DURATION_MIN..=IDMP_DURATION_MAX`.
     #[error("IDMP-DURATION must be between {min} and {max} seconds, got: {0}", min = IDMP_DURATION_MIN, max = IDMP_DURATION_MAX)]
     Seconds(u32),
-    /// A number of entries outside `IDMP_MAXSIZE_MIN..=IDMP_MAXSIZE_MAX`.
+    /// A number of entries for `IDMP-MAXSIZE` outside `IDMP_MAXSIZE_MIN..=IDMP_MAXSIZE_MAX`.
     #[error("IDMP-MAXSIZE must be between {min} and {max} entries, got: {0}", min = IDMP_MAXSIZE_MIN, max = IDMP_MAXSIZE_MAX)]
     Maxsize(u16),
 }

@@ -49,7 +49,7 @@ impl Model for StreamNackOptions {
 }
 
 impl StreamNackOptions {
-    /// Options with this mode.
+    /// `SILENT`, `FAIL` or `FATAL`: options with this mode.
     pub fn new(mode: StreamNackMode) -> Self
         ensures { result ≡ nack_of mode }
     {

@@ -30,12 +30,12 @@ impl ToRedisArgs for StreamTrimmingMode {
 
 /// What is trimmed: `MAXLEN mode n [LIMIT l]` or `MINID mode id [LIMIT l]` of `XTRIM` and `XADD`.
 ///
-/// The last member is the limit: the most entries that one call removes.
+/// The last member is `LIMIT`: the most entries that one call removes.
 #[derive(Debug, Drop)]
 pub enum StreamTrimStrategy {
-    /// `MAXLEN`: all but the newest entries, so many of which stay.
+    /// `MAXLEN`: how exactly, how many entries stay, the newest ones, and the limit.
     MaxLen(StreamTrimmingMode, usize, Option<usize>),
-    /// `MINID`: the entries with ids below this one.
+    /// `MINID`: how exactly, the id below which entries go, and the limit.
     MinId(StreamTrimmingMode, String, Option<usize>),
 }
 
