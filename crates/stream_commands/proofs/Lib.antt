@@ -1,2 +1,3 @@
 mod IdLemmas
+pub mod JustIdLemmas
 pub mod WholeCommandLemmas

@@ -1,4 +1,6 @@
 pub mod Fields
+pub mod JustId
+pub mod JustIdMeaning
 pub mod NonEmpty
 pub mod Read
 pub mod Single

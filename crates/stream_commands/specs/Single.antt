@@ -7,11 +7,13 @@ pub record One (args : List (List ℕ)) : Type 0 where
   pub arg : List ℕ
   pub is : args ≡ arg ∷ []
 
+-- a number that is one
 abbrev IsOne : ℕ → Type 0
 IsOne zero = ⊥
 IsOne (suc zero) = ⊤
 IsOne (suc (suc n)) = ⊥
 
+-- a list of one argument has one
 pub the_one : (args : List (List ℕ)) → length args ≡ 1 → One args
 the_one [] e = absurd (subst IsOne (sym e) tt)
 the_one (arg ∷ []) e = record { arg = arg; is = refl }

@@ -27,6 +27,7 @@ AreApart words (arg ∷ args) = IsApart words arg × AreApart words args
 
 -- ---- XADD
 
+-- its key, its settings, the id and the fields of the entry
 pub record AddParts : Type 0 where
   pub key : List ℕ
   pub options : Add
@@ -37,10 +38,12 @@ pub record AddParts : Type 0 where
 abbrev pub add_list : AddParts → List (List ℕ)
 add_list c = codes "XADD" ∷ c.key ∷ (add_sentence c.options ++ c.id ∷ c.fields)
 
+-- the settings are in their ranges, and the id is no fixed word
 pub record AddPartsFit (c : AddParts) : Type 0 where
   pub options : AddFits c.options
   pub id : IsApart add_words c.id
 
+-- all parts are equal
 pub record SameAdd (a b : AddParts) : Type 0 where
   pub key : a.key ≡ b.key
   pub options : a.options ≡ b.options
@@ -49,6 +52,7 @@ pub record SameAdd (a b : AddParts) : Type 0 where
 
 -- ---- XTRIM
 
+-- its key and its settings
 pub record TrimParts : Type 0 where
   pub key : List ℕ
   pub options : Trim
@@ -57,15 +61,18 @@ pub record TrimParts : Type 0 where
 abbrev pub trim_list : TrimParts → List (List ℕ)
 trim_list c = codes "XTRIM" ∷ c.key ∷ trim_sentence c.options
 
+-- the settings are in their ranges
 abbrev pub TrimPartsFit : TrimParts → Type 0
 TrimPartsFit c = TrimFits c.options
 
+-- all parts are equal
 pub record SameTrim (a b : TrimParts) : Type 0 where
   pub key : a.key ≡ b.key
   pub options : a.options ≡ b.options
 
 -- ---- XREAD and XREADGROUP
 
+-- its settings, and of each stream the key and the id
 pub record ReadParts : Type 0 where
   pub options : Read
   pub streams : List (List ℕ × List ℕ)
@@ -76,6 +83,7 @@ read_list c =
     read_word c.options
     ∷ (read_sentence c.options ++ codes "STREAMS" ∷ (map (λ s. s.0) c.streams ++ map (λ s. s.1) c.streams))
 
+-- the settings are in their ranges, and the names are single
 abbrev pub ReadPartsFit : ReadParts → Type 0
 ReadPartsFit c = ReadFits c.options
 
@@ -86,6 +94,7 @@ pub record SameRead (a b : ReadParts) : Type 0 where
 
 -- ---- XCLAIM
 
+-- its key, group, consumer and least idle time, the ids of the entries, and its settings
 pub record ClaimParts : Type 0 where
   pub key : List ℕ
   pub group : List ℕ
@@ -99,11 +108,13 @@ abbrev pub claim_list : ClaimParts → List (List ℕ)
 claim_list c =
     codes "XCLAIM" ∷ c.key ∷ c.group ∷ c.consumer ∷ decimal c.min_idle ∷ (c.ids ++ claim_sentence c.options)
 
+-- numbers are in their ranges, and no id is a fixed word
 pub record ClaimPartsFit (c : ClaimParts) : Type 0 where
   pub min_idle : IsUsize c.min_idle
   pub ids : AreApart claim_words c.ids
   pub options : ClaimFits c.options
 
+-- all parts are equal
 pub record SameClaim (a b : ClaimParts) : Type 0 where
   pub key : a.key ≡ b.key
   pub group : a.group ≡ b.group
@@ -114,6 +125,7 @@ pub record SameClaim (a b : ClaimParts) : Type 0 where
 
 -- ---- XAUTOCLAIM
 
+-- its key, group, consumer and least idle time, the id that it starts from, and its settings
 pub record AutoClaimParts : Type 0 where
   pub key : List ℕ
   pub group : List ℕ
@@ -127,10 +139,12 @@ abbrev pub autoclaim_list : AutoClaimParts → List (List ℕ)
 autoclaim_list c =
     codes "XAUTOCLAIM" ∷ c.key ∷ c.group ∷ c.consumer ∷ decimal c.min_idle ∷ c.start ∷ autoclaim_sentence c.options
 
+-- numbers are in their ranges
 pub record AutoClaimPartsFit (c : AutoClaimParts) : Type 0 where
   pub min_idle : IsUsize c.min_idle
   pub options : AutoClaimFits c.options
 
+-- all parts are equal
 pub record SameAutoClaim (a b : AutoClaimParts) : Type 0 where
   pub key : a.key ≡ b.key
   pub group : a.group ≡ b.group

@@ -1,28 +1,31 @@
 //! Idle entries that pass to another consumer, whichever they are: XAUTOCLAIM.
-ghost use Rattle.std.specs.Prelude.{◌≡◌, ◌∷◌, ◌++◌, true, codes, decimal};
+ghost use Rattle.std.specs.Prelude.{◌≡◌, ◌↔◌, ◌∷◌, ◌++◌, true, codes, decimal, IfOk, IsErr, IsTrue};
 ghost use Rattle.stream_options.specs.AutoClaim.{autoclaim_sentence};
 
 use crate::command::{Command, Word};
+use crate::error::JustIdIsSet;
+use crate::justid::StreamAutoClaimJustIdReply;
 use redis_resp::ToSingleRedisArg;
 use redis_streams::StreamAutoClaimReply;
 use stream_options::StreamAutoClaimOptions;
 
 /// `XAUTOCLAIM key group consumer min-idle start [options]`: entries from `start` on that are
-/// pending for `min_idle` milliseconds pass to the consumer. The answer has them, and the id from
-/// which the next call goes on; with `JUSTID` they have no fields.
+/// pending for `min_idle` milliseconds pass to the consumer. The answer has them with their fields,
+/// and the id from which the next call goes on. `JustIdIsSet` where the options have `JUSTID`,
+/// whose answer has no fields: that is `xautoclaim_justid`.
 ///
 /// ```text
 /// let options = StreamAutoClaimOptions::default().count(10);
-/// xautoclaim_options("orders", "g", "c", 60000, "0-0", &options)
+/// xautoclaim_options("orders", "g", "c", 60000, "0-0", &options)?
 ///                                                 // XAUTOCLAIM orders g c 60000 0-0 COUNT 10
 /// ```
 pub fn xautoclaim_options<
     'w,
     'a,
-    K: ToSingleRedisArg,
-    G: ToSingleRedisArg,
-    C: ToSingleRedisArg,
-    S: ToSingleRedisArg,
+    K: ToSingleRedisArg + Drop,
+    G: ToSingleRedisArg + Drop,
+    C: ToSingleRedisArg + Drop,
+    S: ToSingleRedisArg + Drop,
 >(
     key: K,
     group: G,
@@ -30,23 +33,31 @@ pub fn xautoclaim_options<
     min_idle: usize,
     start: S,
     options: &'a StreamAutoClaimOptions,
-) -> Command<(Word<'w>, K, G, C, usize, (S, &'a StreamAutoClaimOptions)), StreamAutoClaimReply>
-    ensures { result ≡ codes "XAUTOCLAIM" ∷ K.args key ++ (G.args group ++ (C.args consumer
-        ++ decimal min_idle ∷ S.args start ++ autoclaim_sentence options.now)) }
+) -> Result<
+    Command<(Word<'w>, K, G, C, usize, (S, &'a StreamAutoClaimOptions)), StreamAutoClaimReply>,
+    JustIdIsSet,
+>
+    ensures ok { IfOk result (λ command. command
+        ≡ codes "XAUTOCLAIM" ∷ K.args key ++ (G.args group ++ (C.args consumer
+        ++ decimal min_idle ∷ S.args start ++ autoclaim_sentence options.now))) }
+    ensures refused { IsErr result ↔ IsTrue options.now.justid }
 {
-    Command::new((
+    if options.has_justid() {
+        return Err(JustIdIsSet);
+    }
+    Ok(Command::new((
         Word("XAUTOCLAIM"),
         key,
         group,
         consumer,
         min_idle,
         (start, options),
-    ))
+    )))
 }
 
 /// `XAUTOCLAIM key group consumer min-idle start [options] JUSTID`: the same, with `JUSTID` among
-/// the options whether they had it or not. The answer has the entries by their ids alone, without
-/// fields, and the claim is no delivery.
+/// the options whether they had it or not. The answer has the ids of the entries alone, and the id
+/// from which the next call goes on. The claim is no delivery.
 ///
 /// ```text
 /// let options = StreamAutoClaimOptions::default();
@@ -66,7 +77,7 @@ pub fn xautoclaim_justid<
     min_idle: usize,
     start: S,
     options: StreamAutoClaimOptions,
-) -> Command<(Word<'w>, K, G, C, usize, (S, StreamAutoClaimOptions)), StreamAutoClaimReply>
+) -> Command<(Word<'w>, K, G, C, usize, (S, StreamAutoClaimOptions)), StreamAutoClaimJustIdReply>
     ensures { result ≡ codes "XAUTOCLAIM" ∷ K.args key ++ (G.args group ++ (C.args consumer
         ++ decimal min_idle ∷ S.args start
         ++ autoclaim_sentence (record options { justid = true }))) }

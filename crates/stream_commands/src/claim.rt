@@ -1,11 +1,12 @@
 //! Pending entries that pass to another consumer: XCLAIM.
-ghost use Rattle.std.specs.Prelude.{◌≡◌, ◌∷◌, ◌++◌, true, codes, decimal};
+ghost use Rattle.std.specs.Prelude.{◌≡◌, ◌↔◌, ◌∷◌, ◌++◌, true, codes, decimal, IfOk, IsErr, IsTrue};
 ghost use Rattle.std.specs.List.{flat_map};
 ghost use Rattle.stream_commands.specs.NonEmpty.{all};
 ghost use Rattle.stream_options.specs.Claim.{claim_sentence};
 
 use crate::at_least_one::AtLeastOne;
 use crate::command::{Command, Word};
+use crate::error::JustIdIsSet;
 use redis_resp::ToSingleRedisArg;
 use redis_streams::StreamClaimReply;
 use stream_options::StreamClaimOptions;
@@ -38,19 +39,20 @@ pub fn xclaim<
 }
 
 /// `XCLAIM key group consumer min-idle id .. [options]`: the same as `xclaim`, as the options say.
+/// `JustIdIsSet` where they have `JUSTID`, whose answer has no entries: that is `xclaim_justid`.
 ///
 /// ```text
 /// let options = StreamClaimOptions::default().retry(3);
-/// xclaim_options("orders", "g", "c", 60000, AtLeastOne::one(&"1-0"), &options)
+/// xclaim_options("orders", "g", "c", 60000, AtLeastOne::one(&"1-0"), &options)?
 ///                                                 // XCLAIM orders g c 60000 1-0 RETRYCOUNT 3
 /// ```
 pub fn xclaim_options<
     'w,
     'a,
-    K: ToSingleRedisArg,
-    G: ToSingleRedisArg,
-    C: ToSingleRedisArg,
-    I: ToSingleRedisArg,
+    K: ToSingleRedisArg + Drop,
+    G: ToSingleRedisArg + Drop,
+    C: ToSingleRedisArg + Drop,
+    I: ToSingleRedisArg + Drop,
 >(
     key: K,
     group: G,
@@ -58,28 +60,36 @@ pub fn xclaim_options<
     min_idle: usize,
     ids: AtLeastOne<'a, I>,
     options: &'a StreamClaimOptions,
-) -> Command<
-    (
-        Word<'w>,
-        K,
-        G,
-        C,
-        usize,
-        (AtLeastOne<'a, I>, &'a StreamClaimOptions),
-    ),
-    StreamClaimReply,
+) -> Result<
+    Command<
+        (
+            Word<'w>,
+            K,
+            G,
+            C,
+            usize,
+            (AtLeastOne<'a, I>, &'a StreamClaimOptions),
+        ),
+        StreamClaimReply,
+    >,
+    JustIdIsSet,
 >
-    ensures { result ≡ codes "XCLAIM" ∷ K.args key ++ (G.args group ++ (C.args consumer
-        ++ decimal min_idle ∷ flat_map I.args (all ids.entry) ++ claim_sentence options.now)) }
+    ensures ok { IfOk result (λ command. command
+        ≡ codes "XCLAIM" ∷ K.args key ++ (G.args group ++ (C.args consumer
+        ++ decimal min_idle ∷ flat_map I.args (all ids.entry) ++ claim_sentence options.now))) }
+    ensures refused { IsErr result ↔ IsTrue options.now.justid }
 {
-    Command::new((
+    if options.has_justid() {
+        return Err(JustIdIsSet);
+    }
+    Ok(Command::new((
         Word("XCLAIM"),
         key,
         group,
         consumer,
         min_idle,
         (ids, options),
-    ))
+    )))
 }
 
 /// `XCLAIM key group consumer min-idle id .. [options] JUSTID`: the same, with `JUSTID` among the

@@ -16,11 +16,14 @@ pub mod at_least_one;
 pub mod autoclaim;
 pub mod claim;
 pub mod command;
+pub mod config;
 pub mod counted;
 pub mod delete;
+pub mod error;
 pub mod fields;
 pub mod group;
 pub mod info;
+pub mod justid;
 pub mod laws;
 pub mod pending;
 pub mod range;
@@ -34,14 +37,17 @@ pub use at_least_one::AtLeastOne;
 pub use autoclaim::{xautoclaim_justid, xautoclaim_options};
 pub use claim::{xclaim, xclaim_justid, xclaim_options};
 pub use command::{Command, Word};
+pub use config::xcfgset;
 pub use counted::CountedIds;
 pub use delete::{xdel, xdel_ex};
+pub use error::JustIdIsSet;
 pub use fields::ToFieldArgs;
 pub use group::{
     xgroup_create, xgroup_create_mkstream, xgroup_createconsumer, xgroup_delconsumer,
     xgroup_destroy, xgroup_setid,
 };
 pub use info::{xinfo_consumers, xinfo_groups, xinfo_stream, xinfo_stream_with_idempotency};
+pub use justid::StreamAutoClaimJustIdReply;
 pub use pending::{xpending, xpending_consumer_count, xpending_count, xpending_idle_count};
 pub use range::{
     xlen, xrange, xrange_all, xrange_count, xrevrange, xrevrange_all, xrevrange_count,

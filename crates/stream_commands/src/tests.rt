@@ -1,5 +1,4 @@
 //! The line of each command, against outside words, and answers that are read.
-use crate::command::Command;
 use redis_resp::ToRedisArgs;
 use std::process::Abort;
 use std::test::Fail;
@@ -7,11 +6,13 @@ use std::test::Fail;
 mod answer;
 mod entry;
 mod group;
+mod justid;
+mod law;
 
 // The command writes these words: its arguments, joined by spaces.
-fn check<A: ToRedisArgs, R>(
+fn check<A: ToRedisArgs>(
     rt: &(impl Abort + AllocGlobal),
-    command: &Command<A, R>,
+    command: &A,
     line: &str,
 ) -> Result<(), Fail> {
     let mut words = Vec::new(rt.alloc());

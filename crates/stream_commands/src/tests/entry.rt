@@ -1,14 +1,14 @@
 //! Commands on the entries of a stream.
 use crate::tests::check;
 use crate::{
-    AtLeastOne, xadd, xadd_maxlen, xadd_options, xdel, xdel_ex, xlen, xrange, xrange_all,
+    AtLeastOne, xadd, xadd_maxlen, xadd_options, xcfgset, xdel, xdel_ex, xlen, xrange, xrange_all,
     xrange_count, xread, xread_options, xrevrange, xrevrange_all, xrevrange_count, xtrim,
     xtrim_options,
 };
 use std::test::Fail;
 use stream_options::{
-    StreamAddOptions, StreamDeletionPolicy, StreamMaxlen, StreamReadOptions, StreamTrimOptions,
-    StreamTrimStrategy, StreamTrimmingMode,
+    StreamAddOptions, StreamConfigOptions, StreamDeletionPolicy, StreamMaxlen, StreamReadOptions,
+    StreamTrimOptions, StreamTrimStrategy, StreamTrimmingMode,
 };
 
 #[test]
@@ -129,5 +129,15 @@ fn streams_are_cut(rt: HostRuntime) -> Result<(), Fail> {
         &rt,
         &xtrim_options("orders", &options),
         "XTRIM orders MAXLEN ~ 1 LIMIT 50 ACKED",
+    )
+}
+
+#[test]
+fn streams_are_configured(rt: HostRuntime) -> Result<(), Fail> {
+    let options = StreamConfigOptions::with_idempotency_maxsize(1000)?.idempotency_seconds(300)?;
+    check(
+        &rt,
+        &xcfgset("orders", &options),
+        "XCFGSET orders IDMP-DURATION 300 IDMP-MAXSIZE 1000",
     )
 }

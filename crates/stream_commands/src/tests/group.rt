@@ -1,8 +1,8 @@
 //! Commands on groups and what is pending for them.
 use crate::tests::check;
 use crate::{
-    AtLeastOne, xack, xack_del, xautoclaim_justid, xautoclaim_options, xclaim, xclaim_justid,
-    xclaim_options, xgroup_create, xgroup_create_mkstream, xgroup_createconsumer,
+    AtLeastOne, JustIdIsSet, xack, xack_del, xautoclaim_justid, xautoclaim_options, xclaim,
+    xclaim_justid, xclaim_options, xgroup_create, xgroup_create_mkstream, xgroup_createconsumer,
     xgroup_delconsumer, xgroup_destroy, xgroup_setid, xinfo_consumers, xinfo_groups, xinfo_stream,
     xinfo_stream_with_idempotency, xpending, xpending_consumer_count, xpending_count,
     xpending_idle_count,
@@ -88,7 +88,7 @@ fn pending_entries_are_claimed(rt: HostRuntime) -> Result<(), Fail> {
     let options = StreamClaimOptions::default().retry(3).with_force();
     check(
         &rt,
-        &xclaim_options("orders", "g", "d", 0, AtLeastOne::one(&id), &options),
+        &xclaim_options("orders", "g", "d", 0, AtLeastOne::one(&id), &options)?,
         "XCLAIM orders g d 0 3-0 RETRYCOUNT 3 FORCE",
     )?;
     check(
@@ -96,17 +96,32 @@ fn pending_entries_are_claimed(rt: HostRuntime) -> Result<(), Fail> {
         &xclaim_justid("orders", "g", "c", 0, AtLeastOne::one(&id), options),
         "XCLAIM orders g c 0 3-0 RETRYCOUNT 3 FORCE JUSTID",
     )?;
-    let options = StreamAutoClaimOptions::default().count(10);
+    let options = || StreamAutoClaimOptions::default().count(10);
     check(
         &rt,
-        &xautoclaim_options("orders", "g", "d", 0, "0-0", &options),
+        &xautoclaim_options("orders", "g", "d", 0, "0-0", &options())?,
         "XAUTOCLAIM orders g d 0 0-0 COUNT 10",
     )?;
     check(
         &rt,
-        &xautoclaim_justid("orders", "g", "d", 0, "3", options),
+        &xautoclaim_justid("orders", "g", "d", 0, "3", options()),
         "XAUTOCLAIM orders g d 0 3 COUNT 10 JUSTID",
+    )?;
+    check(
+        &rt,
+        &xautoclaim_justid("orders", "g", "d", 0, "0-0", options().with_justid()),
+        "XAUTOCLAIM orders g d 0 0-0 COUNT 10 JUSTID",
     )
+}
+
+#[test]
+fn entries_are_not_claimed_by_ids_alone(rt: HostRuntime) {
+    let options = StreamClaimOptions::default().idle(5).with_justid();
+    let claim = xclaim_options("orders", "g", "d", 0, AtLeastOne::one(&"3-0"), &options);
+    assert_eq!(rt; claim.err(), Some(JustIdIsSet));
+    let options = StreamAutoClaimOptions::default().with_justid().count(1);
+    let claim = xautoclaim_options("orders", "g", "d", 0, "0-0", &options);
+    assert_eq!(rt; claim.err(), Some(JustIdIsSet));
 }
 
 #[test]

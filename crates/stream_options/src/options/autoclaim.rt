@@ -34,6 +34,13 @@ impl Default for StreamAutoClaimOptions {
 }
 
 impl StreamAutoClaimOptions {
+    /// True exactly where `JUSTID` is set: the reply then has the ids alone.
+    pub fn has_justid(&self) -> bool
+        ensures { result ≡ self.now.justid }
+    {
+        self.justid
+    }
+
     /// `COUNT`: at most so many entries are claimed.
     pub fn count(mut self, count: usize) -> Self
         ensures { result ≡ record self { count = Some count } }

@@ -50,6 +50,13 @@ impl Default for StreamClaimOptions {
 }
 
 impl StreamClaimOptions {
+    /// True exactly where `JUSTID` is set: the reply then has the ids alone.
+    pub fn has_justid(&self) -> bool
+        ensures { result ≡ self.now.justid }
+    {
+        self.justid
+    }
+
     /// `IDLE`: the entries count as idle for so many milliseconds.
     pub fn idle(mut self, milliseconds: usize) -> Self
         ensures { result ≡ record self { idle = Some milliseconds } }

@@ -117,20 +117,38 @@ fn claims(rt: HostRuntime) -> Result<(), Fail> {
         .with_force()
         .idle(7);
     let table = [
-        (default(), "-"),
-        (forced, "IDLE 7 FORCE LASTID 1-0"),
+        (default(), "-", false),
+        (forced, "IDLE 7 FORCE LASTID 1-0", false),
         (
             default().retry(4).time(9).with_justid().idle(0),
             "IDLE 0 TIME 9 RETRYCOUNT 4 JUSTID",
+            true,
         ),
         // two arguments, the second of which is empty
-        (default().with_lastid(text(rt.alloc(), "")?), "LASTID "),
+        (
+            default().with_lastid(text(rt.alloc(), "")?),
+            "LASTID ",
+            false,
+        ),
     ];
-    for (options, sentence) in &table {
+    for (options, sentence, justid) in &table {
         assert_words(&rt, rt.alloc(), options, sentence)?;
+        assert_eq!(rt; options.has_justid(), *justid);
     }
-    let automatic = StreamAutoClaimOptions::default().with_justid().count(3);
-    assert_words(&rt, rt.alloc(), &automatic, "COUNT 3 JUSTID")?;
-    assert_words(&rt, rt.alloc(), &StreamAutoClaimOptions::default(), "-")?;
+    Ok(())
+}
+
+#[test]
+fn automatic_claims(rt: HostRuntime) -> Result<(), Fail> {
+    let default = || StreamAutoClaimOptions::default();
+    let table = [
+        (default(), "-", false),
+        (default().count(3), "COUNT 3", false),
+        (default().with_justid().count(3), "COUNT 3 JUSTID", true),
+    ];
+    for (options, sentence, justid) in &table {
+        assert_words(&rt, rt.alloc(), options, sentence)?;
+        assert_eq!(rt; options.has_justid(), *justid);
+    }
     Ok(())
 }

@@ -1,0 +1,142 @@
+//! Whole commands of texts are the lists that the laws speak of.
+ghost use Rattle.std.specs.Prelude.{◌≡◌, [], ◌∷◌, map, IfOk};
+ghost use Rattle.stream_commands.specs.WholeCommands.{add_list, trim_list, read_list, claim_list, autoclaim_list};
+
+use crate::tests::check;
+use crate::{
+    AtLeastOne, xadd_options, xautoclaim_options, xclaim_options, xread_options, xtrim_options,
+};
+use redis_resp::ToRedisArgs;
+use std::alloc::{AllocError, Global};
+use std::test::Fail;
+use stream_options::{
+    StreamAddOptions, StreamAutoClaimOptions, StreamClaimOptions, StreamReadOptions,
+    StreamTrimOptions, StreamTrimStrategy, StreamTrimmingMode,
+};
+
+fn add_arguments(
+    alloc: Global,
+    key: &str,
+    id: &str,
+    field: (&str, &str),
+    options: &StreamAddOptions,
+) -> Result<Vec<Vec<u8>>, AllocError>
+    ensures { IfOk result (λ list. map (λ arg. arg.items) list.items ≡ add_list (record {
+      key = key.now;
+      options = options.now;
+      id = id.now;
+      fields = field.0.now ∷ field.1.now ∷ [];
+    })) }
+{
+    xadd_options(key, id, field, options).to_redis_args(alloc)
+}
+
+fn trim_arguments(
+    alloc: Global,
+    key: &str,
+    options: &StreamTrimOptions,
+) -> Result<Vec<Vec<u8>>, AllocError>
+    ensures { IfOk result (λ list. map (λ arg. arg.items) list.items ≡ trim_list (record {
+      key = key.now;
+      options = options.now;
+    })) }
+{
+    xtrim_options(key, options).to_redis_args(alloc)
+}
+
+fn read_arguments(
+    alloc: Global,
+    key: &str,
+    id: &str,
+    options: &StreamReadOptions,
+) -> Result<Vec<Vec<u8>>, AllocError>
+    ensures { IfOk result (λ list. map (λ arg. arg.items) list.items ≡ read_list (record {
+      options = options.now;
+      streams = (key.now, id.now) ∷ [];
+    })) }
+{
+    xread_options(AtLeastOne::one(&(key, id)), options).to_redis_args(alloc)
+}
+
+fn claim_arguments(
+    alloc: Global,
+    key: &str,
+    group: &str,
+    consumer: &str,
+    min_idle: usize,
+    id: &str,
+    options: &StreamClaimOptions,
+) -> Result<Vec<Vec<u8>>, Fail>
+    ensures { IfOk result (λ list. map (λ arg. arg.items) list.items ≡ claim_list (record {
+      key = key.now;
+      group = group.now;
+      consumer = consumer.now;
+      min_idle = min_idle;
+      ids = id.now ∷ [];
+      options = options.now;
+    })) }
+{
+    let ids = AtLeastOne::one(&id);
+    let command = xclaim_options(key, group, consumer, min_idle, ids, options)?;
+    Ok(command.to_redis_args(alloc)?)
+}
+
+fn autoclaim_arguments(
+    alloc: Global,
+    key: &str,
+    group: &str,
+    consumer: &str,
+    min_idle: usize,
+    start: &str,
+    options: &StreamAutoClaimOptions,
+) -> Result<Vec<Vec<u8>>, Fail>
+    ensures { IfOk result (λ list. map (λ arg. arg.items) list.items ≡ autoclaim_list (record {
+      key = key.now;
+      group = group.now;
+      consumer = consumer.now;
+      min_idle = min_idle;
+      start = start.now;
+      options = options.now;
+    })) }
+{
+    let command = xautoclaim_options(key, group, consumer, min_idle, start, options)?;
+    Ok(command.to_redis_args(alloc)?)
+}
+
+#[test]
+fn commands_are_lists_of_their_parts(rt: HostRuntime) -> Result<(), Fail> {
+    let alloc = rt.alloc();
+    let strategy = StreamTrimStrategy::maxlen(StreamTrimmingMode::Exact, 10);
+    let add = StreamAddOptions::default().nomkstream().trim(strategy);
+    let trim = StreamTrimOptions::maxlen(StreamTrimmingMode::Approx, 1).limit(50);
+    let read = StreamReadOptions::default().block(5).count(2);
+    let read = read.group(alloc, "g", "c")?;
+    let claim = StreamClaimOptions::default().with_force().retry(3);
+    let automatic = StreamAutoClaimOptions::default().count(10);
+    let table = [
+        (
+            add_arguments(alloc, "orders", "4-0", ("item", "tea"), &add)?,
+            "XADD orders NOMKSTREAM MAXLEN = 10 4-0 item tea",
+        ),
+        (
+            trim_arguments(alloc, "orders", &trim)?,
+            "XTRIM orders MAXLEN ~ 1 LIMIT 50",
+        ),
+        (
+            read_arguments(alloc, "orders", ">", &read)?,
+            "XREADGROUP GROUP g c BLOCK 5 COUNT 2 STREAMS orders >",
+        ),
+        (
+            claim_arguments(alloc, "orders", "g", "d", 0, "3-0", &claim)?,
+            "XCLAIM orders g d 0 3-0 RETRYCOUNT 3 FORCE",
+        ),
+        (
+            autoclaim_arguments(alloc, "orders", "g", "d", 0, "0-0", &automatic)?,
+            "XAUTOCLAIM orders g d 0 0-0 COUNT 10",
+        ),
+    ];
+    for (arguments, line) in &table {
+        check(&rt, arguments, line)?;
+    }
+    Ok(())
+}
