@@ -19,16 +19,19 @@ member_count groups.Attribute n = 2 * n + 1
 -- so many values, one after the other
 unfoldable pub many : (List ℕ → Read Answer) → ℕ → List ℕ → Read Answers
 many inner zero bytes = Ok (values [], bytes)
-many inner (suc n) bytes = inner bytes >>= λ x. many inner n x.1 >>= λ y. Ok (join (one x.0) y.0, y.1)
+many inner (suc n) bytes =
+    inner bytes >>= λ x. many inner n x.1 >>= λ y. Ok (join (one x.0) y.0, y.1)
 
--- the pairs of members two by two
+-- pairs, or the fault where a member is left alone
 abbrev pub pairs_or_fault : Option (List (Tree × Tree)) → Result (List (Tree × Tree)) Halt
 pairs_or_fault None = Err (bad BadLength)
 pairs_or_fault (Some ps) = Ok ps
 
+-- the members two by two
 abbrev pub pairs_of : List Tree → Result (List (Tree × Tree)) Halt
 pairs_of ts = pairs_or_fault (two_by_two ts)
 
+-- a map: a key and its value, in turn
 abbrev pub map_answer : List Tree → Result Answer Halt
 map_answer ts = pairs_of ts >>= λ ps. Ok (value (map_of_pairs (pairs ps)))
 
@@ -37,18 +40,23 @@ abbrev pub push_behind : Option (List ℕ) → List Tree → Result Answer Halt
 push_behind None ts = Err (bad BadPush)
 push_behind (Some kind) ts = Ok (value (push kind (trees ts)))
 
+-- a push, whose first member is a text that names its kind
 abbrev pub push_answer : List Tree → Result Answer Halt
 push_answer [] = Err (bad BadPush)
 push_answer (t ∷ ts) = push_behind (text_reading t) ts
 
 -- pairs, and the value that they are attributes of
-abbrev pub attribute_round : Option Tree → Result (List (Tree × Tree)) Halt → Result Answer Halt
+abbrev pub attribute_round :
+    Option Tree → Result (List (Tree × Tree)) Halt → Result Answer Halt
 attribute_round None r = Err (bad BadLength)
 attribute_round (Some t) r = r >>= λ ps. Ok (value (attribute t (pairs ps)))
 
+-- attributes, and the last member behind them, whose attributes they are
 abbrev pub attribute_answer : List Tree → Result Answer Halt
-attribute_answer ts = attribute_round (slice_get ts (length ts - 1)) (pairs_of (take (length ts - 1) ts))
+attribute_answer ts =
+    attribute_round (slice_get ts (length ts - 1)) (pairs_of (take (length ts - 1) ts))
 
+-- what a group is whose members are these values
 unfoldable pub group_tree : GroupKind → List Tree → Result Answer Halt
 group_tree groups.Array ts = Ok (value (array (trees ts)))
 group_tree groups.Set ts = Ok (value (set (trees ts)))

@@ -7,7 +7,8 @@ use Rattle.redis_wire.specs.declared.reply.ReplyError.{ReplyError}
 use Rattle.redis_wire.specs.declared.reply.ReplyError.TheVariants.{Server, Parsing}
 use Rattle.redis_wire.specs.Reply.{Answer, value, refused}
 
-module _ {M R : Type 0} (reading : Tree → Option M) (may_refuse : Tree → ParsingError → Type 0) (meaning : R → M) where
+module _ {M R : Type 0} (reading : Tree → Option M)
+    (may_refuse : Tree → ParsingError → Type 0) (meaning : R → M) where
   -- the record of a value, or why it is refused; and a server's error is that error
   abbrev pub IsRecord : Answer → Result R ReplyError → Type 0
   IsRecord (value t) (Ok r) = reading t ≡ Some (meaning r)

@@ -5,9 +5,6 @@ use Rattle.redis_wire.proofs.LineLemmas.{prefix_len_le, prefix_len_from, first_a
 use Rattle.redis_wire.proofs.ScanLemmas.{cut_short}
 use Rattle.redis_wire.proofs.scanning.cut_line.Goals as goal
 
-pub bytes_behind-requires : goal.bytes_behind-requires
-bytes_behind-requires c = rw (rest_is c.args.left.now) (omega (arith, c.requires, prefix_len_le is_inner (drop 1 c.args.left.now)))
-
 counted : (seen len : ℕ) (left from : List ℕ) → seen ≤ prefix_len is_inner (drop 1 left) → from ≡ drop seen (take (length left - 1) (drop 1 left)) → len ≡ prefix_len is_inner from
     → seen + len ≡ prefix_len is_inner (drop 1 left)
 counted seen len left from known is e = rw (e, is, rest_is left) (prefix_len_from is_inner seen (drop 1 left) known)
