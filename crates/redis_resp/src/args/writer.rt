@@ -61,8 +61,22 @@ impl RedisWrite for Vec<Vec<u8>> {
 
     fn write_arg(&mut self, arg: &[u8]) -> Result<(), WriteError> {
         let alloc = *self.allocator();
+        make_room(self)?;
         let copy = Vec::from_slice(alloc, arg)?;
         self.push(copy)?;
+        Ok(())
+    }
+}
+
+// A list that has no room at all gets it for as many arguments as sentences mostly have.
+const USUAL_COUNT: usize = 16;
+
+fn make_room(list: &mut Vec<Vec<u8>>) -> Result<(), AllocError>
+    ensures { list.new.items ≡ list.old.items }
+{
+    if list.capacity() == 0 {
+        list.reserve(USUAL_COUNT)
+    } else {
         Ok(())
     }
 }

@@ -157,7 +157,8 @@ pub(crate) fn read_rows<S: Source>(alloc: Global, v: S) -> Result<Vec<StreamId>,
 pub(crate) fn read_ids<S: Source>(alloc: Global, v: S) -> Result<Vec<StreamId>, ParsingError>
     ensures ok { IfOk result (λ entries. entries_by_kind id_kind (S.seen v)
         ≡ Some (entries_of entries)) }
-    ensures err { IfErr result (Refuses (entries_by_kind id_kind) (RefusesByKind id_kind) (S.seen v)) }
+    ensures err { IfErr result (Refuses (entries_by_kind id_kind) (RefusesByKind id_kind)
+        (S.seen v)) }
 {
     read_entries::<Ids, S>(alloc, v)
 }
