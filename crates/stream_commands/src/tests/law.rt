@@ -18,17 +18,18 @@ fn add_arguments(
     alloc: Global,
     key: &str,
     id: &str,
-    field: (&str, &str),
+    name: &str,
+    value: &str,
     options: &StreamAddOptions,
 ) -> Result<Vec<Vec<u8>>, AllocError>
     ensures { IfOk result (λ list. map (λ arg. arg.items) list.items ≡ add_list (record {
       key = key.now;
       options = options.now;
       id = id.now;
-      fields = field.0.now ∷ field.1.now ∷ [];
+      fields = name.now ∷ value.now ∷ [];
     })) }
 {
-    xadd_options(key, id, field, options).to_redis_args(alloc)
+    xadd_options(key, id, (name, value), options).to_redis_args(alloc)
 }
 
 fn trim_arguments(
@@ -115,7 +116,7 @@ fn commands_are_lists_of_their_parts(rt: HostRuntime) -> Result<(), Fail> {
     let automatic = StreamAutoClaimOptions::default().count(10);
     let table = [
         (
-            add_arguments(alloc, "orders", "4-0", ("item", "tea"), &add)?,
+            add_arguments(alloc, "orders", "4-0", "item", "tea", &add)?,
             "XADD orders NOMKSTREAM MAXLEN = 10 4-0 item tea",
         ),
         (
