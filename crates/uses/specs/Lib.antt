@@ -4,3 +4,5 @@ pub mod Order
 pub mod Stalled
 pub mod Monitoring
 pub mod Readme
+pub mod Server
+pub mod Wire

@@ -1,5 +1,5 @@
 //! The orders of a batch of entries, and the entries that say none.
-ghost use Rattle.std.specs.Prelude.{◌≡◌, ◌++◌, map, flat_map, OnOk, IfOk, string_bytes};
+ghost use Rattle.std.specs.Prelude.{◌≡◌, map, flat_map, IfOk, string_bytes};
 ghost use Rattle.redis_streams.specs.EntryMeaning.{entry_meaning};
 ghost use Rattle.uses.specs.Order.{order_meaning, order_in, strange_in};
 
@@ -16,25 +16,6 @@ pub struct Batch {
     pub strange: Vec<String>,
 }
 
-/// The entry's order goes to the one list, or its id to the other.
-fn place(
-    alloc: Global,
-    orders: &mut Vec<Order>,
-    strange: &mut Vec<String>,
-    entry: &StreamId,
-) -> Result<(), AllocError>
-    ensures orders { OnOk result (map order_meaning orders.new.items
-        ≡ map order_meaning orders.old.items ++ order_in (entry_meaning entry.now)) }
-    ensures strange { OnOk result (map string_bytes strange.new.items
-        ≡ map string_bytes strange.old.items ++ strange_in (entry_meaning entry.now)) }
-{
-    match Order::of_entry(alloc, entry)? {
-        Some(order) => orders.push(order)?,
-        None => strange.push(entry.id.clone()?)?,
-    }
-    Ok(())
-}
-
 /// Each entry is an order, or its id is among the strange ones; both in order.
 pub fn sort_out(alloc: Global, entries: &[StreamId]) -> Result<Batch, AllocError>
     ensures orders { IfOk result (λ b. map order_meaning b.orders.items
@@ -45,7 +26,10 @@ pub fn sort_out(alloc: Global, entries: &[StreamId]) -> Result<Batch, AllocError
     let mut orders = Vec::new(alloc);
     let mut strange = Vec::new(alloc);
     for entry in entries {
-        place(alloc, &mut orders, &mut strange, entry)?;
+        match Order::of_fields(alloc, &entry.map)? {
+            Some(order) => orders.push(order)?,
+            None => strange.push(entry.id.clone()?)?,
+        }
     }
     Ok(Batch { orders, strange })
 }

@@ -2,9 +2,9 @@
 //! test.
 //!
 //! `worker` and `batch` are the pure part of a consumer-group worker, `stalled` takes over what
-//! other consumers left, `monitoring` reads XPENDING and XINFO, `producer` sends entries so that
-//! one that is sent twice is added once, `order` has types of a user's own as arguments and as
-//! records, and `readme` the code of the README.
+//! others left, `monitoring` reads XPENDING and XINFO, `producer` sends entries so that one that is
+//! sent twice is added once, `server` reads back what a client wrote, `wire` goes from a server's
+//! bytes to a record, `order` has types of a user's own, and `readme` the code of the README.
 #![tactic(auto)]
 
 pub mod batch;
@@ -12,7 +12,9 @@ pub mod monitoring;
 pub mod order;
 pub mod producer;
 pub mod readme;
+pub mod server;
 pub mod stalled;
 #[cfg(test)]
 mod tests;
+pub mod wire;
 pub mod worker;

@@ -1,21 +1,17 @@
-//! Types of a user's own: `OrderId` is one argument and is read from a number, `Texts` are several
-//! arguments, `Order` is read from the fields of an entry.
-ghost use Rattle.std.specs.Prelude.{◌≡◌, ◌≢◌, ℕ, [], ◌∷◌, Some, None, map, codes, decimal, refl};
-ghost use Rattle.std.specs.Prelude.{option_map, string_bytes, IfOk, IfErr};
+//! Types of a user's own: `OrderId` is one argument and is read from a number, `Order` is the fields
+//! of an entry, as arguments and as a record.
+ghost use Rattle.std.specs.Prelude.{◌≡◌, ℕ, [], ◌∷◌, codes, decimal, refl};
+ghost use Rattle.std.specs.Prelude.{option_map, string_bytes, IfOk};
 ghost use Rattle.redis_resp.specs.Number.{unsigned_reading};
-ghost use Rattle.redis_resp.specs.Reading.{list_reading};
-ghost use Rattle.redis_resp.specs.Value.{tree};
-ghost use Rattle.redis_resp.specs.Table.{field_record};
 ghost use Rattle.redis_resp.specs.FieldsMeaning.{fields_of};
 ghost use Rattle.uses.specs.Order.{Meant, order_meaning, order_of, order_reading};
 
 use redis_resp::{
     FromRedisValue, ParsingError, RedisWrite, ToRedisArgs, ToSingleRedisArg, Value, WriteError,
+    field_of,
 };
-use redis_streams::StreamId;
 use std::alloc::{AllocError, Global};
 use std::collections::HashMap;
-use stream_options::StreamReadOptions;
 
 /// The number of an order.
 #[derive(Clone, Copy, Debug, PartialEq, Eq)]
@@ -49,18 +45,6 @@ impl FromRedisValue for OrderId {
     }
 }
 
-/// Several texts, borrowed, each one argument.
-#[derive(Debug, Drop)]
-pub struct Texts<'a>(pub &'a [String]);
-
-impl ToRedisArgs for Texts<'_> {
-    ghost args = { λ texts. map string_bytes texts.0.now };
-
-    fn write_redis_args<W: RedisWrite>(&self, out: &mut W) -> Result<(), WriteError> {
-        self.0.write_redis_args(out)
-    }
-}
-
 /// An order, as the fields of an entry say it.
 #[derive(Debug, Drop)]
 pub struct Order {
@@ -72,19 +56,32 @@ pub struct Order {
     pub quantity: u32,
 }
 
+impl ToRedisArgs for Order {
+    ghost args = { λ order. codes "order" ∷ decimal order.id.0 ∷ codes "customer"
+        ∷ string_bytes order.customer ∷ codes "quantity" ∷ decimal order.quantity ∷ [] };
+
+    fn write_redis_args<W: RedisWrite>(&self, out: &mut W) -> Result<(), WriteError> {
+        let fields = (("order", self.id), ("customer", &self.customer));
+        (fields, ("quantity", self.quantity)).write_redis_args(out)
+    }
+}
+
 impl Order {
-    /// The order that an entry says, if it says one.
-    pub fn of_entry(alloc: Global, entry: &StreamId) -> Result<Option<Order>, AllocError>
+    /// The order that fields say, if they say one.
+    pub fn of_fields(
+        alloc: Global,
+        fields: &HashMap<String, Value>,
+    ) -> Result<Option<Order>, AllocError>
         ensures { IfOk result (λ r. option_map order_meaning r
-            ≡ order_of (fields_of entry.now.map)) }
+            ≡ order_of (fields_of fields.now)) }
     {
-        let Some(id) = entry.get(alloc, "order")? else {
+        let Some(id) = field_of(alloc, fields, "order")? else {
             return Ok(None);
         };
-        let Some(customer) = entry.get(alloc, "customer")? else {
+        let Some(customer) = field_of(alloc, fields, "customer")? else {
             return Ok(None);
         };
-        let Some(quantity) = entry.get(alloc, "quantity")? else {
+        let Some(quantity) = field_of(alloc, fields, "quantity")? else {
             return Ok(None);
         };
         Ok(Some(Order {
@@ -92,24 +89,6 @@ impl Order {
             customer,
             quantity,
         }))
-    }
-
-    /// The order of fields; `NotPairs` where they say none.
-    fn of_fields(alloc: Global, map: HashMap<String, Value>) -> Result<Order, ParsingError>
-        ensures ok { IfOk result (λ r. order_of (fields_of map) ≡ Some (order_meaning r)) }
-        ensures err { IfErr result (λ e. e ≢ ParsingError.Memory
-            → order_of (fields_of map) ≡ None) }
-    {
-        let entry = StreamId {
-            id: String::new(alloc),
-            map,
-            milliseconds_elapsed_from_delivery: None,
-            delivered_count: None,
-        };
-        match Order::of_entry(alloc, &entry)? {
-            Some(order) => Ok(order),
-            None => Err(ParsingError::NotPairs),
-        }
     }
 }
 
@@ -121,50 +100,11 @@ impl FromRedisValue for Order {
     ghost reading = { order_reading };
 
     fn from_redis_value(alloc: Global, v: Value) -> Result<Order, ParsingError> {
-        Order::of_fields(alloc, HashMap::from_redis_value(alloc, v)?)
+        Order::from_redis_value_ref(alloc, &v)
     }
 
     fn from_redis_value_ref(alloc: Global, v: &Value) -> Result<Order, ParsingError> {
-        Order::of_fields(alloc, HashMap::from_redis_value_ref(alloc, v)?)
+        let fields = HashMap::from_redis_value_ref(alloc, v)?;
+        Order::of_fields(alloc, &fields)?.ok_or(ParsingError::NotPairs)
     }
-}
-
-/// The number that an entry names in its field `order`.
-pub fn order_named(alloc: Global, entry: &StreamId) -> Result<Option<OrderId>, AllocError>
-    ensures { IfOk result (λ r. option_map (λ id. id.0) r
-        ≡ field_record (unsigned_reading 64) (fields_of entry.now.map) (codes "order")) }
-{
-    entry.get(alloc, "order")
-}
-
-/// The orders of a list of maps of fields.
-pub fn orders_listed(alloc: Global, v: Value) -> Result<Vec<Order>, ParsingError>
-    ensures ok { IfOk result (λ r. list_reading order_reading (tree v)
-        ≡ Some (map order_meaning r.items)) }
-    ensures err { IfErr result (λ e. e ≢ ParsingError.Memory
-        → list_reading order_reading (tree v) ≡ None) }
-{
-    Vec::from_redis_value(alloc, v)
-}
-
-/// `GROUP n worker`: a group of the order's own.
-pub fn group_arguments(alloc: Global, order: OrderId) -> Result<Vec<Vec<u8>>, AllocError>
-    ensures { IfOk result (λ list. map (λ arg. arg.items) list.items ≡
-        codes "GROUP" ∷ decimal order.0 ∷ codes "worker" ∷ []) }
-{
-    StreamReadOptions::default()
-        .group(alloc, order, "worker")?
-        .to_redis_args(alloc)
-}
-
-/// `XDEL key id..`: the texts are borrowed and written where they lie.
-pub fn delete_arguments(
-    alloc: Global,
-    key: &str,
-    ids: &[String],
-) -> Result<Vec<Vec<u8>>, AllocError>
-    ensures { IfOk result (λ list. map (λ arg. arg.items) list.items ≡
-        codes "XDEL" ∷ key.now ∷ map string_bytes ids.now) }
-{
-    ("XDEL", key, Texts(ids)).to_redis_args(alloc)
 }

@@ -34,13 +34,13 @@ pub enum ProducerError {
 
 impl Producer {
     /// `XADD key IDMP producer number MAXLEN ~ n * field value ..`, the same each time until the
-    /// entry is answered.
+    /// entry is answered. A value need be no text; it is borrowed, and one argument.
     pub fn arguments(
         &self,
         alloc: Global,
         key: &str,
         length: usize,
-        fields: &[(&str, &str)],
+        fields: &[(&str, &[u8])],
     ) -> Result<Vec<Vec<u8>>, AllocError>
         ensures { IfOk result (λ list. map (λ arg. arg.items) list.items ≡ codes "XADD" ∷ key.now
             ∷ codes "IDMP" ∷ string_bytes self.now.id ∷ decimal self.now.number
@@ -69,16 +69,4 @@ impl Producer {
         self.number = next;
         Ok(id)
     }
-}
-
-/// `XADD key * body payload`: a payload that need be no text, borrowed and one argument.
-pub fn payload_arguments(
-    alloc: Global,
-    key: &str,
-    payload: &[u8],
-) -> Result<Vec<Vec<u8>>, AllocError>
-    ensures { IfOk result (λ list. map (λ arg. arg.items) list.items ≡
-        codes "XADD" ∷ key.now ∷ codes "*" ∷ codes "body" ∷ payload.now ∷ []) }
-{
-    ("XADD", key, "*", "body", payload).to_redis_args(alloc)
 }

@@ -3,7 +3,7 @@ ghost use Rattle.std.specs.Prelude.{◌≡◌, ◌≢◌, [], ◌∷◌, Option,
 ghost use Rattle.std.specs.Prelude.{option_map, string_bytes, IfOk, IfErr};
 ghost use Rattle.redis_resp.specs.Value.{tree};
 ghost use Rattle.redis_streams.specs.AutoClaim.{autoclaim_reading};
-ghost use Rattle.uses.specs.Stalled.{Claimed, claimed_of, goes_on};
+ghost use Rattle.uses.specs.Stalled.{Claimed, claimed_of};
 
 use crate::worker::ids_of_entries;
 use redis_resp::{ParsingError, ToRedisArgs, Value, from_redis_value};
@@ -38,16 +38,6 @@ pub struct Stalled {
     pub next: Option<String>,
 }
 
-/// The id with which to go on: none where it is `0-0`.
-fn start_after(next: String) -> Option<String>
-    ensures { option_map string_bytes result ≡ goes_on (string_bytes next) }
-{
-    if next.as_str() == "0-0" {
-        return None;
-    }
-    Some(next)
-}
-
 /// What the answer of a claim says; refused where it is none.
 pub fn stalled_in(alloc: Global, answer: Value) -> Result<Stalled, ParsingError>
     ensures ok { IfOk result (λ s. option_map claimed_of (autoclaim_reading (tree answer))
@@ -57,8 +47,10 @@ pub fn stalled_in(alloc: Global, answer: Value) -> Result<Stalled, ParsingError>
 {
     let reply: StreamAutoClaimReply = from_redis_value(alloc, answer)?;
     let ids = ids_of_entries(alloc, &reply.claimed)?;
-    Ok(Stalled {
-        ids,
-        next: start_after(reply.next_stream_id),
-    })
+    let next = if reply.next_stream_id.as_str() == "0-0" {
+        None
+    } else {
+        Some(reply.next_stream_id)
+    };
+    Ok(Stalled { ids, next })
 }

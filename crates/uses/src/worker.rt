@@ -1,4 +1,4 @@
-//! A consumer-group worker's pure part: what it sends, and which ids it acknowledges.
+//! A consumer-group worker's pure part: what it sends and acknowledges, in the names of `redis`.
 ghost use Rattle.std.specs.Prelude.{◌≡◌, ◌≢◌, [], ◌∷◌, ◌++◌, Some, None, codes, decimal, map};
 ghost use Rattle.std.specs.Prelude.{option_map, string_bytes, IfOk, IfErr, OnOk};
 ghost use Rattle.redis_resp.specs.Value.{tree};
@@ -7,10 +7,9 @@ ghost use Rattle.redis_streams.specs.EntryMeaning.{entries_of, entry_meaning};
 ghost use Rattle.redis_streams.specs.ReadMeaning.{streams_of};
 ghost use Rattle.uses.specs.Worker.{ids_in, ids_of};
 
-use redis_resp::{ParsingError, ToRedisArgs, Value, from_redis_value};
-use redis_streams::{StreamId, StreamKey, StreamReadReply};
+use redis::streams::{StreamId, StreamKey, StreamReadOptions, StreamReadReply};
+use redis::{ParsingError, ToRedisArgs, Value, from_redis_value};
 use std::alloc::{AllocError, Global};
-use stream_options::StreamReadOptions;
 
 /// `XREADGROUP GROUP g c BLOCK ms COUNT n STREAMS key >`: entries that no consumer has had.
 pub fn read_arguments(

@@ -1,0 +1,3 @@
+-- Lemmas of the callers.
+pub mod ServerLemmas
+pub mod WireLemmas

@@ -1,0 +1,35 @@
+-- What the bytes of a reply answer.
+use Rattle.std.specs.Prelude.{◌≡◌, ℕ, List, ◌++◌, Some, None, Result, Ok, Err}
+use Rattle.redis_resp.specs.Tree.{Tree}
+use Rattle.redis_streams.specs.Read.{read_reading}
+use Rattle.redis_streams.specs.ReadMeaning.{streams_of}
+use Rattle.redis_streams.specs.declared.rows.read.StreamReadReply.{StreamReadReply}
+use Rattle.redis_wire.specs.Decoded.{IsReply, NoReply}
+use Rattle.redis_wire.specs.Limits.{default_limits}
+use Rattle.redis_wire.specs.Reply.{Answer, value, refused}
+use Rattle.uses.specs.declared.wire.AnswerError.{AnswerError}
+use Rattle.uses.specs.declared.wire.AnswerError.TheVariants.{Fault, Incomplete, Memory, Parsing, Server}
+
+-- a reply stands at the head of the bytes, and says this
+pub record BeginsWith (bytes : List ℕ) (a : Answer) : Type 0 where
+  pub text : List ℕ
+  pub rest : List ℕ
+  pub head : bytes ≡ text ++ rest
+  pub reply : IsReply default_limits text a
+
+-- the record of a value, or that it has none, or the server's error; or memory ran out
+abbrev pub Answers : Answer → Result StreamReadReply AnswerError → Type 0
+Answers (value t) (Ok r) = read_reading t ≡ Some (streams_of r.keys)
+Answers (value t) (Err (Parsing e)) = read_reading t ≡ None
+Answers (refused text) (Err (Server e)) = e.text.items ≡ text
+Answers a (Err Memory) = Unit {0}
+Answers a r = ⊥
+
+-- a value stands at the head, or an error; or no reply does, or none ever will; or memory ran out
+abbrev pub Tells : List ℕ → Result StreamReadReply AnswerError → Type 0
+Tells bytes (Ok r) = (t : Tree) × BeginsWith bytes (value t)
+Tells bytes (Err (Parsing e)) = (t : Tree) × BeginsWith bytes (value t)
+Tells bytes (Err (Server e)) = BeginsWith bytes (refused e.text.items)
+Tells bytes (Err Incomplete) = NoReply default_limits bytes
+Tells bytes (Err (Fault f)) = (more : List ℕ) → NoReply default_limits (bytes ++ more)
+Tells bytes (Err Memory) = Unit {0}

@@ -1,0 +1,43 @@
+//! A server's side, or a proxy's: the arguments of XADD, with the options that a client wrote.
+ghost use Rattle.std.specs.Prelude.{◌≡◌, ℕ, List, IfOk, IfErr};
+ghost use Rattle.stream_options.specs.Add.{Add};
+ghost use Rattle.stream_sentences.specs.Split.{arguments};
+ghost use Rattle.uses.specs.Server.{Asks};
+
+use std::alloc::Global;
+use stream_options::StreamAddOptions;
+use stream_sentences::{SentenceError, read_add};
+
+/// What XADD asks for, behind its key.
+#[derive(Debug, Drop)]
+pub struct AddRequest<'a> {
+    /// The options.
+    pub options: StreamAddOptions,
+    /// The id, or `*`, borrowed.
+    pub id: &'a [u8],
+    /// The fields, each before its value, borrowed.
+    pub fields: &'a [Vec<u8>],
+}
+
+/// Reads what stands behind the key of XADD: the options that a client wrote, an id and fields.
+/// There is never a second reading. `NotASentence` where there is none.
+pub fn add_request<'a>(alloc: Global, args: &'a [Vec<u8>]) -> Result<AddRequest<'a>, SentenceError>
+    ensures ok { IfOk result (λ r. Asks (arguments args.now)
+        r.options r.id.now (arguments r.fields.now)) }
+    ensures only { (add : Add) (id : List ℕ) (fields : List (List ℕ))
+        → Asks (arguments args.now) add id fields → IfOk result (λ r.
+        (r.options ≡ add) × (r.id.now ≡ id) × (arguments r.fields.now ≡ fields)) }
+    ensures err { IfErr result (λ e. e ≡ SentenceError.NotASentence
+        → (add : Add) (id : List ℕ) (fields : List (List ℕ))
+        → Asks (arguments args.now) add id fields → ⊥) }
+{
+    let (options, len) = read_add(alloc, args)?;
+    match &args[len..] {
+        [] => Err(SentenceError::NotASentence),
+        [id, fields @ ..] => Ok(AddRequest {
+            options,
+            id,
+            fields,
+        }),
+    }
+}
