@@ -2,13 +2,15 @@ pub mod AutoClaimLawLemmas
 pub mod AutoClaimLemmas
 pub mod AutoclaimRespellingLemmas
 pub mod FieldsLemmas
+pub mod InFormsLemmas
 pub mod InfoLemmas
+pub mod ItemsLeftLemmas
+pub mod NumbersLemmas
 pub mod OtherKeysLemmas
 pub mod OverlapLemmas
 pub mod PendingLemmas
-pub mod ReadLemmas
 pub mod ReadableLemmas
-pub mod RefusalLemmas
 pub mod RespellingLemmas
 pub mod RowsLemmas
 pub mod SkeletonLemmas
+pub mod StreamsLemmas
