@@ -11,12 +11,12 @@ use Rattle.redis_resp.specs.declared.value.error.ParsingError.{ParsingError}
 use Rattle.redis_resp.specs.declared.value.error.ParsingError.TheVariants.{Memory, UnknownReadFormat}
 use Rattle.redis_resp.specs.Reading.{traverse, both_read}
 use Rattle.redis_resp.specs.Table.{entry_reading, entries_meaning, pairs_reading, table_reading, table_of, on_values}
-use Rattle.redis_resp.proofs.TableLemmas.{table_values, table_means, meaning_of_named}
+use Rattle.redis_resp.proofs.TableLemmas.{table_values, meaning_of_named}
 use Rattle.redis_resp.proofs.TraverseLemmas.{traverse_then, traverse_same}
 use Rattle.redis_streams.specs.Entry.{Entry}
 use Rattle.redis_streams.specs.Rows.{joined, entries_reading, standard_entries}
 use Rattle.redis_streams.specs.Read.{Streams, claim_entries, standard_reading, claim_reading, read_reading}
-use Rattle.redis_streams.specs.InForms.{InForms, all_joined, behind, behind_in_forms, entries_in_forms, pair_in_forms, row_in_forms, rows_in_forms, some_form}
+use Rattle.redis_streams.specs.InForms.{InForms, behind, behind_in_forms, entries_in_forms, pair_in_forms, row_in_forms, rows_in_forms, some_form}
 use Rattle.redis_streams.specs.InFormsMeaning.{entries_held, held_in, list_or_none, keys_in, only_if, streams_held}
 use Rattle.redis_streams.specs.ItemsLeft.{pair_in}
 use Rattle.redis_streams.specs.Refusal.{RefusesRead}

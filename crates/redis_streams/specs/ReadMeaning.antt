@@ -1,5 +1,5 @@
 -- What the streams that a reply holds mean.
-use Rattle.std.specs.Prelude.{ℕ, List, map, Vec, String, string_bytes}
+use Rattle.std.specs.Prelude.{ℕ, List, map, Vec, string_bytes}
 use Rattle.std.specs.declared.alloc.Global.{Global}
 use Rattle.redis_streams.specs.Entry.{Entry}
 use Rattle.redis_streams.specs.Read.{Streams}

@@ -1,7 +1,6 @@
 use Rattle.std.proofs.Common.{◌≡◌, ◌≢◌, None, rules, sym}
 use Rattle.redis_resp.specs.declared.value.error.ParsingError.TheVariants.{Memory}
 use Rattle.redis_streams.specs.InForms.{item_in_forms}
-use Rattle.redis_streams.specs.InFormsMeaning.{overlap_of}
 use Rattle.redis_streams.proofs.NumbersLemmas.{no_id, no_fields, number_has_text, overlap_read}
 use Rattle.redis_streams.proofs.rows.overlap.read_overlap.Goals as goal
 

@@ -1,4 +1,4 @@
-use Rattle.std.proofs.Common.{◌≡◌, ◌≢◌, [], None, Some, rules}
+use Rattle.std.proofs.Common.{◌≡◌, ◌≢◌, [], None, rules}
 use Rattle.redis_resp.specs.Table.{table_reading}
 use Rattle.redis_resp.specs.declared.value.error.ParsingError.TheVariants.{Memory}
 use Rattle.redis_streams.specs.InForms.{rows_in_forms}
