@@ -27,14 +27,14 @@ and_false : (b : Bool) → (b && false) ≡ false
 and_false true = refl
 and_false false = refl
 
-abbrev number_of_plain : Tree → Option ℕ
+abbrev pub number_of_plain : Tree → Option ℕ
 number_of_plain u = option_and_then (within 64) (unsigned_of_plain u)
 
 -- a number that may be nil
-abbrev option_of_plain : Tree → Option (Option ℕ)
+abbrev pub option_of_plain : Tree → Option (Option ℕ)
 option_of_plain u = if is_nil u then Some None else option_map Some (number_of_plain u)
 
-abbrev fields_of_plain : Tree → Option (Fields Tree)
+abbrev pub fields_of_plain : Tree → Option (Fields Tree)
 fields_of_plain u = option_map from_entries (option_map table_of (option_and_then (traverse (entry_reading (λ x. Some x))) (pairs_of_plain u)))
 
 bulk_number : (b : List ℕ) (q : Bool) → is_utf8 b ≡ q → (is_some {T = List ℕ} (if q then Some b else None) && is_some (option_map Some (number_of_plain (bulk b)))) ≡ is_some (number_of_plain (bulk b))
@@ -42,25 +42,25 @@ bulk_number b true e = is_some_map Some (number_of_plain (bulk b))
 bulk_number b false e = sym (ap (λ o. is_some (option_and_then (within 64) o)) (unsigned_no_text b (λ h. true≢false (sym (is_utf8-from_IsUtf8 b h) ∙ e))))
 
 -- a text that is a number or nil is a number, since a number is a text
-third : (u : Tree) → (is_some (text_of_plain u) && is_some (option_of_plain u)) ≡ is_some (number_of_plain u)
+pub third : (u : Tree) → (is_some (text_of_plain u) && is_some (option_of_plain u)) ≡ is_some (number_of_plain u)
 third (int z) = is_some_map Some (number_of_plain (int z))
 third (bulk b) = bulk_number b (is_utf8 b) refl
 third (simple s) = is_some_map Some (number_of_plain (simple s))
 third _ = refl
 
 -- fields that are a number or nil are nil, since no fields are a number
-fourth : (u : Tree) → (is_some (fields_of_plain u) && is_some (option_of_plain u)) ≡ is_nil u
+pub fourth : (u : Tree) → (is_some (fields_of_plain u) && is_some (option_of_plain u)) ≡ is_nil u
 fourth (array us) = and_false (is_some (fields_of_plain (array us)))
 fourth (map_of_pairs ps) = and_false (is_some (fields_of_plain (map_of_pairs ps)))
 fourth _ = refl
 
-nil_only : (u : Tree) → is_nil u ≡ true → u ≡ nil
+pub nil_only : (u : Tree) → is_nil u ≡ true → u ≡ nil
 nil_only nil e = refl
 nil_only _ e = cc
 
 -- An array of four in each form.
 
-standard_parts : (q : Tree × Tree × Tree × Tree) → IsSome (standard_of q) → IsSome (text_reading q.0) × IsSome (field_reading q.1) × IsSome (text_reading q.2) × IsSome (field_reading q.3)
+pub standard_parts : (q : Tree × Tree × Tree × Tree) → IsSome (standard_of q) → IsSome (text_reading q.0) × IsSome (field_reading q.1) × IsSome (text_reading q.2) × IsSome (field_reading q.3)
 standard_parts q h = by (text_reading q.0) (field_reading q.1) (text_reading q.2) (field_reading q.3)
     (sym (is_some_map (map entry_of) _ ∙ is_some_map table_of _) ∙ h)
   where
@@ -73,7 +73,7 @@ standard_parts q h = by (text_reading q.0) (field_reading q.1) (text_reading q.2
     by (Some i) (Some f) (Some t) None e = cc
     by (Some i) (Some f) (Some t) (Some g) e = (refl, refl, refl, refl)
 
-claim_parts : (q : Tree × Tree × Tree × Tree) → IsSome (delivery_of q) → IsSome (option_of_plain (plain q.2)) × IsSome (option_of_plain (plain q.3))
+pub claim_parts : (q : Tree × Tree × Tree × Tree) → IsSome (delivery_of q) → IsSome (option_of_plain (plain q.2)) × IsSome (option_of_plain (plain q.3))
 claim_parts q h = by (text_reading q.0) (field_reading q.1) (option_of_plain (plain q.2)) (option_of_plain (plain q.3)) h
   where
     by : (i : Option (List ℕ)) (f : Option (Fields Tree)) (e d : Option (Option ℕ))
@@ -103,16 +103,16 @@ record Given (e : Tree) : Type 0 where
   claim : claim_entries e ≡ Some (given in_claim e)
 
 -- the readings of four members, from the shape
-record Members (q : Tree × Tree × Tree × Tree) : Type 0 where
-  entry : OverlapEntry
-  is : four_entry q ≡ Some entry
-  id : text_reading q.0 ≡ Some entry.id
-  fields : field_reading q.1 ≡ Some entry.fields
-  number : unsigned_reading 64 q.2 ≡ Some entry.number
-  text : text_reading q.2 ≡ Some entry.text
-  ends : plain q.3 ≡ nil
+pub record Members (q : Tree × Tree × Tree × Tree) : Type 0 where
+  pub entry : OverlapEntry
+  pub is : four_entry q ≡ Some entry
+  pub id : text_reading q.0 ≡ Some entry.id
+  pub fields : field_reading q.1 ≡ Some entry.fields
+  pub number : unsigned_reading 64 q.2 ≡ Some entry.number
+  pub text : text_reading q.2 ≡ Some entry.text
+  pub ends : plain q.3 ≡ nil
 
-number_text : (u : Tree) → is_some (number_of_plain u) ≡ true → is_some (text_of_plain u) ≡ true
+pub number_text : (u : Tree) → is_some (number_of_plain u) ≡ true → is_some (text_of_plain u) ≡ true
 number_text u e = (and_parts (is_some (text_of_plain u)) (is_some (option_of_plain u)) (third u ∙ e)).0
 
 members : (q : Tree × Tree × Tree × Tree) → FourOverlap q → Members q
@@ -134,7 +134,7 @@ members q s = by (text_reading q.0) (field_reading q.1) (unsigned_reading 64 q.2
       ends = s.3;
     }
 
-standard_given : (q : Tree × Tree × Tree × Tree) (m : Members q) → standard_of q ≡ Some (in_standard m.entry)
+pub standard_given : (q : Tree × Tree × Tree × Tree) (m : Members q) → standard_of q ≡ Some (in_standard m.entry)
 standard_given q m = rw (m.id, m.fields, m.text, ap fields_of_plain m.ends) (by (bytes_eq m.entry.id m.entry.text) refl)
   where
     by : (b : Bool) → bytes_eq m.entry.id m.entry.text ≡ b
@@ -150,7 +150,7 @@ some_number u n e = by (is_nil u) refl
     by true is = let gone = sym (ap number_of_plain (nil_only u is)) ∙ e in cc
     by false is = rw (is, e) refl
 
-claim_given : (q : Tree × Tree × Tree × Tree) (m : Members q) → option_map (λ d. delivered_entry d ∷ []) (delivery_of q) ≡ Some (in_claim m.entry)
+pub claim_given : (q : Tree × Tree × Tree × Tree) (m : Members q) → option_map (λ d. delivered_entry d ∷ []) (delivery_of q) ≡ Some (in_claim m.entry)
 claim_given q m = rw (m.id, m.fields, some_number (plain q.2) m.entry.number m.number, ap option_of_plain m.ends) refl
 
 given_of_shape : (e : Tree) → HasOverlapShape e → Given e

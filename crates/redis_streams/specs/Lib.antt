@@ -3,9 +3,12 @@ pub mod AutoClaimLaws
 pub mod AutoClaimMeaning
 pub mod Entry
 pub mod EntryMeaning
+pub mod InForms
+pub mod InFormsMeaning
 pub mod Info
 pub mod InfoMeaning
 pub mod InfoRefusal
+pub mod ItemsLeft
 pub mod OtherKeys
 pub mod Overlap
 pub mod OverlapLaws

@@ -2,13 +2,18 @@
 mod autoclaim;
 mod claim;
 mod claimed;
+mod entries;
 mod item_form;
 mod items;
+mod items_left;
+mod one_pair;
+mod overlap;
 mod range;
 mod read;
 mod read_forms;
 mod stream_id;
 mod stream_key;
+mod streams;
 #[cfg(test)]
 mod tests;
 

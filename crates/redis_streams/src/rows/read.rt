@@ -1,14 +1,16 @@
 //! The reply of XREAD and XREADGROUP.
-ghost use Rattle.std.specs.Prelude.{◌≡◌, ◌++◌, [], Some, IsOk, IsSome, IfOk, IfErr, OnErr, OnOk, flat_map, option_map};
+ghost use Rattle.std.specs.Prelude.{◌≡◌, ◌≢◌, ◌⊎◌, [], Some, None, IsOk, IfOk, IfErr};
+ghost use Rattle.std.specs.Option.{option_or};
 ghost use Rattle.redis_resp.specs.Refusal.{Refuses};
-ghost use Rattle.redis_resp.specs.Tree.{items};
-ghost use Rattle.redis_streams.specs.Read.{Streams, standard_reading, claim_reading, read_reading};
-ghost use Rattle.redis_streams.specs.ReadMeaning.{streams_of, streams_in};
+ghost use Rattle.redis_streams.specs.InFormsMeaning.{streams_held};
+ghost use Rattle.redis_streams.specs.Read.{Streams, read_reading};
+ghost use Rattle.redis_streams.specs.ReadMeaning.{streams_of};
 ghost use Rattle.redis_streams.specs.Refusal.{RefusesRead};
 
-use crate::rows::items::{Delivery, ListItem, Row, join};
+use crate::rows::items_left::into_items;
+use crate::rows::overlap::Form;
 use crate::rows::stream_key::StreamKey;
-use indexmap::IndexMap;
+use crate::rows::streams::{OpenStreams, read_streams};
 use redis_resp::{FromRedisValue, ParsingError, Source, Value};
 use std::alloc::{AllocError, Global};
 
@@ -64,80 +66,50 @@ impl FromRedisValue for StreamReadReply {
     }
 }
 
-/// The streams of a value in the standard form, else in the claim form. Which of them it has is
-/// told first, with no memory, so that it is read once.
+/// The streams of a value in the standard form, else in the claim form. Each list is read by both
+/// forms, as long as none of its items has ruled one out.
+#[tactic(auto, using(crate::proofs::StreamsLemmas::reply_read, crate::proofs::StreamsLemmas::no_reply))]
 fn read_reply<S: Source>(alloc: Global, v: S) -> Result<StreamReadReply, ParsingError>
     ensures ok { IfOk result (λ r. read_reading (S.seen v) ≡ Some (streams_of r.keys)) }
     ensures err { IfErr result (Refuses read_reading RefusesRead (S.seen v)) }
 {
-    let forms = StreamReadReply::forms(v.as_value());
-    let keys = if forms.standard {
-        standard_streams(alloc, v)?
-    } else if forms.claim {
-        claim_streams(alloc, v)?
-    } else {
-        None
+    let Some(rows) = into_items(v) else {
+        return Err(ParsingError::UnknownReadFormat);
     };
-    match keys {
-        Some(keys) => Ok(StreamReadReply { keys }),
-        None => Err(ParsingError::UnknownReadFormat),
+    match read_streams::<S>(alloc, rows) {
+        Ok(streams) => reply_of(alloc, streams),
+        Err(error) => Err(refusal_of(error)),
     }
 }
 
-/// The streams of a value in the standard form, and None where it does not have it. It fails only
-/// where it is out of memory, and never of a value that is no list.
-#[tactic(auto, using(crate::proofs::ReadLemmas::standard_refused, crate::proofs::RefusalLemmas::memory_has_items, crate::proofs::RefusalLemmas::read_has_items))]
-fn standard_streams<S: Source>(alloc: Global, v: S) -> Result<Option<Vec<StreamKey>>, AllocError>
-    ensures streams { IfOk result (λ r. standard_reading (S.seen v) ≡ option_map streams_of r) }
-    ensures list { OnErr result (IsSome (items (S.seen v))) }
+/// With what a read is refused where a part of it is: out of memory stays what it is, and any other
+/// cause is that the value has neither form.
+fn refusal_of(error: ParsingError) -> ParsingError
+    ensures { ((error ≡ ParsingError.Memory) × (result ≡ ParsingError.Memory))
+        ⊎ ((error ≢ ParsingError.Memory) × (result ≡ ParsingError.UnknownReadFormat)) }
 {
-    let rows: Vec<IndexMap<String, Vec<Row>>> = match v.read(alloc) {
-        Ok(rows) => rows,
-        Err(ParsingError::Memory) => return Err(AllocError),
-        Err(_) => return Ok(None),
-    };
-    Ok(Some(join_streams(alloc, rows)?))
-}
-
-/// The streams of a value in the claim form, and None where it does not have it, likewise.
-#[tactic(auto, using(crate::proofs::ReadLemmas::claim_refused, crate::proofs::RefusalLemmas::memory_has_items, crate::proofs::RefusalLemmas::read_has_items))]
-fn claim_streams<S: Source>(alloc: Global, v: S) -> Result<Option<Vec<StreamKey>>, AllocError>
-    ensures streams { IfOk result (λ r. claim_reading (S.seen v) ≡ option_map streams_of r) }
-    ensures list { OnErr result (IsSome (items (S.seen v))) }
-{
-    let rows: Vec<IndexMap<String, Vec<Delivery>>> = match v.read(alloc) {
-        Ok(rows) => rows,
-        Err(ParsingError::Memory) => return Err(AllocError),
-        Err(_) => return Ok(None),
-    };
-    Ok(Some(join_streams(alloc, rows)?))
-}
-
-/// The streams of all rows, in order.
-fn join_streams<T: ListItem>(
-    alloc: Global,
-    rows: Vec<IndexMap<String, Vec<T>>>,
-) -> Result<Vec<StreamKey>, AllocError>
-    ensures { IfOk result (λ keys. streams_of keys ≡ flat_map (streams_in T.entries) rows.items) }
-{
-    let mut keys = Vec::with_capacity(alloc, rows.len())?;
-    for row in rows {
-        push_streams(alloc, &mut keys, row)?;
+    match error {
+        ParsingError::Memory => ParsingError::Memory,
+        _ => ParsingError::UnknownReadFormat,
     }
-    Ok(keys)
 }
 
-/// Appends the streams of a row.
-fn push_streams<T: ListItem>(
-    alloc: Global,
-    keys: &mut Vec<StreamKey>,
-    row: IndexMap<String, Vec<T>>,
-) -> Result<(), AllocError>
-    ensures { OnOk result (streams_of keys.new ≡ streams_of keys.old ++ streams_in T.entries row) }
+/// The reply of the form that counts: the standard form where all lists have it, else the claim
+/// form.
+fn reply_of(alloc: Global, streams: OpenStreams) -> Result<StreamReadReply, ParsingError>
+    ensures ok { IfOk result (λ r. option_or (streams_held streams).0 (streams_held streams).1
+        ≡ Some (streams_of r.keys)) }
+    ensures err { IfErr result (λ e. (e ≡ ParsingError.Memory)
+        ⊎ ((e ≡ ParsingError.UnknownReadFormat)
+        × (option_or (streams_held streams).0 (streams_held streams).1 ≡ None))) }
 {
-    for (key, items) in row {
-        let ids = join(alloc, items)?;
-        keys.push(StreamKey { key, ids })?;
+    if streams.forms.standard {
+        let keys = streams.into_form(alloc, Form::Standard)?;
+        return Ok(StreamReadReply { keys });
     }
-    Ok(())
+    if streams.forms.claim {
+        let keys = streams.into_form(alloc, Form::Claim)?;
+        return Ok(StreamReadReply { keys });
+    }
+    Err(ParsingError::UnknownReadFormat)
 }

@@ -1,5 +1,5 @@
 //! Which forms of a read a value has, told with no memory.
-ghost use Rattle.std.specs.Prelude.{◌≡◌, Bool, map};
+ghost use Rattle.std.specs.Prelude.{◌≡◌, ◌&&◌, Bool, map};
 ghost use Rattle.std.specs.List.{list_all};
 ghost use Rattle.std.specs.Option.{is_some};
 ghost use Rattle.redis_resp.specs.Number.{unsigned_reading};
@@ -36,6 +36,19 @@ impl StreamReadReply {
         ReadForms {
             standard: ListOf::<TableOf<ListOf<TableOf<Fields>>>>::reads(v),
             claim: ListOf::<TableOf<ListOf<Delivery>>>::reads(v),
+        }
+    }
+}
+
+impl ReadForms {
+    /// The forms that are among these and among the others.
+    pub(crate) fn and(self, other: ReadForms) -> ReadForms
+        ensures standard { result.standard ≡ (self.standard && other.standard) }
+        ensures claim { result.claim ≡ (self.claim && other.claim) }
+    {
+        ReadForms {
+            standard: self.standard && other.standard,
+            claim: self.claim && other.claim,
         }
     }
 }
