@@ -6,11 +6,11 @@
 //! ```
 //!
 //! A case is a kind of reply and a value in the notation of `stream_text::notation`; what stands
-//! behind a tab in a line is left out. Each value is read by both readings, owned and lent; where
-//! they differ both answers are printed. Control characters of an answer are printed as `\n`, `\t`
-//! or `\xNN`. Another implementation of the readings can so be compared line by line.
+//! behind a tab in a line is left out. Each value is read by both readings, owned and borrowed, and
+//! where they differ both answers are printed. Control characters of an answer are printed as
+//! `\n`, `\t` or `\xNN`. Another implementation of the readings can so be compared line by line.
 //!
-//! It ends with 0, or with 2 where memory was wanting or standard input or output failed.
+//! It ends with 0, or with 2 where memory ran out, or standard input or output failed.
 #![tactic(auto)]
 
 ghost use Rattle.std.specs.Prelude.{◌≡◌, ◌==◌};
@@ -30,7 +30,7 @@ use std::io::{BufRead, BufReader, BufWriter, Write};
 use std::process::ExitCode;
 use stream_text::{NotationError, both_answers, read_value};
 
-// Memory was wanting, or standard input or output failed.
+// Memory ran out, or standard input or output failed.
 const FAILED: u8 = 2;
 
 fn main(rt: HostRuntime) -> ExitCode {
