@@ -4,3 +4,4 @@ mod memory;
 mod plain;
 mod replies;
 mod sentences;
+mod words;

@@ -1,7 +1,7 @@
 //! Plain values, with ample memory: the arguments that they write, and what is read of them.
+use crate::tests::words::check_words;
 use redis_resp::{
-    FromRedisValue, ParsingError, RawBytes, ToRedisArgs, Value, from_redis_value,
-    from_redis_value_ref,
+    FromRedisValue, ParsingError, RawBytes, Value, from_redis_value, from_redis_value_ref,
 };
 use redis_streams::StreamAutoClaimReply;
 use std::alloc::Global;
@@ -13,25 +13,6 @@ use stream_options::{
     StreamTrimmingMode,
 };
 use stream_text::read_value;
-
-/// The value writes these words as a list, and behind what a list holds.
-fn check_words<T: ToRedisArgs>(
-    rt: &(impl AllocGlobal + Abort),
-    value: &T,
-    words: &[&str],
-) -> Result<(), Fail> {
-    let alloc = rt.alloc();
-    let mut wanted = vec![in alloc; Vec::from_slice(alloc, b"held")?]?;
-    let mut behind = vec![in alloc; Vec::from_slice(alloc, b"held")?]?;
-    for word in words {
-        wanted.push(Vec::from_slice(alloc, word.as_bytes())?)?;
-    }
-    assert_eq!(rt; value.write_redis_args(&mut behind), Ok(()));
-    assert!(rt; behind == wanted);
-    let listed = value.to_redis_args(alloc)?;
-    assert!(rt; listed.as_slice() == &wanted[1..]);
-    Ok(())
-}
 
 #[test]
 fn plain_arguments(rt: HostRuntime) -> Result<(), Fail> {

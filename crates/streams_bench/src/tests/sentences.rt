@@ -1,4 +1,5 @@
 //! Each options vector, written in memory and into places of each size.
+use crate::tests::words::check_words;
 use crate::vectors::{OptionsVector, add, claim, config, read, trim};
 use redis_resp::{FixedArgs, ToRedisArgs, WriteError};
 use std::alloc::{AllocError, Global};
@@ -14,25 +15,6 @@ fn words_of(alloc: Global, line: &'static str) -> Result<Vec<&'static str>, Allo
         }
     }
     Ok(words)
-}
-
-/// The value writes these words as a list, and behind what a list holds.
-fn check_list<T: ToRedisArgs>(
-    rt: &(impl AllocGlobal + Abort),
-    value: &T,
-    words: &[&str],
-) -> Result<(), Fail> {
-    let alloc = rt.alloc();
-    let mut wanted = vec![in alloc; Vec::from_slice(alloc, b"held")?]?;
-    let mut behind = vec![in alloc; Vec::from_slice(alloc, b"held")?]?;
-    for word in words {
-        wanted.push(Vec::from_slice(alloc, word.as_bytes())?)?;
-    }
-    assert_eq!(rt; value.write_redis_args(&mut behind), Ok(()));
-    assert!(rt; behind == wanted);
-    let listed = value.to_redis_args(alloc)?;
-    assert!(rt; listed.as_slice() == &wanted[1..]);
-    Ok(())
 }
 
 /// Into an empty place for `N` arguments of `B` bytes: this answer, and then these words stand there.
@@ -70,7 +52,7 @@ fn check_value<T: ToRedisArgs>(
     stored: &'static str,
 ) -> Result<(), Fail> {
     let words = words_of(rt.alloc(), stored)?;
-    check_list(rt, value, &words)?;
+    check_words(rt, value, &words)?;
     check_room(rt, FixedArgs::<0, 128>::new(), value, &words);
     check_room(rt, FixedArgs::<1, 128>::new(), value, &words);
     check_room(rt, FixedArgs::<2, 128>::new(), value, &words);
