@@ -7,7 +7,7 @@ ghost use Rattle.redis_streams.specs.AutoClaimMeaning.{kind_meaning, shape_meani
 ghost use Rattle.redis_streams.specs.EntryMeaning.{entries_of};
 ghost use Rattle.redis_streams.specs.Refusal.{RefusesByKind, RefusesClaimed};
 
-use crate::rows::items::{join, read_rows};
+use crate::rows::items::{read_ids, read_rows};
 use crate::rows::stream_id::StreamId;
 use redis_resp::{ParsingError, Source, Value};
 use std::alloc::Global;
@@ -87,10 +87,7 @@ fn read_entries<S: Source>(
 {
     match kind {
         ClaimedKind::Nils => Ok(Vec::new(alloc)),
-        ClaimedKind::Ids => {
-            let ids: Vec<Option<String>> = v.read(alloc)?;
-            Ok(join(alloc, ids)?)
-        }
+        ClaimedKind::Ids => read_ids(alloc, v),
         ClaimedKind::Rows => read_rows(alloc, v),
     }
 }
