@@ -87,6 +87,10 @@ Members = Tree × Tree × Tree × Tree
 abbrev pub row_numbers : Members → Option (ℕ × ℕ)
 row_numbers q = if is_bulk q.0 && is_bulk q.1 then both_read (literal_number q.2) (literal_number q.3) else None
 
+-- the same of a list of exactly four
+abbrev pub numbers_in : List Tree → Option (ℕ × ℕ)
+numbers_in ts = exactly_four ts >>= row_numbers
+
 -- a pending entry by its four members
 abbrev pub entry_of_members : Members → Option PendingEntry
 entry_of_members q =

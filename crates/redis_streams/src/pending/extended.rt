@@ -1,11 +1,12 @@
 //! The reply of XPENDING with a range: one row for each pending entry.
-ghost use Rattle.std.specs.Prelude.{◌≡◌, [], List, Some, IsOk, IfOk, IfErr, map};
+ghost use Rattle.std.specs.Prelude.{◌≡◌, [], List, Some, IsOk, IfOk, IfErr, map, option_and_then};
 ghost use Rattle.redis_resp.specs.Reading.{traverse};
 ghost use Rattle.redis_resp.specs.Refusal.{Refuses, OneRefused};
+ghost use Rattle.redis_resp.specs.Tree.{array_of_plain};
 ghost use Rattle.redis_resp.specs.Value.{tree};
-ghost use Rattle.redis_streams.specs.Pending.{PendingEntry, empty_pending_entry, entry_of_four, entry_of_members, is_bulk, literal_number, pending_count_reading, pending_row, row_numbers};
+ghost use Rattle.redis_streams.specs.Pending.{PendingEntry, empty_pending_entry, entry_of_four, is_bulk, literal_number, numbers_in, pending_count_reading, pending_row, row_numbers};
 ghost use Rattle.redis_streams.specs.PendingMeaning.{pending_id_meaning, pending_ids_meaning};
-ghost use Rattle.redis_streams.specs.PendingRefusal.{RefusesFourMembers, RefusesMembers, RefusesPendingCount, RefusesPendingRow};
+ghost use Rattle.redis_streams.specs.PendingRefusal.{RefusesFourMembers, RefusesPendingCount, RefusesPendingRow};
 
 use redis_resp::{FromRedisValue, ParsingError, Source, Value};
 use std::alloc::{AllocError, Global};
@@ -122,71 +123,76 @@ fn numbers_of(
     }
 }
 
-/// The pending entry of an id, a name and two numbers: `NotPendingRow(3)` where one has another
-/// kind, and `NotText` for a bulk string that is no text.
-fn read_members<S: Source>(
-    alloc: Global,
-    id: S,
-    consumer: S,
-    elapsed: S,
-    delivered: S,
-) -> Result<StreamPendingId, ParsingError>
-    ensures ok { IfOk result (λ p. entry_of_members (
-      S.seen id,
-      S.seen consumer,
-      S.seen elapsed,
-      S.seen delivered,
-    ) ≡ Some (pending_id_meaning p)) }
-    ensures err { IfErr result (Refuses entry_of_members RefusesMembers
-        (S.seen id, S.seen consumer, S.seen elapsed, S.seen delivered)) }
+/// The two numbers of a list of exactly four members: `NotPendingRow(3)` for any other list, and
+/// where a member has another kind.
+fn numbers_of_four(mut members: &[Value]) -> Result<(usize, usize), ParsingError>
+    ensures ok { IfOk result (λ numbers. numbers_in (map tree members.now) ≡ Some numbers) }
+    ensures err { IfErr result (Refuses entry_of_four RefusesFourMembers
+        (map tree members.now)) }
 {
-    let Some((last_delivered_ms, times_delivered)) = numbers_of(
-        id.as_value(),
-        consumer.as_value(),
-        elapsed.as_value(),
-        delivered.as_value(),
-    ) else {
+    if members.len() > 4 {
         return Err(ParsingError::NotPendingRow(3));
-    };
-    let id: String = id.read(alloc)?;
-    let consumer: String = consumer.read(alloc)?;
-    Ok(StreamPendingId {
-        id,
-        consumer,
-        last_delivered_ms,
-        times_delivered,
-    })
+    }
+    let id = <&Value>::next_value(&mut members).ok_or(ParsingError::NotPendingRow(3))?;
+    let consumer = <&Value>::next_value(&mut members).ok_or(ParsingError::NotPendingRow(3))?;
+    let elapsed = <&Value>::next_value(&mut members).ok_or(ParsingError::NotPendingRow(3))?;
+    let delivered = <&Value>::next_value(&mut members).ok_or(ParsingError::NotPendingRow(3))?;
+    numbers_of(id, consumer, elapsed, delivered).ok_or(ParsingError::NotPendingRow(3))
 }
 
-/// The pending entry of a list of exactly four members, and `NotPendingRow(3)` for any other.
-fn read_four<S: Source>(
+/// The two numbers of a row: `NotPendingRow(2)` for what is no `Array`, attributes included. It
+/// takes no memory.
+fn numbers_of_row(row: &Value) -> Result<(usize, usize), ParsingError>
+    ensures ok { IfOk result (λ numbers. option_and_then numbers_in (array_of_plain (tree row.now))
+        ≡ Some numbers) }
+    ensures err { IfErr result (Refuses pending_row RefusesPendingRow (tree row.now)) }
+{
+    match row.into_array() {
+        Some(members) => numbers_of_four(members),
+        None => Err(ParsingError::NotPendingRow(2)),
+    }
+}
+
+/// The pending entry of four members whose two numbers are told: the id and the name alone are
+/// taken, and `NotText` tells of a bulk string that is no text.
+fn read_texts<S: Source>(
     alloc: Global,
     mut members: S::Values,
+    numbers: (usize, usize),
 ) -> Result<StreamPendingId, ParsingError>
+    requires { numbers_in (S.values_left members) ≡ Some numbers }
     ensures ok { IfOk result (λ p. entry_of_four (S.values_left members)
         ≡ Some (pending_id_meaning p)) }
     ensures err { IfErr result (Refuses entry_of_four RefusesFourMembers
         (S.values_left members)) }
 {
-    if S::count_values(&members) > 4 {
+    let Some(id) = S::next_value(&mut members) else {
         return Err(ParsingError::NotPendingRow(3));
-    }
-    let id = S::next_value(&mut members).ok_or(ParsingError::NotPendingRow(3))?;
-    let consumer = S::next_value(&mut members).ok_or(ParsingError::NotPendingRow(3))?;
-    let elapsed = S::next_value(&mut members).ok_or(ParsingError::NotPendingRow(3))?;
-    let delivered = S::next_value(&mut members).ok_or(ParsingError::NotPendingRow(3))?;
-    read_members(alloc, id, consumer, elapsed, delivered)
+    };
+    let id: String = id.read(alloc)?;
+    let Some(consumer) = S::next_value(&mut members) else {
+        return Err(ParsingError::NotPendingRow(3));
+    };
+    let consumer: String = consumer.read(alloc)?;
+    Ok(StreamPendingId {
+        id,
+        consumer,
+        last_delivered_ms: numbers.0,
+        times_delivered: numbers.1,
+    })
 }
 
-/// The pending entry of a row: `NotPendingRow(2)` for what is no `Array`, attributes included.
+/// The pending entry of a row: `NotPendingRow(2)` for what is no `Array`, attributes included. Its
+/// kinds are told before anything is taken from it.
 fn read_row<S: Source>(alloc: Global, row: S) -> Result<StreamPendingId, ParsingError>
     ensures ok { IfOk result (λ p. pending_row (S.seen row) ≡ Some (pending_id_meaning p)) }
     ensures err { IfErr result (Refuses pending_row RefusesPendingRow (S.seen row)) }
 {
-    match row.into_array() {
-        Some(members) => read_four::<S>(alloc, members),
-        None => Err(ParsingError::NotPendingRow(2)),
-    }
+    let numbers = numbers_of_row(row.as_value())?;
+    let Some(members) = row.into_array() else {
+        return Err(ParsingError::NotPendingRow(2));
+    };
+    read_texts::<S>(alloc, members, numbers)
 }
 
 /// The pending entries of rows, in order.
