@@ -3,6 +3,7 @@
 //! RESP2 and RESP3 spell a list of pairs in two ways, as an array of even length and as a map, and
 //! a list as an array, a set or a map's pairs. The four laws of respelling say at which places of a
 //! reply the one may stand for the other: both values then read as one record, or both as none.
+ghost use Rattle.std.specs.Prelude.{◌≡◌, ◌↔◌, IsTrue};
 ghost use Rattle.redis_streams.specs.AutoClaim.{autoclaim_reading};
 ghost use Rattle.redis_streams.specs.AutoClaimLaws.{InvalidEntriesTellNil};
 ghost use Rattle.redis_streams.specs.Info.{
@@ -34,6 +35,8 @@ ghost use Rattle.redis_streams.specs.RespellingLaws.{
   ProtocolsAreAlike,
 };
 ghost use Rattle.redis_streams.specs.Rows.{rows_reading};
+
+use crate::status::{XAckDelStatusCode, XDelExStatusCode};
 
 /// What `invalid_entries` of an automatic claim tells: where each item of the claimed list is nil,
 /// one id or a row of one pair, it is true exactly where a nil stands there. It takes no memory.
@@ -106,3 +109,17 @@ pub fn overlap()
     ensures claim { ClaimIsGiven }
     ensures differ { RecordsDiffer }
 {}
+
+/// `==` holds of two codes of XDELEX exactly where they are the same. It takes no memory.
+pub fn equal_deletions(a: XDelExStatusCode, b: XDelExStatusCode) -> bool
+    ensures { IsTrue result ↔ (a ≡ b) }
+{
+    a == b
+}
+
+/// `==` holds of two codes of XACKDEL exactly where they are the same. It takes no memory.
+pub fn equal_acknowledgements(a: XAckDelStatusCode, b: XAckDelStatusCode) -> bool
+    ensures { IsTrue result ↔ (a ≡ b) }
+{
+    a == b
+}

@@ -4,7 +4,7 @@
 //! A *sentence* is the list of arguments that settings write. A *free rest* is no argument, or
 //! arguments the first of which is none of the fixed words of the type. Numbers are in the ranges of
 //! their types, and texts are UTF-8.
-ghost use Rattle.std.specs.Prelude.{◌≡◌};
+ghost use Rattle.std.specs.Prelude.{◌≡◌, ◌↔◌, IsTrue, Ok};
 ghost use Rattle.stream_options.specs.Add.{AddFits, add_sentence, add_words};
 ghost use Rattle.stream_options.specs.AddCalls.{final_add};
 ghost use Rattle.stream_options.specs.AutoClaim.{AutoClaimFits, autoclaim_sentence, autoclaim_words};
@@ -22,6 +22,9 @@ ghost use Rattle.stream_options.specs.Read.{Read, ReadFits, CountAlike, read_sen
 ghost use Rattle.stream_options.specs.ReadCalls.{final_read};
 ghost use Rattle.stream_options.specs.Trim.{mode_sentence, mode_words, StrategyFits, strategy_sentence, strategy_words, TrimFits, trim_sentence, trim_words};
 ghost use Rattle.stream_options.specs.TrimCalls.{final_trim};
+
+use crate::options::{ConfigError, StreamDeletionPolicy, StreamMaxlen, StreamNackMode};
+use std::alloc::AllocError;
 
 /// The sentence of a `StreamMaxlen`, before any free rest, determines it and the rest. Equal
 /// settings are those with equal sentences.
@@ -156,3 +159,31 @@ pub fn setters_commute()
     ensures claim { SettersCommute final_claim }
     ensures read { SettersCommute final_read }
 {}
+
+/// `==` holds of two `StreamMaxlen` exactly where they are the same. It takes no memory.
+pub fn equal_maxlens(a: StreamMaxlen, b: StreamMaxlen) -> bool
+    ensures { IsTrue result ↔ (a ≡ b) }
+{
+    a == b
+}
+
+/// `==` holds of two `StreamNackMode` exactly where they are the same. It takes no memory.
+pub fn equal_nack_modes(a: StreamNackMode, b: StreamNackMode) -> bool
+    ensures { IsTrue result ↔ (a ≡ b) }
+{
+    a == b
+}
+
+/// `==` holds of two `ConfigError` exactly where they are the same. It takes no memory.
+pub fn equal_config_errors(a: &ConfigError, b: &ConfigError) -> bool
+    ensures { IsTrue result ↔ (a.now ≡ b.now) }
+{
+    a == b
+}
+
+/// A `StreamDeletionPolicy` is copied as it is. It takes no memory and is always Ok.
+pub fn copied_policy(policy: &StreamDeletionPolicy) -> Result<StreamDeletionPolicy, AllocError>
+    ensures { result ≡ Ok policy.now }
+{
+    policy.clone()
+}
