@@ -8,10 +8,11 @@
 //! text   = nothing, or a bulk that is UTF-8
 //! ```
 //!
-//! A bare word has no blank and none of `[ ] ( ) , : ; " \`, and is none of the words above: such a
-//! word is quoted where it is meant as a bulk string. Between quotes `\"`, `\\`, `\n`, `\t` and
-//! `\xNN`, the byte of two hexadecimal digits, stand for one byte each. Blanks (spaces and tabs) may
-//! stand before each part. `Attr(v; k: x)` is the value `v` with the attribute `k: x` round it.
+//! A bare word has no blank, no control character and none of `[ ] ( ) , : ; " \`, and is none of
+//! the words above: such a word is quoted where it is meant as a bulk string. Between quotes `\"`,
+//! `\\`, `\n`, `\t` and `\xNN`, the byte of two hexadecimal digits, stand for one byte each. Blanks
+//! (spaces and tabs) may stand before each part. `Attr(v; k: x)` is the value `v` with the attribute
+//! `k: x` round it.
 ghost use Rattle.std.specs.Prelude.{◌<◌, IfOk, length};
 
 mod error;
