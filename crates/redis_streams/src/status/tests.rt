@@ -1,6 +1,5 @@
 //! Status codes by both calls, and their equality as a caller can prove of it.
-ghost use Rattle.std.specs.Prelude.{◌≡◌, ◌↔◌, IsTrue};
-
+use crate::laws::{equal_acknowledgements, equal_deletions};
 use crate::status::{XAckDelStatusCode, XDelExStatusCode};
 use crate::tests::both_calls::{both_read, both_refuse};
 use redis_resp::{ParsingError, Value};
@@ -53,21 +52,10 @@ fn other_values_are_refused(rt: HostRuntime) -> Result<(), Fail> {
 
 #[test]
 fn codes_are_equal_where_they_are_the_same(rt: HostRuntime) -> Result<(), Fail> {
-    assert!(rt; are_equal(XDelExStatusCode::Deleted, XDelExStatusCode::Deleted));
-    assert!(rt; !are_equal(XDelExStatusCode::Deleted, XDelExStatusCode::IdNotFound));
-    let deleted = XAckDelStatusCode::AcknowledgedAndDeleted;
-    assert!(rt; !are_both(deleted, XAckDelStatusCode::IdNotFound));
+    assert!(rt; equal_deletions(XDelExStatusCode::Deleted, XDelExStatusCode::Deleted));
+    assert!(rt; !equal_deletions(XDelExStatusCode::Deleted, XDelExStatusCode::IdNotFound));
+    let deleted = || XAckDelStatusCode::AcknowledgedAndDeleted;
+    assert!(rt; equal_acknowledgements(deleted(), deleted()));
+    assert!(rt; !equal_acknowledgements(deleted(), XAckDelStatusCode::IdNotFound));
     Ok(())
-}
-
-fn are_equal(a: XDelExStatusCode, b: XDelExStatusCode) -> bool
-    ensures { IsTrue result ↔ (a ≡ b) }
-{
-    a == b
-}
-
-fn are_both(a: XAckDelStatusCode, b: XAckDelStatusCode) -> bool
-    ensures { IsTrue result ↔ (a ≡ b) }
-{
-    a == b
 }
