@@ -7,8 +7,6 @@ mod idempotency;
 mod named_fields;
 mod number_or_nil;
 mod stream;
-#[cfg(test)]
-mod tests;
 
 pub use consumer::StreamInfoConsumer;
 pub(crate) use consumer::copy_consumers;

@@ -18,8 +18,6 @@ pub mod laws;
 pub mod pending;
 pub mod rows;
 pub mod status;
-#[cfg(test)]
-mod tests;
 
 pub use info::{
     StreamInfoConsumer, StreamInfoConsumersReply, StreamInfoGroup, StreamInfoGroupsReply,

@@ -1,8 +1,6 @@
 //! Replies on pending entries: those that were delivered to a consumer and not yet acknowledged.
 mod extended;
 mod summary;
-#[cfg(test)]
-mod tests;
 
 pub use extended::{StreamPendingCountReply, StreamPendingId};
 pub use summary::{StreamPendingData, StreamPendingReply};

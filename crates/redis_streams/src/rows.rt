@@ -14,8 +14,6 @@ mod read_forms;
 mod stream_id;
 mod stream_key;
 mod streams;
-#[cfg(test)]
-mod tests;
 
 pub use autoclaim::StreamAutoClaimReply;
 pub use claim::StreamClaimReply;

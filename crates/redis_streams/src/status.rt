@@ -128,6 +128,3 @@ const _: () = prove!(XAckDelStatusCode::IdNotFound as i64 == -1);
 const _: () = prove!(XAckDelStatusCode::AcknowledgedAndDeleted as i64 == 1);
 
 const _: () = prove!(XAckDelStatusCode::AcknowledgedNotDeletedStillReferenced as i64 == 2);
-
-#[cfg(test)]
-mod tests;

@@ -1,6 +1,7 @@
 //! Tests that cross crates.
 mod depth;
 mod memory;
+mod moved;
 mod plain;
 mod replies;
 mod sentences;

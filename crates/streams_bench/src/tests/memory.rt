@@ -7,9 +7,11 @@
 use crate::call_sequences::{ReadCall, play_read};
 use redis_resp::{FromRedisValue, ParsingError, RawBytes, ToRedisArgs, Value, WriteError};
 use redis_streams::{
-    StreamAutoClaimReply, StreamClaimReply, StreamInfoConsumersReply, StreamInfoGroupsReply,
-    StreamInfoStreamReply, StreamInfoStreamReplyWithIdempotency, StreamPendingCountReply,
-    StreamPendingReply, StreamRangeReply, StreamReadReply, XAckDelStatusCode, XDelExStatusCode,
+    StreamAutoClaimReply, StreamClaimReply, StreamId, StreamInfoConsumer, StreamInfoConsumersReply,
+    StreamInfoGroup, StreamInfoGroupsReply, StreamInfoStreamReply,
+    StreamInfoStreamReplyWithIdempotency, StreamKey, StreamPendingCountReply, StreamPendingData,
+    StreamPendingId, StreamPendingReply, StreamRangeReply, StreamReadReply, XAckDelStatusCode,
+    XDelExStatusCode,
 };
 use std::alloc::{AllocError, Global};
 use std::collections::HashMap;
@@ -111,7 +113,7 @@ fn plain_values_are_read(alloc: Global) -> Result<bool, AllocError> {
 }
 
 fn replies_are_read(alloc: Global) -> Result<bool, AllocError> {
-    let row = "Array[Array[1-0, Array[f, v]]]";
+    let row = "Array[Array[1-0, Array[f, v]], Map[2-0: Nil], Array[4-0, Nil, 3-0, Array[f, v]]]";
     let claimed = "Array[Array[s, Array[Array[1-0, Array[f, v], Int 5, Int 2]]]]";
     Ok(
         is_read::<StreamRangeReply>(alloc, row)?
@@ -202,6 +204,17 @@ fn pending_is_copied(alloc: Global) -> Result<bool, AllocError> {
     Ok(copy.as_str() == "1 1-0 2-0 [c=1]" && empty.as_str() == "empty")
 }
 
+fn parts_of_records_are_copied(alloc: Global) -> Result<bool, AllocError> {
+    Ok(
+        StreamId::empty(alloc)?.try_clone(alloc)?.is_empty()
+            && StreamKey::empty(alloc)?.try_clone(alloc)?.ids.is_empty()
+            && StreamPendingData::empty(alloc)?.try_clone(alloc)?.count == 0
+            && StreamPendingId::empty(alloc)?.try_clone(alloc)?.times_delivered == 0
+            && StreamInfoConsumer::empty(alloc)?.try_clone(alloc)?.pending == 0
+            && StreamInfoGroup::empty(alloc)?.try_clone(alloc)?.lag.is_none(),
+    )
+}
+
 fn all_is_right(alloc: Global) -> Result<bool, AllocError> {
     Ok(
         options_are_written(alloc)?
@@ -210,7 +223,8 @@ fn all_is_right(alloc: Global) -> Result<bool, AllocError> {
             && fields_are_got(alloc)?
             && entries_are_copied(alloc)?
             && pending_is_copied(alloc)?
-            && information_is_copied(alloc)?,
+            && information_is_copied(alloc)?
+            && parts_of_records_are_copied(alloc)?,
     )
 }
 
@@ -223,6 +237,7 @@ fn ample_memory_gives_right_answers(rt: HostRuntime) {
     assert_eq!(rt; entries_are_copied(rt.alloc()), Ok(true));
     assert_eq!(rt; pending_is_copied(rt.alloc()), Ok(true));
     assert_eq!(rt; information_is_copied(rt.alloc()), Ok(true));
+    assert_eq!(rt; parts_of_records_are_copied(rt.alloc()), Ok(true));
 }
 
 #[test]

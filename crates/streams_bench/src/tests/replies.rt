@@ -1,4 +1,6 @@
 //! Replies from the notation to their printed forms, by both calls.
+mod copied;
+mod forms;
 mod info;
 mod many;
 mod pending;

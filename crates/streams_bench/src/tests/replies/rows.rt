@@ -14,6 +14,11 @@ fn ranges_and_claims(rt: HostRuntime) -> Result<(), Fail> {
                 "Array[Array[1-0, Array[b, Nil, a, Int 7, B, \"\"]]]",
                 "1-0(B=,a=7,b=?)",
             ),
+            (
+                "Array[Array[1-0, Array[f, v]], Map[2-0: Nil], Array[4-0, Nil, 3-0, Array[f, v]], \
+                 Nil, Array[5-0, Array[f, v], 5-0, Nil]]",
+                "1-0(f=v) 2-0() 4-0() 3-0(f=v) 5-0()",
+            ),
             ("Array[Array[1-0]]", "refused 4"),
             ("Int 1", "refused 3"),
         ],
@@ -59,6 +64,7 @@ fn automatic_claims(rt: HostRuntime) -> Result<(), Fail> {
     check::<StreamAutoClaimReply>(
         &rt,
         &[
+            ("Nil", "refused 6"),
             ("Attr(Array[0-0, Array[]])", "refused 6"),
             ("Array[]", "refused 7"),
             ("Array[0-0, Array[], Array[], Nil]", "refused 7"),
@@ -78,7 +84,11 @@ fn automatic_claims(rt: HostRuntime) -> Result<(), Fail> {
                 "next=1-0 claimed=[] deleted=[3-0 4-0] invalid=false",
             ),
             (
-                "Array[0-0, Array[Nil, 1-0, 2-0]]",
+                "Array[0-0, Array[Nil]]",
+                "next=0-0 claimed=[] deleted=[] invalid=true",
+            ),
+            (
+                "Array[0-0, Array[Nil, 1-0, Nil, 2-0]]",
                 "next=0-0 claimed=[1-0() 2-0()] deleted=[] invalid=true",
             ),
             (

@@ -1,5 +1,6 @@
-//! Status codes.
+//! Status codes, and their equality as a caller can prove of it.
 use crate::tests::replies::check;
+use redis_streams::laws::{equal_acknowledgements, equal_deletions};
 use redis_streams::{XAckDelStatusCode, XDelExStatusCode};
 use std::test::Fail;
 
@@ -7,7 +8,16 @@ use std::test::Fail;
 fn status_codes(rt: HostRuntime) -> Result<(), Fail> {
     check::<XDelExStatusCode>(
         &rt,
-        &[("Int -1", "-1"), ("Int 1", "1"), ("1", "refused 15")],
+        &[
+            ("Int -1", "-1"),
+            ("Int 1", "1"),
+            ("Int 2", "2"),
+            ("Int 0", "refused 13"),
+            ("Int 3", "refused 13"),
+            ("Int -2", "refused 13"),
+            ("1", "refused 15"),
+            ("Nil", "refused 15"),
+        ],
     )?;
     check::<XAckDelStatusCode>(
         &rt,
@@ -15,7 +25,20 @@ fn status_codes(rt: HostRuntime) -> Result<(), Fail> {
             ("Int -1", "-1"),
             ("Int 1", "1"),
             ("Int 2", "2"),
+            ("Int 0", "refused 14"),
+            ("Int 3", "refused 14"),
             ("Int 9", "refused 14"),
+            ("Nil", "refused 16"),
         ],
     )
+}
+
+#[test]
+fn codes_are_equal_where_they_are_the_same(rt: HostRuntime) {
+    let deleted = || XDelExStatusCode::Deleted;
+    assert!(rt; equal_deletions(deleted(), deleted()));
+    assert!(rt; !equal_deletions(deleted(), XDelExStatusCode::IdNotFound));
+    let deleted = || XAckDelStatusCode::AcknowledgedAndDeleted;
+    assert!(rt; equal_acknowledgements(deleted(), deleted()));
+    assert!(rt; !equal_acknowledgements(deleted(), XAckDelStatusCode::IdNotFound));
 }

@@ -1,2 +1,0 @@
-//! What the tests of all modules share.
-pub(crate) mod both_calls;
