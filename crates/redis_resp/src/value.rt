@@ -23,8 +23,6 @@ mod readable;
 mod reason;
 mod source;
 mod table;
-#[cfg(test)]
-mod tests;
 mod text;
 mod triple;
 mod tuple;

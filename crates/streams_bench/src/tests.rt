@@ -3,5 +3,6 @@ mod depth;
 mod memory;
 mod moved;
 mod plain;
+mod readings;
 mod replies;
 mod sentences;

@@ -60,6 +60,3 @@ impl FromRedisValue for bool {
         truth_of(v).ok_or(ParsingError::NotNumber)
     }
 }
-
-#[cfg(test)]
-mod tests;

@@ -39,6 +39,3 @@ impl FromRedisValue for RawBytes {
         }
     }
 }
-
-#[cfg(test)]
-mod tests;

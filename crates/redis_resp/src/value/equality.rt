@@ -101,6 +101,3 @@ fn pairs_alike(a: &[(Value, Value)], b: &[(Value, Value)]) -> bool
     }
     true
 }
-
-#[cfg(test)]
-mod tests;

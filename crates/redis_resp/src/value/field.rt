@@ -33,6 +33,3 @@ pub fn field_of<T: FromRedisValue>(
         Err(_) => Ok(None),
     }
 }
-
-#[cfg(test)]
-mod tests;

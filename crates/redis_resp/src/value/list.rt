@@ -100,6 +100,3 @@ impl<T: FromRedisValue> FromRedisValue for Vec<T> {
         read_list(alloc, v)
     }
 }
-
-#[cfg(test)]
-mod tests;

@@ -236,6 +236,3 @@ impl FromRedisValue for i32 {
         i32_of(v).ok_or(ParsingError::NotNumber)
     }
 }
-
-#[cfg(test)]
-mod tests;

@@ -42,6 +42,3 @@ impl<T: FromRedisValue> FromRedisValue for Option<T> {
         read_option(alloc, v)
     }
 }
-
-#[cfg(test)]
-mod tests;

@@ -71,6 +71,3 @@ impl<V: FromRedisValue> FromRedisValue for BTreeMap<String, V> {
         read_sorted(alloc, v)
     }
 }
-
-#[cfg(test)]
-mod tests;

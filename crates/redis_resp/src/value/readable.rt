@@ -59,6 +59,3 @@ pub fn is_fields(v: &Value) -> bool
     }
     true
 }
-
-#[cfg(test)]
-mod tests;

@@ -156,6 +156,3 @@ impl<V: FromRedisValue> FromRedisValue for HashMap<String, V> {
         read_fields(alloc, v)
     }
 }
-
-#[cfg(test)]
-mod tests;

@@ -58,6 +58,3 @@ impl FromRedisValue for String {
         }
     }
 }
-
-#[cfg(test)]
-mod tests;

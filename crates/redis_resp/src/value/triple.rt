@@ -66,6 +66,3 @@ impl<A: FromRedisValue, B: FromRedisValue, C: FromRedisValue> FromRedisValue for
         read_three(alloc, v)
     }
 }
-
-#[cfg(test)]
-mod tests;

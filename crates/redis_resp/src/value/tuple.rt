@@ -95,6 +95,3 @@ impl<A: FromRedisValue, B: FromRedisValue, C: FromRedisValue, D: FromRedisValue>
         read_four(alloc, v)
     }
 }
-
-#[cfg(test)]
-mod tests;

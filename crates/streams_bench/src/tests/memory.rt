@@ -5,6 +5,7 @@
 //! The tests whose names say `refused_memory` are run by `tools/sweep-refused-memory` with each
 //! request refused in turn.
 use crate::call_sequences::{ReadCall, play_read};
+use indexmap::IndexMap;
 use redis_resp::{FromRedisValue, ParsingError, RawBytes, ToRedisArgs, Value, WriteError};
 use redis_streams::{
     StreamAutoClaimReply, StreamClaimReply, StreamId, StreamInfoConsumer, StreamInfoConsumersReply,
@@ -14,7 +15,7 @@ use redis_streams::{
     XDelExStatusCode,
 };
 use std::alloc::{AllocError, Global};
-use std::collections::HashMap;
+use std::collections::{BTreeMap, HashMap};
 use stream_options::{StreamIdempotencyMode, StreamReadOptions};
 use stream_text::{NotationError, PrintedForm, read_value};
 
@@ -107,7 +108,10 @@ fn plain_values_are_read(alloc: Global) -> Result<bool, AllocError> {
             && is_read::<Option<String>>(alloc, "x")?
             && is_read::<Vec<Value>>(alloc, "Map[k: v]")?
             && is_read::<(String, u16)>(alloc, "Array[x, 7]")?
+            && is_read::<(String, Option<u16>, String)>(alloc, "Array[a, 7, c]")?
             && is_read::<Four>(alloc, "Array[a, b, c, d]")?
+            && is_read::<BTreeMap<String, String>>(alloc, "Map[f: v, a: w, f: x]")?
+            && is_read::<IndexMap<String, String>>(alloc, "Map[f: v, a: w, f: x]")?
             && is_read::<HashMap<String, Value>>(alloc, "Map[f: v, g: w]")?,
     )
 }
@@ -209,9 +213,15 @@ fn parts_of_records_are_copied(alloc: Global) -> Result<bool, AllocError> {
         StreamId::empty(alloc)?.try_clone(alloc)?.is_empty()
             && StreamKey::empty(alloc)?.try_clone(alloc)?.ids.is_empty()
             && StreamPendingData::empty(alloc)?.try_clone(alloc)?.count == 0
-            && StreamPendingId::empty(alloc)?.try_clone(alloc)?.times_delivered == 0
+            && StreamPendingId::empty(alloc)?
+                .try_clone(alloc)?
+                .times_delivered
+                == 0
             && StreamInfoConsumer::empty(alloc)?.try_clone(alloc)?.pending == 0
-            && StreamInfoGroup::empty(alloc)?.try_clone(alloc)?.lag.is_none(),
+            && StreamInfoGroup::empty(alloc)?
+                .try_clone(alloc)?
+                .lag
+                .is_none(),
     )
 }
 

@@ -2,7 +2,7 @@
 mod copied;
 mod forms;
 mod info;
-mod many;
+pub(crate) mod many;
 mod pending;
 mod rows;
 mod status;

@@ -66,7 +66,10 @@ fn the_standard_form_counts_where_both_are_there(rt: HostRuntime) -> Result<(), 
     for (notation, standard, claim, printed) in READS {
         let value = read_value(rt.alloc(), notation)?;
         let forms = ReadForms { standard, claim };
-        assert!(rt; StreamReadReply::forms(&value) == forms, "forms of {notation}");
+        assert!(rt;
+            StreamReadReply::forms(&value) == forms,
+            "forms of {notation}"
+        );
         check_value::<StreamReadReply>(&rt, value, printed)?;
     }
     Ok(())

@@ -15,7 +15,7 @@ use stream_text::{PrintedForm, read_value};
 /// Each `$` in an item is its number, from 10,000 on, so that all numbers have five digits.
 type Line<'a> = (&'a str, &'a str, &'a str, &'a str);
 
-fn line_of(alloc: Global, line: Line<'_>, count: usize) -> Result<String, AllocError> {
+pub(crate) fn line_of(alloc: Global, line: Line<'_>, count: usize) -> Result<String, AllocError> {
     let (before, item, between, behind) = line;
     let mut text = String::from_str(alloc, before)?;
     for number in 0..count {

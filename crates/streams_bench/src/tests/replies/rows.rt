@@ -67,6 +67,7 @@ fn automatic_claims(rt: HostRuntime) -> Result<(), Fail> {
             ("Nil", "refused 6"),
             ("Attr(Array[0-0, Array[]])", "refused 6"),
             ("Array[]", "refused 7"),
+            ("Array[0-0]", "refused 7"),
             ("Array[0-0, Array[], Array[], Nil]", "refused 7"),
             ("Array[0-0, Attr(Array[])]", "refused 8"),
             ("Array[0-0, Array[Attr(1-0)]]", "refused 8"),

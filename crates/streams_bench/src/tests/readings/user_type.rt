@@ -1,43 +1,15 @@
-//! Types such as a user of the crate might add: each brings its meaning and its two calls.
-ghost use Rattle.std.specs.Prelude.{Bool, true, false, ℕ, List, Some, None, codes};
-ghost use Rattle.std.specs.Prelude.{option_map, string_bytes, if◌then◌else◌};
-ghost use Rattle.std.specs.Str.{bytes_eq};
+//! A type such as a user might add: it brings its meaning and its two calls, and refuses by name.
+ghost use Rattle.std.specs.Prelude.{ℕ, List, Some, codes, option_map, string_bytes};
 ghost use Rattle.redis_resp.specs.Number.{unsigned_reading};
 ghost use Rattle.redis_resp.specs.Table.{field_record, fields_reading};
 ghost use Rattle.redis_resp.specs.Text.{text_reading};
 ghost use Rattle.redis_resp.specs.Then.{◌>>=◌};
 
-use crate::value::{FromRedisValue, ParsingError, Reason, Value, field_of, from_redis_value_ref};
+use crate::tests::readings::{check_read, check_refused};
+use redis_resp::{FromRedisValue, ParsingError, Reason, Value, field_of, from_redis_value_ref};
 use std::alloc::Global;
 use std::collections::HashMap;
-
-/// Yes or no, read from a text that says so.
-#[derive(Clone, Copy, Debug, PartialEq)]
-pub struct Flag(pub bool);
-
-impl FromRedisValue for Flag {
-    ghost Meaning = { Bool };
-
-    ghost meaning = { λ f. f.0 };
-
-    ghost reading = { λ t. text_reading t >>= λ text. if bytes_eq text (codes "yes")
-        then Some true else (if bytes_eq text (codes "no") then Some false else None) };
-
-    fn from_redis_value(alloc: Global, v: Value) -> Result<Flag, ParsingError> {
-        Flag::from_redis_value_ref(alloc, &v)
-    }
-
-    fn from_redis_value_ref(alloc: Global, v: &Value) -> Result<Flag, ParsingError> {
-        let text = String::from_redis_value_ref(alloc, v)?;
-        if text.as_str() == "yes" {
-            Ok(Flag(true))
-        } else if text.as_str() == "no" {
-            Ok(Flag(false))
-        } else {
-            Err(ParsingError::NotText)
-        }
-    }
-}
+use std::test::Fail;
 
 /// The number of an order and who gave it, read from the fields that say so.
 #[derive(Debug, Drop, PartialEq)]
@@ -70,4 +42,15 @@ impl FromRedisValue for Ticket {
         };
         Ok(Ticket { order, customer })
     }
+}
+
+#[test]
+fn tickets_are_read(rt: HostRuntime) -> Result<(), Fail> {
+    let customer = String::from_str(rt.alloc(), "x")?;
+    let ticket = Ticket { order: 7, customer };
+    check_read::<Ticket>(&rt, "Map[order: 7, customer: x, rest: \"\"]", &ticket)?;
+    let no_customer = ParsingError::Refused(Reason::new("no customer"));
+    check_refused::<Ticket>(&rt, &[("Map[order: 7]", no_customer)])?;
+    let no_order = ParsingError::Refused(Reason::new("no order"));
+    check_refused::<Ticket>(&rt, &[("Map[customer: x]", no_order)])
 }
