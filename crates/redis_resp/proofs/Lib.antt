@@ -8,6 +8,7 @@ pub mod MapLemmas
 pub mod MembersLemmas
 pub mod NumberLemmas
 pub mod SameLemmas
+pub mod SortedLemmas
 pub mod PairLemmas
 pub mod ReadLemmas
 pub mod TableLemmas

@@ -1,3 +1,4 @@
+pub mod Boolean
 pub mod Bytes
 pub mod Clause
 pub mod FieldsMeaning

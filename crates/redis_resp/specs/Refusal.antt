@@ -2,7 +2,7 @@
 use Rattle.std.specs.Prelude.{◌≡◌, ◌≢◌, ◌⊎◌, List, Option, None, MatchOption, IsFalse}
 use Rattle.std.specs.List.{Any}
 use Rattle.redis_resp.specs.Tree.{Tree, plain, items, pairs_in}
-use Rattle.redis_resp.specs.Reading.{is_nil, two_in, four_in}
+use Rattle.redis_resp.specs.Reading.{is_nil, two_in, three_in, four_in}
 use Rattle.redis_resp.specs.Bytes.{bytes_reading}
 use Rattle.redis_resp.specs.Text.{text_reading}
 use Rattle.redis_resp.specs.declared.value.error.ParsingError.{ParsingError}
@@ -59,6 +59,10 @@ RefusesOption refuses t error = IsFalse (is_nil (plain t)) × refuses t error
 -- two: `NotTuple(2)` where the tree is no array of two, and else what one of the two is refused with
 abbrev pub RefusesTwo : (Tree → ParsingError → Type 0) → (Tree → ParsingError → Type 0) → Tree → ParsingError → Type 0
 RefusesTwo a b t error = MatchOption (two_in t) (error ≡ NotTuple 2) (λ q. a q.0 error ⊎ b q.1 error)
+
+-- three, likewise
+abbrev pub RefusesThree : (Tree → ParsingError → Type 0) → (Tree → ParsingError → Type 0) → (Tree → ParsingError → Type 0) → Tree → ParsingError → Type 0
+RefusesThree a b c t error = MatchOption (three_in t) (error ≡ NotTuple 3) (λ q. a q.0 error ⊎ (b q.1 error ⊎ c q.2 error))
 
 -- four, likewise
 abbrev pub RefusesFour : (Tree → ParsingError → Type 0) → (Tree → ParsingError → Type 0) → (Tree → ParsingError → Type 0) → (Tree → ParsingError → Type 0) → Tree → ParsingError → Type 0

@@ -24,6 +24,10 @@ owned_left view it = map view (take (into_iter_len it) (into_iter_items it))
 abbrev pub both : {A B : Type 0} → (A → B) → A × A → B × B
 both f p = (f p.0, f p.1)
 
+-- three that are seen the same way
+abbrev pub all_three : {A B : Type 0} → (A → B) → A × A × A → B × B × B
+all_three f q = (f q.0, f q.1, f q.2)
+
 -- four that are seen the same way
 abbrev pub all_four : {A B : Type 0} → (A → B) → A × A × A × A → B × B × B × B
 all_four f q = (f q.0, f q.1, f q.2, f q.3)

@@ -18,7 +18,7 @@ pub use args::{
     FixedArgs, RawBytes, RedisWrite, ToRedisArgs, ToSingleRedisArg, WriteError, unique_decimal,
 };
 pub use value::{
-    Contents, FromRedisValue, PairList, PairsLeft, ParsingError, Source, Value, count_left,
+    Contents, FromRedisValue, PairList, PairsLeft, ParsingError, Reason, Source, Value, count_left,
     field_of, from_redis_value, from_redis_value_ref, hash_map_of, index_map_of, into_four,
-    into_pairs, into_two, is_fields, is_nil, is_text, is_usize, next_left, read_pairs,
+    into_pairs, into_three, into_two, is_fields, is_nil, is_text, is_usize, next_left, read_pairs,
 };

@@ -4,6 +4,7 @@ ghost use Rattle.redis_resp.specs.Tree.{plain};
 ghost use Rattle.redis_resp.specs.Value.{tree};
 
 mod any_value;
+mod boolean;
 mod bytes;
 mod clone;
 mod contents;
@@ -15,14 +16,17 @@ mod list;
 mod members;
 mod number;
 mod option;
+mod ordered;
 mod pair;
 mod pairs_left;
 mod readable;
+mod reason;
 mod source;
 mod table;
 #[cfg(test)]
 mod tests;
 mod text;
+mod triple;
 mod tuple;
 
 pub use contents::Contents;
@@ -34,8 +38,10 @@ pub use number::usize_of;
 pub use pair::{PairList, read_pairs};
 pub use pairs_left::{PairsLeft, count_left, into_pairs, next_left};
 pub use readable::{is_fields, is_nil, is_text, is_usize};
+pub use reason::Reason;
 pub use source::Source;
 pub use table::{hash_map_of, index_map_of};
+pub use triple::into_three;
 
 /// A value of the RESP protocol, as a server sends it.
 #[derive(Debug, Drop)]

@@ -81,6 +81,42 @@ fn u16_of(v: &Value) -> Option<u16>
     u16::try_from(u64_of(v)?).ok()
 }
 
+/// The number that a value reads as at 8 bits, if any.
+#[tactic(auto, using(crate::proofs::NumberLemmas::narrowing))]
+fn u8_of(v: &Value) -> Option<u8>
+    ensures { result ≡ unsigned_reading 8 (tree v.now) }
+{
+    u8::try_from(u64_of(v)?).ok()
+}
+
+/// The number that a value reads as at 31 bits and a sign, if any.
+#[tactic(auto, using(crate::proofs::NumberLemmas::signed_narrowing))]
+fn i32_of(v: &Value) -> Option<i32>
+    ensures { result ≡ signed_reading 31 (tree v.now) }
+{
+    i32::try_from(i64_of(v)?).ok()
+}
+
+impl FromRedisValue for u8 {
+    ghost Meaning = { ℕ };
+
+    ghost meaning = { λ n. n };
+
+    ghost reading = { unsigned_reading 8 };
+
+    ghost may_refuse = { RefusesNumber };
+
+    /// A number below 2^8. It takes no memory, so the one refusal is `NotNumber`.
+    fn from_redis_value(_alloc: Global, v: Value) -> Result<u8, ParsingError> {
+        u8_of(&v).ok_or(ParsingError::NotNumber)
+    }
+
+    /// The same number of a borrowed value.
+    fn from_redis_value_ref(_alloc: Global, v: &Value) -> Result<u8, ParsingError> {
+        u8_of(v).ok_or(ParsingError::NotNumber)
+    }
+}
+
 impl FromRedisValue for u16 {
     ghost Meaning = { ℕ };
 
@@ -178,6 +214,26 @@ impl FromRedisValue for i64 {
     /// The same number of a borrowed value.
     fn from_redis_value_ref(_alloc: Global, v: &Value) -> Result<i64, ParsingError> {
         i64_of(v).ok_or(ParsingError::NotNumber)
+    }
+}
+
+impl FromRedisValue for i32 {
+    ghost Meaning = { ℤ };
+
+    ghost meaning = { λ z. z };
+
+    ghost reading = { signed_reading 31 };
+
+    ghost may_refuse = { RefusesNumber };
+
+    /// A number from -2^31 to 2^31 - 1. It takes no memory, so the one refusal is `NotNumber`.
+    fn from_redis_value(_alloc: Global, v: Value) -> Result<i32, ParsingError> {
+        i32_of(&v).ok_or(ParsingError::NotNumber)
+    }
+
+    /// The same number of a borrowed value.
+    fn from_redis_value_ref(_alloc: Global, v: &Value) -> Result<i32, ParsingError> {
+        i32_of(v).ok_or(ParsingError::NotNumber)
     }
 }
 

@@ -1,7 +1,7 @@
 //! The text of each refusal, and equality, as a caller can prove of it.
 ghost use Rattle.std.specs.Prelude.{◌≡◌, ◌↔◌, IsTrue};
 
-use crate::value::ParsingError;
+use crate::value::{ParsingError, Reason};
 use std::test::Fail;
 
 #[test]
@@ -55,6 +55,10 @@ fn refusals_are_printed(rt: HostRuntime) -> Result<(), Fail> {
         ),
         (ParsingError::NotBytes, "not a bulk string"),
         (ParsingError::Memory, "out of memory"),
+        (
+            ParsingError::Refused(Reason::new("an order with no customer")),
+            "an order with no customer",
+        ),
     ];
     for (error, text) in table {
         assert_eq!(rt; format!(in rt.alloc(); "{error}")?.as_str(), text);
@@ -73,4 +77,14 @@ fn equal_refusals_are_told(rt: HostRuntime) {
     assert!(rt; are_equal(ParsingError::NotTuple(2), ParsingError::NotTuple(2)));
     assert!(rt; !are_equal(ParsingError::NotTuple(2), ParsingError::NotTuple(4)));
     assert!(rt; !are_equal(ParsingError::NotList, ParsingError::NotPairs));
+    let no_order = Reason::new("no order");
+    let same_text = Reason::new("no order");
+    let other_text = Reason::new("no orders");
+    assert_eq!(rt; no_order.as_str(), "no order");
+    let refused = ParsingError::Refused(no_order);
+    assert!(rt; are_equal(refused, ParsingError::Refused(same_text)));
+    let refused = ParsingError::Refused(Reason::new("no order"));
+    assert!(rt; !are_equal(refused, ParsingError::Refused(other_text)));
+    let refused = ParsingError::Refused(Reason::new("out of memory"));
+    assert!(rt; !are_equal(refused, ParsingError::Memory));
 }

@@ -1,7 +1,7 @@
 //! Fields by their names, and a record of a user's own that is read from them.
 use crate::value::tests::samples::{both_answer, bulk, pairs};
 use crate::value::tests::user_type::Ticket;
-use crate::value::{ParsingError, Value, field_of, from_redis_value};
+use crate::value::{ParsingError, Reason, Value, field_of, from_redis_value};
 use std::collections::HashMap;
 use std::test::Fail;
 
@@ -24,9 +24,14 @@ fn tickets_are_read(rt: HostRuntime) -> Result<(), Fail> {
     let customer = String::from_str(alloc, "x")?;
     let want = Ok(Ticket { order: 7, customer });
     assert!(rt; both_answer::<Ticket>(alloc, value, &want)?);
-    for fields in [&[("order", "7")], &[("customer", "x")]] {
-        let value = Value::Map(pairs(alloc, fields)?);
-        assert!(rt; both_answer::<Ticket>(alloc, value, &Err(ParsingError::NotPairs))?);
+    let table = [
+        (("order", "7"), "no customer"),
+        (("customer", "x"), "no order"),
+    ];
+    for (field, why) in table {
+        let value = Value::Map(pairs(alloc, &[field])?);
+        let refusal = Err(ParsingError::Refused(Reason::new(why)));
+        assert!(rt; both_answer::<Ticket>(alloc, value, &refusal)?);
     }
     Ok(())
 }

@@ -11,15 +11,19 @@ fn each_answers(
     unsigned: Option<u64>,
     signed: Option<i64>,
 ) -> Result<bool, AllocError> {
+    let tiny = unsigned.and_then(|n| u8::try_from(n).ok());
     let small = unsigned.and_then(|n| u16::try_from(n).ok());
     let middle = unsigned.and_then(|n| u32::try_from(n).ok());
     let sized = unsigned.and_then(|n| usize::try_from(n).ok());
+    let narrow = signed.and_then(|n| i32::try_from(n).ok());
     Ok(
-        answers(alloc, value, small)?
+        answers(alloc, value, tiny)?
+            && answers(alloc, value, small)?
             && answers(alloc, value, middle)?
             && answers(alloc, value, unsigned)?
             && answers(alloc, value, sized)?
             && answers(alloc, value, signed)?
+            && answers(alloc, value, narrow)?
             && usize_of(value) == sized,
     )
 }
@@ -42,8 +46,14 @@ fn texts_are_read_as_parse_reads_them(rt: HostRuntime) -> Result<(), Fail> {
     let table = [
         ("0", Some(0), Some(0)),
         ("+007", Some(7), Some(7)),
+        ("255", Some(255), Some(255)),
+        ("256", Some(256), Some(256)),
         ("65535", Some(65535), Some(65535)),
         ("65536", Some(65536), Some(65536)),
+        ("2147483647", Some(2147483647), Some(2147483647)),
+        ("2147483648", Some(2147483648), Some(2147483648)),
+        ("-2147483648", None, Some(-2147483648)),
+        ("-2147483649", None, Some(-2147483649)),
         ("4294967295", Some(4294967295), Some(4294967295)),
         ("4294967296", Some(4294967296), Some(4294967296)),
         (
@@ -89,10 +99,16 @@ fn whole_numbers_are_read_where_they_fit(rt: HostRuntime) -> Result<(), Fail> {
     let alloc = rt.alloc();
     let table = [
         (0, Some(0)),
+        (255, Some(255)),
+        (256, Some(256)),
         (65536, Some(65536)),
+        (2147483647, Some(2147483647)),
+        (2147483648, Some(2147483648)),
         (4294967296, Some(4294967296)),
         (i64::MAX, Some(9223372036854775807)),
         (-1, None),
+        (-2147483648, None),
+        (-2147483649, None),
         (i64::MIN, None),
     ];
     for (number, unsigned) in table {

@@ -4,7 +4,7 @@ use crate::value::tests::samples::{bulks, pairs};
 use crate::value::{FromRedisValue, ParsingError, Value, from_redis_value, from_redis_value_ref};
 use indexmap::IndexMap;
 use std::alloc::{AllocError, Global};
-use std::collections::HashMap;
+use std::collections::{BTreeMap, HashMap};
 
 // Whether the answer is what is wanted, or that memory ran out.
 fn agrees<T: PartialEq>(answer: &Result<T, ParsingError>, want: &Result<T, ParsingError>) -> bool {
@@ -53,6 +53,23 @@ fn tables_are_right(alloc: Global) -> Result<bool, AllocError> {
     )
 }
 
+fn sorted_maps_and_triples_are_right(alloc: Global) -> Result<bool, AllocError> {
+    let mut sorted = BTreeMap::new(alloc);
+    for (key, value) in [("a", "e"), ("c", "d")] {
+        let text = String::from_str(alloc, value)?;
+        sorted.insert(String::from_str(alloc, key)?, text)?;
+    }
+    let map = Value::Map(pairs(alloc, &[("c", "d"), ("a", "b"), ("a", "e")])?);
+    let first = String::from_str(alloc, "x")?;
+    let last = String::from_str(alloc, "y")?;
+    let triple = (first, Some(7u16), last);
+    let members = Value::Array(bulks(alloc, &["x", "7", "y"])?);
+    Ok(
+        right::<BTreeMap<String, String>>(alloc, map, &Ok(sorted))
+            && right::<(String, Option<u16>, String)>(alloc, members, &Ok(triple)),
+    )
+}
+
 fn refusals_are_right(alloc: Global) -> Result<bool, AllocError> {
     let unreadable = Value::Array(bulks(alloc, &["a", "x", "a", "3"])?);
     let odd = Value::Array(bulks(alloc, &["a"])?);
@@ -63,7 +80,12 @@ fn refusals_are_right(alloc: Global) -> Result<bool, AllocError> {
 }
 
 fn readings_are_right(alloc: Global) -> Result<bool, AllocError> {
-    Ok(lists_are_right(alloc)? && tables_are_right(alloc)? && refusals_are_right(alloc)?)
+    Ok(
+        lists_are_right(alloc)?
+            && tables_are_right(alloc)?
+            && sorted_maps_and_triples_are_right(alloc)?
+            && refusals_are_right(alloc)?,
+    )
 }
 
 #[test]

@@ -7,7 +7,7 @@ ghost use Rattle.redis_resp.specs.Table.{field_record, fields_reading};
 ghost use Rattle.redis_resp.specs.Text.{text_reading};
 ghost use Rattle.redis_resp.specs.Then.{◌>>=◌};
 
-use crate::value::{FromRedisValue, ParsingError, Value, field_of, from_redis_value_ref};
+use crate::value::{FromRedisValue, ParsingError, Reason, Value, field_of, from_redis_value_ref};
 use std::alloc::Global;
 use std::collections::HashMap;
 
@@ -63,10 +63,10 @@ impl FromRedisValue for Ticket {
     fn from_redis_value_ref(alloc: Global, v: &Value) -> Result<Ticket, ParsingError> {
         let fields: HashMap<String, Value> = from_redis_value_ref(alloc, v)?;
         let Some(order) = field_of(alloc, &fields, "order")? else {
-            return Err(ParsingError::NotPairs);
+            return Err(ParsingError::Refused(Reason::new("no order")));
         };
         let Some(customer) = field_of(alloc, &fields, "customer")? else {
-            return Err(ParsingError::NotPairs);
+            return Err(ParsingError::Refused(Reason::new("no customer")));
         };
         Ok(Ticket { order, customer })
     }

@@ -1,0 +1,65 @@
+//! Truth values that are read from values.
+//!
+//! No call here takes memory, so the one refusal is `NotNumber`: where RESP2 has no truth values a
+//! server sends the numbers 1 and 0 for them.
+ghost use Rattle.std.specs.Prelude.{◌≡◌, Bool};
+ghost use Rattle.redis_resp.specs.Boolean.{truth_of_text, truth_reading};
+ghost use Rattle.redis_resp.specs.Refusal.{RefusesNumber};
+ghost use Rattle.redis_resp.specs.Value.{tree};
+
+use crate::value::Value;
+use crate::value::error::ParsingError;
+use crate::value::from_value::FromRedisValue;
+use std::alloc::Global;
+
+/// True for the text `1`, false for `0`, and None for any other.
+fn truth_in(text: &[u8]) -> Option<bool>
+    ensures { result ≡ truth_of_text text.now }
+{
+    if text == b"1".as_slice() {
+        Some(true)
+    } else if text == b"0".as_slice() {
+        Some(false)
+    } else {
+        None
+    }
+}
+
+/// The truth value that a value reads as, if any.
+fn truth_of(v: &Value) -> Option<bool>
+    ensures { result ≡ truth_reading (tree v.now) }
+{
+    match v.as_plain() {
+        Value::Nil => Some(false),
+        Value::Int(z) => Some(*z != 0),
+        Value::BulkString(bytes) => truth_in(bytes),
+        Value::SimpleString(text) => truth_in(text.as_bytes()),
+        Value::Okay => Some(true),
+        Value::Boolean(b) => Some(*b),
+        _ => None,
+    }
+}
+
+impl FromRedisValue for bool {
+    ghost Meaning = { Bool };
+
+    ghost meaning = { λ b. b };
+
+    ghost reading = { truth_reading };
+
+    ghost may_refuse = { RefusesNumber };
+
+    /// A `Boolean`; a whole number, which is false where it is 0; the texts `1` and `0`; `OK`, which
+    /// is true, and `Nil`, which is false. It takes no memory, so the one refusal is `NotNumber`.
+    fn from_redis_value(_alloc: Global, v: Value) -> Result<bool, ParsingError> {
+        truth_of(&v).ok_or(ParsingError::NotNumber)
+    }
+
+    /// The same truth value of a borrowed value.
+    fn from_redis_value_ref(_alloc: Global, v: &Value) -> Result<bool, ParsingError> {
+        truth_of(v).ok_or(ParsingError::NotNumber)
+    }
+}
+
+#[cfg(test)]
+mod tests;
