@@ -13,7 +13,7 @@ mod tuple;
 mod writer;
 
 pub use fixed_args::FixedArgs;
-pub use law::unique_decimal;
+pub use law::{equal_bytes, equal_write_errors, unique_decimal};
 pub use raw_bytes::RawBytes;
 pub use to_redis_args::{ToRedisArgs, ToSingleRedisArg};
 pub use writer::{RedisWrite, WriteError};

@@ -15,10 +15,12 @@ pub mod args;
 pub mod value;
 
 pub use args::{
-    FixedArgs, RawBytes, RedisWrite, ToRedisArgs, ToSingleRedisArg, WriteError, unique_decimal,
+    FixedArgs, RawBytes, RedisWrite, ToRedisArgs, ToSingleRedisArg, WriteError, equal_bytes,
+    equal_write_errors, unique_decimal,
 };
 pub use value::{
     Contents, FromRedisValue, PairList, PairsLeft, ParsingError, Reason, Source, Value, count_left,
-    field_of, from_redis_value, from_redis_value_ref, hash_map_of, index_map_of, into_four,
-    into_pairs, into_three, into_two, is_fields, is_nil, is_text, is_usize, next_left, read_pairs,
+    equal_parsing_errors, field_of, from_redis_value, from_redis_value_ref, hash_map_of,
+    index_map_of, into_four, into_pairs, into_three, into_two, is_fields, is_nil, is_text,
+    is_usize, next_left, read_pairs,
 };

@@ -1,6 +1,6 @@
-ghost use Rattle.std.specs.Prelude.{◌≡◌, ◌↔◌, IsTrue};
-
-use crate::args::{FixedArgs, RawBytes, RedisWrite, ToRedisArgs, WriteError};
+use crate::args::{
+    FixedArgs, RawBytes, RedisWrite, ToRedisArgs, WriteError, equal_bytes, equal_write_errors,
+};
 use std::alloc::AllocError;
 use std::process::Abort;
 use std::test::Fail;
@@ -143,14 +143,20 @@ fn a_long_list_is_written(rt: HostRuntime) -> Result<(), Fail> {
     Ok(())
 }
 
-fn are_equal(a: WriteError, b: WriteError) -> bool
-    ensures { IsTrue result ↔ (a ≡ b) }
-{
-    a == b
+#[test]
+fn equal_refusals_are_told(rt: HostRuntime) {
+    assert!(rt; equal_write_errors(WriteError::Full, WriteError::Full));
+    assert!(rt; !equal_write_errors(WriteError::Full, WriteError::Memory));
 }
 
 #[test]
-fn equal_refusals_are_told(rt: HostRuntime) {
-    assert!(rt; are_equal(WriteError::Full, WriteError::Full));
-    assert!(rt; !are_equal(WriteError::Full, WriteError::Memory));
+fn equal_bytes_are_told(rt: HostRuntime) -> Result<(), AllocError> {
+    let alloc = rt.alloc();
+    let mut roomy = Vec::with_capacity(alloc, 64)?;
+    roomy.push(255)?;
+    let roomy = RawBytes(roomy);
+    assert!(rt; equal_bytes(&roomy, &RawBytes(Vec::from_slice(alloc, &[255])?)));
+    assert!(rt; !equal_bytes(&roomy, &RawBytes(Vec::from_slice(alloc, &[254])?)));
+    assert!(rt; !equal_bytes(&roomy, &RawBytes(Vec::new(alloc))));
+    Ok(())
 }

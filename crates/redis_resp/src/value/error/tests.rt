@@ -1,7 +1,8 @@
 //! The text of each refusal, and equality, as a caller can prove of it.
-ghost use Rattle.std.specs.Prelude.{◌≡◌, ◌↔◌, IsTrue};
+ghost use Rattle.std.specs.Prelude.{◌≡◌, codes};
+ghost use Rattle.redis_resp.specs.declared.value.error.ParsingError.TheVariants.{Refused};
 
-use crate::value::{ParsingError, Reason};
+use crate::value::{ParsingError, Reason, equal_parsing_errors};
 use std::test::Fail;
 
 #[test]
@@ -66,25 +67,37 @@ fn refusals_are_printed(rt: HostRuntime) -> Result<(), Fail> {
     Ok(())
 }
 
-fn are_equal(a: ParsingError, b: ParsingError) -> bool
-    ensures { IsTrue result ↔ (a ≡ b) }
+/// A type of a user's own says with which text it refuses.
+fn refused() -> ParsingError
+    ensures { result ≡ Refused (codes "no order") }
 {
-    a == b
+    ParsingError::Refused(Reason::new("no order"))
 }
 
 #[test]
 fn equal_refusals_are_told(rt: HostRuntime) {
-    assert!(rt; are_equal(ParsingError::NotTuple(2), ParsingError::NotTuple(2)));
-    assert!(rt; !are_equal(ParsingError::NotTuple(2), ParsingError::NotTuple(4)));
-    assert!(rt; !are_equal(ParsingError::NotList, ParsingError::NotPairs));
-    let no_order = Reason::new("no order");
-    let same_text = Reason::new("no order");
-    let other_text = Reason::new("no orders");
-    assert_eq!(rt; no_order.as_str(), "no order");
-    let refused = ParsingError::Refused(no_order);
-    assert!(rt; are_equal(refused, ParsingError::Refused(same_text)));
-    let refused = ParsingError::Refused(Reason::new("no order"));
-    assert!(rt; !are_equal(refused, ParsingError::Refused(other_text)));
-    let refused = ParsingError::Refused(Reason::new("out of memory"));
-    assert!(rt; !are_equal(refused, ParsingError::Memory));
+    let table = [
+        (ParsingError::NotTuple(2), ParsingError::NotTuple(2), true),
+        (ParsingError::NotTuple(2), ParsingError::NotTuple(4), false),
+        (ParsingError::NotList, ParsingError::NotPairs, false),
+        (
+            refused(),
+            ParsingError::Refused(Reason::new("no order")),
+            true,
+        ),
+        (
+            refused(),
+            ParsingError::Refused(Reason::new("no orders")),
+            false,
+        ),
+        (
+            ParsingError::Refused(Reason::new("out of memory")),
+            ParsingError::Memory,
+            false,
+        ),
+    ];
+    for (a, b, equal) in &table {
+        assert_eq!(rt; equal_parsing_errors(a, b), *equal);
+    }
+    assert_eq!(rt; Reason::new("no order").as_str(), "no order");
 }
