@@ -24,4 +24,4 @@ pub returns-else-limits-len-clause-short : goal.returns-else-limits-len-clause-s
 returns-else-limits-len-clause-short c =
     let e = counted c.args.seen c.line_len.result c.args.left.now c.bytes_behind.result.now c.requires c.bytes_behind.ensures c.line_len.ensures in
     let split = first_and_rest c.args.left.now c.in-len1-up.len_at_least in
-    rw split (cut_short c.args.limits (slice_index c.args.left.now 0) (c.args.seen + c.line_len.result) c.in-Some._kind _ (sym c.in-Some.ensures) (rw (rest_is c.args.left.now) e) c.if-len-line.false c.if-limits-len.false)
+    rw split (cut_short c.args.limits (slice_index c.args.left.now 0) (c.args.seen + c.line_len.result) c.in-Some._kind _ (sym c.in-Some.ensures) (rw (rest_is c.args.left.now) e) c.if-not-may_go_on.ensures c.if-limits-len.false)
