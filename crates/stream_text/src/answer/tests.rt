@@ -40,14 +40,10 @@ fn both_readings_are_told(rt: HostRuntime) -> Result<(), Fail> {
     let alloc = rt.alloc();
     let told = both_answers::<Refused>(alloc, Value::Nil)?;
     assert_eq!(rt; told.as_str(), "refused 1 owned, refused 2 lent");
-    assert_eq!(rt; both_answers::<usize>(alloc, Value::Int(7))?.as_str(), "7");
-    assert_eq!(rt;
-        both_answers::<usize>(alloc, Value::Nil)?.as_str(),
-        "refused 2"
-    );
-    assert_eq!(rt;
-        both_answers::<String>(alloc, Value::Nil)?.as_str(),
-        "refused 1"
-    );
+    for (value, line) in [(Value::Int(7), "7"), (Value::Nil, "refused 2")] {
+        assert_eq!(rt; both_answers::<usize>(alloc, value)?.as_str(), line);
+    }
+    let told = both_answers::<String>(alloc, Value::Nil)?;
+    assert_eq!(rt; told.as_str(), "refused 1");
     Ok(())
 }
