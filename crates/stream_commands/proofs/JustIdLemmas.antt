@@ -1,6 +1,8 @@
--- The answer of an automatic claim that asks for ids alone is read from its parts.
-use Rattle.std.proofs.Common.{◌≡◌, inl, inr, ℕ, List, length, Option, Some, None, option_and_then, refl, ◌∙◌, ap}
-use Rattle.std.specs.Prelude.{MatchOption}
+-- The answer of an automatic claim that asks for ids alone is read from its parts, and copied.
+use Rattle.std.proofs.Common.{◌≡◌, inl, inr, ℕ, List, [], ◌∷◌, length, map, Option, Some, None, option_and_then, refl, ◌∙◌, ap}
+use Rattle.std.specs.Prelude.{MatchOption, String, Vec, string_bytes}
+use Rattle.std.specs.List.{AllZip}
+use Rattle.std.specs.declared.alloc.Global.{Global}
 use Rattle.redis_resp.specs.Reading.{list_reading}
 use Rattle.redis_resp.specs.Refusal.{Refuses, RefusesList}
 use Rattle.redis_resp.specs.Text.{text_reading}
@@ -8,6 +10,7 @@ use Rattle.redis_resp.specs.Tree.{Tree, array_of_plain}
 use Rattle.redis_resp.specs.declared.value.error.ParsingError.{ParsingError}
 use Rattle.redis_resp.specs.declared.value.error.ParsingError.TheVariants.{NotArray, WrongItemCount}
 use Rattle.redis_streams.specs.AutoClaim.{Parts, two_or_three, parts_in, deleted_reading}
+use Rattle.redis_streams.specs.AutoClaimMeaning.{text_bytes_of}
 use Rattle.redis_streams.specs.Refusal.{RefusesDeleted, RefusesParts, RefusesTextIn}
 use Rattle.stream_commands.specs.JustId.{justid_of, justid_reading, RefusesIds, RefusesJustId}
 
@@ -31,3 +34,13 @@ module _ (t : Tree) (parts : Parts) (there : parts_in t ≡ Some parts) where
 
     pub claimed_part : Refuses (list_reading text_reading) (RefusesList RefusesTextIn) parts.1 error → Refuses justid_reading RefusesJustId t error
     claimed_part r = (told (inl r.0), λ h. by_parts ∙ rw (r.1 h) refl)
+
+same_texts : (texts copies : List (String Global)) → AllZip (λ s t. string_bytes t ≡ string_bytes s) texts copies → map string_bytes copies ≡ map string_bytes texts
+same_texts [] [] same = refl
+same_texts [] (t ∷ copies) same = absurd same
+same_texts (s ∷ texts) [] same = absurd same
+same_texts (s ∷ texts) (t ∷ copies) same = rw (same.0, same_texts texts copies same.1) refl
+
+-- a copy of a list of texts has the same texts, in order
+pub texts_copied : (texts copies : Vec (String Global) Global) → AllZip (λ s t. string_bytes t ≡ string_bytes s) texts.items copies.items → text_bytes_of copies ≡ text_bytes_of texts
+texts_copied texts copies same = same_texts texts.items copies.items same

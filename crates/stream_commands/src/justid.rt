@@ -1,5 +1,5 @@
 //! The reply of XAUTOCLAIM where it is asked for ids alone.
-ghost use Rattle.std.specs.Prelude.{◌≡◌, Some, None, IsOk, IfOk, IfErr, length, map, option_map, string_bytes};
+ghost use Rattle.std.specs.Prelude.{◌≡◌, Some, None, IsOk, IfOk, IfErr, length, option_map};
 ghost use Rattle.redis_resp.specs.Refusal.{Refuses};
 ghost use Rattle.redis_streams.specs.AutoClaim.{deleted_reading, parts_in, two_or_three};
 ghost use Rattle.redis_streams.specs.AutoClaimMeaning.{text_bytes_of, trees_of_parts};
@@ -35,13 +35,14 @@ impl StreamAutoClaimJustIdReply {
     }
 
     /// The same reply. It fails only where it is out of memory.
+    #[tactic(auto, using(crate::proofs::JustIdLemmas::texts_copied))]
     pub fn try_clone(&self, alloc: Global) -> Result<StreamAutoClaimJustIdReply, AllocError>
         ensures { IfOk result (λ r. justid_meaning r ≡ justid_meaning self.now) }
     {
         Ok(StreamAutoClaimJustIdReply {
             next_stream_id: String::from_str(alloc, &self.next_stream_id)?,
-            claimed: copy_texts(alloc, &self.claimed)?,
-            deleted_ids: copy_texts(alloc, &self.deleted_ids)?,
+            claimed: self.claimed.clone()?,
+            deleted_ids: self.deleted_ids.clone()?,
         })
     }
 }
@@ -135,15 +136,4 @@ fn read_deleted<S: Source>(alloc: Global, deleted: Option<S>) -> Result<Vec<Stri
         Some(ids) => ids.read(alloc),
         None => Ok(Vec::new(alloc)),
     }
-}
-
-/// The same texts, in order. It fails only where it is out of memory.
-fn copy_texts(alloc: Global, texts: &[String]) -> Result<Vec<String>, AllocError>
-    ensures { IfOk result (λ v. text_bytes_of v ≡ map string_bytes texts.now) }
-{
-    let mut copies = Vec::with_capacity(alloc, texts.len())?;
-    for text in texts {
-        copies.push(String::from_str(alloc, text)?)?;
-    }
-    Ok(copies)
 }

@@ -47,7 +47,7 @@ pub fn read_add(alloc: Global, args: &[Vec<u8>]) -> Result<(StreamAddOptions, us
     Ok((options, args.len() - rest.len()))
 }
 
-// The options, and the arguments behind them.
+/// The options, and the arguments behind them.
 fn add_at(alloc: Global, args: &[Vec<u8>]) -> Result<(StreamAddOptions, &[Vec<u8>]), SentenceError>
     ensures { Gives (λ x. (x.0, arguments x.1.now)) result (reading.add_at (arguments args.now)) }
 {
@@ -62,7 +62,7 @@ fn add_at(alloc: Global, args: &[Vec<u8>]) -> Result<(StreamAddOptions, &[Vec<u8
     Ok((with_strategy(options, strategy), rest))
 }
 
-// `[idempotency]`, and the arguments behind it.
+/// `[idempotency]`, and the arguments behind it.
 fn idempotency_clause(
     alloc: Global,
     args: &[Vec<u8>],
@@ -77,7 +77,7 @@ fn idempotency_clause(
     Ok((Some(mode), rest))
 }
 
-// `IDMP producer idempotent` or `IDMPAUTO producer`, and the arguments behind it.
+/// `IDMP producer idempotent` or `IDMPAUTO producer`, and the arguments behind it.
 fn idempotency_at(
     alloc: Global,
     args: &[Vec<u8>],
@@ -115,7 +115,7 @@ fn idempotency_at(
     }
 }
 
-// `[strategy]`, and the arguments behind it.
+/// `[strategy]`, and the arguments behind it.
 fn strategy_clause(
     alloc: Global,
     args: &[Vec<u8>],
@@ -130,7 +130,7 @@ fn strategy_clause(
     Ok((Some(strategy), rest))
 }
 
-// The flag, where it is wanted.
+/// The flag, where it is wanted.
 fn with_nomkstream(options: StreamAddOptions, wanted: bool) -> StreamAddOptions
     requires { options.nomkstream ≡ false }
     ensures { result ≡ record options { nomkstream = wanted } }
@@ -142,7 +142,7 @@ fn with_nomkstream(options: StreamAddOptions, wanted: bool) -> StreamAddOptions
     }
 }
 
-// The policy, where there is one.
+/// The policy, where there is one.
 fn with_policy(options: StreamAddOptions, policy: Option<StreamDeletionPolicy>) -> StreamAddOptions
     requires { options.policy ≡ None }
     ensures { result ≡ record options { policy = option_map policy_of policy } }
@@ -153,7 +153,7 @@ fn with_policy(options: StreamAddOptions, policy: Option<StreamDeletionPolicy>) 
     }
 }
 
-// The way to recognize a duplicate, where there is one.
+/// The way to recognize a duplicate, where there is one.
 fn with_idempotency(
     options: StreamAddOptions,
     mode: Option<StreamIdempotencyMode>,
@@ -173,7 +173,7 @@ fn with_idempotency(
     }
 }
 
-// The strategy, where there is one.
+/// The strategy, where there is one.
 fn with_strategy(
     options: StreamAddOptions,
     strategy: Option<StreamTrimStrategy>,

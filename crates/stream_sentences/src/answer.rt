@@ -18,7 +18,7 @@ use crate::trim::read_trim;
 use itoa::Buffer;
 use std::alloc::Global;
 
-// What goes out for a line.
+/// What goes out for a line.
 #[derive(Clone, Copy)]
 pub(crate) enum Reply {
     Unknown,
@@ -26,7 +26,7 @@ pub(crate) enum Reply {
     Count(usize),
 }
 
-// The answer to all of the input.
+/// The answer to all of the input.
 pub(crate) fn answer_to(alloc: Global, input: &[u8]) -> Result<Vec<u8>, RunError>
     ensures ok { IfOk result (λ answer. IsAnswer input.now answer.items) }
     ensures err { IfErr result (λ e. e ≡ RunError.Memory) }
@@ -42,7 +42,7 @@ pub(crate) fn answer_to(alloc: Global, input: &[u8]) -> Result<Vec<u8>, RunError
     Ok(answer)
 }
 
-// The reply to a line.
+/// The reply to a line.
 fn reply_to_line(alloc: Global, line: &[u8]) -> Result<Reply, RunError>
     ensures ok { IfOk result (λ reply. IsReply (parts_of line.now) (reply_of reply)) }
     ensures err { IfErr result (λ e. e ≡ RunError.Memory) }
@@ -51,7 +51,7 @@ fn reply_to_line(alloc: Global, line: &[u8]) -> Result<Reply, RunError>
     reply_to(alloc, word, &args)
 }
 
-// The reply to the arguments behind a type word.
+/// The reply to the arguments behind a type word.
 fn reply_to(alloc: Global, word: &[u8], args: &[Vec<u8>]) -> Result<Reply, RunError>
     ensures ok { IfOk result (λ reply.
         IsReplyOf (type_of word.now) (arguments args.now) (reply_of reply)) }
@@ -76,7 +76,7 @@ fn reply_to(alloc: Global, word: &[u8], args: &[Vec<u8>]) -> Result<Reply, RunEr
     }
 }
 
-// The reply where a reader answered this.
+/// The reply where a reader answered this.
 fn reply_of_reading<T: Drop>(reading: Result<(T, usize), SentenceError>) -> Result<Reply, RunError>
     ensures { result ≡ verdict_of reading }
 {
@@ -87,7 +87,7 @@ fn reply_of_reading<T: Drop>(reading: Result<(T, usize), SentenceError>) -> Resu
     }
 }
 
-// Writes the line of a reply behind the answer so far.
+/// Writes the line of a reply behind the answer so far.
 fn push_reply(answer: &mut Vec<u8>, reply: Reply) -> Result<(), RunError>
     ensures ok { OnOk result (answer.new.items ≡ answer.old.items ++ reply_line (reply_of reply)) }
     ensures err { IfErr result (λ e. e ≡ RunError.Memory) }

@@ -31,7 +31,7 @@ pub fn read_autoclaim(args: &[Vec<u8>]) -> Result<(StreamAutoClaimOptions, usize
     Ok((options, args.len() - rest.len()))
 }
 
-// The options, and the arguments behind them.
+/// The options, and the arguments behind them.
 fn autoclaim_at(args: &[Vec<u8>]) -> Option<(StreamAutoClaimOptions, &[Vec<u8>])>
     ensures { option_map (λ x. (x.0, arguments x.1.now)) result
         ≡ reading.autoclaim_at (arguments args.now) }

@@ -33,7 +33,7 @@ pub fn read_claim(
     Ok((options, args.len() - rest.len()))
 }
 
-// The options, and the arguments behind them.
+/// The options, and the arguments behind them.
 fn claim_at(
     alloc: Global,
     args: &[Vec<u8>],
@@ -62,7 +62,7 @@ fn claim_at(
     Ok((with_lastid(with_justid(options, justid), lastid), rest))
 }
 
-// The idle time, where there is one.
+/// The idle time, where there is one.
 fn with_idle(options: StreamClaimOptions, idle: Option<usize>) -> StreamClaimOptions
     requires { options.idle ≡ None }
     ensures { result ≡ record options { idle = idle } }
@@ -73,7 +73,7 @@ fn with_idle(options: StreamClaimOptions, idle: Option<usize>) -> StreamClaimOpt
     }
 }
 
-// The time of delivery, where there is one.
+/// The time of delivery, where there is one.
 fn with_time(options: StreamClaimOptions, time: Option<usize>) -> StreamClaimOptions
     requires { options.time ≡ None }
     ensures { result ≡ record options { time = time } }
@@ -84,7 +84,7 @@ fn with_time(options: StreamClaimOptions, time: Option<usize>) -> StreamClaimOpt
     }
 }
 
-// The number of deliveries, where there is one.
+/// The number of deliveries, where there is one.
 fn with_retry(options: StreamClaimOptions, retry: Option<usize>) -> StreamClaimOptions
     requires { options.retry ≡ None }
     ensures { result ≡ record options { retry = retry } }
@@ -95,7 +95,7 @@ fn with_retry(options: StreamClaimOptions, retry: Option<usize>) -> StreamClaimO
     }
 }
 
-// The flag, where it is wanted.
+/// The flag, where it is wanted.
 fn with_force(options: StreamClaimOptions, wanted: bool) -> StreamClaimOptions
     requires { options.force ≡ false }
     ensures { result ≡ record options { force = wanted } }
@@ -107,7 +107,7 @@ fn with_force(options: StreamClaimOptions, wanted: bool) -> StreamClaimOptions
     }
 }
 
-// The flag, where it is wanted.
+/// The flag, where it is wanted.
 fn with_justid(options: StreamClaimOptions, wanted: bool) -> StreamClaimOptions
     requires { options.justid ≡ false }
     ensures { result ≡ record options { justid = wanted } }
@@ -119,7 +119,7 @@ fn with_justid(options: StreamClaimOptions, wanted: bool) -> StreamClaimOptions
     }
 }
 
-// The id, where there is one.
+/// The id, where there is one.
 fn with_lastid(options: StreamClaimOptions, lastid: Option<String>) -> StreamClaimOptions
     requires { options.lastid ≡ None }
     ensures { result ≡ record options { lastid = option_map string_bytes lastid } }

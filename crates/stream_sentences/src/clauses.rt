@@ -8,7 +8,7 @@ use crate::error::SentenceError;
 use crate::values::{number_in, text_in};
 use std::alloc::Global;
 
-// `[word n]`, and the arguments behind it; None where no number follows the word.
+/// `[word n]`, and the arguments behind it; None where no number follows the word.
 pub(crate) fn number_clause<'a>(
     word: &str,
     args: &'a [Vec<u8>],
@@ -28,7 +28,7 @@ pub(crate) fn number_clause<'a>(
     }
 }
 
-// `[word]`, and the arguments behind it.
+/// `[word]`, and the arguments behind it.
 pub(crate) fn flag_clause<'a>(word: &str, args: &'a [Vec<u8>]) -> Option<(bool, &'a [Vec<u8>])>
     ensures { option_map (λ x. (x.0, arguments x.1.now)) result
         ≡ reading.flag_clause word.now (arguments args.now) }
@@ -39,7 +39,7 @@ pub(crate) fn flag_clause<'a>(word: &str, args: &'a [Vec<u8>]) -> Option<(bool, 
     }
 }
 
-// `[word text]`, and the arguments behind it.
+/// `[word text]`, and the arguments behind it.
 pub(crate) fn text_clause<'a>(
     alloc: Global,
     word: &str,

@@ -18,6 +18,7 @@ mod clauses;
 mod config;
 mod device;
 mod error;
+pub mod laws;
 mod lines;
 mod nack;
 mod pieces;

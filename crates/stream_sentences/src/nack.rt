@@ -30,7 +30,7 @@ pub fn read_nack(args: &[Vec<u8>]) -> Result<(StreamNackOptions, usize), Sentenc
     Ok((options, args.len() - rest.len()))
 }
 
-// The options, and the arguments behind them.
+/// The options, and the arguments behind them.
 fn nack_at(args: &[Vec<u8>]) -> Option<(StreamNackOptions, &[Vec<u8>])>
     ensures { option_map (λ x. (x.0, arguments x.1.now)) result
         ≡ reading.nack_at (arguments args.now) }
@@ -44,7 +44,7 @@ fn nack_at(args: &[Vec<u8>]) -> Option<(StreamNackOptions, &[Vec<u8>])>
     }
 }
 
-// The mode of a word.
+/// The mode of a word.
 fn mode_in(arg: &[u8]) -> Option<StreamNackMode>
     ensures { option_map view.nack_of result ≡ reading.nack_of arg.now }
 {

@@ -7,7 +7,7 @@ ghost use Rattle.stream_sentences.specs.Split.{arguments};
 
 use stream_options::StreamDeletionPolicy;
 
-// `[policy]`, and the arguments behind it.
+/// `[policy]`, and the arguments behind it.
 #[tactic(auto, using(crate::proofs::PolicyLemmas::policy_there, crate::proofs::PolicyLemmas::policy_missing))]
 pub(crate) fn policy_clause(args: &[Vec<u8>]) -> (Option<StreamDeletionPolicy>, &[Vec<u8>])
     ensures { reading.policy_clause (arguments args.now)
@@ -22,7 +22,7 @@ pub(crate) fn policy_clause(args: &[Vec<u8>]) -> (Option<StreamDeletionPolicy>, 
     }
 }
 
-// The policy of a word.
+/// The policy of a word.
 fn policy_in(arg: &[u8]) -> Option<StreamDeletionPolicy>
     ensures { option_map view.policy_of result ≡ reading.policy_of arg.now }
 {

@@ -33,7 +33,7 @@ pub fn read_read(
     Ok((options, args.len() - rest.len()))
 }
 
-// The options, and the arguments behind them.
+/// The options, and the arguments behind them.
 #[tactic(auto, using(crate::proofs::ReadLemmas::forms))]
 fn read_at(
     alloc: Global,
@@ -51,7 +51,7 @@ fn read_at(
     }
 }
 
-// `GROUP g c [BLOCK n] [COUNT n] [NOACK] [CLAIM n]`, and the arguments behind it.
+/// `GROUP g c [BLOCK n] [COUNT n] [NOACK] [CLAIM n]`, and the arguments behind it.
 fn grouped_at(
     alloc: Global,
     args: &[Vec<u8>],
@@ -86,7 +86,7 @@ fn grouped_at(
     }
 }
 
-// `[BLOCK n] [COUNT n]`, and the arguments behind it.
+/// `[BLOCK n] [COUNT n]`, and the arguments behind it.
 fn ungrouped_at(args: &[Vec<u8>]) -> Option<(StreamReadOptions, &[Vec<u8>])>
     ensures { option_map (λ x. (x.0, arguments x.1.now)) result
         ≡ reading.reading_as reading.ungrouped_with reading.ungrouped_at (arguments args.now) }
@@ -97,7 +97,7 @@ fn ungrouped_at(args: &[Vec<u8>]) -> Option<(StreamReadOptions, &[Vec<u8>])>
     Some((options, rest))
 }
 
-// Options with these names alone.
+/// Options with these names alone.
 fn for_group(
     alloc: Global,
     group: &[u8],
@@ -112,7 +112,7 @@ fn for_group(
     Ok(StreamReadOptions::default().group(alloc, group, consumer)?)
 }
 
-// The time to block, where there is one.
+/// The time to block, where there is one.
 fn with_block(options: StreamReadOptions, block: Option<usize>) -> StreamReadOptions
     requires { options.block ≡ None }
     ensures { result ≡ record options { block = block } }
@@ -123,7 +123,7 @@ fn with_block(options: StreamReadOptions, block: Option<usize>) -> StreamReadOpt
     }
 }
 
-// The number of entries, where there is one.
+/// The number of entries, where there is one.
 fn with_count(options: StreamReadOptions, count: Option<usize>) -> StreamReadOptions
     requires { options.count ≡ None }
     ensures { result ≡ record options { count = count } }
@@ -134,7 +134,7 @@ fn with_count(options: StreamReadOptions, count: Option<usize>) -> StreamReadOpt
     }
 }
 
-// The flag, where it is wanted.
+/// The flag, where it is wanted.
 fn with_noack(options: StreamReadOptions, wanted: bool) -> StreamReadOptions
     requires { options.noack ≡ false }
     ensures { result ≡ record options { noack = wanted } }
@@ -142,7 +142,7 @@ fn with_noack(options: StreamReadOptions, wanted: bool) -> StreamReadOptions
     if wanted { options.noack() } else { options }
 }
 
-// The time after which entries are claimed, where there is one.
+/// The time after which entries are claimed, where there is one.
 fn with_claim(options: StreamReadOptions, claim: Option<usize>) -> StreamReadOptions
     requires { options.claim ≡ None }
     ensures { result ≡ record options { claim = claim } }

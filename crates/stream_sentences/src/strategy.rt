@@ -9,7 +9,7 @@ use crate::values::{mode_in, number_in, text_in};
 use std::alloc::Global;
 use stream_options::StreamTrimStrategy;
 
-// A strategy, and the arguments behind it.
+/// A strategy, and the arguments behind it.
 #[tactic(auto, using(crate::proofs::StrategyLemmas::limits))]
 pub(crate) fn strategy_at(
     alloc: Global,
@@ -28,7 +28,7 @@ pub(crate) fn strategy_at(
     }
 }
 
-// `MAXLEN mode n` or `MINID mode id` as a strategy without a limit, and the arguments behind it.
+/// `MAXLEN mode n` or `MINID mode id` as a strategy without a limit, and the arguments behind it.
 fn bound_at(
     alloc: Global,
     args: &[Vec<u8>],

@@ -37,7 +37,7 @@ pub fn read_trim(
     Ok((options, args.len() - rest.len()))
 }
 
-// The options, and the arguments behind them.
+/// The options, and the arguments behind them.
 fn trim_at(
     alloc: Global,
     args: &[Vec<u8>],
@@ -49,7 +49,7 @@ fn trim_at(
     Ok((with_policy(trim_by(strategy), policy), rest))
 }
 
-// The options of this strategy.
+/// The options of this strategy.
 fn trim_by(strategy: StreamTrimStrategy) -> StreamTrimOptions
     ensures { result ≡ record { strategy = strategy_of strategy; policy = None } }
 {
@@ -63,7 +63,7 @@ fn trim_by(strategy: StreamTrimStrategy) -> StreamTrimOptions
     }
 }
 
-// The limit, where there is one.
+/// The limit, where there is one.
 fn with_limit(options: StreamTrimOptions, limit: Option<usize>) -> StreamTrimOptions
     requires { options.strategy.limit ≡ None }
     ensures { result ≡ record options { strategy = record options.strategy { limit = limit } } }
@@ -74,7 +74,7 @@ fn with_limit(options: StreamTrimOptions, limit: Option<usize>) -> StreamTrimOpt
     }
 }
 
-// The policy, where there is one.
+/// The policy, where there is one.
 fn with_policy(
     options: StreamTrimOptions,
     policy: Option<StreamDeletionPolicy>,

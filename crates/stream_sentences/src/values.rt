@@ -11,7 +11,7 @@ use itoa::Buffer;
 use std::alloc::Global;
 use stream_options::StreamTrimmingMode;
 
-// The number that the bytes write in decimal, with no sign and no leading zero.
+/// The number that the bytes write in decimal, with no sign and no leading zero.
 pub(crate) fn number_in(bytes: &[u8]) -> Option<usize>
     ensures { result ≡ number_of bytes.now }
 {
@@ -29,7 +29,7 @@ pub(crate) fn number_in(bytes: &[u8]) -> Option<usize>
     }
 }
 
-// The text that the bytes are.
+/// The text that the bytes are.
 pub(crate) fn text_in(alloc: Global, bytes: &[u8]) -> Result<String, SentenceError>
     ensures { Gives string_bytes result (text_of bytes.now) }
 {
@@ -39,7 +39,7 @@ pub(crate) fn text_in(alloc: Global, bytes: &[u8]) -> Result<String, SentenceErr
     }
 }
 
-// The mode of a word.
+/// The mode of a word.
 pub(crate) fn mode_in(arg: &[u8]) -> Option<StreamTrimmingMode>
     ensures { option_map view.mode_of result ≡ mode_of arg.now }
 {
@@ -52,7 +52,7 @@ pub(crate) fn mode_in(arg: &[u8]) -> Option<StreamTrimmingMode>
     }
 }
 
-// Whether the first argument is one of the words.
+/// Whether the first argument is one of the words.
 pub(crate) fn begins_with(words: &[&str], args: &[Vec<u8>]) -> bool
     ensures { result ≡ begins (map (λ word. word.now) words.now) (arguments args.now) }
 {
@@ -62,7 +62,7 @@ pub(crate) fn begins_with(words: &[&str], args: &[Vec<u8>]) -> bool
     }
 }
 
-// Whether the argument is one of the words.
+/// Whether the argument is one of the words.
 fn is_among(words: &[&str], arg: &[u8]) -> bool
     ensures { result ≡ among (map (λ word. word.now) words.now) arg.now }
 {

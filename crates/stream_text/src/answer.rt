@@ -47,3 +47,6 @@ fn compared_forms(alloc: Global, owned: String, lent: &str) -> Result<String, Al
         format!(in alloc; "{owned} owned, {lent} lent")
     }
 }
+
+#[cfg(test)]
+mod tests;

@@ -1,6 +1,7 @@
 //! Redis values, stream options and replies as lines of text: a notation that values are read from
 //! (`notation`), the printed forms of options and replies (`form`, `options`, `replies`), and the
 //! printed answer of both readings (`answer`), for tests and for programs that compare answers.
+//! `laws` says what `==` of its errors tells.
 //!
 //! ```text
 //! let reply = read_value(alloc, "Array[Array[1-0, Array[f, v]]]")?;
@@ -11,6 +12,7 @@
 
 pub mod answer;
 pub mod form;
+pub mod laws;
 pub mod notation;
 pub mod options;
 pub mod replies;

@@ -1,4 +1,5 @@
-//! Each kind of value, bulk strings in each spelling, and texts that are no value.
+//! Each kind of value, bulk strings in each spelling, texts that are no value, and why.
+use crate::laws::equal_notation_errors;
 use crate::notation::{NotationError, read_value};
 use redis_resp::Value;
 use std::alloc::{AllocError, Global};
@@ -31,8 +32,22 @@ fn plain_kinds(alloc: Global) -> Result<Vec<(&'static str, Value)>, AllocError> 
                 text: text(alloc, "two words")?,
             }
         ),
+        (
+            "Verbatim(, word)",
+            Value::VerbatimString {
+                format: String::new(alloc),
+                text: text(alloc, "word")?,
+            }
+        ),
+        (
+            "Verbatim(txt,)",
+            Value::VerbatimString {
+                format: text(alloc, "txt")?,
+                text: String::new(alloc),
+            }
+        ),
         ("Array[]", Value::Array(Vec::new(alloc))),
-        ("Set[]", Value::Set(Vec::new(alloc))),
+        ("\tSet [ ] ", Value::Set(Vec::new(alloc))),
         ("Map[]", Value::Map(Vec::new(alloc))),
     ]?)
 }
@@ -89,13 +104,15 @@ fn each_kind_is_read(rt: HostRuntime) -> Result<(), Fail> {
 
 #[test]
 fn bulk_strings_are_read(rt: HostRuntime) -> Result<(), Fail> {
-    let table: [(&str, &[u8]); 8] = [
+    let table: [(&str, &[u8]); 10] = [
         ("1-0", b"1-0"),
         (" \t+2 ", b"+2"),
         ("\"\"", b""),
         ("\"another test\"", b"another test"),
         ("\"Nil\"", b"Nil"),
         ("\"a\\\"b\\\\c\\n\\t\\x7f\\xFf\"", b"a\"b\\c\n\t\x7f\xff"),
+        ("\"café\"", b"caf\xc3\xa9"),
+        ("café", b"caf\xc3\xa9"),
         ("Bytes(255, 0)", b"\xff\0"),
         ("Bytes()", b""),
     ];
@@ -113,15 +130,28 @@ fn bulk_strings_are_read(rt: HostRuntime) -> Result<(), Fail> {
 fn other_texts_are_refused(rt: HostRuntime) {
     let table = [
         ("", NotationError::NoWord),
+        ("\x7f", NotationError::NoWord),
+        ("\n", NotationError::NoWord),
+        ("Array[a,]", NotationError::NoWord),
+        ("Simple(\x7f)", NotationError::NoWord),
+        ("word\x7f", NotationError::TextBehindValue),
+        ("word\\", NotationError::TextBehindValue),
+        ("word\"\"", NotationError::TextBehindValue),
         ("Array[1-0", NotationError::NoMark(',')),
         ("Map[1-0]", NotationError::NoMark(':')),
+        ("Verbatim(txt)", NotationError::NoMark(',')),
+        ("Set", NotationError::NoMark('[')),
+        ("Boolean true", NotationError::NoMark('(')),
         ("Simple(Bytes(255))", NotationError::NoMark(')')),
         ("Simple(\"\\xff\")", NotationError::NotUtf8),
         ("Int five", NotationError::NotNumber),
+        ("Int 9223372036854775808", NotationError::NotNumber),
         ("Bytes(256)", NotationError::NotNumber),
+        ("Bytes(-1)", NotationError::NotNumber),
         ("Boolean(yes)", NotationError::NotBoolean),
         ("\"open", NotationError::Unclosed),
         ("\"\\x1\"", NotationError::UnknownEscape),
+        ("\"\\r\"", NotationError::UnknownEscape),
         ("Nil Nil", NotationError::TextBehindValue),
     ];
     for (text, error) in &table {
@@ -129,5 +159,40 @@ fn other_texts_are_refused(rt: HostRuntime) {
             Ok(value) => assert!(rt; false, "{text} is {value:?}"),
             Err(answered) => assert!(rt; answered == *error, "{text}: {answered:?}"),
         }
+    }
+}
+
+#[test]
+fn refusals_are_told(rt: HostRuntime) -> Result<(), Fail> {
+    let table = [
+        (NotationError::NoMark(':'), "no `:` where one has to stand"),
+        (NotationError::NoWord, "no word where one has to stand"),
+        (NotationError::NotNumber, "not a number"),
+        (NotationError::NotBoolean, "neither true nor false"),
+        (NotationError::NotUtf8, "not UTF-8"),
+        (NotationError::Unclosed, "an unclosed quote"),
+        (NotationError::UnknownEscape, "an unknown escape"),
+        (NotationError::TextBehindValue, "text behind the value"),
+        (NotationError::Memory, "out of memory"),
+    ];
+    for (error, text) in &table {
+        assert_eq!(rt; format!(in rt.alloc(); "{error}")?.as_str(), *text);
+    }
+    Ok(())
+}
+
+#[test]
+fn equal_refusals_are_told(rt: HostRuntime) {
+    let table = [
+        (NotationError::NoMark(','), NotationError::NoMark(','), true),
+        (
+            NotationError::NoMark(','),
+            NotationError::NoMark(':'),
+            false,
+        ),
+        (NotationError::NoWord, NotationError::NotNumber, false),
+    ];
+    for (a, b, same) in &table {
+        assert_eq!(rt; equal_notation_errors(a, b), *same, "{a:?} and {b:?}");
     }
 }
