@@ -1,8 +1,8 @@
 //! Replies from the notation to their printed forms, by both calls.
-mod copied;
+mod copies;
 mod forms;
 mod info;
-pub(crate) mod many;
+mod many;
 mod pending;
 mod rows;
 mod status;

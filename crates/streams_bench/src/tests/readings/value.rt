@@ -1,6 +1,6 @@
 //! Values as they are: which differ, what is told of them without memory, and copies.
 use crate::tests::readings::{COLLECTIONS, check_read};
-use crate::tests::replies::many::line_of;
+use crate::tests::{Line, line_of};
 use redis_resp::{Value, is_fields, is_nil, is_text, is_usize};
 use std::test::Fail;
 use stream_text::read_value;
@@ -84,10 +84,7 @@ fn what_a_value_reads_as_is_told(rt: HostRuntime) -> Result<(), Fail> {
     Ok(())
 }
 
-/// What stands before the items of a value, one item, what stands between two, and behind them.
-type Kind<'a> = (&'a str, &'a str, &'a str, &'a str);
-
-const KINDS: [Kind<'static>; 8] = [
+const KINDS: [Line<'static>; 8] = [
     ("\"", "x", "", "\""),
     ("Simple(\"", "x", "", "\")"),
     ("Verbatim(txt, \"", "x", "", "\")"),

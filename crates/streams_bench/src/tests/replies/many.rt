@@ -1,7 +1,7 @@
 //! Replies of up to 10,000 items, with ample memory.
 use crate::tests::replies::check_value;
-use crate::tests::replies::copied::Copied;
-use redis_resp::{FromRedisValue, Value, from_redis_value};
+use crate::tests::{Line, line_of};
+use redis_resp::FromRedisValue;
 use redis_streams::{
     StreamAutoClaimReply, StreamClaimReply, StreamInfoConsumersReply, StreamInfoGroupsReply,
     StreamPendingCountReply, StreamPendingReply, StreamRangeReply, StreamReadReply,
@@ -11,55 +11,16 @@ use std::process::Abort;
 use std::test::Fail;
 use stream_text::{PrintedForm, read_value};
 
-/// A line of items: what stands before them, one item, what stands between each two, and behind them.
-/// Each `$` in an item is its number, from 10,000 on, so that all numbers have five digits.
-type Line<'a> = (&'a str, &'a str, &'a str, &'a str);
-
-pub(crate) fn line_of(alloc: Global, line: Line<'_>, count: usize) -> Result<String, AllocError> {
-    let (before, item, between, behind) = line;
-    let mut text = String::from_str(alloc, before)?;
-    for number in 0..count {
-        if number > 0 {
-            text.push_str(between)?;
-        }
-        for letter in item.chars() {
-            if letter == '$' {
-                write!(text, "{}", number.saturating_add(10_000))?;
-            } else {
-                text.push(letter)?;
-            }
-        }
-    }
-    text.push_str(behind)?;
-    Ok(text)
-}
-
-/// The value reads as a record of this printed form, and so does a copy of the record.
-fn check_copied<T: FromRedisValue + PrintedForm + Copied>(
-    rt: &(impl AllocGlobal + Abort),
-    value: Value,
-    printed: &str,
-) -> Result<(), Fail> {
-    let copy = value.try_clone(rt.alloc())?;
-    check_value::<T>(rt, value, printed)?;
-    let Ok(record) = from_redis_value::<T>(rt.alloc(), copy) else {
-        return Err("refused".into());
-    };
-    let copy = record.copied(rt.alloc())?.printed(rt.alloc())?;
-    assert!(rt; copy.as_str() == printed, "copy: {copy}, not {printed}");
-    Ok(())
-}
-
 /// So many items in the notation are read as so many items in the printed form, for up to 64 items,
-/// 1,000 and 10,000, and copied; `empty` is the printed form of none.
-fn check_many<T: FromRedisValue + PrintedForm + Copied>(
+/// 1,000 and 10,000; `empty` is the printed form of none.
+fn check_many<T: FromRedisValue + PrintedForm>(
     rt: &(impl AllocGlobal + Abort),
     notation: Line<'_>,
     printed: Line<'_>,
     empty: &str,
 ) -> Result<(), Fail> {
     let alloc = rt.alloc();
-    check_copied::<T>(rt, read_value(alloc, &line_of(alloc, notation, 0)?)?, empty)?;
+    check_value::<T>(rt, read_value(alloc, &line_of(alloc, notation, 0)?)?, empty)?;
     for step in 1..67 {
         let count = match step {
             65 => 1_000,
@@ -67,7 +28,7 @@ fn check_many<T: FromRedisValue + PrintedForm + Copied>(
             count => count,
         };
         let value = read_value(alloc, &line_of(alloc, notation, count)?)?;
-        check_copied::<T>(rt, value, &line_of(alloc, printed, count)?)?;
+        check_value::<T>(rt, value, &line_of(alloc, printed, count)?)?;
     }
     Ok(())
 }
