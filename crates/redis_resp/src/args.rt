@@ -5,8 +5,6 @@ mod fixed_args;
 mod law;
 mod number;
 mod raw_bytes;
-#[cfg(test)]
-mod tests;
 mod text;
 mod to_redis_args;
 mod tuple;

@@ -17,6 +17,3 @@ pub use options::{
     StreamDeletionPolicy, StreamIdempotencyMode, StreamMaxlen, StreamNackMode, StreamNackOptions,
     StreamReadOptions, StreamTrimOptions, StreamTrimStrategy, StreamTrimmingMode,
 };
-
-#[cfg(test)]
-mod tests;

@@ -17,6 +17,3 @@ pub fn equal_run_errors(a: RunError, b: RunError) -> bool
 {
     a == b
 }
-
-#[cfg(test)]
-mod tests;

@@ -39,6 +39,3 @@ pub use nack::read_nack;
 pub use read::read_read;
 pub use run_error::RunError;
 pub use trim::read_trim;
-
-#[cfg(test)]
-mod tests;

@@ -3,9 +3,6 @@ ghost use Rattle.std.specs.Prelude.{◌≡◌, ◌≢◌, IfErr, OnOk, IfSome};
 ghost use Rattle.std.specs.Io.KnownBytes.{Keeps, IsAtEnd};
 ghost use Rattle.stream_sentences.specs.Told.{WroteAnswer, WroteAnswerBeginning};
 
-#[cfg(test)]
-mod tests;
-
 use crate::answer::answer_to;
 use crate::device::{read_all, write_whole};
 use crate::run_error::RunError;

@@ -47,6 +47,3 @@ fn compared_forms(alloc: Global, owned: String, lent: &str) -> Result<String, Al
         format!(in alloc; "{owned} owned, {lent} lent")
     }
 }
-
-#[cfg(test)]
-mod tests;

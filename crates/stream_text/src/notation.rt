@@ -18,8 +18,6 @@ ghost use Rattle.std.specs.Prelude.{◌<◌, IfOk, length};
 mod error;
 mod quoted;
 mod scan;
-#[cfg(test)]
-mod tests;
 mod value;
 
 pub use error::NotationError;

@@ -1,44 +1,64 @@
-//! Replies from the notation to their printed forms, by both calls.
-mod copies;
-mod forms;
-mod info;
-mod many;
-mod pending;
-mod rows;
-mod status;
-mod vectors;
-
-use redis_resp::{FromRedisValue, Value, from_redis_value, from_redis_value_ref};
+//! The reply vectors of the program.
+use crate::vectors::{ReplyVector, autoclaim, info, pending, rows, status};
+use redis_resp::{FromRedisValue, from_redis_value_ref};
+use redis_streams::{
+    StreamAutoClaimReply, StreamClaimReply, StreamInfoConsumersReply, StreamInfoGroupsReply,
+    StreamInfoStreamReply, StreamInfoStreamReplyWithIdempotency, StreamPendingCountReply,
+    StreamPendingReply, StreamRangeReply, StreamReadReply, XAckDelStatusCode, XDelExStatusCode,
+};
 use std::process::Abort;
 use std::test::Fail;
-use stream_text::{PrintedForm, read_value};
+use stream_text::{PrintedForm, both_answers, read_value};
 
-/// Each value of the table has the printed form beside it.
-fn check<T: FromRedisValue + PrintedForm>(
+/// Both calls answer each vector with its stored text, and leave the borrowed value as it was.
+fn check_vectors<T: FromRedisValue + PrintedForm>(
     rt: &(impl AllocGlobal + Abort),
-    table: &[(&str, &str)],
+    vectors: &[ReplyVector<'_>],
 ) -> Result<(), Fail> {
-    for (notation, printed) in table {
-        check_value::<T>(rt, read_value(rt.alloc(), notation)?, printed)?;
+    for (_name, notation, stored) in vectors {
+        let value = read_value(rt.alloc(), notation)?;
+        let copy = value.try_clone(rt.alloc())?;
+        let borrowed = from_redis_value_ref::<T>(rt.alloc(), &value).printed(rt.alloc())?;
+        assert!(rt;
+            borrowed.as_str() == *stored && value == copy,
+            "{notation}: {borrowed}"
+        );
+        let both = both_answers::<T>(rt.alloc(), value)?;
+        assert!(rt; both.as_str() == *stored, "{notation}: {both}");
     }
     Ok(())
 }
 
-/// What both calls answer of the value has this printed form, and the borrowed value stays equal to
-/// a copy of it.
-fn check_value<T: FromRedisValue + PrintedForm>(
-    rt: &(impl AllocGlobal + Abort),
-    value: Value,
-    printed: &str,
-) -> Result<(), Fail> {
-    let copy = value.try_clone(rt.alloc())?;
-    let borrowed = from_redis_value_ref::<T>(rt.alloc(), &value).printed(rt.alloc())?;
-    assert!(rt;
-        borrowed.as_str() == printed,
-        "borrowed: {borrowed}, not {printed}"
-    );
-    assert!(rt; value == copy, "the value that gives {printed} was changed");
-    let owned = from_redis_value::<T>(rt.alloc(), value).printed(rt.alloc())?;
-    assert!(rt; owned.as_str() == printed, "owned: {owned}, not {printed}");
-    Ok(())
+#[test]
+fn vectors_of_rows(rt: HostRuntime) -> Result<(), Fail> {
+    check_vectors::<StreamRangeReply>(&rt, &rows::range_vectors())?;
+    check_vectors::<StreamRangeReply>(&rt, &rows::odd_range_vectors())?;
+    check_vectors::<StreamClaimReply>(&rt, &rows::claim_vectors())?;
+    check_vectors::<StreamReadReply>(&rt, &rows::read_vectors())?;
+    check_vectors::<StreamReadReply>(&rt, &rows::odd_read_vectors())?;
+    check_vectors::<StreamAutoClaimReply>(&rt, &autoclaim::autoclaim_vectors())?;
+    check_vectors::<StreamAutoClaimReply>(&rt, &autoclaim::odd_autoclaim_vectors())
+}
+
+#[test]
+fn vectors_of_pending_entries(rt: HostRuntime) -> Result<(), Fail> {
+    check_vectors::<StreamPendingReply>(&rt, &pending::summary_vectors())?;
+    check_vectors::<StreamPendingCountReply>(&rt, &pending::entry_vectors())?;
+    check_vectors::<StreamPendingCountReply>(&rt, &pending::odd_entry_vectors())
+}
+
+#[test]
+fn vectors_of_information(rt: HostRuntime) -> Result<(), Fail> {
+    check_vectors::<StreamInfoStreamReply>(&rt, &info::stream_vectors())?;
+    check_vectors::<StreamInfoStreamReply>(&rt, &info::odd_stream_vectors())?;
+    check_vectors::<StreamInfoStreamReply>(&rt, &info::radix_tree_vectors())?;
+    check_vectors::<StreamInfoStreamReplyWithIdempotency>(&rt, &info::idempotency_vectors())?;
+    check_vectors::<StreamInfoConsumersReply>(&rt, &info::consumer_vectors())?;
+    check_vectors::<StreamInfoGroupsReply>(&rt, &info::group_vectors())
+}
+
+#[test]
+fn vectors_of_status_codes(rt: HostRuntime) -> Result<(), Fail> {
+    check_vectors::<XDelExStatusCode>(&rt, &status::deletion_vectors())?;
+    check_vectors::<XAckDelStatusCode>(&rt, &status::acknowledgement_vectors())
 }

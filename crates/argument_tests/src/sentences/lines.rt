@@ -1,0 +1,173 @@
+//! Lines, and readers and writers that fail.
+use std::alloc::{AllocError, Global};
+use std::io::{self, ErrorKind, Read, Write};
+use std::test::Fail;
+use stream_sentences::{RunError, run};
+
+// Each kind of line, the last one without LF.
+const LINES: &str = "trim MAXLEN ~ 10 LIMIT 5 x\n\
+trim MAXLEN ~ 10 LIMIT\n\
+trim MAXLEN ~ 010\n\
+trim MINID = LIMIT ACKED\n\
+add * f v\n\
+add LIMIT\n\
+config IDMP-DURATION 86401\n\
+config\n\
+autoclaim COUNT 3 JUSTID\n\
+claim\n\
+read GROUP g c STREAMS s >\n\
+read NOACK\n\
+nack FAIL 1-0\n\
+foo\n\
+\n\
+config IDMP-MAXSIZE 10000 x";
+
+const ANSWER: &str = "ok 5\nno\nno\nok 4\nok 0\nno\nno\nno\nok 3\nok 0\nok 3\nno\nok 1\nunknown\n\
+unknown\nok 2\n";
+
+// It gives its bytes in chunks of at most `size`, and fails where `reads` were made.
+#[derive(Drop)]
+struct Chunks<'a> {
+    bytes: &'a [u8],
+    size: usize,
+    reads: usize,
+}
+
+impl<'a> Read for Chunks<'a> {
+    fn read(&mut self, buffer: &mut [u8]) -> io::Result<usize> {
+        if self.reads == 0 {
+            return Err(io::Error::from(ErrorKind::Interrupted));
+        }
+        self.reads -= 1;
+        let given = self.size.min(self.bytes.len()).min(buffer.len());
+        buffer[..given].copy_from_slice(&self.bytes[..given]);
+        self.bytes = &self.bytes[given..];
+        Ok(given)
+    }
+}
+
+fn chunks_of(text: &str) -> Chunks<'_> {
+    Chunks {
+        bytes: text.as_bytes(),
+        size: 7,
+        reads: usize::MAX,
+    }
+}
+
+// It takes `room` bytes, at most three at a time, and then it fails or takes none.
+#[derive(Drop)]
+struct Page {
+    written: Vec<u8>,
+    room: usize,
+    fails: bool,
+}
+
+impl Write for Page {
+    fn write(&mut self, bytes: &[u8]) -> io::Result<usize> {
+        if self.fails && self.room == 0 {
+            return Err(io::Error::from(ErrorKind::Interrupted));
+        }
+        let taken = bytes.len().min(3).min(self.room);
+        self.room -= taken;
+        match self.written.extend_from_slice(&bytes[..taken]) {
+            Ok(()) => Ok(taken),
+            Err(AllocError) => Err(io::Error::from(ErrorKind::OutOfMemory)),
+        }
+    }
+
+    fn flush(&mut self) -> io::Result<()> {
+        Ok(())
+    }
+}
+
+// An empty page that asks for no more memory up to 128 bytes.
+fn page_of(alloc: Global, room: usize, fails: bool) -> Result<Page, AllocError> {
+    Ok(Page {
+        written: Vec::with_capacity(alloc, 128)?,
+        room,
+        fails,
+    })
+}
+
+#[test]
+fn each_line_is_answered(rt: HostRuntime) -> Result<(), Fail> {
+    let alloc = rt.alloc();
+    for (text, answer) in [
+        (LINES, ANSWER),
+        ("", ""),
+        ("\n", "unknown\n"),
+        (" ", "unknown\n"),
+        ("read GROUP  c x", "ok 3\n"),
+        ("nack  FAIL", "no\n"),
+        ("claim \n", "ok 0\n"),
+        ("claim", "ok 0\n"),
+        ("claim\r\n", "unknown\n"),
+        ("claim\n\nclaim", "ok 0\nunknown\nok 0\n"),
+    ] {
+        let mut written = Vec::new(alloc);
+        assert_eq!(rt; run(alloc, &mut chunks_of(text), &mut written), Ok(()));
+        assert_eq!(rt; written.as_slice(), answer.as_bytes(), "{text:?}");
+    }
+    Ok(())
+}
+
+#[test]
+fn any_bytes_are_arguments(rt: HostRuntime) -> Result<(), Fail> {
+    let alloc = rt.alloc();
+    let mut written = Vec::new(alloc);
+    let bytes = b"trim MINID = \xff\nread GROUP \xff \xfe\n\xff".as_slice();
+    let mut input = Chunks {
+        bytes,
+        size: 1,
+        reads: usize::MAX,
+    };
+    assert_eq!(rt; run(alloc, &mut input, &mut written), Ok(()));
+    assert_eq!(rt; written.as_slice(), b"no\nok 3\nunknown\n".as_slice());
+    Ok(())
+}
+
+#[test]
+fn nothing_is_written_where_a_read_fails(rt: HostRuntime) -> Result<(), Fail> {
+    // the last of these would have found the end
+    for reads in 0..LINES.len().div_ceil(7) + 1 {
+        let mut input = chunks_of(LINES);
+        input.reads = reads;
+        let mut output = page_of(rt.alloc(), ANSWER.len(), true)?;
+        assert_eq!(rt;
+            run(rt.alloc(), &mut input, &mut output),
+            Err(RunError::Read)
+        );
+        assert!(rt; output.written.is_empty(), "after {reads} reads");
+    }
+    Ok(())
+}
+
+#[test]
+fn a_beginning_is_written_where_a_write_fails(rt: HostRuntime) -> Result<(), Fail> {
+    for fails in [false, true] {
+        for room in 0..ANSWER.len() {
+            let mut output = page_of(rt.alloc(), room, fails)?;
+            let answer = run(rt.alloc(), &mut chunks_of(LINES), &mut output);
+            assert_eq!(rt; answer, Err(RunError::Write), "room for {room}");
+            assert_eq!(rt; output.written.as_slice(), &ANSWER.as_bytes()[..room]);
+        }
+        let mut output = page_of(rt.alloc(), ANSWER.len(), fails)?;
+        assert_eq!(rt; run(rt.alloc(), &mut chunks_of(LINES), &mut output), Ok(()));
+        assert_eq!(rt; output.written.as_slice(), ANSWER.as_bytes());
+    }
+    Ok(())
+}
+
+#[test]
+fn refused_memory_writes_nothing(rt: HostRuntime) {
+    let Ok(mut output) = page_of(rt.alloc(), ANSWER.len(), true) else {
+        return;
+    };
+    match run(rt.alloc(), &mut chunks_of(LINES), &mut output) {
+        Ok(()) => assert_eq!(rt; output.written.as_slice(), ANSWER.as_bytes()),
+        Err(error) => {
+            assert_eq!(rt; error, RunError::Memory);
+            assert!(rt; output.written.is_empty());
+        }
+    }
+}

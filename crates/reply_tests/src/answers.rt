@@ -1,0 +1,48 @@
+//! Both readings of a value in one line.
+ghost use Rattle.std.specs.Prelude.{Bool, true, None, codes};
+
+use redis_resp::{FromRedisValue, ParsingError, Value};
+use std::alloc::{AllocError, Global};
+use std::test::Fail;
+use stream_text::{PrintedForm, both_answers};
+
+/// It has no record, and its two readings refuse a value with errors of their own.
+#[derive(Drop)]
+struct Refused;
+
+impl FromRedisValue for Refused {
+    ghost Meaning = { Bool };
+
+    ghost meaning = { λ _. true };
+
+    ghost reading = { λ _. None };
+
+    fn from_redis_value(_alloc: Global, _v: Value) -> Result<Refused, ParsingError> {
+        Err(ParsingError::NotText)
+    }
+
+    fn from_redis_value_ref(_alloc: Global, _v: &Value) -> Result<Refused, ParsingError> {
+        Err(ParsingError::NotNumber)
+    }
+}
+
+impl PrintedForm for Refused {
+    ghost form = { λ _. codes "none" };
+
+    fn print(&self, _alloc: Global, line: &mut String) -> Result<(), AllocError> {
+        line.push_str("none")
+    }
+}
+
+#[test]
+fn both_readings_are_told(rt: HostRuntime) -> Result<(), Fail> {
+    let alloc = rt.alloc();
+    let told = both_answers::<Refused>(alloc, Value::Nil)?;
+    assert_eq!(rt; told.as_str(), "refused 1 owned, refused 2 lent");
+    for (value, line) in [(Value::Int(7), "7"), (Value::Nil, "refused 2")] {
+        assert_eq!(rt; both_answers::<usize>(alloc, value)?.as_str(), line);
+    }
+    let told = both_answers::<String>(alloc, Value::Nil)?;
+    assert_eq!(rt; told.as_str(), "refused 1");
+    Ok(())
+}

@@ -1,0 +1,50 @@
+//! Tests of what is read from a server's values: `redis_resp::value`, `redis_streams` and
+//! `stream_text`, as tables of the notation.
+//!
+//! They stand in a crate of their own, since a check of tests proves the functions of their crate
+//! a second time.
+#![tactic(auto)]
+
+#[cfg(test)]
+mod answers;
+#[cfg(test)]
+mod depth;
+#[cfg(test)]
+mod moved;
+#[cfg(test)]
+mod notation;
+#[cfg(test)]
+mod readings;
+#[cfg(test)]
+mod refusals;
+#[cfg(test)]
+mod replies;
+
+#[cfg(test)]
+use std::alloc::{AllocError, Global};
+
+/// A line of items: what stands before them, one item, what stands between each two, and behind them.
+/// Each `$` in an item is its number, from 10,000 on, so that all numbers have five digits.
+#[cfg(test)]
+type Line<'a> = (&'a str, &'a str, &'a str, &'a str);
+
+/// So many items as a line.
+#[cfg(test)]
+fn line_of(alloc: Global, line: Line<'_>, count: usize) -> Result<String, AllocError> {
+    let (before, item, between, behind) = line;
+    let mut text = String::from_str(alloc, before)?;
+    for number in 0..count {
+        if number > 0 {
+            text.push_str(between)?;
+        }
+        for letter in item.chars() {
+            if letter == '$' {
+                write!(text, "{}", number.saturating_add(10_000))?;
+            } else {
+                text.push(letter)?;
+            }
+        }
+    }
+    text.push_str(behind)?;
+    Ok(text)
+}

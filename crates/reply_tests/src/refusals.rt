@@ -1,0 +1,103 @@
+//! The text of each refusal, and equality, as a caller can prove of it.
+ghost use Rattle.std.specs.Prelude.{◌≡◌, codes};
+ghost use Rattle.redis_resp.specs.declared.value.error.ParsingError.TheVariants.{Refused};
+
+use redis_resp::{ParsingError, Reason, equal_parsing_errors};
+use std::test::Fail;
+
+#[test]
+fn refusals_are_printed(rt: HostRuntime) -> Result<(), Fail> {
+    let table = [
+        (ParsingError::NotText, "not a text"),
+        (ParsingError::NotNumber, "not a number of this type"),
+        (ParsingError::NotList, "not a list"),
+        (ParsingError::NotPairs, "not a list of pairs"),
+        (ParsingError::NotTuple(4), "not an array of 4 items"),
+        (ParsingError::NotArray, "not an array response"),
+        (
+            ParsingError::WrongItemCount(1),
+            "incorrect number of items: 1",
+        ),
+        (
+            ParsingError::WrongClaimedType,
+            "incorrect type of the claimed list",
+        ),
+        (
+            ParsingError::UnknownReadFormat,
+            "could not parse StreamReadReply in any known format",
+        ),
+        (
+            ParsingError::PendingWithoutStart,
+            "non-zero pending expects start id",
+        ),
+        (
+            ParsingError::PendingWithoutEnd,
+            "non-zero pending expects end id",
+        ),
+        (
+            ParsingError::NotPendingRow(3),
+            "cannot parse redis data (3)",
+        ),
+        (
+            ParsingError::UnknownXDelEx(-2),
+            "invalid XDelExStatusCode status code: -2",
+        ),
+        (
+            ParsingError::UnknownXAckDel(0),
+            "invalid XAckDelStatusCode status code: 0",
+        ),
+        (
+            ParsingError::NotXDelEx,
+            "response type not XDelExStatusCode compatible",
+        ),
+        (
+            ParsingError::NotXAckDel,
+            "response type not XAckDelStatusCode compatible",
+        ),
+        (ParsingError::NotBytes, "not a bulk string"),
+        (ParsingError::Memory, "out of memory"),
+        (
+            ParsingError::Refused(Reason::new("an order with no customer")),
+            "an order with no customer",
+        ),
+    ];
+    for (error, text) in table {
+        assert_eq!(rt; format!(in rt.alloc(); "{error}")?.as_str(), text);
+    }
+    Ok(())
+}
+
+/// A type of a user's own says with which text it refuses.
+fn refused() -> ParsingError
+    ensures { result ≡ Refused (codes "no order") }
+{
+    ParsingError::Refused(Reason::new("no order"))
+}
+
+#[test]
+fn equal_refusals_are_told(rt: HostRuntime) {
+    let table = [
+        (ParsingError::NotTuple(2), ParsingError::NotTuple(2), true),
+        (ParsingError::NotTuple(2), ParsingError::NotTuple(4), false),
+        (ParsingError::NotList, ParsingError::NotPairs, false),
+        (
+            refused(),
+            ParsingError::Refused(Reason::new("no order")),
+            true,
+        ),
+        (
+            refused(),
+            ParsingError::Refused(Reason::new("no orders")),
+            false,
+        ),
+        (
+            ParsingError::Refused(Reason::new("out of memory")),
+            ParsingError::Memory,
+            false,
+        ),
+    ];
+    for (a, b, equal) in &table {
+        assert_eq!(rt; equal_parsing_errors(a, b), *equal);
+    }
+    assert_eq!(rt; Reason::new("no order").as_str(), "no order");
+}
