@@ -1,5 +1,5 @@
 -- The answer of an automatic claim that asks for ids alone is read from its parts, and copied.
-use Rattle.std.proofs.Common.{◌≡◌, inl, inr, ℕ, List, [], ◌∷◌, length, map, Option, Some, None, option_and_then, refl, ◌∙◌, ap}
+use Rattle.std.proofs.Common.{◌≡◌, inl, ℕ, List, [], ◌∷◌, length, map, Option, Some, None, option_and_then, refl, ◌∙◌, ap}
 use Rattle.std.specs.Prelude.{MatchOption, String, Vec, string_bytes}
 use Rattle.std.specs.List.{AllZip}
 use Rattle.std.specs.declared.alloc.Global.{Global}
@@ -11,7 +11,7 @@ use Rattle.redis_resp.specs.declared.value.error.ParsingError.{ParsingError}
 use Rattle.redis_resp.specs.declared.value.error.ParsingError.TheVariants.{NotArray, WrongItemCount}
 use Rattle.redis_streams.specs.AutoClaim.{Parts, two_or_three, parts_in, deleted_reading}
 use Rattle.redis_streams.specs.AutoClaimMeaning.{text_bytes_of}
-use Rattle.redis_streams.specs.Refusal.{RefusesDeleted, RefusesParts, RefusesTextIn}
+use Rattle.redis_streams.specs.Refusal.{RefusesTextIn}
 use Rattle.stream_commands.specs.JustId.{justid_of, justid_reading, RefusesIds, RefusesJustId}
 
 module _ (t : Tree) (parts : Parts) (there : parts_in t ≡ Some parts) where

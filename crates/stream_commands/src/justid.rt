@@ -1,9 +1,9 @@
 //! The reply of XAUTOCLAIM where it is asked for ids alone.
-ghost use Rattle.std.specs.Prelude.{◌≡◌, Some, None, IsOk, IfOk, IfErr, length, option_map};
+ghost use Rattle.std.specs.Prelude.{◌≡◌, Some, None, IsOk, IfOk, IfErr, length};
 ghost use Rattle.redis_resp.specs.Refusal.{Refuses};
-ghost use Rattle.redis_streams.specs.AutoClaim.{deleted_reading, parts_in, two_or_three};
-ghost use Rattle.redis_streams.specs.AutoClaimMeaning.{text_bytes_of, trees_of_parts};
-ghost use Rattle.redis_streams.specs.Refusal.{RefusesDeleted, RefusesParts};
+ghost use Rattle.redis_streams.specs.AutoClaim.{parts_in, two_or_three};
+ghost use Rattle.redis_streams.specs.AutoClaimMeaning.{trees_of_parts};
+ghost use Rattle.redis_streams.specs.Refusal.{RefusesParts};
 ghost use Rattle.stream_commands.specs.JustId.{JustId, RefusesJustId, empty_justid, justid_reading};
 ghost use Rattle.stream_commands.specs.JustIdMeaning.{justid_meaning};
 
@@ -83,7 +83,10 @@ fn read_justid<S: Source>(alloc: Global, v: S) -> Result<StreamAutoClaimJustIdRe
 {
     let (next, claimed, deleted) = into_parts(v)?;
     let claimed: Vec<String> = claimed.read(alloc)?;
-    let deleted_ids = read_deleted(alloc, deleted)?;
+    let deleted_ids: Vec<String> = match deleted {
+        Some(ids) => ids.read(alloc)?,
+        None => Vec::new(alloc),
+    };
     let next_stream_id: String = next.read(alloc)?;
     Ok(StreamAutoClaimJustIdReply {
         next_stream_id,
@@ -123,17 +126,4 @@ fn two_or_three_of<S: Source>(mut items: S::Values) -> Result<(S, S, Option<S>),
     };
     let deleted = S::next_value(&mut items);
     Ok((next, claimed, deleted))
-}
-
-/// The deleted ids, and none where the reply has no such item.
-fn read_deleted<S: Source>(alloc: Global, deleted: Option<S>) -> Result<Vec<String>, ParsingError>
-    ensures ok { IfOk result (λ ids. deleted_reading (option_map S.seen deleted)
-        ≡ Some (text_bytes_of ids)) }
-    ensures err { IfErr result (Refuses deleted_reading RefusesDeleted
-        (option_map S.seen deleted)) }
-{
-    match deleted {
-        Some(ids) => ids.read(alloc),
-        None => Ok(Vec::new(alloc)),
-    }
 }
