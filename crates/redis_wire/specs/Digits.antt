@@ -1,5 +1,5 @@
 -- Digits at the head of bytes.
-use Rattle.std.specs.Prelude.{◌≡◌, ◌<◌, ℕ, List, ◌++◌, true, length}
+use Rattle.std.specs.Prelude.{◌≡◌, ℕ, List, ◌++◌, true}
 use Rattle.std.specs.Str.{all_ascii_digits}
 use Rattle.redis_resp.specs.Number.{number_of_digits}
 

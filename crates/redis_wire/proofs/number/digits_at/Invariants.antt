@@ -1,4 +1,4 @@
-use Rattle.std.proofs.Common.{◌≡◌, ◌≤◌, length}
+use Rattle.std.proofs.Common.{◌≤◌, length}
 use Rattle.redis_wire.specs.Digits.{DigitsAt}
 use Rattle.redis_wire.proofs.number.digits_at.Given as goal
 
