@@ -7,8 +7,8 @@
 pub mod streams;
 
 pub use redis_resp::{
-    FixedArgs, FromRedisValue, ParsingError, RawBytes, Reason, RedisWrite, ToRedisArgs,
-    ToSingleRedisArg, Value, WriteError, from_redis_value, from_redis_value_ref,
+    FixedArgs, FromRedisValue, ParsingError, RawBytes, RedisWrite, ToRedisArgs, ToSingleRedisArg,
+    Value, WriteError, from_redis_value, from_redis_value_ref,
 };
 
 #[cfg(test)]

@@ -1,8 +1,5 @@
 //! The text of each refusal, and equality, as a caller can prove of it.
-ghost use Rattle.std.specs.Prelude.{◌≡◌, codes};
-ghost use Rattle.redis_resp.specs.declared.value.error.ParsingError.TheVariants.{Refused};
-
-use redis_resp::{ParsingError, Reason, equal_parsing_errors};
+use redis_resp::{ParsingError, equal_parsing_errors};
 use std::test::Fail;
 
 #[test]
@@ -56,22 +53,11 @@ fn refusals_are_printed(rt: HostRuntime) -> Result<(), Fail> {
         ),
         (ParsingError::NotBytes, "not a bulk string"),
         (ParsingError::Memory, "out of memory"),
-        (
-            ParsingError::Refused(Reason::new("an order with no customer")),
-            "an order with no customer",
-        ),
     ];
     for (error, text) in table {
         assert_eq!(rt; format!(in rt.alloc(); "{error}")?.as_str(), text);
     }
     Ok(())
-}
-
-/// A type of a user's own says with which text it refuses.
-fn refused() -> ParsingError
-    ensures { result ≡ Refused (codes "no order") }
-{
-    ParsingError::Refused(Reason::new("no order"))
 }
 
 #[test]
@@ -80,24 +66,9 @@ fn equal_refusals_are_told(rt: HostRuntime) {
         (ParsingError::NotTuple(2), ParsingError::NotTuple(2), true),
         (ParsingError::NotTuple(2), ParsingError::NotTuple(4), false),
         (ParsingError::NotList, ParsingError::NotPairs, false),
-        (
-            refused(),
-            ParsingError::Refused(Reason::new("no order")),
-            true,
-        ),
-        (
-            refused(),
-            ParsingError::Refused(Reason::new("no orders")),
-            false,
-        ),
-        (
-            ParsingError::Refused(Reason::new("out of memory")),
-            ParsingError::Memory,
-            false,
-        ),
+        (ParsingError::NotList, ParsingError::Memory, false),
     ];
     for (a, b, equal) in &table {
         assert_eq!(rt; equal_parsing_errors(a, b), *equal);
     }
-    assert_eq!(rt; Reason::new("no order").as_str(), "no order");
 }

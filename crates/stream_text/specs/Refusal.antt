@@ -1,7 +1,7 @@
 -- How a refusal stands in a line.
 use Rattle.std.specs.Prelude.{ℕ, List, ◌++◌, Result, Ok, Err, codes, decimal}
 use Rattle.redis_resp.specs.declared.value.error.ParsingError.{ParsingError}
-use Rattle.redis_resp.specs.declared.value.error.ParsingError.TheVariants.{NotText, NotNumber, NotList, NotPairs, NotTuple, NotArray, WrongItemCount, WrongClaimedType, UnknownReadFormat, PendingWithoutStart, PendingWithoutEnd, NotPendingRow, UnknownXDelEx, UnknownXAckDel, NotXDelEx, NotXAckDel, NotBytes, Memory, Refused}
+use Rattle.redis_resp.specs.declared.value.error.ParsingError.TheVariants.{NotText, NotNumber, NotList, NotPairs, NotTuple, NotArray, WrongItemCount, WrongClaimedType, UnknownReadFormat, PendingWithoutStart, PendingWithoutEnd, NotPendingRow, UnknownXDelEx, UnknownXAckDel, NotXDelEx, NotXAckDel, NotBytes, Memory}
 
 -- the place of a cause in the order of their declaration, from 1
 abbrev pub refusal_number : ParsingError → ℕ
@@ -23,7 +23,6 @@ refusal_number NotXDelEx = 15
 refusal_number NotXAckDel = 16
 refusal_number NotBytes = 17
 refusal_number Memory = 18
-refusal_number (Refused _) = 19
 
 -- a refusal by its number
 abbrev pub refusal_form : ParsingError → List ℕ

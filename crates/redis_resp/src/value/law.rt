@@ -3,8 +3,7 @@ ghost use Rattle.std.specs.Prelude.{◌≡◌, ◌↔◌, IsTrue};
 
 use crate::value::error::ParsingError;
 
-/// `==` holds of two `ParsingError` exactly where they are the same; two reasons of a user's own
-/// are the same where their texts are. It takes no memory.
+/// `==` holds of two `ParsingError` exactly where they are the same. It takes no memory.
 pub fn equal_parsing_errors(a: &ParsingError, b: &ParsingError) -> bool
     ensures { IsTrue result ↔ (a.now ≡ b.now) }
 {

@@ -1,4 +1,4 @@
-//! A type such as a user might add: it brings its meaning and its two calls, and refuses by name.
+//! A type such as a user might add: it brings its meaning and its two calls.
 ghost use Rattle.std.specs.Prelude.{ℕ, List, Some, codes, option_map, string_bytes};
 ghost use Rattle.redis_resp.specs.Number.{unsigned_reading};
 ghost use Rattle.redis_resp.specs.Table.{field_record, fields_reading};
@@ -6,7 +6,7 @@ ghost use Rattle.redis_resp.specs.Text.{text_reading};
 ghost use Rattle.redis_resp.specs.Then.{◌>>=◌};
 
 use crate::readings::{check_read, check_refused};
-use redis_resp::{FromRedisValue, ParsingError, Reason, Value, field_of, from_redis_value_ref};
+use redis_resp::{FromRedisValue, ParsingError, Value, field_of, from_redis_value_ref};
 use std::alloc::Global;
 use std::collections::HashMap;
 use std::test::Fail;
@@ -35,10 +35,10 @@ impl FromRedisValue for Ticket {
     fn from_redis_value_ref(alloc: Global, v: &Value) -> Result<Ticket, ParsingError> {
         let fields: HashMap<String, Value> = from_redis_value_ref(alloc, v)?;
         let Some(order) = field_of(alloc, &fields, "order")? else {
-            return Err(ParsingError::Refused(Reason::new("no order")));
+            return Err(ParsingError::NotPairs);
         };
         let Some(customer) = field_of(alloc, &fields, "customer")? else {
-            return Err(ParsingError::Refused(Reason::new("no customer")));
+            return Err(ParsingError::NotPairs);
         };
         Ok(Ticket { order, customer })
     }
@@ -49,8 +49,12 @@ fn tickets_are_read(rt: HostRuntime) -> Result<(), Fail> {
     let customer = String::from_str(rt.alloc(), "x")?;
     let ticket = Ticket { order: 7, customer };
     check_read::<Ticket>(&rt, "Map[order: 7, customer: x, rest: \"\"]", &ticket)?;
-    let no_customer = ParsingError::Refused(Reason::new("no customer"));
-    check_refused::<Ticket>(&rt, &[("Map[order: 7]", no_customer)])?;
-    let no_order = ParsingError::Refused(Reason::new("no order"));
-    check_refused::<Ticket>(&rt, &[("Map[customer: x]", no_order)])
+    check_refused::<Ticket>(
+        &rt,
+        &[
+            ("Map[order: 7]", ParsingError::NotPairs),
+            ("Map[customer: x]", ParsingError::NotPairs),
+            ("Int 7", ParsingError::NotPairs),
+        ],
+    )
 }

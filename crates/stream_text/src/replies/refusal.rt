@@ -50,6 +50,5 @@ fn number_of(error: &ParsingError) -> usize
         ParsingError::NotXAckDel => 16,
         ParsingError::NotBytes => 17,
         ParsingError::Memory => 18,
-        ParsingError::Refused(_) => 19,
     }
 }
