@@ -16,6 +16,8 @@ mod job;
 mod operations;
 mod reading;
 mod replies;
+#[cfg(test)]
+mod tests;
 
 use job::{Job, JobError};
 use operations::perform;
