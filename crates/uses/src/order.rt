@@ -1,5 +1,5 @@
 //! Types of a user's own: `OrderId` is one argument and is read from a number, `Order` is the fields
-//! of an entry, as arguments and as a record.
+//! of an entry, as arguments and as a record; other fields it refuses for a reason of its own.
 ghost use Rattle.std.specs.Prelude.{◌≡◌, ℕ, [], ◌∷◌, codes, decimal, refl};
 ghost use Rattle.std.specs.Prelude.{option_map, string_bytes, IfOk};
 ghost use Rattle.redis_resp.specs.Number.{unsigned_reading};
@@ -7,8 +7,8 @@ ghost use Rattle.redis_resp.specs.FieldsMeaning.{fields_of};
 ghost use Rattle.uses.specs.Order.{Meant, order_meaning, order_of, order_reading};
 
 use redis_resp::{
-    FromRedisValue, ParsingError, RedisWrite, ToRedisArgs, ToSingleRedisArg, Value, WriteError,
-    field_of,
+    FromRedisValue, ParsingError, Reason, RedisWrite, ToRedisArgs, ToSingleRedisArg, Value,
+    WriteError, field_of,
 };
 use std::alloc::{AllocError, Global};
 use std::collections::HashMap;
@@ -105,6 +105,6 @@ impl FromRedisValue for Order {
 
     fn from_redis_value_ref(alloc: Global, v: &Value) -> Result<Order, ParsingError> {
         let fields = HashMap::from_redis_value_ref(alloc, v)?;
-        Order::of_fields(alloc, &fields)?.ok_or(ParsingError::NotPairs)
+        Order::of_fields(alloc, &fields)?.ok_or(ParsingError::Refused(Reason::new("no order")))
     }
 }

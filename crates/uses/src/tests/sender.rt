@@ -1,11 +1,10 @@
 //! What a producer sends and a server takes in, and types of a user's own.
-use crate::laws::{equal_orders, equal_producer_errors};
 use crate::order::{Order, OrderId};
-use crate::producer::{Producer, ProducerError};
+use crate::producer::Producer;
 use crate::readme::{first_customer, read_arguments};
 use crate::server::add_request;
 use crate::tests::assert_line;
-use redis_resp::{ParsingError, Value, from_redis_value};
+use redis_resp::{ParsingError, Reason, Value, from_redis_value};
 use std::test::Fail;
 use stream_options::StreamReadOptions;
 use stream_sentences::SentenceError;
@@ -55,27 +54,12 @@ fn orders_are_arguments_and_records(rt: HostRuntime) -> Result<(), Fail> {
     let alloc = rt.alloc();
     let options = StreamReadOptions::default().group(alloc, OrderId(17), "worker")?;
     assert_line(&rt, &options, "GROUP 17 worker")?;
+    let refused = from_redis_value::<Order>(alloc, read_value(alloc, "Map[order: 17]")?).err();
+    let no_order = ParsingError::Refused(Reason::new("no order"));
+    assert_eq!(rt; refused, Some(no_order));
     let listed = "Array[Map[quantity: 3, order: 17, customer: ann]]";
     let listed: Vec<Order> = from_redis_value(alloc, read_value(alloc, listed)?)?;
-    assert_line(&rt, &listed, "order 17 customer ann quantity 3")?;
-    let refused = from_redis_value::<Order>(alloc, read_value(alloc, "Map[order: 17]")?).err();
-    assert_eq!(rt; refused, Some(ParsingError::NotPairs));
-    Ok(())
-}
-
-#[test]
-fn equal_orders_and_errors_are_told(rt: HostRuntime) {
-    for (number, same) in [(17, true), (18, false)] {
-        assert_eq!(rt; equal_orders(OrderId(17), OrderId(number)), same);
-    }
-    let error = ProducerError::Answer(ParsingError::NotText);
-    for (other, same) in [
-        (ProducerError::Answer(ParsingError::NotText), true),
-        (ProducerError::Answer(ParsingError::NotPairs), false),
-        (ProducerError::LastNumber, false),
-    ] {
-        assert_eq!(rt; equal_producer_errors(&error, &other), same, "{other:?}");
-    }
+    assert_line(&rt, &listed, "order 17 customer ann quantity 3")
 }
 
 #[test]
