@@ -57,6 +57,7 @@ abbrev pub four_entry : Tree × Tree × Tree × Tree → Option OverlapEntry
 four_entry q = option_and_then (λ i. option_and_then (λ f. option_and_then (λ n. option_map (λ t. record { id = i; fields = f; number = n; text = t })
     (text_reading q.2)) (unsigned_reading 64 q.2)) (field_reading q.1)) (text_reading q.0)
 
+-- the same of an array of four: its id, its fields, and its third item as a number and as a text
 abbrev pub overlap_entry : Tree → Option OverlapEntry
 overlap_entry t = option_and_then four_entry (four_in t)
 

@@ -18,6 +18,7 @@ EachEntryIsRead = (t : Tree) (rows : Skeleton) → Overlaps t rows → AllByRecu
 abbrev pub StandardIsGiven : Type 0
 StandardIsGiven = (t : Tree) (rows : Skeleton) → Overlaps t rows → standard_reading t ≡ Some (streams_given in_standard rows)
 
+-- the same of the claim form
 abbrev pub ClaimIsGiven : Type 0
 ClaimIsGiven = (t : Tree) (rows : Skeleton) → Overlaps t rows → claim_reading t ≡ Some (streams_given in_claim rows)
 
