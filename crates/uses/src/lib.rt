@@ -4,12 +4,10 @@
 //! `worker` and `batch` are the pure part of a consumer-group worker, `stalled` takes over what
 //! others left, `monitoring` reads XPENDING and XINFO, `producer` sends entries so that one that is
 //! sent twice is added once, `server` reads back what a client wrote, `wire` goes from a server's
-//! bytes to a record, `order` has types of a user's own, `laws` says what `==` of those tells, and
-//! `readme` has the code of the README.
+//! bytes to a record, `order` has types of a user's own, and `readme` the code of the README.
 #![tactic(auto)]
 
 pub mod batch;
-pub mod laws;
 pub mod monitoring;
 pub mod order;
 pub mod producer;

@@ -22,7 +22,7 @@ pub struct Producer {
 }
 
 /// Why a producer stays at its entry.
-#[derive(Debug, Drop, PartialEq, Eq, Error)]
+#[derive(Debug, Drop, Error)]
 pub enum ProducerError {
     /// The answer is no id.
     #[error("the answer of XADD is {0}")]

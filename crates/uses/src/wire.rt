@@ -15,7 +15,7 @@ use std::alloc::Global;
 use thiserror::Error;
 
 /// Why bytes give no streams.
-#[derive(Debug, Drop, PartialEq, Eq, Error)]
+#[derive(Debug, Drop, Error)]
 pub enum AnswerError {
     /// The bytes end before the reply does.
     #[error("the reply has not come whole")]

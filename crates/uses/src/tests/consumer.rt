@@ -1,7 +1,6 @@
 //! What a consumer of a group does.
 use crate::batch::sort_out;
 use crate::monitoring::{delivered_too_often, lag_of};
-use crate::order::OrderId;
 use crate::stalled::{claim_arguments, stalled_in};
 use crate::tests::assert_line;
 use crate::worker::{acknowledge_arguments, ids_answered, read_arguments};
@@ -31,7 +30,7 @@ fn a_worker_reads_and_acknowledges(rt: HostRuntime) -> Result<(), Fail> {
     assert_line(&rt, &ids_answered(alloc, Value::Nil)?, "")?;
     let batch = sort_out(alloc, &reply.keys[0].ids)?;
     assert_eq!(rt; batch.orders.len(), 2);
-    assert_eq!(rt; batch.orders[1].id, OrderId(18));
+    assert_eq!(rt; batch.orders[1].id.0, 18);
     assert_line(&rt, &batch.strange, "2-0")
 }
 

@@ -1,7 +1,6 @@
 //! What a producer sends and a server takes in, and types of a user's own.
-use crate::laws::{equal_orders, equal_producer_errors};
 use crate::order::{Order, OrderId};
-use crate::producer::{Producer, ProducerError};
+use crate::producer::Producer;
 use crate::readme::{first_customer, read_arguments};
 use crate::server::add_request;
 use crate::tests::assert_line;
@@ -61,21 +60,6 @@ fn orders_are_arguments_and_records(rt: HostRuntime) -> Result<(), Fail> {
     let refused = from_redis_value::<Order>(alloc, read_value(alloc, "Map[order: 17]")?).err();
     assert_eq!(rt; refused, Some(ParsingError::NotPairs));
     Ok(())
-}
-
-#[test]
-fn equal_orders_and_errors_are_told(rt: HostRuntime) {
-    for (number, same) in [(17, true), (18, false)] {
-        assert_eq!(rt; equal_orders(OrderId(17), OrderId(number)), same);
-    }
-    let error = ProducerError::Answer(ParsingError::NotText);
-    for (other, same) in [
-        (ProducerError::Answer(ParsingError::NotText), true),
-        (ProducerError::Answer(ParsingError::NotPairs), false),
-        (ProducerError::LastNumber, false),
-    ] {
-        assert_eq!(rt; equal_producer_errors(&error, &other), same, "{other:?}");
-    }
 }
 
 #[test]
