@@ -1,3 +1,4 @@
+pub mod CopyLemmas
 pub mod DecimalLemmas
 pub mod FieldLemmas
 pub mod FixedArgsLemmas

@@ -3,6 +3,7 @@ pub mod Bytes
 pub mod Clause
 pub mod FieldsMeaning
 pub mod FixedArgs
+pub mod Leaf
 pub mod Number
 pub mod Reading
 pub mod Record

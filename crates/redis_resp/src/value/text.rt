@@ -1,14 +1,26 @@
 //! Texts that are read from values.
-ghost use Rattle.std.specs.Prelude.{◌≡◌, IfOk, IfErr, IsTrue, ℕ, List, string_bytes};
-ghost use Rattle.redis_resp.specs.Tree.{plain};
+ghost use Rattle.std.specs.Prelude.{◌≡◌, IfOk, IfErr, IsTrue, ℕ, List, None, Some, string_bytes};
+ghost use Rattle.redis_resp.specs.Tree.{bulk, plain};
+ghost use Rattle.redis_resp.specs.declared.value.error.ParsingError.TheVariants.{NotText};
 ghost use Rattle.redis_resp.specs.Refusal.{Refuses, RefusesText};
-ghost use Rattle.redis_resp.specs.Text.{text_reading, is_written_out};
+ghost use Rattle.redis_resp.specs.Text.{text_of_plain, text_reading, is_written_out};
 ghost use Rattle.redis_resp.specs.Value.{tree};
 
 use crate::value::Value;
 use crate::value::error::ParsingError;
 use crate::value::from_value::FromRedisValue;
 use std::alloc::Global;
+
+/// The text of the bytes, which it takes.
+fn text_of(bytes: Vec<u8>) -> Result<String, ParsingError>
+    ensures ok { IfOk result (λ s. text_of_plain (bulk bytes.items) ≡ Some (string_bytes s)) }
+    ensures err { IfErr result (λ e. text_of_plain (bulk bytes.items) ≡ None × e ≡ NotText) }
+{
+    match String::from_utf8(bytes) {
+        Ok(text) => Ok(text),
+        Err(_) => Err(ParsingError::NotText),
+    }
+}
 
 impl FromRedisValue for String {
     ghost Meaning = { List ℕ };
@@ -27,11 +39,13 @@ impl FromRedisValue for String {
         ensures moved { result ≡ Err ParsingError.Memory
             → IsTrue (is_written_out (plain (tree v))) }
     {
-        match v.into_plain() {
-            Value::BulkString(bytes) => match String::from_utf8(bytes) {
-                Ok(text) => Ok(text),
-                Err(_) => Err(ParsingError::NotText),
-            },
+        let v = match v {
+            // most texts are bulk strings with nothing around them
+            Value::BulkString(bytes) => return text_of(bytes),
+            other => other.into_plain(),
+        };
+        match v {
+            Value::BulkString(bytes) => text_of(bytes),
             Value::SimpleString(text) => Ok(text),
             Value::Okay => Ok(String::from_str(alloc, "OK")?),
             Value::VerbatimString { format, text } => {
