@@ -1,10 +1,10 @@
-//! Values that are nested 10,000 deep: copies, equality, readings and drops.
+//! Values that are nested 20,000 deep: copies, equality, readings and drops.
 use redis_resp::{ParsingError, Value, from_redis_value, from_redis_value_ref};
 use redis_streams::StreamRangeReply;
 use std::alloc::{AllocError, Global};
 use std::test::Fail;
 
-const DEPTH: usize = 10_000;
+const DEPTH: usize = 20_000;
 
 /// The number with so many attributes around it.
 fn attributes(alloc: Global, number: i64) -> Result<Value, AllocError> {
