@@ -55,6 +55,3 @@ pub use range::{
 pub use read::{xread, xread_options};
 pub use streams::Streams;
 pub use trim::{xtrim, xtrim_options};
-
-#[cfg(test)]
-mod tests;

@@ -1,8 +1,8 @@
 //! The answer of an automatic claim that asks for ids alone, by both calls.
-use crate::{StreamAutoClaimJustIdReply, xautoclaim_justid};
 use redis_resp::{ParsingError, Value};
 use std::alloc::{AllocError, Global};
 use std::test::Fail;
+use stream_commands::{StreamAutoClaimJustIdReply, xautoclaim_justid};
 use stream_options::StreamAutoClaimOptions;
 
 // What both calls read, from the borrowed value first.

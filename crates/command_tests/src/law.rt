@@ -2,13 +2,13 @@
 ghost use Rattle.std.specs.Prelude.{◌≡◌, [], ◌∷◌, map, IfOk};
 ghost use Rattle.stream_commands.specs.WholeCommands.{add_list, trim_list, read_list, claim_list, autoclaim_list};
 
-use crate::tests::check;
-use crate::{
-    AtLeastOne, xadd_options, xautoclaim_options, xclaim_options, xread_options, xtrim_options,
-};
+use crate::check;
 use redis_resp::ToRedisArgs;
 use std::alloc::{AllocError, Global};
 use std::test::Fail;
+use stream_commands::{
+    AtLeastOne, xadd_options, xautoclaim_options, xclaim_options, xread_options, xtrim_options,
+};
 use stream_options::{
     StreamAddOptions, StreamAutoClaimOptions, StreamClaimOptions, StreamReadOptions,
     StreamTrimOptions, StreamTrimStrategy, StreamTrimmingMode,

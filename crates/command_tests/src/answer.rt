@@ -1,7 +1,7 @@
 //! Answers, each read as the type of its command.
-use crate::{AtLeastOne, xadd_options, xlen, xread};
 use redis_resp::{ParsingError, Value};
 use std::test::Fail;
+use stream_commands::{AtLeastOne, xadd_options, xlen, xread};
 use stream_options::StreamAddOptions;
 
 #[test]

@@ -1,13 +1,13 @@
 //! Commands on groups and what is pending for them.
-use crate::tests::check;
-use crate::{
+use crate::check;
+use std::test::Fail;
+use stream_commands::{
     AtLeastOne, JustIdIsSet, xack, xack_del, xautoclaim_justid, xautoclaim_options, xclaim,
     xclaim_justid, xclaim_options, xgroup_create, xgroup_create_mkstream, xgroup_createconsumer,
     xgroup_delconsumer, xgroup_destroy, xgroup_setid, xinfo_consumers, xinfo_groups, xinfo_stream,
     xinfo_stream_with_idempotency, xpending, xpending_consumer_count, xpending_count,
     xpending_idle_count,
 };
-use std::test::Fail;
 use stream_options::{StreamAutoClaimOptions, StreamClaimOptions, StreamDeletionPolicy};
 
 #[test]

@@ -1,15 +1,29 @@
-//! The line of each command, against outside words, and answers that are read.
-use redis_resp::ToRedisArgs;
-use std::process::Abort;
-use std::test::Fail;
+//! Tests of whole commands: the line of each against outside words, and answers that are read.
+//!
+//! They stand in a crate of their own, since a check of tests proves the functions of their crate
+//! a second time.
+#![tactic(auto)]
 
+#[cfg(test)]
 mod answer;
+#[cfg(test)]
 mod entry;
+#[cfg(test)]
 mod group;
+#[cfg(test)]
 mod justid;
+#[cfg(test)]
 mod law;
 
+#[cfg(test)]
+use redis_resp::ToRedisArgs;
+#[cfg(test)]
+use std::process::Abort;
+#[cfg(test)]
+use std::test::Fail;
+
 // The command writes these words: its arguments, joined by spaces.
+#[cfg(test)]
 fn check<A: ToRedisArgs>(
     rt: &(impl Abort + AllocGlobal),
     command: &A,

@@ -1,11 +1,11 @@
 //! Commands on the entries of a stream.
-use crate::tests::check;
-use crate::{
+use crate::check;
+use std::test::Fail;
+use stream_commands::{
     AtLeastOne, xadd, xadd_maxlen, xadd_options, xcfgset, xdel, xdel_ex, xlen, xrange, xrange_all,
     xrange_count, xread, xread_options, xrevrange, xrevrange_all, xrevrange_count, xtrim,
     xtrim_options,
 };
-use std::test::Fail;
 use stream_options::{
     StreamAddOptions, StreamConfigOptions, StreamDeletionPolicy, StreamMaxlen, StreamReadOptions,
     StreamTrimOptions, StreamTrimStrategy, StreamTrimmingMode,
