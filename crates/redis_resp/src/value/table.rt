@@ -33,8 +33,8 @@ pub fn index_map_of<V: Drop>(
     IndexMap::from_iter(alloc, pairs)
 }
 
-/// The pairs as a map: each key with the last value that it has among them. It fails only by want
-/// of memory.
+/// The pairs as a map: each key with the last value that it has among them. It fails only where it
+/// runs out of memory.
 pub fn hash_map_of<V: Drop>(
     alloc: Global,
     pairs: Vec<(String, V)>,

@@ -29,7 +29,7 @@ pub enum NotationError {
     /// More text stands behind the value.
     #[error("text behind the value")]
     TextBehindValue,
-    /// Memory was wanting.
+    /// Memory ran out.
     #[error("out of memory")]
     Memory,
 }
