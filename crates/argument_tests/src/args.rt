@@ -1,5 +1,5 @@
 //! Plain arguments, and the writers that they go into.
-use redis_resp::{
+use redis_args::{
     FixedArgs, RawBytes, RedisWrite, ToRedisArgs, WriteError, equal_bytes, equal_write_errors,
 };
 use std::alloc::AllocError;

@@ -1,5 +1,5 @@
 //! Written options and refused settings, against tables of words and texts.
-use redis_resp::ToRedisArgs;
+use redis_args::ToRedisArgs;
 use std::alloc::{AllocError, Global};
 use std::process::Abort;
 use std::test::Fail;

@@ -1,5 +1,5 @@
 //! Argument lists, and the options that are read of them.
-use redis_resp::ToRedisArgs;
+use redis_args::ToRedisArgs;
 use std::alloc::Global;
 use std::process::Abort;
 use std::test::Fail;

@@ -1,10 +1,7 @@
 pub mod CopyLemmas
-pub mod DecimalLemmas
 pub mod FieldLemmas
-pub mod FixedArgsLemmas
 pub mod ReadableLemmas
 pub mod RefusalLemmas
-pub mod RoomLemmas
 pub mod MapLemmas
 pub mod MembersLemmas
 pub mod NumberLemmas
@@ -16,4 +13,3 @@ pub mod TableLemmas
 pub mod TextLemmas
 pub mod TraverseLemmas
 pub mod TreeLemmas
-pub mod WriterLemmas

@@ -1,14 +1,11 @@
 pub mod Boolean
 pub mod Bytes
-pub mod Clause
 pub mod FieldsMeaning
-pub mod FixedArgs
 pub mod Leaf
 pub mod Number
 pub mod Reading
 pub mod Record
 pub mod Refusal
-pub mod Room
 pub mod Same
 pub mod SameLaws
 pub mod Source
@@ -17,4 +14,3 @@ pub mod Text
 pub mod Then
 pub mod Tree
 pub mod Value
-pub mod Writer

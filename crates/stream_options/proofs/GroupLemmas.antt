@@ -2,8 +2,8 @@
 use Rattle.std.proofs.Common.{◌≡◌, ◌<◌, ℕ, List, [], ◌∷◌, ◌++◌, map, take, length, get_or, refl, sym, ◌∙◌, ap, subst}
 use Rattle.std.specs.Global.{Vec}
 use Rattle.std.specs.List.{flat_map}
-use Rattle.redis_resp.specs.Writer.{StopsWithin}
-use Rattle.redis_resp.proofs.WriterLemmas.{stops_in_element}
+use Rattle.redis_args.specs.Writer.{StopsWithin}
+use Rattle.redis_args.proofs.WriterLemmas.{stops_in_element}
 
 -- one argument of each, joined
 flat_map-one : (xs : List (Vec ℕ)) → flat_map (λ arg. arg.items ∷ []) xs ≡ map (λ arg. arg.items) xs

@@ -9,7 +9,7 @@ use Rattle.std.proofs.lemmas.Str.{IsUtf8-from_is_utf8, is_utf8-from_IsUtf8}
 use Rattle.std.proofs.lemmas.Slice.Eq.{bytes_eq-Decides}
 use Rattle.std.proofs.lemmas.Bool.{ltb-true, lt-ltb}
 use Rattle.std.proofs.lemmas.Option.{some_pair_parts, same_Some}
-use Rattle.redis_resp.specs.Clause.{clause, flag}
+use Rattle.redis_args.specs.Clause.{clause, flag}
 use Rattle.stream_options.specs.Laws.{Determines, IsExact, Equal}
 use Rattle.stream_options.specs.ReadBack.{number_of, text_of, valued, argument_clause, set, unset, beside, followed, seen, reading_as, either, one, argument_at, if_passes, kept, filtered, optional, flag_clause, both}
 use Rattle.stream_options.specs.Words.{among, begins, IsUsize}

@@ -7,7 +7,7 @@ use Rattle.std.specs.Str.{bytes_eq, IsUtf8}
 use Rattle.std.proofs.lemmas.Bool.{leb-true, le-leb}
 use Rattle.std.proofs.lemmas.Option.{some_pair_parts, same_Some}
 use Rattle.std.proofs.lemmas.Slice.Eq.{bytes_eq-Decides}
-use Rattle.redis_resp.specs.Clause.{clause, word_number, word_text}
+use Rattle.redis_args.specs.Clause.{clause, word_number, word_text}
 use Rattle.stream_options.specs.Add.{add_sentence, add_words, AddFits}
 use Rattle.stream_options.specs.AutoClaim.{autoclaim_sentence, autoclaim_words, AutoClaimFits}
 use Rattle.stream_options.specs.Claim.{Claim, claim_sentence, claim_words, ClaimFits}

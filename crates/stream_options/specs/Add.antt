@@ -1,6 +1,6 @@
 -- What an entry is added with, as settings, and how it reads as arguments.
 use Rattle.std.specs.Prelude.{ℕ, Bool, false, List, ◌∷◌, ◌++◌, codes, Option, None, IfSome}
-use Rattle.redis_resp.specs.Clause.{clause, flag}
+use Rattle.redis_args.specs.Clause.{clause, flag}
 use Rattle.stream_options.specs.Idempotency.{Idempotency, idempotency_sentence, idempotency_words, IdempotencyFits}
 use Rattle.stream_options.specs.Policy.{Policy, policy_sentence, policy_words}
 use Rattle.stream_options.specs.Trim.{Strategy, strategy_sentence, strategy_words, StrategyFits}

@@ -1,7 +1,7 @@
 -- What a claim is asked for, as settings, and how it reads as arguments.
 use Rattle.std.specs.Prelude.{ℕ, Bool, false, List, [], ◌∷◌, ◌++◌, codes, Option, None, IfSome}
 use Rattle.std.specs.Str.{IsUtf8}
-use Rattle.redis_resp.specs.Clause.{clause, word_number, word_text, flag}
+use Rattle.redis_args.specs.Clause.{clause, word_number, word_text, flag}
 use Rattle.stream_options.specs.Words.{IsUsize}
 
 -- the settings of `XCLAIM`; `idle` in milliseconds, `time` in milliseconds since 1970

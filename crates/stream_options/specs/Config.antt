@@ -1,7 +1,7 @@
 -- How long and how many ids a stream keeps to recognize duplicate entries, as settings, and how it
 -- reads as arguments.
 use Rattle.std.specs.Prelude.{ℕ, ◌≤◌, ◌⊎◌, List, [], ◌∷◌, ◌++◌, codes, Option, IfSome, IsSome}
-use Rattle.redis_resp.specs.Clause.{clause, word_number}
+use Rattle.redis_args.specs.Clause.{clause, word_number}
 
 -- the settings of `XCFGSET`: seconds, and entries
 pub record Config : Type 0 where

@@ -1,6 +1,6 @@
 -- What a read is asked for, as settings, and how it reads as arguments.
 use Rattle.std.specs.Prelude.{◌≡◌, ℕ, Bool, false, List, [], ◌∷◌, ◌++◌, codes, length, Option, None, is_some, IfSome, true, if◌then◌else◌}
-use Rattle.redis_resp.specs.Clause.{clause, word_number, flag}
+use Rattle.redis_args.specs.Clause.{clause, word_number, flag}
 use Rattle.stream_options.specs.Words.{IsUsize}
 
 -- the arguments of a group's name and those of a consumer's

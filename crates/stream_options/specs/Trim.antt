@@ -1,7 +1,7 @@
 -- How a stream is trimmed, as settings, and how it reads as arguments.
 use Rattle.std.specs.Prelude.{ℕ, List, [], ◌∷◌, ◌++◌, codes, decimal, Option, None, IfSome}
 use Rattle.std.specs.Str.{IsUtf8}
-use Rattle.redis_resp.specs.Clause.{clause, word_number}
+use Rattle.redis_args.specs.Clause.{clause, word_number}
 use Rattle.stream_options.specs.Policy.{Policy, policy_sentence, policy_words}
 use Rattle.stream_options.specs.Words.{IsUsize}
 

@@ -8,7 +8,7 @@ ghost use Rattle.stream_sentences.specs.Split.{arguments, IsOneSplit, HasNoSplit
 use crate::clauses::{flag_clause, number_clause};
 use crate::error::SentenceError;
 use crate::values::begins_with;
-use redis_resp::RawBytes;
+use redis_args::RawBytes;
 use std::alloc::Global;
 use stream_options::StreamReadOptions;
 

@@ -2,7 +2,7 @@
 use Rattle.std.specs.Prelude.{ℕ, true, List, [], ◌∷◌, string_bytes}
 use Rattle.std.specs.Global.{Vec}
 use Rattle.std.specs.List.{flat_map}
-use Rattle.redis_resp.specs.declared.args.raw_bytes.RawBytes.{RawBytes}
+use Rattle.redis_args.specs.declared.raw_bytes.RawBytes.{RawBytes}
 use Rattle.stream_options.specs.Idempotency.{manual, automatic}
 use Rattle.stream_options.specs.View.{strategy_of, policy_of}
 use Rattle.stream_options.specs.AddCalls as add

@@ -1,6 +1,6 @@
 //! Arguments that are written with no memory asked for.
 ghost use Rattle.std.specs.Prelude.{◌≡◌, [], IfOk, IfErr, IsOk};
-ghost use Rattle.redis_resp.specs.Room.{HasRoom};
+ghost use Rattle.redis_args.specs.Room.{HasRoom};
 
 use redis_resp::{FixedArgs, ToRedisArgs, WriteError};
 
@@ -8,7 +8,7 @@ use redis_resp::{FixedArgs, ToRedisArgs, WriteError};
 ///
 /// Where there is room for all of them, at most `N` arguments of at most `B` bytes together, the
 /// answer is Ok; `Full` comes only where there is not.
-#[tactic(auto, using(redis_resp::proofs::RoomLemmas::room_is_enough))]
+#[tactic(auto, using(redis_args::proofs::RoomLemmas::room_is_enough))]
 pub fn fixed_args_of<T: ToRedisArgs, const N: usize, const B: usize>(
     value: &T,
 ) -> Result<FixedArgs<N, B>, WriteError>

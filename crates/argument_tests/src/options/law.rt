@@ -1,6 +1,6 @@
 //! Argument lists that sentences share, and why the laws leave no doubt over them.
 use crate::options::{assert_words, text};
-use redis_resp::ToRedisArgs;
+use redis_args::ToRedisArgs;
 use std::test::Fail;
 use stream_options::{
     StreamAddOptions, StreamClaimOptions, StreamReadOptions, StreamTrimOptions, StreamTrimStrategy,

@@ -1,7 +1,7 @@
 //! Read options, with names of several types.
 use crate::options::user::Flag;
 use crate::options::{assert_words, text};
-use redis_resp::RawBytes;
+use redis_args::RawBytes;
 use std::test::Fail;
 use stream_options::StreamReadOptions;
 

@@ -1,10 +1,10 @@
 //! A value and a writer of a user's own, and a writer with little room.
 ghost use Rattle.std.specs.Prelude.{◌≡◌, ◌⊎◌, [], ◌∷◌, codes, if◌then◌else◌};
-ghost use Rattle.redis_resp.specs.Room.{MayRefuse};
-ghost use Rattle.redis_resp.specs.declared.args.writer.WriteError.TheVariants.{Full};
+ghost use Rattle.redis_args.specs.Room.{MayRefuse};
+ghost use Rattle.redis_args.specs.declared.writer.WriteError.TheVariants.{Full};
 
 use crate::options::{assert_words, text};
-use redis_resp::{FixedArgs, RedisWrite, ToRedisArgs, WriteError};
+use redis_args::{FixedArgs, RedisWrite, ToRedisArgs, WriteError};
 use std::process::Abort;
 use std::test::Fail;
 use stream_options::{StreamDeletionPolicy, StreamTrimOptions, StreamTrimmingMode};

@@ -4,10 +4,10 @@ ghost use Rattle.redis_resp.specs.Bytes.{bytes_reading};
 ghost use Rattle.redis_resp.specs.Refusal.{Refuses, RefusesBytes};
 ghost use Rattle.redis_resp.specs.Value.{tree};
 
-use crate::args::RawBytes;
 use crate::value::Value;
 use crate::value::error::ParsingError;
 use crate::value::from_value::FromRedisValue;
+use redis_args::RawBytes;
 use std::alloc::Global;
 
 impl FromRedisValue for RawBytes {

@@ -8,7 +8,7 @@ use crate::options::clause::FlagClause;
 use crate::options::idempotency::StreamIdempotencyMode;
 use crate::options::policy::StreamDeletionPolicy;
 use crate::options::trim::StreamTrimStrategy;
-use redis_resp::{RedisWrite, ToRedisArgs, WriteError};
+use redis_args::{RedisWrite, ToRedisArgs, WriteError};
 use std::marker::Model;
 
 /// The options of `XADD`: `[NOMKSTREAM] [policy] [idempotency] [strategy]`, in this order

@@ -3,7 +3,7 @@ ghost use Rattle.std.specs.Prelude.{◌≡◌, true};
 ghost use Rattle.stream_options.specs.AutoClaim.{default_autoclaim, autoclaim_sentence};
 
 use crate::options::clause::{FlagClause, ValueClause};
-use redis_resp::{RedisWrite, ToRedisArgs, WriteError};
+use redis_args::{RedisWrite, ToRedisArgs, WriteError};
 use std::marker::Model;
 
 /// The options of `XAUTOCLAIM`: `[COUNT n] [JUSTID]`. The default has no setting, and writes no

@@ -3,7 +3,7 @@ ghost use Rattle.std.specs.Prelude.{◌≡◌, true, string_bytes};
 ghost use Rattle.stream_options.specs.Claim.{default_claim, claim_sentence};
 
 use crate::options::clause::{FlagClause, ValueClause};
-use redis_resp::{RedisWrite, ToRedisArgs, WriteError};
+use redis_args::{RedisWrite, ToRedisArgs, WriteError};
 use std::marker::Model;
 
 /// The options of `XCLAIM`: `[IDLE n] [TIME n] [RETRYCOUNT n] [FORCE] [JUSTID] [LASTID id]`, in

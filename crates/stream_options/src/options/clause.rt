@@ -1,8 +1,8 @@
 //! The parts of sentences, as values that can be written.
 ghost use Rattle.std.specs.Prelude.{◌∷◌};
-ghost use Rattle.redis_resp.specs.Clause.{clause, flag};
+ghost use Rattle.redis_args.specs.Clause.{clause, flag};
 
-use redis_resp::{RedisWrite, ToRedisArgs, WriteError};
+use redis_args::{RedisWrite, ToRedisArgs, WriteError};
 
 /// `[word value]`: the word and the arguments of the value, and nothing where none is set.
 #[derive(Drop)]

@@ -1,10 +1,10 @@
 //! How a stream recognizes duplicate entries.
 ghost use Rattle.std.specs.Prelude.{◌≡◌, OkIff, IfOk, IfErr};
-ghost use Rattle.redis_resp.specs.Writer.{Wrote};
+ghost use Rattle.redis_args.specs.Writer.{Wrote};
 ghost use Rattle.stream_options.specs.Config.{IsDuration, IsMaxsize, IsConfig, config_sentence};
 
 use crate::options::clause::ValueClause;
-use redis_resp::{RedisWrite, ToRedisArgs, WriteError};
+use redis_args::{RedisWrite, ToRedisArgs, WriteError};
 use std::marker::Model;
 use thiserror::Error;
 

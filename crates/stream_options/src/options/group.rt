@@ -3,7 +3,7 @@ ghost use Rattle.std.specs.Prelude.{◌≡◌, map, IfOk};
 ghost use Rattle.stream_options.specs.GroupMeaning.{group_of};
 ghost use Rattle.stream_options.specs.Read.{group_with, group_sentence};
 
-use redis_resp::{RedisWrite, ToRedisArgs, WriteError};
+use redis_args::{RedisWrite, ToRedisArgs, WriteError};
 use std::alloc::{AllocError, Global};
 
 /// Arguments that were written once, kept to be written again.

@@ -3,7 +3,7 @@ ghost use Rattle.std.specs.Prelude.{◌≡◌, IfOk};
 ghost use Rattle.stream_options.specs.Idempotency.{idempotency_sentence};
 ghost use Rattle.stream_options.specs.View.{idempotency_of};
 
-use redis_resp::{RedisWrite, ToRedisArgs, WriteError};
+use redis_args::{RedisWrite, ToRedisArgs, WriteError};
 use std::alloc::{AllocError, Global};
 
 /// How a duplicate entry is recognized: `IDMP producer idempotent` or `IDMPAUTO producer` of

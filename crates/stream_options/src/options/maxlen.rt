@@ -3,7 +3,7 @@ ghost use Rattle.stream_options.specs.Maxlen.{maxlen_sentence};
 ghost use Rattle.stream_options.specs.View.{maxlen_of};
 
 use crate::options::trim::StreamTrimmingMode;
-use redis_resp::{RedisWrite, ToRedisArgs, WriteError};
+use redis_args::{RedisWrite, ToRedisArgs, WriteError};
 
 /// The most entries that a stream keeps: `MAXLEN = n` or `MAXLEN ~ n` of `XADD` and `XTRIM`.
 #[derive(Clone, Copy, Debug, PartialEq, Eq)]

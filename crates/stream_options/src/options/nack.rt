@@ -3,7 +3,7 @@ ghost use Rattle.std.specs.Prelude.{◌≡◌, refl};
 ghost use Rattle.stream_options.specs.Nack.{nack_sentence};
 ghost use Rattle.stream_options.specs.View.{nack_of};
 
-use redis_resp::{RedisWrite, ToRedisArgs, ToSingleRedisArg, WriteError};
+use redis_args::{RedisWrite, ToRedisArgs, ToSingleRedisArg, WriteError};
 use std::marker::Model;
 
 /// Why a consumer gives an entry back: the word `SILENT`, `FAIL` or `FATAL` of `XNACK`.

@@ -4,7 +4,7 @@ ghost use Rattle.stream_options.specs.Policy.{policy_sentence};
 ghost use Rattle.stream_options.specs.View.{policy_of};
 ghost use Rattle.stream_options.specs.declared.options.policy.StreamDeletionPolicy.TheVariants.{KeepRef};
 
-use redis_resp::{RedisWrite, ToRedisArgs, ToSingleRedisArg, WriteError};
+use redis_args::{RedisWrite, ToRedisArgs, ToSingleRedisArg, WriteError};
 
 /// What becomes of the references that consumer groups hold to deleted entries: the word
 /// `KEEPREF`, `DELREF` or `ACKED` of `XTRIM`, `XADD`, `XDELEX` and `XACKDEL`.

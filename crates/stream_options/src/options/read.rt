@@ -4,7 +4,7 @@ ghost use Rattle.stream_options.specs.Read.{group_with, default_read, read_sente
 
 use crate::options::clause::{FlagClause, ValueClause};
 use crate::options::group::Group;
-use redis_resp::{RedisWrite, ToRedisArgs, WriteError};
+use redis_args::{RedisWrite, ToRedisArgs, WriteError};
 use std::alloc::{AllocError, Global};
 use std::marker::Model;
 

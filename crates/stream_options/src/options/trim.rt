@@ -5,7 +5,7 @@ ghost use Rattle.stream_options.specs.View.{mode_of, strategy_of, policy_of};
 
 use crate::options::clause::ValueClause;
 use crate::options::policy::StreamDeletionPolicy;
-use redis_resp::{RedisWrite, ToRedisArgs, WriteError};
+use redis_args::{RedisWrite, ToRedisArgs, WriteError};
 use std::marker::Model;
 
 /// How exactly a stream is trimmed: the word `=` or `~`.

@@ -1,4 +1,4 @@
-use Rattle.redis_resp.proofs.WriterLemmas.{wrote_at_exit, stops_in_element}
+use Rattle.redis_args.proofs.WriterLemmas.{wrote_at_exit, stops_in_element}
 use Rattle.stream_commands.proofs.streams.KeysToRedisArgs.write_redis_args.Goals as goal
 
 pub returns-in_err-write_redis_args : goal.returns-in_err-write_redis_args

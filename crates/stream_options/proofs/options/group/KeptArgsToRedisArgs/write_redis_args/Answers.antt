@@ -1,4 +1,4 @@
-use Rattle.redis_resp.proofs.WriterLemmas.{wrote_at_exit}
+use Rattle.redis_args.proofs.WriterLemmas.{wrote_at_exit}
 use Rattle.stream_options.proofs.GroupLemmas.{stops_at_argument}
 use Rattle.stream_options.proofs.options.group.KeptArgsToRedisArgs.write_redis_args.Goals as goal
 

@@ -1,0 +1,4 @@
+pub mod DecimalLemmas
+pub mod FixedArgsLemmas
+pub mod RoomLemmas
+pub mod WriterLemmas

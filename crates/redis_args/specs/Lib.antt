@@ -1,0 +1,4 @@
+pub mod Clause
+pub mod FixedArgs
+pub mod Room
+pub mod Writer

@@ -1,0 +1,16 @@
+-- When a writer of a fixed size has room.
+use Rattle.std.specs.Prelude.{◌≡◌, ℕ, ◌+◌, ◌<◌, ◌≤◌, ◌⊎◌, List, length, sum_by}
+use Rattle.redis_args.specs.declared.writer.WriteError.{WriteError}
+use Rattle.redis_args.specs.declared.writer.WriteError.TheVariants.{Full}
+
+-- `count` arguments stand there already, or more than `size` bytes in all would
+abbrev pub LacksRoom : ℕ → ℕ → List (List ℕ) → List ℕ → Type 0
+LacksRoom count size held arg = (length held ≡ count) ⊎ (size < sum_by length held + length arg)
+
+-- it refuses what it lacks room for, and nothing else, with `Full`
+abbrev pub MayRefuse : ℕ → ℕ → List (List ℕ) → List ℕ → WriteError → Type 0
+MayRefuse count size held arg error = (error ≡ Full) × LacksRoom count size held arg
+
+-- there is room for all of `args` behind what is held
+abbrev pub HasRoom : ℕ → ℕ → List (List ℕ) → List (List ℕ) → Type 0
+HasRoom count size held args = (length held + length args ≤ count) × (sum_by length held + sum_by length args ≤ size)

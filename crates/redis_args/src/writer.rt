@@ -1,0 +1,82 @@
+//! What arguments are written into.
+ghost use Rattle.std.specs.Prelude.{◌≡◌, ◌↔◌, ℕ, List, [], ◌∷◌, map, OnErr};
+ghost use Rattle.redis_args.specs.Writer.{Wrote};
+ghost use Rattle.redis_args.specs.declared.writer.WriteError.{WriteError};
+ghost use Rattle.redis_args.specs.declared.writer.WriteError.TheVariants.{Memory};
+
+use std::alloc::{AllocError, AllocFailed};
+
+/// Why a writer refused an argument.
+#[derive(Clone, Copy, Debug, PartialEq, Eq)]
+pub enum WriteError {
+    /// Memory for the argument was refused.
+    Memory,
+    /// A writer of a fixed size has no room for the argument.
+    Full,
+}
+
+impl From<AllocError> for WriteError {
+    ghost from_gives = { λ _ e. e ≡ Memory };
+
+    fn from(_error: AllocError) -> WriteError {
+        WriteError::Memory
+    }
+}
+
+impl<T: Drop> From<AllocFailed<T>> for WriteError {
+    ghost from_gives = { λ _ e. e ≡ Memory };
+
+    fn from(_error: AllocFailed<T>) -> WriteError {
+        WriteError::Memory
+    }
+}
+
+/// A place that takes the arguments of commands, one after the other.
+///
+/// A writer of your own says which arguments stand in it and which it may refuse, with which
+/// error; every value of this layer then keeps its promises with it.
+pub trait RedisWrite {
+    /// The arguments written so far, in order.
+    ghost written: { Self → List (List ℕ) };
+
+    /// In its present state the writer may refuse this argument with this error.
+    ghost may_refuse: { Self → List ℕ → WriteError → Type 0 };
+
+    /// Appends one argument.
+    ///
+    /// An Err comes only where the writer may refuse this argument with this error, and changes
+    /// neither what stands in the writer nor what it may refuse.
+    fn write_arg(&mut self, arg: &[u8]) -> Result<(), WriteError>
+        ensures wrote { Wrote result (written self.old) (arg.now ∷ []) (written self.new)
+            (may_refuse self.new) }
+        ensures same { OnErr result ((a : List ℕ) (e : WriteError)
+            → may_refuse self.new a e ↔ may_refuse self.old a e) };
+}
+
+/// A list on the heap may refuse any argument, with `Memory` alone.
+impl RedisWrite for Vec<Vec<u8>> {
+    ghost written = { λ list. map (λ arg. arg.items) list.items };
+
+    ghost may_refuse = { λ _ _ e. e ≡ Memory };
+
+    fn write_arg(&mut self, arg: &[u8]) -> Result<(), WriteError> {
+        let alloc = *self.allocator();
+        make_room(self)?;
+        let copy = Vec::from_slice(alloc, arg)?;
+        self.push(copy)?;
+        Ok(())
+    }
+}
+
+// A list that has no room at all gets it for as many arguments as sentences mostly have.
+const USUAL_COUNT: usize = 16;
+
+fn make_room(list: &mut Vec<Vec<u8>>) -> Result<(), AllocError>
+    ensures { list.new.items ≡ list.old.items }
+{
+    if list.capacity() == 0 {
+        list.reserve(USUAL_COUNT)
+    } else {
+        Ok(())
+    }
+}
