@@ -1,7 +1,7 @@
 //! The names of the stream layer under the paths of the Rust crate `redis`.
 //!
 //! Nothing stands here but re-exports: `redis::Value`, `redis::streams::StreamReadReply`. A caller
-//! lists the four crates below beside this one: their definitions are the words of its contracts.
+//! lists the five crates below beside this one: their definitions are the words of its contracts.
 #![tactic(auto)]
 
 pub mod streams;

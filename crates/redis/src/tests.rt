@@ -1,9 +1,9 @@
 //! A caller that takes every name of code from this crate.
 ghost use Rattle.std.specs.Prelude.{◌≡◌, ◌≢◌, [], ◌∷◌, None, codes, decimal, map};
 ghost use Rattle.std.specs.Prelude.{option_map, string_bytes, IfOk, IfErr, Some};
-ghost use Rattle.redis_streams.specs.Read.{read_reading};
-ghost use Rattle.redis_streams.specs.ReadMeaning.{streams_of};
 ghost use Rattle.redis_resp.specs.Value.{tree};
+ghost use Rattle.stream_entries.specs.Read.{read_reading};
+ghost use Rattle.stream_entries.specs.ReadMeaning.{streams_of};
 
 use crate::streams::{StreamReadOptions, StreamReadReply};
 use crate::{FromRedisValue, ParsingError, ToRedisArgs, Value};

@@ -8,11 +8,11 @@ use Rattle.redis_resp.specs.Tree.{Tree, nil, int, bulk, array, simple, okay, map
 use Rattle.redis_resp.specs.Text.{text_reading, text_of_plain}
 use Rattle.redis_resp.specs.Reading.{is_nil, traverse, list_reading, option_reading}
 use Rattle.redis_resp.specs.Table.{Fields, entry_reading, table_of}
-use Rattle.redis_streams.specs.Entry.{Entry, entry_of}
-use Rattle.redis_streams.specs.Rows.{joined, field_reading, standard_entries, rows_reading}
-use Rattle.redis_streams.specs.AutoClaim.{AutoClaim, ClaimedKind, nils, ids, rows, kind_of_items, shape_of_items, claimed_by_shape, claimed_reading, entries_by_kind, id_entries, Parts, deleted_reading, autoclaim_of}
+use Rattle.stream_entries.specs.Entry.{Entry, entry_of}
+use Rattle.stream_entries.specs.Rows.{joined, field_reading, standard_entries, rows_reading}
+use Rattle.stream_entries.specs.AutoClaim.{AutoClaim, ClaimedKind, nils, ids, rows, kind_of_items, shape_of_items, claimed_by_shape, claimed_reading, entries_by_kind, id_entries, Parts, deleted_reading, autoclaim_of}
 use Rattle.redis_streams.specs.AutoClaimLaws.{holds_nil, IsOneEntry, InvalidEntriesTellNil}
-use Rattle.redis_streams.proofs.RowsLemmas.{list_shown}
+use Rattle.stream_entries.proofs.RowsLemmas.{list_shown}
 
 -- the number of entries that an item stands for: none where it is nil
 abbrev one_or_none : Tree → ℕ

@@ -3,12 +3,12 @@ use Rattle.std.proofs.Common.{◌≡◌, inl, inr, ℕ, List, [], ◌∷◌, len
 use Rattle.redis_resp.specs.Tree.{Tree, nil, array, map_of_pairs, array_of_plain}
 use Rattle.redis_resp.specs.Text.{text_reading}
 use Rattle.redis_resp.specs.Reading.{traverse, list_reading, option_reading}
-use Rattle.redis_streams.specs.Rows.{joined, standard_entries, rows_reading}
-use Rattle.redis_streams.specs.AutoClaim.{ClaimedKind, nils, ids, rows, kind_of_items, shape_of_items, claimed_by_shape, claimed_reading, entries_by_kind, id_entries, two_or_three, autoclaim_of, autoclaim_reading, AutoClaim}
-use Rattle.redis_streams.specs.Respelling.{Alike, BothAlike, IsArray, IsMap, ClaimedAlike, ArraysAlike, AlikeAtSecond, AutoclaimAlike}
-use Rattle.redis_streams.specs.RespellingLaws.{HoldsOfEqual, IsSymmetric, KeepsRecord}
+use Rattle.stream_entries.specs.Rows.{joined, standard_entries, rows_reading}
+use Rattle.stream_entries.specs.AutoClaim.{ClaimedKind, nils, ids, rows, kind_of_items, shape_of_items, claimed_by_shape, claimed_reading, entries_by_kind, id_entries, two_or_three, autoclaim_of, autoclaim_reading, AutoClaim}
+use Rattle.stream_entries.specs.Respelling.{Alike, BothAlike, IsArray, IsMap, ClaimedAlike, ArraysAlike, AlikeAtSecond, AutoclaimAlike}
+use Rattle.stream_entries.specs.RespellingLaws.{HoldsOfEqual, IsSymmetric, KeepsRecord}
 use Rattle.redis_streams.proofs.AutoClaimLawLemmas.{items_of_array}
-use Rattle.redis_streams.proofs.RespellingLemmas.{alike_back, both_back, rows_back, traverse_alike, standard_alike}
+use Rattle.stream_entries.proofs.RespellingLemmas.{alike_back, both_back, rows_back, traverse_alike, standard_alike}
 
 -- The relation turned round.
 

@@ -1,17 +1,5 @@
 pub mod AutoClaimLawLemmas
-pub mod AutoClaimLemmas
 pub mod AutoclaimRespellingLemmas
-pub mod FieldsLemmas
-pub mod InFormsLemmas
 pub mod InfoLemmas
-pub mod ItemFormLemmas
-pub mod ItemsLeftLemmas
-pub mod NumbersLemmas
 pub mod OtherKeysLemmas
-pub mod OverlapLemmas
 pub mod PendingLemmas
-pub mod ReadableLemmas
-pub mod RespellingLemmas
-pub mod RowsLemmas
-pub mod SkeletonLemmas
-pub mod StreamsLemmas

@@ -4,7 +4,7 @@ use Rattle.std.specs.List.{AllByRecursion, list_any}
 use Rattle.redis_resp.specs.Tree.{Tree, plain, array_of_plain, pairs_in}
 use Rattle.redis_resp.specs.Text.{text_reading}
 use Rattle.redis_resp.specs.Reading.{is_nil}
-use Rattle.redis_streams.specs.AutoClaim.{AutoClaim, Parts, autoclaim_reading, parts_in}
+use Rattle.stream_entries.specs.AutoClaim.{AutoClaim, Parts, autoclaim_reading, parts_in}
 
 -- nil stands there, whatever attributes are around it
 abbrev pub holds_nil : Tree → Bool

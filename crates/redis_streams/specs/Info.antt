@@ -7,7 +7,7 @@ use Rattle.redis_resp.specs.Text.{text_reading}
 use Rattle.redis_resp.specs.Number.{unsigned_reading}
 use Rattle.redis_resp.specs.Reading.{is_nil, list_reading, both_read}
 use Rattle.redis_resp.specs.Table.{fields_reading, pairs_reading, last_with}
-use Rattle.redis_streams.specs.Entry.{Entry, entry_of, empty_entry}
+use Rattle.stream_entries.specs.Entry.{Entry, entry_of, empty_entry}
 
 -- the value of each field by its name, where there is one
 abbrev pub NamedFields : Type 0

@@ -3,7 +3,7 @@ use Rattle.std.specs.Prelude.{List, map, option_map, String, string_bytes}
 use Rattle.std.specs.declared.alloc.Global.{Global}
 use Rattle.std.specs.HashMap.{HashMap, get_by_text}
 use Rattle.redis_resp.specs.Tree.{Tree}
-use Rattle.redis_streams.specs.EntryMeaning.{entry_meaning}
+use Rattle.stream_entries.specs.EntryMeaning.{entry_meaning}
 use Rattle.redis_streams.specs.Info.{NamedFields, StreamInfo, TrackedStream, Consumer, Group}
 use Rattle.redis_streams.specs.declared.info.consumer.StreamInfoConsumer.{StreamInfoConsumer}
 use Rattle.redis_streams.specs.declared.info.stream.StreamInfoStreamReply.{StreamInfoStreamReply}

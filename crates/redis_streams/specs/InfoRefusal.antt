@@ -4,8 +4,8 @@ use Rattle.redis_resp.specs.Tree.{Tree, array_of_plain}
 use Rattle.redis_resp.specs.Refusal.{Refuses, RefusesText, RefusesNumber, RefusesValue, RefusesList, RefusesPairs, RefusesField}
 use Rattle.redis_resp.specs.declared.value.error.ParsingError.{ParsingError}
 use Rattle.redis_streams.specs.Info.{NamedFields, fields_in, consumer_reading, group_reading}
-use Rattle.redis_streams.specs.Refusal.{RefusesFields, RefusesTextIn}
-use Rattle.redis_streams.specs.Rows.{field_reading}
+use Rattle.stream_entries.specs.Refusal.{RefusesFields, RefusesTextIn}
+use Rattle.stream_entries.specs.Rows.{field_reading}
 
 -- an entry by its items: the id as a text, or the fields as those of an entry
 abbrev pub RefusesItems : List Tree → ParsingError → Type 0

@@ -8,7 +8,7 @@ use Rattle.redis_resp.specs.Refusal.{Refuses, OneRefused, RefusesNumber, Refuses
 use Rattle.redis_resp.specs.declared.value.error.ParsingError.{ParsingError}
 use Rattle.redis_resp.specs.declared.value.error.ParsingError.TheVariants.{PendingWithoutStart, PendingWithoutEnd, NotPendingRow, Memory}
 use Rattle.redis_streams.specs.Pending.{SummaryParts, summary_parts, Members, row_numbers, pending_row}
-use Rattle.redis_streams.specs.Refusal.{RefusesTextIn, RefusesOptionalText}
+use Rattle.stream_entries.specs.Refusal.{RefusesTextIn, RefusesOptionalText}
 
 -- a row of a summary: a consumer's name and the text of its count, where they are there
 abbrev pub RefusesSummaryRow : Tree → ParsingError → Type 0

@@ -4,7 +4,6 @@
 //! a list as an array, a set or a map's pairs. The four laws of respelling say at which places of a
 //! reply the one may stand for the other: both values then read as one record, or both as none.
 ghost use Rattle.std.specs.Prelude.{◌≡◌, ◌↔◌, IsTrue};
-ghost use Rattle.redis_streams.specs.AutoClaim.{autoclaim_reading};
 ghost use Rattle.redis_streams.specs.AutoClaimLaws.{InvalidEntriesTellNil};
 ghost use Rattle.redis_streams.specs.Info.{
   consumer_reading,
@@ -19,22 +18,23 @@ ghost use Rattle.redis_streams.specs.OtherKeys.{
   stream_names,
   tracked_names,
 };
-ghost use Rattle.redis_streams.specs.OverlapLaws.{
+ghost use Rattle.stream_entries.specs.AutoClaim.{autoclaim_reading};
+ghost use Rattle.stream_entries.specs.OverlapLaws.{
   BothRecordsAreShape,
   ClaimIsGiven,
   EachEntryIsRead,
   RecordsDiffer,
   StandardIsGiven,
 };
-ghost use Rattle.redis_streams.specs.Read.{read_reading, standard_reading};
-ghost use Rattle.redis_streams.specs.Respelling.{AutoclaimAlike, ClaimAlike, RangeAlike, ReadAlike};
-ghost use Rattle.redis_streams.specs.RespellingLaws.{
+ghost use Rattle.stream_entries.specs.Read.{read_reading, standard_reading};
+ghost use Rattle.stream_entries.specs.Respelling.{AutoclaimAlike, ClaimAlike, RangeAlike, ReadAlike};
+ghost use Rattle.stream_entries.specs.RespellingLaws.{
   HoldsOfEqual,
   IsSymmetric,
   KeepsRecord,
   ProtocolsAreAlike,
 };
-ghost use Rattle.redis_streams.specs.Rows.{rows_reading};
+ghost use Rattle.stream_entries.specs.Rows.{rows_reading};
 
 use crate::status::{XAckDelStatusCode, XDelExStatusCode};
 
@@ -58,7 +58,7 @@ pub fn other_keys_change_nothing()
 /// What XRANGE or XREVRANGE answers and a respelling of it, at the list of rows, the rows and the
 /// fields, read as one record or both as none. The relation holds of equal values, and in both
 /// directions. It takes no memory.
-#[tactic(auto, using(crate::proofs::RespellingLemmas::range_laws))]
+#[tactic(auto, using(stream_entries::proofs::RespellingLemmas::range_laws))]
 pub fn respell_range()
     ensures record { KeepsRecord RangeAlike rows_reading }
     ensures equal { HoldsOfEqual RangeAlike }
@@ -66,7 +66,7 @@ pub fn respell_range()
 {}
 
 /// The same of what XCLAIM answers. It takes no memory.
-#[tactic(auto, using(crate::proofs::RespellingLemmas::claim_laws))]
+#[tactic(auto, using(stream_entries::proofs::RespellingLemmas::claim_laws))]
 pub fn respell_claim()
     ensures record { KeepsRecord ClaimAlike rows_reading }
     ensures equal { HoldsOfEqual ClaimAlike }
@@ -78,7 +78,7 @@ pub fn respell_claim()
 /// of the claim form is an array of four in every spelling. Both values then have the same standard
 /// record or both none, which is why the relation has no direction. The array of rows that RESP2
 /// answers and the map that RESP3 answers are such values. It takes no memory.
-#[tactic(auto, using(crate::proofs::RespellingLemmas::read_laws))]
+#[tactic(auto, using(stream_entries::proofs::RespellingLemmas::read_laws))]
 pub fn respell_read()
     ensures record { KeepsRecord ReadAlike read_reading }
     ensures standard { KeepsRecord ReadAlike standard_reading }
@@ -101,7 +101,7 @@ pub fn respell_autoclaim()
 /// with the fields and its number's text without fields in the standard record (the second alone
 /// where the two texts are one), and one delivered entry in the claim record. So the records differ
 /// exactly where a list that a row's table keeps has an entry. It takes no memory.
-#[tactic(auto, using(crate::proofs::OverlapLemmas::overlap_laws))]
+#[tactic(auto, using(stream_entries::proofs::OverlapLemmas::overlap_laws))]
 pub fn overlap()
     ensures shape { BothRecordsAreShape }
     ensures entries { EachEntryIsRead }

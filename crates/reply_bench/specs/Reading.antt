@@ -4,10 +4,10 @@ use Rattle.std.specs.Option.{is_some}
 use Rattle.redis_resp.specs.Number.{signed_reading}
 use Rattle.redis_resp.specs.Table.{table_reading}
 use Rattle.redis_resp.specs.Tree.{Tree}
-use Rattle.redis_streams.specs.AutoClaim.{autoclaim_reading}
+use Rattle.stream_entries.specs.AutoClaim.{autoclaim_reading}
 use Rattle.redis_streams.specs.Pending.{pending_count_reading}
-use Rattle.redis_streams.specs.Read.{read_reading}
-use Rattle.redis_streams.specs.Rows.{rows_reading}
+use Rattle.stream_entries.specs.Read.{read_reading}
+use Rattle.stream_entries.specs.Rows.{rows_reading}
 use Rattle.reply_bench.specs.declared.job.Operation.{Operation}
 use Rattle.reply_bench.specs.declared.job.Operation.TheVariants.{Range, RangeOfOneField, Read, ReadWithClaim, Autoclaim, AutoclaimOfIds, Pending, Table, Add}
 use Rattle.reply_bench.specs.declared.job.Way.{Way}

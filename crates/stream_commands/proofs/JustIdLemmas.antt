@@ -9,9 +9,9 @@ use Rattle.redis_resp.specs.Text.{text_reading}
 use Rattle.redis_resp.specs.Tree.{Tree, array_of_plain}
 use Rattle.redis_resp.specs.declared.value.error.ParsingError.{ParsingError}
 use Rattle.redis_resp.specs.declared.value.error.ParsingError.TheVariants.{NotArray, WrongItemCount}
-use Rattle.redis_streams.specs.AutoClaim.{Parts, two_or_three, parts_in, deleted_reading}
-use Rattle.redis_streams.specs.AutoClaimMeaning.{text_bytes_of}
-use Rattle.redis_streams.specs.Refusal.{RefusesTextIn}
+use Rattle.stream_entries.specs.AutoClaim.{Parts, two_or_three, parts_in, deleted_reading}
+use Rattle.stream_entries.specs.AutoClaimMeaning.{text_bytes_of}
+use Rattle.stream_entries.specs.Refusal.{RefusesTextIn}
 use Rattle.stream_commands.specs.JustId.{justid_of, justid_reading, RefusesIds, RefusesJustId}
 
 module _ (t : Tree) (parts : Parts) (there : parts_in t ≡ Some parts) where

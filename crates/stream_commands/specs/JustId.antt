@@ -6,8 +6,8 @@ use Rattle.redis_resp.specs.Text.{text_reading}
 use Rattle.redis_resp.specs.Then.{◌>>=◌}
 use Rattle.redis_resp.specs.Tree.{Tree}
 use Rattle.redis_resp.specs.declared.value.error.ParsingError.{ParsingError}
-use Rattle.redis_streams.specs.AutoClaim.{Parts, parts_in, deleted_reading}
-use Rattle.redis_streams.specs.Refusal.{RefusesTextIn, RefusesDeleted, RefusesParts}
+use Rattle.stream_entries.specs.AutoClaim.{Parts, parts_in, deleted_reading}
+use Rattle.stream_entries.specs.Refusal.{RefusesTextIn, RefusesDeleted, RefusesParts}
 
 -- the id to go on with, the ids of the entries that were claimed, and those of entries that were deleted
 pub record JustId : Type 0 where

@@ -1,6 +1,6 @@
 -- What the answer of an automatic claim that asks for ids alone means.
 use Rattle.std.specs.Prelude.{string_bytes}
-use Rattle.redis_streams.specs.AutoClaimMeaning.{text_bytes_of}
+use Rattle.stream_entries.specs.AutoClaimMeaning.{text_bytes_of}
 use Rattle.stream_commands.specs.JustId.{JustId}
 use Rattle.stream_commands.specs.declared.justid.StreamAutoClaimJustIdReply.{StreamAutoClaimJustIdReply}
 

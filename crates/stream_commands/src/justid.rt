@@ -1,11 +1,11 @@
 //! The reply of XAUTOCLAIM where it is asked for ids alone.
 ghost use Rattle.std.specs.Prelude.{◌≡◌, Some, None, IsOk, IfOk, IfErr, length};
 ghost use Rattle.redis_resp.specs.Refusal.{Refuses};
-ghost use Rattle.redis_streams.specs.AutoClaim.{parts_in, two_or_three};
-ghost use Rattle.redis_streams.specs.AutoClaimMeaning.{trees_of_parts};
-ghost use Rattle.redis_streams.specs.Refusal.{RefusesParts};
 ghost use Rattle.stream_commands.specs.JustId.{JustId, RefusesJustId, empty_justid, justid_reading};
 ghost use Rattle.stream_commands.specs.JustIdMeaning.{justid_meaning};
+ghost use Rattle.stream_entries.specs.AutoClaim.{parts_in, two_or_three};
+ghost use Rattle.stream_entries.specs.AutoClaimMeaning.{trees_of_parts};
+ghost use Rattle.stream_entries.specs.Refusal.{RefusesParts};
 
 use redis_resp::{FromRedisValue, ParsingError, Source, Value};
 use std::alloc::{AllocError, Global};

@@ -9,7 +9,7 @@ use Rattle.redis_resp.specs.declared.value.Value.{Value}
 use Rattle.redis_resp.specs.Text.{text_reading}
 use Rattle.redis_resp.specs.Tree.{Tree}
 use Rattle.redis_resp.specs.Value.{tree}
-use Rattle.redis_streams.specs.declared.rows.stream_id.StreamId.{StreamId}
+use Rattle.stream_entries.specs.declared.stream_id.StreamId.{StreamId}
 use denote.Ref.{Bor}
 use Rattle.stream_text.specs.declared.replies.rows.stream_id.Field.{Field}
 

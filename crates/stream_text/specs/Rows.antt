@@ -1,11 +1,11 @@
 -- How the replies that hold entries stand in a line.
 use Rattle.std.specs.Prelude.{ℕ, List, ◌++◌, codes, string_bytes, if◌then◌else◌}
 use Rattle.std.specs.List.{join_by}
-use Rattle.redis_streams.specs.declared.rows.autoclaim.StreamAutoClaimReply.{StreamAutoClaimReply}
-use Rattle.redis_streams.specs.declared.rows.claim.StreamClaimReply.{StreamClaimReply}
-use Rattle.redis_streams.specs.declared.rows.range.StreamRangeReply.{StreamRangeReply}
-use Rattle.redis_streams.specs.declared.rows.stream_key.StreamKey.{StreamKey}
-use Rattle.redis_streams.specs.declared.rows.read.StreamReadReply.{StreamReadReply}
+use Rattle.stream_entries.specs.declared.autoclaim.StreamAutoClaimReply.{StreamAutoClaimReply}
+use Rattle.stream_entries.specs.declared.claim.StreamClaimReply.{StreamClaimReply}
+use Rattle.stream_entries.specs.declared.range.StreamRangeReply.{StreamRangeReply}
+use Rattle.stream_entries.specs.declared.stream_key.StreamKey.{StreamKey}
+use Rattle.stream_entries.specs.declared.read.StreamReadReply.{StreamReadReply}
 use Rattle.stream_text.specs.Entry.{entry_form}
 use Rattle.stream_text.specs.Form.{listed}
 

@@ -2,15 +2,15 @@
 use Rattle.std.proofs.Common.{◌≡◌, ◌≢◌, ℕ, List, None, Result, Ok, Err, take, drop, refl, sym, ◌∙◌, subst}
 use Rattle.std.proofs.lemmas.List.{take-append-drop}
 use Rattle.redis_resp.specs.Tree.{Tree}
-use Rattle.redis_streams.specs.Read.{read_reading}
+use Rattle.stream_entries.specs.Read.{read_reading}
 use Rattle.redis_resp.specs.declared.value.error.ParsingError.{ParsingError}
 use Rattle.redis_wire.specs.Decoded.{IsReply}
 use Rattle.redis_wire.specs.Limits.{default_limits}
 use Rattle.redis_wire.specs.Record.{IsRecord}
 use Rattle.redis_wire.specs.Reply.{Answer, value, refused}
-use Rattle.redis_streams.specs.ReadMeaning.{streams_of}
-use Rattle.redis_streams.specs.Refusal.{RefusesRead}
-use Rattle.redis_streams.specs.declared.rows.read.StreamReadReply.{StreamReadReply}
+use Rattle.stream_entries.specs.ReadMeaning.{streams_of}
+use Rattle.stream_entries.specs.Refusal.{RefusesRead}
+use Rattle.stream_entries.specs.declared.read.StreamReadReply.{StreamReadReply}
 use Rattle.redis_wire.specs.declared.limits.Limits.{Limits}
 use Rattle.redis_wire.specs.declared.reply.ReplyError.{ReplyError}
 use Rattle.redis_wire.specs.declared.reply.ReplyError.TheVariants as replies

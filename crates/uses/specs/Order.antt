@@ -4,7 +4,7 @@ use Rattle.redis_resp.specs.Tree.{Tree}
 use Rattle.redis_resp.specs.Text.{text_reading}
 use Rattle.redis_resp.specs.Number.{unsigned_reading}
 use Rattle.redis_resp.specs.Table.{Fields, fields_reading, field_record}
-use Rattle.redis_streams.specs.Entry.{Entry}
+use Rattle.stream_entries.specs.Entry.{Entry}
 use Rattle.uses.specs.declared.order.Order.{Order}
 
 -- an order's number, its customer and how many pieces

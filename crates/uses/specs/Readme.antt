@@ -2,7 +2,7 @@
 use Rattle.std.specs.Prelude.{ℕ, List, [], ◌∷◌, Option, None}
 use Rattle.redis_resp.specs.Text.{text_reading}
 use Rattle.redis_resp.specs.Table.{field_record}
-use Rattle.redis_streams.specs.Entry.{Entry}
+use Rattle.stream_entries.specs.Entry.{Entry}
 
 -- the text of the field of that name of the first entry, where both are there
 abbrev pub first_text : List ℕ → List Entry → Option (List ℕ)

@@ -1,9 +1,9 @@
 -- What the bytes of a reply answer.
 use Rattle.std.specs.Prelude.{◌≡◌, ℕ, List, ◌++◌, Some, None, Result, Ok, Err}
 use Rattle.redis_resp.specs.Tree.{Tree}
-use Rattle.redis_streams.specs.Read.{read_reading}
-use Rattle.redis_streams.specs.ReadMeaning.{streams_of}
-use Rattle.redis_streams.specs.declared.rows.read.StreamReadReply.{StreamReadReply}
+use Rattle.stream_entries.specs.Read.{read_reading}
+use Rattle.stream_entries.specs.ReadMeaning.{streams_of}
+use Rattle.stream_entries.specs.declared.read.StreamReadReply.{StreamReadReply}
 use Rattle.redis_wire.specs.Decoded.{IsReply, NoReply}
 use Rattle.redis_wire.specs.Limits.{default_limits}
 use Rattle.redis_wire.specs.Reply.{Answer, value, refused}

@@ -1,6 +1,6 @@
 //! The orders of a batch of entries, and the entries that say none.
 ghost use Rattle.std.specs.Prelude.{◌≡◌, map, flat_map, IfOk, string_bytes};
-ghost use Rattle.redis_streams.specs.EntryMeaning.{entry_meaning};
+ghost use Rattle.stream_entries.specs.EntryMeaning.{entry_meaning};
 ghost use Rattle.uses.specs.Order.{order_meaning, order_in, strange_in};
 
 use crate::order::Order;

@@ -1,7 +1,7 @@
 //! The code of the README.
 ghost use Rattle.std.specs.Prelude.{◌≡◌, [], ◌∷◌, Some, codes, decimal, map, option_map, string_bytes, IfOk};
 ghost use Rattle.redis_resp.specs.Value.{tree};
-ghost use Rattle.redis_streams.specs.Rows.{rows_reading};
+ghost use Rattle.stream_entries.specs.Rows.{rows_reading};
 ghost use Rattle.uses.specs.Readme.{first_text};
 
 use redis_resp::{ParsingError, ToRedisArgs, Value, from_redis_value};

@@ -2,7 +2,7 @@
 ghost use Rattle.std.specs.Prelude.{◌≡◌, ◌≢◌, [], ◌∷◌, Option, Some, None, codes, decimal, map};
 ghost use Rattle.std.specs.Prelude.{option_map, string_bytes, IfOk, IfErr};
 ghost use Rattle.redis_resp.specs.Value.{tree};
-ghost use Rattle.redis_streams.specs.AutoClaim.{autoclaim_reading};
+ghost use Rattle.stream_entries.specs.AutoClaim.{autoclaim_reading};
 ghost use Rattle.uses.specs.Stalled.{Claimed, claimed_of};
 
 use crate::worker::ids_of_entries;

@@ -1,11 +1,11 @@
 //! From the bytes that a server sends to a record, in RESP2 and in RESP3.
 ghost use Rattle.std.specs.Prelude.{◌≡◌, ◌≢◌, List, None, IfOk, IfErr};
 ghost use Rattle.redis_resp.specs.Tree.{Tree, map_of_pairs, pairs};
-ghost use Rattle.redis_streams.specs.Read.{read_reading};
-ghost use Rattle.redis_streams.specs.ReadMeaning.{streams_of};
-ghost use Rattle.redis_streams.specs.Respelling.{ReadAlike};
-ghost use Rattle.redis_streams.specs.RespellingLaws.{rows_of_two};
 ghost use Rattle.redis_wire.specs.Reply.{Answer, value};
+ghost use Rattle.stream_entries.specs.Read.{read_reading};
+ghost use Rattle.stream_entries.specs.ReadMeaning.{streams_of};
+ghost use Rattle.stream_entries.specs.Respelling.{ReadAlike};
+ghost use Rattle.stream_entries.specs.RespellingLaws.{rows_of_two};
 ghost use Rattle.uses.specs.Wire.{BeginsWith, Answers, Tells};
 
 use redis_resp::ParsingError;

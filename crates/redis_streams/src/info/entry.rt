@@ -1,16 +1,16 @@
 //! An entry as XINFO STREAM tells of it.
 ghost use Rattle.std.specs.Prelude.{◌≡◌, Some, IfOk, IfErr, string_bytes};
-ghost use Rattle.redis_resp.specs.Refusal.{Refuses};
-ghost use Rattle.redis_streams.specs.Entry.{Entry, entry_of, empty_entry};
 ghost use Rattle.redis_resp.specs.FieldsMeaning.{fields_of};
-ghost use Rattle.redis_streams.specs.EntryMeaning.{entry_meaning};
+ghost use Rattle.redis_resp.specs.Refusal.{Refuses};
 ghost use Rattle.redis_streams.specs.Info.{entry_of_items, info_entry_reading};
 ghost use Rattle.redis_streams.specs.InfoRefusal.{RefusesInfoEntry, RefusesItems};
+ghost use Rattle.stream_entries.specs.Entry.{Entry, entry_of, empty_entry};
+ghost use Rattle.stream_entries.specs.EntryMeaning.{entry_meaning};
 
-use crate::rows::StreamId;
 use redis_resp::{FromRedisValue, ParsingError, Source, Value};
 use std::alloc::Global;
 use std::collections::HashMap;
+use stream_entries::StreamId;
 
 /// An entry as XINFO STREAM tells of it: an `Array` with no attribute around it,
 /// of the id and the fields. The empty

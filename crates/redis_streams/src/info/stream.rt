@@ -7,10 +7,10 @@ ghost use Rattle.redis_streams.specs.InfoRefusal.{RefusesStream, RefusesStreamFi
 
 use crate::info::entry::InfoEntry;
 use crate::info::named_fields::{named_fields, read_or, take_field};
-use crate::rows::StreamId;
 use redis_resp::{FromRedisValue, ParsingError, Source, Value};
 use std::alloc::{AllocError, Global};
 use std::collections::HashMap;
+use stream_entries::StreamId;
 
 /// What XINFO STREAM tells of a stream.
 #[derive(Debug, Drop)]

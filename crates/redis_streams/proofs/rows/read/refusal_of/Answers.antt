@@ -1,8 +1,0 @@
-use Rattle.std.proofs.Common.{inl, inr, refl}
-use Rattle.redis_streams.proofs.rows.read.refusal_of.Goals as goal
-
-pub returns-in-Memory : goal.returns-in-Memory
-returns-in-Memory c = inl (c.in-Memory.is, refl)
-
-pub returns-in_default : goal.returns-in_default
-returns-in_default c = inr (c.in_default.not-Memory, refl)

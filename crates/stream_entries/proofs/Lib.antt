@@ -1,0 +1,12 @@
+pub mod AutoClaimLemmas
+pub mod FieldsLemmas
+pub mod InFormsLemmas
+pub mod ItemFormLemmas
+pub mod ItemsLeftLemmas
+pub mod NumbersLemmas
+pub mod OverlapLemmas
+pub mod ReadableLemmas
+pub mod RespellingLemmas
+pub mod RowsLemmas
+pub mod SkeletonLemmas
+pub mod StreamsLemmas

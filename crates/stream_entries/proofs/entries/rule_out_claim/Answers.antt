@@ -1,0 +1,12 @@
+use Rattle.std.proofs.Common.{◌∙◌}
+use Rattle.std.proofs.lemmas.Result.{IfOk-weaker}
+use Rattle.stream_entries.specs.EntryMeaning.{entries_of}
+use Rattle.stream_entries.specs.InFormsMeaning.{settled_in}
+use Rattle.stream_entries.specs.ItemsLeft.{item_tree}
+use Rattle.stream_entries.specs.declared.overlap.Form.TheVariants.{Standard, Claim}
+use Rattle.stream_entries.proofs.InFormsLemmas.{claim_ruled_out}
+use Rattle.stream_entries.proofs.entries.rule_out_claim.Goals as goal
+
+pub returns-clause-ok : goal.returns-clause-ok
+returns-clause-ok g c =
+    IfOk-weaker c.with_row.result _ _ (λ r h. h ∙ claim_ruled_out (item_tree g.S.Source.seen c.args.item) (entries_of c.in_ok-ids.ids) (settled_in Standard c.args.overlaps) (settled_in Claim c.args.overlaps) c.in_ok-ids.ensures c.requires) c.with_row.ensures.ok

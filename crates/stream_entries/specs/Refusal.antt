@@ -1,0 +1,60 @@
+-- With which error a value may be refused as a reply that holds entries.
+use Rattle.std.specs.Prelude.{◌≡◌, ◌⊎◌, List, Option, Some, MatchOption, IsSome, length}
+use Rattle.redis_resp.specs.Tree.{Tree, items, array_of_plain}
+use Rattle.redis_resp.specs.Text.{text_reading}
+use Rattle.redis_resp.specs.Reading.{option_reading}
+use Rattle.redis_resp.specs.Refusal.{Refuses, RefusesText, RefusesValue, RefusesOption, RefusesList, RefusesPairs}
+use Rattle.redis_resp.specs.declared.value.error.ParsingError.{ParsingError}
+use Rattle.redis_resp.specs.declared.value.error.ParsingError.TheVariants.{NotArray, WrongItemCount, WrongClaimedType, UnknownReadFormat, Memory}
+use Rattle.stream_entries.specs.AutoClaim.{ClaimedKind, nils, ids, rows, Parts, two_or_three, claimed_shape}
+use Rattle.stream_entries.specs.Rows.{field_reading, row_reading}
+
+-- a text
+abbrev pub RefusesTextIn : Tree → ParsingError → Type 0
+RefusesTextIn = Refuses text_reading RefusesText
+
+-- a text, where one is there
+abbrev pub RefusesOptionalText : Tree → ParsingError → Type 0
+RefusesOptionalText = Refuses (option_reading text_reading) (RefusesOption RefusesTextIn)
+
+-- the fields of an entry
+abbrev pub RefusesFields : Tree → ParsingError → Type 0
+RefusesFields = RefusesPairs (Refuses (λ u. Some u) RefusesValue)
+
+-- a row of ids and their fields
+abbrev pub RefusesRow : Tree → ParsingError → Type 0
+RefusesRow = RefusesPairs (Refuses field_reading RefusesFields)
+
+-- a range or a claim: a list of rows
+abbrev pub RefusesRows : Tree → ParsingError → Type 0
+RefusesRows = RefusesList (Refuses row_reading RefusesRow)
+
+-- a read: `UnknownReadFormat`, or out of memory where the value has a list at all
+abbrev pub RefusesRead : Tree → ParsingError → Type 0
+RefusesRead t error = (error ≡ UnknownReadFormat) ⊎ ((error ≡ Memory) × IsSome (items t))
+
+-- the entries of a claimed list of that kind; nothing but nil is not refused
+abbrev pub RefusesByKind : ClaimedKind → Tree → ParsingError → Type 0
+RefusesByKind nils t error = ⊥
+RefusesByKind ids t error = RefusesList RefusesOptionalText t error
+RefusesByKind rows t error = RefusesRows t error
+
+-- a claimed list: `WrongClaimedType` where it has no shape, and else what its entries are refused with
+abbrev pub RefusesClaimed : Tree → ParsingError → Type 0
+RefusesClaimed t error = MatchOption (claimed_shape t) (error ≡ WrongClaimedType) (λ shape. RefusesByKind shape.0 t error)
+
+-- the deleted ids, where the reply has such an item: a list of texts
+abbrev pub RefusesDeleted : Option Tree → ParsingError → Type 0
+RefusesDeleted deleted error = MatchOption deleted ⊥ (λ t. RefusesList RefusesTextIn t error)
+
+-- an array: `NotArray` where it is none, `WrongItemCount` where it has not two or three items, and else what its parts are refused with
+abbrev pub RefusesParts : (Parts → ParsingError → Type 0) → Tree → ParsingError → Type 0
+RefusesParts refuses t error = MatchOption (array_of_plain t) (error ≡ NotArray) (λ ts. MatchOption (two_or_three ts) (error ≡ WrongItemCount (length ts)) (λ parts. refuses parts error))
+
+-- the claimed list, the deleted ids or the next id
+abbrev pub RefusesPart : Parts → ParsingError → Type 0
+RefusesPart parts error = RefusesClaimed parts.1 error ⊎ (RefusesDeleted parts.2 error ⊎ RefusesTextIn parts.0 error)
+
+-- an automatic claim: each of its three outer errors stands exactly where the shape is wrong, and a part that is unreadable is told by its own
+abbrev pub RefusesAutoClaim : Tree → ParsingError → Type 0
+RefusesAutoClaim = RefusesParts RefusesPart

@@ -1,0 +1,153 @@
+//! The reply of XAUTOCLAIM.
+ghost use Rattle.std.specs.Prelude.{◌≡◌, [], false, Some, None, IsOk, IfOk, IfErr, length, map, option_map, string_bytes};
+ghost use Rattle.redis_resp.specs.Refusal.{Refuses};
+ghost use Rattle.stream_entries.specs.AutoClaim.{AutoClaim, autoclaim_reading, deleted_reading, empty_autoclaim, parts_in, two_or_three};
+ghost use Rattle.stream_entries.specs.AutoClaimMeaning.{autoclaim_meaning, text_bytes_of, trees_of_parts};
+ghost use Rattle.stream_entries.specs.Refusal.{RefusesAutoClaim, RefusesDeleted, RefusesParts};
+
+use crate::claimed::read_claimed;
+use crate::stream_id::{StreamId, copy_ids};
+use redis_resp::{FromRedisValue, ParsingError, Source, Value};
+use std::alloc::{AllocError, Global};
+
+/// What XAUTOCLAIM answers.
+#[derive(Debug, Drop)]
+pub struct StreamAutoClaimReply {
+    /// The id from which the next XAUTOCLAIM goes on; `0-0` where all pending entries were seen.
+    pub next_stream_id: String,
+    /// The entries that were claimed, in order; without fields where `JUSTID` asked for ids alone.
+    pub claimed: Vec<StreamId>,
+    /// The ids of entries that were pending and are no longer in the stream; a server tells them
+    /// from 7.0 on.
+    pub deleted_ids: Vec<String>,
+    /// Whether the list of claimed entries had more items than entries: a server up to 6.2 answers
+    /// nil in place of an entry that was deleted meanwhile.
+    pub invalid_entries: bool,
+}
+
+impl StreamAutoClaimReply {
+    /// The reply without ids and entries. It takes no memory and is always Ok.
+    pub fn empty(alloc: Global) -> Result<StreamAutoClaimReply, AllocError>
+        ensures ok { IsOk result }
+        ensures reply { IfOk result (λ r. autoclaim_meaning r ≡ empty_autoclaim) }
+    {
+        Ok(StreamAutoClaimReply {
+            next_stream_id: String::new(alloc),
+            claimed: Vec::new(alloc),
+            deleted_ids: Vec::new(alloc),
+            invalid_entries: false,
+        })
+    }
+
+    /// The same reply. It fails only where it is out of memory.
+    pub fn try_clone(&self, alloc: Global) -> Result<StreamAutoClaimReply, AllocError>
+        ensures { IfOk result (λ r. autoclaim_meaning r ≡ autoclaim_meaning self.now) }
+    {
+        Ok(StreamAutoClaimReply {
+            next_stream_id: String::from_str(alloc, &self.next_stream_id)?,
+            claimed: copy_ids(alloc, &self.claimed)?,
+            deleted_ids: copy_texts(alloc, &self.deleted_ids)?,
+            invalid_entries: self.invalid_entries,
+        })
+    }
+}
+
+/// An array of two or three: the next id, the claimed list and the deleted ids, of which a reply of
+/// two has none. `NotArray` for any other kind, attributes included, `WrongItemCount` for another
+/// length, and `WrongClaimedType` where the claimed list is no array, or its first item that is not
+/// nil is neither a bulk string nor an array. A part that is unreadable is told by its own refusal.
+impl FromRedisValue for StreamAutoClaimReply {
+    ghost Meaning = { AutoClaim };
+
+    ghost meaning = { autoclaim_meaning };
+
+    ghost reading = { autoclaim_reading };
+
+    ghost may_refuse = { RefusesAutoClaim };
+
+    fn from_redis_value(alloc: Global, v: Value) -> Result<StreamAutoClaimReply, ParsingError> {
+        read_autoclaim(alloc, v)
+    }
+
+    fn from_redis_value_ref(
+        alloc: Global,
+        v: &Value,
+    ) -> Result<StreamAutoClaimReply, ParsingError> {
+        read_autoclaim(alloc, v)
+    }
+}
+
+/// The reply that the parts of a value make.
+#[tactic(auto, using(crate::proofs::AutoClaimLemmas::autoclaim_read))]
+fn read_autoclaim<S: Source>(alloc: Global, v: S) -> Result<StreamAutoClaimReply, ParsingError>
+    ensures ok { IfOk result (λ r. autoclaim_reading (S.seen v) ≡ Some (autoclaim_meaning r)) }
+    ensures err { IfErr result (Refuses autoclaim_reading RefusesAutoClaim (S.seen v)) }
+{
+    let (next, claimed, deleted) = into_parts(v)?;
+    let (claimed, invalid_entries) = read_claimed(alloc, claimed)?;
+    let deleted_ids = read_deleted(alloc, deleted)?;
+    let next_stream_id: String = next.read(alloc)?;
+    Ok(StreamAutoClaimReply {
+        next_stream_id,
+        claimed,
+        deleted_ids,
+        invalid_entries,
+    })
+}
+
+/// The next id, the claimed list and, where there is a third item, the deleted ids. It takes no
+/// memory.
+fn into_parts<S: Source>(v: S) -> Result<(S, S, Option<S>), ParsingError>
+    ensures ok { IfOk result (λ parts. parts_in (S.seen v) ≡ Some (trees_of_parts S.seen parts)) }
+    ensures err { IfErr result (Refuses parts_in (RefusesParts (λ _ _. ⊥)) (S.seen v)) }
+{
+    match v.into_array() {
+        Some(items) => two_or_three_of::<S>(items),
+        None => Err(ParsingError::NotArray),
+    }
+}
+
+/// The parts of a list of two or three items.
+fn two_or_three_of<S: Source>(mut items: S::Values) -> Result<(S, S, Option<S>), ParsingError>
+    ensures ok { IfOk result (λ parts. two_or_three (S.values_left items)
+        ≡ Some (trees_of_parts S.seen parts)) }
+    ensures err { IfErr result (λ e. (two_or_three (S.values_left items) ≡ None)
+        × (e ≡ ParsingError.WrongItemCount (length (S.values_left items)))) }
+{
+    let count = S::count_values(&items);
+    if count > 3 {
+        return Err(ParsingError::WrongItemCount(count));
+    }
+    let Some(next) = S::next_value(&mut items) else {
+        return Err(ParsingError::WrongItemCount(count));
+    };
+    let Some(claimed) = S::next_value(&mut items) else {
+        return Err(ParsingError::WrongItemCount(count));
+    };
+    let deleted = S::next_value(&mut items);
+    Ok((next, claimed, deleted))
+}
+
+/// The deleted ids, and none where the reply has no such item.
+fn read_deleted<S: Source>(alloc: Global, deleted: Option<S>) -> Result<Vec<String>, ParsingError>
+    ensures ok { IfOk result (λ ids. deleted_reading (option_map S.seen deleted)
+        ≡ Some (text_bytes_of ids)) }
+    ensures err { IfErr result (Refuses deleted_reading RefusesDeleted
+        (option_map S.seen deleted)) }
+{
+    match deleted {
+        Some(ids) => ids.read(alloc),
+        None => Ok(Vec::new(alloc)),
+    }
+}
+
+/// The same texts, in order. It fails only where it is out of memory.
+fn copy_texts(alloc: Global, texts: &[String]) -> Result<Vec<String>, AllocError>
+    ensures { IfOk result (λ v. text_bytes_of v ≡ map string_bytes texts.now) }
+{
+    let mut copies = Vec::with_capacity(alloc, texts.len())?;
+    for text in texts {
+        copies.push(String::from_str(alloc, text)?)?;
+    }
+    Ok(copies)
+}

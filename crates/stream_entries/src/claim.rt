@@ -1,0 +1,63 @@
+//! The reply of XCLAIM.
+ghost use Rattle.std.specs.Prelude.{◌≡◌, [], List, IsOk, IfOk};
+ghost use Rattle.stream_entries.specs.Entry.{Entry};
+ghost use Rattle.stream_entries.specs.EntryMeaning.{entries_of};
+ghost use Rattle.stream_entries.specs.Refusal.{RefusesRows};
+ghost use Rattle.stream_entries.specs.Rows.{rows_reading};
+
+use crate::items::read_rows;
+use crate::stream_id::{StreamId, copy_ids};
+use redis_resp::{FromRedisValue, ParsingError, Value};
+use std::alloc::{AllocError, Global};
+
+/// The entries that XCLAIM answers, in order. With `JUSTID` it answers ids alone, which are read as
+/// a list of texts.
+#[derive(Debug, Drop)]
+pub struct StreamClaimReply {
+    /// The entries that passed to the consumer, in order.
+    pub ids: Vec<StreamId>,
+}
+
+impl StreamClaimReply {
+    /// The reply without entries. It takes no memory and is always Ok.
+    pub fn empty(alloc: Global) -> Result<StreamClaimReply, AllocError>
+        ensures ok { IsOk result }
+        ensures entries { IfOk result (λ r. entries_of r.ids ≡ []) }
+    {
+        Ok(StreamClaimReply {
+            ids: Vec::new(alloc),
+        })
+    }
+
+    /// A reply of the same entries. It fails only where it is out of memory.
+    pub fn try_clone(&self, alloc: Global) -> Result<StreamClaimReply, AllocError>
+        ensures { IfOk result (λ r. entries_of r.ids ≡ entries_of self.now.ids) }
+    {
+        let ids = copy_ids(alloc, &self.ids)?;
+        Ok(StreamClaimReply { ids })
+    }
+}
+
+/// A list of rows; each pair of a row's table is an entry. It is refused as a list is, as pairs and
+/// as texts are, or where it is out of memory.
+impl FromRedisValue for StreamClaimReply {
+    ghost Meaning = { List Entry };
+
+    ghost meaning = { λ r. entries_of r.ids };
+
+    ghost reading = { rows_reading };
+
+    ghost may_refuse = { RefusesRows };
+
+    fn from_redis_value(alloc: Global, v: Value) -> Result<StreamClaimReply, ParsingError> {
+        Ok(StreamClaimReply {
+            ids: read_rows(alloc, v)?,
+        })
+    }
+
+    fn from_redis_value_ref(alloc: Global, v: &Value) -> Result<StreamClaimReply, ParsingError> {
+        Ok(StreamClaimReply {
+            ids: read_rows(alloc, v)?,
+        })
+    }
+}

@@ -1,0 +1,168 @@
+//! How an item of a list of entries is read.
+ghost use Rattle.std.specs.Prelude.{◌≡◌, ◌++◌, ◌∷◌, [], true, IfErr, List, OnOk, Option, Some, option_map};
+ghost use Rattle.redis_resp.specs.Reading.{option_reading};
+ghost use Rattle.redis_resp.specs.Refusal.{Refuses, MemoryOr, RefusesEntry};
+ghost use Rattle.redis_resp.specs.Table.{entry_reading};
+ghost use Rattle.redis_resp.specs.Text.{text_reading};
+ghost use Rattle.redis_resp.specs.Tree.{Tree, pairs_in, single};
+ghost use Rattle.redis_resp.specs.Value.{tree};
+ghost use Rattle.redis_resp.specs.declared.value.error.ParsingError.{ParsingError};
+ghost use Rattle.stream_entries.specs.AutoClaim.{id_entries};
+ghost use Rattle.stream_entries.specs.Entry.{Entry, entry_of};
+ghost use Rattle.stream_entries.specs.EntryMeaning.{entries_of};
+ghost use Rattle.stream_entries.specs.Refusal.{RefusesFields, RefusesOptionalText, RefusesRow};
+ghost use Rattle.stream_entries.specs.Rows.{appended, field_reading, is_one, row_reading, standard_entries};
+
+use crate::items::{ListItem, Row};
+use crate::stream_id::StreamId;
+use redis_resp::{ParsingError, Source, Value, count_left, into_pairs, next_left};
+use std::alloc::Global;
+use std::collections::HashMap;
+
+/// A way to read an item of a list: the entries that it holds are put behind those that are there.
+pub(crate) trait ItemForm {
+    /// The entries that an item holds, and None where it cannot be read.
+    ghost form: { Tree → Option (List Entry) };
+
+    /// What an item may be refused with.
+    ghost refuses: { Tree → ParsingError → Type 0 };
+
+    /// Appends the entries of an item.
+    fn push<S: Source>(alloc: Global, item: S, ids: &mut Vec<StreamId>) -> Result<(), ParsingError>
+        ensures ok { OnOk result (appended (entries_of ids.old) (form (S.seen item))
+            ≡ Some (entries_of ids.new)) }
+        ensures err { IfErr result (Refuses form (MemoryOr refuses) (S.seen item)) };
+
+    /// Appends the entries of an item that is the map of this one pair.
+    fn push_single<S: Source>(
+        alloc: Global,
+        key: S,
+        value: S,
+        ids: &mut Vec<StreamId>,
+    ) -> Result<(), ParsingError>
+        ensures ok { OnOk result (appended (entries_of ids.old)
+            (form (single (S.seen key, S.seen value))) ≡ Some (entries_of ids.new)) }
+        ensures err { IfErr result (Refuses form (MemoryOr refuses)
+            (single (S.seen key, S.seen value))) };
+}
+
+/// Rows of ids and fields.
+pub(crate) struct Rows;
+
+impl ItemForm for Rows {
+    ghost form = { standard_entries };
+
+    ghost refuses = { Refuses row_reading RefusesRow };
+
+    fn push<S: Source>(
+        alloc: Global,
+        item: S,
+        ids: &mut Vec<StreamId>,
+    ) -> Result<(), ParsingError> {
+        if has_one_pair(item.as_value()) {
+            push_one(alloc, item, ids)
+        } else {
+            push_table(alloc, item, ids)
+        }
+    }
+
+    fn push_single<S: Source>(
+        alloc: Global,
+        key: S,
+        value: S,
+        ids: &mut Vec<StreamId>,
+    ) -> Result<(), ParsingError> {
+        push_entry(alloc, key, value, ids)
+    }
+}
+
+/// Whether the value holds exactly one pair.
+fn has_one_pair(v: &Value) -> bool
+    ensures { result ≡ is_one (pairs_in (tree v.now)) }
+{
+    match into_pairs(v) {
+        Some(pairs) => count_left::<&Value>(&pairs) == 1,
+        None => false,
+    }
+}
+
+/// Appends the entry of an id and its fields.
+fn push_entry<S: Source>(
+    alloc: Global,
+    key: S,
+    value: S,
+    ids: &mut Vec<StreamId>,
+) -> Result<(), ParsingError>
+    ensures ok { OnOk result (option_map (λ p. entries_of ids.old ++ entry_of p ∷ [])
+        (entry_reading field_reading (S.seen key, S.seen value)) ≡ Some (entries_of ids.new)) }
+    ensures err { IfErr result (Refuses (entry_reading field_reading)
+        (MemoryOr (RefusesEntry (Refuses field_reading RefusesFields)))
+        (S.seen key, S.seen value)) }
+{
+    let id: String = key.read(alloc)?;
+    let map: HashMap<String, Value> = value.read(alloc)?;
+    ids.push(StreamId {
+        id,
+        map,
+        milliseconds_elapsed_from_delivery: None,
+        delivered_count: None,
+    })?;
+    Ok(())
+}
+
+/// Appends the entry of a row of one pair, with no table between.
+fn push_one<S: Source>(alloc: Global, row: S, ids: &mut Vec<StreamId>) -> Result<(), ParsingError>
+    requires { is_one (pairs_in (S.seen row)) ≡ true }
+    ensures ok { OnOk result (appended (entries_of ids.old) (standard_entries (S.seen row))
+        ≡ Some (entries_of ids.new)) }
+    ensures err { IfErr result (Refuses standard_entries
+        (MemoryOr (Refuses row_reading RefusesRow)) (S.seen row)) }
+{
+    let Some(mut pairs) = into_pairs(row) else {
+        return Err(ParsingError::NotPairs);
+    };
+    let Some((key, value)) = next_left::<S>(&mut pairs) else {
+        return Ok(());
+    };
+    push_entry(alloc, key, value, ids)
+}
+
+/// Appends the entries of a row of any number of pairs, of which equal ids are one entry.
+fn push_table<S: Source>(alloc: Global, row: S, ids: &mut Vec<StreamId>) -> Result<(), ParsingError>
+    ensures ok { OnOk result (appended (entries_of ids.old) (standard_entries (S.seen row))
+        ≡ Some (entries_of ids.new)) }
+    ensures err { IfErr result (Refuses standard_entries
+        (MemoryOr (Refuses row_reading RefusesRow)) (S.seen row)) }
+{
+    let row: Row = row.read(alloc)?;
+    row.push_to(ids)?;
+    Ok(())
+}
+
+/// Ids, each of which is an entry without fields, and nil, which is none.
+pub(crate) struct Ids;
+
+impl ItemForm for Ids {
+    ghost form = { λ t. option_map id_entries (option_reading text_reading t) };
+
+    ghost refuses = { RefusesOptionalText };
+
+    fn push<S: Source>(
+        alloc: Global,
+        item: S,
+        ids: &mut Vec<StreamId>,
+    ) -> Result<(), ParsingError> {
+        let id: Option<String> = item.read(alloc)?;
+        id.push_to(ids)?;
+        Ok(())
+    }
+
+    fn push_single<S: Source>(
+        _alloc: Global,
+        _key: S,
+        _value: S,
+        _ids: &mut Vec<StreamId>,
+    ) -> Result<(), ParsingError> {
+        Err(ParsingError::NotText)
+    }
+}

@@ -1,0 +1,165 @@
+//! Entries that both forms of a read have.
+ghost use Rattle.std.specs.Prelude.{◌≡◌, ◌≢◌, ◌++◌, ◌∷◌, [], Some, None, IfOk, IfErr, OnOk};
+ghost use Rattle.std.specs.Prelude.{string_bytes};
+ghost use Rattle.redis_resp.specs.FieldsMeaning.{fields_of};
+ghost use Rattle.stream_entries.specs.Entry.{entry_of};
+ghost use Rattle.redis_resp.specs.Reading.{option_reading};
+ghost use Rattle.redis_resp.specs.Number.{unsigned_reading};
+ghost use Rattle.redis_resp.specs.Value.{tree};
+ghost use Rattle.stream_entries.specs.EntryMeaning.{entries_of};
+ghost use Rattle.stream_entries.specs.InForms.{item_in_forms, numbers_in};
+ghost use Rattle.stream_entries.specs.InFormsMeaning.{given_in, overlap_of, settled_in};
+ghost use Rattle.stream_entries.specs.Overlap.{in_standard, in_claim};
+
+use crate::stream_id::StreamId;
+use redis_resp::value::usize_of;
+use redis_resp::{ParsingError, Source, Value, into_four, is_nil};
+use std::alloc::{AllocError, Global};
+use std::collections::HashMap;
+
+/// A form of a read.
+#[derive(Clone, Copy, Debug, PartialEq, Eq)]
+pub(crate) enum Form {
+    /// Each item of each list is a row of ids and fields.
+    Standard,
+    /// Each is an id, fields and the two numbers of its delivery.
+    Claim,
+}
+
+/// An array of a text, fields, a number and nil: a row of two ids, the second of which is the
+/// text of the number and has no fields, and also a delivery.
+#[derive(Debug, Drop)]
+pub(crate) struct Overlap {
+    id: String,
+    map: HashMap<String, Value>,
+    number: usize,
+    text: String,
+}
+
+/// The two numbers of a delivery, and None where the value is no array of four or has no such
+/// numbers. It takes no memory.
+#[tactic(auto, using(crate::proofs::NumbersLemmas::four_numbers, crate::proofs::NumbersLemmas::no_four))]
+pub(crate) fn numbers_of(v: &Value) -> Option<(Option<usize>, Option<usize>)>
+    ensures { result ≡ numbers_in (tree v.now) }
+{
+    let (_, _, elapsed, delivered) = into_four(v)?;
+    let elapsed = number_or_nil(elapsed)?;
+    let delivered = number_or_nil(delivered)?;
+    Some((elapsed, delivered))
+}
+
+/// The number of a value, where it is not nil, and None where it is neither.
+fn number_or_nil(v: &Value) -> Option<Option<usize>>
+    ensures { result ≡ option_reading (unsigned_reading 64) (tree v.now) }
+{
+    if is_nil(v) {
+        return Some(None);
+    }
+    Some(Some(usize_of(v)?))
+}
+
+/// Reads an entry that both forms have, by the number that was found in it.
+#[tactic(auto, using(crate::proofs::NumbersLemmas::overlap_parts))]
+pub(crate) fn read_overlap<S: Source>(
+    alloc: Global,
+    v: S,
+    number: usize,
+) -> Result<Overlap, ParsingError>
+    requires { numbers_in (S.seen v) ≡ Some (Some number, None) }
+    ensures ok { IfOk result (λ o. item_in_forms (S.seen v)
+        ≡ (Some (in_standard (overlap_of o)), Some (in_claim (overlap_of o)))) }
+    ensures err { IfErr result (λ e. e ≢ ParsingError.Memory
+        → item_in_forms (S.seen v) ≡ (None, None)) }
+{
+    let Some((id, fields, text, _)) = into_four(v) else {
+        return Err(ParsingError::NotTuple(4));
+    };
+    let id: String = id.read(alloc)?;
+    let map: HashMap<String, Value> = fields.read(alloc)?;
+    let text: String = text.read(alloc)?;
+    Ok(Overlap {
+        id,
+        map,
+        number,
+        text,
+    })
+}
+
+/// The entries in one form, in a list with room for so many.
+pub(crate) fn settle(
+    alloc: Global,
+    overlaps: Vec<Overlap>,
+    form: Form,
+    room: usize,
+) -> Result<Vec<StreamId>, AllocError>
+    ensures { IfOk result (λ ids. entries_of ids ≡ settled_in form overlaps) }
+{
+    let mut ids = Vec::with_capacity(alloc, room)?;
+    for overlap in overlaps {
+        push_overlap(overlap, form, &mut ids)?;
+    }
+    Ok(ids)
+}
+
+/// Appends the entries that it is in a form.
+fn push_overlap(overlap: Overlap, form: Form, ids: &mut Vec<StreamId>) -> Result<(), AllocError>
+    ensures { OnOk result (entries_of ids.new
+        ≡ entries_of ids.old ++ given_in form (overlap_of overlap)) }
+{
+    match form {
+        Form::Standard => push_standard(overlap, ids),
+        Form::Claim => push_claim(overlap, ids),
+    }
+}
+
+/// Appends the two entries of the standard form, or the second alone where their ids are one.
+fn push_standard(overlap: Overlap, ids: &mut Vec<StreamId>) -> Result<(), AllocError>
+    ensures { OnOk result (entries_of ids.new
+        ≡ entries_of ids.old ++ in_standard (overlap_of overlap)) }
+{
+    let Overlap { id, map, text, .. } = overlap;
+    let alloc = *ids.allocator();
+    if id == text {
+        return push_undelivered(text, HashMap::new(alloc), ids);
+    }
+    push_undelivered(id, map, ids)?;
+    push_undelivered(text, HashMap::new(alloc), ids)
+}
+
+/// Appends an entry of which no delivery is said.
+fn push_undelivered(
+    id: String,
+    map: HashMap<String, Value>,
+    ids: &mut Vec<StreamId>,
+) -> Result<(), AllocError>
+    ensures { OnOk result (entries_of ids.new
+        ≡ entries_of ids.old ++ entry_of (string_bytes id, fields_of map) ∷ []) }
+{
+    ids.push(StreamId {
+        id,
+        map,
+        milliseconds_elapsed_from_delivery: None,
+        delivered_count: None,
+    })?;
+    Ok(())
+}
+
+/// Appends the one entry of the claim form.
+fn push_claim(overlap: Overlap, ids: &mut Vec<StreamId>) -> Result<(), AllocError>
+    ensures { OnOk result (entries_of ids.new
+        ≡ entries_of ids.old ++ in_claim (overlap_of overlap)) }
+{
+    let Overlap {
+        id,
+        map,
+        number,
+        ..
+    } = overlap;
+    ids.push(StreamId {
+        id,
+        map,
+        milliseconds_elapsed_from_delivery: Some(number),
+        delivered_count: None,
+    })?;
+    Ok(())
+}
