@@ -10,6 +10,8 @@ mod answers;
 #[cfg(test)]
 mod depth;
 #[cfg(test)]
+mod memory;
+#[cfg(test)]
 mod moved;
 #[cfg(test)]
 mod notation;

@@ -6,13 +6,35 @@ use std::process::Abort;
 use std::test::Fail;
 use stream_options::{StreamTrimStrategy, StreamTrimmingMode};
 
-fn text(alloc: Global, text: &str) -> Result<String, AllocError> {
-    String::from_str(alloc, text)
+// A name of one argument, or of none where the text is empty.
+fn name(alloc: Global, text: &str) -> Result<Vec<RawBytes>, AllocError> {
+    let mut parts = Vec::new(alloc);
+    if text != "" {
+        parts.push(RawBytes(Vec::from_slice(alloc, text.as_bytes())?))?;
+    }
+    Ok(parts)
 }
 
-// A name of one argument.
-fn name(alloc: Global, text: &str) -> Result<Vec<RawBytes>, AllocError> {
-    Ok(vec![in alloc; RawBytes(Vec::from_slice(alloc, text.as_bytes())?)]?)
+fn group(alloc: Global, group: &str, consumer: &str) -> Result<ReadCall, AllocError> {
+    let group = name(alloc, group)?;
+    let consumer = name(alloc, consumer)?;
+    Ok(ReadCall::Group(group, consumer))
+}
+
+fn trim_from(alloc: Global, id: &str) -> Result<AddCall, AllocError> {
+    let id = String::from_str(alloc, id)?;
+    let strategy = StreamTrimStrategy::minid(StreamTrimmingMode::Approx, id);
+    Ok(AddCall::Trim(strategy))
+}
+
+fn idmp(alloc: Global, producer_id: &str, idempotent_id: &str) -> Result<AddCall, AllocError> {
+    let producer_id = String::from_str(alloc, producer_id)?;
+    let idempotent_id = String::from_str(alloc, idempotent_id)?;
+    Ok(AddCall::Idmp(producer_id, idempotent_id))
+}
+
+fn idmpauto(alloc: Global, producer_id: &str) -> Result<AddCall, AllocError> {
+    Ok(AddCall::Idmpauto(String::from_str(alloc, producer_id)?))
 }
 
 // The options write these words, in memory and in place.
@@ -21,62 +43,72 @@ fn check<T: ToRedisArgs>(
     options: &T,
     words: &[&str],
 ) -> Result<(), Fail> {
+    let fixed = fixed_args_of::<T, 16, 128>(options);
+    assert!(rt; fixed.is_ok_and(|fixed| fixed.len() == words.len()));
     let listed = options.to_redis_args(rt.alloc())?;
     assert_eq!(rt; listed.len(), words.len());
-    for (i, word) in words.iter().enumerate() {
-        assert_eq!(rt;
-            listed.get(i).map(|arg| arg.as_slice()),
-            Some(word.as_bytes())
-        );
+    for (arg, word) in listed.iter().zip(words) {
+        assert_eq!(rt; arg.as_slice(), word.as_bytes());
     }
-    assert!(rt; fixed_args_of::<T, 16, 128>(options).is_ok_and(|fixed| fixed.len() == words.len()));
     Ok(())
 }
 
 #[test]
-fn the_last_add_call_that_names_a_setting_wins(rt: HostRuntime) -> Result<(), Fail> {
-    let alloc = rt.alloc();
-    check(&rt, &play_add(Vec::new(alloc)), &[])?;
+fn the_last_trim_wins(rt: HostRuntime) -> Result<(), Fail> {
+    let mut calls = Vec::new(rt.alloc());
     let limited = StreamTrimStrategy::maxlen(StreamTrimmingMode::Exact, 5).limit(2);
-    let from = StreamTrimStrategy::minid(StreamTrimmingMode::Approx, text(alloc, "x")?);
-    let calls = vec![in alloc; AddCall::Trim(limited), AddCall::Trim(from)]?;
+    calls.push(AddCall::Trim(limited))?;
+    calls.push(trim_from(rt.alloc(), "x")?)?;
     check(&rt, &play_add(calls), &["MINID", "~", "x"])?;
-    let calls = vec![in alloc;
-        AddCall::Idmp(text(alloc, "a")?, text(alloc, "b")?),
-        AddCall::Nomkstream,
-        AddCall::Idmpauto(text(alloc, "NOMKSTREAM")?),
-    ]?;
-    check(
-        &rt,
-        &play_add(calls),
-        &["NOMKSTREAM", "IDMPAUTO", "NOMKSTREAM"],
-    )
+    check(&rt, &play_add(Vec::new(rt.alloc())), &[])
 }
 
 #[test]
-fn the_last_read_call_that_names_a_setting_wins(rt: HostRuntime) -> Result<(), Fail> {
-    let alloc = rt.alloc();
-    let calls = vec![in alloc;
-        ReadCall::Group(Vec::new(alloc), Vec::new(alloc)),
-        ReadCall::Noack,
-    ]?;
-    let options = play_read(alloc, calls)?;
-    assert!(rt; !options.read_only());
-    check(&rt, &options, &["GROUP", "NOACK"])?;
-    let calls = vec![in alloc;
-        ReadCall::Group(name(alloc, "g")?, name(alloc, "c")?),
-        ReadCall::Claim(1),
-        ReadCall::Group(name(alloc, "h")?, name(alloc, "d")?),
-    ]?;
-    check(
-        &rt,
-        &play_read(alloc, calls)?,
-        &["GROUP", "h", "d", "CLAIM", "1"],
-    )?;
-    let calls = vec![in alloc; ReadCall::Block(5), ReadCall::Count(2), ReadCall::Block(6)]?;
-    let options = play_read(alloc, calls)?;
-    assert!(rt; options.read_only());
-    check(&rt, &options, &["BLOCK", "6", "COUNT", "2"])
+fn the_last_idempotency_wins(rt: HostRuntime) -> Result<(), Fail> {
+    let mut calls = Vec::new(rt.alloc());
+    calls.push(idmp(rt.alloc(), "a", "b")?)?;
+    calls.push(AddCall::Nomkstream)?;
+    calls.push(idmpauto(rt.alloc(), "NOMKSTREAM")?)?;
+    let words = ["NOMKSTREAM", "IDMPAUTO", "NOMKSTREAM"];
+    check(&rt, &play_add(calls), &words)
+}
+
+// The calls make options that write these words, and are for XREAD alone or not.
+fn check_read(
+    rt: &(impl Abort + AllocGlobal),
+    calls: Vec<ReadCall>,
+    read_only: bool,
+    words: &[&str],
+) -> Result<(), Fail> {
+    let options = play_read(rt.alloc(), calls)?;
+    assert_eq!(rt; options.read_only(), read_only);
+    check(rt, &options, words)
+}
+
+#[test]
+fn a_group_without_names_is_a_group(rt: HostRuntime) -> Result<(), Fail> {
+    let mut calls = Vec::new(rt.alloc());
+    calls.push(group(rt.alloc(), "", "")?)?;
+    calls.push(ReadCall::Noack)?;
+    check_read(&rt, calls, false, &["GROUP", "NOACK"])
+}
+
+#[test]
+fn the_last_group_wins(rt: HostRuntime) -> Result<(), Fail> {
+    let mut calls = Vec::new(rt.alloc());
+    calls.push(group(rt.alloc(), "g", "c")?)?;
+    calls.push(ReadCall::Claim(1))?;
+    calls.push(group(rt.alloc(), "h", "d")?)?;
+    check_read(&rt, calls, false, &["GROUP", "h", "d", "CLAIM", "1"])
+}
+
+#[test]
+fn the_last_number_wins(rt: HostRuntime) -> Result<(), Fail> {
+    let mut calls = Vec::new(rt.alloc());
+    calls.push(ReadCall::Block(5))?;
+    calls.push(ReadCall::Count(2))?;
+    calls.push(ReadCall::Block(6))?;
+    check_read(&rt, calls, true, &["BLOCK", "6", "COUNT", "2"])
 }
 
 #[test]

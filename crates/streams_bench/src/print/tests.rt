@@ -1,36 +1,46 @@
 use crate::print::{PrintError, Row, print_rows};
 use std::alloc::{AllocError, Global};
 use std::io::{self, ErrorKind, Write};
+use std::process::Abort;
 use std::test::Fail;
 
+// A row of the name `v01` for each text and the text that it has to be.
+fn rows_of(alloc: Global, texts: &[(&str, &str)]) -> Result<Vec<Row>, AllocError> {
+    let mut rows = Vec::new(alloc);
+    for (text, stored) in texts {
+        rows.push(row(alloc, text, stored)?)?;
+    }
+    Ok(rows)
+}
+
 fn row(alloc: Global, text: &str, stored: &str) -> Result<Row, AllocError> {
-    Ok(Row {
-        name: String::from_str(alloc, "v01")?,
-        text: String::from_str(alloc, text)?,
-        stored: String::from_str(alloc, stored)?,
-    })
+    let name = String::from_str(alloc, "v01")?;
+    let text = String::from_str(alloc, text)?;
+    let stored = String::from_str(alloc, stored)?;
+    Ok(Row { name, text, stored })
+}
+
+// The rows of these texts are printed as these lines.
+fn check_lines(
+    rt: &(impl AllocGlobal + Abort),
+    texts: &[(&str, &str)],
+    all_same: bool,
+    lines: &str,
+) -> Result<(), Fail> {
+    let rows = rows_of(rt.alloc(), texts)?;
+    let mut written = Vec::new(rt.alloc());
+    assert_eq!(rt; print_rows(&rows, &mut written), Ok(all_same));
+    assert_eq!(rt; written.as_slice(), lines.as_bytes());
+    Ok(())
 }
 
 #[test]
 fn a_row_that_differs_says_so(rt: HostRuntime) -> Result<(), Fail> {
-    let alloc = rt.alloc();
-    let same = row(alloc, "a", "a")?;
-    let different = row(alloc, "a", "b")?;
-    for (rows, all_same, lines) in [
-        (vec![in alloc; different]?, false, "v01 a differs from b\n"),
-        (vec![in alloc; same]?, true, "v01 a\n"),
-        (vec![in alloc]?, true, ""),
-        (
-            vec![in alloc; row(alloc, "x", "y")?, row(alloc, "", "")?]?,
-            false,
-            "v01 x differs from y\nv01 \n",
-        ),
-    ] {
-        let mut written = Vec::new(alloc);
-        assert_eq!(rt; print_rows(&rows, &mut written), Ok(all_same));
-        assert_eq!(rt; written.as_slice(), lines.as_bytes());
-    }
-    Ok(())
+    check_lines(&rt, &[("a", "b")], false, "v01 a differs from b\n")?;
+    check_lines(&rt, &[("a", "a")], true, "v01 a\n")?;
+    check_lines(&rt, &[], true, "")?;
+    let two = "v01 x differs from y\nv01 \n";
+    check_lines(&rt, &[("x", "y"), ("", "")], false, two)
 }
 
 // It fails at each write, as a closed pipe does.
@@ -65,7 +75,7 @@ impl Write for Bounded {
 
 #[test]
 fn a_writer_that_fails_is_told(rt: HostRuntime) -> Result<(), Fail> {
-    let rows = vec![in rt.alloc(); row(rt.alloc(), "a", "a")?]?;
+    let rows = rows_of(rt.alloc(), &[("a", "a")])?;
     assert_eq!(rt; print_rows(&rows, &mut Closed), Err(PrintError::Write));
     for room in 0..6 {
         assert_eq!(rt;
