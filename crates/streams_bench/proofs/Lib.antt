@@ -1,2 +1,2 @@
 pub mod PlayLemmas
-pub mod RowLemmas
+mod PrintLemmas

@@ -1,4 +1,2 @@
 pub mod CallsMeaning
-pub mod Config
-pub mod Row
-pub mod Vector
+pub mod Line

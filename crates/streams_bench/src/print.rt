@@ -1,21 +1,14 @@
-//! Rows of texts to compare, and their lines.
+//! The lines of rows of texts to compare.
 ghost use Rattle.std.specs.Prelude.{◌≡◌, ◌↔◌, All, IfOk, IsTrue, OnOk, string_bytes};
 ghost use Rattle.std.specs.Io.KnownBytes.{Appends};
 ghost use Rattle.std.specs.List.{flat_map};
-ghost use Rattle.streams_bench.specs.Row.{IsSame, line_of};
+ghost use Rattle.streams_bench.specs.Line.{IsSame, line_of};
 
 #[cfg(test)]
 mod tests;
 
 use std::io::{self, Write};
-
-/// A text that was computed, beside the text that it has to be.
-#[derive(Debug, Drop)]
-pub struct Row {
-    pub name: String,
-    pub text: String,
-    pub stored: String,
-}
+pub use stream_text::row::Row;
 
 /// Why rows were not printed.
 #[derive(Clone, Copy, Debug, PartialEq, Eq)]

@@ -8,7 +8,6 @@ pub mod config;
 pub mod info;
 pub mod pending;
 pub mod read;
-mod row;
 pub mod rows;
 pub mod status;
 pub mod trim;
@@ -19,9 +18,9 @@ use redis_streams::{
     StreamInfoStreamReply, StreamInfoStreamReplyWithIdempotency, StreamPendingCountReply,
     StreamPendingReply, StreamRangeReply, StreamReadReply, XAckDelStatusCode, XDelExStatusCode,
 };
-pub use row::{OptionsVector, ReplyVector};
-use row::{push_options_rows, push_reply_rows};
 use std::alloc::{AllocError, Global};
+use stream_text::row::config::push_config_rows;
+use stream_text::row::{push_options_rows, push_reply_rows};
 
 /// A row for each vector, in ascending order. It fails only where memory runs out.
 pub fn vector_rows(alloc: Global) -> Result<Vec<Row>, AllocError>
@@ -44,8 +43,8 @@ fn push_options(alloc: Global, rows: &mut Vec<Row>) -> Result<(), AllocError>
     push_options_rows(alloc, rows, &add::trimmed_vectors())?;
     push_options_rows(alloc, rows, &add::idempotent_vectors(alloc)?)?;
     push_options_rows(alloc, rows, &add::full_vectors(alloc)?)?;
-    config::push_config_rows(alloc, rows, &config::accepted_vectors())?;
-    config::push_config_rows(alloc, rows, &config::refused_vectors())?;
+    push_config_rows(alloc, rows, &config::accepted_vectors())?;
+    push_config_rows(alloc, rows, &config::refused_vectors())?;
     push_options_rows(alloc, rows, &claim::autoclaim_vectors())?;
     push_options_rows(alloc, rows, &claim::claim_vectors(alloc)?)?;
     push_options_rows(alloc, rows, &read::read_vectors(alloc)?)?;

@@ -1,7 +1,7 @@
 //! Vectors of replies to `XINFO`.
 ghost use Rattle.std.specs.Prelude.{◌≡◌, [], ◌∷◌, codes, map};
 
-use crate::vectors::row::ReplyVector;
+use stream_text::row::ReplyVector;
 
 /// A stream, v58.
 pub fn stream_vectors() -> [ReplyVector<'static>; 1]

@@ -1,6 +1,6 @@
 use Rattle.std.proofs.Common.{inl, inr, ◌∙◌}
-use Rattle.streams_bench.specs.Row.{IsSame, line_of}
-use Rattle.streams_bench.proofs.RowLemmas.{appends_more, passes_more}
+use Rattle.streams_bench.specs.Line.{IsSame, line_of}
+use Rattle.streams_bench.proofs.PrintLemmas.{appends_more, passes_more}
 use Rattle.streams_bench.proofs.print.print_rows.Goals as goal
 use Rattle.streams_bench.proofs.print.print_rows.Goals.{then-branch, else-branch}
 

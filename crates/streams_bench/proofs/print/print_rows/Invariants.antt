@@ -1,7 +1,7 @@
 use Rattle.std.proofs.Common.{◌↔◌, All, IsTrue, take}
 use Rattle.std.specs.Io.KnownBytes.{Appends}
 use Rattle.std.specs.List.{flat_map}
-use Rattle.streams_bench.specs.Row.{IsSame, line_of}
+use Rattle.streams_bench.specs.Line.{IsSame, line_of}
 use Rattle.streams_bench.proofs.print.print_rows.Given as goal
 
 -- the lines so far were written, and no text so far differed exactly where `all_same` says so

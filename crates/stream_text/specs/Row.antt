@@ -1,21 +1,8 @@
--- The lines of rows.
-use Rattle.std.specs.Prelude.{◌≡◌, ℕ, List, [], ◌∷◌, ◌++◌, codes, map, string_bytes, if◌then◌else◌}
+-- Rows, and the rows of vectors.
+use Rattle.std.specs.Prelude.{◌≡◌, ℕ, List, [], ◌∷◌, ◌++◌, map, string_bytes}
 use Rattle.std.specs.List.{AllZip}
-use Rattle.std.specs.Str.{bytes_eq}
-use Rattle.streams_bench.specs.declared.print.Row.{Row}
+use Rattle.stream_text.specs.declared.row.Row.{Row}
 use denote.Ref.{Bor}
-
--- the text is the stored one
-abbrev pub IsSame : Row → Type 0
-IsSame row = string_bytes row.text ≡ string_bytes row.stored
-
--- what a line says behind its text
-abbrev pub difference : Row → List ℕ
-difference row = if bytes_eq (string_bytes row.text) (string_bytes row.stored) then [] else codes " differs from " ++ string_bytes row.stored
-
--- `name text`, or `name text differs from stored`, and a line feed
-abbrev pub line_of : Row → List ℕ
-line_of row = string_bytes row.name ++ (codes " " ++ (string_bytes row.text ++ (difference row ++ codes "\n")))
 
 -- the texts of a row
 abbrev pub row_texts : Row → List ℕ × List ℕ × List ℕ

@@ -1,14 +1,26 @@
-//! The row of one vector, and the rows of tables of them.
+//! Rows of texts to compare: the row of one vector, and the rows of tables of them. A vector is a name,
+//! what a text is made of, and the text that it has to be.
 ghost use Rattle.std.specs.Prelude.{◌≡◌, ◌+◌, ◌∷◌, ◌++◌, [], OnOk, length, map, string_bytes, vec_len};
 ghost use Rattle.redis_resp.specs.Value.{tree};
 ghost use Rattle.stream_text.specs.Answer.{IsAnswer};
-ghost use Rattle.streams_bench.specs.Row.{AddsRow, AddsRows, options_texts, row_texts};
-ghost use Rattle.streams_bench.specs.Vector.{IsReplyText};
+ghost use Rattle.stream_text.specs.Row.{AddsRow, AddsRows, options_texts, row_texts};
+ghost use Rattle.stream_text.specs.Vector.{IsReplyText};
 
-use crate::print::Row;
+pub mod config;
+
+use crate::answer::both_answers;
+use crate::form::PrintedForm;
+use crate::notation::{NotationError, read_value};
 use redis_resp::{FromRedisValue, Value};
 use std::alloc::{AllocError, Global};
-use stream_text::{NotationError, PrintedForm, both_answers, read_value};
+
+/// A text that was computed, beside the text that it has to be.
+#[derive(Debug, Drop)]
+pub struct Row {
+    pub name: String,
+    pub text: String,
+    pub stored: String,
+}
 
 /// Options as a vector: its name, the options, and the stored text.
 pub type OptionsVector<T> = (&'static str, T, &'static str);
