@@ -1,4 +1,5 @@
 //! Plain arguments, and the writers that they go into.
+use crate::assert_holds;
 use redis_args::{
     FixedArgs, RawBytes, RedisWrite, ToRedisArgs, WriteError, equal_bytes, equal_write_errors,
 };
@@ -12,111 +13,97 @@ fn check<T: ToRedisArgs>(
     value: &T,
     wanted: &[&[u8]],
 ) -> Result<(), Fail> {
-    let listed = value.to_redis_args(rt.alloc())?;
-    assert_eq!(rt; listed.len(), wanted.len());
     let mut fixed: FixedArgs<8, 64> = FixedArgs::new();
     assert_eq!(rt; value.write_redis_args(&mut fixed), Ok(()));
-    assert_eq!(rt; fixed.len(), wanted.len());
-    for (i, want) in wanted.iter().enumerate() {
-        assert_eq!(rt;
-            listed.get(i).map(|arg| arg.as_slice()),
-            Some(*want),
-            "argument {i}"
-        );
-        assert_eq!(rt; fixed.get(i), Some(*want), "argument {i}");
+    assert_holds(rt, &fixed, wanted);
+    let listed = value.to_redis_args(rt.alloc())?;
+    assert_eq!(rt; listed.len(), wanted.len());
+    for (arg, want) in listed.iter().zip(wanted) {
+        assert_eq!(rt; arg.as_slice(), *want);
     }
-    assert_eq!(rt; fixed.get(wanted.len()), None);
     Ok(())
 }
 
 #[test]
-fn values_mean_their_arguments(rt: HostRuntime) -> Result<(), Fail> {
+fn texts_and_bytes_are_one_argument_each(rt: HostRuntime) -> Result<(), Fail> {
     let alloc = rt.alloc();
-    check(&rt, &Some(vec![in alloc; 7u16, 65535]?), &[b"7", b"65535"])?;
+    check(&rt, &String::from_str(alloc, "é")?, &["é".as_bytes()])?;
+    check(
+        &rt,
+        &RawBytes(Vec::from_slice(alloc, &[255, 0])?),
+        &[&[255, 0]],
+    )?;
+    check(&rt, &Vec::from_slice(alloc, &[255u8, 0])?, &[&[255, 0]])?;
+    check(
+        &rt,
+        &("a b", &"b", "", b"c".as_slice()),
+        &[b"a b", b"b", b"", b"c"],
+    )
+}
+
+#[test]
+fn numbers_and_flags_are_one_argument_each(rt: HostRuntime) -> Result<(), Fail> {
+    check(
+        &rt,
+        &(3u16, 0u32, u64::MAX, 10usize),
+        &[b"3", b"0", b"18446744073709551615", b"10"],
+    )?;
+    check(
+        &rt,
+        &(i32::MIN, i64::MIN, isize::MAX),
+        &[
+            b"-2147483648",
+            b"-9223372036854775808",
+            b"9223372036854775807",
+        ],
+    )?;
+    check(&rt, &(true, false), &[b"1", b"0"])
+}
+
+#[test]
+fn lists_and_options_are_joined(rt: HostRuntime) -> Result<(), Fail> {
+    check(
+        &rt,
+        &Some(vec![in rt.alloc(); 7u16, 65535]?),
+        &[b"7", b"65535"],
+    )?;
     check(&rt, &None::<String>, &[])?;
-    check(&rt, &i64::MIN, &[b"-9223372036854775808"])?;
-    check(&rt, &(0u32, u64::MAX), &[b"0", b"18446744073709551615"])?;
-    check(
-        &rt,
-        &("a b", String::from_str(alloc, "é")?, 10usize),
-        &[b"a b", "é".as_bytes(), b"10"],
-    )?;
-    check(
-        &rt,
-        &(RawBytes(Vec::from_slice(alloc, &[255, 0])?), ""),
-        &[&[255, 0], b""],
-    )?;
-    check(
-        &rt,
-        &("a", &"b", 3u16, Some("d")),
-        &[b"a", b"b", b"3", b"d"],
-    )?;
-    check(
-        &rt,
-        &("a", "b", "c", "d", "e", "f"),
-        &[b"a", b"b", b"c", b"d", b"e", b"f"],
-    )
-}
-
-#[test]
-fn numbers_flags_and_bytes_are_one_argument_each(rt: HostRuntime) -> Result<(), Fail> {
-    let payload = Vec::from_slice(rt.alloc(), &[255u8, 0])?;
-    check(
-        &rt,
-        &(i32::MIN, isize::MAX, true, false),
-        &[b"-2147483648", b"9223372036854775807", b"1", b"0"],
-    )?;
-    check(
-        &rt,
-        &("body", payload.as_slice(), &payload, b"".as_slice()),
-        &[b"body", &[255, 0], &[255, 0], b""],
-    )
-}
-
-#[test]
-fn arrays_and_wide_tuples_are_joined(rt: HostRuntime) -> Result<(), Fail> {
     check(&rt, &["a", "b"], &[b"a", b"b"])?;
-    check(&rt, &[("f", 1u64), ("g", 2)], &[b"f", b"1", b"g", b"2"])?;
-    check(
-        &rt,
-        &("a", "b", "c", "d", "e"),
-        &[b"a", b"b", b"c", b"d", b"e"],
-    )?;
-    check(
-        &rt,
-        &("a", "b", "c", "d", "e", "f", "g"),
-        &[b"a", b"b", b"c", b"d", b"e", b"f", b"g"],
-    )?;
-    check(
-        &rt,
-        &("a", "b", "c", "d", "e", "f", "g", "h"),
-        &[b"a", b"b", b"c", b"d", b"e", b"f", b"g", b"h"],
-    )
+    check(&rt, &[("f", 1u64), ("g", 2)], &[b"f", b"1", b"g", b"2"])
 }
 
 #[test]
-fn fixed_args_refuse_what_has_no_room(rt: HostRuntime) {
+fn wide_tuples_are_joined(rt: HostRuntime) -> Result<(), Fail> {
+    let wanted: [&[u8]; 8] = [b"a", b"b", b"c", b"d", b"e", b"f", b"g", b"h"];
+    check(&rt, &("a", "b", "c"), &wanted[..3])?;
+    check(&rt, &("a", "b", "c", "d", "e"), &wanted[..5])?;
+    check(&rt, &("a", "b", "c", "d", "e", "f"), &wanted[..6])?;
+    check(&rt, &("a", "b", "c", "d", "e", "f", "g"), &wanted[..7])?;
+    check(&rt, &("a", "b", "c", "d", "e", "f", "g", "h"), &wanted)
+}
+
+#[test]
+fn a_place_for_nothing_is_full(rt: HostRuntime) {
     let mut none: FixedArgs<0, 0> = FixedArgs::new();
     assert_eq!(rt; none.write_arg(b""), Err(WriteError::Full));
     assert_eq!(rt; none.len(), 0);
+}
 
+#[test]
+fn a_place_for_one_argument_of_no_byte(rt: HostRuntime) {
     let mut one: FixedArgs<1, 0> = FixedArgs::new();
     assert_eq!(rt; one.write_arg(b""), Ok(()));
     assert_eq!(rt; one.write_arg(b""), Err(WriteError::Full));
-    assert_eq!(rt; one.len(), 1);
+    assert_holds(&rt, &one, &[b""]);
+}
 
+#[test]
+fn a_place_for_three_bytes(rt: HostRuntime) {
     let mut two: FixedArgs<2, 3> = FixedArgs::new();
     assert_eq!(rt; two.write_arg(b"abcd"), Err(WriteError::Full));
     assert_eq!(rt; two.write_arg(b"abc"), Ok(()));
     assert_eq!(rt; two.write_arg(b""), Ok(()));
-    assert_eq!(rt; two.len(), 2);
-    for (index, len) in [(0, Some(3)), (1, Some(0)), (2, None)] {
-        assert_eq!(rt;
-            two.get(index).map(|arg| arg.len()),
-            len,
-            "argument {index}"
-        );
-    }
+    assert_holds(&rt, &two, &[b"abc", b""]);
 }
 
 // The arguments before the one that was refused stand there, each whole, and the error is the
@@ -126,8 +113,7 @@ fn a_refusal_is_passed_on(rt: HostRuntime) -> Result<(), Fail> {
     let mut fixed: FixedArgs<8, 4> = FixedArgs::new();
     let list = vec![in rt.alloc(); "ab", "abc", "c"]?;
     assert_eq!(rt; list.write_redis_args(&mut fixed), Err(WriteError::Full));
-    assert_eq!(rt; fixed.len(), 1);
-    assert_eq!(rt; fixed.get(0), Some(b"ab".as_slice()));
+    assert_holds(&rt, &fixed, &[b"ab"]);
     Ok(())
 }
 

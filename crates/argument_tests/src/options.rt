@@ -1,4 +1,5 @@
-//! Written options and refused settings, against tables of words and texts.
+//! Written options and refused settings, against words and texts.
+use crate::words_of;
 use redis_args::ToRedisArgs;
 use std::alloc::{AllocError, Global};
 use std::process::Abort;
@@ -11,23 +12,19 @@ mod sentence;
 mod user;
 mod variant;
 
-// Both calls write these words, each one argument; `-` stands for no argument.
+// Both calls write the words of this line, each one argument; none of the empty line.
 fn assert_words<T: ToRedisArgs>(
-    rt: &impl Abort,
-    alloc: Global,
+    rt: &(impl AllocGlobal + Abort),
     value: &T,
     sentence: &str,
 ) -> Result<(), Fail> {
-    let mut words = Vec::new(alloc);
-    if sentence != "-" {
-        for word in sentence.split(' ') {
-            words.push(Vec::from_slice(alloc, word.as_bytes())?)?;
-        }
-    }
-    let mut args = Vec::new(alloc);
+    let words = words_of(rt.alloc(), sentence)?;
+    let mut args = Vec::new(rt.alloc());
     value.write_redis_args(&mut args)?;
     assert!(rt; args == words, "of {sentence}");
-    assert!(rt; value.to_redis_args(alloc)? == words, "of {sentence}");
+    drop(args);
+    let listed = value.to_redis_args(rt.alloc())?;
+    assert!(rt; listed == words, "of {sentence}");
     Ok(())
 }
 

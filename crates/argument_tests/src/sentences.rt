@@ -1,4 +1,5 @@
 //! Argument lists, and the options that are read of them.
+use crate::words_of;
 use redis_args::ToRedisArgs;
 use std::alloc::Global;
 use std::process::Abort;
@@ -10,17 +11,6 @@ use stream_sentences::{
 
 mod law;
 mod lines;
-
-// The words as arguments; none of the empty text.
-fn split(alloc: Global, words: &str) -> Result<Vec<Vec<u8>>, Fail> {
-    let mut args = Vec::new(alloc);
-    if words != "" {
-        for word in words.split(' ') {
-            args.push(Vec::from_slice(alloc, word.as_bytes())?)?;
-        }
-    }
-    Ok(args)
-}
 
 // The reader answered k and options that write the first k arguments, or, of None, that there is
 // no sentence.
@@ -35,10 +25,7 @@ fn assert_answer<T: ToRedisArgs + Drop>(
         Ok((options, k)) => {
             assert!(rt; wanted == Some(k), "{k} arguments of {args:?}");
             let written = options.to_redis_args(alloc)?;
-            assert_eq!(rt; written.len(), k);
-            for (arg, word) in args.iter().zip(written.iter()) {
-                assert!(rt; arg == word, "{written:?} of {args:?}");
-            }
+            assert!(rt; args.get(..k) == Some(written.as_slice()), "of {args:?}");
         }
         Err(SentenceError::NotASentence) => assert!(rt; wanted.is_none(), "none of {args:?}"),
         Err(SentenceError::Memory) => return Err(Fail::new("out of memory")),
@@ -64,10 +51,10 @@ fn trim(rt: HostRuntime) -> Result<(), Fail> {
         ("MINID ~", None),
         ("x", None),
     ] {
-        let args = split(alloc, words)?;
+        let args = words_of(alloc, words)?;
         assert_answer(&rt, alloc, &args, read_trim(alloc, &args), k)?;
     }
-    let mut args = split(alloc, "MINID =")?;
+    let mut args = words_of(alloc, "MINID =")?;
     args.push(Vec::from_slice(alloc, &[255])?)?;
     assert_answer(&rt, alloc, &args, read_trim(alloc, &args), None)
 }
@@ -90,7 +77,7 @@ fn add(rt: HostRuntime) -> Result<(), Fail> {
         ),
         ("DELREF NOMKSTREAM", None),
     ] {
-        let args = split(alloc, words)?;
+        let args = words_of(alloc, words)?;
         assert_answer(&rt, alloc, &args, read_add(alloc, &args), k)?;
     }
     Ok(())
@@ -112,7 +99,7 @@ fn config(rt: HostRuntime) -> Result<(), Fail> {
         ("IDMP-MAXSIZE 65537", None),
         ("x", None),
     ] {
-        let args = split(alloc, words)?;
+        let args = words_of(alloc, words)?;
         assert_answer(&rt, alloc, &args, read_config(&args), k)?;
     }
     Ok(())
@@ -128,7 +115,7 @@ fn claims(rt: HostRuntime) -> Result<(), Fail> {
         ("JUSTID COUNT", None),
         ("x COUNT 3", Some(0)),
     ] {
-        let args = split(alloc, words)?;
+        let args = words_of(alloc, words)?;
         assert_answer(&rt, alloc, &args, read_autoclaim(&args), k)?;
     }
     for (words, k) in [
@@ -142,7 +129,7 @@ fn claims(rt: HostRuntime) -> Result<(), Fail> {
         ("TIME 2 IDLE 1", None),
         ("LASTID", None),
     ] {
-        let args = split(alloc, words)?;
+        let args = words_of(alloc, words)?;
         assert_answer(&rt, alloc, &args, read_claim(alloc, &args), k)?;
     }
     Ok(())
@@ -166,7 +153,7 @@ fn read(rt: HostRuntime) -> Result<(), Fail> {
         ("NOACK", None),
         ("COUNT 1 BLOCK 1", None),
     ] {
-        let args = split(alloc, words)?;
+        let args = words_of(alloc, words)?;
         assert_answer(&rt, alloc, &args, read_read(alloc, &args), k)?;
     }
     Ok(())
@@ -184,7 +171,7 @@ fn nack(rt: HostRuntime) -> Result<(), Fail> {
         ("FAIL FAIL", None),
         ("fail", None),
     ] {
-        let args = split(alloc, words)?;
+        let args = words_of(alloc, words)?;
         assert_answer(&rt, alloc, &args, read_nack(&args), k)?;
     }
     Ok(())

@@ -1,5 +1,9 @@
 //! Options and the words that they write.
+use crate::assert_holds;
 use crate::options::{assert_words, text};
+use redis_args::{FixedArgs, ToRedisArgs, WriteError};
+use std::alloc::{AllocError, Global};
+use std::process::Abort;
 use std::test::Fail;
 use stream_options::{
     StreamAddOptions, StreamAutoClaimOptions, StreamClaimOptions, StreamDeletionPolicy,
@@ -8,147 +12,158 @@ use stream_options::{
 };
 
 #[test]
-fn trim(rt: HostRuntime) -> Result<(), Fail> {
-    let minid = StreamTrimOptions::minid(StreamTrimmingMode::Exact, text(rt.alloc(), "123456-7")?);
-    let spelled = StreamTrimOptions::minid(StreamTrimmingMode::Exact, text(rt.alloc(), "LIMIT")?);
-    let maxlen = || StreamTrimOptions::maxlen(StreamTrimmingMode::Approx, 10);
-    let table = [
-        (maxlen().limit(5), "MAXLEN ~ 10 LIMIT 5"),
-        (maxlen(), "MAXLEN ~ 10"),
-        (
-            StreamTrimOptions::maxlen(StreamTrimmingMode::Exact, 10),
-            "MAXLEN = 10",
-        ),
-        (minid.limit(5), "MINID = 123456-7 LIMIT 5"),
-        (maxlen().limit(5).limit(7), "MAXLEN ~ 10 LIMIT 7"),
-        (
-            spelled.set_deletion_policy(StreamDeletionPolicy::Acked),
-            "MINID = LIMIT ACKED",
-        ),
-    ];
-    for (options, sentence) in &table {
-        assert_words(&rt, rt.alloc(), options, sentence)?;
-    }
-    Ok(())
+fn trim_by_length(rt: HostRuntime) -> Result<(), Fail> {
+    let about = StreamTrimOptions::maxlen(StreamTrimmingMode::Approx, 10);
+    assert_words(&rt, &about, "MAXLEN ~ 10")?;
+    let limited = about.limit(5);
+    assert_words(&rt, &limited, "MAXLEN ~ 10 LIMIT 5")?;
+    assert_words(&rt, &limited.limit(7), "MAXLEN ~ 10 LIMIT 7")?;
+    let exactly = StreamTrimOptions::maxlen(StreamTrimmingMode::Exact, 10);
+    assert_words(&rt, &exactly, "MAXLEN = 10")
+}
+
+#[test]
+fn trim_by_id(rt: HostRuntime) -> Result<(), Fail> {
+    let from = StreamTrimOptions::minid(StreamTrimmingMode::Exact, text(rt.alloc(), "123456-7")?);
+    assert_words(&rt, &from.limit(5), "MINID = 123456-7 LIMIT 5")?;
+    let from = StreamTrimOptions::minid(StreamTrimmingMode::Exact, text(rt.alloc(), "LIMIT")?);
+    let from = from.set_deletion_policy(StreamDeletionPolicy::Acked);
+    assert_words(&rt, &from, "MINID = LIMIT ACKED")
+}
+
+#[test]
+fn parts_of_trim(rt: HostRuntime) -> Result<(), Fail> {
+    assert_words(&rt, &StreamMaxlen::Equals(0), "MAXLEN = 0")?;
+    let most = StreamMaxlen::Approx(usize::MAX);
+    assert_words(&rt, &most, "MAXLEN ~ 18446744073709551615")?;
+    assert_words(&rt, &StreamTrimmingMode::Exact, "=")?;
+    let strategy = StreamTrimStrategy::maxlen(StreamTrimmingMode::Approx, 10).limit(5);
+    assert_words(&rt, &strategy, "MAXLEN ~ 10 LIMIT 5")
 }
 
 #[test]
 fn words_alone(rt: HostRuntime) -> Result<(), Fail> {
-    for (maxlen, sentence) in [
-        (StreamMaxlen::Equals(0), "MAXLEN = 0"),
-        (
-            StreamMaxlen::Approx(usize::MAX),
-            "MAXLEN ~ 18446744073709551615",
-        ),
-    ] {
-        assert_words(&rt, rt.alloc(), &maxlen, sentence)?;
-    }
-    for (mode, sentence) in [
-        (StreamNackMode::Silent, "SILENT"),
-        (StreamNackMode::Fail, "FAIL"),
-        (StreamNackMode::Fatal, "FATAL"),
-    ] {
-        assert_words(&rt, rt.alloc(), &mode, sentence)?;
-        assert_words(&rt, rt.alloc(), &StreamNackOptions::new(mode), sentence)?;
-    }
-    let policies = [
-        (StreamDeletionPolicy::default(), "KEEPREF"),
-        (StreamDeletionPolicy::DelRef.clone()?, "DELREF"),
-        (StreamDeletionPolicy::Acked, "ACKED"),
-    ];
-    for (policy, sentence) in &policies {
-        assert_words(&rt, rt.alloc(), policy, sentence)?;
-    }
-    Ok(())
+    assert_words(&rt, &StreamNackMode::Silent, "SILENT")?;
+    assert_words(&rt, &StreamNackMode::Fatal, "FATAL")?;
+    assert_words(&rt, &StreamNackOptions::new(StreamNackMode::Fail), "FAIL")?;
+    assert_words(&rt, &StreamDeletionPolicy::default(), "KEEPREF")?;
+    assert_words(&rt, &StreamDeletionPolicy::DelRef.clone()?, "DELREF")?;
+    assert_words(&rt, &StreamDeletionPolicy::Acked, "ACKED")
+}
+
+// `NOMKSTREAM KEEPREF IDMP producer-1 iid-1 MAXLEN ~ 100`: 8 words, of 46 bytes.
+fn all_of_add(alloc: Global) -> Result<StreamAddOptions, AllocError> {
+    let about = StreamTrimStrategy::maxlen(StreamTrimmingMode::Approx, 100);
+    let options = StreamAddOptions::default().trim(about).nomkstream();
+    let producer_id = text(alloc, "producer-1")?;
+    let idempotent_id = text(alloc, "iid-1")?;
+    Ok(
+        options
+            .idmp(producer_id, idempotent_id)
+            .set_deletion_policy(StreamDeletionPolicy::KeepRef),
+    )
 }
 
 #[test]
 fn add(rt: HostRuntime) -> Result<(), Fail> {
-    let approx = StreamTrimStrategy::maxlen(StreamTrimmingMode::Approx, 100);
+    assert_words(&rt, &StreamAddOptions::default(), "")?;
+    let sentence = "NOMKSTREAM KEEPREF IDMP producer-1 iid-1 MAXLEN ~ 100";
+    assert_words(&rt, &all_of_add(rt.alloc())?, sentence)
+}
+
+#[test]
+fn the_last_call_of_add_counts(rt: HostRuntime) -> Result<(), Fail> {
     let exact = StreamTrimStrategy::maxlen(StreamTrimmingMode::Exact, 5).limit(2);
     let from = StreamTrimStrategy::minid(StreamTrimmingMode::Approx, text(rt.alloc(), "x")?);
-    let all = StreamAddOptions::default()
-        .trim(approx)
-        .nomkstream()
-        .idmp(text(rt.alloc(), "producer-1")?, text(rt.alloc(), "iid-1")?)
-        .set_deletion_policy(StreamDeletionPolicy::KeepRef);
-    let automatic = StreamAddOptions::default()
-        .idmp(text(rt.alloc(), "a")?, text(rt.alloc(), "b")?)
-        .idmpauto(text(rt.alloc(), "NOMKSTREAM")?);
-    let table = [
-        (StreamAddOptions::default(), "-"),
-        (all, "NOMKSTREAM KEEPREF IDMP producer-1 iid-1 MAXLEN ~ 100"),
-        (automatic, "IDMPAUTO NOMKSTREAM"),
-        (
-            StreamAddOptions::default().trim(exact).trim(from),
-            "MINID ~ x",
-        ),
+    let trimmed = StreamAddOptions::default().trim(exact).trim(from);
+    assert_words(&rt, &trimmed, "MINID ~ x")?;
+    let automatic = all_of_add(rt.alloc())?.idmpauto(text(rt.alloc(), "NOMKSTREAM")?);
+    let sentence = "NOMKSTREAM KEEPREF IDMPAUTO NOMKSTREAM MAXLEN ~ 100";
+    assert_words(&rt, &automatic, sentence)
+}
+
+#[test]
+fn places_for_all_of_add(rt: HostRuntime) -> Result<(), Fail> {
+    let all = all_of_add(rt.alloc())?;
+    let words: [&[u8]; 8] = [
+        b"NOMKSTREAM",
+        b"KEEPREF",
+        b"IDMP",
+        b"producer-1",
+        b"iid-1",
+        b"MAXLEN",
+        b"~",
+        b"100",
     ];
-    for (options, sentence) in &table {
-        assert_words(&rt, rt.alloc(), options, sentence)?;
-    }
+    let mut place = FixedArgs::<8, 46>::new();
+    assert_eq!(rt; all.write_redis_args(&mut place), Ok(()));
+    assert_holds(&rt, &place, &words);
+    let mut place = FixedArgs::<8, 45>::new();
+    assert_eq!(rt; all.write_redis_args(&mut place), Err(WriteError::Full));
+    assert_holds(&rt, &place, &words[..7]);
     Ok(())
 }
 
 #[test]
-fn idempotency(rt: HostRuntime) -> Result<(), Fail> {
-    let manual = StreamIdempotencyMode::Manual {
-        producer_id: text(rt.alloc(), "producer-1")?,
-        idempotent_id: text(rt.alloc(), "iid-1")?,
+fn manual_idempotency(rt: HostRuntime) -> Result<(), Fail> {
+    let producer_id = text(rt.alloc(), "producer-1")?;
+    let idempotent_id = text(rt.alloc(), "iid-1")?;
+    let mode = StreamIdempotencyMode::Manual {
+        producer_id,
+        idempotent_id,
     };
-    let automatic = StreamIdempotencyMode::Automatic {
-        producer_id: text(rt.alloc(), "producer-2")?,
-    };
-    for (mode, sentence) in [
-        (&manual, "IDMP producer-1 iid-1"),
-        (&automatic, "IDMPAUTO producer-2"),
-    ] {
-        assert_words(&rt, rt.alloc(), mode, sentence)?;
-        assert_words(&rt, rt.alloc(), &mode.try_clone(rt.alloc())?, sentence)?;
-    }
-    Ok(())
+    check_mode(&rt, &mode, "IDMP producer-1 iid-1")
+}
+
+#[test]
+fn automatic_idempotency(rt: HostRuntime) -> Result<(), Fail> {
+    let producer_id = text(rt.alloc(), "producer-2")?;
+    let mode = StreamIdempotencyMode::Automatic { producer_id };
+    check_mode(&rt, &mode, "IDMPAUTO producer-2")
+}
+
+// The mode and a copy of it write these words.
+fn check_mode(
+    rt: &(impl AllocGlobal + Abort),
+    mode: &StreamIdempotencyMode,
+    sentence: &str,
+) -> Result<(), Fail> {
+    assert_words(rt, mode, sentence)?;
+    assert_words(rt, &mode.try_clone(rt.alloc())?, sentence)
 }
 
 #[test]
 fn claims(rt: HostRuntime) -> Result<(), Fail> {
-    let default = || StreamClaimOptions::default();
-    let forced = default()
-        .with_lastid(text(rt.alloc(), "1-0")?)
-        .with_force()
-        .idle(7);
-    let table = [
-        (default(), "-", false),
-        (forced, "IDLE 7 FORCE LASTID 1-0", false),
-        (
-            default().retry(4).time(9).with_justid().idle(0),
-            "IDLE 0 TIME 9 RETRYCOUNT 4 JUSTID",
-            true,
-        ),
-        // two arguments, the second of which is empty
-        (
-            default().with_lastid(text(rt.alloc(), "")?),
-            "LASTID ",
-            false,
-        ),
-    ];
-    for (options, sentence, justid) in &table {
-        assert_words(&rt, rt.alloc(), options, sentence)?;
-        assert_eq!(rt; options.has_justid(), *justid);
-    }
-    Ok(())
+    let all = StreamClaimOptions::default()
+        .retry(4)
+        .time(9)
+        .with_justid()
+        .idle(0);
+    assert!(rt; all.has_justid());
+    assert_words(&rt, &all, "IDLE 0 TIME 9 RETRYCOUNT 4 JUSTID")?;
+    let none = StreamClaimOptions::default();
+    assert!(rt; !none.has_justid());
+    assert_words(&rt, &none, "")
+}
+
+#[test]
+fn claims_with_an_id(rt: HostRuntime) -> Result<(), Fail> {
+    let last = StreamClaimOptions::default().with_lastid(text(rt.alloc(), "1-0")?);
+    let forced = last.with_force().idle(7);
+    assert_words(&rt, &forced, "IDLE 7 FORCE LASTID 1-0")?;
+    // two arguments, the second of which is empty
+    let last = StreamClaimOptions::default().with_lastid(text(rt.alloc(), "")?);
+    assert_words(&rt, &last, "LASTID ")
 }
 
 #[test]
 fn automatic_claims(rt: HostRuntime) -> Result<(), Fail> {
-    let default = || StreamAutoClaimOptions::default();
-    let table = [
-        (default(), "-", false),
-        (default().count(3), "COUNT 3", false),
-        (default().with_justid().count(3), "COUNT 3 JUSTID", true),
-    ];
-    for (options, sentence, justid) in &table {
-        assert_words(&rt, rt.alloc(), options, sentence)?;
-        assert_eq!(rt; options.has_justid(), *justid);
-    }
-    Ok(())
+    let options = StreamAutoClaimOptions::default();
+    assert_words(&rt, &options, "")?;
+    let counted = options.count(3);
+    assert!(rt; !counted.has_justid());
+    assert_words(&rt, &counted, "COUNT 3")?;
+    let bare = counted.with_justid();
+    assert!(rt; bare.has_justid());
+    assert_words(&rt, &bare, "COUNT 3 JUSTID")
 }

@@ -3,6 +3,7 @@ ghost use Rattle.std.specs.Prelude.{◌≡◌, ◌⊎◌, [], ◌∷◌, codes, 
 ghost use Rattle.redis_args.specs.Room.{MayRefuse};
 ghost use Rattle.redis_args.specs.declared.writer.WriteError.TheVariants.{Full};
 
+use crate::assert_holds;
 use crate::options::{assert_words, text};
 use redis_args::{FixedArgs, RedisWrite, ToRedisArgs, WriteError};
 use std::process::Abort;
@@ -47,60 +48,58 @@ impl RedisWrite for WithoutLimit {
 
 #[test]
 fn values_of_a_users_own(rt: HostRuntime) -> Result<(), Fail> {
-    let alloc = rt.alloc();
-    let flags = vec![in alloc; Flag(true), Flag(false)]?;
-    assert_words(&rt, rt.alloc(), &flags, "yes no")?;
-    assert_words(&rt, rt.alloc(), &Some(Flag(false)), "no")?;
-    assert_words(&rt, rt.alloc(), &&Flag(true), "yes")?;
-    Ok(())
+    assert_words(&rt, &[Flag(true), Flag(false)], "yes no")?;
+    assert_words(&rt, &Some(Flag(false)), "no")?;
+    assert_words(&rt, &&Flag(true), "yes")
+}
+
+// The answer of writing these options without room for the word `LIMIT`, and what is then held.
+fn check_without_limit(
+    rt: &impl Abort,
+    options: &StreamTrimOptions,
+    answer: Result<(), WriteError>,
+    held: &[&[u8]],
+) {
+    let mut out = WithoutLimit {
+        store: FixedArgs::new(),
+    };
+    assert_eq!(rt; options.write_redis_args(&mut out), answer);
+    assert_holds(rt, &out.store, held);
 }
 
 #[test]
 fn a_writer_without_limit(rt: HostRuntime) -> Result<(), Fail> {
-    let spelled = StreamTrimOptions::minid(StreamTrimmingMode::Exact, text(rt.alloc(), "LIMIT")?);
-    let maxlen = || StreamTrimOptions::maxlen(StreamTrimmingMode::Approx, 10);
     let full = Err(WriteError::Full);
-    let table = [
-        (maxlen().limit(5), full, ["MAXLEN", "~", "10"].as_slice()),
-        (
-            spelled.set_deletion_policy(StreamDeletionPolicy::Acked),
-            full,
-            &["MINID", "="],
-        ),
-        (maxlen(), Ok(()), &["MAXLEN", "~", "10"]),
-    ];
-    for (options, answer, held) in &table {
-        let mut out = WithoutLimit {
-            store: FixedArgs::new(),
-        };
-        assert_eq!(rt; options.write_redis_args(&mut out), *answer);
-        assert_holds(&rt, &out.store, held);
-    }
+    let spelled = StreamTrimOptions::minid(StreamTrimmingMode::Exact, text(rt.alloc(), "LIMIT")?);
+    let spelled = spelled.set_deletion_policy(StreamDeletionPolicy::Acked);
+    check_without_limit(&rt, &spelled, full, &[b"MINID", b"="]);
+    let about = StreamTrimOptions::maxlen(StreamTrimmingMode::Approx, 10);
+    check_without_limit(&rt, &about, Ok(()), &[b"MAXLEN", b"~", b"10"]);
+    check_without_limit(&rt, &about.limit(5), full, &[b"MAXLEN", b"~", b"10"]);
     Ok(())
+}
+
+// The answer of writing `MAXLEN ~ 10` into this empty place, and what is then held.
+fn check_place<const N: usize, const B: usize>(
+    rt: &impl Abort,
+    mut place: FixedArgs<N, B>,
+    answer: Result<(), WriteError>,
+    held: &[&[u8]],
+) {
+    let options = StreamTrimOptions::maxlen(StreamTrimmingMode::Approx, 10);
+    assert_eq!(rt; options.write_redis_args(&mut place), answer);
+    assert_holds(rt, &place, held);
 }
 
 #[test]
 fn little_room(rt: HostRuntime) {
-    let options = StreamTrimOptions::maxlen(StreamTrimmingMode::Approx, 10);
-    let mut two = FixedArgs::<2, 64>::new();
-    assert_eq!(rt; options.write_redis_args(&mut two), Err(WriteError::Full));
-    assert_holds(&rt, &two, &["MAXLEN", "~"]);
-    let mut eight = FixedArgs::<3, 8>::new();
-    assert_eq!(rt; options.write_redis_args(&mut eight), Err(WriteError::Full));
-    assert_holds(&rt, &eight, &["MAXLEN", "~"]);
-    let mut nine = FixedArgs::<3, 9>::new();
-    assert_eq!(rt; options.write_redis_args(&mut nine), Ok(()));
-    assert_holds(&rt, &nine, &["MAXLEN", "~", "10"]);
-}
-
-// These words stand there, and nothing else.
-fn assert_holds<const N: usize, const B: usize>(
-    rt: &impl Abort,
-    out: &FixedArgs<N, B>,
-    held: &[&str],
-) {
-    assert_eq!(rt; out.len(), held.len());
-    for (index, word) in held.iter().enumerate() {
-        assert_eq!(rt; out.get(index), Some(word.as_bytes()));
-    }
+    let full = Err(WriteError::Full);
+    check_place(&rt, FixedArgs::<2, 64>::new(), full, &[b"MAXLEN", b"~"]);
+    check_place(&rt, FixedArgs::<3, 8>::new(), full, &[b"MAXLEN", b"~"]);
+    check_place(
+        &rt,
+        FixedArgs::<3, 9>::new(),
+        Ok(()),
+        &[b"MAXLEN", b"~", b"10"],
+    );
 }

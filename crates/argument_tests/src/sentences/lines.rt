@@ -1,6 +1,7 @@
 //! Lines, and readers and writers that fail.
 use std::alloc::{AllocError, Global};
 use std::io::{self, ErrorKind, Read, Write};
+use std::process::Abort;
 use std::test::Fail;
 use stream_sentences::{RunError, run};
 
@@ -89,9 +90,33 @@ fn page_of(alloc: Global, room: usize, fails: bool) -> Result<Page, AllocError> 
     })
 }
 
+// Answers the lines of the input on the page.
+fn answer_on(alloc: Global, input: &mut Chunks<'_>, page: &mut Page) -> Result<(), RunError> {
+    run(alloc, input, page)
+}
+
+// These bytes, in chunks of at most `size`, have this answer, on a page with room for no more, which
+// would fail at more or take none.
+fn check_lines(
+    rt: &(impl AllocGlobal + Abort),
+    bytes: &[u8],
+    size: usize,
+    answer: &str,
+    fails: bool,
+) -> Result<(), Fail> {
+    let mut page = page_of(rt.alloc(), answer.len(), fails)?;
+    let mut input = Chunks {
+        bytes,
+        size,
+        reads: usize::MAX,
+    };
+    assert_eq!(rt; answer_on(rt.alloc(), &mut input, &mut page), Ok(()));
+    assert_eq!(rt; page.written.as_slice(), answer.as_bytes());
+    Ok(())
+}
+
 #[test]
 fn each_line_is_answered(rt: HostRuntime) -> Result<(), Fail> {
-    let alloc = rt.alloc();
     for (text, answer) in [
         (LINES, ANSWER),
         ("", ""),
@@ -104,25 +129,27 @@ fn each_line_is_answered(rt: HostRuntime) -> Result<(), Fail> {
         ("claim\r\n", "unknown\n"),
         ("claim\n\nclaim", "ok 0\nunknown\nok 0\n"),
     ] {
-        let mut written = Vec::new(alloc);
-        assert_eq!(rt; run(alloc, &mut chunks_of(text), &mut written), Ok(()));
-        assert_eq!(rt; written.as_slice(), answer.as_bytes(), "{text:?}");
+        check_lines(&rt, text.as_bytes(), 7, answer, true)?;
     }
     Ok(())
 }
 
 #[test]
 fn any_bytes_are_arguments(rt: HostRuntime) -> Result<(), Fail> {
-    let alloc = rt.alloc();
-    let mut written = Vec::new(alloc);
     let bytes = b"trim MINID = \xff\nread GROUP \xff \xfe\n\xff".as_slice();
-    let mut input = Chunks {
-        bytes,
-        size: 1,
-        reads: usize::MAX,
-    };
-    assert_eq!(rt; run(alloc, &mut input, &mut written), Ok(()));
-    assert_eq!(rt; written.as_slice(), b"no\nok 3\nunknown\n".as_slice());
+    check_lines(&rt, bytes, 1, "no\nok 3\nunknown\n", true)
+}
+
+// Where a read fails after so many, nothing is written.
+fn check_failing_read(rt: &(impl AllocGlobal + Abort), reads: usize) -> Result<(), Fail> {
+    let mut page = page_of(rt.alloc(), ANSWER.len(), true)?;
+    let mut input = chunks_of(LINES);
+    input.reads = reads;
+    assert_eq!(rt;
+        answer_on(rt.alloc(), &mut input, &mut page),
+        Err(RunError::Read)
+    );
+    assert!(rt; page.written.is_empty(), "after {reads} reads");
     Ok(())
 }
 
@@ -130,44 +157,46 @@ fn any_bytes_are_arguments(rt: HostRuntime) -> Result<(), Fail> {
 fn nothing_is_written_where_a_read_fails(rt: HostRuntime) -> Result<(), Fail> {
     // the last of these would have found the end
     for reads in 0..LINES.len().div_ceil(7) + 1 {
-        let mut input = chunks_of(LINES);
-        input.reads = reads;
-        let mut output = page_of(rt.alloc(), ANSWER.len(), true)?;
-        assert_eq!(rt;
-            run(rt.alloc(), &mut input, &mut output),
-            Err(RunError::Read)
-        );
-        assert!(rt; output.written.is_empty(), "after {reads} reads");
+        check_failing_read(&rt, reads)?;
     }
+    Ok(())
+}
+
+// Where a page has too little room, so much is written.
+fn check_little_room(
+    rt: &(impl AllocGlobal + Abort),
+    room: usize,
+    fails: bool,
+) -> Result<(), Fail> {
+    let mut page = page_of(rt.alloc(), room, fails)?;
+    let answer = answer_on(rt.alloc(), &mut chunks_of(LINES), &mut page);
+    assert_eq!(rt; answer, Err(RunError::Write), "room for {room}");
+    assert_eq!(rt;
+        Some(page.written.as_slice()),
+        ANSWER.as_bytes().get(..room)
+    );
     Ok(())
 }
 
 #[test]
 fn a_beginning_is_written_where_a_write_fails(rt: HostRuntime) -> Result<(), Fail> {
-    for fails in [false, true] {
-        for room in 0..ANSWER.len() {
-            let mut output = page_of(rt.alloc(), room, fails)?;
-            let answer = run(rt.alloc(), &mut chunks_of(LINES), &mut output);
-            assert_eq!(rt; answer, Err(RunError::Write), "room for {room}");
-            assert_eq!(rt; output.written.as_slice(), &ANSWER.as_bytes()[..room]);
-        }
-        let mut output = page_of(rt.alloc(), ANSWER.len(), fails)?;
-        assert_eq!(rt; run(rt.alloc(), &mut chunks_of(LINES), &mut output), Ok(()));
-        assert_eq!(rt; output.written.as_slice(), ANSWER.as_bytes());
+    for room in 0..ANSWER.len() {
+        check_little_room(&rt, room, false)?;
+        check_little_room(&rt, room, true)?;
     }
-    Ok(())
+    check_lines(&rt, LINES.as_bytes(), 7, ANSWER, false)
 }
 
 #[test]
 fn refused_memory_writes_nothing(rt: HostRuntime) {
-    let Ok(mut output) = page_of(rt.alloc(), ANSWER.len(), true) else {
+    let Ok(mut page) = page_of(rt.alloc(), ANSWER.len(), true) else {
         return;
     };
-    match run(rt.alloc(), &mut chunks_of(LINES), &mut output) {
-        Ok(()) => assert_eq!(rt; output.written.as_slice(), ANSWER.as_bytes()),
+    match answer_on(rt.alloc(), &mut chunks_of(LINES), &mut page) {
+        Ok(()) => assert_eq!(rt; page.written.as_slice(), ANSWER.as_bytes()),
         Err(error) => {
             assert_eq!(rt; error, RunError::Memory);
-            assert!(rt; output.written.is_empty());
+            assert!(rt; page.written.is_empty());
         }
     }
 }
