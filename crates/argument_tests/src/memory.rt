@@ -1,6 +1,6 @@
-//! Calls that write arguments and take memory, each request for which may be refused: each call gives
-//! its right answer or says that memory ran out, and nothing else; a list that was written into then
-//! holds a proper beginning of the arguments behind what it held.
+//! Calls that write arguments and take memory, each request for which may be refused: each call
+//! gives its right answer or says that memory ran out, and nothing else; a list that was written
+//! into then holds a proper beginning of the arguments behind what it held.
 //!
 //! `tools/sweep-refused-memory` runs the test whose name says `refused_memory` with each request
 //! refused in turn.

@@ -1,5 +1,5 @@
-//! Calls that take memory, each request for which may be refused: each call gives its right answer or
-//! says that memory ran out, and nothing else, and a borrowed value is then as it was.
+//! Calls that take memory, each request for which may be refused: each call gives its right answer
+//! or says that memory ran out, and nothing else, and a borrowed value is then as it was.
 //!
 //! `tools/sweep-refused-memory` runs the test whose name says `refused_memory` with each request
 //! refused in turn.

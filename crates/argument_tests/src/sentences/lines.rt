@@ -95,8 +95,8 @@ fn answer_on(alloc: Global, input: &mut Chunks<'_>, page: &mut Page) -> Result<(
     run(alloc, input, page)
 }
 
-// These bytes, in chunks of at most `size`, have this answer, on a page with room for no more, which
-// would fail at more or take none.
+// These bytes, in chunks of at most `size`, have this answer, on a page with room for no more,
+// which would fail at more or take none.
 fn check_lines(
     rt: &(impl AllocGlobal + Abort),
     bytes: &[u8],
