@@ -10,6 +10,3 @@ pub use redis_resp::{
     FixedArgs, FromRedisValue, ParsingError, RawBytes, RedisWrite, ToRedisArgs, ToSingleRedisArg,
     Value, WriteError, from_redis_value, from_redis_value_ref,
 };
-
-#[cfg(test)]
-mod tests;
