@@ -6,8 +6,6 @@
 #![tactic(auto)]
 
 #[cfg(test)]
-mod answers;
-#[cfg(test)]
 mod depth;
 #[cfg(test)]
 mod memory;

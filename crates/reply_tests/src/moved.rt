@@ -1,7 +1,7 @@
 //! A read by value takes the values of fields out of the value that it consumes and copies none.
 //!
 //! Both tests build the same two values, a text and an array of a hundred texts, put the one or the
-//! other into the field of an entry, keep the other aside, and read the entry by value. As
+//! other into the field of an entry, let the other go, and read the entry by value. As
 //! `tools/sweep-refused-memory` refuses each request for memory in turn, it tells of both tests the
 //! same number of requests, so that each request is met in both or in neither; a copy of the text
 //! would take one request more, and a copy of the array a hundred and one.
@@ -14,31 +14,47 @@ fn bulk(alloc: Global, text: &str) -> Result<Value, AllocError> {
     Ok(Value::BulkString(Vec::from_slice(alloc, text.as_bytes())?))
 }
 
-// An array of two.
-fn two(alloc: Global, first: Value, second: Value) -> Result<Value, AllocError> {
-    Ok(Value::Array(vec![in alloc; first, second]?))
-}
-
-// A read of the stream `s`, of the entry `1-0` with this value as its field `f`.
-fn read_of(alloc: Global, field: Value) -> Result<Value, AllocError> {
-    let fields = two(alloc, bulk(alloc, "f")?, field)?;
-    let row = two(alloc, bulk(alloc, "1-0")?, fields)?;
-    let rows = Value::Array(vec![in alloc; row]?);
-    Ok(Value::Array(vec![in alloc; two(alloc, bulk(alloc, "s")?, rows)?]?))
-}
-
-// Whether the entry is read with the array, or else the text, as its field.
-fn is_read(alloc: Global, array: bool) -> Result<bool, ParsingError> {
-    let text = bulk(alloc, "v")?;
+// An array of a hundred texts.
+fn texts(alloc: Global) -> Result<Value, AllocError> {
     let mut texts = Vec::with_capacity(alloc, 100)?;
     for _ in 0..100 {
         texts.push(bulk(alloc, "v")?)?;
     }
-    let texts = Value::Array(texts);
-    let (inside, aside) = if array { (texts, text) } else { (text, texts) };
-    let reply: StreamReadReply = from_redis_value(alloc, read_of(alloc, inside)?)?;
-    let array_is_read = matches!(field(&reply), Some(Value::Array(_)));
-    Ok(array_is_read == array && matches!(aside, Value::Array(_)) != array)
+    Ok(Value::Array(texts))
+}
+
+// An array of this name and this value.
+fn named(alloc: Global, name: &str, value: Value) -> Result<Value, AllocError> {
+    let name = bulk(alloc, name)?;
+    Ok(Value::Array(vec![in alloc; name, value]?))
+}
+
+// An array of this value alone.
+fn alone(alloc: Global, value: Value) -> Result<Value, AllocError> {
+    Ok(Value::Array(vec![in alloc; value]?))
+}
+
+// A read of the stream `s`, of the entry `1-0` with this value as its field `f`.
+fn read_of(alloc: Global, field: Value) -> Result<StreamReadReply, ParsingError> {
+    let fields = named(alloc, "f", field)?;
+    let row = named(alloc, "1-0", fields)?;
+    let rows = alone(alloc, row)?;
+    let stream = named(alloc, "s", rows)?;
+    from_redis_value(alloc, alone(alloc, stream)?)
+}
+
+// Whether the entry is read with the text as its field.
+fn text_is_read(alloc: Global) -> Result<bool, ParsingError> {
+    texts(alloc)?;
+    let reply = read_of(alloc, bulk(alloc, "v")?)?;
+    Ok(matches!(field(&reply), Some(Value::BulkString(_))))
+}
+
+// Whether the entry is read with the array as its field.
+fn array_is_read(alloc: Global) -> Result<bool, ParsingError> {
+    bulk(alloc, "v")?;
+    let reply = read_of(alloc, texts(alloc)?)?;
+    Ok(matches!(field(&reply), Some(Value::Array(_))))
 }
 
 // The field of the first entry.
@@ -48,12 +64,12 @@ fn field(reply: &StreamReadReply) -> Option<&Value> {
 
 #[test]
 fn a_text_is_moved_with_refused_memory(rt: HostRuntime) {
-    let answer = is_read(rt.alloc(), false);
+    let answer = text_is_read(rt.alloc());
     assert!(rt; answer == Ok(true) || answer == Err(ParsingError::Memory));
 }
 
 #[test]
 fn an_array_is_moved_with_refused_memory(rt: HostRuntime) {
-    let answer = is_read(rt.alloc(), true);
+    let answer = array_is_read(rt.alloc());
     assert!(rt; answer == Ok(true) || answer == Err(ParsingError::Memory));
 }

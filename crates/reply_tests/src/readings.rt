@@ -5,10 +5,10 @@ mod pair;
 mod text;
 mod truth;
 mod tuple;
-mod user_type;
 mod value;
 
-use redis_resp::{FromRedisValue, ParsingError, from_redis_value, from_redis_value_ref};
+use redis_resp::{FromRedisValue, from_redis_value, from_redis_value_ref};
+use std::fmt::Debug;
 use std::process::Abort;
 use std::test::Fail;
 use stream_text::read_value;
@@ -24,45 +24,43 @@ const COLLECTIONS: [&str; 7] = [
     "Attr(Nil; Okay: Nil)",
 ];
 
-/// Both calls read the value as this, and the borrowed value stays as it was.
-fn check_read<T: FromRedisValue + PartialEq>(
+/// Of each value of the table both calls answer what stands beside it.
+fn check<T: FromRedisValue + Debug>(
     rt: &(impl AllocGlobal + Abort),
-    notation: &str,
-    wanted: &T,
+    table: &[(&str, &str)],
 ) -> Result<(), Fail> {
-    let value = read_value(rt.alloc(), notation)?;
-    let copy = value.try_clone(rt.alloc())?;
-    let borrowed = from_redis_value_ref::<T>(rt.alloc(), &value);
-    assert!(rt;
-        borrowed.is_ok_and(|record| record == *wanted),
-        "borrowed: {notation}"
-    );
-    assert!(rt; value == copy, "{notation} was changed");
-    let owned = from_redis_value::<T>(rt.alloc(), value);
-    assert!(rt;
-        owned.is_ok_and(|record| record == *wanted),
-        "owned: {notation}"
-    );
+    for (notation, shown) in table {
+        check_value::<T>(rt, notation, shown)?;
+    }
     Ok(())
 }
 
-/// Both calls refuse each of the values with the cause beside it.
-fn check_refused<T: FromRedisValue>(
+/// Both calls refuse each of the values so.
+fn check_refused<T: FromRedisValue + Debug>(
     rt: &(impl AllocGlobal + Abort),
-    table: &[(&str, ParsingError)],
+    values: &[&str],
+    shown: &str,
 ) -> Result<(), Fail> {
-    for (notation, cause) in table {
-        let value = read_value(rt.alloc(), notation)?;
-        let borrowed = from_redis_value_ref::<T>(rt.alloc(), &value);
-        assert!(rt;
-            borrowed.is_err_and(|error| error == *cause),
-            "borrowed: {notation}"
-        );
-        let owned = from_redis_value::<T>(rt.alloc(), value);
-        assert!(rt;
-            owned.is_err_and(|error| error == *cause),
-            "owned: {notation}"
-        );
+    for notation in values {
+        check_value::<T>(rt, notation, shown)?;
     }
+    Ok(())
+}
+
+/// Both calls answer this of the value, as `Debug` shows a record or a refusal.
+fn check_value<T: FromRedisValue + Debug>(
+    rt: &(impl AllocGlobal + Abort),
+    notation: &str,
+    shown: &str,
+) -> Result<(), Fail> {
+    let alloc = rt.alloc();
+    let value = read_value(alloc, notation)?;
+    let borrowed = format!(in alloc; "{:?}", from_redis_value_ref::<T>(alloc, &value))?;
+    assert!(rt;
+        borrowed.as_str() == shown,
+        "borrowed: {borrowed}, not {shown}"
+    );
+    let owned = format!(in alloc; "{:?}", from_redis_value::<T>(alloc, value))?;
+    assert!(rt; owned.as_str() == shown, "owned: {owned}, not {shown}");
     Ok(())
 }

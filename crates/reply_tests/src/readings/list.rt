@@ -1,79 +1,53 @@
 //! Lists and options.
-use crate::readings::{check_read, check_refused};
-use redis_resp::{ParsingError, Value};
-use std::alloc::{AllocError, Global};
+use crate::line_of;
+use crate::readings::{check, check_value};
+use redis_resp::Value;
 use std::test::Fail;
-use stream_text::read_value;
-
-/// The texts as a list that stands alone.
-fn owned(alloc: Global, texts: &[&str]) -> Result<Vec<String>, AllocError> {
-    let mut list = Vec::new(alloc);
-    for text in texts {
-        list.push(String::from_str(alloc, text)?)?;
-    }
-    Ok(list)
-}
-
-const LISTS: [(&str, &[&str]); 4] = [
-    ("Set[a, Int -3, Okay]", &["a", "-3", "OK"]),
-    ("Array[b, a, b]", &["b", "a", "b"]),
-    ("Attr(Set[a])", &["a"]),
-    ("Nil", &[]),
-];
 
 #[test]
 fn lists_are_read(rt: HostRuntime) -> Result<(), Fail> {
-    for (notation, texts) in LISTS {
-        check_read::<Vec<String>>(&rt, notation, &owned(rt.alloc(), texts)?)?;
-    }
-    Ok(())
-}
-
-#[test]
-fn no_lists_are_refused(rt: HostRuntime) -> Result<(), Fail> {
-    check_refused::<Vec<String>>(
+    check::<Vec<String>>(
         &rt,
         &[
-            ("Boolean(true)", ParsingError::NotList),
-            ("a", ParsingError::NotList),
-            ("Int 1", ParsingError::NotList),
-            ("Array[Okay, Nil]", ParsingError::NotText),
-            ("Map[a: b]", ParsingError::NotText),
+            ("Set[a, Int -3, Okay]", "Ok([\"a\", \"-3\", \"OK\"])"),
+            ("Array[b, a, b]", "Ok([\"b\", \"a\", \"b\"])"),
+            ("Attr(Set[a])", "Ok([\"a\"])"),
+            ("Nil", "Ok([])"),
+            ("Boolean(true)", "Err(NotList)"),
+            ("a", "Err(NotList)"),
+            ("Int 1", "Err(NotList)"),
+            ("Array[Okay, Nil]", "Err(NotText)"),
+            ("Map[a: b]", "Err(NotText)"),
         ],
     )
 }
 
 #[test]
 fn each_pair_of_a_map_is_a_map(rt: HostRuntime) -> Result<(), Fail> {
-    let mut pairs = Vec::new(rt.alloc());
-    pairs.push(read_value(rt.alloc(), "Map[a: b]")?)?;
-    pairs.push(read_value(rt.alloc(), "Map[c: d]")?)?;
-    check_read::<Vec<Value>>(&rt, "Map[a: b, c: d]", &pairs)
+    check_value::<Vec<Value>>(
+        &rt,
+        "Map[a: b, Int 1: Nil]",
+        "Ok([Map([(BulkString([97]), BulkString([98]))]), Map([(Int(1), Nil)])])",
+    )
 }
 
 #[test]
 fn a_long_list_is_read(rt: HostRuntime) -> Result<(), Fail> {
-    let mut notation = String::from_str(rt.alloc(), "Array[Int 0")?;
-    let mut numbers = Vec::new(rt.alloc());
-    numbers.push(0i64)?;
-    for number in 1..10_000 {
-        write!(notation, ", Int {number}")?;
-        numbers.push(number)?;
-    }
-    notation.push_str("]")?;
-    check_read::<Vec<i64>>(&rt, notation.as_str(), &numbers)
+    let notation = line_of(rt.alloc(), ("Array[", "Int $", ", ", "]"), 10_000)?;
+    let shown = line_of(rt.alloc(), ("Ok([", "$", ", ", "])"), 10_000)?;
+    check_value::<Vec<i64>>(&rt, notation.as_str(), shown.as_str())
 }
 
 #[test]
 fn options_are_read(rt: HostRuntime) -> Result<(), Fail> {
-    check_read::<Option<u32>>(&rt, "Nil", &None)?;
-    check_read::<Option<u32>>(&rt, "Attr(Nil)", &None)?;
-    check_read::<Option<u32>>(&rt, "7", &Some(7))?;
-    check_refused::<Option<u32>>(
+    check::<Option<u32>>(
         &rt,
         &[
-            ("a", ParsingError::NotNumber),
-            ("Boolean(false)", ParsingError::NotNumber),
+            ("Nil", "Ok(None)"),
+            ("Attr(Nil)", "Ok(None)"),
+            ("7", "Ok(Some(7))"),
+            ("a", "Err(NotNumber)"),
+            ("Boolean(false)", "Err(NotNumber)"),
         ],
     )
 }

@@ -1,6 +1,7 @@
 //! Numbers of each width.
-use crate::readings::{COLLECTIONS, check_read, check_refused};
-use redis_resp::{FromRedisValue, ParsingError};
+use crate::readings::{COLLECTIONS, check_value};
+use redis_resp::FromRedisValue;
+use std::fmt::Debug;
 use std::process::Abort;
 use std::test::Fail;
 
@@ -63,15 +64,42 @@ const WHOLE_NUMBERS: [NumberVector<'static>; 12] = [
     ("-9223372036854775808", None, Some(i64::MIN)),
 ];
 
-/// Both calls read the number, where there is one, and else answer that there is none.
-fn check_number<T: FromRedisValue + PartialEq>(
+/// The number is read, where there is one that is no greater than this, and else refused.
+fn check_unsigned<T: FromRedisValue + Debug>(
     rt: &(impl AllocGlobal + Abort),
     notation: &str,
-    wanted: Option<T>,
+    number: Option<u64>,
+    most: u64,
 ) -> Result<(), Fail> {
-    match wanted {
-        Some(number) => check_read::<T>(rt, notation, &number),
-        None => check_refused::<T>(rt, &[(notation, ParsingError::NotNumber)]),
+    match number {
+        Some(number) if number <= most => {
+            check_value::<T>(
+                rt,
+                notation,
+                format!(in rt.alloc(); "Ok({number})")?.as_str(),
+            )
+        }
+        _ => check_value::<T>(rt, notation, "Err(NotNumber)"),
+    }
+}
+
+/// The number is read, where there is one between these two, and else refused.
+fn check_signed<T: FromRedisValue + Debug>(
+    rt: &(impl AllocGlobal + Abort),
+    notation: &str,
+    number: Option<i64>,
+    least: i64,
+    most: i64,
+) -> Result<(), Fail> {
+    match number {
+        Some(number) if least <= number && number <= most => {
+            check_value::<T>(
+                rt,
+                notation,
+                format!(in rt.alloc(); "Ok({number})")?.as_str(),
+            )
+        }
+        _ => check_value::<T>(rt, notation, "Err(NotNumber)"),
     }
 }
 
@@ -82,38 +110,38 @@ fn check_each(
     unsigned: Option<u64>,
     signed: Option<i64>,
 ) -> Result<(), Fail> {
-    check_number(rt, notation, unsigned.and_then(|n| u8::try_from(n).ok()))?;
-    check_number(rt, notation, unsigned.and_then(|n| u16::try_from(n).ok()))?;
-    check_number(rt, notation, unsigned.and_then(|n| u32::try_from(n).ok()))?;
-    check_number(rt, notation, unsigned)?;
-    check_number(rt, notation, unsigned.and_then(|n| usize::try_from(n).ok()))?;
-    check_number(rt, notation, signed.and_then(|n| i32::try_from(n).ok()))?;
-    check_number(rt, notation, signed)
+    check_unsigned::<u8>(rt, notation, unsigned, 255)?;
+    check_unsigned::<u16>(rt, notation, unsigned, 65535)?;
+    check_unsigned::<u32>(rt, notation, unsigned, 4294967295)?;
+    check_unsigned::<u64>(rt, notation, unsigned, u64::MAX)?;
+    check_unsigned::<usize>(rt, notation, unsigned, u64::MAX)?;
+    check_signed::<i32>(rt, notation, signed, -2147483648, 2147483647)?;
+    check_signed::<i64>(rt, notation, signed, i64::MIN, i64::MAX)
 }
 
 #[test]
 fn texts_are_read_as_parse_reads_them(rt: HostRuntime) -> Result<(), Fail> {
-    for (text, unsigned, signed) in TEXTS {
+    for (text, unsigned, signed) in &TEXTS {
         let bulk = format!(in rt.alloc(); "\"{text}\"")?;
-        check_each(&rt, bulk.as_str(), unsigned, signed)?;
+        check_each(&rt, bulk.as_str(), *unsigned, *signed)?;
         let simple = format!(in rt.alloc(); "Attr(Simple(\"{text}\"))")?;
-        check_each(&rt, simple.as_str(), unsigned, signed)?;
+        check_each(&rt, simple.as_str(), *unsigned, *signed)?;
     }
     Ok(())
 }
 
 #[test]
 fn whole_numbers_are_read_where_they_fit(rt: HostRuntime) -> Result<(), Fail> {
-    for (number, unsigned, signed) in WHOLE_NUMBERS {
+    for (number, unsigned, signed) in &WHOLE_NUMBERS {
         let notation = format!(in rt.alloc(); "Int {number}")?;
-        check_each(&rt, notation.as_str(), unsigned, signed)?;
+        check_each(&rt, notation.as_str(), *unsigned, *signed)?;
     }
     Ok(())
 }
 
 #[test]
 fn other_values_are_no_numbers(rt: HostRuntime) -> Result<(), Fail> {
-    for notation in COLLECTIONS {
+    for notation in &COLLECTIONS {
         check_each(&rt, notation, None, None)?;
     }
     check_each(&rt, "Okay", None, None)?;

@@ -1,67 +1,51 @@
 //! Texts and bytes.
-use crate::readings::{COLLECTIONS, check_read, check_refused};
-use redis_resp::{ParsingError, RawBytes};
+use crate::line_of;
+use crate::readings::{COLLECTIONS, check, check_refused, check_value};
+use redis_resp::RawBytes;
 use std::test::Fail;
-
-const TEXTS: [(&str, &str); 9] = [
-    ("stream", "stream"),
-    ("\"\"", ""),
-    ("Simple(QUEUED)", "QUEUED"),
-    ("Verbatim(txt, \"Some string\")", "Some string"),
-    ("Okay", "OK"),
-    ("Int -3", "-3"),
-    ("Int 0", "0"),
-    ("Int -9223372036854775808", "-9223372036854775808"),
-    ("Attr(Attr(Okay))", "OK"),
-];
 
 #[test]
 fn texts_are_read(rt: HostRuntime) -> Result<(), Fail> {
-    for (notation, text) in TEXTS {
-        check_read::<String>(&rt, notation, &String::from_str(rt.alloc(), text)?)?;
-    }
-    Ok(())
+    check::<String>(
+        &rt,
+        &[
+            ("stream", "Ok(\"stream\")"),
+            ("\"\"", "Ok(\"\")"),
+            ("Simple(QUEUED)", "Ok(\"QUEUED\")"),
+            ("Verbatim(txt, \"Some string\")", "Ok(\"Some string\")"),
+            ("Okay", "Ok(\"OK\")"),
+            ("Int -3", "Ok(\"-3\")"),
+            ("Int 0", "Ok(\"0\")"),
+            ("Int -9223372036854775808", "Ok(\"-9223372036854775808\")"),
+            ("Attr(Attr(Okay))", "Ok(\"OK\")"),
+            ("Bytes(255)", "Err(NotText)"),
+            ("Bytes(97, 192, 128)", "Err(NotText)"),
+        ],
+    )?;
+    check_refused::<String>(&rt, &COLLECTIONS, "Err(NotText)")
 }
-
-#[test]
-fn other_values_are_no_texts_and_no_bytes(rt: HostRuntime) -> Result<(), Fail> {
-    for notation in COLLECTIONS {
-        check_refused::<String>(&rt, &[(notation, ParsingError::NotText)])?;
-        check_refused::<RawBytes>(&rt, &[(notation, ParsingError::NotBytes)])?;
-    }
-    for notation in ["Bytes(255)", "Bytes(97, 192, 128)"] {
-        check_refused::<String>(&rt, &[(notation, ParsingError::NotText)])?;
-    }
-    for notation in ["Simple(1-0)", "Verbatim(txt, 1-0)", "Okay", "Int 1"] {
-        check_refused::<RawBytes>(&rt, &[(notation, ParsingError::NotBytes)])?;
-    }
-    Ok(())
-}
-
-const BYTES: [(&str, &[u8]); 4] = [
-    ("\"\"", b""),
-    ("1-0", b"1-0"),
-    ("Bytes(255, 0)", b"\xff\0"),
-    ("Attr(Bytes(255, 0))", b"\xff\0"),
-];
 
 #[test]
 fn bytes_are_those_of_bulk_strings(rt: HostRuntime) -> Result<(), Fail> {
-    for (notation, bytes) in BYTES {
-        check_read(
-            &rt,
-            notation,
-            &RawBytes(Vec::from_slice(rt.alloc(), bytes)?),
-        )?;
-    }
-    Ok(())
+    check::<RawBytes>(
+        &rt,
+        &[
+            ("\"\"", "Ok(RawBytes([]))"),
+            ("1-0", "Ok(RawBytes([49, 45, 48]))"),
+            ("Bytes(255, 0)", "Ok(RawBytes([255, 0]))"),
+            ("Attr(Bytes(255, 0))", "Ok(RawBytes([255, 0]))"),
+            ("Simple(1-0)", "Err(NotBytes)"),
+            ("Verbatim(txt, 1-0)", "Err(NotBytes)"),
+            ("Okay", "Err(NotBytes)"),
+            ("Int 1", "Err(NotBytes)"),
+        ],
+    )?;
+    check_refused::<RawBytes>(&rt, &COLLECTIONS, "Err(NotBytes)")
 }
 
 #[test]
 fn a_large_text_is_read(rt: HostRuntime) -> Result<(), Fail> {
-    let mut text = String::new(rt.alloc());
-    for _ in 0..65536 {
-        text.push('x')?;
-    }
-    check_read::<String>(&rt, text.as_str(), &text)
+    let notation = line_of(rt.alloc(), ("", "x", "", ""), 65_536)?;
+    let shown = line_of(rt.alloc(), ("Ok(\"", "x", "", "\")"), 65_536)?;
+    check_value::<String>(&rt, notation.as_str(), shown.as_str())
 }

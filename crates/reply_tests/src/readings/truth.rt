@@ -1,23 +1,6 @@
 //! Truth values.
-use crate::readings::{check_read, check_refused};
-use redis_resp::ParsingError;
+use crate::readings::{check, check_refused};
 use std::test::Fail;
-
-const TRUTH_VALUES: [(&str, bool); 13] = [
-    ("Nil", false),
-    ("Int 0", false),
-    ("Int 1", true),
-    ("Int -1", true),
-    ("Int -9223372036854775808", true),
-    ("0", false),
-    ("1", true),
-    ("Simple(0)", false),
-    ("Simple(1)", true),
-    ("Okay", true),
-    ("Boolean(false)", false),
-    ("Boolean(true)", true),
-    ("Attr(Boolean(true))", true),
-];
 
 const OTHERS: [&str; 10] = [
     "\"\"",
@@ -34,11 +17,23 @@ const OTHERS: [&str; 10] = [
 
 #[test]
 fn truth_values_are_read(rt: HostRuntime) -> Result<(), Fail> {
-    for (notation, truth) in TRUTH_VALUES {
-        check_read::<bool>(&rt, notation, &truth)?;
-    }
-    for notation in OTHERS {
-        check_refused::<bool>(&rt, &[(notation, ParsingError::NotNumber)])?;
-    }
-    Ok(())
+    check::<bool>(
+        &rt,
+        &[
+            ("Nil", "Ok(false)"),
+            ("Int 0", "Ok(false)"),
+            ("Int 1", "Ok(true)"),
+            ("Int -1", "Ok(true)"),
+            ("Int -9223372036854775808", "Ok(true)"),
+            ("0", "Ok(false)"),
+            ("1", "Ok(true)"),
+            ("Simple(0)", "Ok(false)"),
+            ("Simple(1)", "Ok(true)"),
+            ("Okay", "Ok(true)"),
+            ("Boolean(false)", "Ok(false)"),
+            ("Boolean(true)", "Ok(true)"),
+            ("Attr(Boolean(true))", "Ok(true)"),
+        ],
+    )?;
+    check_refused::<bool>(&rt, &OTHERS, "Err(NotNumber)")
 }

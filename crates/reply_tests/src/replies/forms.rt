@@ -1,6 +1,7 @@
 //! Which forms a read has, and by which of them it is read.
 use crate::replies::check_value;
 use redis_streams::{ReadForms, StreamReadReply};
+use std::process::Abort;
 use std::test::Fail;
 use stream_text::read_value;
 
@@ -61,16 +62,26 @@ const READS: [FormVector<'static>; 11] = [
     ("Int 1", false, false, "refused 9"),
 ];
 
+/// The value has these forms, and its reading this printed form.
+fn check_forms(
+    rt: &(impl AllocGlobal + Abort),
+    notation: &str,
+    forms: ReadForms,
+    printed: &str,
+) -> Result<(), Fail> {
+    let value = read_value(rt.alloc(), notation)?;
+    assert!(rt; StreamReadReply::forms(&value) == forms, "{notation}");
+    check_value::<StreamReadReply>(rt, value, printed)
+}
+
 #[test]
 fn the_standard_form_counts_where_both_are_there(rt: HostRuntime) -> Result<(), Fail> {
-    for (notation, standard, claim, printed) in READS {
-        let value = read_value(rt.alloc(), notation)?;
-        let forms = ReadForms { standard, claim };
-        assert!(rt;
-            StreamReadReply::forms(&value) == forms,
-            "forms of {notation}"
-        );
-        check_value::<StreamReadReply>(&rt, value, printed)?;
+    for (notation, standard, claim, printed) in &READS {
+        let forms = ReadForms {
+            standard: *standard,
+            claim: *claim,
+        };
+        check_forms(&rt, notation, forms, printed)?;
     }
     Ok(())
 }

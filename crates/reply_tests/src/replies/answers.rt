@@ -1,10 +1,11 @@
 //! Both readings of a value in one line.
 ghost use Rattle.std.specs.Prelude.{Bool, true, None, codes};
 
+use crate::replies::check_value;
 use redis_resp::{FromRedisValue, ParsingError, Value};
 use std::alloc::{AllocError, Global};
 use std::test::Fail;
-use stream_text::{PrintedForm, both_answers};
+use stream_text::PrintedForm;
 
 /// It has no record, and its two readings refuse a value with errors of their own.
 #[derive(Drop)]
@@ -36,13 +37,8 @@ impl PrintedForm for Refused {
 
 #[test]
 fn both_readings_are_told(rt: HostRuntime) -> Result<(), Fail> {
-    let alloc = rt.alloc();
-    let told = both_answers::<Refused>(alloc, Value::Nil)?;
-    assert_eq!(rt; told.as_str(), "refused 1 owned, refused 2 lent");
-    for (value, line) in [(Value::Int(7), "7"), (Value::Nil, "refused 2")] {
-        assert_eq!(rt; both_answers::<usize>(alloc, value)?.as_str(), line);
-    }
-    let told = both_answers::<String>(alloc, Value::Nil)?;
-    assert_eq!(rt; told.as_str(), "refused 1");
-    Ok(())
+    check_value::<Refused>(&rt, Value::Nil, "refused 1 owned, refused 2 lent")?;
+    check_value::<usize>(&rt, Value::Int(7), "7")?;
+    check_value::<usize>(&rt, Value::Nil, "refused 2")?;
+    check_value::<String>(&rt, Value::Nil, "refused 1")
 }
