@@ -1,5 +1,5 @@
 //! Tests of what is read from a server's values: `redis_resp::value`, `redis_streams` and
-//! `stream_text`, as tables of the notation.
+//! `stream_text`, as tables of the notation; and of bytes: `redis_wire`.
 //!
 //! They stand in a crate of their own, since a check of tests proves the functions of their crate
 //! a second time.
@@ -19,6 +19,8 @@ mod readings;
 mod refusals;
 #[cfg(test)]
 mod replies;
+#[cfg(test)]
+mod wire;
 
 #[cfg(test)]
 use std::alloc::{AllocError, Global};

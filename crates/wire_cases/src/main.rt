@@ -12,9 +12,6 @@
 //! It ends with 0, or with 2 where memory ran out, or standard input or output failed.
 #![tactic(auto)]
 
-#[cfg(test)]
-mod tests;
-
 use redis_wire::{Decoded, Limits, Reply, ReplyStream, WireError, decode};
 use std::alloc::{AllocError, Global};
 use std::io::{BufRead, BufReader, BufWriter, Write};
