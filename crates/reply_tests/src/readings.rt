@@ -47,7 +47,8 @@ fn check_refused<T: FromRedisValue + Debug>(
     Ok(())
 }
 
-/// Both calls answer this of the value, as `Debug` shows a record or a refusal.
+/// Both calls answer this of the value, as `Debug` shows a record or a refusal, and the borrowed
+/// value stays as it was.
 fn check_value<T: FromRedisValue + Debug>(
     rt: &(impl AllocGlobal + Abort),
     notation: &str,
@@ -55,11 +56,13 @@ fn check_value<T: FromRedisValue + Debug>(
 ) -> Result<(), Fail> {
     let alloc = rt.alloc();
     let value = read_value(alloc, notation)?;
+    let copy = value.try_clone(alloc)?;
     let borrowed = format!(in alloc; "{:?}", from_redis_value_ref::<T>(alloc, &value))?;
     assert!(rt;
         borrowed.as_str() == shown,
         "borrowed: {borrowed}, not {shown}"
     );
+    assert!(rt; value == copy, "{notation} was changed");
     let owned = format!(in alloc; "{:?}", from_redis_value::<T>(alloc, value))?;
     assert!(rt; owned.as_str() == shown, "owned: {owned}, not {shown}");
     Ok(())
