@@ -4,6 +4,7 @@ use crate::wire::{AnswerError, streams_answered, streams_of_both};
 use crate::worker::ids_to_acknowledge;
 use redis_resp::ParsingError;
 use redis_wire::Fault;
+use std::process::Abort;
 use std::test::Fail;
 
 // An answer in RESP2 and in RESP3, and the ids of its entries; the fields of 1-2 were deleted.
@@ -23,34 +24,44 @@ $3\r\nhum\r\n$2\r\n40\r\n*2\r\n$3\r\n1-2\r\n_\r\n",
     (b"*-1\r\n", b"_\r\n", ""),
 ];
 
+// Both answers have entries of these ids.
+fn assert_ids(
+    rt: &(impl Abort + AllocGlobal),
+    resp2: &[u8],
+    resp3: &[u8],
+    ids: &str,
+) -> Result<(), Fail> {
+    let (first, second) = streams_of_both(rt.alloc(), resp2, resp3)?;
+    assert_line(rt, &ids_to_acknowledge(rt.alloc(), &first)?, ids)?;
+    assert_line(rt, &ids_to_acknowledge(rt.alloc(), &second)?, ids)
+}
+
 #[test]
 fn both_protocols_give_one_record(rt: HostRuntime) -> Result<(), Fail> {
-    let alloc = rt.alloc();
     for (resp2, resp3, ids) in &ANSWERS {
-        let (first, second) = streams_of_both(alloc, resp2, resp3)?;
-        assert_line(&rt, &ids_to_acknowledge(alloc, &first)?, ids)?;
-        assert_line(&rt, &ids_to_acknowledge(alloc, &second)?, ids)?;
+        assert_ids(&rt, resp2, resp3, ids)?;
     }
+    Ok(())
+}
+
+// The bytes give no streams, and this is why.
+fn assert_told(rt: &(impl Abort + AllocGlobal), bytes: &[u8], told: &str) -> Result<(), Fail> {
+    let answered = streams_answered(rt.alloc(), bytes);
+    let error = match &answered {
+        Err(AnswerError::Incomplete) => "incomplete",
+        Err(AnswerError::Fault(Fault::UnknownType)) => "unknown type",
+        Err(AnswerError::Parsing(ParsingError::UnknownReadFormat)) => "no streams",
+        Err(AnswerError::Server(error)) => str::from_utf8(error.code())?,
+        _ => "another answer",
+    };
+    assert!(rt; error == told, "{answered:?}");
     Ok(())
 }
 
 #[test]
 fn bytes_without_streams_are_told_apart(rt: HostRuntime) -> Result<(), Fail> {
-    for (bytes, told) in [
-        (b"*1\r\n*2\r\n$1\r\n".as_slice(), "incomplete"),
-        (b"*1\r\n?", "unknown type"),
-        (b":1\r\n", "no streams"),
-        (b"-NOGROUP No such key 's'\r\n", "NOGROUP"),
-    ] {
-        let answered = streams_answered(rt.alloc(), bytes);
-        let error = match &answered {
-            Err(AnswerError::Incomplete) => "incomplete",
-            Err(AnswerError::Fault(Fault::UnknownType)) => "unknown type",
-            Err(AnswerError::Parsing(ParsingError::UnknownReadFormat)) => "no streams",
-            Err(AnswerError::Server(error)) => str::from_utf8(error.code())?,
-            _ => "another answer",
-        };
-        assert_eq!(rt; error, told, "{answered:?}");
-    }
-    Ok(())
+    assert_told(&rt, b"*1\r\n*2\r\n$1\r\n".as_slice(), "incomplete")?;
+    assert_told(&rt, b"*1\r\n?".as_slice(), "unknown type")?;
+    assert_told(&rt, b":1\r\n".as_slice(), "no streams")?;
+    assert_told(&rt, b"-NOGROUP No such key 's'\r\n".as_slice(), "NOGROUP")
 }
