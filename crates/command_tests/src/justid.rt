@@ -1,130 +1,79 @@
 //! The answer of an automatic claim that asks for ids alone, by both calls.
-use redis_resp::{ParsingError, Value};
-use std::alloc::{AllocError, Global};
+use std::process::Abort;
 use std::test::Fail;
 use stream_commands::{StreamAutoClaimJustIdReply, xautoclaim_justid};
 use stream_options::StreamAutoClaimOptions;
+use stream_text::read_value;
 
-// What both calls read, from the borrowed value first.
-fn both(
-    alloc: Global,
-    value: Value,
-) -> (
-    Result<StreamAutoClaimJustIdReply, ParsingError>,
-    Result<StreamAutoClaimJustIdReply, ParsingError>,
-) {
+// Both calls answer this of the value, as `Debug` shows a record or a refusal.
+fn check_answer(rt: &(impl Abort + AllocGlobal), notation: &str, shown: &str) -> Result<(), Fail> {
+    let alloc = rt.alloc();
+    let value = read_value(alloc, notation)?;
     let options = StreamAutoClaimOptions::default();
     let command = xautoclaim_justid("orders", "g", "c", 0, "0-0", options);
-    let borrowed = command.read_ref(alloc, &value);
-    (borrowed, command.read(alloc, value))
+    let borrowed = format!(in alloc; "{:?}", command.read_ref(alloc, &value))?;
+    assert!(rt; borrowed.as_str() == shown, "borrowed: {borrowed}");
+    let owned = format!(in alloc; "{:?}", command.read(alloc, value))?;
+    assert!(rt; owned.as_str() == shown, "owned: {owned}");
+    Ok(())
 }
 
-fn bulk(alloc: Global, text: &str) -> Result<Value, AllocError> {
-    Ok(Value::BulkString(Vec::from_slice(alloc, text.as_bytes())?))
-}
+// As redis-server 7.0 answers, and as 6.2 does, which tells no deleted ids, and what is refused.
+const ANSWERS: [(&str, &str); 11] = [
+    (
+        "Array[5-0, Array[3-0, 4-0], Array[1-0]]",
+        "Ok(StreamAutoClaimJustIdReply { next_stream_id: \"5-0\", \
+         claimed: [\"3-0\", \"4-0\"], deleted_ids: [\"1-0\"] })",
+    ),
+    (
+        "Array[0-0, Array[], Array[]]",
+        "Ok(StreamAutoClaimJustIdReply { next_stream_id: \"0-0\", claimed: [], deleted_ids: [] })",
+    ),
+    (
+        "Array[0-0, Array[3-0, 4-0]]",
+        "Ok(StreamAutoClaimJustIdReply { next_stream_id: \"0-0\", \
+         claimed: [\"3-0\", \"4-0\"], deleted_ids: [] })",
+    ),
+    ("Array[0-0]", "Err(WrongItemCount(1))"),
+    (
+        "Array[0-0, Array[1-0], Array[1-0], Array[1-0]]",
+        "Err(WrongItemCount(4))",
+    ),
+    (
+        "Array[0-0, Array[Array[1-0, Array[item, tea]]], Array[1-0]]",
+        "Err(NotText)",
+    ),
+    ("Array[0-0, Array[1-0, Nil]]", "Err(NotText)"),
+    ("Array[0-0, 0-0]", "Err(NotList)"),
+    ("Array[0-0, Array[1-0], Int 1]", "Err(NotList)"),
+    ("Array[Nil, Array[1-0], Array[1-0]]", "Err(NotText)"),
+    ("Nil", "Err(NotArray)"),
+];
 
-// A list of ids.
-fn ids(alloc: Global, texts: &[&str]) -> Result<Value, AllocError> {
-    let mut items = Vec::new(alloc);
-    for text in texts {
-        items.push(bulk(alloc, text)?)?;
-    }
-    Ok(Value::Array(items))
-}
-
-// A list of one entry, with a field.
-fn entries(alloc: Global) -> Result<Value, AllocError> {
-    let entry = vec![in alloc; bulk(alloc, "1-0")?, ids(alloc, &["item", "tea"])?]?;
-    Ok(Value::Array(vec![in alloc; Value::Array(entry)]?))
-}
-
-// Each id, behind a blank.
-fn push_ids(text: &mut String, ids: &[String]) -> Result<(), AllocError> {
-    for id in ids {
-        text.push_str(" ")?;
-        text.push_str(id.as_str())?;
+#[test]
+fn answers_of_ids_are_read(rt: HostRuntime) -> Result<(), Fail> {
+    for (notation, shown) in &ANSWERS {
+        check_answer(&rt, notation, shown)?;
     }
     Ok(())
 }
 
-// The next id, the claimed ids and the deleted ids, as one text.
-fn told(alloc: Global, reply: &StreamAutoClaimJustIdReply) -> Result<String, AllocError> {
-    let mut text = String::from_str(alloc, reply.next_stream_id.as_str())?;
-    text.push_str(";")?;
-    push_ids(&mut text, &reply.claimed)?;
-    text.push_str(";")?;
-    push_ids(&mut text, &reply.deleted_ids)?;
-    Ok(text)
-}
-
 #[test]
-fn ids_are_read(rt: HostRuntime) -> Result<(), Fail> {
+fn answers_of_ids_are_copied(rt: HostRuntime) -> Result<(), Fail> {
     let alloc = rt.alloc();
-    let some = || ids(alloc, &["3-0", "4-0"]);
-    let one = || ids(alloc, &["1-0"]);
-    let none = || ids(alloc, &[]);
-    // as redis-server 7.0 answers, and as 6.2 does, which tells no deleted ids
-    let table = [
-        (
-            vec![in alloc; bulk(alloc, "5-0")?, some()?, one()?]?,
-            "5-0; 3-0 4-0; 1-0",
-        ),
-        (
-            vec![in alloc; bulk(alloc, "0-0")?, none()?, none()?]?,
-            "0-0;;",
-        ),
-        (
-            vec![in alloc; bulk(alloc, "0-0")?, some()?]?,
-            "0-0; 3-0 4-0;",
-        ),
-    ];
-    for (parts, text) in table {
-        let (borrowed, owned) = both(alloc, Value::Array(parts));
-        let borrowed = borrowed.map_err(|_| "refused")?;
-        let owned = owned.map_err(|_| "refused")?;
-        assert_eq!(rt; told(alloc, &borrowed)?.as_str(), text);
-        assert_eq!(rt; told(alloc, &owned)?.as_str(), text);
-        assert_eq!(rt; told(alloc, &owned.try_clone(alloc)?)?.as_str(), text);
-    }
-    let empty = StreamAutoClaimJustIdReply::empty(alloc)?;
-    assert_eq!(rt; told(alloc, &empty)?.as_str(), ";;");
+    let options = StreamAutoClaimOptions::default();
+    let command = xautoclaim_justid("orders", "g", "c", 0, "0-0", options);
+    let value = read_value(alloc, "Array[5-0, Array[3-0, 4-0], Array[1-0]]")?;
+    let reply = command.read(alloc, value)?;
+    let copy = format!(in alloc; "{:?}", reply.try_clone(alloc)?)?;
+    assert!(rt; copy == format!(in alloc; "{reply:?}")?, "{copy}");
     Ok(())
 }
 
 #[test]
-fn other_answers_are_refused(rt: HostRuntime) -> Result<(), Fail> {
-    let alloc = rt.alloc();
-    let next = || bulk(alloc, "0-0");
-    let one = || ids(alloc, &["1-0"]);
-    let with_nil = Value::Array(vec![in alloc; bulk(alloc, "1-0")?, Value::Nil]?);
-    let table = [
-        (vec![in alloc; next()?]?, ParsingError::WrongItemCount(1)),
-        (
-            vec![in alloc; next()?, one()?, one()?, one()?]?,
-            ParsingError::WrongItemCount(4),
-        ),
-        (
-            vec![in alloc; next()?, entries(alloc)?, one()?]?,
-            ParsingError::NotText,
-        ),
-        (vec![in alloc; next()?, with_nil]?, ParsingError::NotText),
-        (vec![in alloc; next()?, next()?]?, ParsingError::NotList),
-        (
-            vec![in alloc; next()?, one()?, Value::Int(1)]?,
-            ParsingError::NotList,
-        ),
-        (
-            vec![in alloc; Value::Nil, one()?, one()?]?,
-            ParsingError::NotText,
-        ),
-    ];
-    for (parts, error) in table {
-        let (borrowed, owned) = both(alloc, Value::Array(parts));
-        assert_eq!(rt; borrowed.as_ref().err(), Some(&error));
-        assert_eq!(rt; owned.as_ref().err(), Some(&error));
-    }
-    let (borrowed, owned) = both(alloc, Value::Nil);
-    assert_eq!(rt; borrowed.err(), Some(ParsingError::NotArray));
-    assert_eq!(rt; owned.err(), Some(ParsingError::NotArray));
+fn an_answer_of_no_ids_is_made(rt: HostRuntime) -> Result<(), Fail> {
+    let empty = StreamAutoClaimJustIdReply::empty(rt.alloc())?;
+    let shown = "StreamAutoClaimJustIdReply { next_stream_id: \"\", claimed: [], deleted_ids: [] }";
+    assert_eq!(rt; format!(in rt.alloc(); "{empty:?}")?.as_str(), shown);
     Ok(())
 }

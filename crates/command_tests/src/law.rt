@@ -105,39 +105,44 @@ fn autoclaim_arguments(
 }
 
 #[test]
-fn commands_are_lists_of_their_parts(rt: HostRuntime) -> Result<(), Fail> {
-    let alloc = rt.alloc();
+fn added_entries_are_lists(rt: HostRuntime) -> Result<(), Fail> {
     let strategy = StreamTrimStrategy::maxlen(StreamTrimmingMode::Exact, 10);
-    let add = StreamAddOptions::default().nomkstream().trim(strategy);
-    let trim = StreamTrimOptions::maxlen(StreamTrimmingMode::Approx, 1).limit(50);
-    let read = StreamReadOptions::default().block(5).count(2);
-    let read = read.group(alloc, "g", "c")?;
-    let claim = StreamClaimOptions::default().with_force().retry(3);
-    let automatic = StreamAutoClaimOptions::default().count(10);
-    let table = [
-        (
-            add_arguments(alloc, "orders", "4-0", "item", "tea", &add)?,
-            "XADD orders NOMKSTREAM MAXLEN = 10 4-0 item tea",
-        ),
-        (
-            trim_arguments(alloc, "orders", &trim)?,
-            "XTRIM orders MAXLEN ~ 1 LIMIT 50",
-        ),
-        (
-            read_arguments(alloc, "orders", ">", &read)?,
-            "XREADGROUP GROUP g c BLOCK 5 COUNT 2 STREAMS orders >",
-        ),
-        (
-            claim_arguments(alloc, "orders", "g", "d", 0, "3-0", &claim)?,
-            "XCLAIM orders g d 0 3-0 RETRYCOUNT 3 FORCE",
-        ),
-        (
-            autoclaim_arguments(alloc, "orders", "g", "d", 0, "0-0", &automatic)?,
-            "XAUTOCLAIM orders g d 0 0-0 COUNT 10",
-        ),
-    ];
-    for (arguments, line) in &table {
-        check(&rt, arguments, line)?;
-    }
-    Ok(())
+    let options = StreamAddOptions::default().nomkstream().trim(strategy);
+    let arguments = add_arguments(rt.alloc(), "orders", "4-0", "item", "tea", &options)?;
+    let line = "XADD orders NOMKSTREAM MAXLEN = 10 4-0 item tea";
+    check(&rt, &arguments, line)
+}
+
+#[test]
+fn trims_are_lists(rt: HostRuntime) -> Result<(), Fail> {
+    let options = StreamTrimOptions::maxlen(StreamTrimmingMode::Approx, 1).limit(50);
+    let arguments = trim_arguments(rt.alloc(), "orders", &options)?;
+    check(&rt, &arguments, "XTRIM orders MAXLEN ~ 1 LIMIT 50")
+}
+
+#[test]
+fn reads_are_lists(rt: HostRuntime) -> Result<(), Fail> {
+    let options = StreamReadOptions::default().block(5).count(2);
+    let options = options.group(rt.alloc(), "g", "c")?;
+    let arguments = read_arguments(rt.alloc(), "orders", ">", &options)?;
+    let line = "XREADGROUP GROUP g c BLOCK 5 COUNT 2 STREAMS orders >";
+    check(&rt, &arguments, line)
+}
+
+#[test]
+fn claims_are_lists(rt: HostRuntime) -> Result<(), Fail> {
+    let options = StreamClaimOptions::default().with_force().retry(3);
+    let arguments = claim_arguments(rt.alloc(), "orders", "g", "d", 0, "3-0", &options)?;
+    check(
+        &rt,
+        &arguments,
+        "XCLAIM orders g d 0 3-0 RETRYCOUNT 3 FORCE",
+    )
+}
+
+#[test]
+fn automatic_claims_are_lists(rt: HostRuntime) -> Result<(), Fail> {
+    let options = StreamAutoClaimOptions::default().count(10);
+    let arguments = autoclaim_arguments(rt.alloc(), "orders", "g", "d", 0, "0-0", &options)?;
+    check(&rt, &arguments, "XAUTOCLAIM orders g d 0 0-0 COUNT 10")
 }
