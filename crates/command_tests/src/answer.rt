@@ -1,24 +1,33 @@
 //! Answers, each read as the type of its command.
 use redis_resp::{ParsingError, Value};
-use std::test::Fail;
 use stream_commands::{AtLeastOne, xadd_options, xlen, xread};
 use stream_options::StreamAddOptions;
 
 #[test]
-fn answers_are_read(rt: HostRuntime) -> Result<(), Fail> {
-    let alloc = rt.alloc();
+fn a_length_is_read(rt: HostRuntime) {
     let length = xlen("orders");
-    assert_eq!(rt; length.read(alloc, Value::Int(3)), Ok(3));
-    assert_eq!(rt;
-        length.read_ref(alloc, &Value::Okay),
-        Err(ParsingError::NotNumber)
+    let owned = length.read(rt.alloc(), Value::Int(3));
+    assert!(rt; matches!(&owned, Ok(3)), "{owned:?}");
+    let borrowed = length.read_ref(rt.alloc(), &Value::Okay);
+    assert!(rt;
+        matches!(&borrowed, Err(ParsingError::NotNumber)),
+        "{borrowed:?}"
     );
+}
+
+#[test]
+fn no_id_is_read(rt: HostRuntime) {
     let options = StreamAddOptions::default();
     let add = xadd_options("orders", "*", ("item", "tea"), &options);
-    assert_eq!(rt; add.read(alloc, Value::Nil), Ok(None));
-    let read = xread(AtLeastOne::one(&("orders", "0")));
-    assert_eq!(rt; read.read(alloc, Value::Nil)?.is_none(), true);
-    Ok(())
+    let read = add.read(rt.alloc(), Value::Nil);
+    assert!(rt; matches!(&read, Ok(None)), "{read:?}");
+}
+
+#[test]
+fn no_streams_are_read(rt: HostRuntime) {
+    let command = xread(AtLeastOne::one(&("orders", "0")));
+    let read = command.read(rt.alloc(), Value::Nil);
+    assert!(rt; matches!(&read, Ok(None)), "{read:?}");
 }
 
 #[test]

@@ -15,6 +15,16 @@ use stream_options::{
 fn entries_are_added(rt: HostRuntime) -> Result<(), Fail> {
     let one = ("item", "tea");
     check(&rt, &xadd("orders", "1-0", one), "XADD orders 1-0 item tea")?;
+    let kept = StreamMaxlen::Approx(1000);
+    check(
+        &rt,
+        &xadd_maxlen("orders", kept, "3-0", one),
+        "XADD orders MAXLEN ~ 1000 3-0 item tea",
+    )
+}
+
+#[test]
+fn entries_of_two_fields_are_added(rt: HostRuntime) -> Result<(), Fail> {
     let fields = [("item", "cup"), ("size", "2")];
     let Some(two) = AtLeastOne::new(&fields) else {
         return Err(Fail::new("no fields"));
@@ -23,13 +33,12 @@ fn entries_are_added(rt: HostRuntime) -> Result<(), Fail> {
         &rt,
         &xadd("orders", "2-0", two),
         "XADD orders 2-0 item cup size 2",
-    )?;
-    let kept = StreamMaxlen::Approx(1000);
-    check(
-        &rt,
-        &xadd_maxlen("orders", kept, "3-0", one),
-        "XADD orders MAXLEN ~ 1000 3-0 item tea",
-    )?;
+    )
+}
+
+#[test]
+fn entries_are_added_with_options(rt: HostRuntime) -> Result<(), Fail> {
+    let one = ("item", "tea");
     let strategy = StreamTrimStrategy::maxlen(StreamTrimmingMode::Exact, 10);
     let options = StreamAddOptions::default().nomkstream().trim(strategy);
     check(
@@ -98,12 +107,16 @@ fn streams_are_read(rt: HostRuntime) -> Result<(), Fail> {
 }
 
 #[test]
-fn streams_are_cut(rt: HostRuntime) -> Result<(), Fail> {
+fn entries_are_deleted(rt: HostRuntime) -> Result<(), Fail> {
     let ids = ["1-0", "9-9"];
     let Some(both) = AtLeastOne::new(&ids) else {
         return Err(Fail::new("no ids"));
     };
-    check(&rt, &xdel("orders", both), "XDEL orders 1-0 9-9")?;
+    check(&rt, &xdel("orders", both), "XDEL orders 1-0 9-9")
+}
+
+#[test]
+fn entries_are_deleted_by_a_policy(rt: HostRuntime) -> Result<(), Fail> {
     check(
         &rt,
         &xdel_ex(
@@ -112,18 +125,31 @@ fn streams_are_cut(rt: HostRuntime) -> Result<(), Fail> {
             StreamDeletionPolicy::KeepRef,
         ),
         "XDELEX orders KEEPREF IDS 1 1-0",
-    )?;
+    )
+}
+
+#[test]
+fn streams_are_cut(rt: HostRuntime) -> Result<(), Fail> {
     check(
         &rt,
         &xtrim("orders", StreamMaxlen::Equals(2)),
         "XTRIM orders MAXLEN = 2",
-    )?;
+    )
+}
+
+#[test]
+fn streams_are_cut_with_options(rt: HostRuntime) -> Result<(), Fail> {
     let options = StreamTrimOptions::maxlen(StreamTrimmingMode::Approx, 1).limit(50);
     check(
         &rt,
         &xtrim_options("orders", &options),
         "XTRIM orders MAXLEN ~ 1 LIMIT 50",
-    )?;
+    )
+}
+
+#[test]
+fn streams_are_cut_by_a_policy(rt: HostRuntime) -> Result<(), Fail> {
+    let options = StreamTrimOptions::maxlen(StreamTrimmingMode::Approx, 1).limit(50);
     let options = options.set_deletion_policy(StreamDeletionPolicy::Acked);
     check(
         &rt,
