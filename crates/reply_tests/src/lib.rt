@@ -25,7 +25,8 @@ mod wire;
 #[cfg(test)]
 use std::alloc::{AllocError, Global};
 
-/// A line of items: what stands before them, one item, what stands between each two, and behind them.
+/// A line of items: what stands before them, one item, what stands between each two, and behind
+/// them.
 /// Each `$` in an item is its number, from 10,000 on, so that all numbers have five digits.
 #[cfg(test)]
 type Line<'a> = (&'a str, &'a str, &'a str, &'a str);

@@ -18,7 +18,8 @@ use stream_options::{StreamNackMode, StreamNackOptions};
 pub fn read_nack(args: &[Vec<u8>]) -> Result<(StreamNackOptions, usize), SentenceError>
     ensures split { let list = arguments args.now in IfOk result (λ x.
         IsOneSplit Any nack_sentence nack_words Equal list x.0 x.1) }
-    ensures none { IfErr result (λ e. HasNoSplit Any nack_sentence nack_words (arguments args.now)) }
+    ensures none { IfErr result (λ e.
+        HasNoSplit Any nack_sentence nack_words (arguments args.now)) }
     ensures cause { IfErr result (λ e. e ≡ SentenceError.NotASentence) }
 {
     let Some((options, rest)) = nack_at(args) else {

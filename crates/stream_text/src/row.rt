@@ -1,5 +1,5 @@
-//! Rows of texts to compare: the row of one vector, and the rows of tables of them. A vector is a name,
-//! what a text is made of, and the text that it has to be.
+//! Rows of texts to compare: the row of one vector, and the rows of tables of them. A vector is a
+//! name, what a text is made of, and the text that it has to be.
 ghost use Rattle.std.specs.Prelude.{◌≡◌, ◌+◌, ◌∷◌, ◌++◌, [], OnOk, length, map, string_bytes, vec_len};
 ghost use Rattle.redis_resp.specs.Value.{tree};
 ghost use Rattle.stream_text.specs.Answer.{IsAnswer};
@@ -85,7 +85,8 @@ pub fn push_answer_row<T: FromRedisValue + PrintedForm>(
     value: Value,
     stored: &str,
 ) -> Result<(), AllocError>
-    ensures row { OnOk result (AddsRow (IsAnswer T.meaning T.reading T.may_refuse T.form (tree value))
+    ensures row { OnOk result (AddsRow
+        (IsAnswer T.meaning T.reading T.may_refuse T.form (tree value))
         rows.old.items rows.new.items name.now stored.now) }
     ensures one { OnOk result (vec_len rows.new ≡ vec_len rows.old + 1) }
 {
@@ -100,7 +101,8 @@ fn push_reply_row<T: FromRedisValue + PrintedForm>(
     notation: &str,
     stored: &str,
 ) -> Result<(), AllocError>
-    ensures row { OnOk result (AddsRow (IsReplyText T.meaning T.reading T.may_refuse T.form notation.entry)
+    ensures row { OnOk result (AddsRow
+        (IsReplyText T.meaning T.reading T.may_refuse T.form notation.entry)
         rows.old.items rows.new.items name.now stored.now) }
     ensures one { OnOk result (vec_len rows.new ≡ vec_len rows.old + 1) }
 {

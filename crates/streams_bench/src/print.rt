@@ -29,7 +29,8 @@ impl From<io::Error> for PrintError {
 /// The answer is true exactly where no text differs. It takes no memory. Where the writer fails,
 /// the answer is `Write`, and how much was written by then is not said.
 pub fn print_rows<W: Write>(rows: &[Row], output: &mut W) -> Result<bool, PrintError>
-    ensures lines { OnOk result (Appends (W.contents output.old) (W.contents output.new) (flat_map line_of rows.now)) }
+    ensures lines { OnOk result (Appends (W.contents output.old) (W.contents output.new)
+        (flat_map line_of rows.now)) }
     ensures same { IfOk result (λ same. IsTrue same ↔ All IsSame rows.now) }
 {
     let mut all_same = true;
@@ -41,7 +42,8 @@ pub fn print_rows<W: Write>(rows: &[Row], output: &mut W) -> Result<bool, PrintE
 
 // Writes the line of one row, and says whether its texts are the same.
 fn print_row<W: Write>(row: &Row, output: &mut W) -> Result<bool, PrintError>
-    ensures line { OnOk result (Appends (W.contents output.old) (W.contents output.new) (line_of row.now)) }
+    ensures line { OnOk result (Appends (W.contents output.old) (W.contents output.new)
+        (line_of row.now)) }
     ensures same { IfOk result (λ same. IsTrue same ↔ IsSame row.now) }
 {
     let Row { name, text, stored } = row;

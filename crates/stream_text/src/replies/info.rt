@@ -113,7 +113,8 @@ fn print_progress(
     group: &StreamInfoGroup,
     line: &mut String,
 ) -> Result<(), AllocError>
-    ensures { OnOk result (string_bytes line.new ≡ string_bytes line.old ++ progress_form group.now) }
+    ensures { OnOk result (string_bytes line.new
+        ≡ string_bytes line.old ++ progress_form group.now) }
 {
     line.push_str(" read=")?;
     group.entries_read.print(alloc, line)?;

@@ -6,7 +6,8 @@ use stream_text::row::ReplyVector;
 /// Automatic claims, v44 to v52.
 pub fn autoclaim_vectors() -> [ReplyVector<'static>; 9]
     ensures { map (λ v. v.0.now) result
-        ≡ codes "v44" ∷ codes "v45" ∷ codes "v46" ∷ codes "v47" ∷ codes "v48" ∷ codes "v49" ∷ codes "v50" ∷ codes "v51" ∷ codes "v52" ∷ [] }
+        ≡ codes "v44" ∷ codes "v45" ∷ codes "v46" ∷ codes "v47" ∷ codes "v48"
+        ∷ codes "v49" ∷ codes "v50" ∷ codes "v51" ∷ codes "v52" ∷ [] }
 {
     [
         ("v44", "Array[1713465536578-0]", "refused 7"),
