@@ -2,4 +2,4 @@ mod AnswerLemmas
 mod EntryLemmas
 mod FormLemmas
 pub mod OptionsLemmas
-mod RowLemmas
+mod VectorsLemmas

@@ -1,12 +1,12 @@
 pub mod Answer
-pub mod Config
+pub mod ConfigText
 pub mod Entry
 pub mod Form
 pub mod Info
 pub mod Options
 pub mod Pending
 pub mod Refusal
-pub mod Row
+pub mod ReplyText
 pub mod Rows
 pub mod Status
-pub mod Vector
+pub mod Vectors

@@ -17,7 +17,7 @@ pending_of_form c = string_bytes c.name ++ codes "=" ++ decimal c.pending
 abbrev pub consumer_of : Share → StreamInfoConsumer
 consumer_of s = s.0.now
 
--- the same of a consumer that is lent
+-- the same of a borrowed consumer
 abbrev pub share_form : Share → List ℕ
 share_form s = pending_of_form (consumer_of s)
 

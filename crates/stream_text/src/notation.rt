@@ -12,7 +12,7 @@
 //! the words above: such a word is quoted where it is meant as a bulk string. Between quotes `\"`,
 //! `\\`, `\n`, `\t` and `\xNN`, the byte of two hexadecimal digits, stand for one byte each. Blanks
 //! (spaces and tabs) may stand before each part. `Attr(v; k: x)` is the value `v` with the attribute
-//! `k: x` round it.
+//! `k: x` around it.
 ghost use Rattle.std.specs.Prelude.{◌<◌, IfOk, length};
 
 mod error;

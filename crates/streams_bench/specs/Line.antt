@@ -1,7 +1,7 @@
 -- The lines of rows.
 use Rattle.std.specs.Prelude.{◌≡◌, ℕ, List, [], ◌++◌, codes, string_bytes, if◌then◌else◌}
 use Rattle.std.specs.Str.{bytes_eq}
-use Rattle.stream_text.specs.declared.row.Row.{Row}
+use Rattle.stream_text.specs.declared.vectors.Row.{Row}
 
 -- the text is the stored one
 abbrev pub IsSame : Row → Type 0

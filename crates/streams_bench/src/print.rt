@@ -8,7 +8,7 @@ ghost use Rattle.streams_bench.specs.Line.{IsSame, line_of};
 mod tests;
 
 use std::io::{self, Write};
-pub use stream_text::row::Row;
+pub use stream_text::vectors::Row;
 
 /// Why rows were not printed.
 #[derive(Clone, Copy, Debug, PartialEq, Eq)]

@@ -19,8 +19,8 @@ use redis_streams::{
     StreamPendingReply, StreamRangeReply, StreamReadReply, XAckDelStatusCode, XDelExStatusCode,
 };
 use std::alloc::{AllocError, Global};
-use stream_text::row::config::push_config_rows;
-use stream_text::row::{push_options_rows, push_reply_rows};
+use stream_text::vectors::config::push_config_rows;
+use stream_text::vectors::{push_options_rows, push_reply_rows};
 
 /// A row for each vector, in ascending order. It fails only where memory runs out.
 pub fn vector_rows(alloc: Global) -> Result<Vec<Row>, AllocError>

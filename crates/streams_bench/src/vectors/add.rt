@@ -5,7 +5,7 @@ use std::alloc::{AllocError, Global};
 use stream_options::{
     StreamAddOptions, StreamDeletionPolicy, StreamTrimStrategy, StreamTrimmingMode,
 };
-use stream_text::row::OptionsVector;
+use stream_text::vectors::OptionsVector;
 
 /// Add options without idempotency, v09 to v12.
 pub fn trimmed_vectors() -> [OptionsVector<StreamAddOptions>; 4]

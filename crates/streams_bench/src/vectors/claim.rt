@@ -3,7 +3,7 @@ ghost use Rattle.std.specs.Prelude.{◌≡◌, [], ◌∷◌, IfOk, codes, map};
 
 use std::alloc::{AllocError, Global};
 use stream_options::{StreamAutoClaimOptions, StreamClaimOptions};
-use stream_text::row::OptionsVector;
+use stream_text::vectors::OptionsVector;
 
 /// Automatic claim options, v29.
 pub fn autoclaim_vectors() -> [OptionsVector<StreamAutoClaimOptions>; 1]

@@ -2,8 +2,8 @@
 ghost use Rattle.std.specs.Prelude.{◌≡◌, [], ◌∷◌, codes, map};
 
 use stream_options::StreamConfigOptions;
-use stream_text::row::OptionsVector;
-use stream_text::row::config::ConfigAnswer;
+use stream_text::vectors::OptionsVector;
+use stream_text::vectors::config::ConfigAnswer;
 
 /// Accepted config calls, v20 to v24.
 pub fn accepted_vectors() -> [OptionsVector<ConfigAnswer>; 5]

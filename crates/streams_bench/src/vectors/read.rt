@@ -3,7 +3,7 @@ ghost use Rattle.std.specs.Prelude.{◌≡◌, [], ◌∷◌, IfOk, codes, map};
 
 use std::alloc::{AllocError, Global};
 use stream_options::{StreamNackMode, StreamNackOptions, StreamReadOptions};
-use stream_text::row::OptionsVector;
+use stream_text::vectors::OptionsVector;
 
 /// Read options, v32 to v34.
 pub fn read_vectors(alloc: Global) -> Result<[OptionsVector<StreamReadOptions>; 3], AllocError>

@@ -3,7 +3,7 @@ ghost use Rattle.std.specs.Prelude.{◌≡◌, [], ◌∷◌, IfOk, codes, map};
 
 use std::alloc::{AllocError, Global};
 use stream_options::{StreamDeletionPolicy, StreamMaxlen, StreamTrimOptions, StreamTrimmingMode};
-use stream_text::row::OptionsVector;
+use stream_text::vectors::OptionsVector;
 
 /// Trim options, v01 to v06.
 pub fn trim_vectors(alloc: Global) -> Result<[OptionsVector<StreamTrimOptions>; 6], AllocError>

@@ -1,8 +1,8 @@
 use Rattle.std.proofs.Common.{rules, get_or, ℕ, List, []}
 use Rattle.std.proofs.lemmas.List.{get_or_default}
-use Rattle.stream_text.specs.Vector.{IsReplyText}
-use Rattle.stream_text.proofs.RowLemmas.{adds_more}
-use Rattle.stream_text.proofs.row.push_reply_rows.Goals as goal
+use Rattle.stream_text.specs.ReplyText.{IsReplyText}
+use Rattle.stream_text.proofs.VectorsLemmas.{adds_more}
+use Rattle.stream_text.proofs.vectors.push_reply_rows.Goals as goal
 use denote.Ref.{Bor}
 
 pub loop-vector-preserved : goal.loop-vector-preserved

@@ -6,9 +6,9 @@ use Rattle.std.specs.Prelude.{Result, Ok, Err, OnOk}
 use Rattle.redis_resp.specs.Tree.{Tree}
 use Rattle.redis_resp.specs.declared.value.error.ParsingError.{ParsingError}
 use Rattle.stream_text.specs.Answer.{IsAnswer}
-use Rattle.stream_text.specs.Vector.{IsReplyText, answered}
-use Rattle.stream_text.specs.Row.{AddsRow, AddsRows, IsRow, row_texts}
-use Rattle.stream_text.specs.declared.row.Row.{Row}
+use Rattle.stream_text.specs.ReplyText.{IsReplyText, answered}
+use Rattle.stream_text.specs.Vectors.{AddsRow, AddsRows, IsRow, row_texts}
+use Rattle.stream_text.specs.declared.vectors.Row.{Row}
 use denote.Ref.{Bor}
 
 take_more : {X : Type 0} (xs : List X) (i : ℕ) (x : X) → i < length xs → x ≡ get_or xs i x → take (i + 1) xs ≡ take i xs ++ x ∷ []

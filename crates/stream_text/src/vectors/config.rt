@@ -1,9 +1,9 @@
 //! The rows of config calls, which answer options or why they are refused.
 ghost use Rattle.std.specs.Prelude.{◌≡◌, ◌+◌, IfOk, OnOk, length, string_bytes, vec_len};
-ghost use Rattle.stream_text.specs.Config.{IsConfigText, IsRefusalText, refusal_text};
-ghost use Rattle.stream_text.specs.Row.{AddsRow, AddsRows};
+ghost use Rattle.stream_text.specs.ConfigText.{IsConfigText, IsRefusalText, refusal_text};
+ghost use Rattle.stream_text.specs.Vectors.{AddsRow, AddsRows};
 
-use crate::row::{OptionsVector, Row, push_row, push_text_row};
+use crate::vectors::{OptionsVector, Row, push_row, push_text_row};
 use std::alloc::{AllocError, Global};
 use stream_options::{ConfigError, StreamConfigOptions};
 

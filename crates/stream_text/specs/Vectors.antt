@@ -1,7 +1,7 @@
 -- Rows, and the rows of vectors.
 use Rattle.std.specs.Prelude.{◌≡◌, ℕ, List, [], ◌∷◌, ◌++◌, map, string_bytes}
 use Rattle.std.specs.List.{AllZip}
-use Rattle.stream_text.specs.declared.row.Row.{Row}
+use Rattle.stream_text.specs.declared.vectors.Row.{Row}
 use denote.Ref.{Bor}
 
 -- the texts of a row

@@ -1,10 +1,10 @@
-//! Rows of texts to compare: the row of one vector, and the rows of tables of them. A vector is a
-//! name, what a text is made of, and the text that it has to be.
+//! Vectors, and the rows of texts to compare that they make. A vector is a name, what a text is made
+//! of, and the text that it has to be.
 ghost use Rattle.std.specs.Prelude.{◌≡◌, ◌+◌, ◌∷◌, ◌++◌, [], OnOk, length, map, string_bytes, vec_len};
 ghost use Rattle.redis_resp.specs.Value.{tree};
 ghost use Rattle.stream_text.specs.Answer.{IsAnswer};
-ghost use Rattle.stream_text.specs.Row.{AddsRow, AddsRows, options_texts, row_texts};
-ghost use Rattle.stream_text.specs.Vector.{IsReplyText};
+ghost use Rattle.stream_text.specs.ReplyText.{IsReplyText};
+ghost use Rattle.stream_text.specs.Vectors.{AddsRow, AddsRows, options_texts, row_texts};
 
 pub mod config;
 

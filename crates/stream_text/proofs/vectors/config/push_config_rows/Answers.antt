@@ -1,7 +1,7 @@
 use Rattle.std.proofs.Common.{rules}
-use Rattle.stream_text.specs.Config.{IsConfigText}
-use Rattle.stream_text.proofs.RowLemmas.{adds_more}
-use Rattle.stream_text.proofs.row.config.push_config_rows.Goals as goal
+use Rattle.stream_text.specs.ConfigText.{IsConfigText}
+use Rattle.stream_text.proofs.VectorsLemmas.{adds_more}
+use Rattle.stream_text.proofs.vectors.config.push_config_rows.Goals as goal
 
 pub loop-name-preserved : goal.loop-name-preserved
 loop-name-preserved c = record {

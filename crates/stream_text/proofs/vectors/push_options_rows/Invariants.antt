@@ -1,7 +1,7 @@
 use Rattle.std.proofs.Common.{◌≡◌, ◌+◌, ◌++◌, map, take}
 use Rattle.std.specs.Prelude.{vec_len}
-use Rattle.stream_text.specs.Row.{options_texts, row_texts}
-use Rattle.stream_text.proofs.row.push_options_rows.Given as goal
+use Rattle.stream_text.specs.Vectors.{options_texts, row_texts}
+use Rattle.stream_text.proofs.vectors.push_options_rows.Given as goal
 
 -- the rows of the vectors so far were added
 abbrev pub invariant-loop-name : goal.invariant-loop-name

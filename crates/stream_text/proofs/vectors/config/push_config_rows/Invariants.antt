@@ -1,8 +1,8 @@
 use Rattle.std.proofs.Common.{◌≡◌, ◌+◌, take}
 use Rattle.std.specs.Prelude.{vec_len}
-use Rattle.stream_text.specs.Config.{IsConfigText}
-use Rattle.stream_text.specs.Row.{AddsRows}
-use Rattle.stream_text.proofs.row.config.push_config_rows.Given as goal
+use Rattle.stream_text.specs.ConfigText.{IsConfigText}
+use Rattle.stream_text.specs.Vectors.{AddsRows}
+use Rattle.stream_text.proofs.vectors.config.push_config_rows.Given as goal
 
 -- the rows of the calls so far were added
 abbrev pub invariant-loop-name : goal.invariant-loop-name

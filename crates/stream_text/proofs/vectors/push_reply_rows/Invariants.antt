@@ -1,8 +1,8 @@
 use Rattle.std.proofs.Common.{◌≡◌, ◌+◌, take}
 use Rattle.std.specs.Prelude.{vec_len}
-use Rattle.stream_text.specs.Row.{AddsRows}
-use Rattle.stream_text.specs.Vector.{IsReplyText}
-use Rattle.stream_text.proofs.row.push_reply_rows.Given as goal
+use Rattle.stream_text.specs.Vectors.{AddsRows}
+use Rattle.stream_text.specs.ReplyText.{IsReplyText}
+use Rattle.stream_text.proofs.vectors.push_reply_rows.Given as goal
 
 -- the rows of the vectors so far were added
 abbrev pub invariant-loop-vector : goal.invariant-loop-vector
