@@ -10,7 +10,8 @@
 //! ```
 //!
 //! Each reply means one record, and a value has one record of a reply at most: the definitions in
-//! `specs/` say which. A refusal other than `ParsingError::Memory` means that there is none.
+//! `specs/` say which, those of `rows` in `specs/` of `stream_entries`. A refusal other than
+//! `ParsingError::Memory` means that there is none.
 #![tactic(auto)]
 
 pub mod info;

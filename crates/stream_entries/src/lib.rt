@@ -1,5 +1,6 @@
 //! The replies of the stream commands of Redis that hold entries: ranges, claims, reads and
-//! automatic claims. `redis_streams` has them as its module `rows`, beside all other replies.
+//! automatic claims. `redis_streams` has them as its module `rows`, beside all other replies, and
+//! has their laws.
 #![tactic(auto)]
 
 mod autoclaim;
