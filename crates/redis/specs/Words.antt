@@ -2,17 +2,19 @@
 -- Where two crates have a word of one name, the settings of options are `..Settings` here.
 pub use Rattle.redis_args.specs.Clause.{clause, flag}
 pub use Rattle.redis_args.specs.FixedArgs.{AreEnds, pieces}
-pub use Rattle.redis_args.specs.Room.{LacksRoom, MayRefuse}
+pub use Rattle.redis_args.specs.Room.{HasRoom, LacksRoom, MayRefuse}
 pub use Rattle.redis_args.specs.Writer.{Wrote}
 pub use Rattle.redis_resp.specs.Boolean.{truth_reading}
 pub use Rattle.redis_resp.specs.Bytes.{bytes_reading}
 pub use Rattle.redis_resp.specs.FieldsMeaning.{fields_of}
+pub use Rattle.redis_resp.specs.Leaf.{has_buffer}
 pub use Rattle.redis_resp.specs.Number.{signed_reading, unsigned_reading}
 pub use Rattle.redis_resp.specs.Reading.{four_in, four_reading, is_nil, list_reading, option_reading, three_in}
 pub use Rattle.redis_resp.specs.Reading.{three_reading, two_in, two_reading}
 pub use Rattle.redis_resp.specs.Record.{HasOneRecord, same_record}
-pub use Rattle.redis_resp.specs.Refusal.{Refuses, RefusesBytes, RefusesField, RefusesFour, RefusesList, RefusesNumber}
-pub use Rattle.redis_resp.specs.Refusal.{RefusesOption, RefusesPairs, RefusesText, RefusesThree, RefusesTwo}
+pub use Rattle.redis_resp.specs.Refusal.{Refuses, RefusesBytes, RefusesField, RefusesFour, RefusesList}
+pub use Rattle.redis_resp.specs.Refusal.{RefusesNothing, RefusesNumber, RefusesOption, RefusesOwnedBytes}
+pub use Rattle.redis_resp.specs.Refusal.{RefusesOwnedText, RefusesPairs, RefusesText, RefusesThree, RefusesTwo}
 pub use Rattle.redis_resp.specs.Refusal.{RefusesValue}
 pub use Rattle.redis_resp.specs.Same.{same}
 pub use Rattle.redis_resp.specs.SameLaws.{same_value_laws}
@@ -20,7 +22,7 @@ pub use Rattle.redis_resp.specs.Source.{all_four, all_left, all_three, both, ite
 pub use Rattle.redis_resp.specs.Source.{pairs_held}
 pub use Rattle.redis_resp.specs.Table.{Fields, entries_meaning, field_record, fields_reading, last_with}
 pub use Rattle.redis_resp.specs.Table.{pairs_reading, table_of, table_reading}
-pub use Rattle.redis_resp.specs.Text.{is_written_out, text_reading}
+pub use Rattle.redis_resp.specs.Text.{text_reading}
 pub use Rattle.redis_resp.specs.Tree.{Tree, array, array_of_plain, attribute, bulk, int, items, map_of_pairs, nil}
 pub use Rattle.redis_resp.specs.Tree.{pairs, pairs_in, plain, push, set, simple, trees, verbatim}
 pub use Rattle.redis_resp.specs.Value.{tree, tree_of_pair}
@@ -102,6 +104,7 @@ pub use Rattle.stream_options.specs.Policy.{policy_sentence, policy_word, policy
 pub use Rattle.stream_options.specs.Read.{CountAlike, Read as ReadSettings, ReadFits, default_read, group_sentence}
 pub use Rattle.stream_options.specs.Read.{group_with, read_sentence, read_words}
 pub use Rattle.stream_options.specs.ReadCalls.{final_read}
+pub use Rattle.stream_options.specs.StrategyCalls.{final_strategy}
 pub use Rattle.stream_options.specs.Trim.{StrategyFits, Trim as TrimSettings, TrimFits, max_len, min_id}
 pub use Rattle.stream_options.specs.Trim.{mode_sentence, mode_word, mode_words, strategy_sentence, strategy_words}
 pub use Rattle.stream_options.specs.Trim.{trim_sentence, trim_words, unlimited}

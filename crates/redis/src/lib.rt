@@ -16,5 +16,5 @@ pub mod wire;
 pub use redis_resp::{
     FixedArgs, FromRedisValue, PairList, ParsingError, RawBytes, RedisWrite, ToRedisArgs,
     ToSingleRedisArg, Value, WriteError, field_of, from_redis_value, from_redis_value_ref,
-    hash_map_of, index_map_of,
+    hash_map_of, index_map_of, write_with_room,
 };
