@@ -1,5 +1,5 @@
 -- A pair with a key that is not named changes no named field.
-use Rattle.std.proofs.Common.{◌≡◌, ℕ, Bool, true, false, cond, List, [], ◌∷◌, ◌++◌, Option, Some, None, option_map, option_and_then, refl, sym, ◌∙◌, ap, codes}
+use Rattle.std.proofs.Common.{◌≡◌, ℕ, false, cond, List, [], ◌∷◌, ◌++◌, Option, Some, None, option_map, option_and_then, refl, ap, codes}
 use Rattle.std.specs.Bool.{⊤}
 use Rattle.std.specs.Option.{option_or}
 use Rattle.std.specs.Str.{bytes_eq}
@@ -8,7 +8,7 @@ use Rattle.redis_resp.specs.Text.{text_reading}
 use Rattle.redis_resp.specs.Reading.{traverse}
 use Rattle.redis_resp.specs.Table.{entry_reading, last_with}
 use Rattle.redis_streams.specs.Info.{NamedFields, stream_of, stream_reading, tracked_of, tracked_reading, consumer_of_fields, consumer_reading, group_of, group_reading}
-use Rattle.redis_streams.specs.OtherKeys.{stream_names, tracked_names, consumer_names, group_names, IsOther, HasOtherKey, OtherKeysChangeNothing}
+use Rattle.redis_streams.specs.OtherKeys.{stream_names, tracked_names, consumer_names, group_names, IsOther, OtherKeysChangeNothing}
 
 abbrev ReadPairs : Type 0
 ReadPairs = Option (List (List ℕ × Tree))

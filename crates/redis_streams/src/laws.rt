@@ -37,6 +37,7 @@ ghost use Rattle.stream_entries.specs.RespellingLaws.{
 ghost use Rattle.stream_entries.specs.Rows.{rows_reading};
 
 use crate::status::{XAckDelStatusCode, XDelExStatusCode};
+pub use stream_entries::{copied_forms, equal_read_forms};
 
 /// What `invalid_entries` of an automatic claim tells: where each item of the claimed list is nil,
 /// one id or a row of one pair, it is true exactly where a nil stands there. It takes no memory.

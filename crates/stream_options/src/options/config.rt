@@ -19,8 +19,11 @@ pub const IDMP_MAXSIZE_MAX: u16 = 10000;
 
 // Redis' documentation names these four numbers.
 const _: () = prove!(IDMP_DURATION_MIN == 1);
+
 const _: () = prove!(IDMP_DURATION_MAX == 86400);
+
 const _: () = prove!(IDMP_MAXSIZE_MIN == 1);
+
 const _: () = prove!(IDMP_MAXSIZE_MAX == 10000);
 
 /// A number outside the range of its setting.
