@@ -1,6 +1,7 @@
 -- What the callers' contracts speak of.
 pub mod Worker
 pub mod Order
+pub mod Producer
 pub mod Stalled
 pub mod Monitoring
 pub mod Readme

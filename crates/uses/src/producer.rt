@@ -6,6 +6,7 @@ ghost use Rattle.std.specs.Prelude.{◌≡◌, ◌≢◌, [], ◌∷◌, ◌++�
 ghost use Rattle.std.specs.Prelude.{flat_map, string_bytes, suc, IfOk, IfErr, OnOk, OnErr};
 ghost use Rattle.redis_resp.specs.Text.{text_reading};
 ghost use Rattle.redis_resp.specs.Value.{tree};
+ghost use Rattle.uses.specs.Producer.{Stays};
 
 use redis_resp::{FromRedisValue, ParsingError, ToRedisArgs, Value};
 use std::alloc::{AllocError, Global};
@@ -61,6 +62,7 @@ impl Producer {
         ensures next { OnOk result (self.new.number ≡ suc self.old.number) }
         ensures producer { self.new.id ≡ self.old.id }
         ensures again { OnErr result (self.new ≡ self.old) }
+        ensures cause { IfErr result (Stays self.old.number (tree answer)) }
     {
         let Some(next) = self.number.checked_add(1) else {
             return Err(ProducerError::LastNumber);

@@ -1,5 +1,6 @@
 //! The code of the README.
-ghost use Rattle.std.specs.Prelude.{◌≡◌, [], ◌∷◌, Some, codes, decimal, map, option_map, string_bytes, IfOk};
+ghost use Rattle.std.specs.Prelude.{◌≡◌, ◌≢◌, [], ◌∷◌, Some, None, codes, decimal, map};
+ghost use Rattle.std.specs.Prelude.{option_map, string_bytes, IfOk, IfErr};
 ghost use Rattle.redis_resp.specs.Value.{tree};
 ghost use Rattle.stream_entries.specs.Rows.{rows_reading};
 ghost use Rattle.uses.specs.Readme.{first_text};
@@ -24,8 +25,10 @@ pub fn read_arguments(alloc: Global) -> Result<Vec<Vec<u8>>, AllocError>
 
 /// The customer that the first entry of an answer of XRANGE names.
 pub fn first_customer(alloc: Global, answer: Value) -> Result<Option<String>, ParsingError>
-    ensures { IfOk result (λ customer. option_map (first_text (codes "customer"))
+    ensures customer { IfOk result (λ customer. option_map (first_text (codes "customer"))
         (rows_reading (tree answer)) ≡ Some (option_map string_bytes customer)) }
+    ensures err { IfErr result (λ e. e ≢ ParsingError.Memory
+        → rows_reading (tree answer) ≡ None) }
 {
     let reply: StreamRangeReply = from_redis_value(alloc, answer)?; // moves the texts, copies none
     match reply.ids.first() {

@@ -1,5 +1,5 @@
 //! A consumer-group worker's pure part: what it sends and acknowledges, in the names of `redis`.
-ghost use Rattle.std.specs.Prelude.{◌≡◌, ◌≢◌, [], ◌∷◌, ◌++◌, Some, None, codes, decimal, map};
+ghost use Rattle.std.specs.Prelude.{◌≡◌, ◌≢◌, ◌⊎◌, [], ◌∷◌, ◌++◌, Some, None, codes, decimal, map};
 ghost use Rattle.std.specs.Prelude.{option_map, string_bytes, IfOk, IfErr, OnOk};
 ghost use Rattle.redis_resp.specs.Value.{tree};
 ghost use Rattle.stream_entries.specs.EntryMeaning.{entries_of, entry_meaning};
@@ -65,12 +65,14 @@ pub fn ids_to_acknowledge(alloc: Global, reply: &StreamReadReply) -> Result<Vec<
 }
 
 /// The ids that an answer of XREADGROUP asks to acknowledge: exactly those of the entries of the
-/// record that the answer is, in order; refused where it is none.
+/// record that the answer is, in order; `UnknownReadFormat` where it is none.
 pub fn ids_answered(alloc: Global, answer: Value) -> Result<Vec<String>, ParsingError>
     ensures ok { IfOk result (λ ids. option_map ids_in (read_reading (tree answer))
         ≡ Some (map string_bytes ids.items)) }
     ensures err { IfErr result (λ e. e ≢ ParsingError.Memory
         → read_reading (tree answer) ≡ None) }
+    ensures cause { IfErr result (λ e.
+        (e ≡ ParsingError.UnknownReadFormat) ⊎ (e ≡ ParsingError.Memory)) }
 {
     let reply: StreamReadReply = from_redis_value(alloc, answer)?;
     Ok(ids_to_acknowledge(alloc, &reply)?)

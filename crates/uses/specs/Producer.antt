@@ -1,0 +1,12 @@
+-- Why a producer stays at its entry.
+use Rattle.std.specs.Prelude.{◌≡◌, ◌^◌, ℕ, suc}
+use Rattle.redis_resp.specs.Refusal.{Refuses, RefusesText}
+use Rattle.redis_resp.specs.Text.{text_reading}
+use Rattle.redis_resp.specs.Tree.{Tree}
+use Rattle.uses.specs.declared.producer.ProducerError.{ProducerError}
+use Rattle.uses.specs.declared.producer.ProducerError.TheVariants.{Answer, LastNumber}
+
+-- its number is the last one, or the answer is refused as an id
+abbrev pub Stays : ℕ → Tree → ProducerError → Type 0
+Stays number t (Answer error) = Refuses text_reading RefusesText t error
+Stays number t LastNumber = suc number ≡ 2 ^ 64
