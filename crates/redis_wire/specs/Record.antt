@@ -5,7 +5,7 @@ use Rattle.redis_resp.specs.Refusal.{Refuses}
 use Rattle.redis_resp.specs.declared.value.error.ParsingError.{ParsingError}
 use Rattle.redis_wire.specs.declared.reply.ReplyError.{ReplyError}
 use Rattle.redis_wire.specs.declared.reply.ReplyError.TheVariants.{Server, Parsing, NotAnAnswer}
-use Rattle.redis_wire.specs.Reply.{Answer, value, refused, group, pushed, first_error}
+use Rattle.redis_wire.specs.Reply.{Answer, value, first_error}
 
 -- it is the error that the server answered with these bytes; and where there is none, no answer
 abbrev pub IsErrorOf : {R : Type 0} → Option (List ℕ) → Result R ReplyError → Type 0

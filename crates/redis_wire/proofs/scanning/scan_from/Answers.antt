@@ -1,4 +1,4 @@
-use Rattle.std.proofs.Common.{rules, ◌≡◌, true, drop}
+use Rattle.std.proofs.Common.{rules, ◌≡◌, true}
 use Rattle.redis_wire.proofs.ScanLemmas.{pauses_in_line}
 use Rattle.redis_wire.proofs.scanning.scan_from.Goals as goal
 
