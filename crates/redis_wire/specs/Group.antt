@@ -1,18 +1,16 @@
 -- What values that stand one after the other are together.
-use Rattle.std.specs.Prelude.{ℕ, zero, suc, ◌+◌, ◌*◌, ◌-◌, List, [], ◌∷◌, length, take, slice_get, Option, Some, None, Result, Ok, Err}
-use Rattle.redis_resp.specs.Tree.{Tree, nil, array, set, map_of_pairs, push, attribute, trees, pairs, two_by_two}
-use Rattle.redis_resp.specs.Text.{text_reading}
-use Rattle.redis_wire.specs.declared.fault.Fault.TheVariants.{BadLength, BadPush}
+use Rattle.std.specs.Prelude.{ℕ, zero, suc, ◌+◌, ◌*◌, ◌-◌, List, [], length, take, slice_get, Option, Some, None, Result, Ok, Err}
+use Rattle.redis_resp.specs.Tree.{Tree, nil, array, set, map_of_pairs, attribute, trees, pairs, two_by_two}
+use Rattle.redis_wire.specs.declared.fault.Fault.TheVariants.{BadLength}
 use Rattle.redis_wire.specs.declared.kind.GroupKind.{GroupKind}
 use Rattle.redis_wire.specs.declared.kind.GroupKind.TheVariants as groups
 use Rattle.redis_wire.specs.Reading.{Halt, bad, Read, ◌>>=◌}
-use Rattle.redis_wire.specs.Reply.{Answer, value, refused, Answers, values, first_refused, join, one}
+use Rattle.redis_wire.specs.Reply.{Answer, value, group, answer_list, Answers, values, mixed, join, one}
 
 -- how many values stand behind a count: twice as many for pairs, and one more behind attributes
 abbrev pub member_count : GroupKind → ℕ → ℕ
 member_count groups.Array n = n
 member_count groups.Set n = n
-member_count groups.Push n = n
 member_count groups.Map n = 2 * n
 member_count groups.Attribute n = 2 * n + 1
 
@@ -21,6 +19,10 @@ unfoldable pub many : (List ℕ → Read Answer) → ℕ → List ℕ → Read A
 many inner zero bytes = Ok (values [], bytes)
 many inner (suc n) bytes =
     inner bytes >>= λ x. many inner n x.1 >>= λ y. Ok (join (one x.0) y.0, y.1)
+
+-- what was read before, and what is read behind it
+abbrev pub behind : Answers → Read Answers → Read Answers
+behind front read = read >>= λ x. Ok (join front x.0, x.1)
 
 -- pairs, or the fault where a member is left alone
 abbrev pub pairs_or_fault : Option (List (Tree × Tree)) → Result (List (Tree × Tree)) Halt
@@ -34,16 +36,6 @@ pairs_of ts = pairs_or_fault (two_by_two ts)
 -- a map: a key and its value, in turn
 abbrev pub map_answer : List Tree → Result Answer Halt
 map_answer ts = pairs_of ts >>= λ ps. Ok (value (map_of_pairs (pairs ps)))
-
--- a kind, and what was sent with it
-abbrev pub push_behind : Option (List ℕ) → List Tree → Result Answer Halt
-push_behind None ts = Err (bad BadPush)
-push_behind (Some kind) ts = Ok (value (push kind (trees ts)))
-
--- a push, whose first member is a text that names its kind
-abbrev pub push_answer : List Tree → Result Answer Halt
-push_answer [] = Err (bad BadPush)
-push_answer (t ∷ ts) = push_behind (text_reading t) ts
 
 -- pairs, and the value that they are attributes of
 abbrev pub attribute_round :
@@ -61,13 +53,12 @@ unfoldable pub group_tree : GroupKind → List Tree → Result Answer Halt
 group_tree groups.Array ts = Ok (value (array (trees ts)))
 group_tree groups.Set ts = Ok (value (set (trees ts)))
 group_tree groups.Map ts = map_answer ts
-group_tree groups.Push ts = push_answer ts
 group_tree groups.Attribute ts = attribute_answer ts
 
--- what a group is whose members are these: the first error among them, if any
+-- what a group is whose members are these: a value where all of them are values
 abbrev pub group_answer : GroupKind → Answers → Result Answer Halt
 group_answer k (values ts) = group_tree k ts
-group_answer k (first_refused e) = Ok (refused e)
+group_answer k (mixed xs) = Ok (group k (answer_list xs))
 
 -- an array of length -1 is no value
 unfoldable pub no_group_answer : GroupKind → Result Answer Halt

@@ -26,8 +26,8 @@ fn check_decoded(rt: &(impl AllocGlobal + Abort), bytes: &[u8], shown: &str) -> 
     Ok(())
 }
 
-/// The first fault from the left; and an error inside a group takes the whole group.
-const DECODED: [(&[u8], &str); 20] = [
+/// The first fault from the left; groups with errors in them; and messages that are pushed.
+const DECODED: [(&[u8], &str); 31] = [
     (b"?", "Err(Fault(UnknownType))"),
     (b"$?\r\n", "Err(Fault(Streamed))"),
     (b"+a\nb", "Err(Fault(BadEnd))"),
@@ -44,22 +44,90 @@ const DECODED: [(&[u8], &str); 20] = [
     (b"+\xff\r\n", "Err(Fault(NotUtf8))"),
     (b"=3\r\ntxt\r\n", "Err(Fault(BadVerbatim))"),
     (b">0\r\n", "Err(Fault(BadPush))"),
+    (b">-1\r\n", "Err(Fault(BadLength))"),
+    (b">2\r\n:7\r\n+a\r\n", "Err(Fault(BadPush))"),
+    (b">1\r\n$1\r\n\xff\r\n", "Err(Fault(NotUtf8))"),
+    (b"*1\r\n>1\r\n+a\r\n", "Err(Fault(UnknownType))"),
+    (b"*3\r\n-A\r\n:x\r\n", "Err(Fault(BadNumber))"),
+    (b"*2\r\n-A\r\n:1", "Ok(Incomplete)"),
+    (b">2\r\n+a\r\n*1\r\n", "Ok(Incomplete)"),
+    (b"", "Ok(Incomplete)"),
     (
         b"*2\r\n-A\r\n:1\r\n",
-        "Ok(Complete { reply: Error(ServerError { text: [65] }), len: 12 })",
+        "Ok(Complete { reply: Group { kind: Array, members: [\
+Error(ServerError { text: [65] }), Value(Int(1))] }, len: 12 })",
     ),
     (
-        b"*2\r\n*1\r\n-A\r\n-B\r\n:1\r\n",
-        "Ok(Complete { reply: Error(ServerError { text: [65] }), len: 16 })",
+        b"*3\r\n:1\r\n*1\r\n-A\r\n$1\r\nb\r\n",
+        "Ok(Complete { reply: Group { kind: Array, members: [Value(Int(1)), \
+Group { kind: Array, members: [Error(ServerError { text: [65] })] }, \
+Value(BulkString([98]))] }, len: 23 })",
     ),
-    (b"*2\r\n-A\r\n:1", "Ok(Incomplete)"),
-    (b"*3\r\n-A\r\n:x\r\n", "Err(Fault(BadNumber))"),
+    (
+        b"%1\r\n+a\r\n!1\r\nE\r\n",
+        "Ok(Complete { reply: Group { kind: Map, members: [\
+Value(SimpleString(\"a\")), Error(ServerError { text: [69] })] }, len: 15 })",
+    ),
+    (
+        b"|1\r\n+a\r\n-E\r\n:1\r\n",
+        "Ok(Complete { reply: Group { kind: Attribute, members: [\
+Value(SimpleString(\"a\")), Error(ServerError { text: [69] }), Value(Int(1))] }, len: 16 })",
+    ),
+    (
+        b">1\r\n$1\r\nb\r\n",
+        "Ok(Complete { reply: Push { kind: \"b\", payload: [] }, len: 11 })",
+    ),
+    (
+        b">2\r\n+a\r\n:1\r\n",
+        "Ok(Complete { reply: Push { kind: \"a\", payload: [Value(Int(1))] }, len: 12 })",
+    ),
+    (
+        b">3\r\n+a\r\n-E\r\n:1\r\n",
+        "Ok(Complete { reply: Push { kind: \"a\", payload: [\
+Error(ServerError { text: [69] }), Value(Int(1))] }, len: 16 })",
+    ),
 ];
 
 #[test]
 fn faults_and_errors_are_decoded(rt: HostRuntime) -> Result<(), Fail> {
     for (bytes, shown) in &DECODED {
         check_decoded(&rt, bytes, shown)?;
+    }
+    Ok(())
+}
+
+/// What a stream says of bytes that came one by one, as `Debug` shows it.
+fn streamed(alloc: Global, bytes: &[u8]) -> Result<String, Fail> {
+    let mut stream = ReplyStream::new(alloc, LIMITS);
+    let mut told = format!(in alloc; "Ok(None)")?;
+    for byte in bytes {
+        stream.feed(&[*byte])?;
+        told = format!(in alloc; "{:?}", stream.next(alloc))?;
+    }
+    Ok(told)
+}
+
+/// What `decode` says of bytes, as `next` would say it.
+fn decoded(alloc: Global, bytes: &[u8]) -> Result<String, Fail> {
+    Ok(match decode(alloc, bytes, LIMITS) {
+        Ok(Decoded::Complete { reply, .. }) => format!(in alloc; "Ok(Some({reply:?}))")?,
+        Ok(Decoded::Incomplete) => format!(in alloc; "Ok(None)")?,
+        Err(error) => format!(in alloc; "Err({error:?})")?,
+    })
+}
+
+#[test]
+fn a_stream_says_what_decoding_says(rt: HostRuntime) -> Result<(), Fail> {
+    for (bytes, _) in &DECODED {
+        for len in 0..=bytes.len() {
+            let front = bytes.split_at(len).0;
+            let told = streamed(rt.alloc(), front)?;
+            let shown = decoded(rt.alloc(), front)?;
+            assert!(rt; told == shown, "{told}, not {shown}");
+            if told.as_str() != "Ok(None)" {
+                break;
+            }
+        }
     }
     Ok(())
 }
@@ -120,7 +188,7 @@ fn numbers_are_decoded(rt: HostRuntime) -> Result<(), Fail> {
     Ok(())
 }
 
-const REPLIES: [(&[u8], &str); 4] = [
+const REPLIES: [(&[u8], &str); 5] = [
     (
         b"*2\r\n:1\r\n$1\r\na\r\n",
         "Value(Array([Int(1), BulkString([97])]))",
@@ -135,7 +203,13 @@ const REPLIES: [(&[u8], &str); 4] = [
     ),
     (
         b"*2\r\n-A b\r\n-C\r\n",
-        "Error(ServerError { text: [65, 32, 98] })",
+        "Group { kind: Array, members: [\
+Error(ServerError { text: [65, 32, 98] }), Error(ServerError { text: [67] })] }",
+    ),
+    (
+        b">3\r\n+a\r\n*1\r\n-A\r\n:1\r\n",
+        "Push { kind: \"a\", payload: [\
+Group { kind: Array, members: [Error(ServerError { text: [65] })] }, Value(Int(1))] }",
     ),
 ];
 
@@ -176,6 +250,13 @@ fn a_reply_is_read_as_a_record(rt: HostRuntime) -> Result<(), Fail> {
     let refused = b"*2\r\n:1\r\n-A b\r\n".as_slice();
     let shown = "Err(Server(ServerError { text: [65, 32, 98] }))";
     check_record::<String>(&rt, refused, shown)?;
+    let around_error = b"|1\r\n+k\r\n-C\r\n-A b\r\n".as_slice();
+    check_record::<String>(&rt, around_error, shown)?;
+    let nested = b"*2\r\n*2\r\n:1\r\n-A b\r\n-C\r\n".as_slice();
+    check_record::<String>(&rt, nested, shown)?;
+    let error_aside = b"|1\r\n+k\r\n-C\r\n+v\r\n".as_slice();
+    check_record::<String>(&rt, error_aside, "Err(NotAnAnswer)")?;
+    check_record::<String>(&rt, b">2\r\n+a\r\n-C\r\n".as_slice(), "Err(NotAnAnswer)")?;
     check_record::<String>(&rt, b"*0\r\n".as_slice(), "Err(Parsing(NotText))")
 }
 
@@ -186,7 +267,7 @@ fn an_error_has_a_code_and_a_message(rt: HostRuntime) -> Result<(), Fail> {
             assert!(rt; error.code() == b"WRONGTYPE".as_slice());
             assert!(rt; error.message() == b"wrong kind".as_slice());
         }
-        Reply::Value(value) => assert!(rt; false, "{value:?}"),
+        other => assert!(rt; false, "{other:?}"),
     }
     Ok(())
 }
@@ -202,8 +283,10 @@ fn a_stream_holds_no_more_than_its_limit(rt: HostRuntime) -> Result<(), Fail> {
         }
     }
     assert_eq!(rt; count, 40);
+    assert!(rt; stream.is_empty());
     stream.feed(b"$60\r\n0123456789")?;
     assert!(rt; stream.next(rt.alloc())?.is_none());
+    assert_eq!(rt; stream.held(), 15);
     let overfull = stream.feed(&[b'0'; 60]);
     assert!(rt; overfull == Err(WireError::Fault(Fault::Overfull)));
     Ok(())

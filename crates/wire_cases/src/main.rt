@@ -5,9 +5,10 @@
 //! 3a330d0a        gives        4 Value(Int(3))
 //! ```
 //!
-//! With the word `pieces` behind its name it also takes every whole reply in cut at each byte, and
-//! all of them, one behind the other, in pieces of 1, 7 and 1448 bytes; where a reply comes out
-//! otherwise it prints a line that says so. Another reader can so be compared line by line.
+//! Each line also goes through a stream byte by byte; where that says something else, a line says
+//! so. With the word `pieces` behind its name the program also takes every whole reply in cut at
+//! each byte, and all of them, one behind the other, in pieces of 1, 7 and 1448 bytes; where a reply
+//! comes out otherwise it prints a line that says so. Another reader can so be compared line by line.
 //!
 //! It ends with 0, or with 2 where memory ran out, or standard input or output failed.
 #![tactic(auto)]
@@ -42,7 +43,10 @@ fn answer_lines(rt: &HostRuntime) -> Result<(), anyhow::Error> {
         let bytes = hex::decode(alloc, line?.as_str())?;
         let answer = answer_of(alloc, &bytes)?;
         write!(output, "{answer}\n")?;
-        if in_pieces && answer.as_str().ends_with(")") {
+        if streamed_answer(alloc, &bytes)?.as_str() != answer.as_str() {
+            output.write_all(b"differs byte by byte\n")?;
+        }
+        if in_pieces && is_reply(&answer) {
             if differs_where_cut(alloc, &bytes, &answer)? {
                 output.write_all(b"differs where it is cut\n")?;
             }
@@ -67,6 +71,31 @@ fn answer_of(alloc: Global, bytes: &[u8]) -> Result<String, anyhow::Error> {
         Err(WireError::Memory) => Err(WireError::Memory.into()),
         Err(WireError::Fault(fault)) => Ok(format!(in alloc; "refused: {fault}")?),
     }
+}
+
+// Whether an answer is a reply, which has its length in front.
+fn is_reply(answer: &str) -> bool {
+    match answer.as_bytes() {
+        [first, ..] => first.is_ascii_digit(),
+        [] => false,
+    }
+}
+
+// What a stream says of the same bytes, which come one by one.
+fn streamed_answer(alloc: Global, bytes: &[u8]) -> Result<String, anyhow::Error> {
+    let mut stream = ReplyStream::new(alloc, Limits::default());
+    let mut len = 0usize;
+    for byte in bytes {
+        stream.feed(&[*byte])?;
+        len = len.saturating_add(1);
+        match stream.next(alloc) {
+            Ok(None) => {}
+            Ok(Some(reply)) => return Ok(reply_text(alloc, len, &reply)?),
+            Err(WireError::Memory) => return Err(WireError::Memory.into()),
+            Err(WireError::Fault(fault)) => return Ok(format!(in alloc; "refused: {fault}")?),
+        }
+    }
+    Ok(String::from_str(alloc, "incomplete")?)
 }
 
 // A reply behind its length.

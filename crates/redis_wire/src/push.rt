@@ -1,0 +1,132 @@
+//! Messages that a server pushes, and whole replies.
+ghost use Rattle.std.specs.Prelude.{◌≡◌, ◌<◌, ◌-◌, IfOk, IfErr, map};
+ghost use Rattle.redis_wire.specs.declared.fault.Stop.TheVariants.{Memory};
+ghost use Rattle.redis_wire.specs.Reading.{Gives};
+ghost use Rattle.redis_wire.specs.Reply.{answer, answers, answer_list, one_by_one, pushed};
+ghost use Rattle.redis_wire.specs.Push.{kind_text, kind_body_at, kind_by, kind_at, push_body_at, push_at, reply_at};
+
+use crate::fault::{Fault, Stop};
+use crate::kind::{BlobKind, Kind, LineKind, kind_of};
+use crate::limits::Limits;
+use crate::line::{blob_at, line_at};
+use crate::number::length_at;
+use crate::reply::{Members, Reply};
+use crate::value::{members_at, replies_in, value_at};
+use std::alloc::Global;
+
+/// The kind of a message, which is a text.
+fn kind_text(text: &[u8]) -> Result<&str, Stop>
+    ensures { Gives (λ kind. kind.now) result (kind_text text.now) }
+{
+    match std::str::from_utf8(text) {
+        Ok(kind) => Ok(kind),
+        Err(_) => Err(Stop::Fault(Fault::NotUtf8)),
+    }
+}
+
+/// The kind that bulk bytes of this length are.
+#[tactic(auto, unfolding(crate::specs::Push::kind_body_at))]
+fn kind_body_at(len: Option<u32>, bytes: &[u8]) -> Result<(&str, &[u8]), Stop>
+    ensures { Gives (λ x. (x.0.now, x.1.now)) result (kind_body_at len bytes.now) }
+{
+    match len {
+        None => Err(Stop::Fault(Fault::BadPush)),
+        Some(len) => {
+            let (text, rest) = blob_at(len as usize, bytes)?;
+            Ok((kind_text(text)?, rest))
+        }
+    }
+}
+
+/// The kind behind a first byte.
+#[tactic(auto, unfolding(crate::specs::Push::kind_by))]
+fn kind_by(limits: Limits, kind: Option<Kind>, bytes: &[u8]) -> Result<(&str, &[u8]), Stop>
+    ensures { Gives (λ x. (x.0.now, x.1.now)) result (kind_by limits kind bytes.now) }
+{
+    match kind {
+        Some(Kind::Line(LineKind::Status)) => {
+            let (text, rest) = line_at(limits.line, bytes)?;
+            Ok((kind_text(text)?, rest))
+        }
+        Some(Kind::Blob(BlobKind::Bulk)) => {
+            let (len, rest) = length_at(limits, bytes)?;
+            kind_body_at(len, rest)
+        }
+        _ => Err(Stop::Fault(Fault::BadPush)),
+    }
+}
+
+/// The kind of a message, which is a simple string or a bulk string, and the bytes behind it.
+#[tactic(auto, unfolding(crate::specs::Push::kind_at))]
+pub fn kind_at(limits: Limits, bytes: &[u8]) -> Result<(&str, &[u8]), Stop>
+    ensures { Gives (λ x. (x.0.now, x.1.now)) result (kind_at limits bytes.now) }
+{
+    match bytes {
+        [] => Err(Stop::Short),
+        [first, rest @ ..] => kind_by(limits, kind_of(*first), rest),
+    }
+}
+
+/// The message whose count was read, and the bytes behind it.
+#[tactic(auto, unfolding(crate::specs::Push::push_body_at))]
+fn push_body_at(
+    alloc: Global,
+    limits: Limits,
+    count: Option<u32>,
+    bytes: &[u8],
+) -> Result<(Reply, &[u8]), Stop>
+    requires { 0 < limits.depth }
+    ensures { Gives (λ x. (answer x.0, x.1.now)) result (push_body_at limits count bytes.now) }
+{
+    match count {
+        None => Err(Stop::Fault(Fault::BadLength)),
+        Some(0) => Err(Stop::Fault(Fault::BadPush)),
+        Some(count) => {
+            let (kind, rest) = kind_at(limits, bytes)?;
+            let left = (count - 1) as u64;
+            let (members, after) = members_at(alloc, limits, limits.depth - 1, 0, left, rest)?;
+            Ok((push_of(alloc, kind, members)?, after))
+        }
+    }
+}
+
+/// A message of this kind, with these members.
+fn push_of(alloc: Global, kind: &str, members: Members) -> Result<Reply, Stop>
+    ensures is { IfOk result (λ reply.
+        answer reply ≡ pushed kind.now (answer_list (one_by_one (answers members)))) }
+    ensures memory { IfErr result (λ e. e ≡ Memory) }
+{
+    Ok(Reply::Push {
+        kind: String::from_str(alloc, kind)?,
+        payload: replies_in(alloc, members)?,
+    })
+}
+
+/// The message behind its first byte, and the bytes behind it.
+#[tactic(auto, unfolding(crate::specs::Push::push_at))]
+fn push_at(alloc: Global, limits: Limits, bytes: &[u8]) -> Result<(Reply, &[u8]), Stop>
+    ensures { Gives (λ x. (answer x.0, x.1.now)) result (push_at limits bytes.now) }
+{
+    if limits.depth == 0 {
+        return Err(Stop::Fault(Fault::TooDeep));
+    }
+    let (count, rest) = length_at(limits, bytes)?;
+    push_body_at(alloc, limits, count, rest)
+}
+
+/// The reply at the head of bytes, and the bytes behind it: a message, or a value.
+#[tactic(auto, unfolding(crate::specs::Push::reply_at))]
+pub fn reply_at(alloc: Global, limits: Limits, bytes: &[u8]) -> Result<(Reply, &[u8]), Stop>
+    ensures { Gives (λ x. (answer x.0, x.1.now)) result (reply_at limits bytes.now) }
+{
+    match bytes {
+        [] => Err(Stop::Short),
+        [first, rest @ ..] => {
+            if *first == b'>' {
+                push_at(alloc, limits, rest)
+            } else {
+                value_at(alloc, limits, limits.depth, 0, bytes)
+            }
+        }
+    }
+}
