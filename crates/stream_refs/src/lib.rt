@@ -5,6 +5,7 @@
 mod entry;
 mod entry_list;
 mod fields;
+mod find;
 mod outcome;
 mod places;
 mod room;
@@ -16,6 +17,7 @@ mod tape;
 pub use entry::{Delivery, EntryRef};
 pub use entry_list::{EntriesRef, RangeRef};
 pub use fields::FieldsRef;
+pub use find::{find_range, find_streams};
 pub use outcome::{RangeOutcome, ReadOutcome, read_any_range, read_any_streams};
 pub use places::{EntryPlace, FieldPlace, StreamPlace};
 pub use room::{EntryTables, Full, Places};

@@ -1,6 +1,6 @@
 //! Room for the places of what is found in a reply.
 ghost use Rattle.std.specs.Prelude.{◌≡◌, ◌∷◌, ◌++◌, [], IfOk, length};
-ghost use Rattle.stream_refs.specs.Held.{Held};
+ghost use Rattle.stream_refs.specs.Held.{Held, none_held};
 
 use crate::places::{EntryPlace, FieldPlace, StreamPlace};
 
@@ -15,6 +15,10 @@ pub trait Places {
 
     /// The places that are held, in order.
     ghost held: { Self → Held };
+
+    /// Forgets all places.
+    fn clear(&mut self)
+        ensures { held self.new ≡ none_held };
 
     /// How many entries are held.
     fn count_entries(&self) -> usize
@@ -61,7 +65,9 @@ impl<'t> EntryTables<'t> {
         streams: &'t mut [StreamPlace],
         entries: &'t mut [EntryPlace],
         fields: &'t mut [FieldPlace],
-    ) -> EntryTables<'t> {
+    ) -> EntryTables<'t>
+        ensures { ⟦<EntryTables<'t> as Places>⟧.held result ≡ none_held }
+    {
         EntryTables {
             streams,
             entries,
@@ -70,5 +76,59 @@ impl<'t> EntryTables<'t> {
             entry_count: 0,
             field_count: 0,
         }
+    }
+}
+
+impl<'t> Places for EntryTables<'t> {
+    type Refusal = Full;
+
+    ghost use Rattle.std.specs.Prelude.{take};
+    ghost use Rattle.stream_refs.specs.Held.{Held};
+
+    ghost held = { λ t. record {
+      streams = take t.stream_count t.streams.now;
+      entries = take t.entry_count t.entries.now;
+      fields = take t.field_count t.fields.now;
+    } };
+
+    fn clear(&mut self) {
+        self.stream_count = 0;
+        self.entry_count = 0;
+        self.field_count = 0;
+    }
+
+    fn count_entries(&self) -> usize {
+        usize::min(self.entry_count, self.entries.len())
+    }
+
+    fn count_fields(&self) -> usize {
+        usize::min(self.field_count, self.fields.len())
+    }
+
+    fn push_field(&mut self, place: FieldPlace) -> Result<(), Full> {
+        if self.field_count >= self.fields.len() {
+            return Err(Full);
+        }
+        self.fields[self.field_count] = place;
+        self.field_count += 1;
+        Ok(())
+    }
+
+    fn push_entry(&mut self, place: EntryPlace) -> Result<(), Full> {
+        if self.entry_count >= self.entries.len() {
+            return Err(Full);
+        }
+        self.entries[self.entry_count] = place;
+        self.entry_count += 1;
+        Ok(())
+    }
+
+    fn push_stream(&mut self, place: StreamPlace) -> Result<(), Full> {
+        if self.stream_count >= self.streams.len() {
+            return Err(Full);
+        }
+        self.streams[self.stream_count] = place;
+        self.stream_count += 1;
+        Ok(())
     }
 }

@@ -1,17 +1,16 @@
 //! The tables of places of a reply.
-ghost use Rattle.std.specs.Prelude.{◌≡◌, ◌≤◌, IfOk, IfSome};
-ghost use Rattle.stream_refs.specs.Held.{Held, none_held};
-ghost use Rattle.stream_refs.specs.Added.{IsFilled};
+ghost use Rattle.std.specs.Prelude.{◌≡◌, IfOk, IfSome};
+ghost use Rattle.stream_refs.specs.Held.{none_held};
 ghost use Rattle.stream_refs.specs.Range.{IsRange, IsRead};
 
 use crate::entry_list::{RangeRef, entries_at};
+use crate::find::find_form;
 use crate::places::{EntryPlace, FieldPlace, StreamPlace};
 use crate::room::Places;
 use crate::rows::add_entries;
 use crate::stream_list::{ReadRef, streams_at};
-use crate::streams::add_streams;
 use redis_wire::Limits;
-use redis_wire::place::{array_at, map_at, nil_at};
+use redis_wire::place::array_at;
 use std::alloc::{AllocError, Global};
 
 /// Where the entries of a reply stand: three tables of plain numbers. They keep their room for the next
@@ -25,21 +24,14 @@ pub struct EntryTape {
 
 impl EntryTape {
     /// Tables with no room yet.
-    pub fn new(alloc: Global) -> EntryTape {
+    pub fn new(alloc: Global) -> EntryTape
+        ensures { ⟦<EntryTape as Places>⟧.held result ≡ none_held }
+    {
         EntryTape {
             streams: Vec::new(alloc),
             entries: Vec::new(alloc),
             fields: Vec::new(alloc),
         }
-    }
-
-    /// Forgets the places, and keeps the room.
-    fn clear(&mut self)
-        ensures { ⟦<EntryTape as Places>⟧.held self.new ≡ none_held }
-    {
-        self.streams.clear();
-        self.entries.clear();
-        self.fields.clear();
     }
 
     /// Reads the entries of the reply at the head of bytes where they stand, where it has the shape in
@@ -68,76 +60,6 @@ impl EntryTape {
         }
     }
 
-    /// Fills the tables, where they hold nothing, with the streams of the array at the head of bytes, and
-    /// returns how many bytes it has.
-    fn fill_array(
-        &mut self,
-        bytes: &[u8],
-        limits: Limits,
-        claim: bool,
-    ) -> Result<Option<usize>, AllocError>
-        requires deep { 6 ≤ limits.depth }
-        requires none { ⟦<EntryTape as Places>⟧.held self.old ≡ none_held }
-        ensures { IfOk result (λ o. IfSome o (λ len.
-            IsFilled limits bytes.now claim len (⟦<EntryTape as Places>⟧.held self.new))) }
-    {
-        let Some((count, at)) = array_at(limits, bytes, 0) else {
-            return Ok(None);
-        };
-        match add_streams(limits, bytes, at, false, claim, count, self)? {
-            None => Ok(None),
-            Some(len) => Ok(Some(len)),
-        }
-    }
-
-    /// Fills the tables, where they hold nothing, with the streams of the map at the head of bytes, and
-    /// returns how many bytes it has.
-    fn fill_map(
-        &mut self,
-        bytes: &[u8],
-        limits: Limits,
-        claim: bool,
-    ) -> Result<Option<usize>, AllocError>
-        requires deep { 6 ≤ limits.depth }
-        requires none { ⟦<EntryTape as Places>⟧.held self.old ≡ none_held }
-        ensures { IfOk result (λ o. IfSome o (λ len.
-            IsFilled limits bytes.now claim len (⟦<EntryTape as Places>⟧.held self.new))) }
-    {
-        let Some((count, at)) = map_at(limits, bytes, 0) else {
-            return Ok(None);
-        };
-        match add_streams(limits, bytes, at, true, claim, count, self)? {
-            None => Ok(None),
-            Some(len) => Ok(Some(len)),
-        }
-    }
-
-    /// Fills the tables with the streams of the reply at the head of bytes, and returns how many bytes
-    /// it has.
-    fn fill(
-        &mut self,
-        bytes: &[u8],
-        limits: Limits,
-        claim: bool,
-    ) -> Result<Option<usize>, AllocError>
-        requires { 6 ≤ limits.depth }
-        ensures { IfOk result (λ o. IfSome o (λ len.
-            IsFilled limits bytes.now claim len (⟦<EntryTape as Places>⟧.held self.new))) }
-    {
-        self.clear();
-        if let Some(len) = nil_at(limits, bytes, 0) {
-            return Ok(Some(len));
-        }
-        if let Some(len) = self.fill_array(bytes, limits, claim)? {
-            return Ok(Some(len));
-        }
-        self.clear();
-        match self.fill_map(bytes, limits, claim)? {
-            None => Ok(None),
-            Some(len) => Ok(Some(len)),
-        }
-    }
-
     /// Reads the streams of the reply at the head of bytes where they stand, where it has the shape in
     /// which servers answer XREAD and XREADGROUP: an array of streams, each of its name and its rows, in
     /// RESP3 a map of names to rows, or nil.
@@ -151,7 +73,7 @@ impl EntryTape {
         if limits.depth < 6 {
             return Ok(None);
         }
-        match self.fill(bytes, limits, false)? {
+        match find_form(limits, bytes, false, self)? {
             None => Ok(None),
             Some(len) => Ok(Some(ReadRef {
                 streams: streams_at(bytes, &self.streams, &self.entries, &self.fields),
@@ -171,6 +93,12 @@ impl Places for EntryTape {
       entries = t.entries.items;
       fields = t.fields.items;
     } };
+
+    fn clear(&mut self) {
+        self.streams.clear();
+        self.entries.clear();
+        self.fields.clear();
+    }
 
     fn count_entries(&self) -> usize {
         self.entries.len()
