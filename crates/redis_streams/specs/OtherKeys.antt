@@ -21,6 +21,21 @@ consumer_names = codes "name" ∷ codes "pending" ∷ codes "idle" ∷ []
 abbrev pub group_names : List (List ℕ)
 group_names = codes "name" ∷ codes "consumers" ∷ codes "pending" ∷ codes "last-delivered-id" ∷ codes "entries-read" ∷ codes "lag" ∷ []
 
+-- the names of a consumer's fields in the reply of XINFO STREAM FULL
+abbrev pub full_consumer_names : List (List ℕ)
+full_consumer_names = codes "name" ∷ codes "seen-time" ∷ codes "active-time" ∷ codes "pel-count" ∷ codes "pending" ∷ []
+
+-- the names of a group's fields in it
+abbrev pub full_group_names : List (List ℕ)
+full_group_names =
+    codes "name" ∷ codes "last-delivered-id" ∷ codes "entries-read" ∷ codes "lag" ∷ codes "pel-count" ∷ codes "pending" ∷ codes "consumers" ∷ []
+
+-- the names of a stream's fields in it
+abbrev pub full_names : List (List ℕ)
+full_names =
+    codes "length" ∷ codes "radix-tree-keys" ∷ codes "radix-tree-nodes" ∷ codes "last-generated-id" ∷ codes "max-deleted-entry-id"
+    ∷ codes "entries-added" ∷ codes "recorded-first-entry-id" ∷ codes "entries" ∷ codes "groups" ∷ []
+
 -- it is none of the names
 abbrev pub IsOther : List (List ℕ) → List ℕ → Type 0
 IsOther names key = AllByRecursion (λ name. bytes_eq name key ≡ false) names
