@@ -11,10 +11,10 @@ use Rattle.redis_streams.specs.Info.{NamedFields, stream_of, stream_reading, tra
 use Rattle.redis_streams.specs.InfoFull.{full_consumer_of, full_consumer_reading, full_group_of, full_group_reading, full_reading, full_stream_of}
 use Rattle.redis_streams.specs.OtherKeys.{stream_names, tracked_names, consumer_names, group_names, full_consumer_names, full_group_names, full_names, IsOther, HasOtherKey, OtherKeysChangeNothing}
 
-abbrev ReadPairs : Type 0
+abbrev pub ReadPairs : Type 0
 ReadPairs = Option (List (List ℕ × Tree))
 
-abbrev pairs_read : List (Tree × Tree) → ReadPairs
+abbrev pub pairs_read : List (Tree × Tree) → ReadPairs
 pairs_read ps = traverse (entry_reading (λ u. Some u)) ps
 
 -- both are refused, or have the same last value of each key but this

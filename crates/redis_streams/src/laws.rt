@@ -17,6 +17,8 @@ ghost use Rattle.redis_streams.specs.InfoFull.{
   full_reading,
 };
 ghost use Rattle.redis_streams.specs.OtherKeys.{
+  HasMoreInStream,
+  MoreChangesNothing,
   OtherKeysChangeNothing,
   consumer_names,
   full_consumer_names,
@@ -63,9 +65,10 @@ pub fn other_keys_change_nothing()
     ensures group { OtherKeysChangeNothing group_names group_reading }
 {}
 
-/// The same of XINFO STREAM FULL: of the stream, of a group and of a consumer that it tells of. So
-/// what a newer server adds to any of the three changes nothing.
+/// The same of XINFO STREAM FULL: of the stream, of a group and of a consumer that it tells of. And
+/// what a newer server adds to any of the three changes nothing of the whole reply.
 pub fn other_keys_change_nothing_in_full()
+    ensures whole { MoreChangesNothing HasMoreInStream full_reading }
     ensures stream { OtherKeysChangeNothing full_names full_reading }
     ensures group { OtherKeysChangeNothing full_group_names full_group_reading }
     ensures consumer { OtherKeysChangeNothing full_consumer_names full_consumer_reading }

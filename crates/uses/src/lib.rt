@@ -2,9 +2,10 @@
 //! test.
 //!
 //! `worker` and `batch` are the pure part of a consumer-group worker, `stalled` takes over what
-//! others left, `monitoring` reads XPENDING and XINFO, `group_state` shows a group, `producer` sends entries so that one that is
-//! sent twice is added once, `server` reads back what a client wrote, `wire` goes from a server's
-//! bytes to a record, `order` has types of a user's own, and `readme` the code of the README.
+//! others left, `monitoring` reads XPENDING and XINFO, `group_state` says of a group what a tool
+//! shows, `producer` sends entries so that one that is sent twice is added once, `server` reads
+//! back what a client wrote, `wire` goes from a server's bytes to a record, `order` has types of a
+//! user's own, and `readme` the code of the README.
 #![tactic(auto)]
 
 pub mod batch;
