@@ -28,7 +28,9 @@ impl<R: Read, W: Write> Connection<R, W> {
 
     /// Sends a command.
     pub fn send<T: ToRedisArgs>(&mut self, alloc: Global, command: &T) -> Result<()> {
-        let bytes = pack_command(alloc, command)?;
+        let Ok(bytes) = pack_command(alloc, command) else {
+            return Err(anyhow!("a command was not written"));
+        };
         self.output.write_all(&bytes)?;
         self.output.flush()?;
         Ok(())

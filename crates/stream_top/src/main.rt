@@ -56,8 +56,9 @@ fn wait<R: Read, W: Write>(
     last_id: &str,
 ) -> Result<()> {
     let options = StreamReadOptions::default().block(WAIT).count(1);
-    let streams = AtLeastOne::one(&(key, last_id));
-    connection.send(alloc, &xread_options(streams, &options))?;
+    let stream = (key, last_id);
+    let command = xread_options(AtLeastOne::one(&stream), &options);
+    connection.send(alloc, &command)?;
     let answer: Value = connection.answer(alloc)?;
     drop(answer);
     Ok(())

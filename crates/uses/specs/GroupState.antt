@@ -1,6 +1,5 @@
 -- What a tool shows of a group, by what XINFO STREAM FULL tells of it and the time of the server's clock.
-use Rattle.std.specs.Prelude.{ℕ, ◌-◌, ◌&&◌, Bool, List, Option, map, filter, max, nat_le, nat_lt, string_bytes}
-use Rattle.std.specs.List.{reduce}
+use Rattle.std.specs.Prelude.{ℕ, ◌-◌, ◌&&◌, Bool, List, [], ◌∷◌, Option, Some, None, map, filter, fold, max, nat_le, nat_lt, string_bytes}
 use Rattle.redis_streams.specs.InfoFull.{FullPending, FullConsumer, FullGroup}
 use Rattle.uses.specs.declared.group_state.GroupState.{GroupState}
 
@@ -12,9 +11,14 @@ pub record State : Type 0 where
   pub too_often : List (List ℕ)
   pub dead : List (List ℕ)
 
--- the longest time since the last delivery of a pending entry
+-- the longest time since the last delivery of one of the entries
+abbrev pub longest_in : ℕ → List FullPending → ℕ
+longest_in now pending = fold (λ idle p. max idle (now - p.delivery_time)) 0 pending
+
+-- the same, where an entry is pending
 abbrev pub oldest_in : ℕ → List FullPending → Option ℕ
-oldest_in now pending = reduce max (map (λ p. now - p.delivery_time) pending)
+oldest_in now [] = None
+oldest_in now (p ∷ ps) = Some (longest_in now (p ∷ ps))
 
 -- the ids of the pending entries that were delivered more than so many times
 abbrev pub too_often_in : ℕ → List FullPending → List (List ℕ)

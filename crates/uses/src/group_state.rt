@@ -1,7 +1,7 @@
 //! The state of a group as a tool shows it, from one answer of XINFO STREAM FULL.
 ghost use Rattle.std.specs.Prelude.{◌≡◌, map, string_bytes, IfOk};
 ghost use Rattle.redis_streams.specs.InfoFullMeaning.{full_consumer_meaning, full_group_meaning, full_pending_meaning};
-ghost use Rattle.uses.specs.GroupState.{dead_in, oldest_in, state_meaning, state_of, too_often_in};
+ghost use Rattle.uses.specs.GroupState.{dead_in, longest_in, oldest_in, state_meaning, state_of, too_often_in};
 
 use redis_streams::{StreamInfoFullConsumer, StreamInfoFullGroup, StreamInfoFullPending};
 use std::alloc::{AllocError, Global};
@@ -46,13 +46,25 @@ pub fn group_state(
 }
 
 /// For how long the entry that is idle longest has been idle. It takes no memory.
+#[tactic(auto, using(crate::proofs::GroupStateLemmas::oldest_none, crate::proofs::GroupStateLemmas::oldest_some))]
 fn oldest_idle(pending: &[StreamInfoFullPending], now: usize) -> Option<usize>
     ensures { result ≡ oldest_in now (map full_pending_meaning pending.now) }
 {
-    pending
-        .iter()
-        .map(|entry| now.saturating_sub(entry.delivery_time))
-        .max()
+    if pending.is_empty() {
+        return None;
+    }
+    Some(longest_idle(pending, now))
+}
+
+/// The longest time that one of the entries has been idle, and 0 where there is none.
+fn longest_idle(pending: &[StreamInfoFullPending], now: usize) -> usize
+    ensures { result ≡ longest_in now (map full_pending_meaning pending.now) }
+{
+    let mut longest = 0usize;
+    for entry in pending {
+        longest = longest.max(now.saturating_sub(entry.delivery_time));
+    }
+    longest
 }
 
 /// The ids of the pending entries that were delivered more than `times` times, in order.
