@@ -18,7 +18,7 @@ pub struct Connection<R: Read, W: Write> {
 
 impl<R: Read, W: Write> Connection<R, W> {
     /// A connection on which nothing was sent.
-    pub fn new(alloc: Global, input: R, output: W) -> Connection<R, W> {
+    pub(crate) fn new(alloc: Global, input: R, output: W) -> Connection<R, W> {
         Connection {
             input,
             output,
@@ -27,7 +27,7 @@ impl<R: Read, W: Write> Connection<R, W> {
     }
 
     /// Sends a command.
-    pub fn send<T: ToRedisArgs>(&mut self, alloc: Global, command: &T) -> Result<()> {
+    pub(crate) fn send<T: ToRedisArgs>(&mut self, alloc: Global, command: &T) -> Result<()> {
         let Ok(bytes) = pack_command(alloc, command) else {
             return Err(anyhow!("a command was not written"));
         };
@@ -37,7 +37,7 @@ impl<R: Read, W: Write> Connection<R, W> {
     }
 
     /// The answer to the first command that was sent and not answered yet.
-    pub fn answer<T: FromRedisValue>(&mut self, alloc: Global) -> Result<T> {
+    pub(crate) fn answer<T: FromRedisValue>(&mut self, alloc: Global) -> Result<T> {
         match from_reply(alloc, self.reply(alloc)?) {
             Ok(record) => Ok(record),
             Err(ReplyError::Parsing(error)) => Err(error.into()),

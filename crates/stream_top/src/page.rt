@@ -23,7 +23,7 @@ const COLUMNS: [(&str, Side); 8] = [
 ];
 
 /// The page of a stream at a time of the server's clock, in milliseconds.
-pub fn page(
+pub(crate) fn page(
     alloc: Global,
     key: &str,
     stream: &StreamInfoFullReply,

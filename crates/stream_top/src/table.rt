@@ -64,7 +64,7 @@ fn push_row(
 }
 
 /// The rows as lines.
-pub fn table(alloc: Global, rows: &[Row], sides: &[Side]) -> Result<String, AllocError> {
+pub(crate) fn table(alloc: Global, rows: &[Row], sides: &[Side]) -> Result<String, AllocError> {
     let widths = widths_of(alloc, rows)?;
     let mut text = String::new(alloc);
     for row in rows {
