@@ -1,5 +1,5 @@
 //! The page of a stream, as people see it.
-use crate::page::page;
+use crate::page;
 use redis_resp::from_redis_value;
 use redis_streams::StreamInfoFullReply;
 use std::test::Fail;
