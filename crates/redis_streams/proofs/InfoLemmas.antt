@@ -46,7 +46,7 @@ pub fields_of_pairs : {V S : Type 0} (seen : V → Tree) (t : Tree) (pairs : Lis
 unfolding fields_by_name
 fields_of_pairs seen t pairs m read last = fields_found t (fields_by_name seen m) (fields_last (λ u. Some u) seen t pairs read m last)
 
-never : {A B : Type 0} (o : Option A) → option_and_then (λ _. let none : Option B = None in none) o ≡ None
+pub never : {A B : Type 0} (o : Option A) → option_and_then (λ _. let none : Option B = None in none) o ≡ None
 never None = refl
 never (Some a) = refl
 

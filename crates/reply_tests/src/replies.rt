@@ -2,6 +2,7 @@
 mod answers;
 mod copies;
 mod forms;
+mod full;
 mod info;
 mod many;
 mod pending;

@@ -7,3 +7,4 @@ pub mod Monitoring
 pub mod Readme
 pub mod Server
 pub mod Wire
+pub mod GroupState

@@ -1,5 +1,6 @@
 //! Each caller once, on values as a server sends them.
 mod consumer;
+mod group_state;
 mod sender;
 mod wire;
 
