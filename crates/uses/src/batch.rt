@@ -17,7 +17,7 @@ pub struct Batch {
 }
 
 /// Each entry is an order, or its id is among the strange ones; both in order. It fails only where
-/// memory runs out, which no entry asks for none.
+/// memory runs out; no entry, no memory.
 pub fn sort_out(alloc: Global, entries: &[StreamId]) -> Result<Batch, AllocError>
     ensures orders { IfOk result (λ b. map order_meaning b.orders.items
         ≡ flat_map order_in (map entry_meaning entries.now)) }

@@ -7,6 +7,7 @@ ghost use Rattle.std.specs.Prelude.{flat_map, string_bytes, suc, IfOk, IfErr, On
 ghost use Rattle.redis_resp.specs.Text.{text_reading};
 ghost use Rattle.redis_resp.specs.Value.{tree};
 ghost use Rattle.uses.specs.Producer.{Stays};
+ghost use Rattle.uses.specs.declared.producer.ProducerError.TheVariants.{Answer};
 
 use redis_resp::{FromRedisValue, ParsingError, ToRedisArgs, Value};
 use std::alloc::{AllocError, Global};
@@ -27,10 +28,18 @@ pub struct Producer {
 pub enum ProducerError {
     /// The answer is no id.
     #[error("the answer of XADD is {0}")]
-    Answer(#[from] ParsingError),
+    Answer(ParsingError),
     /// There is no further number.
     #[error("no number is left for a further entry")]
     LastNumber,
+}
+
+impl From<ParsingError> for ProducerError {
+    ghost from_gives = { λ error e. e ≡ Answer error };
+
+    fn from(error: ParsingError) -> ProducerError {
+        ProducerError::Answer(error)
+    }
 }
 
 impl Producer {

@@ -26,3 +26,9 @@ returns-clause-protocols c = λ streams b d.
     let v = rows_of_two streams in
     let w = map_of_pairs (pairs streams) in
     same_Some _ _ (sym (c.in_ok-first.ensures.answer (value v) b) ∙ c.respell_read.ensures.record v w (c.respell_read.ensures.protocols streams) ∙ c.in_ok-second.ensures.answer (value w) d)
+
+pub returns-clause-first : goal.returns-clause-first
+returns-clause-first c = λ v b. c.in_ok-first.ensures.answer (value v) b
+
+pub returns-clause-second : goal.returns-clause-second
+returns-clause-second c = λ w d. c.in_ok-second.ensures.answer (value w) d
