@@ -118,7 +118,8 @@ impl Group {
         }
     }
 
-    /// The number of the consumer, who was seen now; one that is new is made. What is pending stays.
+    /// The number of the consumer, who was seen now and is made where it is new. What is pending
+    /// stays.
     pub fn see(&mut self, alloc: Global, name: &[u8], now: u64) -> Result<u64, AllocError>
         ensures pending { self.new.pending ≡ self.old.pending }
         ensures last_id { self.new.last_id ≡ self.old.last_id }
