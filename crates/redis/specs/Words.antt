@@ -4,6 +4,10 @@ pub use Rattle.redis_args.specs.Clause.{clause, flag}
 pub use Rattle.redis_args.specs.FixedArgs.{AreEnds, pieces}
 pub use Rattle.redis_args.specs.Room.{HasRoom, LacksRoom, MayRefuse}
 pub use Rattle.redis_args.specs.Writer.{Wrote}
+pub use Rattle.redis_connection.specs.Ask.{Asks, HasNoAnswer}
+pub use Rattle.redis_connection.specs.Cause.{failure_of, refusal_of, write_failure_of}
+pub use Rattle.redis_connection.specs.Link.{IsEnded, IsFaulty, Link, Receives, Sends, SendsFront, Waits}
+pub use Rattle.redis_connection.specs.Seen.{seen}
 pub use Rattle.redis_resp.specs.Boolean.{truth_reading}
 pub use Rattle.redis_resp.specs.Bytes.{bytes_reading}
 pub use Rattle.redis_resp.specs.FieldsMeaning.{fields_of}
@@ -31,13 +35,24 @@ pub use Rattle.redis_streams.specs.Info.{Consumer, Group, StreamInfo, TrackedStr
 pub use Rattle.redis_streams.specs.Info.{consumers_reading, empty_consumer, empty_group, empty_stream, empty_tracked}
 pub use Rattle.redis_streams.specs.Info.{group_reading, groups_reading, info_entry_reading, number_or_nil_reading}
 pub use Rattle.redis_streams.specs.Info.{stream_reading, tracked_reading}
+pub use Rattle.redis_streams.specs.InfoFull.{FullConsumer, FullEntry, FullGroup, FullPending, FullStream, OwnPending}
+pub use Rattle.redis_streams.specs.InfoFull.{empty_full_consumer, empty_full_entry, empty_full_group}
+pub use Rattle.redis_streams.specs.InfoFull.{empty_full_pending, empty_full_stream, empty_own_pending}
+pub use Rattle.redis_streams.specs.InfoFull.{full_consumer_reading, full_entry_reading, full_group_reading}
+pub use Rattle.redis_streams.specs.InfoFull.{full_pending_reading, full_reading, own_pending_reading}
+pub use Rattle.redis_streams.specs.InfoFull.{time_or_nil_reading}
+pub use Rattle.redis_streams.specs.InfoFullMeaning.{full_consumer_meaning, full_entry_meaning, full_group_meaning}
+pub use Rattle.redis_streams.specs.InfoFullMeaning.{full_meaning, full_pending_meaning, own_pending_meaning}
+pub use Rattle.redis_streams.specs.InfoFullRefusal.{RefusesFull, RefusesFullConsumer, RefusesFullEntry}
+pub use Rattle.redis_streams.specs.InfoFullRefusal.{RefusesFullGroup, RefusesFullPending, RefusesOwnPending}
 pub use Rattle.redis_streams.specs.InfoMeaning.{consumer_meaning, consumers_meaning, group_meaning, groups_meaning}
 pub use Rattle.redis_streams.specs.InfoMeaning.{stream_info_meaning, tracked_meaning}
 pub use Rattle.redis_streams.specs.InfoRefusal.{RefusesConsumerField, RefusesConsumers, RefusesGroupField}
 pub use Rattle.redis_streams.specs.InfoRefusal.{RefusesGroups, RefusesInfoEntry, RefusesNamed, RefusesStream}
 pub use Rattle.redis_streams.specs.InfoRefusal.{RefusesTracked}
-pub use Rattle.redis_streams.specs.OtherKeys.{OtherKeysChangeNothing, consumer_names, group_names, stream_names}
-pub use Rattle.redis_streams.specs.OtherKeys.{tracked_names}
+pub use Rattle.redis_streams.specs.OtherKeys.{HasMoreInStream, MoreChangesNothing, OtherKeysChangeNothing}
+pub use Rattle.redis_streams.specs.OtherKeys.{consumer_names, full_consumer_names, full_group_names, full_names}
+pub use Rattle.redis_streams.specs.OtherKeys.{group_names, stream_names, tracked_names}
 pub use Rattle.redis_streams.specs.Pending.{PendingEntry, PendingSummary, empty_pending_entry, empty_summary}
 pub use Rattle.redis_streams.specs.Pending.{pending_count_reading, pending_reading}
 pub use Rattle.redis_streams.specs.PendingMeaning.{count_of, data_meaning, pending_id_meaning, pending_ids_meaning}
@@ -45,14 +60,16 @@ pub use Rattle.redis_streams.specs.PendingMeaning.{pending_meaning}
 pub use Rattle.redis_streams.specs.PendingRefusal.{RefusesPending, RefusesPendingCount}
 pub use Rattle.redis_streams.specs.StatusMeaning.{xackdel_code, xackdel_of_code, xackdel_reading, xackdel_refusal}
 pub use Rattle.redis_streams.specs.StatusMeaning.{xdelex_code, xdelex_of_code, xdelex_reading, xdelex_refusal}
-pub use Rattle.redis_wire.specs.Decoded.{Decodes, IsFirstFault, IsIncomplete, IsReply, IsWhole, NoReply}
+pub use Rattle.redis_wire.specs.Decoded.{Decodes, EndTooEarly, IsFirstFault, IsIncomplete, IsWhole, NoReply}
 pub use Rattle.redis_wire.specs.Equality.{AreEqual}
+unfoldable pub use Rattle.redis_wire.specs.Grammar.{IsReply}
 pub use Rattle.redis_wire.specs.Laws.{CommandsAreValues, RepliesAreApart}
 pub use Rattle.redis_wire.specs.Limits.{default_limits}
 pub use Rattle.redis_wire.specs.Next.{Held, IsRefused, NextIs}
 unfoldable pub use Rattle.redis_wire.specs.Packed.{command_bytes}
 pub use Rattle.redis_wire.specs.PackedArgs.{IsPacked, IsTooLarge, MayRefuse as MayRefusePacked}
 unfoldable pub use Rattle.redis_wire.specs.PackedArgs.{args_in}
+pub use Rattle.redis_wire.specs.Place.{IsArrayAt, IsIntAt, IsMapAt, IsNilAt, IsTextAt}
 pub use Rattle.redis_wire.specs.Record.{IsRecord}
 pub use Rattle.redis_wire.specs.Reply.{Answer, Answers, answer, code_of, message_of, refused, value}
 pub use Rattle.stream_commands.specs.Fields.{AreFields, fields_joined, one_field}
@@ -74,8 +91,8 @@ pub use Rattle.stream_entries.specs.Read.{Streams, delivered_entry, delivery_rea
 unfoldable pub use Rattle.stream_entries.specs.Read.{claim_reading, standard_reading}
 pub use Rattle.stream_entries.specs.ReadMeaning.{stream_key_meaning, streams_of}
 pub use Rattle.stream_entries.specs.Readable.{list_readable, table_readable}
-pub use Rattle.stream_entries.specs.Refusal.{RefusesAutoClaim, RefusesOptionalText, RefusesRead, RefusesRow}
-pub use Rattle.stream_entries.specs.Refusal.{RefusesRows}
+pub use Rattle.stream_entries.specs.Refusal.{RefusesAutoClaim, RefusesFields, RefusesOptionalText, RefusesRead}
+pub use Rattle.stream_entries.specs.Refusal.{RefusesRow, RefusesRows}
 pub use Rattle.stream_entries.specs.Respelling.{AutoclaimAlike, ClaimAlike, RangeAlike, ReadAlike}
 pub use Rattle.stream_entries.specs.RespellingLaws.{HoldsOfEqual, IsSymmetric, KeepsRecord, ProtocolsAreAlike}
 pub use Rattle.stream_entries.specs.RespellingLaws.{rows_of_two}
@@ -111,5 +128,11 @@ pub use Rattle.stream_options.specs.Trim.{trim_sentence, trim_words, unlimited}
 pub use Rattle.stream_options.specs.TrimCalls.{final_trim}
 pub use Rattle.stream_options.specs.View.{idempotency_of, maxlen_of, mode_of, nack_of, policy_of, strategy_of}
 pub use Rattle.stream_options.specs.Words.{IsFree, among}
+pub use Rattle.stream_refs.specs.Copied.{pairs_or_none}
+pub use Rattle.stream_refs.specs.Held.{Held as HeldPlaces, none_held}
+pub use Rattle.stream_refs.specs.Outcome.{IsRangeOutcome, IsReadOutcome}
+pub use Rattle.stream_refs.specs.Placed.{IsEntry, IsField, IsStream, entry_in, field_in, fields_if, stream_in}
+pub use Rattle.stream_refs.specs.Range.{IsRange, IsRead}
+pub use Rattle.stream_refs.specs.Sent.{Pairs, SentEntry, SentStream, is_none}
 pub use Rattle.stream_sentences.specs.Split.{HasNoSplit, IsOneSplit, IsSplit, arguments}
 pub use Rattle.stream_sentences.specs.Told.{WroteAnswer, WroteAnswerBeginning}

@@ -3,9 +3,9 @@ pub use redis_resp::{
     copied_write_error, equal_bytes, equal_parsing_errors, equal_write_errors, unique_decimal,
 };
 pub use redis_streams::laws::{
-    copied_forms, equal_acknowledgements, equal_deletions, equal_read_forms,
-    invalid_entries_tell_nil, other_keys_change_nothing, overlap, respell_autoclaim, respell_claim,
-    respell_range, respell_read,
+    equal_acknowledgements, equal_deletions, invalid_entries_tell_nil, other_keys_change_nothing,
+    other_keys_change_nothing_in_full, overlap, respell_autoclaim, respell_claim, respell_range,
+    respell_read,
 };
 pub use redis_wire::laws::{
     commands_are_values, equal_faults, equal_limits, equal_reply_errors, equal_server_errors,

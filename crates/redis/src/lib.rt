@@ -8,6 +8,8 @@
 #![tactic(auto)]
 
 pub mod commands;
+pub mod connection;
+pub mod in_place;
 pub mod laws;
 pub mod sentences;
 pub mod streams;

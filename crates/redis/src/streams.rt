@@ -1,7 +1,9 @@
 //! The options and replies of the stream commands.
 pub use redis_streams::{
     ReadForms, StreamAutoClaimReply, StreamClaimReply, StreamId, StreamInfoConsumer,
-    StreamInfoConsumersReply, StreamInfoGroup, StreamInfoGroupsReply, StreamInfoStreamReply,
+    StreamInfoConsumerPending, StreamInfoConsumersReply, StreamInfoFullConsumer,
+    StreamInfoFullEntry, StreamInfoFullGroup, StreamInfoFullPending, StreamInfoFullReply,
+    StreamInfoGroup, StreamInfoGroupsReply, StreamInfoStreamReply,
     StreamInfoStreamReplyWithIdempotency, StreamKey, StreamPendingCountReply, StreamPendingData,
     StreamPendingId, StreamPendingReply, StreamRangeReply, StreamReadReply, XAckDelStatusCode,
     XDelExStatusCode,

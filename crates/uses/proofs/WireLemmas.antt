@@ -1,16 +1,10 @@
 -- What stands at the head of bytes, and what refused bytes say of the values in them.
 use Rattle.std.proofs.Common.{◌≡◌, ◌≢◌, ◌⊎◌, inl, inr, ℕ, List, None, Result, Ok, Err, take, drop, refl, sym, ◌∙◌, subst}
 use Rattle.std.proofs.lemmas.List.{take-append-drop}
-use Rattle.redis_resp.specs.Tree.{Tree}
-use Rattle.stream_entries.specs.Read.{read_reading}
+use Rattle.redis.specs.Words.{Answer, IsRecord, IsReply, RefusesRead, Tree, default_limits}
+use Rattle.redis.specs.Words.{read_reading, refused, streams_of, value}
 use Rattle.redis_resp.specs.declared.value.error.ParsingError.{ParsingError}
 use Rattle.redis_resp.specs.declared.value.error.ParsingError.TheVariants as parsing
-use Rattle.redis_wire.specs.Decoded.{IsReply}
-use Rattle.redis_wire.specs.Limits.{default_limits}
-use Rattle.redis_wire.specs.Record.{IsRecord}
-use Rattle.redis_wire.specs.Reply.{Answer, value, refused}
-use Rattle.stream_entries.specs.ReadMeaning.{streams_of}
-use Rattle.stream_entries.specs.Refusal.{RefusesRead}
 use Rattle.stream_entries.specs.declared.read.StreamReadReply.{StreamReadReply}
 use Rattle.redis_wire.specs.declared.limits.Limits.{Limits}
 use Rattle.redis_wire.specs.declared.reply.ReplyError.{ReplyError}

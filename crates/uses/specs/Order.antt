@@ -1,13 +1,9 @@
 -- An order, as mathematics, and which fields say one.
 use Rattle.std.specs.Prelude.{◌≡◌, ◌⊎◌, ℕ, List, Option, Some, IsSome, option_map, option_and_then, option_to_list, is_some, if◌then◌else◌, [], ◌∷◌, codes, string_bytes}
-use Rattle.redis_resp.specs.Tree.{Tree}
-use Rattle.redis_resp.specs.Text.{text_reading}
-use Rattle.redis_resp.specs.Number.{unsigned_reading}
-use Rattle.redis_resp.specs.Table.{Fields, fields_reading, field_record}
+use Rattle.redis.specs.Words.{Entry, Fields, RefusesFields, Tree, field_record, fields_reading}
+use Rattle.redis.specs.Words.{text_reading, unsigned_reading}
 use Rattle.redis_resp.specs.declared.value.error.ParsingError.{ParsingError}
 use Rattle.redis_resp.specs.declared.value.error.ParsingError.TheVariants.{NotPairs, Memory}
-use Rattle.stream_entries.specs.Entry.{Entry}
-use Rattle.stream_entries.specs.Refusal.{RefusesFields}
 use Rattle.uses.specs.declared.order.Order.{Order}
 
 -- an order's number, its customer and how many pieces

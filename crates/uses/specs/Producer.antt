@@ -1,8 +1,6 @@
 -- Why a producer stays at its entry.
 use Rattle.std.specs.Prelude.{◌≡◌, ◌^◌, ℕ, suc}
-use Rattle.redis_resp.specs.Refusal.{Refuses, RefusesText}
-use Rattle.redis_resp.specs.Text.{text_reading}
-use Rattle.redis_resp.specs.Tree.{Tree}
+use Rattle.redis.specs.Words.{Refuses, RefusesText, Tree, text_reading}
 use Rattle.uses.specs.declared.producer.ProducerError.{ProducerError}
 use Rattle.uses.specs.declared.producer.ProducerError.TheVariants.{Answer, LastNumber}
 

@@ -1,14 +1,10 @@
 -- What the bytes of a reply answer.
 use Rattle.std.specs.Prelude.{◌≡◌, ℕ, List, ◌++◌, Some, None, Result, Ok, Err}
-use Rattle.redis_resp.specs.Tree.{Tree}
+use Rattle.redis.specs.Words.{Answer, IsFirstFault, IsReply, NoReply, Tree, default_limits}
+use Rattle.redis.specs.Words.{read_reading, refused, streams_of, value}
 use Rattle.redis_resp.specs.declared.value.error.ParsingError.TheVariants.{UnknownReadFormat}
-use Rattle.stream_entries.specs.Read.{read_reading}
-use Rattle.stream_entries.specs.ReadMeaning.{streams_of}
 use Rattle.stream_entries.specs.declared.read.StreamReadReply.{StreamReadReply}
-use Rattle.redis_wire.specs.Decoded.{IsReply, NoReply, IsFirstFault}
 use Rattle.redis_wire.specs.declared.fault.WireError.TheVariants as errors
-use Rattle.redis_wire.specs.Limits.{default_limits}
-use Rattle.redis_wire.specs.Reply.{Answer, value, refused}
 use Rattle.uses.specs.declared.wire.AnswerError.{AnswerError}
 use Rattle.uses.specs.declared.wire.AnswerError.TheVariants.{Fault, Incomplete, Memory, Parsing, Server}
 

@@ -1,10 +1,10 @@
 //! The orders of a batch of entries, and the entries that say none.
 ghost use Rattle.std.specs.Prelude.{◌≡◌, ◌<◌, map, flat_map, length, IfOk, OnErr, string_bytes};
-ghost use Rattle.stream_entries.specs.EntryMeaning.{entry_meaning};
+ghost use Rattle.redis.specs.Words.{entry_meaning};
 ghost use Rattle.uses.specs.Order.{order_meaning, order_in, strange_in};
 
 use crate::order::Order;
-use redis_streams::StreamId;
+use redis::streams::StreamId;
 use std::alloc::{AllocError, Global};
 
 /// What a batch of entries says.

@@ -1,8 +1,7 @@
 //! What became of entries that XDELEX and XACKDEL were to delete, in the names of `redis`.
 ghost use Rattle.std.specs.Prelude.{◌≡◌, ◌≢◌, ◌↔◌, Some, IfOk, IfErr, IsTrue};
-ghost use Rattle.redis_resp.specs.Value.{tree};
-ghost use Rattle.redis_streams.specs.StatusMeaning.{xdelex_reading, xdelex_refusal};
-ghost use Rattle.redis_streams.specs.StatusMeaning.{xackdel_reading, xackdel_refusal};
+ghost use Rattle.redis.specs.Words.{tree, xackdel_reading, xackdel_refusal, xdelex_reading};
+ghost use Rattle.redis.specs.Words.{xdelex_refusal};
 ghost use Rattle.redis_streams.specs.declared.status.XDelExStatusCode.TheVariants as deletion;
 ghost use Rattle.redis_streams.specs.declared.status.XAckDelStatusCode.TheVariants as acknowledgement;
 

@@ -1,9 +1,10 @@
 //! The state of a group as a tool shows it, from one answer of XINFO STREAM FULL.
 ghost use Rattle.std.specs.Prelude.{◌≡◌, map, string_bytes, IfOk};
-ghost use Rattle.redis_streams.specs.InfoFullMeaning.{full_consumer_meaning, full_group_meaning, full_pending_meaning};
+ghost use Rattle.redis.specs.Words.{full_consumer_meaning, full_group_meaning};
+ghost use Rattle.redis.specs.Words.{full_pending_meaning};
 ghost use Rattle.uses.specs.GroupState.{dead_in, longest_in, oldest_in, state_meaning, state_of, too_often_in};
 
-use redis_streams::{StreamInfoFullConsumer, StreamInfoFullGroup, StreamInfoFullPending};
+use redis::streams::{StreamInfoFullConsumer, StreamInfoFullGroup, StreamInfoFullPending};
 use std::alloc::{AllocError, Global};
 
 /// What a tool shows of a group. Of pending entries it tells of those that the answer has: ask with

@@ -2,13 +2,11 @@
 //! of an entry, as arguments and as a record.
 ghost use Rattle.std.specs.Prelude.{◌≡◌, ℕ, [], ◌∷◌, codes, decimal, refl};
 ghost use Rattle.std.specs.Prelude.{option_map, string_bytes, IfOk, OnErr};
-ghost use Rattle.redis_resp.specs.Number.{unsigned_reading};
-ghost use Rattle.redis_resp.specs.FieldsMeaning.{fields_of};
-ghost use Rattle.redis_resp.specs.Refusal.{RefusesNumber};
+ghost use Rattle.redis.specs.Words.{RefusesNumber, fields_of, unsigned_reading};
 ghost use Rattle.uses.specs.Order.{Meant, order_meaning, order_of, order_reading};
 ghost use Rattle.uses.specs.Order.{RefusesOrder, NamesCustomer};
 
-use redis_resp::{
+use redis::{
     FromRedisValue, ParsingError, RedisWrite, ToRedisArgs, ToSingleRedisArg, Value, WriteError,
     field_of,
 };

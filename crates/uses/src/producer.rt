@@ -4,14 +4,13 @@
 //! it sends after an error is what it sent before, so the server can tell that it is the same.
 ghost use Rattle.std.specs.Prelude.{◌≡◌, ◌≢◌, [], ◌∷◌, ◌++◌, Some, None, codes, decimal, map};
 ghost use Rattle.std.specs.Prelude.{flat_map, string_bytes, suc, IfOk, IfErr, OnOk, OnErr};
-ghost use Rattle.redis_resp.specs.Text.{text_reading};
-ghost use Rattle.redis_resp.specs.Value.{tree};
+ghost use Rattle.redis.specs.Words.{text_reading, tree};
 ghost use Rattle.uses.specs.Producer.{Stays};
 ghost use Rattle.uses.specs.declared.producer.ProducerError.TheVariants.{Answer};
 
-use redis_resp::{FromRedisValue, ParsingError, ToRedisArgs, Value};
+use redis::streams::{StreamAddOptions, StreamTrimStrategy, StreamTrimmingMode};
+use redis::{FromRedisValue, ParsingError, ToRedisArgs, Value};
 use std::alloc::{AllocError, Global};
-use stream_options::{StreamAddOptions, StreamTrimStrategy, StreamTrimmingMode};
 use thiserror::Error;
 
 /// A producer of entries.

@@ -1,15 +1,13 @@
 //! The code of the README.
 ghost use Rattle.std.specs.Prelude.{◌≡◌, ◌≢◌, [], ◌∷◌, Some, None, codes, decimal, map};
 ghost use Rattle.std.specs.Prelude.{option_map, string_bytes, IfOk, IfErr};
-ghost use Rattle.redis_resp.specs.Value.{tree};
-ghost use Rattle.stream_entries.specs.Rows.{rows_reading};
+ghost use Rattle.redis.specs.Words.{rows_reading, tree};
 ghost use Rattle.uses.specs.Readme.{first_text};
 
-use redis_resp::{ParsingError, ToRedisArgs, Value, from_redis_value};
-use redis_streams::StreamRangeReply;
+use redis::commands::{AtLeastOne, xread_options};
+use redis::streams::{StreamRangeReply, StreamReadOptions};
+use redis::{ParsingError, ToRedisArgs, Value, from_redis_value};
 use std::alloc::{AllocError, Global};
-use stream_commands::{AtLeastOne, xread_options};
-use stream_options::StreamReadOptions;
 
 /// `XREADGROUP GROUP workers ann COUNT 10 STREAMS orders >`, whatever the order of the calls.
 pub fn read_arguments(alloc: Global) -> Result<Vec<Vec<u8>>, AllocError>

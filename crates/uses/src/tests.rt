@@ -4,7 +4,7 @@ mod group_state;
 mod sender;
 mod wire;
 
-use redis_resp::ToRedisArgs;
+use redis::ToRedisArgs;
 use std::alloc::AllocGlobal;
 use std::process::Abort;
 use std::test::Fail;

@@ -1,16 +1,12 @@
 //! From the bytes that a server sends to a record, in RESP2 and in RESP3.
 ghost use Rattle.std.specs.Prelude.{◌≡◌, ◌≢◌, List, Some, None, IfOk, IfErr};
-ghost use Rattle.redis_resp.specs.Tree.{Tree, map_of_pairs, pairs};
-ghost use Rattle.redis_wire.specs.Reply.{Answer, value};
-ghost use Rattle.stream_entries.specs.Read.{read_reading};
-ghost use Rattle.stream_entries.specs.ReadMeaning.{streams_of};
-ghost use Rattle.stream_entries.specs.Respelling.{ReadAlike};
-ghost use Rattle.stream_entries.specs.RespellingLaws.{rows_of_two};
+ghost use Rattle.redis.specs.Words.{Answer, ReadAlike, Tree, map_of_pairs, pairs, read_reading};
+ghost use Rattle.redis.specs.Words.{rows_of_two, streams_of, value};
 ghost use Rattle.uses.specs.Wire.{BeginsWith, Answers, Tells, NamesCause};
 
-use redis_resp::ParsingError;
-use redis_streams::{StreamReadReply, laws};
-use redis_wire::{Decoded, Fault, Limits, ReplyError, ServerError, WireError, decode, from_reply};
+use redis::streams::StreamReadReply;
+use redis::wire::{Decoded, Fault, Limits, ReplyError, ServerError, WireError, decode, from_reply};
+use redis::{ParsingError, laws};
 use std::alloc::Global;
 use thiserror::Error;
 

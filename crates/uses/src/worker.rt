@@ -1,10 +1,7 @@
 //! A consumer-group worker's pure part: what it sends and acknowledges, in the names of `redis`.
 ghost use Rattle.std.specs.Prelude.{◌≡◌, ◌≢◌, ◌⊎◌, [], ◌∷◌, ◌++◌, Some, None, codes, decimal, map};
 ghost use Rattle.std.specs.Prelude.{option_map, string_bytes, IfOk, IfErr, OnOk};
-ghost use Rattle.redis_resp.specs.Value.{tree};
-ghost use Rattle.stream_entries.specs.EntryMeaning.{entries_of, entry_meaning};
-ghost use Rattle.stream_entries.specs.Read.{read_reading};
-ghost use Rattle.stream_entries.specs.ReadMeaning.{streams_of};
+ghost use Rattle.redis.specs.Words.{entries_of, entry_meaning, read_reading, streams_of, tree};
 ghost use Rattle.uses.specs.Worker.{ids_in, ids_of};
 
 use redis::streams::{StreamId, StreamKey, StreamReadOptions, StreamReadReply};

@@ -1,8 +1,8 @@
 //! The state of a group, from what XINFO STREAM FULL answers.
 use crate::group_state::group_state;
 use crate::tests::assert_line;
-use redis_resp::from_redis_value;
-use redis_streams::StreamInfoFullReply;
+use redis::from_redis_value;
+use redis::streams::StreamInfoFullReply;
 use std::test::Fail;
 use stream_text::read_value;
 

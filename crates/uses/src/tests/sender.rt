@@ -4,13 +4,12 @@ use crate::producer::Producer;
 use crate::readme::{first_customer, read_arguments};
 use crate::server::add_request;
 use crate::tests::assert_line;
-use redis_resp::from_redis_value;
-use redis_streams::StreamRangeReply;
+use redis::from_redis_value;
+use redis::sentences::SentenceError;
+use redis::streams::{StreamRangeReply, StreamReadOptions};
 use std::alloc::{AllocError, Global};
 use std::process::Abort;
 use std::test::Fail;
-use stream_options::StreamReadOptions;
-use stream_sentences::SentenceError;
 use stream_text::read_value;
 
 // A producer that sends its ninth entry.

@@ -1,5 +1,5 @@
 use Rattle.std.proofs.Common.{◌≡◌, map, take}
-use Rattle.redis_streams.specs.InfoFullMeaning.{full_pending_meaning}
+use Rattle.redis.specs.Words.{full_pending_meaning}
 use Rattle.uses.specs.GroupState.{longest_in}
 use Rattle.uses.proofs.group_state.longest_idle.Given as goal
 

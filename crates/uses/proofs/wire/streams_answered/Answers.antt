@@ -1,5 +1,5 @@
 use Rattle.std.proofs.Common.{rules}
-use Rattle.redis_wire.specs.Reply.{answer}
+use Rattle.redis.specs.Words.{answer}
 use Rattle.uses.proofs.WireLemmas.{value_begun, refused_begun, error_begun, unknown_format}
 use Rattle.uses.proofs.wire.streams_answered.Goals as goal
 

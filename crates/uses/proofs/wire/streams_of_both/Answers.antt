@@ -1,9 +1,7 @@
 use Rattle.std.proofs.Common.{sym, ◌∙◌}
 use Rattle.std.proofs.lemmas.Option.{same_Some}
 use Rattle.std.proofs.lemmas.Result.{err_from_is_err_and}
-use Rattle.redis_resp.specs.Tree.{map_of_pairs, pairs}
-use Rattle.stream_entries.specs.RespellingLaws.{rows_of_two}
-use Rattle.redis_wire.specs.Reply.{value}
+use Rattle.redis.specs.Words.{map_of_pairs, pairs, rows_of_two, value}
 use Rattle.uses.proofs.WireLemmas.{first_refused, second_refused}
 use Rattle.uses.proofs.wire.streams_of_both.Goals as goal
 
