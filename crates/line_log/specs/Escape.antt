@@ -11,5 +11,6 @@ escaped_byte b =
     else if b == 13 then 92 ∷ 114 ∷ []
     else b ∷ []
 
+-- a text, byte by byte
 abbrev pub escaped : List ℕ → List ℕ
 escaped text = flat_map escaped_byte text

@@ -76,6 +76,13 @@ impl<D: LogFile + Drop> LineLog<D> {
         self.is_broken = false;
         Ok(())
     }
+
+    /// The file. Lines that were not committed are not in it.
+    pub fn into_file(self) -> D
+        ensures { result ≡ self.file }
+    {
+        self.file
+    }
 }
 
 /// Appends a line and its end. An `Err` changes nothing.

@@ -1,5 +1,6 @@
 //! A file of the system.
-ghost use Rattle.std.specs.Prelude.{ℕ, List, None};
+ghost use Rattle.std.specs.Prelude.{ℕ, List, None, IfErr};
+ghost use Rattle.line_log.specs.Log.{IsOfTheSystem};
 
 use crate::device::LogFile;
 use crate::error::LogError;
@@ -24,7 +25,9 @@ pub struct SystemFile {
 impl SystemFile {
     /// Opens the file of this path, and makes it where there is none. It is `WouldBlock` where
     /// another process has it open as a log.
-    pub fn open<R: Files<File = File>>(rt: &R, path: &str) -> Result<SystemFile, LogError> {
+    pub fn open<R: Files<File = File>>(rt: &R, path: &str) -> Result<SystemFile, LogError>
+        ensures { IfErr result IsOfTheSystem }
+    {
         let mut options = OpenOptions::new();
         options.read(true);
         options.append(true);
