@@ -2,11 +2,13 @@
 use crate::check;
 use std::test::Fail;
 use stream_commands::{
-    AtLeastOne, JustIdIsSet, xack, xack_del, xautoclaim_justid, xautoclaim_options, xclaim,
-    xclaim_justid, xclaim_options, xgroup_create, xgroup_create_mkstream, xgroup_createconsumer,
-    xgroup_delconsumer, xgroup_destroy, xgroup_setid, xinfo_consumers, xinfo_groups, xinfo_stream,
-    xinfo_stream_with_idempotency, xpending, xpending_consumer_count, xpending_count,
-    xpending_idle_count,
+    AtLeastOne, JustIdIsSet, xack, xack_del, xautoclaim, xautoclaim_count, xautoclaim_justid,
+    xautoclaim_options, xclaim, xclaim_justid, xclaim_options, xgroup_create,
+    xgroup_create_entries_read, xgroup_create_mkstream, xgroup_createconsumer, xgroup_delconsumer,
+    xgroup_destroy, xgroup_setid, xgroup_setid_entries_read, xinfo_consumers, xinfo_groups,
+    xinfo_stream, xinfo_stream_full, xinfo_stream_full_count, xinfo_stream_with_idempotency,
+    xpending, xpending_consumer_count, xpending_count, xpending_idle_consumer_count,
+    xpending_idle_count, xsetid, xsetid_entries_added,
 };
 use stream_options::{StreamAutoClaimOptions, StreamClaimOptions, StreamDeletionPolicy};
 
@@ -137,5 +139,67 @@ fn streams_are_described(rt: HostRuntime) -> Result<(), Fail> {
         &rt,
         &xinfo_consumers("orders", "g"),
         "XINFO CONSUMERS orders g",
+    )
+}
+
+#[test]
+fn counts_of_groups_and_streams_are_set(rt: HostRuntime) -> Result<(), Fail> {
+    check(
+        &rt,
+        &xgroup_create_entries_read("orders", "h", "2-0", 2),
+        "XGROUP CREATE orders h 2-0 ENTRIESREAD 2",
+    )?;
+    check(
+        &rt,
+        &xgroup_setid_entries_read("orders", "h", "3-0", 3),
+        "XGROUP SETID orders h 3-0 ENTRIESREAD 3",
+    )?;
+    check(&rt, &xsetid("orders", "9-0"), "XSETID orders 9-0")?;
+    check(
+        &rt,
+        &xsetid_entries_added("orders", "9-0", 9, "1-0"),
+        "XSETID orders 9-0 ENTRIESADDED 9 MAXDELETEDID 1-0",
+    )
+}
+
+#[test]
+fn idle_entries_of_a_consumer_are_told(rt: HostRuntime) -> Result<(), Fail> {
+    check(
+        &rt,
+        &xpending_idle_consumer_count("orders", "g", 60_000, "-", "+", 10, "d"),
+        "XPENDING orders g IDLE 60000 - + 10 d",
+    )?;
+    check(
+        &rt,
+        &xpending_idle_consumer_count("orders", "g", 0, "-", "+", 1, "d"),
+        "XPENDING orders g IDLE 0 - + 1 d",
+    )
+}
+
+#[test]
+fn idle_entries_are_claimed(rt: HostRuntime) -> Result<(), Fail> {
+    check(
+        &rt,
+        &xautoclaim("orders", "g", "d", 0, "4-0"),
+        "XAUTOCLAIM orders g d 0 4-0",
+    )?;
+    check(
+        &rt,
+        &xautoclaim_count("orders", "g", "d", 0, "0-0", 1),
+        "XAUTOCLAIM orders g d 0 0-0 COUNT 1",
+    )
+}
+
+#[test]
+fn streams_are_told_in_full(rt: HostRuntime) -> Result<(), Fail> {
+    check(
+        &rt,
+        &xinfo_stream_full("orders"),
+        "XINFO STREAM orders FULL",
+    )?;
+    check(
+        &rt,
+        &xinfo_stream_full_count("orders", 1),
+        "XINFO STREAM orders FULL COUNT 1",
     )
 }

@@ -1,10 +1,16 @@
-//! What a number's argument tells of the number, and what a derived `==` tells.
-ghost use Rattle.std.specs.Prelude.{◌≡◌, ◌↔◌, ◌<◌, ◌^◌, IsTrue, ℕ, ℤ, FitsSigned, decimal};
+//! What a number's argument tells of the number, where a writer of a fixed size refuses nothing,
+//! and what a derived `==` and a derived copy tell.
+ghost use Rattle.std.specs.Prelude.{◌≡◌, ◌↔◌, ◌<◌, ◌^◌, ◌++◌, IsTrue, ℕ, ℤ, FitsSigned, decimal};
+ghost use Rattle.std.specs.Prelude.{IsOk, IfErr, Ok, OnOk};
 ghost use Rattle.std.specs.Fmt.{signed_decimal};
 ghost use Rattle.std.specs.Int.{w64};
+ghost use Rattle.redis_args.specs.Room.{HasRoom};
 
+use crate::fixed_args::FixedArgs;
 use crate::raw_bytes::RawBytes;
+use crate::to_redis_args::ToRedisArgs;
 use crate::writer::WriteError;
+use std::alloc::AllocError;
 
 /// Two numbers of up to 64 bits that are written as the same argument are the same number.
 #[tactic(auto, using(crate::proofs::DecimalLemmas::decimals_differ))]
@@ -14,11 +20,33 @@ pub fn unique_decimal()
         → signed_decimal y ≡ signed_decimal z → y ≡ z }
 {}
 
+/// Appends the arguments of a value to a `FixedArgs`: Ok wherever there is room for all of them,
+/// at most `N` arguments of at most `B` bytes together with those that stand there already. It
+/// takes no memory, so the one refusal is `Full`.
+#[tactic(auto, using(crate::proofs::RoomLemmas::room_is_enough))]
+pub fn write_with_room<T: ToRedisArgs, const N: usize, const B: usize>(
+    value: &T,
+    out: &mut FixedArgs<N, B>,
+) -> Result<(), WriteError>
+    ensures room { HasRoom N B out.old (T.args value.now) → IsOk result }
+    ensures written { OnOk result (out.new ≡ out.old ++ T.args value.now) }
+    ensures full { IfErr result (λ error. error ≡ WriteError.Full) }
+{
+    value.write_redis_args(out)
+}
+
 /// `==` holds of two `WriteError` exactly where they are the same. It takes no memory.
 pub fn equal_write_errors(a: WriteError, b: WriteError) -> bool
     ensures { IsTrue result ↔ (a ≡ b) }
 {
     a == b
+}
+
+/// A `WriteError` is copied as it is. It takes no memory and is always Ok.
+pub fn copied_write_error(error: &WriteError) -> Result<WriteError, AllocError>
+    ensures { result ≡ Ok error.now }
+{
+    error.clone()
 }
 
 /// `==` holds of two `RawBytes` exactly where they are the same bytes, whatever room their buffers

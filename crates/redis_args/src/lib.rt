@@ -19,7 +19,9 @@ mod tuple;
 mod writer;
 
 pub use fixed_args::FixedArgs;
-pub use law::{equal_bytes, equal_write_errors, unique_decimal};
+pub use law::{
+    copied_write_error, equal_bytes, equal_write_errors, unique_decimal, write_with_room,
+};
 pub use raw_bytes::RawBytes;
 pub use to_redis_args::{ToRedisArgs, ToSingleRedisArg};
 pub use writer::{RedisWrite, WriteError};

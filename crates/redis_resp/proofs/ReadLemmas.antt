@@ -1,5 +1,5 @@
 -- Lists that a loop reads member by member, and what the whole is refused with.
-use Rattle.std.proofs.Common.{◌≡◌, inl, inr, ⊎_elim, suc, List, [], ◌∷◌, ◌++◌, append_assoc, sym, ◌∙◌, ap, refl, arith, Option, Some, None, option_map}
+use Rattle.std.proofs.Common.{◌≡◌, ◌<◌, inl, inr, ⊎_elim, suc, List, [], ◌∷◌, ◌++◌, length, append_assoc, sym, ◌∙◌, ap, refl, arith, Option, Some, None, option_map}
 use Rattle.std.proofs.lemmas.List.{append-nil}
 use Rattle.std.specs.List.{Any}
 use Rattle.redis_resp.specs.Reading.{traverse}
@@ -16,6 +16,11 @@ one_more done m (Some ms) = ap Some (append_assoc done (m ∷ []) ms)
 pub any_behind : {X : Type 0} (P : X → Type 0) (front : List X) (x : X) (rest : List X) → P x → Any P (front ++ x ∷ rest)
 any_behind P [] x rest p = (0, x, omega arith, refl, p)
 any_behind P (y ∷ front) x rest p = let a = any_behind P front x rest p in (suc a.0, a.1, omega (arith, a.2), a.3, a.4)
+
+-- these are not none
+some_behind : {X : Type 0} (front : List X) (x : X) (rest : List X) → 0 < length (front ++ x ∷ rest)
+some_behind [] x rest = omega arith
+some_behind (y ∷ front) x rest = omega arith
 
 -- what was read so far, before what the rest reads as, is what the whole reads as
 pub record ReadSoFar {A M : Type 0} (f : A → Option M) (all rest : List A) (done : List M) : Type 0 where
@@ -47,11 +52,12 @@ module _ {A M : Type 0} (f : A → Option M) (all : List A) where
     pub read_refused : (items rest : List A) (x : A) (done : List M) → items ≡ x ∷ rest → Refuses f (MemoryOr refuses) x error → ReadSoFar f all items done
         → Refuses (traverse f) (OneRefused refuses) all error
     read_refused items rest x done steps refused r =
-        (⊎_elim inl (λ p. inr (rw (r.splits, steps) (any_behind (λ y. refuses y error) r.front x rest p))) refused.0, λ h. sym (rw (steps, refused.1 h) at r.so_far))
+        (⊎_elim (λ e. inl (e, rw (r.splits, steps) (some_behind r.front x rest))) (λ p. inr (rw (r.splits, steps) (any_behind (λ y. refuses y error) r.front x rest p))) refused.0, λ h. sym (rw (steps, refused.1 h) at r.so_far))
 
-    -- memory ran out
-    pub no_memory : error ≡ Memory → Refuses (traverse f) (OneRefused refuses) all error
-    no_memory e = (inl e, λ h. absurd (h e))
+    -- memory ran out at a member
+    pub no_memory : (items rest : List A) (x : A) (done : List M) → items ≡ x ∷ rest → error ≡ Memory → ReadSoFar f all items done
+        → Refuses (traverse f) (OneRefused refuses) all error
+    no_memory items rest x done steps e r = read_refused items rest x done steps (inl e, λ h. absurd (h e)) r
 
 -- a refusal of a member says that the member has no record
 pub with_reading : {A M : Type 0} (f : A → Option M) (refuses : A → ParsingError → Type 0) (x : A) (error : ParsingError) → Refuses f (MemoryOr refuses) x error → Refuses f (MemoryOr (Refuses f refuses)) x error

@@ -1,10 +1,11 @@
 -- With which error a tree may be refused.
-use Rattle.std.specs.Prelude.{◌≡◌, ◌≢◌, ◌⊎◌, List, Option, None, MatchOption, IsFalse}
+use Rattle.std.specs.Prelude.{◌≡◌, ◌≢◌, ◌<◌, ◌⊎◌, List, length, Option, None, MatchOption, IsTrue, IsFalse}
 use Rattle.std.specs.List.{Any}
 use Rattle.redis_resp.specs.Tree.{Tree, plain, items, pairs_in}
 use Rattle.redis_resp.specs.Reading.{is_nil, two_in, three_in, four_in}
 use Rattle.redis_resp.specs.Bytes.{bytes_reading}
-use Rattle.redis_resp.specs.Text.{text_reading}
+use Rattle.redis_resp.specs.Leaf.{has_buffer}
+use Rattle.redis_resp.specs.Text.{text_reading, is_written_out}
 use Rattle.redis_resp.specs.declared.value.error.ParsingError.{ParsingError}
 use Rattle.redis_resp.specs.declared.value.error.ParsingError.TheVariants.{NotText, NotNumber, NotBytes, NotList, NotPairs, NotTuple, Memory}
 
@@ -20,25 +21,37 @@ OrMemory cause error = (error ≡ cause) ⊎ (error ≡ Memory)
 abbrev pub RefusesText : Tree → ParsingError → Type 0
 RefusesText t error = MatchOption (text_reading t) (error ≡ NotText) (λ _. error ≡ Memory)
 
+-- the text of a value that is consumed: out of memory only where the value holds no text
+abbrev pub RefusesOwnedText : Tree → ParsingError → Type 0
+RefusesOwnedText t error = MatchOption (text_reading t) (error ≡ NotText) (λ _. (error ≡ Memory) × IsTrue (is_written_out (plain t)))
+
 -- bytes: `NotBytes` where the tree has none, and out of memory alone where it has some
 abbrev pub RefusesBytes : Tree → ParsingError → Type 0
 RefusesBytes t error = MatchOption (bytes_reading t) (error ≡ NotBytes) (λ _. error ≡ Memory)
+
+-- the bytes of a value that is consumed: `NotBytes` alone, since they are moved
+abbrev pub RefusesOwnedBytes : Tree → ParsingError → Type 0
+RefusesOwnedBytes _ error = error ≡ NotBytes
 
 -- a number: `NotNumber` alone, since it takes no memory
 abbrev pub RefusesNumber : Tree → ParsingError → Type 0
 RefusesNumber _ error = error ≡ NotNumber
 
--- a value as it is: out of memory alone
+-- a value as it is: out of memory alone, and only where it has a buffer
 abbrev pub RefusesValue : Tree → ParsingError → Type 0
-RefusesValue _ error = error ≡ Memory
+RefusesValue t error = (error ≡ Memory) × IsTrue (has_buffer t)
+
+-- a value as it is that is consumed: nothing, since it is moved
+abbrev pub RefusesNothing : Tree → ParsingError → Type 0
+RefusesNothing _ _ = ⊥
 
 -- it is refused with it, or memory ran out
 abbrev pub MemoryOr : {A : Type 0} → (A → ParsingError → Type 0) → A → ParsingError → Type 0
 MemoryOr refuses t error = (error ≡ Memory) ⊎ refuses t error
 
--- one of them is refused with it, or memory ran out
+-- one of them is refused with it, or memory ran out; where there is none, nothing is
 abbrev pub OneRefused : {A : Type 0} → (A → ParsingError → Type 0) → List A → ParsingError → Type 0
-OneRefused refuses xs error = (error ≡ Memory) ⊎ Any (λ x. refuses x error) xs
+OneRefused refuses xs error = ((error ≡ Memory) × (0 < length xs)) ⊎ Any (λ x. refuses x error) xs
 
 -- a list: `NotList` where the tree has no items, and else what one of its items is refused with
 abbrev pub RefusesList : (Tree → ParsingError → Type 0) → Tree → ParsingError → Type 0

@@ -1,5 +1,5 @@
 //! Argument lists of commands, and the writers that they go into: what `redis_args` has.
 pub use redis_args::{
-    FixedArgs, RawBytes, RedisWrite, ToRedisArgs, ToSingleRedisArg, WriteError, equal_bytes,
-    equal_write_errors, unique_decimal,
+    FixedArgs, RawBytes, RedisWrite, ToRedisArgs, ToSingleRedisArg, WriteError, copied_write_error,
+    equal_bytes, equal_write_errors, unique_decimal, write_with_room,
 };

@@ -15,8 +15,8 @@ pub mod args;
 pub mod value;
 
 pub use args::{
-    FixedArgs, RawBytes, RedisWrite, ToRedisArgs, ToSingleRedisArg, WriteError, equal_bytes,
-    equal_write_errors, unique_decimal,
+    FixedArgs, RawBytes, RedisWrite, ToRedisArgs, ToSingleRedisArg, WriteError, copied_write_error,
+    equal_bytes, equal_write_errors, unique_decimal, write_with_room,
 };
 pub use value::{
     Contents, FromRedisValue, PairList, PairsLeft, ParsingError, Source, Value, count_left,

@@ -1,13 +1,18 @@
 -- Fields by name, and what is left of them after one is taken out.
-use Rattle.std.proofs.Common.{◌≡◌, ℕ, Bool, true, false, cond, List, [], Option, Some, None, option_map, option_and_then, String, string_bytes, Global, refl, ap, sym, subst, ◌∙◌, Result, Ok, Err, IfErr, IsErrAnd}
+use Rattle.std.proofs.Common.{◌≡◌, ◌<◌, ℕ, Bool, true, false, cond, List, [], ◌∷◌, length, arith, inl, Option, Some, None, option_map, option_and_then, String, string_bytes, Global, refl, ap, sym, subst, ◌∙◌, Result, Ok, Err, IfErr, IsErrAnd}
 use Rattle.std.specs.Map.{update}
 use Rattle.std.specs.HashMap.{HashMap, UpdatesBy, get_by_text}
 use Rattle.std.specs.Str.{bytes_eq}
 use Rattle.std.specs.String.{string_eq}
 use Rattle.std.proofs.lemmas.Map.Text.{hash_map_updates_text}
-use Rattle.redis_resp.specs.Tree.{Tree}
+use Rattle.std.specs.Prelude.{MatchOption}
+use Rattle.redis_resp.specs.Tree.{Tree, items, pairs_in}
+use Rattle.redis_resp.specs.Reading.{list_reading, traverse}
+use Rattle.redis_resp.specs.Refusal.{OneRefused, RefusesList}
+use Rattle.redis_resp.specs.declared.value.error.ParsingError.{ParsingError}
+use Rattle.redis_resp.specs.declared.value.error.ParsingError.TheVariants.{Memory, NotList}
 use Rattle.std.proofs.lemmas.Option.{none-some, same_Some}
-use Rattle.redis_resp.specs.Table.{pairs_reading, entries_meaning, last_with}
+use Rattle.redis_resp.specs.Table.{pairs_reading, entries_meaning, entry_reading, last_with}
 use Rattle.redis_resp.proofs.TableLemmas.{fields_last}
 use Rattle.redis_streams.specs.Info.{NamedFields, fields_in, stream_of, tracked_of}
 use Rattle.redis_streams.specs.InfoMeaning.{fields_by_name}
@@ -41,7 +46,7 @@ pub fields_of_pairs : {V S : Type 0} (seen : V → Tree) (t : Tree) (pairs : Lis
 unfolding fields_by_name
 fields_of_pairs seen t pairs m read last = fields_found t (fields_by_name seen m) (fields_last (λ u. Some u) seen t pairs read m last)
 
-never : {A B : Type 0} (o : Option A) → option_and_then (λ _. let none : Option B = None in none) o ≡ None
+pub never : {A B : Type 0} (o : Option A) → option_and_then (λ _. let none : Option B = None in none) o ≡ None
 never None = refl
 never (Some a) = refl
 
@@ -49,7 +54,26 @@ never (Some a) = refl
 pub no_base : (f : NamedFields) → stream_of f ≡ None → tracked_of f ≡ None
 no_base f h = simp (h, never)
 
+-- a list of no length
+pub none_of : {A : Type 0} (xs : List A) → length xs ≡ 0 → xs ≡ []
+none_of [] e = refl
+none_of (x ∷ xs) e = absurd (omega (arith, e))
+
+-- no pairs are no fields
+pub no_fields : {V S : Type 0} (seen : V → Tree) (t : Tree) (ps : List (Tree × Tree)) (m : HashMap (String Global) V S) → pairs_in t ≡ Some ps → length ps ≡ 0 → m.entries ≡ [] → fields_in t ≡ Some (fields_by_name seen m)
+no_fields seen t ps m is zero empty =
+    fields_of_pairs seen t [] m (ap (option_and_then (traverse (entry_reading (λ u. Some u)))) (is ∙ ap Some (none_of ps zero))) (λ name. rw empty refl)
+
 -- what holds of an error holds of a result that passes it on
 pub passed_on : {T E : Type 0} (P : E → Type 0) (error : E) (r : Result T E) → IsErrAnd r (λ e. e ≡ error) → P error → IfErr r P
 passed_on P error (Ok x) is holds = tt
 passed_on P error (Err e) is holds = subst P (sym is) holds
+
+-- a list that was read and holds something may want memory
+pub list_wants_memory : {M : Type 0} (reading : Tree → Option M) (refuses : Tree → ParsingError → Type 0) (t : Tree) (ms : List M) → list_reading reading t ≡ Some ms → 0 < length ms → RefusesList refuses t Memory
+list_wants_memory reading refuses t ms is some = by (items t) is
+  where
+    by : (o : Option (List Tree)) → option_and_then (traverse reading) o ≡ Some ms → MatchOption o (Memory ≡ NotList) (λ ts. OneRefused refuses ts Memory)
+    by None h = absurd (none-some ms h)
+    by (Some []) h = absurd (omega (arith, some, ap length (same_Some [] ms h)))
+    by (Some (x ∷ ts)) h = inl (refl, omega arith)

@@ -1,5 +1,5 @@
 -- A pair with a key that is not named changes no named field.
-use Rattle.std.proofs.Common.{◌≡◌, ℕ, Bool, true, false, cond, List, [], ◌∷◌, ◌++◌, Option, Some, None, option_map, option_and_then, refl, sym, ◌∙◌, ap, codes}
+use Rattle.std.proofs.Common.{◌≡◌, ℕ, false, cond, List, [], ◌∷◌, ◌++◌, Option, Some, None, option_map, option_and_then, refl, ap, codes}
 use Rattle.std.specs.Bool.{⊤}
 use Rattle.std.specs.Option.{option_or}
 use Rattle.std.specs.Str.{bytes_eq}
@@ -8,12 +8,13 @@ use Rattle.redis_resp.specs.Text.{text_reading}
 use Rattle.redis_resp.specs.Reading.{traverse}
 use Rattle.redis_resp.specs.Table.{entry_reading, last_with}
 use Rattle.redis_streams.specs.Info.{NamedFields, stream_of, stream_reading, tracked_of, tracked_reading, consumer_of_fields, consumer_reading, group_of, group_reading}
-use Rattle.redis_streams.specs.OtherKeys.{stream_names, tracked_names, consumer_names, group_names, IsOther, HasOtherKey, OtherKeysChangeNothing}
+use Rattle.redis_streams.specs.InfoFull.{full_consumer_of, full_consumer_reading, full_group_of, full_group_reading, full_reading, full_stream_of}
+use Rattle.redis_streams.specs.OtherKeys.{stream_names, tracked_names, consumer_names, group_names, full_consumer_names, full_group_names, full_names, IsOther, HasOtherKey, OtherKeysChangeNothing}
 
-abbrev ReadPairs : Type 0
+abbrev pub ReadPairs : Type 0
 ReadPairs = Option (List (List ℕ × Tree))
 
-abbrev pairs_read : List (Tree × Tree) → ReadPairs
+abbrev pub pairs_read : List (Tree × Tree) → ReadPairs
 pairs_read ps = traverse (entry_reading (λ u. Some u)) ps
 
 -- both are refused, or have the same last value of each key but this
@@ -84,3 +85,21 @@ consumer_law = change_nothing consumer_names consumer_of_fields consumer_looks
 
 pub group_law : OtherKeysChangeNothing group_names group_reading
 group_law = change_nothing group_names group_of group_looks
+
+full_consumer_looks : LooksAt full_consumer_names full_consumer_of
+full_consumer_looks f g key o e = rw (e (codes "name") o.0, e (codes "seen-time") o.1.0, e (codes "active-time") o.1.1.0, e (codes "pel-count") o.1.1.1.0, e (codes "pending") o.1.1.1.1.0) refl
+
+full_group_looks : LooksAt full_group_names full_group_of
+full_group_looks f g key o e = rw (e (codes "name") o.0, e (codes "last-delivered-id") o.1.0, e (codes "entries-read") o.1.1.0, e (codes "lag") o.1.1.1.0, e (codes "pel-count") o.1.1.1.1.0, e (codes "pending") o.1.1.1.1.1.0, e (codes "consumers") o.1.1.1.1.1.1.0) refl
+
+full_looks : LooksAt full_names full_stream_of
+full_looks f g key o e = rw (e (codes "length") o.0, e (codes "radix-tree-keys") o.1.0, e (codes "radix-tree-nodes") o.1.1.0, e (codes "last-generated-id") o.1.1.1.0, e (codes "max-deleted-entry-id") o.1.1.1.1.0, e (codes "entries-added") o.1.1.1.1.1.0, e (codes "recorded-first-entry-id") o.1.1.1.1.1.1.0, e (codes "entries") o.1.1.1.1.1.1.1.0, e (codes "groups") o.1.1.1.1.1.1.1.1.0) refl
+
+pub full_consumer_law : OtherKeysChangeNothing full_consumer_names full_consumer_reading
+full_consumer_law = change_nothing full_consumer_names full_consumer_of full_consumer_looks
+
+pub full_group_law : OtherKeysChangeNothing full_group_names full_group_reading
+full_group_law = change_nothing full_group_names full_group_of full_group_looks
+
+pub full_law : OtherKeysChangeNothing full_names full_reading
+full_law = change_nothing full_names full_stream_of full_looks

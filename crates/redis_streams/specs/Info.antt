@@ -1,5 +1,5 @@
 -- What the replies of XINFO mean: named fields, each of which is read by its own reading or, where there is none, has an empty value.
-use Rattle.std.specs.Prelude.{ℕ, List, [], ◌∷◌, Option, Some, None, option_map, option_and_then, unwrap_or, codes, if◌then◌else◌}
+use Rattle.std.specs.Prelude.{ℕ, List, [], ◌∷◌, Option, Some, None, option_map, unwrap_or, codes, if◌then◌else◌}
 use Rattle.std.specs.FinMap.{empty}
 use Rattle.redis_resp.specs.Then.{◌>>=◌}
 use Rattle.redis_resp.specs.Tree.{Tree, array_of_plain}

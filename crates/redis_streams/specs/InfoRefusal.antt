@@ -1,5 +1,5 @@
 -- With which error a value may be refused as a reply of XINFO.
-use Rattle.std.specs.Prelude.{◌≡◌, ◌⊎◌, List, [], ◌∷◌, Option, Some, MatchOption, unwrap_or, codes}
+use Rattle.std.specs.Prelude.{◌⊎◌, List, [], ◌∷◌, Some, MatchOption, unwrap_or, codes}
 use Rattle.redis_resp.specs.Tree.{Tree, array_of_plain}
 use Rattle.redis_resp.specs.Refusal.{Refuses, RefusesText, RefusesNumber, RefusesValue, RefusesList, RefusesPairs, RefusesField}
 use Rattle.redis_resp.specs.declared.value.error.ParsingError.{ParsingError}

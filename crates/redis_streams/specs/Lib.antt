@@ -1,5 +1,8 @@
 pub mod AutoClaimLaws
 pub mod Info
+pub mod InfoFull
+pub mod InfoFullMeaning
+pub mod InfoFullRefusal
 pub mod InfoMeaning
 pub mod InfoRefusal
 pub mod OtherKeys

@@ -2,6 +2,7 @@
 mod consumer;
 mod consumers;
 mod entry;
+mod full;
 mod groups;
 mod idempotency;
 mod named_fields;
@@ -11,6 +12,10 @@ mod stream;
 pub use consumer::StreamInfoConsumer;
 pub(crate) use consumer::copy_consumers;
 pub use consumers::StreamInfoConsumersReply;
+pub use full::{
+    StreamInfoConsumerPending, StreamInfoFullConsumer, StreamInfoFullEntry, StreamInfoFullGroup,
+    StreamInfoFullPending, StreamInfoFullReply,
+};
 pub use groups::{StreamInfoGroup, StreamInfoGroupsReply};
 pub use idempotency::StreamInfoStreamReplyWithIdempotency;
 pub use stream::StreamInfoStreamReply;

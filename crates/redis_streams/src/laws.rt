@@ -11,9 +11,19 @@ ghost use Rattle.redis_streams.specs.Info.{
   stream_reading,
   tracked_reading,
 };
+ghost use Rattle.redis_streams.specs.InfoFull.{
+  full_consumer_reading,
+  full_group_reading,
+  full_reading,
+};
 ghost use Rattle.redis_streams.specs.OtherKeys.{
+  HasMoreInStream,
+  MoreChangesNothing,
   OtherKeysChangeNothing,
   consumer_names,
+  full_consumer_names,
+  full_group_names,
+  full_names,
   group_names,
   stream_names,
   tracked_names,
@@ -37,6 +47,7 @@ ghost use Rattle.stream_entries.specs.RespellingLaws.{
 ghost use Rattle.stream_entries.specs.Rows.{rows_reading};
 
 use crate::status::{XAckDelStatusCode, XDelExStatusCode};
+pub use stream_entries::{copied_forms, equal_read_forms};
 
 /// What `invalid_entries` of an automatic claim tells: where each item of the claimed list is nil,
 /// one id or a row of one pair, it is true exactly where a nil stands there. It takes no memory.
@@ -53,6 +64,15 @@ pub fn other_keys_change_nothing()
     ensures tracked { OtherKeysChangeNothing tracked_names tracked_reading }
     ensures consumer { OtherKeysChangeNothing consumer_names consumer_reading }
     ensures group { OtherKeysChangeNothing group_names group_reading }
+{}
+
+/// The same of XINFO STREAM FULL: of the stream, of a group and of a consumer that it tells of. And
+/// what a newer server adds to any of the three changes nothing of the whole reply.
+pub fn other_keys_change_nothing_in_full()
+    ensures whole { MoreChangesNothing HasMoreInStream full_reading }
+    ensures stream { OtherKeysChangeNothing full_names full_reading }
+    ensures group { OtherKeysChangeNothing full_group_names full_group_reading }
+    ensures consumer { OtherKeysChangeNothing full_consumer_names full_consumer_reading }
 {}
 
 /// What XRANGE or XREVRANGE answers and a respelling of it, at the list of rows, the rows and the

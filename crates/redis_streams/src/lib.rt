@@ -21,8 +21,10 @@ pub mod rows;
 pub mod status;
 
 pub use info::{
-    StreamInfoConsumer, StreamInfoConsumersReply, StreamInfoGroup, StreamInfoGroupsReply,
-    StreamInfoStreamReply, StreamInfoStreamReplyWithIdempotency,
+    StreamInfoConsumer, StreamInfoConsumerPending, StreamInfoConsumersReply,
+    StreamInfoFullConsumer, StreamInfoFullEntry, StreamInfoFullGroup, StreamInfoFullPending,
+    StreamInfoFullReply, StreamInfoGroup, StreamInfoGroupsReply, StreamInfoStreamReply,
+    StreamInfoStreamReplyWithIdempotency,
 };
 pub use pending::{
     StreamPendingCountReply, StreamPendingData, StreamPendingId, StreamPendingReply,

@@ -105,3 +105,24 @@ length_is limits bytes behind rest n h is some within le small =
     let line : line_at limits.line ((h.digits ++ crlf) ++ rest) ≡ Ok (h.digits, rest) = (line_fits limits.line).again (h.digits ++ crlf) rest h.digits
     (record { is = refl; inner = inner_digits h.digits h.are.each; within = omega (arith, within, long) }) in
     rw (text, line, length_of_digits limits.length h.digits n more h.are le small) refl
+
+-- ---- one digit or two
+
+module _ (limits : Limits) (bytes rest : List ℕ) (length_fits : 99 ≤ limits.length) (line_fits : 2 ≤ limits.line) where
+  pub one_digit_is : (a : ℕ) → bytes ≡ a ∷ 13 ∷ 10 ∷ rest → IsInRange 48 57 a → length_at limits bytes ≡ Ok (Some (a - 48), rest)
+  one_digit_is a is r =
+      let h = one_digit_more bytes bytes (13 ∷ 10 ∷ rest) 0 a (no_digits bytes) is r in
+      let n : 10 * 0 + (a - 48) ≡ a - 48 = omega arith in
+      let le : 10 * 0 + (a - 48) ≤ 9 = omega (arith, r) in
+      length_is limits bytes (13 ∷ 10 ∷ rest) rest (10 * 0 + (a - 48)) h refl (omega (arith, ap length is)) (omega (arith, ap length is)) (omega (arith, le)) (omega (arith, le))
+      ∙ ap (λ (m : ℕ). Ok (Some m, rest)) n
+
+  pub two_digits_are : (a b : ℕ) → bytes ≡ a ∷ b ∷ 13 ∷ 10 ∷ rest → IsInRange 48 57 a → IsInRange 48 57 b → length_at limits bytes ≡ Ok (Some (10 * (a - 48) + (b - 48)), rest)
+  two_digits_are a b is r q =
+      let g = one_digit_more bytes bytes (b ∷ 13 ∷ 10 ∷ rest) 0 a (no_digits bytes) is r in
+      let h = one_digit_more bytes (b ∷ 13 ∷ 10 ∷ rest) (13 ∷ 10 ∷ rest) (10 * 0 + (a - 48)) b g refl q in
+      let m : ℕ = 10 * (10 * 0 + (a - 48)) + (b - 48) in
+      let n : m ≡ 10 * (a - 48) + (b - 48) = omega arith in
+      let le : m ≤ 99 = omega (arith, r, q) in
+      length_is limits bytes (13 ∷ 10 ∷ rest) rest m h refl (omega (arith, ap length is)) (omega (arith, ap length is)) (omega (arith, le)) (omega (arith, le))
+      ∙ ap (λ (k : ℕ). Ok (Some k, rest)) n

@@ -20,9 +20,10 @@ mod plain_line;
 
 use redis_resp::Value;
 use redis_streams::{
-    StreamAutoClaimReply, StreamClaimReply, StreamInfoConsumersReply, StreamInfoGroupsReply,
-    StreamInfoStreamReply, StreamInfoStreamReplyWithIdempotency, StreamPendingCountReply,
-    StreamPendingReply, StreamRangeReply, StreamReadReply, XAckDelStatusCode, XDelExStatusCode,
+    StreamAutoClaimReply, StreamClaimReply, StreamInfoConsumersReply, StreamInfoFullReply,
+    StreamInfoGroupsReply, StreamInfoStreamReply, StreamInfoStreamReplyWithIdempotency,
+    StreamPendingCountReply, StreamPendingReply, StreamRangeReply, StreamReadReply,
+    XAckDelStatusCode, XDelExStatusCode,
 };
 use std::alloc::{AllocError, Global};
 use std::io;
@@ -91,6 +92,7 @@ fn answer_of(alloc: Global, kind: &str, value: Value) -> Result<String, AllocErr
         "streamidmp" => both_answers::<StreamInfoStreamReplyWithIdempotency>(alloc, value),
         "consumers" => both_answers::<StreamInfoConsumersReply>(alloc, value),
         "groups" => both_answers::<StreamInfoGroupsReply>(alloc, value),
+        "full" => both_answers::<StreamInfoFullReply>(alloc, value),
         "xdelex" => both_answers::<XDelExStatusCode>(alloc, value),
         "xackdel" => both_answers::<XAckDelStatusCode>(alloc, value),
         _ => String::from_str(alloc, "no such kind"),

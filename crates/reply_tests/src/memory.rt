@@ -6,7 +6,9 @@
 use indexmap::IndexMap;
 use redis_resp::{FromRedisValue, ParsingError, RawBytes, Value};
 use redis_streams::{
-    StreamAutoClaimReply, StreamClaimReply, StreamId, StreamInfoConsumer, StreamInfoConsumersReply,
+    StreamAutoClaimReply, StreamClaimReply, StreamId, StreamInfoConsumer,
+    StreamInfoConsumerPending, StreamInfoConsumersReply, StreamInfoFullConsumer,
+    StreamInfoFullEntry, StreamInfoFullGroup, StreamInfoFullPending, StreamInfoFullReply,
     StreamInfoGroup, StreamInfoGroupsReply, StreamInfoStreamReply,
     StreamInfoStreamReplyWithIdempotency, StreamKey, StreamPendingCountReply, StreamPendingData,
     StreamPendingId, StreamPendingReply, StreamRangeReply, StreamReadReply, XAckDelStatusCode,
@@ -239,6 +241,59 @@ fn check_copied_parts(rt: &(impl AllocGlobal + Abort)) -> Result<(), ParsingErro
     Ok(())
 }
 
+// A stream with one entry, and one group with one consumer.
+const FULL: &str = "Map[length: 1, entries: Array[Array[1-0, Array[f, v, f, Int 2]]], \
+                    groups: Array[Map[name: g, pending: Array[Array[1-0, c, 5, 2]], \
+                    consumers: Array[Map[name: c, pending: Array[Array[1-0, 5, 2]]]]]]]";
+
+fn check_full_information(rt: &(impl AllocGlobal + Abort)) -> Result<(), ParsingError> {
+    check_read::<StreamInfoFullReply>(rt, FULL)?;
+    let record = record_of::<StreamInfoFullReply>(rt, FULL)?;
+    let copy = record.try_clone(rt.alloc());
+    drop(record);
+    check_printed(
+        rt,
+        copy,
+        "length=1 keys=0 nodes=0 last= deleted= added=none recorded= entries=[1-0(f=v,f=2)] \
+         groups=[g last= read=none lag=none count=0 pending=[1-0 c 5 2] \
+         consumers=[c seen=0 active=none count=0 pending=[1-0 5 2]]]",
+    )?;
+    check_printed(
+        rt,
+        StreamInfoFullReply::empty(rt.alloc()),
+        "length=0 keys=0 nodes=0 last= deleted= added=none recorded= entries=[] groups=[]",
+    )
+}
+
+fn check_full_parts(rt: &(impl AllocGlobal + Abort)) -> Result<(), ParsingError> {
+    let alloc = rt.alloc();
+    check_printed(
+        rt,
+        StreamInfoFullEntry::empty(alloc)?.try_clone(alloc),
+        "()",
+    )?;
+    check_printed(
+        rt,
+        StreamInfoFullPending::empty(alloc)?.try_clone(alloc),
+        "  0 0",
+    )?;
+    check_printed(
+        rt,
+        StreamInfoConsumerPending::empty(alloc)?.try_clone(alloc),
+        " 0 0",
+    )?;
+    check_printed(
+        rt,
+        StreamInfoFullConsumer::empty(alloc)?.try_clone(alloc),
+        " seen=0 active=none count=0 pending=[]",
+    )?;
+    check_printed(
+        rt,
+        StreamInfoFullGroup::empty(alloc)?.try_clone(alloc),
+        " last= read=none lag=none count=0 pending=[] consumers=[]",
+    )
+}
+
 fn check_all(rt: &(impl AllocGlobal + Abort)) -> Result<(), ParsingError> {
     check_plain_values(rt)?;
     check_replies(rt)?;
@@ -246,7 +301,9 @@ fn check_all(rt: &(impl AllocGlobal + Abort)) -> Result<(), ParsingError> {
     check_copied_entries(rt)?;
     check_copied_pending(rt)?;
     check_copied_information(rt)?;
-    check_copied_parts(rt)
+    check_copied_parts(rt)?;
+    check_full_information(rt)?;
+    check_full_parts(rt)
 }
 
 #[test]

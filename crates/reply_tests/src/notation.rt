@@ -93,7 +93,7 @@ fn bulk_strings_are_read(rt: HostRuntime) -> Result<(), Fail> {
 }
 
 /// Texts that are no value, beside why, as it is printed.
-const REFUSED: [(&str, &str); 24] = [
+const REFUSED: [(&str, &str); 25] = [
     ("", "no word where one has to stand"),
     ("\x7f", "no word where one has to stand"),
     ("\n", "no word where one has to stand"),
@@ -118,6 +118,7 @@ const REFUSED: [(&str, &str); 24] = [
     ("\"\\x1\"", "an unknown escape"),
     ("\"\\r\"", "an unknown escape"),
     ("Nil Nil", "text behind the value"),
+    ("Nil)", "text behind the value"),
 ];
 
 /// The text is no value, and the cause is printed so.

@@ -1,5 +1,5 @@
 //! Idle entries that pass to another consumer, whichever they are: XAUTOCLAIM.
-ghost use Rattle.std.specs.Prelude.{◌≡◌, ◌↔◌, ◌∷◌, ◌++◌, true, codes, decimal, IfOk, IsErr, IsTrue};
+ghost use Rattle.std.specs.Prelude.{◌≡◌, ◌↔◌, [], ◌∷◌, ◌++◌, true, codes, decimal, IfOk, IsErr, IsTrue};
 ghost use Rattle.stream_options.specs.AutoClaim.{autoclaim_sentence};
 
 use crate::command::{Command, Word};
@@ -89,5 +89,64 @@ pub fn xautoclaim_justid<
         consumer,
         min_idle,
         (start, options.with_justid()),
+    ))
+}
+
+/// `XAUTOCLAIM key group consumer min-idle start`: entries from `start` on that are pending for
+/// `min_idle` milliseconds pass to the consumer, a hundred at most. The answer has them with their
+/// fields, and the id from which the next call goes on.
+///
+/// ```text
+/// xautoclaim("orders", "g", "c", 60000, "0-0")    // XAUTOCLAIM orders g c 60000 0-0
+/// ```
+pub fn xautoclaim<
+    'w,
+    K: ToSingleRedisArg,
+    G: ToSingleRedisArg,
+    C: ToSingleRedisArg,
+    S: ToSingleRedisArg,
+>(
+    key: K,
+    group: G,
+    consumer: C,
+    min_idle: usize,
+    start: S,
+) -> Command<(Word<'w>, K, G, C, usize, S), StreamAutoClaimReply>
+    ensures { result ≡ codes "XAUTOCLAIM" ∷ K.args key ++ (G.args group ++ (C.args consumer
+        ++ decimal min_idle ∷ S.args start)) }
+{
+    Command::new((Word("XAUTOCLAIM"), key, group, consumer, min_idle, start))
+}
+
+/// `XAUTOCLAIM key group consumer min-idle start COUNT count`: the same, `count` at most.
+///
+/// ```text
+/// xautoclaim_count("orders", "g", "c", 60000, "0-0", 10)
+///                                                 // XAUTOCLAIM orders g c 60000 0-0 COUNT 10
+/// ```
+pub fn xautoclaim_count<
+    'w,
+    K: ToSingleRedisArg,
+    G: ToSingleRedisArg,
+    C: ToSingleRedisArg,
+    S: ToSingleRedisArg,
+>(
+    key: K,
+    group: G,
+    consumer: C,
+    min_idle: usize,
+    start: S,
+    count: usize,
+) -> Command<(Word<'w>, K, G, C, usize, (S, Word<'w>, usize)), StreamAutoClaimReply>
+    ensures { result ≡ codes "XAUTOCLAIM" ∷ K.args key ++ (G.args group ++ (C.args consumer
+        ++ decimal min_idle ∷ S.args start ++ codes "COUNT" ∷ decimal count ∷ [])) }
+{
+    Command::new((
+        Word("XAUTOCLAIM"),
+        key,
+        group,
+        consumer,
+        min_idle,
+        (start, Word("COUNT"), count),
     ))
 }

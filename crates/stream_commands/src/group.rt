@@ -1,5 +1,5 @@
 //! Groups of consumers: XGROUP.
-ghost use Rattle.std.specs.Prelude.{◌≡◌, [], ◌∷◌, ◌++◌, codes};
+ghost use Rattle.std.specs.Prelude.{◌≡◌, [], ◌∷◌, ◌++◌, codes, decimal};
 
 use crate::command::{Command, Word};
 use redis_resp::ToSingleRedisArg;
@@ -112,4 +112,62 @@ pub fn xgroup_delconsumer<'w, K: ToSingleRedisArg, G: ToSingleRedisArg, C: ToSin
         ∷ K.args key ++ (G.args group ++ C.args consumer) }
 {
     Command::new((Word("XGROUP"), Word("DELCONSUMER"), key, (group, consumer)))
+}
+
+/// `XGROUP CREATE key group id ENTRIESREAD entries-read`: makes a group that is given the entries
+/// behind `id`, and tells the server how many entries stand up to there, so that it can tell the
+/// group's lag. The answer is `OK`; the server refuses where there is no stream.
+///
+/// ```text
+/// xgroup_create_entries_read("orders", "g", "3-0", 3)
+///                                                 // XGROUP CREATE orders g 3-0 ENTRIESREAD 3
+/// ```
+pub fn xgroup_create_entries_read<
+    'w,
+    K: ToSingleRedisArg,
+    G: ToSingleRedisArg,
+    I: ToSingleRedisArg,
+>(
+    key: K,
+    group: G,
+    id: I,
+    entries_read: usize,
+) -> Command<(Word<'w>, Word<'w>, K, G, I, (Word<'w>, usize)), String>
+    ensures { result ≡ codes "XGROUP" ∷ codes "CREATE" ∷ K.args key ++ (G.args group
+        ++ (I.args id ++ codes "ENTRIESREAD" ∷ decimal entries_read ∷ [])) }
+{
+    Command::new((
+        Word("XGROUP"),
+        Word("CREATE"),
+        key,
+        group,
+        id,
+        (Word("ENTRIESREAD"), entries_read),
+    ))
+}
+
+/// `XGROUP SETID key group id ENTRIESREAD entries-read`: the group is given the entries behind `id`
+/// from now on, and so many entries stand up to there. The answer is `OK`.
+///
+/// ```text
+/// xgroup_setid_entries_read("orders", "g", "0-0", 0)
+///                                                 // XGROUP SETID orders g 0-0 ENTRIESREAD 0
+/// ```
+pub fn xgroup_setid_entries_read<'w, K: ToSingleRedisArg, G: ToSingleRedisArg, I: ToSingleRedisArg>(
+    key: K,
+    group: G,
+    id: I,
+    entries_read: usize,
+) -> Command<(Word<'w>, Word<'w>, K, G, I, (Word<'w>, usize)), String>
+    ensures { result ≡ codes "XGROUP" ∷ codes "SETID" ∷ K.args key ++ (G.args group
+        ++ (I.args id ++ codes "ENTRIESREAD" ∷ decimal entries_read ∷ [])) }
+{
+    Command::new((
+        Word("XGROUP"),
+        Word("SETID"),
+        key,
+        group,
+        id,
+        (Word("ENTRIESREAD"), entries_read),
+    ))
 }

@@ -1,10 +1,10 @@
 //! What is told of a stream: XINFO.
-ghost use Rattle.std.specs.Prelude.{◌≡◌, ◌∷◌, ◌++◌, codes};
+ghost use Rattle.std.specs.Prelude.{◌≡◌, [], ◌∷◌, ◌++◌, codes, decimal};
 
 use crate::command::{Command, Word};
 use redis_resp::ToSingleRedisArg;
 use redis_streams::{
-    StreamInfoConsumersReply, StreamInfoGroupsReply, StreamInfoStreamReply,
+    StreamInfoConsumersReply, StreamInfoFullReply, StreamInfoGroupsReply, StreamInfoStreamReply,
     StreamInfoStreamReplyWithIdempotency,
 };
 
@@ -59,4 +59,41 @@ pub fn xinfo_consumers<'w, K: ToSingleRedisArg, G: ToSingleRedisArg>(
     ensures { result ≡ codes "XINFO" ∷ codes "CONSUMERS" ∷ K.args key ++ G.args group }
 {
     Command::new((Word("XINFO"), Word("CONSUMERS"), key, group))
+}
+
+/// `XINFO STREAM key FULL`: the stream with its first entries, its groups and their consumers, and
+/// with what is pending for each; of each list the first ten at most.
+///
+/// ```text
+/// xinfo_stream_full("orders")                     // XINFO STREAM orders FULL
+/// ```
+pub fn xinfo_stream_full<'w, K: ToSingleRedisArg>(
+    key: K,
+) -> Command<(Word<'w>, Word<'w>, K, Word<'w>), StreamInfoFullReply>
+    ensures { result ≡ codes "XINFO" ∷ codes "STREAM" ∷ K.args key ++ codes "FULL" ∷ [] }
+{
+    Command::new((Word("XINFO"), Word("STREAM"), key, Word("FULL")))
+}
+
+/// `XINFO STREAM key FULL COUNT count`: the same, of each list the first `count` at most; all of
+/// them where it is 0.
+///
+/// ```text
+/// xinfo_stream_full_count("orders", 100)          // XINFO STREAM orders FULL COUNT 100
+/// ```
+pub fn xinfo_stream_full_count<'w, K: ToSingleRedisArg>(
+    key: K,
+    count: usize,
+) -> Command<(Word<'w>, Word<'w>, K, Word<'w>, Word<'w>, usize), StreamInfoFullReply>
+    ensures { result ≡ codes "XINFO" ∷ codes "STREAM" ∷ K.args key ++ codes "FULL"
+        ∷ codes "COUNT" ∷ decimal count ∷ [] }
+{
+    Command::new((
+        Word("XINFO"),
+        Word("STREAM"),
+        key,
+        Word("FULL"),
+        Word("COUNT"),
+        count,
+    ))
 }

@@ -1,11 +1,11 @@
 //! The reply of XAUTOCLAIM where it is asked for ids alone.
-ghost use Rattle.std.specs.Prelude.{◌≡◌, Some, None, IsOk, IfOk, IfErr, length};
+ghost use Rattle.std.specs.Prelude.{◌≡◌, Some, None, IsOk, IfOk, IfErr, length, option_map};
 ghost use Rattle.redis_resp.specs.Refusal.{Refuses};
 ghost use Rattle.stream_commands.specs.JustId.{JustId, RefusesJustId, empty_justid, justid_reading};
 ghost use Rattle.stream_commands.specs.JustIdMeaning.{justid_meaning};
-ghost use Rattle.stream_entries.specs.AutoClaim.{parts_in, two_or_three};
-ghost use Rattle.stream_entries.specs.AutoClaimMeaning.{trees_of_parts};
-ghost use Rattle.stream_entries.specs.Refusal.{RefusesParts};
+ghost use Rattle.stream_entries.specs.AutoClaim.{deleted_reading, parts_in, two_or_three};
+ghost use Rattle.stream_entries.specs.AutoClaimMeaning.{text_bytes_of, trees_of_parts};
+ghost use Rattle.stream_entries.specs.Refusal.{RefusesDeleted, RefusesParts};
 
 use redis_resp::{FromRedisValue, ParsingError, Source, Value};
 use std::alloc::{AllocError, Global};
@@ -83,16 +83,26 @@ fn read_justid<S: Source>(alloc: Global, v: S) -> Result<StreamAutoClaimJustIdRe
 {
     let (next, claimed, deleted) = into_parts(v)?;
     let claimed: Vec<String> = claimed.read(alloc)?;
-    let deleted_ids: Vec<String> = match deleted {
-        Some(ids) => ids.read(alloc)?,
-        None => Vec::new(alloc),
-    };
+    let deleted_ids = read_deleted(alloc, deleted)?;
     let next_stream_id: String = next.read(alloc)?;
     Ok(StreamAutoClaimJustIdReply {
         next_stream_id,
         claimed,
         deleted_ids,
     })
+}
+
+/// The deleted ids, where there is a third item; memory is asked for only where it is a list.
+fn read_deleted<S: Source>(alloc: Global, deleted: Option<S>) -> Result<Vec<String>, ParsingError>
+    ensures ok { IfOk result (λ ids. deleted_reading (option_map S.seen deleted)
+        ≡ Some (text_bytes_of ids)) }
+    ensures err { IfErr result
+        (Refuses deleted_reading RefusesDeleted (option_map S.seen deleted)) }
+{
+    match deleted {
+        Some(ids) => ids.read(alloc),
+        None => Ok(Vec::new(alloc)),
+    }
 }
 
 /// The next id, the claimed ids and, where there is a third item, the deleted ids. It takes no

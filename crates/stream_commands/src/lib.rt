@@ -28,13 +28,14 @@ pub mod laws;
 pub mod pending;
 pub mod range;
 pub mod read;
+pub mod setid;
 pub mod streams;
 pub mod trim;
 
 pub use ack::{xack, xack_del};
 pub use add::{xadd, xadd_maxlen, xadd_options};
 pub use at_least_one::AtLeastOne;
-pub use autoclaim::{xautoclaim_justid, xautoclaim_options};
+pub use autoclaim::{xautoclaim, xautoclaim_count, xautoclaim_justid, xautoclaim_options};
 pub use claim::{xclaim, xclaim_justid, xclaim_options};
 pub use command::{Command, Word};
 pub use config::xcfgset;
@@ -43,15 +44,22 @@ pub use delete::{xdel, xdel_ex};
 pub use error::JustIdIsSet;
 pub use fields::ToFieldArgs;
 pub use group::{
-    xgroup_create, xgroup_create_mkstream, xgroup_createconsumer, xgroup_delconsumer,
-    xgroup_destroy, xgroup_setid,
+    xgroup_create, xgroup_create_entries_read, xgroup_create_mkstream, xgroup_createconsumer,
+    xgroup_delconsumer, xgroup_destroy, xgroup_setid, xgroup_setid_entries_read,
 };
-pub use info::{xinfo_consumers, xinfo_groups, xinfo_stream, xinfo_stream_with_idempotency};
+pub use info::{
+    xinfo_consumers, xinfo_groups, xinfo_stream, xinfo_stream_full, xinfo_stream_full_count,
+    xinfo_stream_with_idempotency,
+};
 pub use justid::StreamAutoClaimJustIdReply;
-pub use pending::{xpending, xpending_consumer_count, xpending_count, xpending_idle_count};
+pub use pending::{
+    xpending, xpending_consumer_count, xpending_count, xpending_idle_consumer_count,
+    xpending_idle_count,
+};
 pub use range::{
     xlen, xrange, xrange_all, xrange_count, xrevrange, xrevrange_all, xrevrange_count,
 };
 pub use read::{xread, xread_options};
+pub use setid::{xsetid, xsetid_entries_added};
 pub use streams::Streams;
 pub use trim::{xtrim, xtrim_options};

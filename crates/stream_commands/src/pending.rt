@@ -105,3 +105,40 @@ pub fn xpending_idle_count<
         (end, count),
     ))
 }
+
+/// `XPENDING key group IDLE ms start end count consumer`: the same, of those pending for this
+/// consumer.
+///
+/// ```text
+/// xpending_idle_consumer_count("orders", "g", 60000, "-", "+", 10, "c")
+///                                                 // XPENDING orders g IDLE 60000 - + 10 c
+/// ```
+pub fn xpending_idle_consumer_count<
+    'w,
+    K: ToSingleRedisArg,
+    G: ToSingleRedisArg,
+    S: ToSingleRedisArg,
+    E: ToSingleRedisArg,
+    C: ToSingleRedisArg,
+>(
+    key: K,
+    group: G,
+    min_idle: usize,
+    start: S,
+    end: E,
+    count: usize,
+    consumer: C,
+) -> Command<(Word<'w>, K, G, (Word<'w>, usize), S, (E, usize, C)), StreamPendingCountReply>
+    ensures { result ≡ codes "XPENDING" ∷ K.args key ++ (G.args group
+        ++ codes "IDLE" ∷ decimal min_idle ∷ S.args start
+        ++ (E.args end ++ decimal count ∷ C.args consumer)) }
+{
+    Command::new((
+        Word("XPENDING"),
+        key,
+        group,
+        (Word("IDLE"), min_idle),
+        start,
+        (end, count, consumer),
+    ))
+}

@@ -1,5 +1,5 @@
 -- Lists of claimed entries.
-use Rattle.std.proofs.Common.{◌≡◌, ◌⊎◌, inl, inr, ℕ, List, ◌∷◌, length, nat_lt, Bool, Option, Some, None, option_map, option_and_then, map, flat_map, Vec, String, string_bytes, Global, refl, sym, ◌∙◌, ap}
+use Rattle.std.proofs.Common.{◌≡◌, inl, inr, ℕ, List, ◌∷◌, length, nat_lt, Bool, Option, Some, None, option_map, option_and_then, map, flat_map, Vec, String, string_bytes, Global, refl, sym, ◌∙◌, ap}
 use Rattle.redis_resp.specs.Tree.{Tree, array_of_plain}
 use Rattle.redis_resp.specs.Text.{text_reading}
 use Rattle.redis_resp.specs.Reading.{list_reading, option_reading}

@@ -1,5 +1,5 @@
 -- Streams that are read in both forms at once.
-use Rattle.std.proofs.Common.{◌≡◌, ◌≢◌, ◌⊎◌, inl, inr, ◌++◌, ◌&&◌, ℕ, Bool, true, false, List, [], ◌∷◌, map, Option, Some, None, option_map, option_and_then, refl, sym, ◌∙◌, ap, String, Vec, Global, string_bytes}
+use Rattle.std.proofs.Common.{◌≡◌, ◌≢◌, ◌⊎◌, inl, inr, ◌++◌, ◌&&◌, ◌<◌, length, arith, ℕ, Bool, true, false, List, [], ◌∷◌, map, Option, Some, None, option_map, option_and_then, refl, sym, ◌∙◌, ap, String, Vec, Global, string_bytes}
 use Rattle.std.proofs.lemmas.List.{map-append}
 use Rattle.std.proofs.lemmas.List.Folds.{list_all-map}
 use Rattle.std.specs.List.{list_all}
@@ -19,7 +19,7 @@ use Rattle.stream_entries.specs.Read.{Streams, claim_entries, standard_reading, 
 use Rattle.stream_entries.specs.InForms.{InForms, behind, behind_in_forms, entries_in_forms, pair_in_forms, row_in_forms, rows_in_forms, some_form}
 use Rattle.stream_entries.specs.InFormsMeaning.{entries_held, held_in, list_or_none, keys_in, only_if, streams_held}
 use Rattle.stream_entries.specs.ItemsLeft.{pair_in}
-use Rattle.stream_entries.specs.Refusal.{RefusesRead}
+use Rattle.stream_entries.specs.Refusal.{HasItems, RefusesRead}
 use Rattle.stream_entries.specs.declared.entries.Entries.{Entries}
 use Rattle.stream_entries.specs.declared.overlap.Form.{Form}
 use Rattle.stream_entries.specs.declared.overlap.Form.TheVariants.{Standard, Claim}
@@ -203,19 +203,28 @@ unfolding standard_reading claim_reading
 no_reply t is =
     ap (λ (o : Option (List Tree)). option_or (option_map joined (option_and_then (traverse (table_reading (entries_reading standard_entries))) o)) (option_map joined (option_and_then (traverse (table_reading (entries_reading claim_entries))) o))) is
 
+-- no rows are no streams
+pub no_rows : (t : Tree) (ts : List Tree) → items t ≡ Some ts → length ts ≡ 0 → read_reading t ≡ Some []
+no_rows t [] is e = reply_read t [] (Some [], Some []) is refl
+no_rows t (x ∷ ts) is e = absurd (omega (arith, e))
+
+-- rows are something to read
+some_rows : (t : Tree) (ts : List Tree) → items t ≡ Some ts → 0 < length ts → HasItems t
+some_rows t ts is some = rw is some
+
 -- what a reply is refused with
 pub no_items : (t : Tree) → items t ≡ None → Refuses read_reading RefusesRead t UnknownReadFormat
 no_items t is = (inl refl, λ _. no_reply t is)
 
-pub walk_refused : (t : Tree) (ts : List Tree) (error told : ParsingError) → items t ≡ Some ts → (error ≢ Memory → rows_in_forms ts ≡ (None, None))
+pub walk_refused : (t : Tree) (ts : List Tree) (error told : ParsingError) → items t ≡ Some ts → 0 < length ts → (error ≢ Memory → rows_in_forms ts ≡ (None, None))
     → ((error ≡ Memory) × (told ≡ Memory)) ⊎ ((error ≢ Memory) × (told ≡ UnknownReadFormat)) → Refuses read_reading RefusesRead t told
-walk_refused t ts error told is none (inl m) = (inr (m.1, ap is_some is), λ n. absurd (n m.1))
-walk_refused t ts error told is none (inr u) = (inl u.1, λ _. reply_read t ts (None, None) is (none u.0))
+walk_refused t ts error told is some none (inl m) = (inr (m.1, some_rows t ts is some), λ n. absurd (n m.1))
+walk_refused t ts error told is some none (inr u) = (inl u.1, λ _. reply_read t ts (None, None) is (none u.0))
 
-pub reply_refused : (t : Tree) (ts : List Tree) (h : InForms Streams) (error : ParsingError) → items t ≡ Some ts → rows_in_forms ts ≡ h
+pub reply_refused : (t : Tree) (ts : List Tree) (h : InForms Streams) (error : ParsingError) → items t ≡ Some ts → 0 < length ts → rows_in_forms ts ≡ h
     → (error ≡ Memory) ⊎ ((error ≡ UnknownReadFormat) × (option_or h.0 h.1 ≡ None)) → Refuses read_reading RefusesRead t error
-reply_refused t ts h error is e (inl m) = (inr (m, ap is_some is), λ n. absurd (n m))
-reply_refused t ts h error is e (inr u) = (inl u.0, λ _. reply_read t ts h is e ∙ u.1)
+reply_refused t ts h error is some e (inl m) = (inr (m, some_rows t ts is some), λ n. absurd (n m))
+reply_refused t ts h error is some e (inr u) = (inl u.0, λ _. reply_read t ts h is e ∙ u.1)
 
 pub ruleset one_stream = (no_key, no_list, with_one)
 

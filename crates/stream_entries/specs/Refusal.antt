@@ -1,5 +1,5 @@
 -- With which error a value may be refused as a reply that holds entries.
-use Rattle.std.specs.Prelude.{◌≡◌, ◌⊎◌, List, Option, Some, MatchOption, IsSome, length}
+use Rattle.std.specs.Prelude.{◌≡◌, ◌<◌, ◌⊎◌, Option, Some, MatchOption, length}
 use Rattle.redis_resp.specs.Tree.{Tree, items, array_of_plain}
 use Rattle.redis_resp.specs.Text.{text_reading}
 use Rattle.redis_resp.specs.Reading.{option_reading}
@@ -29,9 +29,13 @@ RefusesRow = RefusesPairs (Refuses field_reading RefusesFields)
 abbrev pub RefusesRows : Tree → ParsingError → Type 0
 RefusesRows = RefusesList (Refuses row_reading RefusesRow)
 
--- a read: `UnknownReadFormat`, or out of memory where the value has a list at all
+-- a list that holds something
+abbrev pub HasItems : Tree → Type 0
+HasItems t = MatchOption (items t) ⊥ (λ ts. 0 < length ts)
+
+-- a read: `UnknownReadFormat`, or out of memory where the value is a list that holds something
 abbrev pub RefusesRead : Tree → ParsingError → Type 0
-RefusesRead t error = (error ≡ UnknownReadFormat) ⊎ ((error ≡ Memory) × IsSome (items t))
+RefusesRead t error = (error ≡ UnknownReadFormat) ⊎ ((error ≡ Memory) × HasItems t)
 
 -- the entries of a claimed list of that kind; nothing but nil is not refused
 abbrev pub RefusesByKind : ClaimedKind → Tree → ParsingError → Type 0

@@ -10,6 +10,7 @@ mod entries;
 mod item_form;
 mod items;
 mod items_left;
+mod law;
 mod one_pair;
 mod overlap;
 mod range;
@@ -21,6 +22,7 @@ mod streams;
 
 pub use autoclaim::StreamAutoClaimReply;
 pub use claim::StreamClaimReply;
+pub use law::{copied_forms, equal_read_forms};
 pub use range::StreamRangeReply;
 pub use read::StreamReadReply;
 pub use read_forms::ReadForms;

@@ -7,7 +7,7 @@ ghost use Rattle.stream_entries.specs.Read.{Streams, read_reading};
 ghost use Rattle.stream_entries.specs.ReadMeaning.{streams_of};
 ghost use Rattle.stream_entries.specs.Refusal.{RefusesRead};
 
-use crate::items_left::into_items;
+use crate::items_left::{count_items, into_items};
 use crate::overlap::Form;
 use crate::stream_key::StreamKey;
 use crate::streams::{OpenStreams, read_streams};
@@ -47,7 +47,7 @@ impl StreamReadReply {
 /// A list of rows: the standard form where each item of each list is a row of ids and fields, else
 /// the claim form, where each is an id, fields and the two numbers of its delivery. One form holds
 /// for the whole value, and the refusal is `UnknownReadFormat` where it has neither. A value that
-/// is no list is refused without taking memory.
+/// is no list is refused without taking memory, and one of no rows takes none.
 impl FromRedisValue for StreamReadReply {
     ghost Meaning = { Streams };
 
@@ -68,7 +68,7 @@ impl FromRedisValue for StreamReadReply {
 
 /// The streams of a value in the standard form, else in the claim form. Each list is read by both
 /// forms, as long as none of its items has ruled one out.
-#[tactic(auto, using(crate::proofs::StreamsLemmas::reply_read, crate::proofs::StreamsLemmas::no_reply))]
+#[tactic(auto, using(crate::proofs::StreamsLemmas::reply_read, crate::proofs::StreamsLemmas::no_reply, crate::proofs::StreamsLemmas::no_rows))]
 fn read_reply<S: Source>(alloc: Global, v: S) -> Result<StreamReadReply, ParsingError>
     ensures ok { IfOk result (λ r. read_reading (S.seen v) ≡ Some (streams_of r.keys)) }
     ensures err { IfErr result (Refuses read_reading RefusesRead (S.seen v)) }
@@ -76,6 +76,11 @@ fn read_reply<S: Source>(alloc: Global, v: S) -> Result<StreamReadReply, Parsing
     let Some(rows) = into_items(v) else {
         return Err(ParsingError::UnknownReadFormat);
     };
+    if count_items::<S>(&rows) == 0 {
+        return Ok(StreamReadReply {
+            keys: Vec::new(alloc),
+        });
+    }
     match read_streams::<S>(alloc, rows) {
         Ok(streams) => reply_of(alloc, streams),
         Err(error) => Err(refusal_of(error)),

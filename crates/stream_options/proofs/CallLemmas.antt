@@ -18,6 +18,8 @@ use Rattle.stream_options.specs.Policy.{Policy}
 use Rattle.stream_options.specs.Read.{Group, Read}
 use Rattle.stream_options.specs.ReadCalls as read
 use Rattle.stream_options.specs.ReadCalls.{ReadCall, read_said, final_read, after_read}
+use Rattle.stream_options.specs.StrategyCalls as strategy
+use Rattle.stream_options.specs.StrategyCalls.{strategy_said, final_strategy}
 use Rattle.stream_options.specs.Trim.{Strategy}
 use Rattle.stream_options.specs.TrimCalls as trim
 use Rattle.stream_options.specs.TrimCalls.{trim_said, final_trim}
@@ -79,6 +81,21 @@ module _ {S : Type 0} {V : S → Type 0} (said : (s : S) → (t : S) × V t → 
 
   swaps : c.0 ≢ d.0 → (s : S) → last_said (said s) (before ++ c ∷ d ∷ after) ≡ last_said (said s) (before ++ d ∷ c ∷ after)
   swaps e s = same_said (said s) before (c ∷ d ∷ []) (d ∷ c ∷ []) after (pair_swaps said names s c d e)
+
+-- ---- strategies of trimming
+
+strategy_names : Names strategy_said
+strategy_names strategy.limit (strategy.limit, n) = inl (refl, refl)
+
+pub strategy_last_wins : LastCallWins final_strategy
+strategy_last_wins start before after c d e =
+    let w = wins strategy_said strategy_names before after c d e in
+    rw (w strategy.limit) refl
+
+pub strategy_commutes : SettersCommute final_strategy
+strategy_commutes start before after c d e =
+    let w = swaps strategy_said strategy_names before after c d e in
+    rw (w strategy.limit) refl
 
 -- ---- trimming
 
@@ -243,6 +260,6 @@ read_final_push start calls c =
 
 -- ---- the laws of all types
 
-pub ruleset last_wins = (trim_last_wins, add_last_wins, config_last_wins, autoclaim_last_wins, claim_last_wins, read_last_wins)
+pub ruleset last_wins = (strategy_last_wins, trim_last_wins, add_last_wins, config_last_wins, autoclaim_last_wins, claim_last_wins, read_last_wins)
 
-pub ruleset commute = (trim_commutes, add_commutes, config_commutes, autoclaim_commutes, claim_commutes, read_commutes)
+pub ruleset commute = (strategy_commutes, trim_commutes, add_commutes, config_commutes, autoclaim_commutes, claim_commutes, read_commutes)

@@ -16,6 +16,7 @@ pub mod Policy
 pub mod Read
 pub mod ReadBack
 pub mod ReadCalls
+pub mod StrategyCalls
 pub mod Trim
 pub mod TrimCalls
 pub mod View

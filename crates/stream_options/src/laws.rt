@@ -20,6 +20,7 @@ ghost use Rattle.stream_options.specs.Nack.{nack_sentence, nack_words};
 ghost use Rattle.stream_options.specs.Policy.{policy_sentence, policy_words};
 ghost use Rattle.stream_options.specs.Read.{Read, ReadFits, CountAlike, read_sentence, read_words};
 ghost use Rattle.stream_options.specs.ReadCalls.{final_read};
+ghost use Rattle.stream_options.specs.StrategyCalls.{final_strategy};
 ghost use Rattle.stream_options.specs.Trim.{mode_sentence, mode_words, StrategyFits, strategy_sentence, strategy_words, TrimFits, trim_sentence, trim_words};
 ghost use Rattle.stream_options.specs.TrimCalls.{final_trim};
 
@@ -129,13 +130,15 @@ pub fn unique_nack()
 /// Of two calls in a row that name one setting, leaving out the first changes no final setting,
 /// anywhere in a list of calls, on whatever options the list begins.
 ///
-/// A call is the pair of the setting that it names and its value: of `StreamTrimOptions` the calls
-/// `limit` and `set_deletion_policy`; of `StreamAddOptions`, where `idmp` and `idmpauto` name one
-/// setting, and `trim` names a strategy with its limit; the accepted calls of
-/// `StreamConfigOptions`; and the calls of `StreamAutoClaimOptions`, of `StreamClaimOptions` and of
-/// `StreamReadOptions`, where `group` names both names.
+/// A call is the pair of the setting that it names and its value: of `StreamTrimStrategy` the call
+/// `limit`; of `StreamTrimOptions` the calls `limit` and `set_deletion_policy`; of
+/// `StreamAddOptions`, where `idmp` and `idmpauto` name one setting, and `trim` names a strategy
+/// with its limit; the accepted calls of `StreamConfigOptions`; and the calls of
+/// `StreamAutoClaimOptions`, of `StreamClaimOptions` and of `StreamReadOptions`, where `group` names
+/// both names.
 #[tactic(auto, using(crate::proofs::CallLemmas::last_wins))]
 pub fn last_call_wins()
+    ensures strategy { LastCallWins final_strategy }
     ensures trim { LastCallWins final_trim }
     ensures add { LastCallWins final_add }
     ensures config { LastCallWins final_config }
@@ -147,11 +150,12 @@ pub fn last_call_wins()
 /// Two neighbouring calls that name different settings may change places: no final setting changes,
 /// anywhere in a list of calls, on whatever options the list begins.
 ///
-/// It speaks of the same calls as [`last_call_wins`]: those of `StreamTrimOptions`,
-/// `StreamAddOptions`, `StreamConfigOptions`, `StreamAutoClaimOptions`, `StreamClaimOptions` and
-/// `StreamReadOptions`.
+/// It speaks of the same calls as [`last_call_wins`]: those of `StreamTrimStrategy`, of which no two
+/// name different settings, `StreamTrimOptions`, `StreamAddOptions`, `StreamConfigOptions`,
+/// `StreamAutoClaimOptions`, `StreamClaimOptions` and `StreamReadOptions`.
 #[tactic(auto, using(crate::proofs::CallLemmas::commute))]
 pub fn setters_commute()
+    ensures strategy { SettersCommute final_strategy }
     ensures trim { SettersCommute final_trim }
     ensures add { SettersCommute final_add }
     ensures config { SettersCommute final_config }
@@ -179,6 +183,20 @@ pub fn equal_config_errors(a: &ConfigError, b: &ConfigError) -> bool
     ensures { IsTrue result ↔ (a.now ≡ b.now) }
 {
     a == b
+}
+
+/// A `StreamMaxlen` is copied as it is. It takes no memory and is always Ok.
+pub fn copied_maxlen(maxlen: &StreamMaxlen) -> Result<StreamMaxlen, AllocError>
+    ensures { result ≡ Ok maxlen.now }
+{
+    maxlen.clone()
+}
+
+/// A `StreamNackMode` is copied as it is. It takes no memory and is always Ok.
+pub fn copied_nack_mode(mode: &StreamNackMode) -> Result<StreamNackMode, AllocError>
+    ensures { result ≡ Ok mode.now }
+{
+    mode.clone()
 }
 
 /// A `StreamDeletionPolicy` is copied as it is. It takes no memory and is always Ok.

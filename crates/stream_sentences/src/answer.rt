@@ -1,5 +1,5 @@
 //! The answer to an input.
-ghost use Rattle.std.specs.Prelude.{◌≡◌, ◌++◌, IfOk, OnOk, IfErr};
+ghost use Rattle.std.specs.Prelude.{◌≡◌, ◌<◌, ◌++◌, IfOk, OnOk, IfErr, length};
 ghost use Rattle.stream_sentences.specs.Answer.{IsAnswer, IsReply, IsReplyOf, type_of, reply_line};
 ghost use Rattle.stream_sentences.specs.AnswerMeaning.{reply_of, verdict_of};
 ghost use Rattle.stream_sentences.specs.Lines.{parts_of};
@@ -26,10 +26,11 @@ pub(crate) enum Reply {
     Count(usize),
 }
 
-/// The answer to all of the input.
+/// The answer to all of the input. Memory is asked for only where there is some.
 pub(crate) fn answer_to(alloc: Global, input: &[u8]) -> Result<Vec<u8>, RunError>
     ensures ok { IfOk result (λ answer. IsAnswer input.now answer.items) }
     ensures err { IfErr result (λ e. e ≡ RunError.Memory) }
+    ensures some { IfErr result (λ _. 0 < length input.now) }
 {
     let mut answer = Vec::new(alloc);
     let mut rest = input;

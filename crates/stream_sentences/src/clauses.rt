@@ -1,5 +1,5 @@
 //! Clauses of sentences: a word, and what it names.
-ghost use Rattle.std.specs.Prelude.{◌≡◌, string_bytes};
+ghost use Rattle.std.specs.Prelude.{◌≡◌, None, IfErr, string_bytes};
 ghost use Rattle.std.specs.Option.{option_map};
 ghost use Rattle.stream_options.specs.ReadBack as reading;
 ghost use Rattle.stream_sentences.specs.Split.{arguments, Gives};
@@ -39,14 +39,16 @@ pub(crate) fn flag_clause<'a>(word: &str, args: &'a [Vec<u8>]) -> Option<(bool, 
     }
 }
 
-/// `[word text]`, and the arguments behind it.
+/// `[word text]`, and the arguments behind it. Memory is asked for only where a text stands there.
 pub(crate) fn text_clause<'a>(
     alloc: Global,
     word: &str,
     args: &'a [Vec<u8>],
 ) -> Result<(Option<String>, &'a [Vec<u8>]), SentenceError>
-    ensures { Gives (λ x. (option_map string_bytes x.0, arguments x.1.now)) result
+    ensures clause { Gives (λ x. (option_map string_bytes x.0, arguments x.1.now)) result
         (reading.text_clause word.now (arguments args.now)) }
+    ensures none { IfErr result (λ e. reading.text_clause word.now (arguments args.now) ≡ None
+        → e ≡ SentenceError.NotASentence) }
 {
     match args {
         [first, rest @ ..] if first.as_slice() == word.as_bytes() => match rest {

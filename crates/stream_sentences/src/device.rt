@@ -1,5 +1,5 @@
 //! Reading to the end and writing all, with nothing tried again.
-ghost use Rattle.std.specs.Prelude.{◌≡◌, ◌≢◌, IfOk, IfErr, OnOk};
+ghost use Rattle.std.specs.Prelude.{◌≡◌, ◌≢◌, ◌<◌, IfOk, IfErr, IfSome, OnOk, length};
 ghost use Rattle.std.specs.Io.KnownBytes.{Appends, Consumes, IsAtEnd};
 ghost use Rattle.stream_sentences.specs.Told.{WroteBeginning};
 
@@ -7,12 +7,14 @@ use crate::run_error::RunError;
 use std::alloc::Global;
 use std::io::{Read, Write};
 
-/// All the bytes that the reader has left.
+/// All the bytes that the reader has left. Memory is asked for only where there are any.
 pub(crate) fn read_all<R: Read>(alloc: Global, input: &mut R) -> Result<Vec<u8>, RunError>
     ensures bytes { IfOk result (λ all.
         Consumes (R.remaining input.old) (R.remaining input.new) all.items) }
     ensures end { OnOk result (IsAtEnd (R.remaining input.new)) }
     ensures err { IfErr result (λ e. e ≢ RunError.Write) }
+    ensures memory { IfErr result (λ e. e ≡ RunError.Memory
+        → IfSome (R.remaining input.old) (λ all. 0 < length all)) }
 {
     let mut bytes = Vec::new(alloc);
     let mut buffer = [0u8; 4096];

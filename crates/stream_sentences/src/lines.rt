@@ -1,5 +1,5 @@
 //! Lines in, lines out.
-ghost use Rattle.std.specs.Prelude.{◌≡◌, ◌≢◌, IfErr, OnOk, IfSome};
+ghost use Rattle.std.specs.Prelude.{◌≡◌, ◌≢◌, ◌<◌, IfErr, OnOk, IfSome, length};
 ghost use Rattle.std.specs.Io.KnownBytes.{Keeps, IsAtEnd};
 ghost use Rattle.stream_sentences.specs.Told.{WroteAnswer, WroteAnswerBeginning};
 
@@ -19,13 +19,15 @@ use std::io::{Read, Write};
 ///
 /// Each error of a read or of a write is a failure, `Interrupted` too, and so is a write that takes
 /// no byte; nothing is tried again. After `Read` or `Memory` nothing was written; after `Write` a
-/// beginning of the answer was.
+/// beginning of the answer was. An input with no byte takes no memory.
 pub fn run<R: Read, W: Write>(alloc: Global, input: &mut R, output: &mut W) -> Result<(), RunError>
     ensures answered { OnOk result (IfSome (R.remaining input.old) (λ all.
         WroteAnswer all (W.contents output.old) (W.contents output.new))) }
     ensures end { OnOk result (IsAtEnd (R.remaining input.new)) }
     ensures unwritten { IfErr result (λ e. e ≢ RunError.Write
         → Keeps (W.contents output.old) (W.contents output.new)) }
+    ensures memory { IfErr result (λ e. e ≡ RunError.Memory
+        → IfSome (R.remaining input.old) (λ all. 0 < length all)) }
     ensures begun { IfErr result (λ e. e ≡ RunError.Write
         → IfSome (R.remaining input.old) (λ all.
         WroteAnswerBeginning all (W.contents output.old) (W.contents output.new))) }

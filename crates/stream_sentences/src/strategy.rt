@@ -1,4 +1,5 @@
 //! Strategies of trimming.
+ghost use Rattle.std.specs.Prelude.{◌≡◌, None, IfErr};
 ghost use Rattle.stream_options.specs.ReadBack as reading;
 ghost use Rattle.stream_options.specs.View.{strategy_of};
 ghost use Rattle.stream_sentences.specs.Split.{arguments, Gives, unlimited_at};
@@ -9,14 +10,16 @@ use crate::values::{mode_in, number_in, text_in};
 use std::alloc::Global;
 use stream_options::StreamTrimStrategy;
 
-/// A strategy, and the arguments behind it.
+/// A strategy, and the arguments behind it. Memory is asked for only where a bound stands there.
 #[tactic(auto, using(crate::proofs::StrategyLemmas::limits))]
 pub(crate) fn strategy_at(
     alloc: Global,
     args: &[Vec<u8>],
 ) -> Result<(StreamTrimStrategy, &[Vec<u8>]), SentenceError>
-    ensures { Gives (λ x. (strategy_of x.0, arguments x.1.now)) result
+    ensures strategy { Gives (λ x. (strategy_of x.0, arguments x.1.now)) result
         (reading.strategy_at (arguments args.now)) }
+    ensures none { IfErr result (λ e. unlimited_at (arguments args.now) ≡ None
+        → e ≡ SentenceError.NotASentence) }
 {
     let (strategy, rest) = bound_at(alloc, args)?;
     let Some((limit, rest)) = number_clause("LIMIT", rest) else {
@@ -29,12 +32,15 @@ pub(crate) fn strategy_at(
 }
 
 /// `MAXLEN mode n` or `MINID mode id` as a strategy without a limit, and the arguments behind it.
+/// Memory is asked for only where they stand there.
 fn bound_at(
     alloc: Global,
     args: &[Vec<u8>],
 ) -> Result<(StreamTrimStrategy, &[Vec<u8>]), SentenceError>
-    ensures { Gives (λ x. (strategy_of x.0, arguments x.1.now)) result
+    ensures bound { Gives (λ x. (strategy_of x.0, arguments x.1.now)) result
         (unlimited_at (arguments args.now)) }
+    ensures none { IfErr result (λ e. unlimited_at (arguments args.now) ≡ None
+        → e ≡ SentenceError.NotASentence) }
 {
     match args {
         [] => Err(SentenceError::NotASentence),

@@ -1,5 +1,5 @@
 //! Values of single arguments.
-ghost use Rattle.std.specs.Prelude.{◌≡◌, map, string_bytes};
+ghost use Rattle.std.specs.Prelude.{◌≡◌, None, IfErr, map, string_bytes};
 ghost use Rattle.std.specs.Option.{option_map};
 ghost use Rattle.stream_options.specs.ReadBack.{number_of, text_of, mode_of};
 ghost use Rattle.stream_options.specs.View as view;
@@ -29,9 +29,10 @@ pub(crate) fn number_in(bytes: &[u8]) -> Option<usize>
     }
 }
 
-/// The text that the bytes are.
+/// The text that the bytes are. Memory is asked for only where they are one.
 pub(crate) fn text_in(alloc: Global, bytes: &[u8]) -> Result<String, SentenceError>
-    ensures { Gives string_bytes result (text_of bytes.now) }
+    ensures text { Gives string_bytes result (text_of bytes.now) }
+    ensures none { IfErr result (λ e. text_of bytes.now ≡ None → e ≡ SentenceError.NotASentence) }
 {
     match std::str::from_utf8(bytes) {
         Ok(text) => Ok(String::from_str(alloc, text)?),

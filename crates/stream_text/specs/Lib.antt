@@ -3,6 +3,7 @@ pub mod ConfigText
 pub mod Entry
 pub mod Form
 pub mod Info
+pub mod InfoFull
 pub mod Options
 pub mod Pending
 pub mod Refusal

@@ -11,10 +11,14 @@
 //! | stream information | `last=ID keys=N nodes=N groups=N length=N first=entry final=entry`, with idempotency also `duration=N maxsize=N pids=N tracked=N added=N duplicates=N` |
 //! | consumers | `name pending=N idle=N`, with `; ` between each two |
 //! | groups | `name consumers=N pending=N last=ID read=N lag=N`, `none` for an unknown number, with `; ` between each two |
+//! | stream information in full | `length=N keys=N nodes=N last=ID deleted=ID added=N recorded=ID entries=[entries] groups=[groups]`, an entry with its fields as they were added |
+//! | a group in it | `name last=ID read=N lag=N count=N pending=[id consumer time times; ..] consumers=[consumers]`, with `; ` between each two |
+//! | a consumer in it | `name seen=TIME active=TIME count=N pending=[id time times; ..]`, `none` for a time that is not told, with `; ` between each two |
 //! | a status code | its number |
 //! | a refusal | `refused N`, the number of the cause in the order in which `ParsingError` lists them |
 //!
 //! Range, claim, read, pending with count, consumers and groups stand as `-` where they are empty.
+mod full;
 mod info;
 mod pending;
 mod refusal;

@@ -1,3 +1,4 @@
 -- Lemmas of the callers.
+mod GroupStateLemmas
 pub mod ServerLemmas
 pub mod WireLemmas

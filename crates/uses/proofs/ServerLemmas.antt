@@ -3,10 +3,8 @@ use Rattle.std.proofs.Common.{◌≡◌, ℕ, ◌-◌, ◌<◌, ◌≤◌, List,
 use Rattle.std.proofs.Math.Seq.{take-length}
 use Rattle.std.proofs.lemmas.List.{take-append-drop, take_at, drop_at, length-append, length-drop, drop-map}
 use Rattle.std.specs.Global.{Vec}
-use Rattle.stream_options.specs.Add.{Add, AddFits, add_sentence, add_words}
-use Rattle.stream_options.specs.Laws.{Equal}
-use Rattle.stream_options.specs.Words.{IsFree}
-use Rattle.stream_sentences.specs.Split.{arguments, IsSplit, IsOneSplit, HasNoSplit}
+use Rattle.redis.specs.Words.{AddFits, AddSettings as Add, Equal, HasNoSplit, IsFree, IsOneSplit}
+use Rattle.redis.specs.Words.{IsSplit, add_sentence, add_words, arguments}
 use Rattle.uses.specs.Server.{Asks}
 
 -- what is asked for is a split

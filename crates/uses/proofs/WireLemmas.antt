@@ -1,15 +1,10 @@
 -- What stands at the head of bytes, and what refused bytes say of the values in them.
-use Rattle.std.proofs.Common.{◌≡◌, ◌≢◌, ℕ, List, None, Result, Ok, Err, take, drop, refl, sym, ◌∙◌, subst}
+use Rattle.std.proofs.Common.{◌≡◌, ◌≢◌, ◌⊎◌, inl, inr, ℕ, List, None, Result, Ok, Err, take, drop, refl, sym, ◌∙◌, subst}
 use Rattle.std.proofs.lemmas.List.{take-append-drop}
-use Rattle.redis_resp.specs.Tree.{Tree}
-use Rattle.stream_entries.specs.Read.{read_reading}
+use Rattle.redis.specs.Words.{Answer, IsRecord, IsReply, RefusesRead, Tree, default_limits}
+use Rattle.redis.specs.Words.{read_reading, refused, streams_of, value}
 use Rattle.redis_resp.specs.declared.value.error.ParsingError.{ParsingError}
-use Rattle.redis_wire.specs.Decoded.{IsReply}
-use Rattle.redis_wire.specs.Limits.{default_limits}
-use Rattle.redis_wire.specs.Record.{IsRecord}
-use Rattle.redis_wire.specs.Reply.{Answer, value, refused}
-use Rattle.stream_entries.specs.ReadMeaning.{streams_of}
-use Rattle.stream_entries.specs.Refusal.{RefusesRead}
+use Rattle.redis_resp.specs.declared.value.error.ParsingError.TheVariants as parsing
 use Rattle.stream_entries.specs.declared.read.StreamReadReply.{StreamReadReply}
 use Rattle.redis_wire.specs.declared.limits.Limits.{Limits}
 use Rattle.redis_wire.specs.declared.reply.ReplyError.{ReplyError}
@@ -46,6 +41,16 @@ begun limits bytes len a e is = record {
 -- what reading a reply as streams answers
 abbrev pub IsStreams : Answer → Result StreamReadReply ReplyError → Type 0
 IsStreams a r = IsRecord read_reading RefusesRead (λ s. streams_of s.keys) a r
+
+-- the first, unless it is the second
+the_first : {A B : Type 0} → A ⊎ B → (B → ⊥) → A
+the_first (inl a) other = a
+the_first (inr b) other = absurd (other b)
+
+-- no streams are refused under one name, unless memory ran out
+pub unknown_format : (a : Answer) (e : ParsingError) → IsStreams a (Err (replies.Parsing e)) → e ≢ parsing.Memory → e ≡ parsing.UnknownReadFormat
+unknown_format (value t) e read m = the_first read.0 (λ q. m q.0)
+unknown_format (refused text) e read m = absurd read
 
 module _ (limits : Limits) (bytes : List ℕ) (len : ℕ) (same : limits ≡ default_limits) where
   -- a value, where a record was read

@@ -1,8 +1,10 @@
 -- What the callers' contracts speak of.
 pub mod Worker
 pub mod Order
+pub mod Producer
 pub mod Stalled
 pub mod Monitoring
 pub mod Readme
 pub mod Server
 pub mod Wire
+pub mod GroupState

@@ -2,7 +2,7 @@
 use Rattle.std.specs.Prelude.{ℕ, List, Option, option_and_then}
 use Rattle.std.specs.List.{find}
 use Rattle.std.specs.Str.{bytes_eq}
-use Rattle.redis_streams.specs.Info.{Group}
+use Rattle.redis.specs.Words.{Group}
 
 -- the lag of the first group of the name, where there is one and it is known
 abbrev pub lag_in : List ℕ → List Group → Option ℕ

@@ -1,10 +1,9 @@
 -- An order, as mathematics, and which fields say one.
-use Rattle.std.specs.Prelude.{ℕ, List, Option, Some, option_map, option_and_then, option_to_list, is_some, if◌then◌else◌, [], ◌∷◌, codes, string_bytes}
-use Rattle.redis_resp.specs.Tree.{Tree}
-use Rattle.redis_resp.specs.Text.{text_reading}
-use Rattle.redis_resp.specs.Number.{unsigned_reading}
-use Rattle.redis_resp.specs.Table.{Fields, fields_reading, field_record}
-use Rattle.stream_entries.specs.Entry.{Entry}
+use Rattle.std.specs.Prelude.{◌≡◌, ◌⊎◌, ℕ, List, Option, Some, IsSome, option_map, option_and_then, option_to_list, is_some, if◌then◌else◌, [], ◌∷◌, codes, string_bytes}
+use Rattle.redis.specs.Words.{Entry, Fields, RefusesFields, Tree, field_record, fields_reading}
+use Rattle.redis.specs.Words.{text_reading, unsigned_reading}
+use Rattle.redis_resp.specs.declared.value.error.ParsingError.{ParsingError}
+use Rattle.redis_resp.specs.declared.value.error.ParsingError.TheVariants.{NotPairs, Memory}
 use Rattle.uses.specs.declared.order.Order.{Order}
 
 -- an order's number, its customer and how many pieces
@@ -25,6 +24,16 @@ order_of fields = option_and_then (λ id. option_and_then (λ customer. option_m
 -- the order of a value that is a map of fields
 abbrev pub order_reading : Tree → Option Meant
 order_reading t = option_and_then order_of (fields_reading (λ u. Some u) t)
+
+-- what a value is refused with: `NotPairs` where its fields say no order, what its fields are refused with, or out of memory
+abbrev pub RefusesOrder : Tree → ParsingError → Type 0
+RefusesOrder t error = (error ≡ Memory) ⊎ ((error ≡ NotPairs) ⊎ RefusesFields t error)
+
+-- the number of an order is there, and the text of a customer
+abbrev pub NamesCustomer : Fields Tree → Type 0
+NamesCustomer fields =
+    IsSome (field_record (unsigned_reading 64) fields (codes "order"))
+    × IsSome (field_record text_reading fields (codes "customer"))
 
 -- the order that an entry says, if any
 abbrev pub order_in : Entry → List Meant

@@ -1,8 +1,6 @@
 -- What the first of a list of entries says in a field.
 use Rattle.std.specs.Prelude.{ℕ, List, [], ◌∷◌, Option, None}
-use Rattle.redis_resp.specs.Text.{text_reading}
-use Rattle.redis_resp.specs.Table.{field_record}
-use Rattle.stream_entries.specs.Entry.{Entry}
+use Rattle.redis.specs.Words.{Entry, field_record, text_reading}
 
 -- the text of the field of that name of the first entry, where both are there
 abbrev pub first_text : List ℕ → List Entry → Option (List ℕ)

@@ -1,7 +1,6 @@
 -- What the arguments behind the key of XADD ask for.
 use Rattle.std.specs.Prelude.{◌≡◌, ℕ, List, ◌∷◌, ◌++◌, false}
-use Rattle.stream_options.specs.Add.{Add, AddFits, add_sentence, add_words}
-use Rattle.stream_options.specs.Words.{among}
+use Rattle.redis.specs.Words.{AddFits, AddSettings as Add, add_sentence, add_words, among}
 
 -- the sentence of these options, an id that is none of their fixed words, and fields
 pub record Asks (args : List (List ℕ)) (add : Add) (id : List ℕ) (fields : List (List ℕ)) : Type 0 where

@@ -1,7 +1,7 @@
 -- What one automatic claim took over, and where the next one starts.
 use Rattle.std.specs.Prelude.{ℕ, List, Option, Some, None, codes, if◌then◌else◌}
 use Rattle.std.specs.Str.{bytes_eq}
-use Rattle.stream_entries.specs.AutoClaim.{AutoClaim}
+use Rattle.redis.specs.Words.{AutoClaim}
 use Rattle.uses.specs.Worker.{ids_of}
 
 -- the ids of the entries that were claimed, and the start of the next claim

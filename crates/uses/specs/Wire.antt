@@ -1,12 +1,10 @@
 -- What the bytes of a reply answer.
 use Rattle.std.specs.Prelude.{◌≡◌, ℕ, List, ◌++◌, Some, None, Result, Ok, Err}
-use Rattle.redis_resp.specs.Tree.{Tree}
-use Rattle.stream_entries.specs.Read.{read_reading}
-use Rattle.stream_entries.specs.ReadMeaning.{streams_of}
+use Rattle.redis.specs.Words.{Answer, IsFirstFault, IsReply, NoReply, Tree, default_limits}
+use Rattle.redis.specs.Words.{read_reading, refused, streams_of, value}
+use Rattle.redis_resp.specs.declared.value.error.ParsingError.TheVariants.{UnknownReadFormat}
 use Rattle.stream_entries.specs.declared.read.StreamReadReply.{StreamReadReply}
-use Rattle.redis_wire.specs.Decoded.{IsReply, NoReply}
-use Rattle.redis_wire.specs.Limits.{default_limits}
-use Rattle.redis_wire.specs.Reply.{Answer, value, refused}
+use Rattle.redis_wire.specs.declared.fault.WireError.TheVariants as errors
 use Rattle.uses.specs.declared.wire.AnswerError.{AnswerError}
 use Rattle.uses.specs.declared.wire.AnswerError.TheVariants.{Fault, Incomplete, Memory, Parsing, Server}
 
@@ -33,3 +31,9 @@ Tells bytes (Err (Server e)) = BeginsWith bytes (refused e.text.items)
 Tells bytes (Err Incomplete) = NoReply default_limits bytes
 Tells bytes (Err (Fault f)) = (more : List ℕ) → NoReply default_limits (bytes ++ more)
 Tells bytes (Err Memory) = Unit {0}
+
+-- a fault is the one that reading from the left meets first, and no streams are told by one name
+abbrev pub NamesCause : List ℕ → AnswerError → Type 0
+NamesCause bytes (Fault f) = IsFirstFault default_limits bytes (errors.Fault f)
+NamesCause bytes (Parsing e) = e ≡ UnknownReadFormat
+NamesCause bytes e = Unit {0}

@@ -1,10 +1,10 @@
 //! The orders of a batch of entries, and the entries that say none.
-ghost use Rattle.std.specs.Prelude.{◌≡◌, map, flat_map, IfOk, string_bytes};
-ghost use Rattle.stream_entries.specs.EntryMeaning.{entry_meaning};
+ghost use Rattle.std.specs.Prelude.{◌≡◌, ◌<◌, map, flat_map, length, IfOk, OnErr, string_bytes};
+ghost use Rattle.redis.specs.Words.{entry_meaning};
 ghost use Rattle.uses.specs.Order.{order_meaning, order_in, strange_in};
 
 use crate::order::Order;
-use redis_streams::StreamId;
+use redis::streams::StreamId;
 use std::alloc::{AllocError, Global};
 
 /// What a batch of entries says.
@@ -16,12 +16,14 @@ pub struct Batch {
     pub strange: Vec<String>,
 }
 
-/// Each entry is an order, or its id is among the strange ones; both in order.
+/// Each entry is an order, or its id is among the strange ones; both in order. It fails only where
+/// memory runs out; no entry, no memory.
 pub fn sort_out(alloc: Global, entries: &[StreamId]) -> Result<Batch, AllocError>
     ensures orders { IfOk result (λ b. map order_meaning b.orders.items
         ≡ flat_map order_in (map entry_meaning entries.now)) }
     ensures strange { IfOk result (λ b. map string_bytes b.strange.items
         ≡ flat_map strange_in (map entry_meaning entries.now)) }
+    ensures memory { OnErr result (0 < length entries.now) }
 {
     let mut orders = Vec::new(alloc);
     let mut strange = Vec::new(alloc);

@@ -1,10 +1,9 @@
 //! What is told of a group by XPENDING and XINFO GROUPS.
 ghost use Rattle.std.specs.Prelude.{◌≡◌, map, filter, nat_le, string_bytes, IfOk};
-ghost use Rattle.redis_streams.specs.InfoMeaning.{groups_meaning};
-ghost use Rattle.redis_streams.specs.PendingMeaning.{pending_ids_meaning};
+ghost use Rattle.redis.specs.Words.{groups_meaning, pending_ids_meaning};
 ghost use Rattle.uses.specs.Monitoring.{lag_in};
 
-use redis_streams::{StreamInfoGroupsReply, StreamPendingCountReply};
+use redis::streams::{StreamInfoGroupsReply, StreamPendingCountReply};
 use std::alloc::{AllocError, Global};
 
 /// The ids of the pending entries that were delivered `limit` times or more, in order.

@@ -1,12 +1,12 @@
 //! Types of a user's own: `OrderId` is one argument and is read from a number, `Order` is the fields
 //! of an entry, as arguments and as a record.
 ghost use Rattle.std.specs.Prelude.{◌≡◌, ℕ, [], ◌∷◌, codes, decimal, refl};
-ghost use Rattle.std.specs.Prelude.{option_map, string_bytes, IfOk};
-ghost use Rattle.redis_resp.specs.Number.{unsigned_reading};
-ghost use Rattle.redis_resp.specs.FieldsMeaning.{fields_of};
+ghost use Rattle.std.specs.Prelude.{option_map, string_bytes, IfOk, OnErr};
+ghost use Rattle.redis.specs.Words.{RefusesNumber, fields_of, unsigned_reading};
 ghost use Rattle.uses.specs.Order.{Meant, order_meaning, order_of, order_reading};
+ghost use Rattle.uses.specs.Order.{RefusesOrder, NamesCustomer};
 
-use redis_resp::{
+use redis::{
     FromRedisValue, ParsingError, RedisWrite, ToRedisArgs, ToSingleRedisArg, Value, WriteError,
     field_of,
 };
@@ -35,6 +35,8 @@ impl FromRedisValue for OrderId {
     ghost meaning = { λ id. id.0 };
 
     ghost reading = { unsigned_reading 64 };
+
+    ghost may_refuse = { RefusesNumber };
 
     fn from_redis_value(alloc: Global, v: Value) -> Result<OrderId, ParsingError> {
         Ok(OrderId(u64::from_redis_value(alloc, v)?))
@@ -67,13 +69,15 @@ impl ToRedisArgs for Order {
 }
 
 impl Order {
-    /// The order that fields say, if they say one.
+    /// The order that fields say, if they say one. It fails only where memory runs out, and asks
+    /// for none but to copy the customer of an order.
     pub fn of_fields(
         alloc: Global,
         fields: &HashMap<String, Value>,
     ) -> Result<Option<Order>, AllocError>
-        ensures { IfOk result (λ r. option_map order_meaning r
+        ensures order { IfOk result (λ r. option_map order_meaning r
             ≡ order_of (fields_of fields.now)) }
+        ensures memory { OnErr result (NamesCustomer (fields_of fields.now)) }
     {
         let Some(id) = field_of(alloc, fields, "order")? else {
             return Ok(None);
@@ -98,6 +102,8 @@ impl FromRedisValue for Order {
     ghost meaning = { order_meaning };
 
     ghost reading = { order_reading };
+
+    ghost may_refuse = { RefusesOrder };
 
     fn from_redis_value(alloc: Global, v: Value) -> Result<Order, ParsingError> {
         Order::from_redis_value_ref(alloc, &v)

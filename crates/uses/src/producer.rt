@@ -4,12 +4,13 @@
 //! it sends after an error is what it sent before, so the server can tell that it is the same.
 ghost use Rattle.std.specs.Prelude.{◌≡◌, ◌≢◌, [], ◌∷◌, ◌++◌, Some, None, codes, decimal, map};
 ghost use Rattle.std.specs.Prelude.{flat_map, string_bytes, suc, IfOk, IfErr, OnOk, OnErr};
-ghost use Rattle.redis_resp.specs.Text.{text_reading};
-ghost use Rattle.redis_resp.specs.Value.{tree};
+ghost use Rattle.redis.specs.Words.{text_reading, tree};
+ghost use Rattle.uses.specs.Producer.{Stays};
+ghost use Rattle.uses.specs.declared.producer.ProducerError.TheVariants.{Answer};
 
-use redis_resp::{FromRedisValue, ParsingError, ToRedisArgs, Value};
+use redis::streams::{StreamAddOptions, StreamTrimStrategy, StreamTrimmingMode};
+use redis::{FromRedisValue, ParsingError, ToRedisArgs, Value};
 use std::alloc::{AllocError, Global};
-use stream_options::{StreamAddOptions, StreamTrimStrategy, StreamTrimmingMode};
 use thiserror::Error;
 
 /// A producer of entries.
@@ -26,10 +27,18 @@ pub struct Producer {
 pub enum ProducerError {
     /// The answer is no id.
     #[error("the answer of XADD is {0}")]
-    Answer(#[from] ParsingError),
+    Answer(ParsingError),
     /// There is no further number.
     #[error("no number is left for a further entry")]
     LastNumber,
+}
+
+impl From<ParsingError> for ProducerError {
+    ghost from_gives = { λ error e. e ≡ Answer error };
+
+    fn from(error: ParsingError) -> ProducerError {
+        ProducerError::Answer(error)
+    }
 }
 
 impl Producer {
@@ -61,6 +70,7 @@ impl Producer {
         ensures next { OnOk result (self.new.number ≡ suc self.old.number) }
         ensures producer { self.new.id ≡ self.old.id }
         ensures again { OnErr result (self.new ≡ self.old) }
+        ensures cause { IfErr result (Stays self.old.number (tree answer)) }
     {
         let Some(next) = self.number.checked_add(1) else {
             return Err(ProducerError::LastNumber);

@@ -1,14 +1,13 @@
 //! The code of the README.
-ghost use Rattle.std.specs.Prelude.{◌≡◌, [], ◌∷◌, Some, codes, decimal, map, option_map, string_bytes, IfOk};
-ghost use Rattle.redis_resp.specs.Value.{tree};
-ghost use Rattle.stream_entries.specs.Rows.{rows_reading};
+ghost use Rattle.std.specs.Prelude.{◌≡◌, ◌≢◌, [], ◌∷◌, Some, None, codes, decimal, map};
+ghost use Rattle.std.specs.Prelude.{option_map, string_bytes, IfOk, IfErr};
+ghost use Rattle.redis.specs.Words.{rows_reading, tree};
 ghost use Rattle.uses.specs.Readme.{first_text};
 
-use redis_resp::{ParsingError, ToRedisArgs, Value, from_redis_value};
-use redis_streams::StreamRangeReply;
+use redis::commands::{AtLeastOne, xread_options};
+use redis::streams::{StreamRangeReply, StreamReadOptions};
+use redis::{ParsingError, ToRedisArgs, Value, from_redis_value};
 use std::alloc::{AllocError, Global};
-use stream_commands::{AtLeastOne, xread_options};
-use stream_options::StreamReadOptions;
 
 /// `XREADGROUP GROUP workers ann COUNT 10 STREAMS orders >`, whatever the order of the calls.
 pub fn read_arguments(alloc: Global) -> Result<Vec<Vec<u8>>, AllocError>
@@ -24,8 +23,10 @@ pub fn read_arguments(alloc: Global) -> Result<Vec<Vec<u8>>, AllocError>
 
 /// The customer that the first entry of an answer of XRANGE names.
 pub fn first_customer(alloc: Global, answer: Value) -> Result<Option<String>, ParsingError>
-    ensures { IfOk result (λ customer. option_map (first_text (codes "customer"))
+    ensures customer { IfOk result (λ customer. option_map (first_text (codes "customer"))
         (rows_reading (tree answer)) ≡ Some (option_map string_bytes customer)) }
+    ensures err { IfErr result (λ e. e ≢ ParsingError.Memory
+        → rows_reading (tree answer) ≡ None) }
 {
     let reply: StreamRangeReply = from_redis_value(alloc, answer)?; // moves the texts, copies none
     match reply.ids.first() {

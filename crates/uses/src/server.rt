@@ -1,12 +1,11 @@
 //! A server's side, or a proxy's: the arguments of XADD, with the options that a client wrote.
 ghost use Rattle.std.specs.Prelude.{◌≡◌, ℕ, List, IfOk, IfErr};
-ghost use Rattle.stream_options.specs.Add.{Add};
-ghost use Rattle.stream_sentences.specs.Split.{arguments};
+ghost use Rattle.redis.specs.Words.{AddSettings as Add, arguments};
 ghost use Rattle.uses.specs.Server.{Asks};
 
+use redis::sentences::{SentenceError, read_add};
+use redis::streams::StreamAddOptions;
 use std::alloc::Global;
-use stream_options::StreamAddOptions;
-use stream_sentences::{SentenceError, read_add};
 
 /// What XADD asks for, behind its key.
 #[derive(Debug, Drop)]

@@ -1,15 +1,13 @@
 //! Entries that other consumers left: automatic claims, from `0-0` on until the reply says `0-0`.
 ghost use Rattle.std.specs.Prelude.{◌≡◌, ◌≢◌, [], ◌∷◌, Option, Some, None, codes, decimal, map};
 ghost use Rattle.std.specs.Prelude.{option_map, string_bytes, IfOk, IfErr};
-ghost use Rattle.redis_resp.specs.Value.{tree};
-ghost use Rattle.stream_entries.specs.AutoClaim.{autoclaim_reading};
+ghost use Rattle.redis.specs.Words.{autoclaim_reading, tree};
 ghost use Rattle.uses.specs.Stalled.{Claimed, claimed_of};
 
 use crate::worker::ids_of_entries;
-use redis_resp::{ParsingError, ToRedisArgs, Value, from_redis_value};
-use redis_streams::StreamAutoClaimReply;
+use redis::streams::{StreamAutoClaimOptions, StreamAutoClaimReply};
+use redis::{ParsingError, ToRedisArgs, Value, from_redis_value};
 use std::alloc::{AllocError, Global};
-use stream_options::StreamAutoClaimOptions;
 
 /// `XAUTOCLAIM key group consumer idle start COUNT n`; `idle` in milliseconds.
 pub fn claim_arguments(

@@ -1,9 +1,10 @@
 //! Each caller once, on values as a server sends them.
 mod consumer;
+mod group_state;
 mod sender;
 mod wire;
 
-use redis_resp::ToRedisArgs;
+use redis::ToRedisArgs;
 use std::alloc::AllocGlobal;
 use std::process::Abort;
 use std::test::Fail;

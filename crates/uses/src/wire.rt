@@ -1,16 +1,12 @@
 //! From the bytes that a server sends to a record, in RESP2 and in RESP3.
-ghost use Rattle.std.specs.Prelude.{◌≡◌, ◌≢◌, List, None, IfOk, IfErr};
-ghost use Rattle.redis_resp.specs.Tree.{Tree, map_of_pairs, pairs};
-ghost use Rattle.redis_wire.specs.Reply.{Answer, value};
-ghost use Rattle.stream_entries.specs.Read.{read_reading};
-ghost use Rattle.stream_entries.specs.ReadMeaning.{streams_of};
-ghost use Rattle.stream_entries.specs.Respelling.{ReadAlike};
-ghost use Rattle.stream_entries.specs.RespellingLaws.{rows_of_two};
-ghost use Rattle.uses.specs.Wire.{BeginsWith, Answers, Tells};
+ghost use Rattle.std.specs.Prelude.{◌≡◌, ◌≢◌, List, Some, None, IfOk, IfErr};
+ghost use Rattle.redis.specs.Words.{Answer, ReadAlike, Tree, map_of_pairs, pairs, read_reading};
+ghost use Rattle.redis.specs.Words.{rows_of_two, streams_of, value};
+ghost use Rattle.uses.specs.Wire.{BeginsWith, Answers, Tells, NamesCause};
 
-use redis_resp::ParsingError;
-use redis_streams::{StreamReadReply, laws};
-use redis_wire::{Decoded, Fault, Limits, ReplyError, ServerError, WireError, decode, from_reply};
+use redis::streams::StreamReadReply;
+use redis::wire::{Decoded, Fault, Limits, ReplyError, ServerError, WireError, decode, from_reply};
+use redis::{ParsingError, laws};
 use std::alloc::Global;
 use thiserror::Error;
 
@@ -38,6 +34,7 @@ pub enum AnswerError {
 pub fn streams_answered(alloc: Global, bytes: &[u8]) -> Result<StreamReadReply, AnswerError>
     ensures answer { (a : Answer) → BeginsWith bytes.now a → Answers a result }
     ensures head { Tells bytes.now result }
+    ensures cause { IfErr result (NamesCause bytes.now) }
 {
     match decode(alloc, bytes, Limits::default()) {
         Ok(Decoded::Complete { reply, .. }) => match from_reply(alloc, reply) {
@@ -59,6 +56,10 @@ pub fn streams_of_both(
     resp2: &[u8],
     resp3: &[u8],
 ) -> Result<(StreamReadReply, StreamReadReply), AnswerError>
+    ensures first { (v : Tree) → BeginsWith resp2.now (value v) → IfOk result (λ r.
+        read_reading v ≡ Some (streams_of r.0.keys)) }
+    ensures second { (w : Tree) → BeginsWith resp3.now (value w) → IfOk result (λ r.
+        read_reading w ≡ Some (streams_of r.1.keys)) }
     ensures same { (v w : Tree) → BeginsWith resp2.now (value v) → BeginsWith resp3.now (value w)
         → ReadAlike v w → IfOk result (λ r. streams_of r.0.keys ≡ streams_of r.1.keys) }
     // An array of a name and its entries for each stream, and a map from the names to the entries.

@@ -1,10 +1,7 @@
 //! A consumer-group worker's pure part: what it sends and acknowledges, in the names of `redis`.
-ghost use Rattle.std.specs.Prelude.{◌≡◌, ◌≢◌, [], ◌∷◌, ◌++◌, Some, None, codes, decimal, map};
+ghost use Rattle.std.specs.Prelude.{◌≡◌, ◌≢◌, ◌⊎◌, [], ◌∷◌, ◌++◌, Some, None, codes, decimal, map};
 ghost use Rattle.std.specs.Prelude.{option_map, string_bytes, IfOk, IfErr, OnOk};
-ghost use Rattle.redis_resp.specs.Value.{tree};
-ghost use Rattle.stream_entries.specs.EntryMeaning.{entries_of, entry_meaning};
-ghost use Rattle.stream_entries.specs.Read.{read_reading};
-ghost use Rattle.stream_entries.specs.ReadMeaning.{streams_of};
+ghost use Rattle.redis.specs.Words.{entries_of, entry_meaning, read_reading, streams_of, tree};
 ghost use Rattle.uses.specs.Worker.{ids_in, ids_of};
 
 use redis::streams::{StreamId, StreamKey, StreamReadOptions, StreamReadReply};
@@ -65,12 +62,14 @@ pub fn ids_to_acknowledge(alloc: Global, reply: &StreamReadReply) -> Result<Vec<
 }
 
 /// The ids that an answer of XREADGROUP asks to acknowledge: exactly those of the entries of the
-/// record that the answer is, in order; refused where it is none.
+/// record that the answer is, in order; `UnknownReadFormat` where it is none.
 pub fn ids_answered(alloc: Global, answer: Value) -> Result<Vec<String>, ParsingError>
     ensures ok { IfOk result (λ ids. option_map ids_in (read_reading (tree answer))
         ≡ Some (map string_bytes ids.items)) }
     ensures err { IfErr result (λ e. e ≢ ParsingError.Memory
         → read_reading (tree answer) ≡ None) }
+    ensures cause { IfErr result (λ e.
+        (e ≡ ParsingError.UnknownReadFormat) ⊎ (e ≡ ParsingError.Memory)) }
 {
     let reply: StreamReadReply = from_redis_value(alloc, answer)?;
     Ok(ids_to_acknowledge(alloc, &reply)?)

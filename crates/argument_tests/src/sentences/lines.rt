@@ -26,7 +26,8 @@ config IDMP-MAXSIZE 10000 x";
 const ANSWER: &str = "ok 5\nno\nno\nok 4\nok 0\nno\nno\nno\nok 3\nok 0\nok 3\nno\nok 1\nunknown\n\
 unknown\nok 2\n";
 
-// It gives its bytes in chunks of at most `size`, and fails where `reads` were made.
+// It gives its bytes in chunks of at most `size`. It fails once where `reads` were made, and would
+// then go on.
 #[derive(Drop)]
 struct Chunks<'a> {
     bytes: &'a [u8],
@@ -37,6 +38,7 @@ struct Chunks<'a> {
 impl<'a> Read for Chunks<'a> {
     fn read(&mut self, buffer: &mut [u8]) -> io::Result<usize> {
         if self.reads == 0 {
+            self.reads = usize::MAX;
             return Err(io::Error::from(ErrorKind::Interrupted));
         }
         self.reads -= 1;
@@ -55,18 +57,45 @@ fn chunks_of(text: &str) -> Chunks<'_> {
     }
 }
 
-// It takes `room` bytes, at most three at a time, and then it fails or takes none.
+// What a page does that has no room.
+#[derive(Clone, Copy, Debug)]
+enum Full {
+    Fails,
+    TakesNone,
+    FailsOnce,
+    TakesNoneOnce,
+}
+
+// It takes `room` bytes, at most three at a time, and then does what its `full` says.
 #[derive(Drop)]
 struct Page {
     written: Vec<u8>,
     room: usize,
-    fails: bool,
+    full: Full,
+}
+
+impl Page {
+    // The answer of a page without room, which has room from then on where it says so.
+    fn write_without_room(&mut self) -> io::Result<usize> {
+        match self.full {
+            Full::Fails => Err(io::Error::from(ErrorKind::Interrupted)),
+            Full::TakesNone => Ok(0),
+            Full::FailsOnce => {
+                self.room = usize::MAX;
+                Err(io::Error::from(ErrorKind::Interrupted))
+            }
+            Full::TakesNoneOnce => {
+                self.room = usize::MAX;
+                Ok(0)
+            }
+        }
+    }
 }
 
 impl Write for Page {
     fn write(&mut self, bytes: &[u8]) -> io::Result<usize> {
-        if self.fails && self.room == 0 {
-            return Err(io::Error::from(ErrorKind::Interrupted));
+        if self.room == 0 {
+            return self.write_without_room();
         }
         let taken = bytes.len().min(3).min(self.room);
         self.room -= taken;
@@ -82,11 +111,11 @@ impl Write for Page {
 }
 
 // An empty page that asks for no more memory up to 128 bytes.
-fn page_of(alloc: Global, room: usize, fails: bool) -> Result<Page, AllocError> {
+fn page_of(alloc: Global, room: usize, full: Full) -> Result<Page, AllocError> {
     Ok(Page {
         written: Vec::with_capacity(alloc, 128)?,
         room,
-        fails,
+        full,
     })
 }
 
@@ -95,16 +124,15 @@ fn answer_on(alloc: Global, input: &mut Chunks<'_>, page: &mut Page) -> Result<(
     run(alloc, input, page)
 }
 
-// These bytes, in chunks of at most `size`, have this answer, on a page with room for no more,
-// which would fail at more or take none.
+// These bytes, in chunks of at most `size`, have this answer, on a page with room for no more.
 fn check_lines(
     rt: &(impl AllocGlobal + Abort),
     bytes: &[u8],
     size: usize,
     answer: &str,
-    fails: bool,
+    full: Full,
 ) -> Result<(), Fail> {
-    let mut page = page_of(rt.alloc(), answer.len(), fails)?;
+    let mut page = page_of(rt.alloc(), answer.len(), full)?;
     let mut input = Chunks {
         bytes,
         size,
@@ -129,7 +157,7 @@ fn each_line_is_answered(rt: HostRuntime) -> Result<(), Fail> {
         ("claim\r\n", "unknown\n"),
         ("claim\n\nclaim", "ok 0\nunknown\nok 0\n"),
     ] {
-        check_lines(&rt, text.as_bytes(), 7, answer, true)?;
+        check_lines(&rt, text.as_bytes(), 7, answer, Full::Fails)?;
     }
     Ok(())
 }
@@ -137,12 +165,12 @@ fn each_line_is_answered(rt: HostRuntime) -> Result<(), Fail> {
 #[test]
 fn any_bytes_are_arguments(rt: HostRuntime) -> Result<(), Fail> {
     let bytes = b"trim MINID = \xff\nread GROUP \xff \xfe\n\xff".as_slice();
-    check_lines(&rt, bytes, 1, "no\nok 3\nunknown\n", true)
+    check_lines(&rt, bytes, 1, "no\nok 3\nunknown\n", Full::Fails)
 }
 
 // Where a read fails after so many, nothing is written.
 fn check_failing_read(rt: &(impl AllocGlobal + Abort), reads: usize) -> Result<(), Fail> {
-    let mut page = page_of(rt.alloc(), ANSWER.len(), true)?;
+    let mut page = page_of(rt.alloc(), ANSWER.len(), Full::Fails)?;
     let mut input = chunks_of(LINES);
     input.reads = reads;
     assert_eq!(rt;
@@ -162,15 +190,16 @@ fn nothing_is_written_where_a_read_fails(rt: HostRuntime) -> Result<(), Fail> {
     Ok(())
 }
 
-// Where a page has too little room, so much is written.
-fn check_little_room(
-    rt: &(impl AllocGlobal + Abort),
-    room: usize,
-    fails: bool,
-) -> Result<(), Fail> {
-    let mut page = page_of(rt.alloc(), room, fails)?;
+// Where a page has too little room, so much is written, also where it would take more at the next
+// try.
+fn check_little_room(rt: &(impl AllocGlobal + Abort), room: usize, full: Full) -> Result<(), Fail> {
+    let mut page = page_of(rt.alloc(), room, full)?;
     let answer = answer_on(rt.alloc(), &mut chunks_of(LINES), &mut page);
-    assert_eq!(rt; answer, Err(RunError::Write), "room for {room}");
+    assert_eq!(rt;
+        answer,
+        Err(RunError::Write),
+        "room for {room}, then {full:?}"
+    );
     assert_eq!(rt;
         Some(page.written.as_slice()),
         ANSWER.as_bytes().get(..room)
@@ -181,15 +210,21 @@ fn check_little_room(
 #[test]
 fn a_beginning_is_written_where_a_write_fails(rt: HostRuntime) -> Result<(), Fail> {
     for room in 0..ANSWER.len() {
-        check_little_room(&rt, room, false)?;
-        check_little_room(&rt, room, true)?;
+        for full in [
+            Full::Fails,
+            Full::TakesNone,
+            Full::FailsOnce,
+            Full::TakesNoneOnce,
+        ] {
+            check_little_room(&rt, room, full)?;
+        }
     }
-    check_lines(&rt, LINES.as_bytes(), 7, ANSWER, false)
+    check_lines(&rt, LINES.as_bytes(), 7, ANSWER, Full::TakesNone)
 }
 
 #[test]
 fn refused_memory_writes_nothing(rt: HostRuntime) {
-    let Ok(mut page) = page_of(rt.alloc(), ANSWER.len(), true) else {
+    let Ok(mut page) = page_of(rt.alloc(), ANSWER.len(), Full::Fails) else {
         return;
     };
     match answer_on(rt.alloc(), &mut chunks_of(LINES), &mut page) {

@@ -1,7 +1,7 @@
 //! Values that are read as they are.
 ghost use Rattle.std.specs.Prelude.{◌≡◌, Ok, Some};
 ghost use Rattle.redis_resp.specs.Tree.{Tree};
-ghost use Rattle.redis_resp.specs.Refusal.{RefusesValue};
+ghost use Rattle.redis_resp.specs.Refusal.{RefusesNothing, RefusesValue};
 ghost use Rattle.redis_resp.specs.Value.{tree};
 
 use crate::value::Value;
@@ -17,6 +17,8 @@ impl FromRedisValue for Value {
     ghost reading = { λ t. Some t };
 
     ghost may_refuse = { RefusesValue };
+
+    ghost may_refuse_owned = { RefusesNothing };
 
     /// The value itself, its attributes kept. It copies nothing and never fails.
     fn from_redis_value(_alloc: Global, v: Value) -> Result<Value, ParsingError>

@@ -1,8 +1,7 @@
 //! Bytes that are read from values.
-ghost use Rattle.std.specs.Prelude.{◌≡◌, ◌≢◌, ℕ, List, Some, Err, IfOk, IfErr};
+ghost use Rattle.std.specs.Prelude.{ℕ, List};
 ghost use Rattle.redis_resp.specs.Bytes.{bytes_reading};
-ghost use Rattle.redis_resp.specs.Refusal.{Refuses, RefusesBytes};
-ghost use Rattle.redis_resp.specs.Value.{tree};
+ghost use Rattle.redis_resp.specs.Refusal.{RefusesBytes, RefusesOwnedBytes};
 
 use crate::value::Value;
 use crate::value::error::ParsingError;
@@ -19,12 +18,10 @@ impl FromRedisValue for RawBytes {
 
     ghost may_refuse = { RefusesBytes };
 
+    ghost may_refuse_owned = { RefusesOwnedBytes };
+
     /// The bytes of a bulk string. They are moved, so it takes no memory.
-    fn from_redis_value(_alloc: Global, v: Value) -> Result<RawBytes, ParsingError>
-        ensures ok { IfOk result (λ r. bytes_reading (tree v) ≡ Some r.0.items) }
-        ensures err { IfErr result (Refuses bytes_reading RefusesBytes (tree v)) }
-        ensures moved { result ≢ Err ParsingError.Memory }
-    {
+    fn from_redis_value(_alloc: Global, v: Value) -> Result<RawBytes, ParsingError> {
         match v.into_plain() {
             Value::BulkString(bytes) => Ok(RawBytes(bytes)),
             _ => Err(ParsingError::NotBytes),

@@ -28,13 +28,18 @@ pub trait FromRedisValue: Drop {
     /// With which error a tree may be refused; any, where a type does not say.
     ghost may_refuse: { Tree → ParsingError → Type 0 } = { λ _ _. ⊤ };
 
+    /// With which of these errors a value that is consumed may be refused; with each of them, where
+    /// a type does not say.
+    ghost may_refuse_owned: { Tree → ParsingError → Type 0 } = { λ _ _. ⊤ };
+
     /// Reads the record of a value, and consumes the value.
     ///
     /// An Err is one with which the value may be refused, and means that it has no record, unless
     /// it is `Memory`.
     fn from_redis_value(alloc: Global, v: Value) -> Result<Self, ParsingError>
         ensures ok { IfOk result (λ r. reading (tree v) ≡ Some (meaning r)) }
-        ensures err { IfErr result (Refuses reading may_refuse (tree v)) };
+        ensures err { IfErr result (Refuses reading may_refuse (tree v)) }
+        ensures owned { IfErr result (may_refuse_owned (tree v)) };
 
     /// Reads the same record from a borrowed value, and copies only what the record keeps.
     fn from_redis_value_ref(alloc: Global, v: &Value) -> Result<Self, ParsingError>
@@ -49,6 +54,7 @@ pub trait FromRedisValue: Drop {
 pub fn from_redis_value<T: FromRedisValue>(alloc: Global, v: Value) -> Result<T, ParsingError>
     ensures ok { IfOk result (λ r. T.reading (tree v) ≡ Some (T.meaning r)) }
     ensures err { IfErr result (Refuses T.reading T.may_refuse (tree v)) }
+    ensures owned { IfErr result (T.may_refuse_owned (tree v)) }
 {
     T::from_redis_value(alloc, v)
 }

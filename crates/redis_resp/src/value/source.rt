@@ -1,5 +1,5 @@
 //! Values to read from, owned or borrowed.
-ghost use Rattle.std.specs.Prelude.{◌≡◌, ◌∷◌, [], IfOk, IfErr, Some, List, length, map};
+ghost use Rattle.std.specs.Prelude.{◌≡◌, ◌∷◌, [], IfOk, IfErr, Ok, Some, List, length, map};
 ghost use Rattle.std.specs.Prelude.{option_map, MatchOption};
 ghost use Rattle.redis_resp.specs.Tree.{Tree, plain, items, pairs_in, array_of_plain};
 ghost use Rattle.redis_resp.specs.Refusal.{Refuses};
@@ -88,7 +88,11 @@ impl Source for Value {
 
     ghost pairs_left = { owned_left tree_of_pair };
 
-    fn read<T: FromRedisValue>(self, alloc: Global) -> Result<T, ParsingError> {
+    fn read<T: FromRedisValue>(self, alloc: Global) -> Result<T, ParsingError>
+        ensures ok { IfOk result (λ r. T.reading (tree self) ≡ Some (T.meaning r)) }
+        ensures err { IfErr result (Refuses T.reading T.may_refuse (tree self)) }
+        ensures owned { IfErr result (T.may_refuse_owned (tree self)) }
+    {
         T::from_redis_value(alloc, self)
     }
 
@@ -96,7 +100,9 @@ impl Source for Value {
         self
     }
 
-    fn into_owned(self, _alloc: Global) -> Result<Value, AllocError> {
+    fn into_owned(self, _alloc: Global) -> Result<Value, AllocError>
+        ensures moved { result ≡ Ok self }
+    {
         Ok(self)
     }
 

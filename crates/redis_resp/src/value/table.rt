@@ -76,7 +76,11 @@ fn insert_fields<S: Source, V: FromRedisValue>(
         (OneRefused (RefusesEntry (Refuses V.reading V.may_refuse)))
         (all_left S.values_left S.pairs_left pairs)) }
 {
-    let mut fields = HashMap::with_capacity(alloc, count_left::<S>(&pairs))?;
+    let count = count_left::<S>(&pairs);
+    if count == 0 {
+        return Ok(HashMap::new(alloc));
+    }
+    let mut fields = HashMap::with_capacity(alloc, count)?;
     while let Some((key, value)) = next_left::<S>(&mut pairs) {
         let entry: (String, V) = read_pair(alloc, key, value)?;
         fields.insert(entry.0, entry.1)?;

@@ -1,10 +1,9 @@
 //! Texts that are read from values.
-ghost use Rattle.std.specs.Prelude.{◌≡◌, IfOk, IfErr, IsTrue, ℕ, List, None, Some, string_bytes};
-ghost use Rattle.redis_resp.specs.Tree.{bulk, plain};
+ghost use Rattle.std.specs.Prelude.{◌≡◌, IfOk, IfErr, ℕ, List, None, Some, string_bytes};
+ghost use Rattle.redis_resp.specs.Tree.{bulk};
 ghost use Rattle.redis_resp.specs.declared.value.error.ParsingError.TheVariants.{NotText};
-ghost use Rattle.redis_resp.specs.Refusal.{Refuses, RefusesText};
-ghost use Rattle.redis_resp.specs.Text.{text_of_plain, text_reading, is_written_out};
-ghost use Rattle.redis_resp.specs.Value.{tree};
+ghost use Rattle.redis_resp.specs.Refusal.{RefusesOwnedText, RefusesText};
+ghost use Rattle.redis_resp.specs.Text.{text_of_plain, text_reading};
 
 use crate::value::Value;
 use crate::value::error::ParsingError;
@@ -31,14 +30,11 @@ impl FromRedisValue for String {
 
     ghost may_refuse = { RefusesText };
 
+    ghost may_refuse_owned = { RefusesOwnedText };
+
     /// The text of a value. It moves the text that the value holds, and takes memory only where
     /// the value holds none: for `OK` and for a number in decimal.
-    fn from_redis_value(alloc: Global, v: Value) -> Result<String, ParsingError>
-        ensures ok { IfOk result (λ s. text_reading (tree v) ≡ Some (string_bytes s)) }
-        ensures err { IfErr result (Refuses text_reading RefusesText (tree v)) }
-        ensures moved { result ≡ Err ParsingError.Memory
-            → IsTrue (is_written_out (plain (tree v))) }
-    {
+    fn from_redis_value(alloc: Global, v: Value) -> Result<String, ParsingError> {
         let v = match v {
             // most texts are bulk strings with nothing around them
             Value::BulkString(bytes) => return text_of(bytes),

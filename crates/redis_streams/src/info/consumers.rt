@@ -127,11 +127,17 @@ fn reply_of(alloc: Global, rows: Vec<Row>) -> Result<StreamInfoConsumersReply, A
 }
 
 /// The consumers of a value that is a list of rows.
+#[tactic(auto, using(crate::proofs::InfoLemmas::list_wants_memory))]
 fn read_reply<S: Source>(alloc: Global, v: S) -> Result<StreamInfoConsumersReply, ParsingError>
     ensures ok { IfOk result (λ r. consumers_reading (S.seen v) ≡ Some (consumers_meaning r)) }
     ensures err { IfErr result (Refuses consumers_reading RefusesConsumers (S.seen v)) }
 {
     let rows: Vec<Row> = v.read(alloc)?;
+    if rows.is_empty() {
+        return Ok(StreamInfoConsumersReply {
+            consumers: Vec::new(alloc),
+        });
+    }
     Ok(reply_of(alloc, rows)?)
 }
 

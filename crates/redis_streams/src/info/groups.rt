@@ -196,11 +196,17 @@ fn reply_of(alloc: Global, rows: Vec<Row>) -> Result<StreamInfoGroupsReply, Allo
 }
 
 /// The groups of a value that is a list of rows.
+#[tactic(auto, using(crate::proofs::InfoLemmas::list_wants_memory))]
 fn read_reply<S: Source>(alloc: Global, v: S) -> Result<StreamInfoGroupsReply, ParsingError>
     ensures ok { IfOk result (λ r. groups_reading (S.seen v) ≡ Some (groups_meaning r)) }
     ensures err { IfErr result (Refuses groups_reading RefusesGroups (S.seen v)) }
 {
     let rows: Vec<Row> = v.read(alloc)?;
+    if rows.is_empty() {
+        return Ok(StreamInfoGroupsReply {
+            groups: Vec::new(alloc),
+        });
+    }
     Ok(reply_of(alloc, rows)?)
 }
 

@@ -27,6 +27,9 @@ pub(crate) fn named_fields<S: Source>(
 {
     match into_pairs(v) {
         Some(left) => {
+            if count_left::<S>(&left) == 0 {
+                return Ok(HashMap::new(alloc));
+            }
             let pairs = keep_pairs::<S>(alloc, left)?;
             Ok(hash_map_of(alloc, pairs)?)
         }

@@ -1,11 +1,11 @@
 //! Both readings of a value in one line.
 ghost use Rattle.std.specs.Prelude.{Bool, true, None, codes};
 
-use crate::replies::check_value;
 use redis_resp::{FromRedisValue, ParsingError, Value};
 use std::alloc::{AllocError, Global};
+use std::process::Abort;
 use std::test::Fail;
-use stream_text::PrintedForm;
+use stream_text::{PrintedForm, both_answers};
 
 /// It has no record, and its two readings refuse a value with errors of their own.
 #[derive(Drop)]
@@ -35,10 +35,21 @@ impl PrintedForm for Refused {
     }
 }
 
+/// Both readings of the value are told so.
+fn check_told<T: FromRedisValue + PrintedForm>(
+    rt: &(impl AllocGlobal + Abort),
+    value: Value,
+    told: &str,
+) -> Result<(), Fail> {
+    let line = both_answers::<T>(rt.alloc(), value)?;
+    assert!(rt; line.as_str() == told, "{line}, not {told}");
+    Ok(())
+}
+
 #[test]
 fn both_readings_are_told(rt: HostRuntime) -> Result<(), Fail> {
-    check_value::<Refused>(&rt, Value::Nil, "refused 1 owned, refused 2 lent")?;
-    check_value::<usize>(&rt, Value::Int(7), "7")?;
-    check_value::<usize>(&rt, Value::Nil, "refused 2")?;
-    check_value::<String>(&rt, Value::Nil, "refused 1")
+    check_told::<Refused>(&rt, Value::Nil, "refused 1 owned, refused 2 lent")?;
+    check_told::<usize>(&rt, Value::Int(7), "7")?;
+    check_told::<usize>(&rt, Value::Nil, "refused 2")?;
+    check_told::<String>(&rt, Value::Nil, "refused 1")
 }

@@ -1,4 +1,4 @@
-//! Copies of replies of up to 10,000 items, with ample memory.
+//! Copies of replies of up to 64 items, of 1,000 and of 10,000, with ample memory.
 use crate::line_of;
 use redis_resp::from_redis_value;
 use redis_streams::{
@@ -24,7 +24,12 @@ fn check_same<T: PrintedForm>(
 // So many items in the notation are read, and a copy of the record has the record's printed form.
 macro_rules! check_copies {
     ($rt:expr, $record:ty, $items:expr) => {
-        for count in [0, 1, 2, 64, 1_000, 10_000] {
+        for step in 0..67 {
+            let count = match step {
+                65 => 1_000,
+                66 => 10_000,
+                count => count,
+            };
             let notation = line_of($rt.alloc(), $items, count)?;
             let value = read_value($rt.alloc(), notation.as_str())?;
             drop(notation);
@@ -53,6 +58,27 @@ fn claims_are_copied(rt: HostRuntime) -> Result<(), Fail> {
 fn reads_are_copied(rt: HostRuntime) -> Result<(), Fail> {
     let items = ("Map[s: Array[", "Array[$-0, Array[f, Int $]]", ", ", "]]");
     check_copies!(rt, StreamReadReply, items);
+    Ok(())
+}
+
+#[test]
+fn reads_with_claim_are_copied(rt: HostRuntime) -> Result<(), Fail> {
+    let entry = "Array[$-0, Array[f, Int $], Int $, Int 2]";
+    check_copies!(rt, StreamReadReply, ("Map[s: Array[", entry, ", ", "]]"));
+    Ok(())
+}
+
+#[test]
+fn streams_are_copied(rt: HostRuntime) -> Result<(), Fail> {
+    let stream = "s$: Array[Array[$-0, Array[f, v]]]";
+    check_copies!(rt, StreamReadReply, ("Map[", stream, ", ", "]"));
+    Ok(())
+}
+
+#[test]
+fn deleted_ids_are_copied(rt: HostRuntime) -> Result<(), Fail> {
+    let items = ("Array[0-0, Array[], Array[", "$-0", ", ", "]]");
+    check_copies!(rt, StreamAutoClaimReply, items);
     Ok(())
 }
 

@@ -17,6 +17,15 @@ pub const IDMP_MAXSIZE_MIN: u16 = 1;
 /// `IDMP-MAXSIZE`: the most ids of a producer that a stream can be told to keep.
 pub const IDMP_MAXSIZE_MAX: u16 = 10000;
 
+// Redis' documentation names these four numbers.
+const _: () = prove!(IDMP_DURATION_MIN == 1);
+
+const _: () = prove!(IDMP_DURATION_MAX == 86400);
+
+const _: () = prove!(IDMP_MAXSIZE_MIN == 1);
+
+const _: () = prove!(IDMP_MAXSIZE_MAX == 10000);
+
 /// A number outside the range of its setting.
 #[derive(Debug, Drop, PartialEq, Eq, Error)]
 pub enum ConfigError {

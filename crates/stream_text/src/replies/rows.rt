@@ -8,6 +8,7 @@ use redis_streams::{
     StreamAutoClaimReply, StreamClaimReply, StreamKey, StreamRangeReply, StreamReadReply,
 };
 use std::alloc::{AllocError, Global};
+pub(crate) use stream_id::print_value;
 
 /// The entries, with a space between each two.
 impl PrintedForm for StreamRangeReply {

@@ -111,6 +111,45 @@ fn the_last_number_wins(rt: HostRuntime) -> Result<(), Fail> {
     check_read(&rt, calls, true, &["BLOCK", "6", "COUNT", "2"])
 }
 
+// The calls of a play are made, and the options that it makes write what they have to; memory is
+// asked for by the calls alone and by the play.
+fn check_played(rt: &(impl AllocGlobal + Abort)) -> Result<(), AllocError> {
+    let mut calls = Vec::new(rt.alloc());
+    calls.push(ReadCall::Noack)?;
+    calls.push(group(rt.alloc(), "g", "c")?)?;
+    calls.push(ReadCall::Block(5))?;
+    calls.push(ReadCall::Claim(1))?;
+    calls.push(group(rt.alloc(), "h", "")?)?;
+    calls.push(ReadCall::Count(2))?;
+    let options = play_read(rt.alloc(), calls)?;
+    let words = [
+        "GROUP", "h", "BLOCK", "5", "COUNT", "2", "NOACK", "CLAIM", "1",
+    ];
+    let Ok(fixed) = fixed_args_of::<_, 16, 128>(&options) else {
+        assert!(rt; false, "no room");
+        return Ok(());
+    };
+    assert_eq!(rt; fixed.len(), words.len());
+    for (index, word) in words.iter().enumerate() {
+        assert_eq!(rt; fixed.get(index), Some(word.as_bytes()));
+    }
+    Ok(())
+}
+
+#[test]
+fn ample_memory_makes_a_play(rt: HostRuntime) {
+    assert_eq!(rt; check_played(&rt), Ok(()));
+}
+
+// `tools/sweep-refused-memory` runs it with each request for memory refused in turn. A wrong answer
+// ends it in `check_played`; that memory ran out is a right one.
+#[test]
+fn refused_memory_makes_no_other_play(rt: HostRuntime) {
+    match check_played(&rt) {
+        Ok(()) | Err(AllocError) => {}
+    }
+}
+
 #[test]
 fn too_small_a_place_is_full(rt: HostRuntime) {
     let strategy = StreamTrimStrategy::maxlen(StreamTrimmingMode::Approx, 10);

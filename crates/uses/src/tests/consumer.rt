@@ -1,5 +1,6 @@
 //! What a consumer of a group does.
 use crate::batch::sort_out;
+use crate::deletion::{acknowledgement_of, deletion_of, is_left, was_pending};
 use crate::monitoring::{delivered_too_often, lag_of};
 use crate::stalled::{claim_arguments, stalled_in};
 use crate::tests::assert_line;
@@ -98,5 +99,18 @@ fn a_group_is_watched(rt: HostRuntime) -> Result<(), Fail> {
     let groups: StreamInfoGroupsReply = from_redis_value(rt.alloc(), answer)?;
     assert_eq!(rt; lag_of(&groups, "g"), Some(7));
     assert_eq!(rt; lag_of(&groups, "h"), None);
+    Ok(())
+}
+
+#[test]
+fn deletions_are_told(rt: HostRuntime) -> Result<(), Fail> {
+    for (code, left, pending) in [(-1, false, false), (1, false, true), (2, true, true)] {
+        let status = deletion_of(rt.alloc(), Value::Int(code))?;
+        assert_eq!(rt; is_left(&status), left);
+        let status = acknowledgement_of(rt.alloc(), Value::Int(code))?;
+        assert_eq!(rt; was_pending(&status), pending);
+    }
+    assert!(rt; deletion_of(rt.alloc(), Value::Nil).is_err());
+    assert!(rt; acknowledgement_of(rt.alloc(), Value::Int(0)).is_err());
     Ok(())
 }

@@ -4,12 +4,12 @@ use crate::producer::Producer;
 use crate::readme::{first_customer, read_arguments};
 use crate::server::add_request;
 use crate::tests::assert_line;
-use redis_resp::from_redis_value;
+use redis::from_redis_value;
+use redis::sentences::SentenceError;
+use redis::streams::{StreamRangeReply, StreamReadOptions};
 use std::alloc::{AllocError, Global};
 use std::process::Abort;
 use std::test::Fail;
-use stream_options::StreamReadOptions;
-use stream_sentences::SentenceError;
 use stream_text::read_value;
 
 // A producer that sends its ninth entry.
@@ -90,6 +90,34 @@ fn orders_are_arguments_and_records(rt: HostRuntime) -> Result<(), Fail> {
     let listed = "Array[Map[quantity: 3, order: 17, customer: ann]]";
     let listed: Vec<Order> = from_redis_value(rt.alloc(), read_value(rt.alloc(), listed)?)?;
     assert_line(&rt, &listed, "order 17 customer ann quantity 3")
+}
+
+// The number that a value is, where it is not nil, as `Debug` shows it.
+fn assert_number(rt: &(impl Abort + AllocGlobal), notation: &str, shown: &str) -> Result<(), Fail> {
+    let value = read_value(rt.alloc(), notation)?;
+    let read = from_redis_value::<Option<OrderId>>(rt.alloc(), value);
+    let told = format!(in rt.alloc(); "{read:?}")?;
+    assert_eq!(rt; told.as_str(), shown);
+    Ok(())
+}
+
+#[test]
+fn a_user_type_is_optional(rt: HostRuntime) -> Result<(), Fail> {
+    assert_number(&rt, "17", "Ok(Some(OrderId(17)))")?;
+    assert_number(&rt, "Nil", "Ok(None)")?;
+    assert_number(&rt, "x", "Err(NotNumber)")
+}
+
+#[test]
+fn a_user_type_is_got_of_an_entry(rt: HostRuntime) -> Result<(), Fail> {
+    let answer = "Array[Array[1-0, Array[order, 17, customer, ann]]]";
+    let reply: StreamRangeReply = from_redis_value(rt.alloc(), read_value(rt.alloc(), answer)?)?;
+    assert_eq!(rt; reply.ids.len(), 1);
+    for (name, number) in [("order", Some(17)), ("customer", None), ("quantity", None)] {
+        let id = reply.ids[0].get::<OrderId>(rt.alloc(), name)?;
+        assert_eq!(rt; id.map(|id| id.0), number);
+    }
+    Ok(())
 }
 
 // The value is no order, as `Debug` shows it.

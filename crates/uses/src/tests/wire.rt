@@ -2,8 +2,8 @@
 use crate::tests::assert_line;
 use crate::wire::{AnswerError, streams_answered, streams_of_both};
 use crate::worker::ids_to_acknowledge;
-use redis_resp::ParsingError;
-use redis_wire::Fault;
+use redis::ParsingError;
+use redis::wire::Fault;
 use std::process::Abort;
 use std::test::Fail;
 

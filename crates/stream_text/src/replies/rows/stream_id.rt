@@ -45,7 +45,7 @@ impl PrintedForm for Field<'_> {
 }
 
 /// Appends the text that a value reads as, or a question mark where it reads as none.
-fn print_value(alloc: Global, value: &Value, line: &mut String) -> Result<(), AllocError>
+pub(crate) fn print_value(alloc: Global, value: &Value, line: &mut String) -> Result<(), AllocError>
     ensures { OnOk result (string_bytes line.new ≡ string_bytes line.old ++ value_form value.now) }
 {
     match String::from_redis_value_ref(alloc, value) {

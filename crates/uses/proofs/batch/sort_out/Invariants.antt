@@ -1,6 +1,6 @@
 use Rattle.std.proofs.Common.{◌≡◌, map, take, string_bytes}
 use Rattle.std.specs.Prelude.{flat_map}
-use Rattle.stream_entries.specs.EntryMeaning.{entry_meaning}
+use Rattle.redis.specs.Words.{entry_meaning}
 use Rattle.uses.specs.Order.{order_meaning, order_in, strange_in}
 use Rattle.uses.proofs.batch.sort_out.Given as goal
 

@@ -1,6 +1,6 @@
 use Rattle.std.proofs.Common.{◌≡◌, map, take, string_bytes}
 use Rattle.std.specs.Prelude.{filter, nat_le}
-use Rattle.redis_streams.specs.PendingMeaning.{pending_id_meaning}
+use Rattle.redis.specs.Words.{pending_id_meaning}
 use Rattle.uses.proofs.monitoring.delivered_too_often.Given as goal
 
 -- the ids of those so far that were delivered so often

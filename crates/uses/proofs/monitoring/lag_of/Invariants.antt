@@ -1,5 +1,5 @@
 use Rattle.std.proofs.Common.{◌≡◌, map, drop}
-use Rattle.redis_streams.specs.InfoMeaning.{group_meaning, groups_meaning}
+use Rattle.redis.specs.Words.{group_meaning, groups_meaning}
 use Rattle.uses.specs.Monitoring.{lag_in}
 use Rattle.uses.proofs.monitoring.lag_of.Given as goal
 

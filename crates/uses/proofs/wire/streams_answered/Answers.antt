@@ -1,6 +1,6 @@
 use Rattle.std.proofs.Common.{rules}
-use Rattle.redis_wire.specs.Reply.{answer}
-use Rattle.uses.proofs.WireLemmas.{value_begun, refused_begun, error_begun}
+use Rattle.redis.specs.Words.{answer}
+use Rattle.uses.proofs.WireLemmas.{value_begun, refused_begun, error_begun, unknown_format}
 use Rattle.uses.proofs.wire.streams_answered.Goals as goal
 
 pub returns-in-Ok-clause-head : goal.returns-in-Ok-clause-head
@@ -19,4 +19,5 @@ returns-in-Err-Parsing c =
     record {
       answer = search rules;
       head = refused_begun c.default.result c.args.bytes.now c.in-Ok-Complete.field-0-1 c.default.ensures (answer c.in-Ok-Complete.reply) c.in-Err-Parsing.error sound.1 (rw c.in-Err-Parsing.field-0-is at c.in-Err-Parsing.ensures);
+      cause = unknown_format (answer c.in-Ok-Complete.reply) c.in-Err-Parsing.error (rw c.in-Err-Parsing.field-0-is at c.in-Err-Parsing.ensures) (search rules);
     }

@@ -1,9 +1,7 @@
 use Rattle.std.proofs.Common.{sym, ◌∙◌}
 use Rattle.std.proofs.lemmas.Option.{same_Some}
 use Rattle.std.proofs.lemmas.Result.{err_from_is_err_and}
-use Rattle.redis_resp.specs.Tree.{map_of_pairs, pairs}
-use Rattle.stream_entries.specs.RespellingLaws.{rows_of_two}
-use Rattle.redis_wire.specs.Reply.{value}
+use Rattle.redis.specs.Words.{map_of_pairs, pairs, rows_of_two, value}
 use Rattle.uses.proofs.WireLemmas.{first_refused, second_refused}
 use Rattle.uses.proofs.wire.streams_of_both.Goals as goal
 
@@ -26,3 +24,9 @@ returns-clause-protocols c = λ streams b d.
     let v = rows_of_two streams in
     let w = map_of_pairs (pairs streams) in
     same_Some _ _ (sym (c.in_ok-first.ensures.answer (value v) b) ∙ c.respell_read.ensures.record v w (c.respell_read.ensures.protocols streams) ∙ c.in_ok-second.ensures.answer (value w) d)
+
+pub returns-clause-first : goal.returns-clause-first
+returns-clause-first c = λ v b. c.in_ok-first.ensures.answer (value v) b
+
+pub returns-clause-second : goal.returns-clause-second
+returns-clause-second c = λ w d. c.in_ok-second.ensures.answer (value w) d

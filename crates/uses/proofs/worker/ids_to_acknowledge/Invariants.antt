@@ -1,5 +1,5 @@
 use Rattle.std.proofs.Common.{◌≡◌, map, take, string_bytes}
-use Rattle.stream_entries.specs.ReadMeaning.{stream_key_meaning}
+use Rattle.redis.specs.Words.{stream_key_meaning}
 use Rattle.uses.specs.Worker.{ids_in}
 use Rattle.uses.proofs.worker.ids_to_acknowledge.Given as goal
 

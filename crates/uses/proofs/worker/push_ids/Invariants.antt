@@ -1,5 +1,5 @@
 use Rattle.std.proofs.Common.{◌≡◌, ◌++◌, map, take, string_bytes}
-use Rattle.stream_entries.specs.EntryMeaning.{entry_meaning}
+use Rattle.redis.specs.Words.{entry_meaning}
 use Rattle.uses.specs.Worker.{ids_of}
 use Rattle.uses.proofs.worker.push_ids.Given as goal
 

@@ -1,4 +1,4 @@
-use Rattle.std.proofs.Common.{◌≡◌, ℕ, List, ◌++◌, [], ◌∷◌, Some, rules, arith, ap, inl, inr, refl, string_bytes}
+use Rattle.std.proofs.Common.{◌≡◌, ℕ, List, ◌++◌, [], ◌∷◌, Some, arith, ap, inl, inr, refl, string_bytes}
 use Rattle.std.proofs.lemmas.Grind.{common_steps}
 use Rattle.redis_resp.specs.Tree.{Tree}
 use Rattle.redis_resp.specs.Reading.{traverse}
@@ -6,6 +6,7 @@ use Rattle.redis_resp.specs.Refusal.{Refuses, OneRefused, RefusesEntry, RefusesV
 use Rattle.redis_resp.specs.Source.{all_left}
 use Rattle.redis_resp.specs.Table.{entries_meaning, entry_reading}
 use Rattle.redis_resp.proofs.ReadLemmas.{read_start, read_next, read_refused}
+use Rattle.redis_streams.proofs.InfoLemmas.{passed_on}
 use Rattle.redis_streams.proofs.info.named_fields.keep_pairs.Goals as goal
 
 pub loop-key-init : goal.loop-key-init
@@ -20,7 +21,7 @@ returns-in_err-key-clause-err g c =
     let why = c.in_err-key.ensures.err in
     let stop : Refuses (traverse f) (OneRefused refuses) all c.in_err-key.field-0.0 =
     read_refused f all refuses _ _ _ pair _ c.in-Some.ensures (inr (inl why), λ h. rw (why.1 h) refl) c.loop-key.invariant in
-    search rules
+    passed_on _ _ c.from_residual-in_err-key.result c.from_residual-in_err-key.ensures.1 stop
 
 pub loop-key-preserved : goal.loop-key-preserved
 loop-key-preserved g c =

@@ -1,4 +1,4 @@
-use Rattle.std.proofs.Common.{◌≡◌, Bool, true, false, rules, refl, sym}
+use Rattle.std.proofs.Common.{◌≡◌, true, false, rules, refl, sym}
 use Rattle.redis_resp.specs.Tree.{Tree}
 use Rattle.redis_resp.specs.Value.{tree}
 use Rattle.stream_entries.proofs.ReadableLemmas.{delivery_told}

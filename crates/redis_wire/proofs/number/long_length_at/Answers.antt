@@ -1,7 +1,7 @@
 use Rattle.std.proofs.Common.{◌≡◌, ◌∷◌, ◌<◌, ◌≤◌, ◌+◌, ◌-◌, ◌^◌, rules, arith, length, take, drop, slice_index}
 use Rattle.redis_wire.proofs.LineLemmas.{first_two}
 use Rattle.redis_wire.proofs.DigitLemmas.{length_is}
-use Rattle.redis_wire.proofs.number.plain_length_at.Goals as goal
+use Rattle.redis_wire.proofs.number.long_length_at.Goals as goal
 
 pub returns-in-13 : goal.returns-in-13
 returns-in-13 c =

@@ -1,0 +1,6 @@
+-- Lemmas on files that a crash leaves.
+pub mod EndLemmas
+pub mod EscapeLemmas
+mod Kept
+mod Moments
+pub mod RepairLemmas

@@ -1,0 +1,6 @@
+-- What a log's contracts speak of.
+pub mod Device
+pub mod Lines
+pub mod Escape
+pub mod Log
+pub mod Past

@@ -1,0 +1,30 @@
+-- Lines of a file, each ended by a line feed.
+use Rattle.std.specs.Prelude.{◌≡◌, ◌≢◌, ◌≤◌, ◌⊎◌, ℕ, List, [], ◌∷◌, ◌++◌, length, take, drop, Option, Some, IfSome}
+use Rattle.std.specs.List.{AllByRecursion}
+
+-- no line ends in these bytes
+abbrev pub HasNoEnd : List ℕ → Type 0
+HasNoEnd bytes = AllByRecursion (λ b. b ≢ 10) bytes
+
+-- whole lines: nothing, or a line feed stands last
+abbrev pub AreLines : List ℕ → Type 0
+AreLines bytes = (bytes ≡ []) ⊎ ((front : List ℕ) × (bytes ≡ front ++ 10 ∷ []))
+
+-- the file is these whole lines, and behind them a last line that has no end
+pub record IsLinesAnd (file lines torn : List ℕ) : Type 0 where
+  pub split : file ≡ lines ++ torn
+  pub whole : AreLines lines
+  pub torn_line : HasNoEnd torn
+
+-- so many bytes of the known file are whole lines, and no line ends behind them
+abbrev pub EndsAt : Option (List ℕ) → ℕ → Type 0
+EndsAt known end = IfSome known (λ file. (end ≤ length file) × AreLines (take end file) × HasNoEnd (drop end file))
+
+-- the known file was cut behind its last whole line
+abbrev pub IsRepaired : Option (List ℕ) → Option (List ℕ) → Type 0
+IsRepaired old new = IfSome old (λ file. (lines : List ℕ) × (torn : List ℕ) × IsLinesAnd file lines torn × (new ≡ Some lines))
+
+-- a crash left the same whole lines, and behind them at most a last line that has no end
+abbrev pub HasTheLines : Option (List ℕ) → List ℕ → Type 0
+HasTheLines old c = IfSome old (λ file. (lines : List ℕ) × (torn : List ℕ) × (left : List ℕ)
+    × IsLinesAnd file lines torn × IsLinesAnd c lines left)

@@ -1,0 +1,14 @@
+-- What a log's file has.
+use Rattle.line_log.specs.declared.error.LogError.{LogError}
+use Rattle.line_log.specs.declared.error.LogError.TheVariants.{Memory, File, Broken}
+use Rattle.std.specs.Prelude.{◌≡◌, ◌≤◌, ℕ, List, ◌++◌, length, Option, IfSome}
+
+-- a crash left what the known file had, and behind it as many bytes as were written or fewer
+abbrev pub BeginsWith : Option (List ℕ) → List ℕ → List ℕ → Type 0
+BeginsWith old batch c = IfSome old (λ file. (behind : List ℕ) × (c ≡ file ++ behind) × (length behind ≤ length batch))
+
+-- an error that the system gave
+abbrev pub IsOfTheSystem : LogError → Type 0
+IsOfTheSystem Memory = ⊥
+IsOfTheSystem (File reason) = Unit {0}
+IsOfTheSystem Broken = ⊥

@@ -1,0 +1,67 @@
+//! A file as a log sees it: what a read returns, and what a crash may leave.
+ghost use Rattle.std.specs.Prelude.{◌≡◌, ◌≤◌, List, ℕ, Option, Some, length, take, drop, IfOk, OnOk, IfSome};
+ghost use Rattle.std.specs.Io.KnownBytes.{Appends};
+ghost use Rattle.line_log.specs.Device.{Only, Follows, IsTorn, IsCut, Elapses};
+
+use crate::error::LogError;
+use std::alloc::Global;
+
+/// A file that lines are appended to.
+///
+/// Its clauses are those of a disk: what was written before a sync stays, whatever crash comes;
+/// of what was appended behind that, a crash may leave any bytes, as many as were written or fewer.
+pub trait LogFile {
+    /// What a read returns, where that is known.
+    ghost seen: { Self → Option (List ℕ) };
+
+    /// What a crash at this moment may leave.
+    ghost may_leave: { Self → List ℕ → Type 0 };
+
+    /// The moment, as a number that does not fall.
+    ghost moment: { Self → ℕ };
+
+    /// What a crash at some moment from that one on might have left, during a call or between two.
+    ghost left_since: { Self → ℕ → List ℕ → Type 0 };
+
+    /// How many bytes it has.
+    fn len(&self) -> Result<usize, LogError>
+        ensures { IfOk result (λ n. IfSome (seen self.now) (λ bytes. n ≡ length bytes)) };
+
+    /// So many bytes from there on, or what there is of them.
+    fn read_at(&self, alloc: Global, at: usize, len: usize) -> Result<Vec<u8>, LogError>
+        ensures within { IfOk result (λ read. length read.items ≤ len) }
+        ensures bytes { IfOk result (λ read. IfSome (seen self.now)
+            (λ bytes. read.items ≡ take len (drop at bytes))) };
+
+    /// Writes behind what is there. Until a sync, a crash may leave any bytes in their place.
+    fn append(&mut self, bytes: &[u8]) -> Result<(), LogError>
+        ensures appended { OnOk result (Appends (seen self.old) (seen self.new) bytes.now) }
+        ensures crash { Follows (IsTorn (length bytes.now)) (may_leave self.old) (may_leave self.new) }
+        ensures time { Elapses (moment self.old) (moment self.new)
+            (left_since self.old) (left_since self.new) (may_leave self.new) };
+
+    /// Cuts the file to a length.
+    fn cut(&mut self, len: usize) -> Result<(), LogError>
+        ensures cut { OnOk result (IfSome (seen self.old)
+            (λ bytes. seen self.new ≡ Some (take len bytes))) }
+        ensures crash { Follows (IsCut len) (may_leave self.old) (may_leave self.new) }
+        ensures time { Elapses (moment self.old) (moment self.new)
+            (left_since self.old) (left_since self.new) (may_leave self.new) };
+
+    /// After it, a crash leaves what a read returns.
+    fn sync(&mut self) -> Result<(), LogError>
+        ensures durable { OnOk result (IfSome (seen self.old)
+            (λ bytes. Only bytes (may_leave self.new))) }
+        ensures seen { seen self.new ≡ seen self.old }
+        ensures crash { (c : List ℕ) → may_leave self.new c → may_leave self.old c }
+        ensures time { Elapses (moment self.old) (moment self.new)
+            (left_since self.old) (left_since self.new) (may_leave self.new) };
+
+    /// This moment is one of those since an earlier one.
+    ghost counts_now: { (file : Self) (t : ℕ) (c : List ℕ) → t ≤ moment file
+        → may_leave file c → left_since file t c };
+
+    /// Since this moment there is no other.
+    ghost only_now: { (file : Self) (c : List ℕ) → left_since file (moment file) c
+        → may_leave file c };
+}

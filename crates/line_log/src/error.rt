@@ -1,0 +1,47 @@
+//! Why lines are not in a file.
+ghost use Rattle.std.specs.Prelude.{◌≡◌};
+ghost use Rattle.line_log.specs.declared.error.LogError.TheVariants.{Memory};
+
+use std::alloc::{AllocError, AllocFailed};
+use std::io;
+use thiserror::Error;
+
+/// Why lines are not in a file.
+#[derive(Debug, Drop, Error)]
+pub enum LogError {
+    /// Out of memory. Nothing was written.
+    #[error("out of memory")]
+    Memory,
+    /// The system refused.
+    #[error("{0}")]
+    File(io::Error),
+    /// A write or a sync failed before: what the file has is not known until it is opened again.
+    #[error("an earlier write failed")]
+    Broken,
+}
+
+impl From<AllocError> for LogError {
+    ghost from_gives = { λ _ error. error ≡ Memory };
+
+    fn from(_error: AllocError) -> LogError {
+        LogError::Memory
+    }
+}
+
+impl<T: Drop> From<AllocFailed<T>> for LogError {
+    ghost from_gives = { λ _ error. error ≡ Memory };
+
+    fn from(_error: AllocFailed<T>) -> LogError {
+        LogError::Memory
+    }
+}
+
+impl From<io::Error> for LogError {
+    ghost use Rattle.line_log.specs.declared.error.LogError.TheVariants.{File};
+
+    ghost from_gives = { λ reason error. error ≡ File reason };
+
+    fn from(error: io::Error) -> LogError {
+        LogError::File(error)
+    }
+}

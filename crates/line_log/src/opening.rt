@@ -1,0 +1,56 @@
+//! The end of a file that a crash may have left.
+ghost use Rattle.std.specs.Prelude.{◌≤◌, IfOk, OnOk, length, take, drop};
+ghost use Rattle.line_log.specs.Device.{IsOnDisk, LeavesOnly};
+ghost use Rattle.line_log.specs.Lines.{AreLines, EndsAt, HasNoEnd, HasTheLines, IsRepaired};
+
+use crate::device::LogFile;
+use crate::error::LogError;
+use std::alloc::Global;
+
+/// How many bytes are looked through at once.
+const PIECE: usize = 65_536;
+
+/// The place behind the last line feed among these bytes; 0 where there is none.
+fn last_end(bytes: &[u8]) -> usize
+    ensures within { result ≤ length bytes.now }
+    ensures lines { AreLines (take result bytes.now) }
+    ensures torn { HasNoEnd (drop result bytes.now) }
+{
+    let mut end = bytes.len();
+    while end > 0 && bytes[end - 1] != b'\n' {
+        end -= 1;
+    }
+    end
+}
+
+/// How many bytes of a file are whole lines. It reads from the end, and no further than the last
+/// line feed.
+fn len_of_lines<D: LogFile>(alloc: Global, file: &D) -> Result<usize, LogError>
+    ensures { IfOk result (EndsAt (D.seen file.now)) }
+{
+    let mut at = file.len()?;
+    while at > 0 {
+        let from = at.saturating_sub(PIECE);
+        let piece = file.read_at(alloc, from, at - from)?;
+        let end = last_end(&piece);
+        if end > 0 {
+            return Ok(from + end);
+        }
+        at = from;
+    }
+    Ok(0)
+}
+
+/// Cuts off a last line that has no end, and has the disk take in what is left.
+///
+/// A crash at any moment of it leaves the whole lines that were there.
+pub fn repair<D: LogFile>(alloc: Global, file: &mut D) -> Result<(), LogError>
+    ensures repaired { OnOk result (IsRepaired (D.seen file.old) (D.seen file.new)) }
+    ensures on_disk { OnOk result (IsOnDisk D.seen D.may_leave file.new) }
+    ensures any_moment { IsOnDisk D.seen D.may_leave file.old
+        → LeavesOnly D.moment D.left_since file.old file.new (HasTheLines (D.seen file.old)) }
+{
+    let end = len_of_lines(alloc, &*file)?;
+    file.cut(end)?;
+    file.sync()
+}

@@ -1,0 +1,26 @@
+-- Which error of a connection an error below it becomes.
+use Rattle.redis_args.specs.declared.writer.WriteError.{WriteError}
+use Rattle.redis_args.specs.declared.writer.WriteError.TheVariants as write_errors
+use Rattle.redis_wire.specs.declared.fault.WireError.{WireError}
+use Rattle.redis_wire.specs.declared.fault.WireError.TheVariants as wire_errors
+use Rattle.redis_wire.specs.declared.reply.ReplyError.{ReplyError}
+use Rattle.redis_wire.specs.declared.reply.ReplyError.TheVariants as reply_errors
+use Rattle.redis_connection.specs.declared.error.ConnectionError.{ConnectionError}
+use Rattle.redis_connection.specs.declared.error.ConnectionError.TheVariants as errors
+use Rattle.redis_connection.specs.declared.error.AskError.{AskError}
+use Rattle.redis_connection.specs.declared.error.AskError.TheVariants as ask_errors
+
+-- what a stream of replies met
+abbrev pub failure_of : WireError → ConnectionError
+failure_of wire_errors.Memory = errors.Memory
+failure_of (wire_errors.Fault fault) = errors.Fault fault
+
+-- why a command was not packed
+abbrev pub write_failure_of : WriteError → ConnectionError
+write_failure_of write_errors.Memory = errors.Memory
+write_failure_of write_errors.Full = errors.TooLong
+
+-- why a reply is no record
+abbrev pub refusal_of : ReplyError → AskError
+refusal_of (reply_errors.Server e) = ask_errors.Server e
+refusal_of (reply_errors.Parsing e) = ask_errors.Parsing e

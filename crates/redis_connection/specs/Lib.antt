@@ -1,0 +1,5 @@
+-- What a connection's contracts speak of.
+pub mod Cause
+pub mod Link
+pub mod Seen
+pub mod Ask

@@ -1,0 +1,62 @@
+-- What goes over a connection.
+use Rattle.std.specs.Prelude.{◌≡◌, ◌<◌, ◌⊎◌, ℕ, List, ◌++◌, take, length, Option}
+use Rattle.std.specs.Io.KnownBytes.{Appends, Consumes, IsAtEnd}
+use Rattle.redis_wire.specs.Decoded.{IsReply, NoReply, IsFirstFault}
+use Rattle.redis_wire.specs.Next.{Held}
+use Rattle.redis_wire.specs.Reply.{Answer}
+use Rattle.redis_wire.specs.declared.fault.Fault.TheVariants.{Overfull}
+use Rattle.redis_wire.specs.declared.fault.WireError.TheVariants as wire_errors
+use Rattle.redis_connection.specs.declared.error.ConnectionError.{ConnectionError}
+use Rattle.redis_connection.specs.declared.error.ConnectionError.TheVariants as errors
+
+-- a connection: what its writer holds and what its reader has left, each where that is known, and the
+-- limits and the bytes that came in and were not given out
+pub record Link : Type 0 where
+  pub written : Option (List ℕ)
+  pub coming : Option (List ℕ)
+  pub held : Held
+
+-- these bytes went out, and nothing else happened
+pub record Sends (old new : Link) (bytes : List ℕ) : Type 0 where
+  pub appends : Appends old.written new.written bytes
+  pub coming : new.coming ≡ old.coming
+  pub held : new.held ≡ old.held
+
+-- some front of these bytes went out, and nothing else happened
+abbrev pub SendsFront : Link → Link → List ℕ → Type 0
+SendsFront old new bytes = (n : ℕ) × Sends old new (take n bytes)
+
+-- these bytes came in and are held behind the others, and nothing else happened
+pub record TakesIn (old new : Link) (taken : List ℕ) : Type 0 where
+  pub consumes : Consumes old.coming new.coming taken
+  pub bytes : new.held.bytes ≡ old.held.bytes ++ taken
+  pub limits : new.held.limits ≡ old.held.limits
+  pub written : new.written ≡ old.written
+
+-- some bytes came in and are held, and nothing was given out
+abbrev pub Waits : Link → Link → Type 0
+Waits old new = (taken : List ℕ) × TakesIn old new taken
+
+-- bytes came in, and the reply at the head of what is held then was given out, and just its bytes
+pub record Receives (old new : Link) (a : Answer) : Type 0 where
+  pub taken : List ℕ
+  pub text : List ℕ
+  pub consumes : Consumes old.coming new.coming taken
+  pub bytes : old.held.bytes ++ taken ≡ text ++ new.held.bytes
+  pub reply : IsReply old.held.limits text a
+  pub limits : new.held.limits ≡ old.held.limits
+  pub written : new.written ≡ old.written
+
+-- no reply will ever stand at the head of what is held, and this is the fault that reading some front
+-- of it from the left meets first; or more bytes came in than may be held
+abbrev pub IsFaulty : Held → ConnectionError → Type 0
+IsFaulty held (errors.Fault fault) =
+    (((more : List ℕ) → NoReply held.limits (held.bytes ++ more))
+    × ((n : ℕ) × IsFirstFault held.limits (take n held.bytes) (wire_errors.Fault fault)))
+    ⊎ ((fault ≡ Overfull) × (held.limits.bytes < length held.bytes))
+IsFaulty held e = Unit {0}
+
+-- the reader is at its end, and no whole reply stands at the head of what is held
+abbrev pub IsEnded : Link → ConnectionError → Type 0
+IsEnded link errors.Closed = IsAtEnd link.coming × NoReply link.held.limits link.held.bytes
+IsEnded link e = Unit {0}

@@ -1,0 +1,130 @@
+//! A connection over a reader and a writer.
+ghost use Rattle.std.specs.Prelude.{◌≡◌, ◌≢◌, Err, [], ℕ, IfOk, OnOk, OnErr, IfErr};
+ghost use Rattle.redis_wire.specs.Packed.{command_bytes};
+ghost use Rattle.redis_wire.specs.PackedArgs.{IsTooLarge};
+ghost use Rattle.redis_wire.specs.Reply.{answer};
+ghost use Rattle.redis_connection.specs.Ask.{Asks, HasNoAnswer};
+ghost use Rattle.redis_connection.specs.Link.{IsEnded, IsFaulty, Receives, Sends, SendsFront, Waits};
+
+use crate::error::{AskError, ConnectionError};
+use crate::incoming::receive_from;
+use crate::outgoing::write_out;
+use redis_resp::{FromRedisValue, ToRedisArgs};
+use redis_wire::{Limits, Reply, ReplyStream, from_reply, pack_command};
+use std::alloc::{AllocError, Global};
+use std::io::{Read, Write};
+use std::marker::Model;
+
+/// How many bytes are read at once.
+const PIECE: usize = 65_536;
+
+/// A connection to a server over a reader and a writer.
+///
+/// A contract sees what its writer holds and what its reader has left, where these are known, and
+/// what came in and was not given out.
+#[derive(Drop)]
+pub struct Connection<R: Read + Drop, W: Write + Drop> {
+    reader: R,
+    writer: W,
+    replies: ReplyStream,
+    piece: Vec<u8>,
+    unfed: usize,
+}
+
+impl<R: Read + Drop, W: Write + Drop> Model for Connection<R, W> {
+    ghost use Rattle.std.specs.Prelude.{◌≤◌, ◌<◌, length};
+    ghost use Rattle.redis_connection.specs.Link.{Link};
+    ghost use Rattle.redis_connection.specs.Seen.{seen};
+
+    ghost Value = { Link };
+
+    ghost view = { λ c. seen (W.contents c.writer) (R.remaining c.reader) c.replies
+        c.piece.items c.unfed };
+
+    ghost invariant = { λ c. (c.unfed ≤ length c.piece.items) × (0 < length c.piece.items) };
+}
+
+impl<R: Read + Drop, W: Write + Drop> Connection<R, W> {
+    /// A connection on which nothing was sent or received yet.
+    pub fn new(
+        alloc: Global,
+        reader: R,
+        writer: W,
+        limits: Limits,
+    ) -> Result<Connection<R, W>, AllocError>
+        ensures { IfOk result (λ c. c ≡ record {
+          written = W.contents writer;
+          coming = R.remaining reader;
+          held = record { limits = limits; bytes = [] };
+        }) }
+    {
+        Ok(Connection {
+            reader,
+            writer,
+            replies: ReplyStream::new(alloc, limits),
+            piece: vec![in alloc; 0; PIECE]?,
+            unfed: 0,
+        })
+    }
+
+    /// Sends these bytes.
+    pub fn send_bytes(&mut self, bytes: &[u8]) -> Result<(), ConnectionError>
+        ensures ok { OnOk result (Sends self.old self.new bytes.now) }
+        ensures err { OnErr result (SendsFront self.old self.new bytes.now) }
+        ensures cause { result ≢ Err ConnectionError.TooLong }
+    {
+        if let Err(error) = write_out(&mut self.writer, bytes) {
+            return Err(ConnectionError::Write(error));
+        }
+        Ok(())
+    }
+
+    /// Sends a command. An `Err` is `TooLong` only where an argument is of 2^32 bytes or more, or
+    /// there are as many.
+    pub fn send<T: ToRedisArgs>(
+        &mut self,
+        alloc: Global,
+        command: &T,
+    ) -> Result<(), ConnectionError>
+        ensures ok { OnOk result (Sends self.old self.new (command_bytes (T.args command.now))) }
+        ensures err { OnErr result
+            (SendsFront self.old self.new (command_bytes (T.args command.now))) }
+        ensures too_long { result ≡ Err ConnectionError.TooLong → IsTooLarge (T.args command.now) }
+    {
+        let bytes = pack_command(alloc, command)?;
+        self.send_bytes(&bytes)
+    }
+
+    /// Receives the next reply. An `Err` gives nothing out, and what came in is held: after
+    /// `Memory`, `Read` and `Closed` the call may be tried again.
+    pub fn receive(&mut self, alloc: Global) -> Result<Reply, ConnectionError>
+        ensures ok { IfOk result (λ reply. Receives self.old self.new (answer reply)) }
+        ensures err { OnErr result (Waits self.old self.new) }
+        ensures ended { IfErr result (IsEnded self.new) }
+        ensures faulty { IfErr result (IsFaulty self.new.held) }
+    {
+        receive_from(
+            alloc,
+            &mut self.reader,
+            &mut self.replies,
+            self.piece.as_mut_slice(),
+            &mut self.unfed,
+        )
+    }
+
+    /// Sends a command, and reads its answer as an `M`.
+    pub fn ask_as<M: FromRedisValue, T: ToRedisArgs>(
+        &mut self,
+        alloc: Global,
+        command: &T,
+    ) -> Result<M, AskError>
+        ensures ok { IfOk result (λ m. Asks self.old self.new (T.args command.now)
+            M.reading (M.meaning m)) }
+        ensures err { IfErr result (HasNoAnswer self.old self.new (T.args command.now)
+            M.reading M.may_refuse) }
+    {
+        self.send(alloc, command)?;
+        let reply = self.receive(alloc)?;
+        Ok(from_reply::<M>(alloc, reply)?)
+    }
+}

@@ -1,0 +1,71 @@
+//! Replies out of a reader.
+ghost use Rattle.std.specs.Prelude.{◌≡◌, ◌≤◌, ◌<◌, ℕ, None, Some, IfOk, IfErr, OnErr, length};
+ghost use Rattle.std.specs.Io.{ReadsAtMost};
+ghost use Rattle.std.specs.Io.KnownBytes.{ReadConsumes};
+ghost use Rattle.redis_wire.specs.Reply.{answer};
+ghost use Rattle.redis_connection.specs.Link.{IsEnded, IsFaulty, Receives, Waits};
+ghost use Rattle.redis_connection.specs.Seen.{seen};
+
+use crate::error::ConnectionError;
+use redis_wire::{Reply, ReplyStream};
+use std::alloc::Global;
+use std::io;
+use std::io::{ErrorKind, Read};
+
+/// Reads once, and again where a signal interrupted it.
+fn read_once<R: Read>(reader: &mut R, piece: &mut [u8]) -> io::Result<usize>
+    ensures bound { ReadsAtMost result piece.new }
+    ensures bytes { ReadConsumes (R.remaining reader.old) (R.remaining reader.new) result piece.new }
+{
+    for _turn in 0..u64::MAX {
+        match reader.read(piece) {
+            Ok(len) => return Ok(len),
+            Err(error) => {
+                if error.kind() != ErrorKind::Interrupted {
+                    return Err(error);
+                }
+            }
+        }
+    }
+    Err(io::Error::from(ErrorKind::TimedOut))
+}
+
+/// The next reply. The first `unfed` bytes of `piece` came in and stand behind those of `replies`;
+/// so whatever goes wrong, nothing that came in is lost.
+pub fn receive_from<R: Read>(
+    alloc: Global,
+    reader: &mut R,
+    replies: &mut ReplyStream,
+    piece: &mut [u8],
+    unfed: &mut usize,
+) -> Result<Reply, ConnectionError>
+    requires room { 0 < length piece.old }
+    requires within { unfed.old ≤ length piece.old }
+    ensures within { unfed.new ≤ length piece.new }
+    ensures ok { IfOk result (λ reply. Receives
+        (seen None (R.remaining reader.old) replies.old piece.old unfed.old)
+        (seen None (R.remaining reader.new) replies.new piece.new unfed.new) (answer reply)) }
+    ensures err { OnErr result (Waits
+        (seen None (R.remaining reader.old) replies.old piece.old unfed.old)
+        (seen None (R.remaining reader.new) replies.new piece.new unfed.new)) }
+    ensures ended { IfErr result
+        (IsEnded (seen None (R.remaining reader.new) replies.new piece.new unfed.new)) }
+    ensures faulty { IfErr result
+        (IsFaulty (seen None (R.remaining reader.new) replies.new piece.new unfed.new).held) }
+{
+    for _turn in 0..u64::MAX {
+        if let Some(reply) = replies.next(alloc)? {
+            return Ok(reply);
+        }
+        if *unfed == 0 {
+            match read_once(reader, piece) {
+                Ok(0) => return Err(ConnectionError::Closed),
+                Ok(len) => *unfed = len,
+                Err(error) => return Err(ConnectionError::Read(error)),
+            }
+        }
+        replies.feed(&piece[..*unfed])?;
+        *unfed = 0;
+    }
+    Err(ConnectionError::Read(io::Error::from(ErrorKind::TimedOut)))
+}

@@ -1,0 +1,13 @@
+//! What XINFO STREAM FULL tells of a stream: its entries, its groups, and what is pending for whom.
+mod consumer;
+mod entry;
+mod group;
+mod pending;
+mod stream;
+mod time_or_nil;
+
+pub use consumer::StreamInfoFullConsumer;
+pub use entry::StreamInfoFullEntry;
+pub use group::StreamInfoFullGroup;
+pub use pending::{StreamInfoConsumerPending, StreamInfoFullPending};
+pub use stream::StreamInfoFullReply;

@@ -1,0 +1,162 @@
+//! Where values stand in bytes, found with no copy.
+ghost use Rattle.std.specs.Prelude.{◌≡◌, ◌≤◌, pos, IfSome, Some, length};
+ghost use Rattle.redis_wire.specs.Scalar.{number_of};
+ghost use Rattle.redis_wire.specs.Place.{IsHeadAt, IsLineAt, IsTextAt, IsArrayAt, IsMapAt, IsNilAt, IsIntAt};
+
+use crate::limits::Limits;
+use crate::line::{blob_at, line_at};
+use crate::number::{length_at, number_of};
+
+/// Where a text stands in bytes.
+#[repr(C)]
+#[derive(Clone, Copy, Debug, PartialEq, Eq)]
+pub struct Span {
+    /// So many bytes stand before it.
+    pub start: usize,
+    /// How many bytes it has.
+    pub len: usize,
+}
+
+/// The length on the line behind the first byte of a value, or None for -1, and how many bytes end
+/// with the line, where the value behind `at` bytes has that first byte.
+#[inline(always)]
+fn head_at(limits: Limits, bytes: &[u8], at: usize, first: u8) -> Option<(Option<u32>, usize)>
+    requires { at ≤ length bytes.now }
+    ensures { IfSome result (λ x. IsHeadAt limits bytes.now at first x.0 x.1) }
+{
+    let (_, rest) = bytes.split_at(at);
+    let (byte, behind) = rest.split_first()?;
+    if *byte != first {
+        return None;
+    }
+    match length_at(limits, behind) {
+        Ok((len, left)) => Some((len, bytes.len() - left.len())),
+        Err(_) => None,
+    }
+}
+
+/// The line behind the first byte of a value, and how many bytes end with it, where the value behind
+/// `at` bytes has that first byte.
+fn line_behind(limits: Limits, bytes: &[u8], at: usize, first: u8) -> Option<(&[u8], usize)>
+    requires { at ≤ length bytes.now }
+    ensures { IfSome result (λ x. IsLineAt limits bytes.now at first x.0.now x.1) }
+{
+    let (_, rest) = bytes.split_at(at);
+    let (byte, behind) = rest.split_first()?;
+    if *byte != first {
+        return None;
+    }
+    match line_at(limits.line, behind) {
+        Ok((line, left)) => Some((line, bytes.len() - left.len())),
+        Err(_) => None,
+    }
+}
+
+/// The text of the bulk string behind `at` bytes, and how many bytes end with it, where a whole one
+/// stands there.
+pub fn text_at(limits: Limits, bytes: &[u8], at: usize) -> Option<(Span, usize)>
+    requires { at ≤ length bytes.now }
+    ensures { IfSome result (λ x. IsTextAt limits bytes.now at x.0 x.1) }
+{
+    let (Some(len), start) = head_at(limits, bytes, at, b'$')? else {
+        return None;
+    };
+    let (_, rest) = bytes.split_at(start);
+    match blob_at(len as usize, rest) {
+        Ok((_, left)) => Some((
+            Span {
+                start,
+                len: len as usize,
+            },
+            bytes.len() - left.len(),
+        )),
+        Err(_) => None,
+    }
+}
+
+/// How many members the array has whose head stands behind `at` bytes, and how many bytes end with
+/// the head.
+pub fn array_at(limits: Limits, bytes: &[u8], at: usize) -> Option<(u32, usize)>
+    requires { at ≤ length bytes.now }
+    ensures { IfSome result (λ x. IsArrayAt limits bytes.now at x.0 x.1) }
+{
+    match head_at(limits, bytes, at, b'*')? {
+        (Some(count), after) => Some((count, after)),
+        (None, _) => None,
+    }
+}
+
+/// How many pairs the map has whose head stands behind `at` bytes, and how many bytes end with the
+/// head.
+pub fn map_at(limits: Limits, bytes: &[u8], at: usize) -> Option<(u32, usize)>
+    requires { at ≤ length bytes.now }
+    ensures { IfSome result (λ x. IsMapAt limits bytes.now at x.0 x.1) }
+{
+    match head_at(limits, bytes, at, b'%')? {
+        (Some(count), after) => Some((count, after)),
+        (None, _) => None,
+    }
+}
+
+/// How many bytes end with the array of length -1 behind `at` bytes.
+fn no_array_at(limits: Limits, bytes: &[u8], at: usize) -> Option<usize>
+    requires { at ≤ length bytes.now }
+    ensures { IfSome result (λ after. IsNilAt limits bytes.now at after) }
+{
+    match head_at(limits, bytes, at, b'*')? {
+        (None, after) => Some(after),
+        (Some(_), _) => None,
+    }
+}
+
+/// How many bytes end with the bulk string of length -1 behind `at` bytes.
+fn no_text_at(limits: Limits, bytes: &[u8], at: usize) -> Option<usize>
+    requires { at ≤ length bytes.now }
+    ensures { IfSome result (λ after. IsNilAt limits bytes.now at after) }
+{
+    match head_at(limits, bytes, at, b'$')? {
+        (None, after) => Some(after),
+        (Some(_), _) => None,
+    }
+}
+
+/// How many bytes end with the null behind `at` bytes.
+fn null_at(limits: Limits, bytes: &[u8], at: usize) -> Option<usize>
+    requires { at ≤ length bytes.now }
+    ensures { IfSome result (λ after. IsNilAt limits bytes.now at after) }
+{
+    match line_behind(limits, bytes, at, b'_')? {
+        ([], after) => Some(after),
+        _ => None,
+    }
+}
+
+/// How many bytes end with the nil behind `at` bytes: an array or a bulk string of length -1, or a null.
+pub fn nil_at(limits: Limits, bytes: &[u8], at: usize) -> Option<usize>
+    requires { at ≤ length bytes.now }
+    ensures { IfSome result (λ after. IsNilAt limits bytes.now at after) }
+{
+    if let Some(after) = no_array_at(limits, bytes, at) {
+        return Some(after);
+    }
+    if let Some(after) = no_text_at(limits, bytes, at) {
+        return Some(after);
+    }
+    null_at(limits, bytes, at)
+}
+
+/// The number that a line writes, where it is not negative.
+fn unsigned_of(line: &[u8]) -> Option<u64>
+    ensures { IfSome result (λ n. number_of line.now ≡ Some (pos n)) }
+{
+    u64::try_from(number_of(line)?).ok()
+}
+
+/// The number behind `at` bytes, where it is one that is not negative, and how many bytes end with it.
+pub fn int_at(limits: Limits, bytes: &[u8], at: usize) -> Option<(u64, usize)>
+    requires { at ≤ length bytes.now }
+    ensures { IfSome result (λ x. IsIntAt limits bytes.now at x.0 x.1) }
+{
+    let (line, after) = line_behind(limits, bytes, at, b':')?;
+    Some((unsigned_of(line)?, after))
+}

@@ -1,0 +1,5 @@
+//! Tests of replies that are read where they stand.
+#![tactic(auto)]
+
+#[cfg(test)]
+mod in_place;

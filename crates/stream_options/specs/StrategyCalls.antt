@@ -1,0 +1,25 @@
+-- Calls on a strategy of trimming, and the settings that a list of them leaves.
+use Rattle.std.specs.Prelude.{ℕ, List, Option, Some}
+use Rattle.std.specs.Option.{option_or}
+use Rattle.stream_options.specs.Calls.{last_said}
+use Rattle.stream_options.specs.Trim.{Strategy}
+
+-- the one setting that calls name; the bound is that of the constructor
+pub data StrategySetting : Type 0 where
+  limit : StrategySetting
+
+-- its value
+abbrev pub StrategyValue : StrategySetting → Type 0
+StrategyValue limit = ℕ
+
+-- a call: the setting that it names, and its value
+abbrev pub StrategyCall : Type 0
+StrategyCall = (setting : StrategySetting) × StrategyValue setting
+
+-- the value that a call gives the setting
+abbrev pub strategy_said : (setting : StrategySetting) → StrategyCall → Option (StrategyValue setting)
+strategy_said limit (limit, n) = Some n
+
+-- the settings that the calls leave: the limit is that of the last call, else as it stood
+abbrev pub final_strategy : Strategy → List StrategyCall → Strategy
+final_strategy start calls = record start { limit = option_or (last_said (strategy_said limit) calls) start.limit }

@@ -1,0 +1,117 @@
+//! An entry, where it stands.
+ghost use Rattle.std.specs.Prelude.{◌≡◌, [], option_map};
+ghost use Rattle.redis_resp.specs.Table.{last_with};
+ghost use Rattle.stream_refs.specs.Sent.{is_none};
+ghost use Rattle.stream_refs.specs.Copied.{pairs_or_none};
+ghost use Rattle.stream_refs.specs.Placed.{fields_if};
+
+use crate::fields::FieldsRef;
+use std::marker::Model;
+
+/// When an entry was delivered, and how often.
+#[derive(Clone, Copy, Debug, PartialEq, Eq)]
+pub struct Delivery {
+    /// How many milliseconds ago it was last delivered.
+    pub elapsed: u64,
+    /// How often it was delivered.
+    pub count: u64,
+}
+
+/// An entry of a stream, where it stands.
+#[derive(Drop)]
+pub struct EntryRef<'a> {
+    id: &'a str,
+    fields: FieldsRef<'a>,
+    deleted: bool,
+    delivery: Option<Delivery>,
+}
+
+impl<'a> Model for EntryRef<'a> {
+    ghost use Rattle.std.specs.Prelude.{option_map};
+    ghost use Rattle.stream_refs.specs.Sent.{SentEntry};
+    ghost use Rattle.stream_refs.specs.Placed.{fields_if};
+
+    ghost Value = { SentEntry };
+
+    ghost view = { λ s. record {
+      id = s.id.now;
+      fields = fields_if s.deleted s.fields;
+      delivery = option_map (λ d. (d.elapsed, d.count)) s.delivery;
+    } };
+}
+
+impl<'a> EntryRef<'a> {
+    /// The id.
+    pub fn id(&self) -> &'a str
+        ensures { result.now ≡ self.now.id }
+    {
+        self.id
+    }
+
+    /// Whether the entry was deleted: nil stands in place of its fields. An entry without fields was not.
+    pub fn is_deleted(&self) -> bool
+        ensures { result ≡ is_none self.now.fields }
+    {
+        self.deleted
+    }
+
+    /// The fields, in order; none where the entry was deleted.
+    pub fn fields(&self) -> FieldsRef<'a>
+        ensures { result ≡ pairs_or_none self.now.fields }
+    {
+        if self.deleted {
+            self.fields.none()
+        } else {
+            self.fields.again()
+        }
+    }
+
+    /// The value of the last field of that name, which is the one that a record keeps.
+    pub fn get(&self, name: &[u8]) -> Option<&'a [u8]>
+        ensures { option_map (λ v. v.now) result ≡ last_with name.now (pairs_or_none self.now.fields) }
+    {
+        if self.deleted {
+            None
+        } else {
+            self.fields.get(name)
+        }
+    }
+
+    /// When and how often the entry was delivered, where the reply says so.
+    pub fn delivery(&self) -> Option<Delivery>
+        ensures { option_map (λ d. (d.elapsed, d.count)) result ≡ self.now.delivery }
+    {
+        self.delivery
+    }
+
+    /// How often the entry was delivered, where the reply says so.
+    pub fn delivered_count(&self) -> Option<u64>
+        ensures { result ≡ option_map (λ d. d.1) self.now.delivery }
+    {
+        match self.delivery {
+            None => None,
+            Some(delivery) => Some(delivery.count),
+        }
+    }
+}
+
+/// The entry of these parts.
+pub fn entry_of<'a>(
+    id: &'a str,
+    fields: FieldsRef<'a>,
+    deleted: bool,
+    delivery: Option<Delivery>,
+) -> EntryRef<'a>
+    ensures { result ≡ record {
+      id = id.now;
+      fields = fields_if deleted fields.entry;
+      delivery = option_map (λ d. (d.elapsed, d.count)) delivery;
+    } }
+{
+    EntryRef {
+        id,
+        fields,
+        deleted,
+        delivery,
+    }
+}

@@ -1,0 +1,135 @@
+//! Entries, where they stand.
+ghost use Rattle.std.specs.Prelude.{◌≡◌, ◌∷◌, [], length, map, nat_eq, option_map, MatchOption};
+ghost use Rattle.std.specs.List.{AllByRecursion};
+ghost use Rattle.stream_refs.specs.Placed.{delivery_if, entry_in, IsField, IsEntry};
+
+use crate::entry::{Delivery, EntryRef, entry_of};
+use crate::fields::fields_at;
+use crate::places::{EntryPlace, FieldPlace};
+use crate::rows::text_in;
+use std::marker::Model;
+
+/// Entries, in order. As an iterator it returns those that are left.
+#[derive(Drop)]
+pub struct EntriesRef<'a> {
+    bytes: &'a [u8],
+    places: &'a [EntryPlace],
+    fields: &'a [FieldPlace],
+}
+
+impl<'a> Model for EntriesRef<'a> {
+    ghost use Rattle.std.specs.Prelude.{List, map, length};
+    ghost use Rattle.std.specs.List.{AllByRecursion};
+    ghost use Rattle.stream_refs.specs.Sent.{SentEntry};
+    ghost use Rattle.stream_refs.specs.Placed.{entry_in, IsField, IsEntry};
+
+    ghost Value = { List SentEntry };
+
+    ghost view = { λ s. map (entry_in s.bytes.now s.fields.now) s.places.now };
+
+    ghost invariant = { λ s. AllByRecursion (IsEntry s.bytes.now (length s.fields.now)) s.places.now
+        × AllByRecursion (IsField s.bytes.now) s.fields.now };
+}
+
+impl<'a> EntriesRef<'a> {
+    /// How many entries are left.
+    pub fn len(&self) -> usize
+        ensures { result ≡ length self.now }
+    {
+        self.places.len()
+    }
+
+    /// Whether no entry is left.
+    pub fn is_empty(&self) -> bool
+        ensures { result ≡ nat_eq (length self.now) 0 }
+    {
+        self.places.is_empty()
+    }
+
+    /// The same entries again, from the first one that is left.
+    pub fn again(&self) -> EntriesRef<'a>
+        ensures { result ≡ self.now }
+    {
+        EntriesRef {
+            bytes: self.bytes,
+            places: self.places,
+            fields: self.fields,
+        }
+    }
+
+    /// Takes the next entry.
+    fn take_entry(&mut self) -> Option<EntryRef<'a>>
+        ensures { MatchOption result ((self.old ≡ []) × (self.new ≡ []))
+            (λ e. self.old ≡ e ∷ self.new) }
+    {
+        let (first, rest) = self.places.split_first()?;
+        self.places = rest;
+        Some(entry_at(self.bytes, *first, self.fields))
+    }
+}
+
+/// The entry that stands there.
+fn entry_at<'a>(bytes: &'a [u8], place: EntryPlace, fields: &'a [FieldPlace]) -> EntryRef<'a>
+    requires entry { IsEntry bytes.now (length fields.now) place }
+    requires fields { AllByRecursion (IsField bytes.now) fields.now }
+    ensures { result ≡ entry_in bytes.now fields.now place }
+{
+    let id = unsafe { str::from_utf8_unchecked(text_in(bytes, place.id)) };
+    let own = fields_at(bytes, &fields[place.from..place.to]);
+    entry_of(id, own, place.deleted, delivery_of(place))
+}
+
+/// The delivery of an entry, where it has one.
+fn delivery_of(place: EntryPlace) -> Option<Delivery>
+    ensures { option_map (λ d. (d.elapsed, d.count)) result
+        ≡ delivery_if place.delivered place.elapsed place.count }
+{
+    if place.delivered {
+        Some(Delivery {
+            elapsed: place.elapsed,
+            count: place.count,
+        })
+    } else {
+        None
+    }
+}
+
+impl<'a> Iterator for EntriesRef<'a> {
+    type Item = EntryRef<'a>;
+
+    ghost use Rattle.std.specs.Iterator.{YieldsFirst, item_count};
+
+    ghost next_gives = { YieldsFirst (λ s. s) };
+
+    ghost remaining = { item_count (λ s. s) };
+
+    fn next(&mut self) -> Option<EntryRef<'a>> {
+        self.take_entry()
+    }
+}
+
+/// The entries that stand there.
+pub fn entries_at<'a>(
+    bytes: &'a [u8],
+    places: &'a [EntryPlace],
+    fields: &'a [FieldPlace],
+) -> EntriesRef<'a>
+    requires entries { AllByRecursion (IsEntry bytes.now (length fields.now)) places.now }
+    requires fields { AllByRecursion (IsField bytes.now) fields.now }
+    ensures { result ≡ map (entry_in bytes.now fields.now) places.now }
+{
+    EntriesRef {
+        bytes,
+        places,
+        fields,
+    }
+}
+
+/// The entries of a range, where they stand, and how many bytes the reply has.
+#[derive(Drop)]
+pub struct RangeRef<'a> {
+    /// The entries, in order.
+    pub entries: EntriesRef<'a>,
+    /// How many bytes the reply has.
+    pub len: usize,
+}

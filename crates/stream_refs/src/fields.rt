@@ -1,0 +1,114 @@
+//! The fields of an entry, where they stand.
+ghost use Rattle.std.specs.Prelude.{◌≡◌, ◌∷◌, [], length, map, nat_eq, MatchOption, option_map};
+ghost use Rattle.redis_resp.specs.Table.{last_with};
+ghost use Rattle.std.specs.List.{AllByRecursion};
+ghost use Rattle.stream_refs.specs.Placed.{field_in, IsField};
+
+use crate::places::FieldPlace;
+use crate::rows::text_in;
+use std::marker::Model;
+
+/// The fields of an entry, in order and with repeated ones: names, which are UTF-8, and values, which
+/// are any bytes. As an iterator it returns those that are left.
+#[derive(Drop)]
+pub struct FieldsRef<'a> {
+    bytes: &'a [u8],
+    places: &'a [FieldPlace],
+}
+
+impl<'a> Model for FieldsRef<'a> {
+    ghost use Rattle.std.specs.Prelude.{ℕ, List, map};
+    ghost use Rattle.std.specs.List.{AllByRecursion};
+    ghost use Rattle.stream_refs.specs.Sent.{Pairs};
+    ghost use Rattle.stream_refs.specs.Placed.{field_in, IsField};
+
+    ghost Value = { Pairs };
+
+    ghost view = { λ s. map (field_in s.bytes.now) s.places.now };
+
+    ghost invariant = { λ s. AllByRecursion (IsField s.bytes.now) s.places.now };
+}
+
+impl<'a> FieldsRef<'a> {
+    /// How many fields are left.
+    pub fn len(&self) -> usize
+        ensures { result ≡ length self.now }
+    {
+        self.places.len()
+    }
+
+    /// Whether no field is left.
+    pub fn is_empty(&self) -> bool
+        ensures { result ≡ nat_eq (length self.now) 0 }
+    {
+        self.places.is_empty()
+    }
+
+    /// The value of the last field of that name, which is the one that a record keeps.
+    pub fn get(&self, name: &[u8]) -> Option<&'a [u8]>
+        ensures { option_map (λ v. v.now) result ≡ last_with name.now self.now }
+    {
+        let mut found = None;
+        for place in self.places {
+            if name == text_in(self.bytes, place.name) {
+                found = Some(text_in(self.bytes, place.value));
+            }
+        }
+        found
+    }
+
+    /// The same fields again, from the first one that is left.
+    pub fn again(&self) -> FieldsRef<'a>
+        ensures { result ≡ self.now }
+    {
+        FieldsRef {
+            bytes: self.bytes,
+            places: self.places,
+        }
+    }
+
+    /// No fields.
+    pub fn none(&self) -> FieldsRef<'a>
+        ensures { result ≡ [] }
+    {
+        FieldsRef {
+            bytes: self.bytes,
+            places: &[],
+        }
+    }
+
+    /// Takes the next field.
+    fn take_field(&mut self) -> Option<(&'a [u8], &'a [u8])>
+        ensures { MatchOption result ((self.old ≡ []) × (self.new ≡ []))
+            (λ p. self.old ≡ (p.0.now, p.1.now) ∷ self.new) }
+    {
+        let (first, rest) = self.places.split_first()?;
+        self.places = rest;
+        Some((
+            text_in(self.bytes, first.name),
+            text_in(self.bytes, first.value),
+        ))
+    }
+}
+
+impl<'a> Iterator for FieldsRef<'a> {
+    type Item = (&'a [u8], &'a [u8]);
+
+    ghost use Rattle.std.specs.Iterator.{YieldsFirstBy, item_count};
+
+    ghost next_gives = { YieldsFirstBy (λ p. (p.0.now, p.1.now)) (λ s. s) };
+
+    ghost remaining = { item_count (λ s. s) };
+
+    fn next(&mut self) -> Option<(&'a [u8], &'a [u8])> {
+        self.take_field()
+    }
+}
+
+/// The fields that stand there.
+pub fn fields_at<'a>(bytes: &'a [u8], places: &'a [FieldPlace]) -> FieldsRef<'a>
+    requires { AllByRecursion (IsField bytes.now) places.now }
+    ensures { result ≡ map (field_in bytes.now) places.now }
+{
+    FieldsRef { bytes, places }
+}

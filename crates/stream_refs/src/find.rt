@@ -1,0 +1,126 @@
+//! Finds where the entries of a reply stand, in tables of any kind.
+ghost use Rattle.std.specs.Prelude.{◌≡◌, ◌≤◌, IfOk, IfSome, map};
+ghost use Rattle.stream_refs.specs.Held.{none_held};
+ghost use Rattle.stream_refs.specs.Placed.{entry_in, stream_in};
+ghost use Rattle.stream_refs.specs.Added.{IsFilled};
+ghost use Rattle.stream_refs.specs.Range.{IsRange, IsRead};
+
+use crate::room::Places;
+use crate::rows::add_entries;
+use crate::streams::add_streams;
+use redis_wire::Limits;
+use redis_wire::place::{array_at, map_at, nil_at};
+
+/// Holds the places of the entries of the reply at the head of bytes, and returns how many bytes it
+/// has, where it has the shape in which servers answer XRANGE, XREVRANGE and XCLAIM. With tables of
+/// the caller no memory is asked for.
+pub fn find_range<P: Places>(
+    limits: Limits,
+    bytes: &[u8],
+    places: &mut P,
+) -> Result<Option<usize>, P::Refusal>
+    ensures { IfOk result (λ o. IfSome o (λ len. IsRange limits bytes.now
+        (map (entry_in bytes.now (P.held places.new).fields) (P.held places.new).entries) len)) }
+{
+    places.clear();
+    if limits.depth < 4 {
+        return Ok(None);
+    }
+    let Some((count, at)) = array_at(limits, bytes, 0) else {
+        return Ok(None);
+    };
+    match add_entries(limits, bytes, at, false, count, places)? {
+        None => Ok(None),
+        Some(len) => Ok(Some(len)),
+    }
+}
+
+/// Holds the streams of the array at the head of bytes, where nothing is held, and returns how many
+/// bytes it has.
+fn find_array<P: Places>(
+    limits: Limits,
+    bytes: &[u8],
+    claim: bool,
+    places: &mut P,
+) -> Result<Option<usize>, P::Refusal>
+    requires deep { 6 ≤ limits.depth }
+    requires none { P.held places.old ≡ none_held }
+    ensures { IfOk result (λ o. IfSome o (λ len.
+        IsFilled limits bytes.now claim len (P.held places.new))) }
+{
+    let Some((count, at)) = array_at(limits, bytes, 0) else {
+        return Ok(None);
+    };
+    match add_streams(limits, bytes, at, false, claim, count, places)? {
+        None => Ok(None),
+        Some(len) => Ok(Some(len)),
+    }
+}
+
+/// Holds the streams of the map at the head of bytes, where nothing is held, and returns how many
+/// bytes it has.
+fn find_map<P: Places>(
+    limits: Limits,
+    bytes: &[u8],
+    claim: bool,
+    places: &mut P,
+) -> Result<Option<usize>, P::Refusal>
+    requires deep { 6 ≤ limits.depth }
+    requires none { P.held places.old ≡ none_held }
+    ensures { IfOk result (λ o. IfSome o (λ len.
+        IsFilled limits bytes.now claim len (P.held places.new))) }
+{
+    let Some((count, at)) = map_at(limits, bytes, 0) else {
+        return Ok(None);
+    };
+    match add_streams(limits, bytes, at, true, claim, count, places)? {
+        None => Ok(None),
+        Some(len) => Ok(Some(len)),
+    }
+}
+
+/// Holds the streams of the reply at the head of bytes, and returns how many bytes it has.
+pub fn find_form<P: Places>(
+    limits: Limits,
+    bytes: &[u8],
+    claim: bool,
+    places: &mut P,
+) -> Result<Option<usize>, P::Refusal>
+    requires { 6 ≤ limits.depth }
+    ensures { IfOk result (λ o. IfSome o (λ len.
+        IsFilled limits bytes.now claim len (P.held places.new))) }
+{
+    places.clear();
+    if let Some(len) = nil_at(limits, bytes, 0) {
+        return Ok(Some(len));
+    }
+    if let Some(len) = find_array(limits, bytes, claim, places)? {
+        return Ok(Some(len));
+    }
+    places.clear();
+    match find_map(limits, bytes, claim, places)? {
+        None => Ok(None),
+        Some(len) => Ok(Some(len)),
+    }
+}
+
+/// Holds the places of the streams of the reply at the head of bytes, and returns how many bytes it
+/// has, where it has the shape in which servers answer XREAD and XREADGROUP. With tables of the caller
+/// no memory is asked for.
+pub fn find_streams<P: Places>(
+    limits: Limits,
+    bytes: &[u8],
+    places: &mut P,
+) -> Result<Option<usize>, P::Refusal>
+    ensures { IfOk result (λ o. IfSome o (λ len. IsRead limits bytes.now
+        (map (stream_in bytes.now (P.held places.new).entries (P.held places.new).fields)
+        (P.held places.new).streams) len)) }
+{
+    if limits.depth < 6 {
+        return Ok(None);
+    }
+    match find_form(limits, bytes, false, places)? {
+        None => Ok(None),
+        Some(len) => Ok(Some(len)),
+    }
+}

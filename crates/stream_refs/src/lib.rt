@@ -1,0 +1,25 @@
+//! The entries of streams, read where they stand in the bytes of a reply: nothing is copied, and the
+//! tables of places keep their room for the next reply.
+#![tactic(auto)]
+
+mod entry;
+mod entry_list;
+mod fields;
+mod find;
+mod outcome;
+mod places;
+mod room;
+mod rows;
+mod stream_list;
+mod streams;
+mod tape;
+
+pub use entry::{Delivery, EntryRef};
+pub use entry_list::{EntriesRef, RangeRef};
+pub use fields::FieldsRef;
+pub use find::{find_range, find_streams};
+pub use outcome::{RangeOutcome, ReadOutcome, read_any_range, read_any_streams};
+pub use places::{EntryPlace, FieldPlace, StreamPlace};
+pub use room::{EntryTables, Full, Places};
+pub use stream_list::{ReadRef, StreamRef, StreamsRef};
+pub use tape::EntryTape;

@@ -1,0 +1,184 @@
+//! Finds where rows stand: entries with their fields.
+ghost use Rattle.std.specs.Prelude.{◌≡◌, ◌≤◌, IfOk, IfSome, IsTrue, length, true};
+ghost use Rattle.std.specs.Str.{is_utf8};
+ghost use Rattle.redis_wire.specs.Place.{text_in, IsSpan, IsTextAt};
+ghost use Rattle.stream_refs.specs.Added.{row_count, FieldsAdded, OwnAdded, IsDeliveryAt, EntryAdded, EntriesAdded};
+
+use crate::places::{EntryPlace, FieldPlace};
+use crate::room::Places;
+use redis_wire::Limits;
+use redis_wire::place::{Span, array_at, int_at, nil_at, text_at};
+
+/// The text that stands there.
+#[inline(always)]
+pub fn text_in(bytes: &[u8], span: Span) -> &[u8]
+    requires { IsSpan bytes.now span }
+    ensures { result.now ≡ text_in bytes.now span }
+{
+    &bytes[span.start..span.start + span.len]
+}
+
+/// Whether bytes are UTF-8.
+fn is_text(bytes: &[u8]) -> bool
+    ensures { result ≡ is_utf8 bytes.now }
+{
+    if bytes.is_ascii() {
+        return true;
+    }
+    match str::from_utf8(bytes) {
+        Ok(_) => true,
+        Err(_) => false,
+    }
+}
+
+/// The UTF-8 text of the bulk string behind `at` bytes, and how many bytes end with it.
+pub fn name_at(limits: Limits, bytes: &[u8], at: usize) -> Option<(Span, usize)>
+    requires { at ≤ length bytes.now }
+    ensures is { IfSome result (λ x. IsTextAt limits bytes.now at x.0 x.1) }
+    ensures text { IfSome result (λ x. is_utf8 (text_in bytes.now x.0) ≡ true) }
+{
+    let (span, after) = text_at(limits, bytes, at)?;
+    if is_text(text_in(bytes, span)) {
+        Some((span, after))
+    } else {
+        None
+    }
+}
+
+/// Holds so many fields from `at` on, and returns how many bytes end with them, where they are names
+/// and values in bulk strings.
+fn add_fields<P: Places>(
+    limits: Limits,
+    bytes: &[u8],
+    at: usize,
+    count: u32,
+    places: &mut P,
+) -> Result<Option<usize>, P::Refusal>
+    requires { at ≤ length bytes.now }
+    ensures { IfOk result (λ o. IfSome o (λ after.
+        FieldsAdded limits bytes.now at count after (P.held places.old) (P.held places.new))) }
+{
+    let mut behind = at;
+    for _ in 0..count {
+        let Some((name, after)) = name_at(limits, bytes, behind) else {
+            return Ok(None);
+        };
+        let Some((value, after)) = text_at(limits, bytes, after) else {
+            return Ok(None);
+        };
+        places.push_field(FieldPlace { name, value })?;
+        behind = after;
+    }
+    Ok(Some(behind))
+}
+
+/// Holds the fields of an entry from `at` on, and returns whether nil stands there, as it does where
+/// the entry was deleted, and how many bytes end with them.
+fn add_own_fields<P: Places>(
+    limits: Limits,
+    bytes: &[u8],
+    at: usize,
+    places: &mut P,
+) -> Result<Option<(bool, usize)>, P::Refusal>
+    requires { at ≤ length bytes.now }
+    ensures { IfOk result (λ o. IfSome o (λ x.
+        OwnAdded limits bytes.now at x.0 x.1 (P.held places.old) (P.held places.new))) }
+{
+    let Some((members, behind)) = array_at(limits, bytes, at) else {
+        return match nil_at(limits, bytes, at) {
+            None => Ok(None),
+            Some(after) => Ok(Some((true, after))),
+        };
+    };
+    if members % 2 != 0 {
+        return Ok(None);
+    }
+    match add_fields(limits, bytes, behind, members / 2, places)? {
+        None => Ok(None),
+        Some(after) => Ok(Some((false, after))),
+    }
+}
+
+/// When and how often the entry was delivered, where the form says so, and how many bytes end with it.
+fn delivery_at(limits: Limits, bytes: &[u8], at: usize, claim: bool) -> Option<(u64, u64, usize)>
+    requires { at ≤ length bytes.now }
+    ensures { IfSome result (λ x. IsDeliveryAt limits bytes.now at claim x.0 x.1 x.2) }
+{
+    if !claim {
+        return Some((0, 0, at));
+    }
+    let (elapsed, behind) = int_at(limits, bytes, at)?;
+    let (count, after) = int_at(limits, bytes, behind)?;
+    Some((elapsed, count, after))
+}
+
+/// How many values a row has: an id and fields, and in the claim form a time and a count.
+fn row_len(claim: bool) -> u32
+    ensures { result ≡ row_count claim }
+{
+    if claim { 4 } else { 2 }
+}
+
+/// Holds the fields of the entry from `at` on, and returns the entry and how many bytes end with it.
+fn add_entry<P: Places>(
+    limits: Limits,
+    bytes: &[u8],
+    at: usize,
+    claim: bool,
+    places: &mut P,
+) -> Result<Option<(EntryPlace, usize)>, P::Refusal>
+    requires { at ≤ length bytes.now }
+    ensures { IfOk result (λ o. IfSome o (λ x.
+        EntryAdded limits bytes.now at claim x.1 x.0 (P.held places.old) (P.held places.new))) }
+{
+    let Some((members, behind)) = array_at(limits, bytes, at) else {
+        return Ok(None);
+    };
+    if members != row_len(claim) {
+        return Ok(None);
+    }
+    let Some((id, behind)) = name_at(limits, bytes, behind) else {
+        return Ok(None);
+    };
+    let from = places.count_fields();
+    let Some((deleted, behind)) = add_own_fields(limits, bytes, behind, places)? else {
+        return Ok(None);
+    };
+    let Some((elapsed, count, after)) = delivery_at(limits, bytes, behind, claim) else {
+        return Ok(None);
+    };
+    let entry = EntryPlace {
+        id,
+        from,
+        to: places.count_fields(),
+        deleted,
+        delivered: claim,
+        elapsed,
+        count,
+    };
+    Ok(Some((entry, after)))
+}
+
+/// Holds so many entries from `at` on, with their fields, and returns how many bytes end with them.
+pub fn add_entries<P: Places>(
+    limits: Limits,
+    bytes: &[u8],
+    at: usize,
+    claim: bool,
+    count: u32,
+    places: &mut P,
+) -> Result<Option<usize>, P::Refusal>
+    requires { at ≤ length bytes.now }
+    ensures { IfOk result (λ o. IfSome o (λ after.
+        EntriesAdded limits bytes.now at claim count after (P.held places.old) (P.held places.new))) }
+{
+    let mut behind = at;
+    for _ in 0..count {
+        let Some((entry, after)) = add_entry(limits, bytes, behind, claim, places)? else {
+            return Ok(None);
+        };
+        places.push_entry(entry)?;
+        behind = after;
+    }
+    Ok(Some(behind))
+}

@@ -1,0 +1,163 @@
+//! Streams with their entries, where they stand.
+ghost use Rattle.std.specs.Prelude.{◌≡◌, ◌∷◌, [], length, map, nat_eq, MatchOption};
+ghost use Rattle.std.specs.List.{AllByRecursion};
+ghost use Rattle.stream_refs.specs.Placed.{stream_in, IsField, IsEntry, IsStream};
+
+use crate::entry_list::{EntriesRef, entries_at};
+use crate::places::{EntryPlace, FieldPlace, StreamPlace};
+use crate::rows::text_in;
+use std::marker::Model;
+
+/// A stream, where it stands.
+#[derive(Drop)]
+pub struct StreamRef<'a> {
+    name: &'a str,
+    entries: EntriesRef<'a>,
+}
+
+impl<'a> Model for StreamRef<'a> {
+    ghost use Rattle.stream_refs.specs.Sent.{SentStream};
+
+    ghost Value = { SentStream };
+
+    ghost view = { λ s. record { name = s.name.now; entries = s.entries } };
+}
+
+impl<'a> StreamRef<'a> {
+    /// The name: the key under which the stream is stored.
+    pub fn name(&self) -> &'a str
+        ensures { result.now ≡ self.now.name }
+    {
+        self.name
+    }
+
+    /// The entries, in order.
+    pub fn entries(&self) -> EntriesRef<'a>
+        ensures { result ≡ self.now.entries }
+    {
+        self.entries.again()
+    }
+}
+
+/// Streams, in order. As an iterator it returns those that are left.
+#[derive(Drop)]
+pub struct StreamsRef<'a> {
+    bytes: &'a [u8],
+    places: &'a [StreamPlace],
+    entries: &'a [EntryPlace],
+    fields: &'a [FieldPlace],
+}
+
+impl<'a> Model for StreamsRef<'a> {
+    ghost use Rattle.std.specs.Prelude.{List, map, length};
+    ghost use Rattle.std.specs.List.{AllByRecursion};
+    ghost use Rattle.stream_refs.specs.Sent.{SentStream};
+    ghost use Rattle.stream_refs.specs.Placed.{stream_in, IsField, IsEntry, IsStream};
+
+    ghost Value = { List SentStream };
+
+    ghost view = { λ s. map (stream_in s.bytes.now s.entries.now s.fields.now) s.places.now };
+
+    ghost invariant = { λ s. AllByRecursion (IsStream s.bytes.now (length s.entries.now)) s.places.now
+        × AllByRecursion (IsEntry s.bytes.now (length s.fields.now)) s.entries.now
+        × AllByRecursion (IsField s.bytes.now) s.fields.now };
+}
+
+impl<'a> StreamsRef<'a> {
+    /// How many streams are left.
+    pub fn len(&self) -> usize
+        ensures { result ≡ length self.now }
+    {
+        self.places.len()
+    }
+
+    /// Whether no stream is left.
+    pub fn is_empty(&self) -> bool
+        ensures { result ≡ nat_eq (length self.now) 0 }
+    {
+        self.places.is_empty()
+    }
+
+    /// The same streams again, from the first one that is left.
+    pub fn again(&self) -> StreamsRef<'a>
+        ensures { result ≡ self.now }
+    {
+        StreamsRef {
+            bytes: self.bytes,
+            places: self.places,
+            entries: self.entries,
+            fields: self.fields,
+        }
+    }
+
+    /// Takes the next stream.
+    fn take_stream(&mut self) -> Option<StreamRef<'a>>
+        ensures { MatchOption result ((self.old ≡ []) × (self.new ≡ []))
+            (λ s. self.old ≡ s ∷ self.new) }
+    {
+        let (first, rest) = self.places.split_first()?;
+        self.places = rest;
+        Some(stream_at(self.bytes, *first, self.entries, self.fields))
+    }
+}
+
+/// The stream that stands there.
+fn stream_at<'a>(
+    bytes: &'a [u8],
+    place: StreamPlace,
+    entries: &'a [EntryPlace],
+    fields: &'a [FieldPlace],
+) -> StreamRef<'a>
+    requires stream { IsStream bytes.now (length entries.now) place }
+    requires entries { AllByRecursion (IsEntry bytes.now (length fields.now)) entries.now }
+    requires fields { AllByRecursion (IsField bytes.now) fields.now }
+    ensures { result ≡ stream_in bytes.now entries.now fields.now place }
+{
+    StreamRef {
+        name: unsafe { str::from_utf8_unchecked(text_in(bytes, place.name)) },
+        entries: entries_at(bytes, &entries[place.from..place.to], fields),
+    }
+}
+
+impl<'a> Iterator for StreamsRef<'a> {
+    type Item = StreamRef<'a>;
+
+    ghost use Rattle.std.specs.Iterator.{YieldsFirst, item_count};
+
+    ghost next_gives = { YieldsFirst (λ s. s) };
+
+    ghost remaining = { item_count (λ s. s) };
+
+    fn next(&mut self) -> Option<StreamRef<'a>> {
+        self.take_stream()
+    }
+}
+
+/// The streams that stand there.
+pub fn streams_at<'a>(
+    bytes: &'a [u8],
+    places: &'a [StreamPlace],
+    entries: &'a [EntryPlace],
+    fields: &'a [FieldPlace],
+) -> StreamsRef<'a>
+    requires streams { AllByRecursion (IsStream bytes.now (length entries.now)) places.now }
+    requires entries { AllByRecursion (IsEntry bytes.now (length fields.now)) entries.now }
+    requires fields { AllByRecursion (IsField bytes.now) fields.now }
+    ensures { result ≡ map (stream_in bytes.now entries.now fields.now) places.now }
+{
+    StreamsRef {
+        bytes,
+        places,
+        entries,
+        fields,
+    }
+}
+
+/// The streams of a read, where they stand, and how many bytes the reply has.
+#[derive(Drop)]
+pub struct ReadRef<'a> {
+    /// The streams, in order.
+    pub streams: StreamsRef<'a>,
+    /// How many bytes the reply has.
+    pub len: usize,
+}

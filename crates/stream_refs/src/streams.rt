@@ -1,0 +1,82 @@
+//! Finds where streams stand, with their entries.
+ghost use Rattle.std.specs.Prelude.{◌≡◌, ◌≤◌, IfOk, IfSome, length};
+ghost use Rattle.stream_refs.specs.Held.{none_held};
+ghost use Rattle.stream_refs.specs.Added.{IsStreamHead, StreamAdded, StreamsAdded};
+
+use crate::places::StreamPlace;
+use crate::room::Places;
+use crate::rows::{add_entries, name_at};
+use redis_wire::Limits;
+use redis_wire::place::array_at;
+
+/// How many bytes end with the head of a stream: none in a map, and in an array that of the array of
+/// its name and its rows.
+fn head_end(limits: Limits, bytes: &[u8], at: usize, in_map: bool) -> Option<usize>
+    requires { at ≤ length bytes.now }
+    ensures { IfSome result (λ behind. IsStreamHead limits bytes.now at in_map behind) }
+{
+    if in_map {
+        return Some(at);
+    }
+    match array_at(limits, bytes, at)? {
+        (2, behind) => Some(behind),
+        _ => None,
+    }
+}
+
+/// Holds the entries of the stream from `at` on, and returns the stream and how many bytes end with it.
+fn add_stream<P: Places>(
+    limits: Limits,
+    bytes: &[u8],
+    at: usize,
+    in_map: bool,
+    claim: bool,
+    places: &mut P,
+) -> Result<Option<(StreamPlace, usize)>, P::Refusal>
+    requires { at ≤ length bytes.now }
+    ensures { IfOk result (λ o. IfSome o (λ x.
+        StreamAdded limits bytes.now at in_map claim x.1 x.0 (P.held places.old) (P.held places.new))) }
+{
+    let Some(behind) = head_end(limits, bytes, at, in_map) else {
+        return Ok(None);
+    };
+    let Some((name, behind)) = name_at(limits, bytes, behind) else {
+        return Ok(None);
+    };
+    let Some((count, behind)) = array_at(limits, bytes, behind) else {
+        return Ok(None);
+    };
+    let from = places.count_entries();
+    let Some(after) = add_entries(limits, bytes, behind, claim, count, places)? else {
+        return Ok(None);
+    };
+    let to = places.count_entries();
+    Ok(Some((StreamPlace { name, from, to }, after)))
+}
+
+/// Holds so many streams from `at` on, with their entries and fields, where nothing is held, and
+/// returns how many bytes end with them.
+pub fn add_streams<P: Places>(
+    limits: Limits,
+    bytes: &[u8],
+    at: usize,
+    in_map: bool,
+    claim: bool,
+    count: u32,
+    places: &mut P,
+) -> Result<Option<usize>, P::Refusal>
+    requires at { at ≤ length bytes.now }
+    requires none { P.held places.old ≡ none_held }
+    ensures { IfOk result (λ o. IfSome o (λ after.
+        StreamsAdded limits bytes.now at in_map claim count after (P.held places.new))) }
+{
+    let mut behind = at;
+    for _ in 0..count {
+        let Some((stream, after)) = add_stream(limits, bytes, behind, in_map, claim, places)? else {
+            return Ok(None);
+        };
+        places.push_stream(stream)?;
+        behind = after;
+    }
+    Ok(Some(behind))
+}

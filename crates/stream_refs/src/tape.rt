@@ -1,0 +1,122 @@
+//! The tables of places of a reply.
+ghost use Rattle.std.specs.Prelude.{◌≡◌, IfOk, IfSome};
+ghost use Rattle.stream_refs.specs.Held.{none_held};
+ghost use Rattle.stream_refs.specs.Range.{IsRange, IsRead};
+
+use crate::entry_list::{RangeRef, entries_at};
+use crate::find::find_form;
+use crate::places::{EntryPlace, FieldPlace, StreamPlace};
+use crate::room::Places;
+use crate::rows::add_entries;
+use crate::stream_list::{ReadRef, streams_at};
+use redis_wire::Limits;
+use redis_wire::place::array_at;
+use std::alloc::{AllocError, Global};
+
+/// Where the entries of a reply stand: three tables of plain numbers. They keep their room for the next
+/// reply, so that replies no larger than those before ask for no memory.
+#[derive(Drop)]
+pub struct EntryTape {
+    streams: Vec<StreamPlace>,
+    entries: Vec<EntryPlace>,
+    fields: Vec<FieldPlace>,
+}
+
+impl EntryTape {
+    /// Tables with no room yet.
+    pub fn new(alloc: Global) -> EntryTape
+        ensures { ⟦<EntryTape as Places>⟧.held result ≡ none_held }
+    {
+        EntryTape {
+            streams: Vec::new(alloc),
+            entries: Vec::new(alloc),
+            fields: Vec::new(alloc),
+        }
+    }
+
+    /// Reads the entries of the reply at the head of bytes where they stand, where it has the shape in
+    /// which servers answer XRANGE, XREVRANGE and XCLAIM: an array of rows, each of an id and an array
+    /// of names and values, or nil for the fields of an entry that was deleted.
+    pub fn read_range<'a>(
+        &'a mut self,
+        bytes: &'a [u8],
+        limits: Limits,
+    ) -> Result<Option<RangeRef<'a>>, AllocError>
+        ensures { IfOk result (λ o. IfSome o (λ r. IsRange limits bytes.now r.entries r.len)) }
+    {
+        self.clear();
+        if limits.depth < 4 {
+            return Ok(None);
+        }
+        let Some((count, at)) = array_at(limits, bytes, 0) else {
+            return Ok(None);
+        };
+        match add_entries(limits, bytes, at, false, count, self)? {
+            None => Ok(None),
+            Some(len) => Ok(Some(RangeRef {
+                entries: entries_at(bytes, &self.entries, &self.fields),
+                len,
+            })),
+        }
+    }
+
+    /// Reads the streams of the reply at the head of bytes where they stand, where it has the shape in
+    /// which servers answer XREAD and XREADGROUP: an array of streams, each of its name and its rows, in
+    /// RESP3 a map of names to rows, or nil.
+    pub fn read_streams<'a>(
+        &'a mut self,
+        bytes: &'a [u8],
+        limits: Limits,
+    ) -> Result<Option<ReadRef<'a>>, AllocError>
+        ensures { IfOk result (λ o. IfSome o (λ r. IsRead limits bytes.now r.streams r.len)) }
+    {
+        if limits.depth < 6 {
+            return Ok(None);
+        }
+        match find_form(limits, bytes, false, self)? {
+            None => Ok(None),
+            Some(len) => Ok(Some(ReadRef {
+                streams: streams_at(bytes, &self.streams, &self.entries, &self.fields),
+                len,
+            })),
+        }
+    }
+}
+
+impl Places for EntryTape {
+    type Refusal = AllocError;
+
+    ghost use Rattle.stream_refs.specs.Held.{Held};
+
+    ghost held = { λ t. record {
+      streams = t.streams.items;
+      entries = t.entries.items;
+      fields = t.fields.items;
+    } };
+
+    fn clear(&mut self) {
+        self.streams.clear();
+        self.entries.clear();
+        self.fields.clear();
+    }
+
+    fn count_entries(&self) -> usize {
+        self.entries.len()
+    }
+
+    fn count_fields(&self) -> usize {
+        self.fields.len()
+    }
+
+    fn push_field(&mut self, place: FieldPlace) -> Result<(), AllocError> {
+        Ok(self.fields.push(place)?)
+    }
+
+    fn push_entry(&mut self, place: EntryPlace) -> Result<(), AllocError> {
+        Ok(self.entries.push(place)?)
+    }
+
+    fn push_stream(&mut self, place: StreamPlace) -> Result<(), AllocError> {
+        Ok(self.streams.push(place)?)
+    }
+}

@@ -1,0 +1,7 @@
+use Rattle.stream_server.proofs.StreamLemmas.{seen_streams-with_item}
+use Rattle.stream_server.proofs.commands.add.add.Goals as goal
+
+pub returns-in-Ok : goal.returns-in-Ok
+returns-in-Ok c =
+    seen_streams-with_item c.append.result c.args.streams.now c.in-Ok.index c.index_mut.result.now c.append.new.stream
+    c.index_mut.ensures.value c.append.ensures

@@ -1,0 +1,34 @@
+-- The kinds of answers.
+use Rattle.std.specs.Prelude.{◌≡◌, Bool, true, false}
+use Rattle.stream_server.specs.declared.answer.Answer.{Answer, fold-Answer}
+use Rattle.stream_server.specs.declared.answer.Answer.TheOpen.{Answer-F}
+
+-- one level of an answer: whether it is an array, or that there is none
+abbrev pub array_step : Answer-F Bool → Bool
+array_step (Answer-F.Array items) = true
+array_step Answer-F.NilArray = true
+array_step answer = false
+
+-- one level of an answer: whether it is names with their answers, or that there are none
+abbrev pub rows_step : Answer-F Bool → Bool
+rows_step (Answer-F.Rows rows) = true
+rows_step Answer-F.NilArray = true
+rows_step answer = false
+
+-- one level of an answer: whether it is names with their answers as a map, or an array
+abbrev pub info_step : Answer-F Bool → Bool
+info_step (Answer-F.Map rows) = true
+info_step (Answer-F.Array items) = true
+info_step answer = false
+
+-- an array, or that there is none
+abbrev pub IsArray : Answer → Type 0
+IsArray answer = fold-Answer Bool array_step answer ≡ true
+
+-- names with their answers, or that there are none
+abbrev pub IsRows : Answer → Type 0
+IsRows answer = fold-Answer Bool rows_step answer ≡ true
+
+-- names with their answers as one map, or an array of such maps
+abbrev pub IsInfo : Answer → Type 0
+IsInfo answer = fold-Answer Bool info_step answer ≡ true

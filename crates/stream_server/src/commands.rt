@@ -1,0 +1,560 @@
+//! The commands by their names, and what they share.
+ghost use Rattle.std.specs.Prelude.{◌≡◌, ◌≤◌, length as length_of, OnErr};
+ghost use Rattle.std.specs.List.Sorted.{IsSearchInRange};
+ghost use Rattle.stream_server.specs.Streams.{seen_streams};
+
+mod add;
+mod claim;
+mod group;
+mod hello;
+mod info;
+mod pending;
+mod range;
+mod read;
+mod remove;
+mod retention;
+mod stalled;
+
+use crate::answer::Answer;
+use crate::refusal::Refusal;
+use crate::server::Session;
+use std::alloc::{AllocError, Global};
+use stream_store::{Entry, EntryId, Group, Stream};
+
+const SYNTAX: Refusal = Refusal::Fixed("ERR syntax error");
+
+const NOT_AN_INTEGER: Refusal = Refusal::Fixed("ERR value is not an integer or out of range");
+
+const INVALID_ID: Refusal = Refusal::Fixed(
+    "ERR Invalid stream ID specified as stream command argument",
+);
+
+/// Does a command, its name and its arguments. What is refused changes nothing.
+pub(crate) fn done(
+    alloc: Global,
+    streams: &mut Vec<Stream>,
+    now: u64,
+    session: &mut Session,
+    command: Vec<Vec<u8>>,
+) -> Result<Answer, Refusal>
+    ensures { OnErr result (seen_streams streams.new ≡ seen_streams streams.old) }
+{
+    let [word, arguments @ ..] = command.as_slice() else {
+        return Err(SYNTAX);
+    };
+    let name = command_named(alloc, word, arguments)?;
+    match name {
+        Name::Ping => match arguments {
+            [] => Ok(Answer::Pong),
+            [text] => Ok(Answer::Bytes(text.clone()?)),
+            _ => Err(wrong_count(alloc, word)),
+        },
+        Name::Hello => hello::hello(alloc, session, arguments),
+        Name::Delete => Ok(length(remove::remove_keys(streams, arguments))),
+        Name::FlushAll => {
+            streams.clear();
+            Ok(Answer::Okay)
+        }
+        Name::Add => add::add(alloc, streams, now, command),
+        Name::ReadGroup => read::read_group(alloc, streams, now, arguments),
+        Name::Group => group::group(alloc, streams, now, word, arguments),
+        Name::Acknowledge => remove::acknowledge(alloc, streams, arguments),
+        Name::Claim => claim::claim(alloc, streams, now, arguments),
+        Name::AutoClaim => stalled::claim_stalled(alloc, streams, now, arguments),
+        Name::DeleteEntries => remove::delete(alloc, streams, arguments),
+        Name::Trim => remove::trim(streams, arguments),
+        Name::SetId => remove::set_id(streams, arguments),
+        other => looked_up(alloc, streams, now, other, word, arguments),
+    }
+}
+
+/// Does a command that changes no stream.
+fn looked_up(
+    alloc: Global,
+    streams: &[Stream],
+    now: u64,
+    name: Name,
+    word: &[u8],
+    arguments: &[Vec<u8>],
+) -> Result<Answer, Refusal> {
+    match name {
+        Name::Len => match arguments {
+            [key, ..] => match stream_of(streams, key) {
+                Some(stream) => Ok(length(stream.entries.len())),
+                None => Ok(Answer::Int(0)),
+            },
+            [] => Err(SYNTAX),
+        },
+        Name::Range => range::range(alloc, streams, false, arguments),
+        Name::ReverseRange => range::range(alloc, streams, true, arguments),
+        Name::Read => read::read(alloc, streams, arguments),
+        Name::Pending => pending::pending(alloc, streams, now, arguments),
+        Name::Info => info::info(alloc, streams, now, word, arguments),
+        _ => Err(SYNTAX),
+    }
+}
+
+/// The index of the stream of this key, or of the first behind it.
+fn place_of(streams: &[Stream], key: &[u8]) -> Result<usize, usize>
+    ensures { IsSearchInRange result (length_of streams.now) }
+{
+    streams.binary_search_by(|stream| stream.key.as_slice().cmp(&key))
+}
+
+/// The stream of this key.
+fn stream_of<'a>(streams: &'a [Stream], key: &[u8]) -> Option<&'a Stream> {
+    match place_of(streams, key) {
+        Ok(index) => Some(&streams[index]),
+        Err(_) => None,
+    }
+}
+
+/// The index of the group of this name, or of the first behind it.
+fn place_of_group(stream: &Stream, name: &[u8]) -> Result<usize, usize>
+    ensures { IsSearchInRange result (length_of stream.now.groups.items) }
+{
+    stream
+        .groups
+        .binary_search_by(|group| group.name.as_slice().cmp(&name))
+}
+
+/// The group of this name.
+fn group_of<'a>(stream: &'a Stream, name: &[u8]) -> Option<&'a Group> {
+    match place_of_group(stream, name) {
+        Ok(index) => Some(&stream.groups[index]),
+        Err(_) => None,
+    }
+}
+
+/// The group takes the place of the one of its name.
+fn put_group(streams: &mut [Stream], key: &[u8], group: Group) {
+    if let Ok(index) = place_of(streams, key) {
+        let stream = &mut streams[index];
+        if let Ok(place) = place_of_group(stream, &group.name) {
+            stream.groups[place] = group;
+        }
+    }
+}
+
+/// The name of the group's consumer with this number.
+fn name_of(group: &Group, number: u64) -> &[u8] {
+    for consumer in &group.consumers {
+        if consumer.number == number {
+            return &consumer.name;
+        }
+    }
+    &[]
+}
+
+/// A count as an answer.
+fn number(n: u64) -> Answer {
+    Answer::Int(i64::try_from(n).unwrap_or(i64::MAX))
+}
+
+/// A length as an answer.
+fn length(n: usize) -> Answer {
+    Answer::Int(i64::try_from(n).unwrap_or(i64::MAX))
+}
+
+/// An entry as an answer: its id and its fields.
+fn entry_answer(alloc: Global, entry: &Entry) -> Result<Answer, AllocError> {
+    let mut fields = Vec::with_capacity(alloc, entry.fields.len())?;
+    for field in &entry.fields {
+        fields.push(Answer::Bytes(field.clone()?))?;
+    }
+    let mut both = Vec::with_capacity(alloc, 2)?;
+    both.push(Answer::Id(entry.id))?;
+    both.push(Answer::Array(fields))?;
+    Ok(Answer::Array(both))
+}
+
+/// The first entries from this id on up to that one, `most` at most.
+fn entries_up(
+    alloc: Global,
+    stream: &Stream,
+    start: EntryId,
+    end: EntryId,
+    most: u64,
+) -> Result<Vec<Answer>, AllocError> {
+    let mut answers = Vec::new(alloc);
+    let mut left = most;
+    for entry in stream.entries.range(stream.start(start)..) {
+        if entry.id > end || left == 0 {
+            break;
+        }
+        left -= 1;
+        answers.push(entry_answer(alloc, entry)?)?;
+    }
+    Ok(answers)
+}
+
+/// A command.
+#[derive(Clone, Copy, PartialEq, Eq)]
+enum Name {
+    Ping,
+    Hello,
+    Delete,
+    FlushAll,
+    Add,
+    Len,
+    Range,
+    ReverseRange,
+    Read,
+    ReadGroup,
+    Group,
+    Acknowledge,
+    Pending,
+    Claim,
+    AutoClaim,
+    DeleteEntries,
+    Trim,
+    SetId,
+    Info,
+}
+
+/// The command of this name, where it may have so many arguments.
+fn command_named(alloc: Global, word: &[u8], arguments: &[Vec<u8>]) -> Result<Name, Refusal> {
+    let names = [
+        ("XADD", Name::Add),
+        ("XREADGROUP", Name::ReadGroup),
+        ("XACK", Name::Acknowledge),
+        ("XAUTOCLAIM", Name::AutoClaim),
+        ("XPENDING", Name::Pending),
+        ("XRANGE", Name::Range),
+        ("XREVRANGE", Name::ReverseRange),
+        ("XLEN", Name::Len),
+        ("XDEL", Name::DeleteEntries),
+        ("XTRIM", Name::Trim),
+        ("XREAD", Name::Read),
+        ("XGROUP", Name::Group),
+        ("XCLAIM", Name::Claim),
+        ("XINFO", Name::Info),
+        ("XSETID", Name::SetId),
+        ("PING", Name::Ping),
+        ("HELLO", Name::Hello),
+        ("DEL", Name::Delete),
+        ("FLUSHALL", Name::FlushAll),
+    ];
+    for (text, name) in names {
+        if is_word(word, text) {
+            if has_right_count(name, arguments.len()) {
+                return Ok(name);
+            }
+            return Err(wrong_count(alloc, word));
+        }
+    }
+    Err(unknown(alloc, word, arguments))
+}
+
+/// Whether the command may have so many arguments.
+fn has_right_count(name: Name, count: usize) -> bool {
+    match name {
+        Name::Ping | Name::Hello | Name::FlushAll => true,
+        Name::Delete | Name::Group | Name::Info => count >= 1,
+        Name::Len => count == 1,
+        Name::Pending | Name::DeleteEntries | Name::SetId => count >= 2,
+        Name::Range | Name::ReverseRange | Name::Read | Name::Acknowledge | Name::Trim => {
+            count >= 3
+        }
+        Name::Add => count >= 4,
+        Name::Claim | Name::AutoClaim => count >= 5,
+        Name::ReadGroup => count >= 6,
+    }
+}
+
+/// That there is no such command.
+fn unknown(alloc: Global, word: &[u8], arguments: &[Vec<u8>]) -> Refusal {
+    match quoted(alloc, arguments) {
+        Ok(text) => refusal_of(
+            alloc,
+            &[
+                b"ERR unknown command '",
+                word,
+                b"', with args beginning with: ",
+                &text,
+            ],
+        ),
+        Err(_) => Refusal::Memory,
+    }
+}
+
+/// The first arguments in quotes, each with a blank behind it.
+fn quoted(alloc: Global, arguments: &[Vec<u8>]) -> Result<Vec<u8>, AllocError> {
+    let mut text = Vec::new(alloc);
+    for argument in arguments {
+        if text.len() < 128 {
+            text.push(b'\'')?;
+            text.extend_from_slice(argument)?;
+            text.extend_from_slice(b"' ")?;
+        }
+    }
+    Ok(text)
+}
+
+/// The word in lower case.
+fn lower(alloc: Global, word: &[u8]) -> Result<Vec<u8>, AllocError> {
+    let mut text = Vec::from_slice(alloc, word)?;
+    text.make_ascii_lowercase();
+    Ok(text)
+}
+
+/// That the command may not have so many arguments.
+fn wrong_count(alloc: Global, word: &[u8]) -> Refusal {
+    match lower(alloc, word) {
+        Ok(word) => refusal_of(
+            alloc,
+            &[b"ERR wrong number of arguments for '", &word, b"' command"],
+        ),
+        Err(_) => Refusal::Memory,
+    }
+}
+
+/// That the subcommand may not have so many arguments.
+fn wrong_subcount(alloc: Global, word: &[u8], subcommand: &[u8]) -> Refusal {
+    match (lower(alloc, word), lower(alloc, subcommand)) {
+        (Ok(word), Ok(subcommand)) => refusal_of(
+            alloc,
+            &[
+                b"ERR wrong number of arguments for '",
+                &word,
+                b"|",
+                &subcommand,
+                b"' command",
+            ],
+        ),
+        _ => Refusal::Memory,
+    }
+}
+
+/// That there is no such subcommand.
+fn unknown_subcommand(alloc: Global, word: &[u8], subcommand: &[u8]) -> Refusal {
+    let Ok(mut upper) = Vec::from_slice(alloc, word) else {
+        return Refusal::Memory;
+    };
+    upper.make_ascii_uppercase();
+    refusal_of(
+        alloc,
+        &[
+            b"ERR unknown subcommand '",
+            subcommand,
+            b"'. Try ",
+            &upper,
+            b" HELP.",
+        ],
+    )
+}
+
+/// The texts behind one another as a refusal.
+fn refusal_of(alloc: Global, parts: &[&[u8]]) -> Refusal {
+    let mut text = Vec::new(alloc);
+    for part in parts {
+        if text.extend_from_slice(part).is_err() {
+            return Refusal::Memory;
+        }
+    }
+    Refusal::Text(text)
+}
+
+/// That there is no such group, as XGROUP and XINFO say it.
+fn no_group_for(alloc: Global, key: &[u8], group: &[u8]) -> Refusal {
+    refusal_of(
+        alloc,
+        &[
+            b"NOGROUP No such consumer group '",
+            group,
+            b"' for key name '",
+            key,
+            b"'",
+        ],
+    )
+}
+
+/// The same, as XPENDING, XCLAIM and XAUTOCLAIM say it.
+fn no_group(alloc: Global, key: &[u8], group: &[u8]) -> Refusal {
+    refusal_of(
+        alloc,
+        &[
+            b"NOGROUP No such key '",
+            key,
+            b"' or consumer group '",
+            group,
+            b"'",
+        ],
+    )
+}
+
+/// Whether the argument is this word, in either case.
+fn is_word(argument: &[u8], word: &str) -> bool {
+    argument.eq_ignore_ascii_case(word.as_bytes())
+}
+
+/// A number as Redis takes it: with no plus sign and no leading zero.
+fn integer_in(argument: &[u8]) -> Option<i64> {
+    match argument {
+        [b'0'] => return Some(0),
+        [b'-', b'1'..=b'9', ..] | [b'1'..=b'9', ..] => {}
+        _ => return None,
+    }
+    match std::str::from_utf8(argument) {
+        Ok(text) => text.parse::<i64>().ok(),
+        Err(_) => None,
+    }
+}
+
+/// The number, or that it is none.
+fn integer(argument: &[u8]) -> Result<i64, Refusal> {
+    integer_in(argument).ok_or(NOT_AN_INTEGER)
+}
+
+/// A number, and 0 for a negative one.
+fn count(argument: &[u8]) -> Result<u64, Refusal> {
+    Ok(u64::try_from(integer(argument)?).unwrap_or(0))
+}
+
+/// A number, and 0 for a negative one.
+fn count_in(argument: &[u8]) -> Option<u64> {
+    Some(u64::try_from(integer_in(argument)?).unwrap_or(0))
+}
+
+/// The id that XADD is given.
+#[derive(Clone, Copy)]
+enum NewId {
+    /// `*`
+    Automatic,
+    /// `ms-*`
+    Within(u64),
+    /// `ms-seq` or `ms`
+    Given(EntryId),
+}
+
+/// Which part of a sequence number stands in a text.
+#[derive(Clone, Copy)]
+enum Sequence {
+    Missing,
+    Automatic,
+    Given(u64),
+}
+
+/// The number of decimal digits.
+fn number_in(text: &[u8]) -> Option<u64> {
+    if text.is_empty() {
+        return None;
+    }
+    let mut n = 0u64;
+    for digit in text {
+        if !digit.is_ascii_digit() {
+            return None;
+        }
+        n = n
+            .checked_mul(10)?
+            .checked_add(u64::from(digit.wrapping_sub(b'0')))?;
+    }
+    Some(n)
+}
+
+/// The parts of an id.
+fn parts_in(text: &[u8]) -> Option<(u64, Sequence)> {
+    if text.len() > 127 {
+        return None;
+    }
+    let (front, behind) = text.split_at(front_len(text));
+    let milliseconds = number_in(front)?;
+    match behind {
+        [] => Some((milliseconds, Sequence::Missing)),
+        [_, b'*'] => Some((milliseconds, Sequence::Automatic)),
+        [_, digits @ ..] => Some((milliseconds, Sequence::Given(number_in(digits)?))),
+    }
+}
+
+/// How many bytes stand before the first `-`.
+fn front_len(text: &[u8]) -> usize
+    ensures { result ≤ length_of text.now }
+{
+    text.iter().take_while(|byte| **byte != b'-').count()
+}
+
+/// `ms-seq`, or `ms` with this sequence number.
+fn strict_id(text: &[u8], missing: u64) -> Option<EntryId> {
+    let (milliseconds, sequence) = parts_in(text)?;
+    let sequence = match sequence {
+        Sequence::Missing => missing,
+        Sequence::Automatic => return None,
+        Sequence::Given(sequence) => sequence,
+    };
+    Some(EntryId {
+        milliseconds,
+        sequence,
+    })
+}
+
+/// The same, or `-` for the smallest one and `+` for the largest one.
+fn loose_id(text: &[u8], missing: u64) -> Option<EntryId> {
+    match text {
+        [b'-'] => Some(EntryId::ZERO),
+        [b'+'] => Some(EntryId::LAST),
+        _ => strict_id(text, missing),
+    }
+}
+
+/// `*`, `ms-*`, `ms-seq` or `ms`.
+fn new_id(text: &[u8]) -> Option<NewId> {
+    if text == b"*".as_slice() {
+        return Some(NewId::Automatic);
+    }
+    let (milliseconds, sequence) = parts_in(text)?;
+    let sequence = match sequence {
+        Sequence::Missing => 0,
+        Sequence::Automatic => return Some(NewId::Within(milliseconds)),
+        Sequence::Given(sequence) => sequence,
+    };
+    Some(NewId::Given(EntryId {
+        milliseconds,
+        sequence,
+    }))
+}
+
+/// The id, or that it is none.
+fn id(argument: &[u8]) -> Result<EntryId, Refusal> {
+    strict_id(argument, 0).ok_or(INVALID_ID)
+}
+
+/// The ids that the arguments are.
+fn ids(alloc: Global, arguments: &[Vec<u8>]) -> Result<Vec<EntryId>, Refusal> {
+    let mut ids = Vec::new(alloc);
+    for argument in arguments {
+        ids.push(id(argument)?)?;
+    }
+    Ok(ids)
+}
+
+/// The first id of an interval that begins so.
+fn interval_start(argument: &[u8]) -> Result<EntryId, Refusal> {
+    let (id, is_exclusive) = interval_end_at(argument, 0)?;
+    if !is_exclusive {
+        return Ok(id);
+    }
+    id.next()
+        .ok_or(Refusal::Fixed("ERR invalid start ID for the interval"))
+}
+
+/// The last id of an interval that ends so.
+fn interval_end(argument: &[u8]) -> Result<EntryId, Refusal> {
+    let (id, is_exclusive) = interval_end_at(argument, u64::MAX)?;
+    if !is_exclusive {
+        return Ok(id);
+    }
+    id.previous()
+        .ok_or(Refusal::Fixed("ERR invalid end ID for the interval"))
+}
+
+/// One end of an interval, and whether the id itself is left out.
+fn interval_end_at(argument: &[u8], missing: u64) -> Result<(EntryId, bool), Refusal> {
+    let (found, is_exclusive) = match argument {
+        [b'(', text @ ..] if !text.is_empty() => (strict_id(text, missing), true),
+        _ => (loose_id(argument, missing), false),
+    };
+    match found {
+        Some(id) => Ok((id, is_exclusive)),
+        None => Err(INVALID_ID),
+    }
+}

@@ -1,0 +1,105 @@
+//! `XADD`.
+ghost use Rattle.std.specs.Prelude.{◌≡◌, OnErr};
+ghost use Rattle.stream_server.specs.Streams.{seen_streams};
+ghost use Rattle.stream_store.specs.Stream.{seen_stream};
+
+use super::retention::{Retention, retention_in};
+use super::{NewId, SYNTAX, place_of};
+use crate::answer::Answer;
+use crate::refusal::Refusal;
+use std::alloc::Global;
+use stream_store::{EntryId, Stream};
+
+const NOT_ABOVE: Refusal = Refusal::Fixed(
+    "ERR The ID specified in XADD is equal or smaller than the target stream top item",
+);
+
+/// `XADD key [NOMKSTREAM] [MAXLEN | MINID [= | ~] threshold [LIMIT count]] id field value ..`
+pub(super) fn add(
+    alloc: Global,
+    streams: &mut Vec<Stream>,
+    now: u64,
+    mut command: Vec<Vec<u8>>,
+) -> Result<Answer, Refusal>
+    ensures { OnErr result (seen_streams streams.new ≡ seen_streams streams.old) }
+{
+    let [_, key, words @ ..] = command.as_slice() else {
+        return Err(SYNTAX);
+    };
+    let options = retention_in(words, true)?;
+    let first = 2usize.saturating_add(options.len);
+    check(&options, command.len().saturating_sub(first))?;
+    let key = key.clone()?;
+    if first > command.len() {
+        return Err(SYNTAX);
+    }
+    let fields = command.split_off(first)?;
+    match place_of(streams, &key) {
+        Ok(index) => append(&mut streams[index], &options, now, fields),
+        Err(index) => {
+            if !options.makes_stream {
+                return Ok(Answer::Nil);
+            }
+            let mut stream = Stream::new(alloc, key);
+            let answer = append(&mut stream, &options, now, fields)?;
+            streams.insert(index, stream)?;
+            Ok(answer)
+        }
+    }
+}
+
+/// Whether there are fields in pairs, and an id that an entry may have.
+fn check(options: &Retention, fields: usize) -> Result<(), Refusal> {
+    if fields < 2 || fields % 2 == 1 {
+        return Err(Refusal::Fixed("ERR wrong number of arguments for 'xadd' command"));
+    }
+    if matches!(options.id, NewId::Given(id) if id == EntryId::ZERO) {
+        return Err(Refusal::Fixed("ERR The ID specified in XADD must be greater than 0-0"));
+    }
+    Ok(())
+}
+
+/// Appends an entry and trims the stream.
+fn append(
+    stream: &mut Stream,
+    options: &Retention,
+    now: u64,
+    fields: Vec<Vec<u8>>,
+) -> Result<Answer, Refusal>
+    ensures { OnErr result (seen_stream stream.new ≡ seen_stream stream.old) }
+{
+    if stream.last_id == EntryId::LAST {
+        return Err(Refusal::Fixed(
+            "ERR The stream has exhausted the last possible ID, unable to add more items",
+        ));
+    }
+    let Some(id) = id_for(stream.last_id, options.id, now) else {
+        return Err(NOT_ABOVE);
+    };
+    stream.append(id, fields)?;
+    if let Some(trim) = options.trim {
+        let _count = stream.trim(trim);
+    }
+    Ok(Answer::Id(id))
+}
+
+/// The id that a new entry gets, where there is one behind the last one.
+fn id_for(last: EntryId, wanted: NewId, now: u64) -> Option<EntryId> {
+    let id = match wanted {
+        NewId::Automatic if now > last.milliseconds => EntryId {
+            milliseconds: now,
+            sequence: 0,
+        },
+        NewId::Automatic => last.next()?,
+        NewId::Within(milliseconds) if milliseconds == last.milliseconds => EntryId {
+            milliseconds,
+            sequence: last.sequence.checked_add(1)?,
+        },
+        NewId::Within(milliseconds) => EntryId {
+            milliseconds,
+            sequence: 0,
+        },
+        NewId::Given(id) => id,
+    };
+    if id > last { Some(id) } else { None }
+}

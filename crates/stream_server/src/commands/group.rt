@@ -1,0 +1,259 @@
+//! `XGROUP`.
+ghost use Rattle.std.specs.Prelude.{◌≡◌, OnErr};
+ghost use Rattle.stream_server.specs.Streams.{seen_streams};
+ghost use Rattle.stream_store.specs.Stream.{seen_stream};
+
+use super::{
+    INVALID_ID, SYNTAX, integer, is_word, loose_id, no_group_for, place_of, place_of_group,
+    refusal_of, strict_id, unknown_subcommand, wrong_subcount,
+};
+use crate::answer::Answer;
+use crate::refusal::Refusal;
+use std::alloc::Global;
+use stream_store::{EntryId, Group, Stream};
+
+/// What XGROUP does.
+#[derive(Clone, Copy, PartialEq, Eq)]
+enum Action {
+    Create,
+    SetId,
+    Destroy,
+    CreateConsumer,
+    DeleteConsumer,
+}
+
+const NO_KEY: Refusal = Refusal::Fixed(
+    "ERR The XGROUP subcommand requires the key to exist. Note that for CREATE you \
+        may want to use the MKSTREAM option to create an empty stream automatically.",
+);
+
+/// `XGROUP subcommand key group ..`
+pub(super) fn group(
+    alloc: Global,
+    streams: &mut Vec<Stream>,
+    now: u64,
+    word: &[u8],
+    arguments: &[Vec<u8>],
+) -> Result<Answer, Refusal>
+    ensures { OnErr result (seen_streams streams.new ≡ seen_streams streams.old) }
+{
+    let action = action_in(alloc, word, arguments)?;
+    let [subcommand, key, name, rest @ ..] = arguments else {
+        return Err(SYNTAX);
+    };
+    let options = options_in(alloc, action, subcommand, rest)?;
+    match place_of(streams, key) {
+        Ok(index) => done_on(alloc, &mut streams[index], now, action, arguments, options),
+        Err(_) if options.makes_stream => create_stream(alloc, streams, key, name, rest, options),
+        Err(_) => Err(NO_KEY),
+    }
+}
+
+/// The action on a stream that is there.
+fn done_on(
+    alloc: Global,
+    stream: &mut Stream,
+    now: u64,
+    action: Action,
+    arguments: &[Vec<u8>],
+    options: GroupOptions,
+) -> Result<Answer, Refusal>
+    ensures { OnErr result (seen_stream stream.new ≡ seen_stream stream.old) }
+{
+    let [_, key, name, rest @ ..] = arguments else {
+        return Err(SYNTAX);
+    };
+    if action == Action::Create {
+        return create(alloc, stream, name, rest, options);
+    }
+    match place_of_group(stream, name) {
+        Ok(place) if action == Action::Destroy => {
+            let _group = stream.groups.remove(place);
+            Ok(Answer::Int(1))
+        }
+        Ok(place) => changed(alloc, stream, place, now, action, rest, options),
+        Err(_) if action == Action::Destroy => Ok(Answer::Int(0)),
+        Err(_) => Err(no_group_for(alloc, key, name)),
+    }
+}
+
+/// The action of this name, where it may have so many arguments.
+fn action_in(alloc: Global, word: &[u8], arguments: &[Vec<u8>]) -> Result<Action, Refusal> {
+    let [subcommand, behind @ ..] = arguments else {
+        return Err(SYNTAX);
+    };
+    let n = behind.len();
+    let (action, is_right) = if is_word(subcommand, "CREATE") {
+        (Action::Create, n >= 3)
+    } else if is_word(subcommand, "SETID") {
+        (Action::SetId, n >= 3)
+    } else if is_word(subcommand, "DESTROY") {
+        (Action::Destroy, n == 2)
+    } else if is_word(subcommand, "CREATECONSUMER") {
+        (Action::CreateConsumer, n == 3)
+    } else if is_word(subcommand, "DELCONSUMER") {
+        (Action::DeleteConsumer, n == 3)
+    } else {
+        return Err(unknown_subcommand(alloc, word, subcommand));
+    };
+    if is_right {
+        Ok(action)
+    } else {
+        Err(wrong_subcount(alloc, word, subcommand))
+    }
+}
+
+/// The options of CREATE and SETID.
+#[derive(Clone, Copy)]
+struct GroupOptions {
+    makes_stream: bool,
+    entries_read: Option<i64>,
+}
+
+/// What stands behind the id, or behind the name of a consumer.
+fn options_in(
+    alloc: Global,
+    action: Action,
+    subcommand: &[u8],
+    words: &[Vec<u8>],
+) -> Result<GroupOptions, Refusal> {
+    let mut options = GroupOptions {
+        makes_stream: false,
+        entries_read: None,
+    };
+    let [_, behind @ ..] = words else {
+        return Ok(options);
+    };
+    let takes_count = action == Action::Create || action == Action::SetId;
+    let mut rest = behind;
+    for _ in 0..behind.len() {
+        match rest {
+            [] => break,
+            [word, after @ ..] if action == Action::Create && is_word(word, "MKSTREAM") => {
+                options.makes_stream = true;
+                rest = after;
+            }
+            [word, text, after @ ..] if takes_count && is_word(word, "ENTRIESREAD") => {
+                options.entries_read = entries_read_in(text)?;
+                rest = after;
+            }
+            _ => {
+                return Err(refusal_of(
+                    alloc,
+                    &[
+                        b"ERR unknown subcommand or wrong number of arguments for '",
+                        subcommand,
+                        b"'. Try XGROUP HELP.",
+                    ],
+                ));
+            }
+        }
+    }
+    Ok(options)
+}
+
+/// A number of entries; -1 says that it is not known.
+fn entries_read_in(text: &[u8]) -> Result<Option<i64>, Refusal> {
+    let n = integer(text)?;
+    if n < -1 {
+        return Err(Refusal::Fixed("ERR value for ENTRIESREAD must be positive or -1"));
+    }
+    if n == -1 { Ok(None) } else { Ok(Some(n)) }
+}
+
+/// The id at which a group begins: `$`, the last one, or an id.
+fn start_of(words: &[Vec<u8>], last_id: EntryId) -> Result<EntryId, Refusal> {
+    let [text, ..] = words else {
+        return Err(SYNTAX);
+    };
+    if text.as_slice() == b"$".as_slice() {
+        return Ok(last_id);
+    }
+    strict_id(text, 0).ok_or(INVALID_ID)
+}
+
+/// `CREATE` on a stream that is not there yet.
+fn create_stream(
+    alloc: Global,
+    streams: &mut Vec<Stream>,
+    key: &[u8],
+    name: &[u8],
+    words: &[Vec<u8>],
+    options: GroupOptions,
+) -> Result<Answer, Refusal>
+    ensures { OnErr result (seen_streams streams.new ≡ seen_streams streams.old) }
+{
+    let mut stream = Stream::new(alloc, Vec::from_slice(alloc, key)?);
+    let answer = create(alloc, &mut stream, name, words, options)?;
+    match place_of(streams, key) {
+        Ok(_) => Err(SYNTAX),
+        Err(index) => {
+            streams.insert(index, stream)?;
+            Ok(answer)
+        }
+    }
+}
+
+/// `CREATE`
+fn create(
+    alloc: Global,
+    stream: &mut Stream,
+    name: &[u8],
+    words: &[Vec<u8>],
+    options: GroupOptions,
+) -> Result<Answer, Refusal>
+    ensures { OnErr result (seen_stream stream.new ≡ seen_stream stream.old) }
+{
+    let last_id = start_of(words, stream.last_id)?;
+    let Err(place) = place_of_group(stream, name) else {
+        return Err(Refusal::Fixed("BUSYGROUP Consumer Group name already exists"));
+    };
+    let name = Vec::from_slice(alloc, name)?;
+    let group = Group::new(alloc, name, last_id, options.entries_read);
+    stream.groups.insert(place, group)?;
+    Ok(Answer::Okay)
+}
+
+/// `SETID`, `CREATECONSUMER`, `DELCONSUMER`: a copy of the group is changed, and takes its place.
+fn changed(
+    alloc: Global,
+    stream: &mut Stream,
+    place: usize,
+    now: u64,
+    action: Action,
+    words: &[Vec<u8>],
+    options: GroupOptions,
+) -> Result<Answer, Refusal>
+    ensures { OnErr result (stream.new ≡ stream.old) }
+{
+    let [word, ..] = words else {
+        return Err(SYNTAX);
+    };
+    let Some(group) = stream.groups.get(place) else {
+        return Err(SYNTAX);
+    };
+    let mut group = group.clone()?;
+    let answer = match action {
+        Action::SetId => {
+            group.last_id = if word.as_slice() == b"$".as_slice() {
+                stream.last_id
+            } else {
+                loose_id(word, 0).ok_or(INVALID_ID)?
+            };
+            group.entries_read = options.entries_read;
+            Answer::Okay
+        }
+        Action::CreateConsumer => {
+            if group.consumer(word).is_some() {
+                return Ok(Answer::Int(0));
+            }
+            let _number = group.see(alloc, word, now)?;
+            Answer::Int(1)
+        }
+        _ => super::number(group.remove_consumer(word)),
+    };
+    if place < stream.groups.len() {
+        stream.groups[place] = group;
+    }
+    Ok(answer)
+}

@@ -1,0 +1,410 @@
+//! `XREAD`, `XREADGROUP`.
+ghost use Rattle.std.specs.Prelude.{◌≡◌, IfOk, OnErr};
+ghost use Rattle.stream_server.specs.Kinds.{IsRows};
+
+use super::{
+    SYNTAX, count, entries_up, entry_answer, group_of, id, integer_in, is_word, put_group,
+    refusal_of, stream_of,
+};
+use crate::answer::Answer;
+use crate::refusal::Refusal;
+use std::alloc::{AllocError, Global};
+use stream_store::{EntryId, Group, Pending, Stream};
+
+/// Where reading of one stream begins.
+#[derive(Clone, Copy)]
+enum Start {
+    /// Behind this id.
+    Behind(EntryId),
+    /// Behind what the group delivered last.
+    News,
+}
+
+/// A consumer of a group.
+#[derive(Clone, Copy)]
+struct Reader<'a> {
+    group: &'a [u8],
+    consumer: &'a [u8],
+    /// `NOACK`
+    acknowledges: bool,
+    now: u64,
+    most: u64,
+}
+
+/// The options of XREAD and XREADGROUP, and what stands behind `STREAMS`.
+#[derive(Clone, Copy)]
+struct ReadOptions<'a> {
+    /// Any number where there is no COUNT or it is 0.
+    most: u64,
+    /// The group and the consumer.
+    names: Option<(&'a [u8], &'a [u8])>,
+    acknowledges: bool,
+    keys: &'a [Vec<u8>],
+    ids: &'a [Vec<u8>],
+}
+
+/// A group as it is after the command.
+#[derive(Drop)]
+struct Change<'a> {
+    key: &'a [u8],
+    group: Group,
+}
+
+/// `XREAD [COUNT n] [BLOCK ms] STREAMS key .. id ..`. It does not wait.
+pub(super) fn read(
+    alloc: Global,
+    streams: &[Stream],
+    arguments: &[Vec<u8>],
+) -> Result<Answer, Refusal>
+    ensures { IfOk result IsRows }
+{
+    let options = options_in(arguments, false)?;
+    let mut starts = Vec::new(alloc);
+    for (key, text) in options.keys.iter().zip(options.ids) {
+        starts.push(start_of(stream_of(streams, key), text)?)?;
+    }
+    let mut rows = Vec::new(alloc);
+    for (key, start) in options.keys.iter().zip(starts) {
+        if let Some(stream) = stream_of(streams, key) {
+            if let Some(entries) = read_behind(alloc, stream, start, options.most)? {
+                rows.push((key.clone()?, Answer::Array(entries)))?;
+            }
+        }
+    }
+    Ok(rows_answer(rows))
+}
+
+/// `XREADGROUP GROUP group consumer [COUNT n] [BLOCK ms] [NOACK] STREAMS key .. id ..`. It does not
+/// wait. Copies of the groups are changed, and take their places at the end.
+pub(super) fn read_group(
+    alloc: Global,
+    streams: &mut [Stream],
+    now: u64,
+    arguments: &[Vec<u8>],
+) -> Result<Answer, Refusal>
+    ensures rows { IfOk result IsRows }
+    ensures err { OnErr result (streams.new ≡ streams.old) }
+{
+    let mut changes = Vec::new(alloc);
+    let rows = given(alloc, streams, now, arguments, &mut changes)?;
+    for change in changes {
+        put_group(streams, change.key, change.group);
+    }
+    Ok(rows_answer(rows))
+}
+
+/// What XREADGROUP answers, and the groups that it changes.
+fn given<'a>(
+    alloc: Global,
+    streams: &[Stream],
+    now: u64,
+    arguments: &'a [Vec<u8>],
+    changes: &mut Vec<Change<'a>>,
+) -> Result<Vec<(Vec<u8>, Answer)>, Refusal> {
+    let options = options_in(arguments, true)?;
+    let Some((group, consumer)) = options.names else {
+        return Err(Refusal::Fixed("ERR Missing GROUP option for XREADGROUP"));
+    };
+    let reader = Reader {
+        group,
+        consumer,
+        acknowledges: options.acknowledges,
+        now,
+        most: options.most,
+    };
+    let mut starts = Vec::new(alloc);
+    for (key, text) in options.keys.iter().zip(options.ids) {
+        starts.push(group_start_of(alloc, streams, key, text, group)?)?;
+    }
+    let mut rows = Vec::new(alloc);
+    for (key, start) in options.keys.iter().zip(starts) {
+        let Some(stream) = stream_of(streams, key) else {
+            continue;
+        };
+        let place = changed_group(alloc, stream, key, group, changes)?;
+        let Some(change) = changes.get_mut(place) else {
+            continue;
+        };
+        if let Some(entries) = read_as(alloc, stream, &mut change.group, reader, start)? {
+            rows.push((key.clone()?, Answer::Array(entries)))?;
+        }
+    }
+    Ok(rows)
+}
+
+/// The index of the copy of the group that is changed.
+fn changed_group<'a>(
+    alloc: Global,
+    stream: &Stream,
+    key: &'a [u8],
+    name: &[u8],
+    changes: &mut Vec<Change<'a>>,
+) -> Result<usize, Refusal> {
+    if let Some(place) = changes.iter().position(|change| change.key == key) {
+        return Ok(place);
+    }
+    let Some(group) = group_of(stream, name) else {
+        return Err(SYNTAX);
+    };
+    let place = changes.len();
+    changes.push(Change {
+        key,
+        group: group.clone()?,
+    })?;
+    Ok(place)
+}
+
+/// The rows, or nil where there is none.
+fn rows_answer(rows: Vec<(Vec<u8>, Answer)>) -> Answer
+    ensures { IsRows result }
+{
+    if rows.is_empty() {
+        Answer::NilArray
+    } else {
+        Answer::Rows(rows)
+    }
+}
+
+const UNBALANCED: &str = "ERR Unbalanced XREAD list of streams: for each stream key \
+    an ID or '$' must be specified.";
+
+const GROUP_ALONE: &str = "ERR The GROUP option is only supported by XREADGROUP. You \
+    called XREAD instead.";
+
+const NOACK_ALONE: &str = "ERR The NOACK option is only supported by XREADGROUP. You \
+    called XREAD instead.";
+
+/// The options, up to `STREAMS` and what stands behind it.
+fn options_in(arguments: &[Vec<u8>], is_group: bool) -> Result<ReadOptions<'_>, Refusal> {
+    let mut most = 0;
+    let mut names = None;
+    let mut acknowledges = false;
+    let mut rest = arguments;
+    for _ in 0..arguments.len() {
+        match rest {
+            [word, text, behind @ ..] if is_word(word, "BLOCK") => {
+                check_timeout(text)?;
+                rest = behind;
+            }
+            [word, text, behind @ ..] if is_word(word, "COUNT") => {
+                most = count(text)?;
+                rest = behind;
+            }
+            [word, streams @ ..] if is_word(word, "STREAMS") && !streams.is_empty() => {
+                if streams.len() % 2 != 0 {
+                    return Err(Refusal::Fixed(UNBALANCED));
+                }
+                let (keys, ids) = streams.split_at(streams.len() / 2);
+                return Ok(ReadOptions {
+                    most: if most == 0 { u64::MAX } else { most },
+                    names,
+                    acknowledges,
+                    keys,
+                    ids,
+                });
+            }
+            [word, group, consumer, behind @ ..] if is_word(word, "GROUP") => {
+                if !is_group {
+                    return Err(Refusal::Fixed(GROUP_ALONE));
+                }
+                names = Some((group.as_slice(), consumer.as_slice()));
+                rest = behind;
+            }
+            [word, behind @ ..] if is_word(word, "NOACK") => {
+                if !is_group {
+                    return Err(Refusal::Fixed(NOACK_ALONE));
+                }
+                acknowledges = true;
+                rest = behind;
+            }
+            _ => return Err(SYNTAX),
+        }
+    }
+    Err(SYNTAX)
+}
+
+/// Whether it is a time to wait.
+fn check_timeout(text: &[u8]) -> Result<(), Refusal> {
+    match integer_in(text) {
+        Some(n) if n < 0 => Err(Refusal::Fixed("ERR timeout is negative")),
+        Some(_) => Ok(()),
+        None => Err(Refusal::Fixed("ERR timeout is not an integer or out of range")),
+    }
+}
+
+const NEWS_ALONE: &str = "ERR The > ID can be specified only when calling XREADGROUP \
+    using the GROUP <group> <consumer> option.";
+
+const NO_DOLLAR: &str = "ERR The $ ID is meaningless in the context of XREADGROUP: \
+    you want to read the history of this consumer by specifying a proper ID, or use the > \
+    ID to get new messages. The $ ID would just return an empty result set.";
+
+/// Behind which id XREAD begins; `$` is the last one.
+fn start_of(stream: Option<&Stream>, text: &[u8]) -> Result<EntryId, Refusal> {
+    if text == b"$".as_slice() {
+        return match stream {
+            Some(stream) => Ok(stream.last_id),
+            None => Ok(EntryId::ZERO),
+        };
+    }
+    if text == b">".as_slice() {
+        return Err(Refusal::Fixed(NEWS_ALONE));
+    }
+    id(text)
+}
+
+/// Where XREADGROUP begins; the largest id stands for `>` too.
+fn group_start_of(
+    alloc: Global,
+    streams: &[Stream],
+    key: &[u8],
+    text: &[u8],
+    group: &[u8],
+) -> Result<Start, Refusal> {
+    let has_group = match stream_of(streams, key) {
+        Some(stream) => group_of(stream, group).is_some(),
+        None => false,
+    };
+    if !has_group {
+        return Err(refusal_of(
+            alloc,
+            &[
+                b"NOGROUP No such key '",
+                key,
+                b"' or consumer group '",
+                group,
+                b"' in XREADGROUP with GROUP option",
+            ],
+        ));
+    }
+    if text == b"$".as_slice() {
+        return Err(Refusal::Fixed(NO_DOLLAR));
+    }
+    if text == b">".as_slice() {
+        return Ok(Start::News);
+    }
+    let behind = id(text)?;
+    if behind == EntryId::LAST {
+        Ok(Start::News)
+    } else {
+        Ok(Start::Behind(behind))
+    }
+}
+
+/// The entries behind the id, and `None` where there is none.
+fn read_behind(
+    alloc: Global,
+    stream: &Stream,
+    behind: EntryId,
+    most: u64,
+) -> Result<Option<Vec<Answer>>, AllocError> {
+    match stream.entries.back() {
+        Some(entry) if entry.id > behind => {}
+        _ => return Ok(None),
+    }
+    let Some(first) = behind.next() else {
+        return Ok(None);
+    };
+    Ok(Some(entries_up(alloc, stream, first, EntryId::LAST, most)?))
+}
+
+/// What the consumer is given, and `None` where there is nothing new; such a consumer is not made.
+fn read_as(
+    alloc: Global,
+    stream: &Stream,
+    group: &mut Group,
+    reader: Reader<'_>,
+    start: Start,
+) -> Result<Option<Vec<Answer>>, AllocError> {
+    match start {
+        Start::Behind(behind) => Ok(Some(reread(alloc, stream, group, reader, behind)?)),
+        Start::News => {
+            let Some(answers) = read_behind(alloc, stream, group.last_id, reader.most)? else {
+                return Ok(None);
+            };
+            hand_out(alloc, stream, group, reader)?;
+            Ok(Some(answers))
+        }
+    }
+}
+
+/// What is pending for the consumer behind the id, each entry with its fields, and with nil where
+/// it was deleted.
+fn reread(
+    alloc: Global,
+    stream: &Stream,
+    group: &mut Group,
+    reader: Reader<'_>,
+    behind: EntryId,
+) -> Result<Vec<Answer>, AllocError> {
+    let number = group.see(alloc, reader.consumer, reader.now)?;
+    let mut answers = Vec::new(alloc);
+    let Some(first) = behind.next() else {
+        return Ok(answers);
+    };
+    let mut left = reader.most;
+    let start = group.start(first);
+    for pending in group.pending.iter_mut().skip(start) {
+        if left == 0 {
+            break;
+        }
+        if pending.consumer == number {
+            left -= 1;
+            match stream.get(pending.id) {
+                Some(entry) => {
+                    answers.push(entry_answer(alloc, entry)?)?;
+                    pending.given_at = reader.now;
+                    pending.deliveries = pending.deliveries.saturating_add(1);
+                }
+                None => {
+                    let mut both = Vec::with_capacity(alloc, 2)?;
+                    both.push(Answer::Id(pending.id))?;
+                    both.push(Answer::NilArray)?;
+                    answers.push(Answer::Array(both))?;
+                }
+            }
+        }
+    }
+    Ok(answers)
+}
+
+/// New entries are the consumer's, and pending unless they are acknowledged at once.
+fn hand_out(
+    alloc: Global,
+    stream: &Stream,
+    group: &mut Group,
+    reader: Reader<'_>,
+) -> Result<(), AllocError> {
+    let number = group.see(alloc, reader.consumer, reader.now)?;
+    let Some(first) = group.last_id.next() else {
+        return Ok(());
+    };
+    let mut left = reader.most;
+    for entry in stream.entries.range(stream.start(first)..) {
+        if left == 0 {
+            break;
+        }
+        left -= 1;
+        let id = entry.id;
+        match group.entries_read {
+            Some(n) if !stream.has_tombstone_from(id) => {
+                group.entries_read = Some(n.saturating_add(1));
+            }
+            _ => {
+                if stream.entries_added != 0 {
+                    group.entries_read = stream.distance(id);
+                }
+            }
+        }
+        group.last_id = id;
+        if !reader.acknowledges {
+            group.give(Pending {
+                id,
+                consumer: number,
+                given_at: reader.now,
+                deliveries: 1,
+            })?;
+        }
+    }
+    Ok(())
+}

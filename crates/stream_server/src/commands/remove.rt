@@ -1,0 +1,180 @@
+//! `XDEL`, `XTRIM`, `XACK`, `XSETID`, `DEL`.
+ghost use Rattle.std.specs.Prelude.{◌≡◌, ◌-◌, vec_len, OnErr};
+
+use super::retention::retention_in;
+use super::{SYNTAX, id, ids, integer, is_word, number, place_of, place_of_group};
+use crate::answer::Answer;
+use crate::refusal::Refusal;
+use std::alloc::Global;
+use stream_store::{EntryId, Stream};
+
+/// `DEL key ..`: how many of the streams were there.
+pub(super) fn remove_keys(streams: &mut Vec<Stream>, keys: &[Vec<u8>]) -> usize
+    ensures { result ≡ vec_len streams.old - vec_len streams.new }
+{
+    let before = streams.len();
+    for key in keys {
+        if let Ok(index) = place_of(streams, key) {
+            let _stream = streams.remove(index);
+        }
+    }
+    before.saturating_sub(streams.len())
+}
+
+/// `XDEL key id ..`
+pub(super) fn delete(
+    alloc: Global,
+    streams: &mut [Stream],
+    arguments: &[Vec<u8>],
+) -> Result<Answer, Refusal>
+    ensures { OnErr result (streams.new ≡ streams.old) }
+{
+    let [key, words @ ..] = arguments else {
+        return Err(SYNTAX);
+    };
+    let Ok(index) = place_of(streams, key) else {
+        return Ok(Answer::Int(0));
+    };
+    let ids = ids(alloc, words)?;
+    let stream = &mut streams[index];
+    let mut count = 0u64;
+    for id in ids {
+        if stream.remove(id) {
+            count = count.saturating_add(1);
+        }
+    }
+    Ok(number(count))
+}
+
+/// `XTRIM key MAXLEN | MINID [= | ~] threshold [LIMIT count]`
+pub(super) fn trim(streams: &mut [Stream], arguments: &[Vec<u8>]) -> Result<Answer, Refusal>
+    ensures { OnErr result (streams.new ≡ streams.old) }
+{
+    let [key, words @ ..] = arguments else {
+        return Err(SYNTAX);
+    };
+    let Some(trim) = retention_in(words, false)?.trim else {
+        return Err(Refusal::Fixed(
+            "ERR syntax error, XTRIM must be called with a trimming strategy",
+        ));
+    };
+    match place_of(streams, key) {
+        Ok(index) => Ok(super::length(streams[index].trim(trim))),
+        Err(_) => Ok(Answer::Int(0)),
+    }
+}
+
+/// `XACK key group id ..`
+pub(super) fn acknowledge(
+    alloc: Global,
+    streams: &mut [Stream],
+    arguments: &[Vec<u8>],
+) -> Result<Answer, Refusal>
+    ensures { OnErr result (streams.new ≡ streams.old) }
+{
+    let [key, name, words @ ..] = arguments else {
+        return Err(SYNTAX);
+    };
+    let Ok(index) = place_of(streams, key) else {
+        return Ok(Answer::Int(0));
+    };
+    let Ok(place) = place_of_group(&streams[index], name) else {
+        return Ok(Answer::Int(0));
+    };
+    let ids = ids(alloc, words)?;
+    let group = &mut streams[index].groups[place];
+    let mut count = 0u64;
+    for id in ids {
+        if group.acknowledge(id) {
+            count = count.saturating_add(1);
+        }
+    }
+    Ok(number(count))
+}
+
+/// What XSETID sets.
+#[derive(Clone, Copy)]
+struct NewState {
+    last_id: EntryId,
+    entries_added: Option<i64>,
+    max_deleted_id: Option<EntryId>,
+}
+
+/// `XSETID key last-id [ENTRIESADDED n MAXDELETEDID id]`
+pub(super) fn set_id(streams: &mut [Stream], arguments: &[Vec<u8>]) -> Result<Answer, Refusal>
+    ensures { OnErr result (streams.new ≡ streams.old) }
+{
+    let [key, last, options @ ..] = arguments else {
+        return Err(SYNTAX);
+    };
+    let state = state_in(last, options)?;
+    let Ok(index) = place_of(streams, key) else {
+        return Err(Refusal::Fixed("ERR no such key"));
+    };
+    let stream = &streams[index];
+    if state.last_id < stream.max_deleted_id {
+        return Err(Refusal::Fixed(
+            "ERR The ID specified in XSETID is smaller than current max_deleted_entry_id",
+        ));
+    }
+    if let Some(entry) = stream.entries.back() {
+        if state.last_id < entry.id {
+            return Err(Refusal::Fixed(
+                "ERR The ID specified in XSETID is smaller than the target stream top item",
+            ));
+        }
+        let len = i64::try_from(stream.entries.len()).unwrap_or(i64::MAX);
+        if matches!(state.entries_added, Some(added) if added < len) {
+            return Err(Refusal::Fixed(
+                "ERR The entries_added specified in XSETID is smaller than the \
+                        target stream length",
+            ));
+        }
+    }
+    let stream = &mut streams[index];
+    stream.last_id = state.last_id;
+    if let Some(added) = state.entries_added {
+        stream.entries_added = added;
+    }
+    if let Some(id) = state.max_deleted_id {
+        stream.max_deleted_id = id;
+    }
+    Ok(Answer::Okay)
+}
+
+/// The id and the options of XSETID.
+fn state_in(last: &[u8], options: &[Vec<u8>]) -> Result<NewState, Refusal> {
+    let last_id = id(last)?;
+    let mut state = NewState {
+        last_id,
+        entries_added: None,
+        max_deleted_id: None,
+    };
+    let mut rest = options;
+    for _ in 0..options.len() {
+        match rest {
+            [] => break,
+            [word, text, behind @ ..] if is_word(word, "ENTRIESADDED") => {
+                let added = integer(text)?;
+                if added < 0 {
+                    return Err(Refusal::Fixed("ERR entries_added must be positive"));
+                }
+                state.entries_added = Some(added);
+                rest = behind;
+            }
+            [word, text, behind @ ..] if is_word(word, "MAXDELETEDID") => {
+                let deleted = id(text)?;
+                if last_id < deleted {
+                    return Err(Refusal::Fixed(
+                        "ERR The ID specified in XSETID is smaller than the \
+                                provided max_deleted_entry_id",
+                    ));
+                }
+                state.max_deleted_id = Some(deleted);
+                rest = behind;
+            }
+            _ => return Err(SYNTAX),
+        }
+    }
+    Ok(state)
+}

@@ -1,0 +1,160 @@
+//! The options of XADD and XTRIM.
+ghost use Rattle.std.specs.Prelude.{◌≤◌, length, IfOk};
+
+use super::{INVALID_ID, NewId, SYNTAX, id, integer, is_word, new_id};
+use crate::refusal::Refusal;
+use stream_store::{Bound, NODE_ENTRIES, Trim};
+
+/// The options of XADD and XTRIM.
+#[derive(Clone, Copy)]
+pub(super) struct Retention {
+    /// Whether a stream is made where there is none.
+    pub(super) makes_stream: bool,
+    /// What is trimmed away.
+    pub(super) trim: Option<Trim>,
+    /// The id of XADD.
+    pub(super) id: NewId,
+    /// How many arguments they are, the id of XADD included.
+    pub(super) len: usize,
+}
+
+/// The options as they are read.
+#[derive(Clone, Copy)]
+struct Draft {
+    makes_stream: bool,
+    bound: Option<Bound>,
+    is_approximate: bool,
+    limit: Option<u64>,
+    id: Option<NewId>,
+}
+
+/// `[NOMKSTREAM] [MAXLEN | MINID [= | ~] threshold [LIMIT count]]`, and for XADD the id, in any
+/// order before the id.
+pub(super) fn retention_in(words: &[Vec<u8>], is_add: bool) -> Result<Retention, Refusal>
+    ensures { IfOk result (λ r. r.len ≤ length words.now) }
+{
+    let mut draft = Draft {
+        makes_stream: true,
+        bound: None,
+        is_approximate: false,
+        limit: None,
+        id: None,
+    };
+    let mut rest = words;
+    for _ in 0..words.len() {
+        if draft.id.is_some() || rest.is_empty() {
+            break;
+        }
+        rest = option_at(&mut draft, rest, is_add)?;
+    }
+    Ok(Retention {
+        makes_stream: draft.makes_stream,
+        trim: trim_of(&draft, is_add)?,
+        id: draft.id.unwrap_or(NewId::Automatic),
+        len: words.len().saturating_sub(rest.len()),
+    })
+}
+
+/// Reads one option, and gives the words behind it.
+fn option_at<'a>(
+    draft: &mut Draft,
+    words: &'a [Vec<u8>],
+    is_add: bool,
+) -> Result<&'a [Vec<u8>], Refusal> {
+    let [word, behind @ ..] = words else {
+        return Ok(words);
+    };
+    if is_add && word.as_slice() == b"*".as_slice() {
+        draft.id = Some(NewId::Automatic);
+        return Ok(behind);
+    }
+    if (is_word(word, "maxlen") || is_word(word, "minid")) && !behind.is_empty() {
+        if draft.bound.is_some() {
+            return Err(Refusal::Fixed(TWO_BOUNDS));
+        }
+        let (mode, threshold, after) = threshold_at(behind)?;
+        draft.is_approximate = mode;
+        draft.bound = Some(bound_of(word, threshold)?);
+        return Ok(after);
+    }
+    if is_word(word, "limit") {
+        if let [text, after @ ..] = behind {
+            let Ok(limit) = u64::try_from(integer(text)?) else {
+                return Err(Refusal::Fixed("ERR The LIMIT argument must be >= 0."));
+            };
+            draft.limit = Some(limit);
+            return Ok(after);
+        }
+    }
+    if is_add && is_word(word, "nomkstream") {
+        draft.makes_stream = false;
+        return Ok(behind);
+    }
+    if is_add {
+        draft.id = Some(new_id(word).ok_or(INVALID_ID)?);
+        return Ok(behind);
+    }
+    Err(SYNTAX)
+}
+
+const TWO_BOUNDS: &str = "ERR syntax error, MAXLEN and MINID options at the same time \
+    are not compatible";
+
+const LIMIT_ALONE: &str = "ERR syntax error, LIMIT cannot be used without specifying \
+    a trimming strategy";
+
+const LIMIT_EXACT: &str = "ERR syntax error, LIMIT cannot be used without the special ~ option";
+
+/// What is trimmed away, or why the options do not go together.
+fn trim_of(draft: &Draft, is_add: bool) -> Result<Option<Trim>, Refusal> {
+    let Some(bound) = draft.bound else {
+        if matches!(draft.limit, Some(limit) if limit != 0) {
+            return Err(Refusal::Fixed(LIMIT_ALONE));
+        }
+        if is_add && draft.limit.is_some() {
+            return Err(Refusal::Fixed(LIMIT_EXACT));
+        }
+        return Ok(None);
+    };
+    if draft.limit.is_some() && !draft.is_approximate {
+        return Err(Refusal::Fixed(LIMIT_EXACT));
+    }
+    let usual = if draft.is_approximate {
+        100 * NODE_ENTRIES
+    } else {
+        0
+    };
+    Ok(Some(Trim {
+        bound,
+        is_approximate: draft.is_approximate,
+        limit: draft.limit.unwrap_or(usual),
+    }))
+}
+
+/// `[= | ~] threshold`: whether it is `~`, the threshold, and the arguments behind it.
+fn threshold_at(words: &[Vec<u8>]) -> Result<(bool, &[u8], &[Vec<u8>]), Refusal> {
+    match words {
+        [] => Err(SYNTAX),
+        [text] => Ok((false, text, &[])),
+        [mode, text, rest @ ..] => {
+            if mode.as_slice() == b"~".as_slice() {
+                Ok((true, text, rest))
+            } else if mode.as_slice() == b"=".as_slice() {
+                Ok((false, text, rest))
+            } else {
+                Ok((false, mode, &words[1..]))
+            }
+        }
+    }
+}
+
+/// The bound of this name.
+fn bound_of(word: &[u8], threshold: &[u8]) -> Result<Bound, Refusal> {
+    if is_word(word, "minid") {
+        return Ok(Bound::Below(id(threshold)?));
+    }
+    match u64::try_from(integer(threshold)?) {
+        Ok(most) => Ok(Bound::Length(most)),
+        Err(_) => Err(Refusal::Fixed("ERR The MAXLEN argument must be >= 0.")),
+    }
+}

@@ -1,0 +1,15 @@
+//! A server of stream commands in memory: no socket, no file and no clock.
+//!
+//! A command is a list of words, its name first. `Server::step` does one at the moment that it is
+//! handed, and answers as redis-server 7.0.15 does; `append_reply` makes bytes of an answer.
+#![tactic(auto)]
+
+mod answer;
+mod commands;
+mod refusal;
+mod server;
+mod writing;
+
+pub use answer::{Answer, Protocol, Reply};
+pub use server::{Server, Session};
+pub use writing::append_reply;

@@ -1,0 +1,2 @@
+pub mod EntryId
+pub mod Stream

@@ -1,0 +1,226 @@
+//! A group of consumers.
+ghost use Rattle.std.specs.Prelude.{◌≡◌, ◌≤◌, [], length, IfOk, IfSome, OnOk, OnErr};
+ghost use Rattle.std.specs.Bool.{OnTrue, OnFalse};
+ghost use Rattle.std.specs.List.{HoldsAt};
+ghost use Rattle.std.specs.List.Sorted.{IsSearchInRange};
+ghost use Rattle.stream_store.specs.Stream.{IsWithoutPending, IsGiven, IsEndOf};
+
+use crate::entry_id::EntryId;
+use std::alloc::{AllocError, Global};
+
+/// An entry that was given to a consumer and is not acknowledged.
+#[derive(Clone, Copy, Debug, PartialEq, Eq)]
+pub struct Pending {
+    pub id: EntryId,
+    /// The number of the consumer.
+    pub consumer: u64,
+    /// When it was given last, in milliseconds.
+    pub given_at: u64,
+    /// How often it was given.
+    pub deliveries: u64,
+}
+
+/// A consumer of a group.
+#[derive(Clone, Debug, Drop)]
+pub struct Consumer {
+    pub name: Vec<u8>,
+    /// The number by which its pending entries name it; no other consumer of the group ever has it.
+    pub number: u64,
+    /// When it was seen last, in milliseconds.
+    pub seen_at: u64,
+    /// How many entries are pending for it.
+    pub pending: u64,
+}
+
+/// A group: what it was given last, and what is pending for its consumers.
+#[derive(Clone, Debug, Drop)]
+pub struct Group {
+    pub name: Vec<u8>,
+    /// The last id that was delivered.
+    pub last_id: EntryId,
+    /// How many entries were read, where that is known.
+    pub entries_read: Option<i64>,
+    /// What is pending, in the order of its ids.
+    pub pending: Vec<Pending>,
+    /// The consumers, in the order of their names.
+    pub consumers: Vec<Consumer>,
+    /// The number of the next consumer.
+    pub next_number: u64,
+}
+
+impl Group {
+    /// A group without consumers.
+    pub fn new(alloc: Global, name: Vec<u8>, last_id: EntryId, entries_read: Option<i64>) -> Group
+        ensures name { result.name ≡ name }
+        ensures last_id { result.last_id ≡ last_id }
+        ensures entries_read { result.entries_read ≡ entries_read }
+        ensures pending { result.pending.items ≡ [] }
+        ensures consumers { result.consumers.items ≡ [] }
+    {
+        Group {
+            name,
+            last_id,
+            entries_read,
+            pending: Vec::new(alloc),
+            consumers: Vec::new(alloc),
+            next_number: 0,
+        }
+    }
+
+    /// The index of what is pending with this id, or of the first behind it.
+    pub fn place(&self, id: EntryId) -> Result<usize, usize>
+        ensures bound { IsSearchInRange result (length self.now.pending.items) }
+        ensures found { IfOk result (HoldsAt (λ pending. pending.id ≡ id) self.now.pending.items) }
+    {
+        let index = self
+            .pending
+            .binary_search_by_key(&id, |pending| pending.id)?;
+        match self.pending.get(index) {
+            Some(pending) if pending.id == id => Ok(index),
+            _ => Err(index),
+        }
+    }
+
+    /// The index of the first that is pending with at least this id.
+    pub fn start(&self, id: EntryId) -> usize
+        ensures { result ≤ length self.now.pending.items }
+    {
+        match self.place(id) {
+            Ok(index) => index,
+            Err(index) => index,
+        }
+    }
+
+    /// What is pending from this id on.
+    pub fn pending_from(&self, id: EntryId) -> &[Pending]
+        ensures { IsEndOf result.now self.now.pending.items }
+    {
+        &self.pending[self.start(id)..]
+    }
+
+    /// What is pending with this id.
+    pub fn get(&self, id: EntryId) -> Option<&Pending>
+        ensures { IfSome result (λ pending. pending.now.id ≡ id) }
+    {
+        match self.place(id) {
+            Ok(index) => self.pending.get(index),
+            Err(_) => None,
+        }
+    }
+
+    /// The consumer of this name.
+    pub fn consumer(&self, name: &[u8]) -> Option<&Consumer>
+        ensures { IfSome result (λ consumer. consumer.now.name.items ≡ name.now) }
+    {
+        match self.place_of(name) {
+            Ok(index) => self.consumers.get(index),
+            Err(_) => None,
+        }
+    }
+
+    /// The number of the consumer, who was seen now and is made where it is new. What is pending
+    /// stays.
+    pub fn see(&mut self, alloc: Global, name: &[u8], now: u64) -> Result<u64, AllocError>
+        ensures pending { self.new.pending ≡ self.old.pending }
+        ensures last_id { self.new.last_id ≡ self.old.last_id }
+    {
+        match self.place_of(name) {
+            Ok(index) => {
+                let consumer = &mut self.consumers[index];
+                consumer.seen_at = now;
+                Ok(consumer.number)
+            }
+            Err(index) => {
+                let number = self.next_number;
+                let consumer = Consumer {
+                    name: Vec::from_slice(alloc, name)?,
+                    number,
+                    seen_at: now,
+                    pending: 0,
+                };
+                self.consumers.insert(index, consumer)?;
+                self.next_number = number.saturating_add(1);
+                Ok(number)
+            }
+        }
+    }
+
+    /// The entry is pending so, whether it was pending or not.
+    pub fn give(&mut self, pending: Pending) -> Result<(), AllocError>
+        ensures ok { OnOk result (IsGiven pending self.old.pending.items self.new.pending.items) }
+        ensures last_id { self.new.last_id ≡ self.old.last_id }
+        ensures err { OnErr result (self.new.pending.items ≡ self.old.pending.items) }
+    {
+        match self.place(pending.id) {
+            Ok(index) => {
+                let old = self.pending[index].consumer;
+                self.pending[index] = pending;
+                one_less(&mut self.consumers, old);
+            }
+            Err(index) => self.pending.insert(index, pending)?,
+        }
+        one_more(&mut self.consumers, pending.consumer);
+        Ok(())
+    }
+
+    /// The entry is no longer pending; tells whether it was.
+    pub fn acknowledge(&mut self, id: EntryId) -> bool
+        ensures gone { OnTrue result (IsWithoutPending id self.old.pending.items
+            self.new.pending.items) }
+        ensures none { OnFalse result (self.new ≡ self.old) }
+        ensures last_id { self.new.last_id ≡ self.old.last_id }
+    {
+        let Ok(index) = self.place(id) else {
+            return false;
+        };
+        let pending = self.pending.remove(index);
+        one_less(&mut self.consumers, pending.consumer);
+        true
+    }
+
+    /// Takes the consumer out, with what is pending for it, and tells how many entries that was.
+    pub fn remove_consumer(&mut self, name: &[u8]) -> u64
+        ensures last_id { self.new.last_id ≡ self.old.last_id }
+    {
+        let Ok(index) = self.place_of(name) else {
+            return 0;
+        };
+        let consumer = self.consumers.remove(index);
+        self.pending
+            .retain(|pending| pending.consumer != consumer.number);
+        consumer.pending
+    }
+
+    /// The index of the consumer of this name, or of the first behind it.
+    fn place_of(&self, name: &[u8]) -> Result<usize, usize>
+        ensures bound { IsSearchInRange result (length self.now.consumers.items) }
+        ensures found { IfOk result (HoldsAt (λ consumer. consumer.name.items ≡ name.now)
+            self.now.consumers.items) }
+    {
+        let index = self
+            .consumers
+            .binary_search_by(|consumer| consumer.name.as_slice().cmp(&name))?;
+        match self.consumers.get(index) {
+            Some(consumer) if consumer.name.as_slice() == name => Ok(index),
+            _ => Err(index),
+        }
+    }
+}
+
+/// One more entry is pending for the consumer.
+fn one_more(consumers: &mut [Consumer], number: u64) {
+    for consumer in consumers {
+        if consumer.number == number {
+            consumer.pending = consumer.pending.saturating_add(1);
+        }
+    }
+}
+
+/// One less entry is pending for the consumer.
+fn one_less(consumers: &mut [Consumer], number: u64) {
+    for consumer in consumers {
+        if consumer.number == number {
+            consumer.pending = consumer.pending.saturating_sub(1);
+        }
+    }
+}

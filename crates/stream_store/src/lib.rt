@@ -1,0 +1,14 @@
+//! A stream and its groups in memory: entries in order, and what is pending for whom.
+//!
+//! It knows no command and no clock: a moment, in milliseconds, is handed in.
+#![tactic(auto)]
+
+mod entry_id;
+mod group;
+mod stream;
+mod trim;
+
+pub use entry_id::EntryId;
+pub use group::{Consumer, Group, Pending};
+pub use stream::{Entry, NODE_ENTRIES, Node, Stream};
+pub use trim::{Bound, Trim};

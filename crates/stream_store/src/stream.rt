@@ -1,0 +1,285 @@
+//! A stream.
+ghost use Rattle.std.specs.Prelude.{◌≡◌, ◌≤◌, ◌++◌, ◌∷◌, [], false, Some, drop, length};
+ghost use Rattle.std.specs.Prelude.{IfOk, IfSome, OnOk, OnErr};
+ghost use Rattle.std.specs.Bool.{OnTrue, OnFalse};
+ghost use Rattle.std.specs.List.{HoldsAt};
+ghost use Rattle.std.specs.List.Sorted.{IsSearchInRange};
+ghost use Rattle.stream_store.specs.Stream.{seen_stream, first_id_of, IsWithoutOne};
+
+use crate::entry_id::EntryId;
+use crate::group::Group;
+use crate::trim::{Bound, Trim};
+use std::alloc::{AllocError, Global};
+use std::collections::VecDeque;
+
+/// So many entries stand in one node, and trimming with `~` takes whole nodes.
+pub const NODE_ENTRIES: u64 = 100;
+
+/// An entry of a stream.
+#[derive(Debug, Drop)]
+pub struct Entry {
+    pub id: EntryId,
+    /// Names and values in turn.
+    pub fields: Vec<Vec<u8>>,
+}
+
+/// A run of entries that trimming with `~` takes as a whole.
+#[derive(Clone, Copy, Debug, PartialEq, Eq)]
+pub struct Node {
+    /// How many of its entries are still there.
+    pub live: u64,
+    /// How many were appended to it, deleted ones included.
+    pub appended: u64,
+    /// The id of what was appended to it last, deleted or not.
+    pub last: EntryId,
+}
+
+/// A stream: its entries in the order of their ids, and its groups.
+#[derive(Debug, Drop)]
+pub struct Stream {
+    pub key: Vec<u8>,
+    /// The entries, the oldest first.
+    pub entries: VecDeque<Entry>,
+    /// The nodes of these entries, in their order.
+    pub nodes: VecDeque<Node>,
+    /// The largest id that the stream ever had.
+    pub last_id: EntryId,
+    /// The largest id that was deleted one by one.
+    pub max_deleted_id: EntryId,
+    /// How many entries were ever added.
+    pub entries_added: i64,
+    /// The groups, by their names.
+    pub groups: Vec<Group>,
+}
+
+impl Stream {
+    /// A stream without entries and groups.
+    pub fn new(alloc: Global, key: Vec<u8>) -> Stream
+        ensures key { result.key ≡ key }
+        ensures entries { result.entries.items ≡ [] }
+        ensures groups { result.groups.items ≡ [] }
+    {
+        Stream {
+            key,
+            entries: VecDeque::new(alloc),
+            nodes: VecDeque::new(alloc),
+            last_id: EntryId::ZERO,
+            max_deleted_id: EntryId::ZERO,
+            entries_added: 0,
+            groups: Vec::new(alloc),
+        }
+    }
+
+    /// Appends an entry. An `Err` changes nothing.
+    pub fn append(&mut self, id: EntryId, fields: Vec<Vec<u8>>) -> Result<(), AllocError>
+        ensures entries { OnOk result (self.new.entries.items
+            ≡ self.old.entries.items ++ record { id = id; fields = fields } ∷ []) }
+        ensures last_id { OnOk result (self.new.last_id ≡ id) }
+        ensures groups { OnOk result (self.new.groups ≡ self.old.groups) }
+        ensures err { OnErr result (seen_stream self.new ≡ seen_stream self.old) }
+    {
+        let is_open = match self.nodes.back() {
+            Some(node) => node.appended < NODE_ENTRIES,
+            None => false,
+        };
+        self.nodes.reserve(1)?;
+        self.entries.push_back(Entry { id, fields })?;
+        if is_open {
+            if let Some(node) = self.nodes.back_mut() {
+                node.live = node.live.saturating_add(1);
+                node.appended = node.appended.saturating_add(1);
+                node.last = id;
+            }
+        } else {
+            self.nodes.push_back_reserved(Node {
+                live: 1,
+                appended: 1,
+                last: id,
+            });
+        }
+        self.last_id = id;
+        self.entries_added = self.entries_added.saturating_add(1);
+        Ok(())
+    }
+
+    /// The index of the entry with this id, or of the first one behind it.
+    pub fn place(&self, id: EntryId) -> Result<usize, usize>
+        ensures bound { IsSearchInRange result (length self.now.entries.items) }
+        ensures found { IfOk result (HoldsAt (λ entry. entry.id ≡ id) self.now.entries.items) }
+    {
+        let index = self.entries.binary_search_by_key(&id, |entry| entry.id)?;
+        match self.entries.get(index) {
+            Some(entry) if entry.id == id => Ok(index),
+            _ => Err(index),
+        }
+    }
+
+    /// The index of the first entry that has at least this id.
+    pub fn start(&self, id: EntryId) -> usize
+        ensures { result ≤ length self.now.entries.items }
+    {
+        match self.place(id) {
+            Ok(index) => index,
+            Err(index) => index,
+        }
+    }
+
+    /// The entry with this id.
+    pub fn get(&self, id: EntryId) -> Option<&Entry>
+        ensures { IfSome result (λ entry. entry.now.id ≡ id) }
+    {
+        match self.place(id) {
+            Ok(index) => self.entries.get(index),
+            Err(_) => None,
+        }
+    }
+
+    /// Takes the entry with this id out, and tells whether it was there.
+    pub fn remove(&mut self, id: EntryId) -> bool
+        ensures gone { OnTrue result (IsWithoutOne id self.old.entries.items
+            self.new.entries.items) }
+        ensures none { OnFalse result (self.new ≡ self.old) }
+        ensures last_id { self.new.last_id ≡ self.old.last_id }
+        ensures groups { self.new.groups ≡ self.old.groups }
+    {
+        let Ok(index) = self.place(id) else {
+            return false;
+        };
+        if self.entries.remove(index).is_none() {
+            return false;
+        }
+        forget(&mut self.nodes, index);
+        if id > self.max_deleted_id {
+            self.max_deleted_id = id;
+        }
+        true
+    }
+
+    /// Takes away the oldest entries, as many as the trim names, and tells how many these were.
+    pub fn trim(&mut self, trim: Trim) -> usize
+        ensures entries { self.new.entries.items ≡ drop result self.old.entries.items }
+        ensures last_id { self.new.last_id ≡ self.old.last_id }
+        ensures groups { self.new.groups ≡ self.old.groups }
+    {
+        let (nodes, whole) = self.whole_nodes(trim);
+        let count = if trim.is_approximate {
+            whole
+        } else {
+            self.exact_count(trim.bound)
+        };
+        let count = count.min(self.entries.len());
+        drop(self.entries.drain(..count));
+        drop(self.nodes.drain(..nodes));
+        take_from_first(&mut self.nodes, count.saturating_sub(whole));
+        count
+    }
+
+    /// The id of the first entry, 0-0 where there is none.
+    pub fn first_id(&self) -> EntryId
+        ensures { result ≡ first_id_of self.now.entries.items }
+    {
+        match self.entries.front() {
+            Some(entry) => entry.id,
+            None => EntryId::ZERO,
+        }
+    }
+
+    /// Whether an entry with at least this id was deleted, as far as the stream remembers.
+    pub fn has_tombstone_from(&self, id: EntryId) -> bool
+        ensures none { self.now.entries.items ≡ [] → result ≡ false }
+    {
+        !self.entries.is_empty()
+            && self.max_deleted_id != EntryId::ZERO
+            && id <= self.max_deleted_id
+    }
+
+    /// How many entries there were ever up to this id, where that is known.
+    pub fn distance(&self, id: EntryId) -> Option<i64>
+        ensures all { id ≡ self.now.last_id → result ≡ Some self.now.entries_added }
+    {
+        if self.entries_added == 0 {
+            return Some(0);
+        }
+        if id == self.last_id || (self.entries.is_empty() && id <= self.last_id) {
+            return Some(self.entries_added);
+        }
+        if id > self.last_id {
+            return None;
+        }
+        let first = self.first_id();
+        let len = i64::try_from(self.entries.len()).unwrap_or(i64::MAX);
+        if self.max_deleted_id == EntryId::ZERO || self.max_deleted_id < first {
+            if id < first {
+                return Some(self.entries_added.saturating_sub(len));
+            }
+            if id == first {
+                return Some(self.entries_added.saturating_sub(len).saturating_add(1));
+            }
+        }
+        None
+    }
+
+    /// How many of the oldest entries the bound takes away.
+    fn exact_count(&self, bound: Bound) -> usize {
+        match bound {
+            Bound::Length(most) => match usize::try_from(most) {
+                Ok(most) => self.entries.len().saturating_sub(most),
+                Err(_) => 0,
+            },
+            Bound::Below(least) => self.start(least),
+        }
+    }
+
+    /// How many of the first nodes go as a whole, and how many entries these are.
+    fn whole_nodes(&self, trim: Trim) -> (usize, usize)
+        ensures { result.0 ≤ length self.now.nodes.items }
+    {
+        let most = self.exact_count(trim.bound);
+        let mut nodes = 0usize;
+        let mut whole = 0usize;
+        for node in self.nodes.iter() {
+            let behind = whole.saturating_add(usize::try_from(node.live).unwrap_or(usize::MAX));
+            let is_over = trim.limit != 0 && u64::try_from(behind).unwrap_or(u64::MAX) > trim.limit;
+            let goes = match trim.bound {
+                Bound::Length(_) => behind <= most,
+                Bound::Below(least) => node.last < least,
+            };
+            if is_over || !goes {
+                break;
+            }
+            nodes = nodes.saturating_add(1);
+            whole = behind;
+        }
+        (nodes.min(self.nodes.len()), whole)
+    }
+}
+
+/// One entry less in the node in which the entry at this index stood.
+fn forget(nodes: &mut VecDeque<Node>, index: usize) {
+    let mut before = u64::try_from(index).unwrap_or(u64::MAX);
+    for place in 0..nodes.len() {
+        let Some(node) = nodes.get_mut(place) else {
+            return;
+        };
+        if before < node.live {
+            node.live -= 1;
+            if node.live == 0 {
+                let _node = nodes.remove(place);
+            }
+            return;
+        }
+        before -= node.live;
+    }
+}
+
+/// So many entries less in the first node.
+fn take_from_first(nodes: &mut VecDeque<Node>, count: usize) {
+    let count = u64::try_from(count).unwrap_or(u64::MAX);
+    let Some(node) = nodes.front_mut() else {
+        return;
+    };
+    node.live = node.live.saturating_sub(count);
+    if node.live == 0 {
+        let _node = nodes.pop_front();
+    }
+}

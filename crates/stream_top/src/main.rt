@@ -1,0 +1,357 @@
+//! Shows the groups of a stream and their consumers as a table on standard error, over a connection
+//! that stands at its standard input and output:
+//!
+//! ```text
+//! bash -c 'exec 3<>/dev/tcp/127.0.0.1/6379; stream_top orders 60 <&3 >&3'
+//! ```
+//!
+//! It prints a table as often as the second word says, one a second and one more as soon as an
+//! entry comes: between two tables it waits in `XREAD BLOCK 1000`. Times are those of the server's
+//! clock. It ends with 0, or with 1 where the connection ends, the server answers an error or
+//! memory runs out.
+#![tactic(auto)]
+
+#[cfg(test)]
+mod tests;
+
+use anyhow::{Result, anyhow};
+use redis_resp::{FromRedisValue, ToRedisArgs, Value};
+use redis_streams::{StreamInfoFullConsumer, StreamInfoFullGroup, StreamInfoFullReply};
+use redis_wire::{Limits, Reply, ReplyError, ReplyStream, from_reply, pack_command};
+use std::alloc::{AllocError, Global};
+use std::io::{Read, Write};
+use std::{env, io};
+use stream_commands::{AtLeastOne, xinfo_stream_full_count, xread_options};
+use stream_options::StreamReadOptions;
+use unicode_width::UnicodeWidthStr;
+use uses::group_state::{GroupState, group_state};
+
+// At most so many pending entries of a group are looked at.
+const COUNT: usize = 100;
+
+// So many milliseconds lie between two tables.
+const WAIT: usize = 1000;
+
+// The stream, and the server's time in milliseconds.
+fn ask<R: Read, W: Write>(
+    alloc: Global,
+    connection: &mut Connection<R, W>,
+    key: &str,
+) -> Result<(StreamInfoFullReply, usize)> {
+    connection.send(alloc, &"TIME")?;
+    connection.send(alloc, &xinfo_stream_full_count(key, COUNT))?;
+    let (seconds, micros): (usize, usize) = connection.answer(alloc)?;
+    let now = seconds.saturating_mul(1000).saturating_add(micros / 1000);
+    let stream: StreamInfoFullReply = connection.answer(alloc)?;
+    Ok((stream, now))
+}
+
+// Waits until an entry comes behind the last one, and at most for a second.
+fn wait<R: Read, W: Write>(
+    alloc: Global,
+    connection: &mut Connection<R, W>,
+    key: &str,
+    last_id: &str,
+) -> Result<()> {
+    let options = StreamReadOptions::default().block(WAIT).count(1);
+    let stream = (key, last_id);
+    let command = xread_options(AtLeastOne::one(&stream), &options);
+    connection.send(alloc, &command)?;
+    let answer: Value = connection.answer(alloc)?;
+    drop(answer);
+    Ok(())
+}
+
+fn main(rt: HostRuntime) -> Result<()> {
+    let alloc = rt.alloc();
+    let mut words = env::args(&rt)?.skip(1);
+    let Some(key) = words.next() else {
+        return Err(anyhow!("wanted: KEY ROUNDS"));
+    };
+    let Some(rounds) = words.next() else {
+        return Err(anyhow!("wanted: KEY ROUNDS"));
+    };
+    let rounds: u32 = rounds.parse()?;
+    let mut connection = Connection::new(alloc, rt.reader(), io::writer(&rt));
+    for round in 0..rounds {
+        let (stream, now) = ask(alloc, &mut connection, &key)?;
+        let text = page(alloc, &key, &stream, now)?;
+        eprint!(rt; "{text}")?;
+        if round + 1 < rounds {
+            wait(alloc, &mut connection, &key, &stream.last_generated_id)?;
+        }
+    }
+    Ok(())
+}
+
+// So many bytes are read at a time.
+const PIECE: usize = 16384;
+
+// What a server answers on `input`, and where it reads on `output`.
+#[derive(Drop)]
+struct Connection<R: Read, W: Write> {
+    input: R,
+    output: W,
+    replies: ReplyStream,
+}
+
+impl<R: Read, W: Write> Connection<R, W> {
+    // A connection on which nothing was sent.
+    fn new(alloc: Global, input: R, output: W) -> Connection<R, W> {
+        Connection {
+            input,
+            output,
+            replies: ReplyStream::new(alloc, Limits::default()),
+        }
+    }
+
+    // Sends a command.
+    fn send<T: ToRedisArgs>(&mut self, alloc: Global, command: &T) -> Result<()> {
+        let Ok(bytes) = pack_command(alloc, command) else {
+            return Err(anyhow!("a command was not written"));
+        };
+        self.output.write_all(&bytes)?;
+        self.output.flush()?;
+        Ok(())
+    }
+
+    // The answer to the first command that was sent and not answered yet.
+    fn answer<T: FromRedisValue>(&mut self, alloc: Global) -> Result<T> {
+        match from_reply(alloc, self.reply(alloc)?) {
+            Ok(record) => Ok(record),
+            Err(ReplyError::Parsing(error)) => Err(error.into()),
+            Err(ReplyError::Server(error)) => {
+                let text = String::from_utf8_lossy(alloc, &error.text)?;
+                Err(anyhow!("the server answers {text}"))
+            }
+        }
+    }
+
+    // The next reply.
+    fn reply(&mut self, alloc: Global) -> Result<Reply> {
+        let mut piece = [0u8; PIECE];
+        for _ in 0..u64::MAX {
+            if let Some(reply) = self.replies.next(alloc)? {
+                return Ok(reply);
+            }
+            let len = self.input.read(&mut piece)?;
+            if len == 0 {
+                break;
+            }
+            self.replies.feed(&piece[..len])?;
+        }
+        Err(anyhow!("the connection ended"))
+    }
+}
+
+// An entry that was delivered more than so many times was delivered too often.
+const TIMES: usize = 3;
+
+// A consumer that has entries pending is dead once it has not been seen for so many milliseconds.
+const SILENT: usize = 60_000;
+
+// The columns, and on which side the texts of each stand.
+const COLUMNS: [(&str, Side); 8] = [
+    ("GROUP", Side::Left),
+    ("LAG", Side::Right),
+    ("PENDING", Side::Right),
+    ("OLDEST", Side::Right),
+    ("TOO OFTEN", Side::Right),
+    ("CONSUMER", Side::Left),
+    ("PENDING", Side::Right),
+    ("SEEN", Side::Left),
+];
+
+// The page of a stream at a time of the server's clock, in milliseconds.
+fn page(
+    alloc: Global,
+    key: &str,
+    stream: &StreamInfoFullReply,
+    now: usize,
+) -> Result<String, AllocError> {
+    let mut text = shown(alloc, key)?;
+    write!(
+        text,
+        ": {} entries, {} groups, last id {}\n",
+        stream.length,
+        stream.groups.len(),
+        stream.last_generated_id
+    )?;
+    let mut rows = Vec::new(alloc);
+    let mut titles = Vec::new(alloc);
+    let mut sides = Vec::new(alloc);
+    for (title, side) in &COLUMNS {
+        titles.push(String::from_str(alloc, title)?)?;
+        sides.push(*side)?;
+    }
+    rows.push(titles)?;
+    for group in &stream.groups {
+        push_group(alloc, &mut rows, group, now)?;
+    }
+    text.push_str(&table(alloc, &rows, &sides)?)?;
+    Ok(text)
+}
+
+// Adds the rows of a group: one for each of its consumers, and one where it has none.
+fn push_group(
+    alloc: Global,
+    rows: &mut Vec<Row>,
+    group: &StreamInfoFullGroup,
+    now: usize,
+) -> Result<(), AllocError> {
+    let state = group_state(alloc, group, now, TIMES, SILENT)?;
+    let mut cells = group_cells(alloc, group, &state)?;
+    for consumer in &group.consumers {
+        push_consumer(alloc, &mut cells, consumer, &state, now)?;
+        rows.push(cells)?;
+        cells = Vec::new(alloc);
+        for _ in 0..5u8 {
+            cells.push(String::new(alloc))?;
+        }
+    }
+    if group.consumers.is_empty() {
+        rows.push(cells)?;
+    }
+    Ok(())
+}
+
+// The cells of a group: its name, its lag, what is pending, for how long, and what too often.
+fn group_cells(
+    alloc: Global,
+    group: &StreamInfoFullGroup,
+    state: &GroupState,
+) -> Result<Row, AllocError> {
+    let mut cells = Vec::new(alloc);
+    cells.push(shown(alloc, &group.name)?)?;
+    cells.push(match state.lag {
+        Some(lag) => format!(in alloc; "{lag}")?,
+        None => String::from_str(alloc, "?")?,
+    })?;
+    cells.push(format!(in alloc; "{}", state.pending)?)?;
+    cells.push(match state.oldest_idle {
+        Some(idle) => age(alloc, idle)?,
+        None => String::from_str(alloc, "-")?,
+    })?;
+    cells.push(format!(in alloc; "{}", state.too_often.len())?)?;
+    Ok(cells)
+}
+
+// Adds the cells of a consumer: its name, what is pending for it, and how long ago it was seen.
+fn push_consumer(
+    alloc: Global,
+    cells: &mut Row,
+    consumer: &StreamInfoFullConsumer,
+    state: &GroupState,
+    now: usize,
+) -> Result<(), AllocError> {
+    cells.push(shown(alloc, &consumer.name)?)?;
+    cells.push(format!(in alloc; "{}", consumer.pending_count)?)?;
+    let mut seen = age(alloc, now.saturating_sub(consumer.seen_time))?;
+    seen.push_str(" ago")?;
+    for name in &state.dead {
+        if name.as_str() == consumer.name.as_str() {
+            seen.push_str(", dead")?;
+            break;
+        }
+    }
+    cells.push(seen)?;
+    Ok(())
+}
+
+// So many milliseconds as people say them.
+fn age(alloc: Global, milliseconds: usize) -> Result<String, AllocError> {
+    let seconds = milliseconds / 1000;
+    if seconds < 60 {
+        format!(in alloc; "{}.{}s", seconds, milliseconds % 1000 / 100)
+    } else if seconds < 3600 {
+        format!(in alloc; "{}m", seconds / 60)
+    } else if seconds < 86_400 {
+        format!(in alloc; "{}h", seconds / 3600)
+    } else {
+        format!(in alloc; "{}d", seconds / 86_400)
+    }
+}
+
+// A name as it may be shown: a control character, which could steer a terminal, stands as `?`.
+fn shown(alloc: Global, name: &str) -> Result<String, AllocError> {
+    let mut text = String::new(alloc);
+    for letter in name.chars() {
+        if letter.is_control() {
+            text.push('?')?;
+        } else {
+            text.push(letter)?;
+        }
+    }
+    Ok(text)
+}
+
+// A row of a table: the texts of its cells.
+type Row = Vec<String>;
+
+// On which side of its column the text of a cell stands.
+#[derive(Clone, Copy, PartialEq, Eq)]
+enum Side {
+    // Names.
+    Left,
+    // Numbers.
+    Right,
+}
+
+// The width of each column.
+fn widths_of(alloc: Global, rows: &[Row]) -> Result<Vec<usize>, AllocError> {
+    let mut widths: Vec<usize> = Vec::new(alloc);
+    for row in rows {
+        for (index, cell) in row.iter().enumerate() {
+            let width = cell.as_str().width();
+            if index < widths.len() {
+                widths[index] = widths[index].max(width);
+            } else {
+                widths.push(width)?;
+            }
+        }
+    }
+    Ok(widths)
+}
+
+// Appends so many blanks.
+fn push_blanks(line: &mut String, count: usize) -> Result<(), AllocError> {
+    for _ in 0..count {
+        line.push(' ')?;
+    }
+    Ok(())
+}
+
+// Appends a row: two blanks stand between each two columns, and none at its end.
+fn push_row(
+    line: &mut String,
+    row: &[String],
+    widths: &[usize],
+    sides: &[Side],
+) -> Result<(), AllocError> {
+    let mut blanks = 0usize;
+    for ((cell, width), side) in row.iter().zip(widths).zip(sides) {
+        let left = width.saturating_sub(cell.as_str().width());
+        match side {
+            Side::Left => {
+                push_blanks(line, blanks)?;
+                blanks = left.saturating_add(2);
+            }
+            Side::Right => {
+                push_blanks(line, blanks.saturating_add(left))?;
+                blanks = 2;
+            }
+        }
+        line.push_str(cell)?;
+    }
+    line.push('\n')
+}
+
+// The rows as lines.
+fn table(alloc: Global, rows: &[Row], sides: &[Side]) -> Result<String, AllocError> {
+    let widths = widths_of(alloc, rows)?;
+    let mut text = String::new(alloc);
+    for row in rows {
+        push_row(&mut text, row, &widths, sides)?;
+    }
+    Ok(text)
+}

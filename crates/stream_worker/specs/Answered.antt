@@ -1,0 +1,69 @@
+-- What an answer does to a worker.
+use Rattle.std.specs.Prelude.{◌≡◌, ◌≢◌, ◌⊎◌, ℕ, List, Option, Some, None}
+use Rattle.redis_resp.specs.Number.{unsigned_reading}
+use Rattle.redis_resp.specs.Refusal.{Refuses, RefusesNumber}
+use Rattle.redis_resp.specs.Table.{Fields}
+use Rattle.redis_resp.specs.Tree.{Tree}
+use Rattle.redis_resp.specs.declared.value.error.ParsingError.{ParsingError}
+use Rattle.redis_wire.specs.Reply as wire
+use Rattle.stream_entries.specs.AutoClaim.{autoclaim_reading}
+use Rattle.stream_entries.specs.Read.{read_reading}
+use Rattle.stream_entries.specs.Refusal.{RefusesAutoClaim, RefusesRead}
+use Rattle.stream_group.specs.Worker.{Verdict, Machine, Answer, Ending, cut_off, ending, entries_in, told_in, after, begins_again}
+use Rattle.stream_worker.specs.Answers.{Heard, told, no_group, group_made, hears}
+use Rattle.stream_worker.specs.Errors.{read_error}
+use Rattle.stream_worker.specs.Handling.{with_all}
+use Rattle.stream_worker.specs.Machine.{ending_of}
+use Rattle.stream_worker.specs.declared.error.WorkerError.{WorkerError}
+use Rattle.stream_worker.specs.declared.error.WorkerError.TheVariants as causes
+use Rattle.stream_worker.specs.declared.state.Asked.{Asked}
+use Rattle.stream_worker.specs.declared.state.Asked.TheVariants as asked
+use Rattle.stream_worker.specs.declared.state.Settings.{Settings}
+use Rattle.stream_worker.specs.declared.worker.Progress.{Progress}
+use Rattle.stream_worker.specs.declared.worker.Progress.TheVariants.{GoesOn}
+
+-- with which error a value may be refused as an answer to the question
+abbrev pub MayRefuse : Asked → Tree → ParsingError → Type 0
+MayRefuse asked.Nothing t error = ⊥
+MayRefuse asked.Acknowledgement t error = Refuses (unsigned_reading 64) RefusesNumber t error
+MayRefuse asked.Group t error = ⊥
+MayRefuse asked.Own t error = Refuses read_reading RefusesRead t error
+MayRefuse asked.Claim t error = Refuses autoclaim_reading RefusesAutoClaim t error
+MayRefuse asked.News t error = Refuses read_reading RefusesRead t error
+
+module _ {R : Type 0} (with_verdict : R → List ℕ × Fields Tree → Verdict → R) where
+  -- the machine went on by the answer, and its handler said this of the entries, which so came to an end
+  pub record Took (answer : Answer (Fields Tree)) (m n : Machine) (r s : R) (how : Ending) : Type 0 where
+    pub verdicts : List Verdict
+    pub machine : n ≡ after m answer verdicts
+    pub history : s ≡ with_all with_verdict r (told_in (entries_in answer) verdicts)
+    pub ended : how ≡ ending (entries_in answer) verdicts
+
+  -- the worker went on by what it heard
+  abbrev pub GoesBy : Heard → Machine → Machine → R → R → Progress → Type 0
+  GoesBy (told answer) m n r s p = Took answer m n r s (ending_of p)
+  GoesBy no_group m n r s p = (n ≡ m) × (s ≡ r) × (p ≡ GoesOn)
+  GoesBy group_made m n r s p = (n ≡ m) × (s ≡ r) × (p ≡ GoesOn)
+
+  pub record Went (settings : Settings) (question : Asked) (a : wire.Answer) (m n : Machine) (r s : R) (p : Progress) : Type 0 where
+    pub heard : Heard
+    pub said : hears settings question a ≡ Some heard
+    pub goes : GoesBy heard m n r s p
+
+  -- some entries at the front got verdicts, and then memory ran out
+  pub record WasCut (settings : Settings) (question : Asked) (t : Tree) (m n : Machine) (r s : R) : Type 0 where
+    pub answer : Answer (Fields Tree)
+    pub said : hears settings question (wire.value t) ≡ Some (told answer)
+    pub took : Took answer m n r s cut_off
+
+  -- why a worker did not go on, and what it does then
+  abbrev pub Failed : Settings → Asked → wire.Answer → Machine → Machine → R → R → WorkerError → Type 0
+  Failed settings question a m n r s causes.NotAsked = (question ≡ asked.Nothing) × (n ≡ m) × (s ≡ r)
+  Failed settings question a m n r s (causes.Server e) =
+      (question ≢ asked.Nothing) × (a ≡ wire.refused e.text.items) × (hears settings question a ≡ None) × (n ≡ m) × (s ≡ r)
+  Failed settings question a m n r s (causes.Parsing e) =
+      ((t : Tree) × (a ≡ wire.value t) × MayRefuse question t e) × (hears settings question a ≡ None) × (n ≡ begins_again m) × (s ≡ r)
+  Failed settings question a m n r s causes.OtherStream =
+      ((t : Tree) × (a ≡ wire.value t) × (read_reading t ≢ None)) × (hears settings question a ≡ None) × (n ≡ begins_again m) × (s ≡ r)
+  Failed settings question a m n r s causes.Memory =
+      (t : Tree) × (a ≡ wire.value t) × (((n ≡ begins_again m) × (s ≡ r)) ⊎ WasCut settings question t m n r s)

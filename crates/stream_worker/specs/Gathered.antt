@@ -1,0 +1,28 @@
+-- What a handler that keeps entries has handled.
+use Rattle.std.specs.Prelude.{ℕ, List, [], ◌∷◌, ◌++◌, map, Vec}
+use Rattle.std.specs.declared.alloc.Global.{Global}
+use Rattle.redis_resp.specs.Table.{Fields}
+use Rattle.redis_resp.specs.Tree.{Tree}
+use Rattle.stream_entries.specs.EntryMeaning.{entries_of}
+use Rattle.stream_entries.specs.declared.stream_id.StreamId.{StreamId}
+use Rattle.stream_group.specs.Worker.{Entry, Verdict, done, left_pending, stop}
+use Rattle.stream_worker.specs.Handling.{pair_of}
+
+-- what was done and not committed, and what was committed
+pub record Doings : Type 0 where
+  pub loose : List (Entry (Fields Tree))
+  pub committed : List (Entry (Fields Tree))
+
+-- with one more entry, where it was done
+abbrev pub done_too : Doings → Entry (Fields Tree) → Verdict → Doings
+done_too d e done = record d { loose = d.loose ++ e ∷ [] }
+done_too d e left_pending = d
+done_too d e stop = d
+
+-- what was done is committed
+abbrev pub committed_too : Doings → Doings
+committed_too d = record { loose = []; committed = d.committed ++ d.loose }
+
+-- the id and the fields of each
+abbrev pub pairs_of : Vec StreamId Global → List (Entry (Fields Tree))
+pairs_of es = map pair_of (entries_of es)

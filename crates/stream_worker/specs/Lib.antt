@@ -1,0 +1,12 @@
+-- What a worker's contracts speak of.
+pub mod Handling
+pub mod Taking
+pub mod Questions
+pub mod Errors
+pub mod Answers
+pub mod Machine
+pub mod Answered
+pub mod Requested
+pub mod Parts
+pub mod Step
+pub mod Gathered

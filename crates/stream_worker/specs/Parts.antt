@@ -1,0 +1,53 @@
+-- What the parts of a worker say to one another.
+use Rattle.std.specs.Prelude.{◌≡◌, ◌≢◌, ◌⊎◌, ℕ, Bool, true, false, List, [], Option, Some, None}
+use Rattle.redis_resp.specs.Number.{unsigned_reading}
+use Rattle.redis_resp.specs.Refusal.{Refuses}
+use Rattle.redis_resp.specs.Tree.{Tree}
+use Rattle.redis_resp.specs.declared.value.error.ParsingError.{ParsingError}
+use Rattle.stream_entries.specs.Read.{read_reading}
+use Rattle.stream_entries.specs.Refusal.{RefusesRead}
+use Rattle.stream_group.specs.Worker.{Machine}
+use Rattle.stream_worker.specs.Answers.{Heard, told, no_group, group_made, entries_read}
+use Rattle.stream_worker.specs.Errors.{read_error}
+use Rattle.stream_worker.specs.declared.error.WorkerError.{WorkerError}
+use Rattle.stream_worker.specs.declared.error.WorkerError.TheVariants as causes
+use Rattle.stream_worker.specs.declared.state.Asked.{Asked}
+use Rattle.stream_worker.specs.declared.state.Asked.TheVariants as asked
+
+-- a value that was refused, with the error that this makes
+abbrev pub Unread : {M : Type 0} → (Tree → Option M) → (Tree → ParsingError → Type 0) → Tree → WorkerError → Type 0
+Unread reading may_refuse t e = (p : ParsingError) × (e ≡ read_error p) × Refuses reading may_refuse t p
+
+-- it tells of another stream
+abbrev pub IsOther : List ℕ → Tree → WorkerError → Type 0
+IsOther key t e = (e ≡ causes.OtherStream) × (entries_read key t ≡ None) × (read_reading t ≢ None)
+
+-- why a value holds no entries of the stream
+abbrev pub NotRead : List ℕ → Tree → WorkerError → Type 0
+NotRead key t e = Unread read_reading RefusesRead t e ⊎ IsOther key t e
+
+-- whether a group is missing, by what an error says of it
+abbrev pub missing_by : Option Heard → Option Bool
+missing_by None = None
+missing_by (Some (told answer)) = None
+missing_by (Some no_group) = Some true
+missing_by (Some group_made) = Some false
+
+-- it is a group that was heard of
+abbrev pub IsOfGroup : Option Heard → Type 0
+IsOfGroup None = ⊥
+IsOfGroup (Some (told answer)) = ⊥
+IsOfGroup (Some no_group) = Unit {0}
+IsOfGroup (Some group_made) = Unit {0}
+
+-- nothing was asked, or the error is the server's
+abbrev pub IsRefused : Asked → List ℕ → WorkerError → Type 0
+IsRefused question text causes.NotAsked = question ≡ asked.Nothing
+IsRefused question text (causes.Server e) = (question ≢ asked.Nothing) × (text ≡ e.text.items)
+IsRefused question text (causes.Parsing e) = ⊥
+IsRefused question text causes.OtherStream = ⊥
+IsRefused question text causes.Memory = ⊥
+
+-- the value is a count, and the machine has acknowledged
+abbrev pub IsAcknowledged : Tree → Machine → Machine → Type 0
+IsAcknowledged t m n = (unsigned_reading 64 t ≢ None) × (n ≡ record m { to_acknowledge = [] })

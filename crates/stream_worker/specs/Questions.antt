@@ -1,0 +1,78 @@
+-- What a worker asks.
+use Rattle.std.specs.Prelude.{ℕ, Bool, true, false, List, [], ◌∷◌, codes, decimal, string_bytes, if◌then◌else◌}
+use Rattle.stream_group.specs.Worker as machine
+use Rattle.stream_group.specs.Worker.{Id, own, claiming, reading}
+use Rattle.stream_worker.specs.declared.state.Settings.{Settings}
+use Rattle.stream_worker.specs.declared.state.MakeGroup.{MakeGroup}
+use Rattle.stream_worker.specs.declared.state.MakeGroup.TheVariants.{Never, FromTheFirst, FromNow}
+use Rattle.stream_worker.specs.declared.state.Phase.{Phase}
+use Rattle.stream_worker.specs.declared.state.Phase.TheVariants as phases
+use Rattle.stream_worker.specs.declared.state.Asked.{Asked}
+use Rattle.stream_worker.specs.declared.state.Asked.TheVariants as asked
+
+-- where the machine stands
+abbrev pub phase_of : Phase → machine.Phase
+phase_of phases.Start = own (codes "0")
+phase_of (phases.Own id) = own (string_bytes id)
+phase_of phases.Stalled = claiming (codes "0-0")
+phase_of (phases.Claiming id) = claiming (string_bytes id)
+phase_of (phases.Reading rounds) = reading rounds
+
+-- `XACK key group id..`
+abbrev pub ack_sentence : Settings → List Id → List (List ℕ)
+ack_sentence s ids = codes "XACK" ∷ string_bytes s.key ∷ string_bytes s.group ∷ ids
+
+-- where a group begins that is made
+abbrev pub group_start : MakeGroup → List ℕ
+group_start Never = codes "$"
+group_start FromTheFirst = codes "0"
+group_start FromNow = codes "$"
+
+-- `XGROUP CREATE key g id MKSTREAM`
+abbrev pub group_sentence : Settings → List (List ℕ)
+group_sentence s =
+    codes "XGROUP" ∷ codes "CREATE" ∷ string_bytes s.key ∷ string_bytes s.group ∷ group_start s.make_group
+    ∷ codes "MKSTREAM" ∷ []
+
+-- `XREADGROUP GROUP g c COUNT n STREAMS key id`
+abbrev pub own_sentence : Settings → Id → List (List ℕ)
+own_sentence s id =
+    codes "XREADGROUP" ∷ codes "GROUP" ∷ string_bytes s.group ∷ string_bytes s.consumer
+    ∷ codes "COUNT" ∷ decimal s.count ∷ codes "STREAMS" ∷ string_bytes s.key ∷ id ∷ []
+
+-- `XAUTOCLAIM key g c idle id COUNT n`
+abbrev pub claim_sentence : Settings → Id → List (List ℕ)
+claim_sentence s id =
+    codes "XAUTOCLAIM" ∷ string_bytes s.key ∷ string_bytes s.group ∷ string_bytes s.consumer
+    ∷ decimal s.min_idle ∷ id ∷ codes "COUNT" ∷ decimal s.count ∷ []
+
+-- `XREADGROUP GROUP g c BLOCK ms COUNT n STREAMS key >`
+abbrev pub news_sentence : Settings → List (List ℕ)
+news_sentence s =
+    codes "XREADGROUP" ∷ codes "GROUP" ∷ string_bytes s.group ∷ string_bytes s.consumer
+    ∷ codes "BLOCK" ∷ decimal s.block ∷ codes "COUNT" ∷ decimal s.count
+    ∷ codes "STREAMS" ∷ string_bytes s.key ∷ codes ">" ∷ []
+
+-- where nothing is to be acknowledged and there is a group, what the phase asks
+abbrev pub phase_sentence : Settings → machine.Phase → List (List ℕ)
+phase_sentence s (own id) = own_sentence s id
+phase_sentence s (claiming id) = claim_sentence s id
+phase_sentence s (reading rounds) = news_sentence s
+
+-- acknowledgements go out first, and a group is made before anything is read from it
+abbrev pub sentence : Settings → Bool → machine.Phase → List Id → List (List ℕ)
+sentence s missing phase (id ∷ ids) = ack_sentence s (id ∷ ids)
+sentence s true phase [] = group_sentence s
+sentence s false phase [] = phase_sentence s phase
+
+-- what the phase asks
+abbrev pub phase_asks : machine.Phase → Asked
+phase_asks (own id) = asked.Own
+phase_asks (claiming id) = asked.Claim
+phase_asks (reading rounds) = asked.News
+
+-- what is asked then
+abbrev pub asks : Bool → machine.Phase → List Id → Asked
+asks missing phase (id ∷ ids) = asked.Acknowledgement
+asks true phase [] = asked.Group
+asks false phase [] = phase_asks phase

@@ -1,0 +1,168 @@
+//! The commands that a worker sends.
+ghost use Rattle.std.specs.Prelude.{◌≡◌, ◌≢◌, [], ◌++◌, IfOk, OnOk, OnErr, map, string_bytes};
+ghost use Rattle.redis_wire.specs.Packed.{command_bytes};
+ghost use Rattle.stream_worker.specs.Questions.{ack_sentence, asks, claim_sentence, group_sentence, news_sentence, own_sentence};
+ghost use Rattle.stream_worker.specs.Questions.{phase_asks, phase_of, phase_sentence, sentence};
+
+use crate::state::{Asked, MakeGroup, Phase, Settings};
+use redis_resp::WriteError;
+use redis_wire::append_command;
+use std::alloc::Global;
+use stream_commands::{
+    AtLeastOne, xack, xautoclaim_options, xgroup_create_mkstream, xread_options,
+};
+use stream_options::{StreamAutoClaimOptions, StreamReadOptions};
+
+/// Appends what a worker asks next. An `Err` changes nothing.
+pub fn append_question(
+    alloc: Global,
+    out: &mut Vec<u8>,
+    settings: &Settings,
+    group_missing: bool,
+    phase: &Phase,
+    ids: &[String],
+) -> Result<Asked, WriteError>
+    ensures ok { OnOk result (out.new.items ≡ out.old.items ++ command_bytes
+        (sentence settings.now group_missing (phase_of phase.now) (map string_bytes ids.now))) }
+    ensures asked { IfOk result (λ a. a
+        ≡ asks group_missing (phase_of phase.now) (map string_bytes ids.now)) }
+    ensures err { OnErr result (out.new.items ≡ out.old.items) }
+{
+    if !ids.is_empty() {
+        append_acknowledgement(alloc, out, settings, ids)?;
+        Ok(Asked::Acknowledgement)
+    } else if group_missing {
+        append_group(alloc, out, settings)?;
+        Ok(Asked::Group)
+    } else {
+        append_by_phase(alloc, out, settings, phase)
+    }
+}
+
+/// `XACK`, of these ids; nothing where there are none.
+fn append_acknowledgement(
+    alloc: Global,
+    out: &mut Vec<u8>,
+    settings: &Settings,
+    ids: &[String],
+) -> Result<(), WriteError>
+    requires { ids.now ≢ [] }
+    ensures ok { OnOk result (out.new.items ≡ out.old.items
+        ++ command_bytes (ack_sentence settings.now (map string_bytes ids.now))) }
+    ensures err { OnErr result (out.new.items ≡ out.old.items) }
+{
+    let Some(ids) = AtLeastOne::new(ids) else {
+        unreachable!()
+    };
+    let command = xack(settings.key.as_str(), settings.group.as_str(), ids);
+    append_command(alloc, out, &command)
+}
+
+/// `XGROUP CREATE` with `MKSTREAM`.
+fn append_group(alloc: Global, out: &mut Vec<u8>, settings: &Settings) -> Result<(), WriteError>
+    ensures ok { OnOk result (out.new.items ≡ out.old.items
+        ++ command_bytes (group_sentence settings.now)) }
+    ensures err { OnErr result (out.new.items ≡ out.old.items) }
+{
+    let start = match settings.make_group {
+        MakeGroup::FromTheFirst => "0",
+        MakeGroup::FromNow | MakeGroup::Never => "$",
+    };
+    let command = xgroup_create_mkstream(settings.key.as_str(), settings.group.as_str(), start);
+    append_command(alloc, out, &command)
+}
+
+/// What the phase asks.
+fn append_by_phase(
+    alloc: Global,
+    out: &mut Vec<u8>,
+    settings: &Settings,
+    phase: &Phase,
+) -> Result<Asked, WriteError>
+    ensures ok { OnOk result (out.new.items ≡ out.old.items
+        ++ command_bytes (phase_sentence settings.now (phase_of phase.now))) }
+    ensures asked { IfOk result (λ a. a ≡ phase_asks (phase_of phase.now)) }
+    ensures err { OnErr result (out.new.items ≡ out.old.items) }
+{
+    match phase {
+        Phase::Start => {
+            append_own(alloc, out, settings, "0")?;
+            Ok(Asked::Own)
+        }
+        Phase::Own(id) => {
+            append_own(alloc, out, settings, id.as_str())?;
+            Ok(Asked::Own)
+        }
+        Phase::Stalled => {
+            append_claim(alloc, out, settings, "0-0")?;
+            Ok(Asked::Claim)
+        }
+        Phase::Claiming(id) => {
+            append_claim(alloc, out, settings, id.as_str())?;
+            Ok(Asked::Claim)
+        }
+        Phase::Reading(_) => {
+            append_news(alloc, out, settings)?;
+            Ok(Asked::News)
+        }
+    }
+}
+
+/// `XREADGROUP` of its own pending entries behind this id.
+fn append_own(
+    alloc: Global,
+    out: &mut Vec<u8>,
+    settings: &Settings,
+    id: &str,
+) -> Result<(), WriteError>
+    ensures ok { OnOk result (out.new.items ≡ out.old.items
+        ++ command_bytes (own_sentence settings.now id.now)) }
+    ensures err { OnErr result (out.new.items ≡ out.old.items) }
+{
+    let options = StreamReadOptions::default()
+        .count(settings.count)
+        .group(alloc, settings.group.as_str(), settings.consumer.as_str())?;
+    let stream = (settings.key.as_str(), id);
+    let command = xread_options(AtLeastOne::one(&stream), &options);
+    append_command(alloc, out, &command)
+}
+
+/// `XAUTOCLAIM` from this id on.
+fn append_claim(
+    alloc: Global,
+    out: &mut Vec<u8>,
+    settings: &Settings,
+    id: &str,
+) -> Result<(), WriteError>
+    ensures ok { OnOk result (out.new.items ≡ out.old.items
+        ++ command_bytes (claim_sentence settings.now id.now)) }
+    ensures err { OnErr result (out.new.items ≡ out.old.items) }
+{
+    let options = StreamAutoClaimOptions::default().count(settings.count);
+    let Ok(command) = xautoclaim_options(
+        settings.key.as_str(),
+        settings.group.as_str(),
+        settings.consumer.as_str(),
+        settings.min_idle,
+        id,
+        &options,
+    ) else {
+        unreachable!()
+    };
+    append_command(alloc, out, &command)
+}
+
+/// `XREADGROUP` of new entries.
+fn append_news(alloc: Global, out: &mut Vec<u8>, settings: &Settings) -> Result<(), WriteError>
+    ensures ok { OnOk result (out.new.items ≡ out.old.items
+        ++ command_bytes (news_sentence settings.now)) }
+    ensures err { OnErr result (out.new.items ≡ out.old.items) }
+{
+    let options = StreamReadOptions::default()
+        .count(settings.count)
+        .block(settings.block)
+        .group(alloc, settings.group.as_str(), settings.consumer.as_str())?;
+    let stream = (settings.key.as_str(), ">");
+    let command = xread_options(AtLeastOne::one(&stream), &options);
+    append_command(alloc, out, &command)
+}

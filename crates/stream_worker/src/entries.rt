@@ -1,0 +1,60 @@
+//! What a handler does with entries, and the ids to acknowledge then.
+ghost use Rattle.std.specs.Prelude.{map, string_bytes};
+ghost use Rattle.stream_worker.specs.Taking.{Took, TookOneOr, all_delivered, delivered_of, entry_meaning, said_ending};
+
+use crate::handler::{Handler, Verdict};
+use redis_streams::StreamId;
+use std::alloc::{AllocError, Global};
+
+/// An entry as a handler is given it.
+pub type Entry = StreamId;
+
+/// Hands one entry to the handler. Its id is remembered before the handler sees it, and forgotten
+/// where it is not done, so that memory cannot run out between the two. False where the handler
+/// says to stop.
+fn take_entry<H: Handler>(
+    alloc: Global,
+    ids: &mut Vec<String>,
+    entry: &Entry,
+    handler: &mut H,
+) -> Result<bool, AllocError>
+    ensures { TookOneOr H.with_verdict (delivered_of (entry_meaning entry.now))
+        (map string_bytes ids.old.items) (map string_bytes ids.new.items)
+        (H.history handler.old) (H.history handler.new) result }
+{
+    let len = ids.len();
+    ids.push(entry.id.clone()?)?;
+    if entry.is_empty() {
+        return Ok(true);
+    }
+    match handler.handle(alloc, entry) {
+        Verdict::Done => Ok(true),
+        Verdict::LeavePending => {
+            ids.truncate(len);
+            Ok(true)
+        }
+        Verdict::Stop => {
+            ids.truncate(len);
+            Ok(false)
+        }
+    }
+}
+
+/// Hands entries to the handler, in order. False where the handler says to stop.
+pub fn take_entries<H: Handler>(
+    alloc: Global,
+    ids: &mut Vec<String>,
+    entries: &[Entry],
+    handler: &mut H,
+) -> Result<bool, AllocError>
+    ensures { Took H.with_verdict (all_delivered (map entry_meaning entries.now))
+        (map string_bytes ids.old.items) (map string_bytes ids.new.items)
+        (H.history handler.old) (H.history handler.new) (said_ending result) }
+{
+    for entry in entries {
+        if !take_entry(alloc, ids, entry, handler)? {
+            return Ok(false);
+        }
+    }
+    Ok(true)
+}

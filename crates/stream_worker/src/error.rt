@@ -1,0 +1,92 @@
+//! Why a worker asks nothing, or an answer does not bring it on.
+use crate::handler::NotCommitted;
+use redis_resp::{ParsingError, WriteError};
+use redis_wire::ServerError;
+use std::alloc::{AllocError, AllocFailed};
+use thiserror::Error;
+
+/// Why a worker asks nothing. No bytes were appended.
+#[derive(Clone, Copy, Debug, PartialEq, Eq, Error)]
+pub enum RequestError {
+    /// The handler did not commit what it did; nothing of it is acknowledged.
+    #[error("what was done could not be committed")]
+    NotCommitted,
+    /// The command is too long for the protocol.
+    #[error("the command is too long")]
+    TooLong,
+    /// Out of memory.
+    #[error("out of memory")]
+    Memory,
+}
+
+impl From<NotCommitted> for RequestError {
+    ghost use Rattle.std.specs.Prelude.{◌≡◌};
+    ghost use Rattle.stream_worker.specs.declared.error.RequestError.TheVariants as causes;
+
+    ghost from_gives = { λ _ e. e ≡ causes.NotCommitted };
+
+    fn from(_error: NotCommitted) -> RequestError {
+        RequestError::NotCommitted
+    }
+}
+
+impl From<WriteError> for RequestError {
+    ghost use Rattle.std.specs.Prelude.{◌≡◌};
+    ghost use Rattle.stream_worker.specs.Errors.{request_error};
+
+    ghost from_gives = { λ w e. e ≡ request_error w };
+
+    fn from(error: WriteError) -> RequestError {
+        match error {
+            WriteError::Memory => RequestError::Memory,
+            WriteError::Full => RequestError::TooLong,
+        }
+    }
+}
+
+/// Why an answer does not bring a worker on. What is done stays remembered, and what is not stays
+/// pending.
+#[derive(Debug, Drop, Error)]
+pub enum WorkerError {
+    /// Nothing was asked.
+    #[error("an answer to no question")]
+    NotAsked,
+    /// The server answered an error, such as `NOGROUP`, `LOADING` or `READONLY`. The worker is
+    /// where it was, and asks the same again.
+    #[error("an error of the server")]
+    Server(ServerError),
+    /// The answer is none to the question.
+    #[error("{0}")]
+    Parsing(ParsingError),
+    /// The answer tells of another stream than the one that was asked for.
+    #[error("an answer about another stream")]
+    OtherStream,
+    /// Out of memory.
+    #[error("out of memory")]
+    Memory,
+}
+
+impl From<AllocError> for WorkerError {
+    ghost use Rattle.std.specs.Prelude.{◌≡◌};
+    ghost use Rattle.stream_worker.specs.declared.error.WorkerError.TheVariants as causes;
+
+    ghost from_gives = { λ _ e. e ≡ causes.Memory };
+
+    fn from(_error: AllocError) -> WorkerError {
+        WorkerError::Memory
+    }
+}
+
+impl From<ParsingError> for WorkerError {
+    ghost use Rattle.std.specs.Prelude.{◌≡◌};
+    ghost use Rattle.stream_worker.specs.Errors.{read_error};
+
+    ghost from_gives = { λ p e. e ≡ read_error p };
+
+    fn from(error: ParsingError) -> WorkerError {
+        match error {
+            ParsingError::Memory => WorkerError::Memory,
+            error => WorkerError::Parsing(error),
+        }
+    }
+}

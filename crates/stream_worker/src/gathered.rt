@@ -1,0 +1,56 @@
+//! A handler that keeps what it is given.
+ghost use Rattle.std.specs.Prelude.{◌≡◌, []};
+ghost use Rattle.stream_worker.specs.Gathered.{Doings, committed_too, done_too, pairs_of};
+
+use crate::entries::Entry;
+use crate::handler::{Handler, NotCommitted, Verdict};
+use std::alloc::Global;
+
+/// Keeps a copy of each entry, and stops where there is no memory for one.
+#[derive(Debug, Drop)]
+pub struct Gathered {
+    /// What it kept and has not committed.
+    pub loose: Vec<Entry>,
+    /// What it kept and has committed.
+    pub committed: Vec<Entry>,
+}
+
+impl Gathered {
+    /// Nothing yet.
+    pub fn new(alloc: Global) -> Gathered
+        ensures loose { result.loose.items ≡ [] }
+        ensures committed { result.committed.items ≡ [] }
+    {
+        Gathered {
+            loose: Vec::new(alloc),
+            committed: Vec::new(alloc),
+        }
+    }
+}
+
+impl Handler for Gathered {
+    ghost History = { Doings };
+
+    ghost with_verdict = { done_too };
+
+    ghost with_commit = { committed_too };
+
+    ghost history = { λ h. record { loose = pairs_of h.loose; committed = pairs_of h.committed } };
+
+    fn handle(&mut self, alloc: Global, entry: &Entry) -> Verdict {
+        let Ok(copy) = entry.try_clone(alloc) else {
+            return Verdict::Stop;
+        };
+        match self.loose.push(copy) {
+            Ok(()) => Verdict::Done,
+            Err(_) => Verdict::Stop,
+        }
+    }
+
+    fn commit(&mut self, _alloc: Global) -> Result<(), NotCommitted> {
+        match self.committed.append(&mut self.loose) {
+            Ok(()) => Ok(()),
+            Err(_) => Err(NotCommitted),
+        }
+    }
+}

@@ -1,0 +1,25 @@
+//! What holds of workers over every schedule.
+ghost use Rattle.redis_resp.specs.Table.{Fields};
+ghost use Rattle.redis_resp.specs.Tree.{Tree};
+ghost use Rattle.stream_group.specs.Law.{AcknowledgedIsSettled, EachEntryIsKept, HandledAsDelivered};
+ghost use Rattle.stream_group.specs.Law.{CommittedIsHandled, HandledIsOfTheLog};
+ghost use Rattle.stream_worker.specs.Step.{AnswersStayInStep, CutsStayInStep, RequestsStayInStep};
+
+/// The laws of `stream_group`, of entries with the fields that a worker sees: each that was ever
+/// added is still to come, or pending, or was handled and its handling committed, or was deleted.
+pub fn nothing_is_lost()
+    ensures kept { EachEntryIsKept (Fields Tree) }
+    ensures acknowledged { AcknowledgedIsSettled (Fields Tree) }
+    ensures committed { CommittedIsHandled (Fields Tree) }
+    ensures handled { HandledIsOfTheLog (Fields Tree) }
+    ensures delivered { HandledAsDelivered (Fields Tree) }
+{}
+
+/// What `Worker::answered` and `Worker::request` promise are steps of the model: the worker is then
+/// where the model's worker is, its handler has done and committed what the model says, and the
+/// acknowledgement that goes out is the model's.
+pub fn stays_in_step()
+    ensures answers { AnswersStayInStep }
+    ensures cuts { CutsStayInStep }
+    ensures requests { RequestsStayInStep }
+{}

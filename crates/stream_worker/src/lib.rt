@@ -1,0 +1,24 @@
+//! A worker of a consumer group that loses no entry: a machine without input and output, which says
+//! the next command, takes the answer, and acknowledges just what its handler has done and
+//! committed.
+#![tactic(auto)]
+
+mod commands;
+mod entries;
+mod error;
+mod gathered;
+mod handler;
+pub mod laws;
+mod phases;
+mod reading;
+mod state;
+#[cfg(test)]
+mod tests;
+mod worker;
+
+pub use entries::Entry;
+pub use error::{RequestError, WorkerError};
+pub use gathered::Gathered;
+pub use handler::{Handler, NotCommitted, Verdict};
+pub use state::{Asked, MakeGroup, Phase, Settings};
+pub use worker::{Progress, Worker};

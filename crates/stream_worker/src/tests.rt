@@ -1,0 +1,256 @@
+//! Sessions: what a worker asks, in order, and what its handler sees.
+use crate::entries::Entry;
+use crate::error::{RequestError, WorkerError};
+use crate::gathered::Gathered;
+use crate::handler::{Handler, NotCommitted, Verdict};
+use crate::state::{MakeGroup, Settings};
+use crate::worker::{Progress, Worker};
+use redis_wire::{Decoded, Limits, Reply, decode};
+use std::alloc::Global;
+use std::process::Abort;
+use std::test::Fail;
+
+const LIMITS: Limits = Limits {
+    depth: 8,
+    length: 1000,
+    line: 100,
+    bytes: 1000,
+};
+
+const OWN: &str = "XREADGROUP GROUP g c COUNT 100 STREAMS k 0";
+
+const CLAIM: &str = "XAUTOCLAIM k g c 60000 0-0 COUNT 100";
+
+const NEWS: &str = "XREADGROUP GROUP g c BLOCK 5000 COUNT 100 STREAMS k >";
+
+const NONE: &[u8] = b"*1\r\n*2\r\n$1\r\nk\r\n*0\r\n";
+
+const NO_CLAIM: &[u8] = b"*3\r\n$3\r\n0-0\r\n*0\r\n*0\r\n";
+
+const NIL: &[u8] = b"*-1\r\n";
+
+const ONE: &[u8] = b"*1\r\n*2\r\n$1\r\nk\r\n*1\r\n*2\r\n$3\r\n1-1\r\n*2\r\n$1\r\na\r\n$1\r\nb\r\n";
+// The second of three was deleted.
+const THREE: &[u8] = b"*1\r\n*2\r\n$1\r\nk\r\n*3\r\n*2\r\n$3\r\n1-1\r\n*2\r\n$1\r\na\r\n$1\r\nb\r\n\
+*2\r\n$3\r\n2-1\r\n*-1\r\n*2\r\n$3\r\n3-1\r\n*2\r\n$1\r\na\r\n$1\r\nc\r\n";
+
+const OF_ANOTHER: &[u8] =
+    b"*1\r\n*2\r\n$1\r\nj\r\n*1\r\n*2\r\n$3\r\n1-1\r\n*2\r\n$1\r\na\r\n$1\r\nb\r\n";
+
+/// Says of each entry what stands here, and then to stop; it commits only where it may.
+#[derive(Drop)]
+struct Scripted {
+    verdicts: Vec<Verdict>,
+    may_commit: bool,
+    commits: usize,
+}
+
+impl Handler for Scripted {
+    ghost History = { Unit {0} };
+
+    ghost with_verdict = { λ r e v. r };
+
+    ghost with_commit = { λ r. r };
+
+    ghost history = { λ h. tt };
+
+    fn handle(&mut self, _alloc: Global, _entry: &Entry) -> Verdict {
+        self.verdicts.pop().unwrap_or(Verdict::Stop)
+    }
+
+    fn commit(&mut self, _alloc: Global) -> Result<(), NotCommitted> {
+        if self.may_commit {
+            self.commits = self.commits.saturating_add(1);
+            Ok(())
+        } else {
+            Err(NotCommitted)
+        }
+    }
+}
+
+// The words of the next command, joined by spaces.
+fn asked<H: Handler>(alloc: Global, worker: &mut Worker, handler: &mut H) -> Result<String, Fail> {
+    let mut bytes = Vec::new(alloc);
+    worker.request(alloc, &mut bytes, handler)?;
+    let text = String::from_utf8(bytes)?;
+    let mut words = String::new(alloc);
+    for (index, word) in text.split("\r\n").enumerate() {
+        if index > 0 && index % 2 == 0 && !word.is_empty() {
+            if !words.is_empty() {
+                words.push(' ')?;
+            }
+            words.push_str(word)?;
+        }
+    }
+    Ok(words)
+}
+
+fn told<H: Handler>(
+    alloc: Global,
+    worker: &mut Worker,
+    handler: &mut H,
+    bytes: &[u8],
+) -> Result<Result<Progress, WorkerError>, Fail> {
+    match decode(alloc, bytes, LIMITS)? {
+        Decoded::Complete { reply, len: _ } => Ok(worker.answered(alloc, reply, handler)),
+        Decoded::Incomplete => Err(Fail::new("no whole reply")),
+    }
+}
+
+fn settings(alloc: Global) -> Result<Settings, Fail> {
+    Ok(Settings::new(
+        String::from_str(alloc, "k")?,
+        String::from_str(alloc, "g")?,
+        String::from_str(alloc, "c")?,
+    ))
+}
+
+// Each command is asked, and its answer brings the worker on.
+fn go<H: Handler>(
+    rt: &(impl AllocGlobal + Abort),
+    worker: &mut Worker,
+    handler: &mut H,
+    session: &[(&str, &[u8])],
+) -> Result<(), Fail> {
+    for (line, bytes) in session {
+        assert_eq!(rt; asked(rt.alloc(), worker, handler)?.as_str(), *line);
+        assert_eq!(rt;
+            told(rt.alloc(), worker, handler, bytes)??,
+            Progress::GoesOn
+        );
+    }
+    Ok(())
+}
+
+#[test]
+fn a_session(rt: HostRuntime) -> Result<(), Fail> {
+    let mut worker = Worker::new(rt.alloc(), settings(rt.alloc())?);
+    let mut handler = Gathered::new(rt.alloc());
+    let session: [(&str, &[u8]); 7] = [
+        (OWN, ONE),
+        ("XACK k g 1-1", b":1\r\n"),
+        ("XREADGROUP GROUP g c COUNT 100 STREAMS k 1-1", NONE),
+        (CLAIM, NO_CLAIM),
+        (NEWS, THREE),
+        ("XACK k g 1-1 2-1 3-1", b":3\r\n"),
+        (NEWS, NIL),
+    ];
+    go(&rt, &mut worker, &mut handler, &session)?;
+    assert_eq!(rt; handler.loose.len(), 0);
+    assert_eq!(rt; handler.committed.len(), 3);
+    Ok(())
+}
+
+#[test]
+fn what_is_left_or_stopped_is_not_acknowledged(rt: HostRuntime) -> Result<(), Fail> {
+    // The verdicts, the last one first; whether it went on; and what is asked then.
+    let cases: [(&[Verdict], Progress, &str); 4] = [
+        (
+            &[Verdict::Done, Verdict::Done],
+            Progress::GoesOn,
+            "XACK k g 1-1 2-1 3-1",
+        ),
+        (
+            &[Verdict::Done, Verdict::LeavePending],
+            Progress::GoesOn,
+            "XACK k g 2-1 3-1",
+        ),
+        (
+            &[Verdict::Stop, Verdict::Done],
+            Progress::Stopped,
+            "XACK k g 1-1 2-1",
+        ),
+        (&[Verdict::Done, Verdict::Stop], Progress::Stopped, OWN),
+    ];
+    for (said, progress, line) in &cases {
+        let mut worker = Worker::new(rt.alloc(), settings(rt.alloc())?);
+        let mut verdicts = Vec::new(rt.alloc());
+        verdicts.extend_from_slice(said)?;
+        let mut handler = Scripted {
+            verdicts,
+            may_commit: true,
+            commits: 0,
+        };
+        assert_eq!(rt; asked(rt.alloc(), &mut worker, &mut handler)?.as_str(), OWN);
+        assert_eq!(rt;
+            told(rt.alloc(), &mut worker, &mut handler, THREE)??,
+            *progress
+        );
+        assert_eq!(rt;
+            asked(rt.alloc(), &mut worker, &mut handler)?.as_str(),
+            *line
+        );
+    }
+    Ok(())
+}
+
+#[test]
+fn nothing_is_acknowledged_before_the_commit(rt: HostRuntime) -> Result<(), Fail> {
+    let mut worker = Worker::new(rt.alloc(), settings(rt.alloc())?);
+    let mut handler = Scripted {
+        verdicts: vec![in rt.alloc(); Verdict::Done]?,
+        may_commit: false,
+        commits: 0,
+    };
+    go(&rt, &mut worker, &mut handler, &[(OWN, ONE)])?;
+    let mut bytes = Vec::new(rt.alloc());
+    let refused = worker.request(rt.alloc(), &mut bytes, &mut handler);
+    assert_eq!(rt; refused, Err(RequestError::NotCommitted));
+    assert_eq!(rt; bytes.len(), 0);
+    handler.may_commit = true;
+    go(
+        &rt,
+        &mut worker,
+        &mut handler,
+        &[("XACK k g 1-1", b":1\r\n")],
+    )?;
+    assert_eq!(rt; handler.commits, 1);
+    Ok(())
+}
+
+#[test]
+fn a_group_is_made_where_the_settings_say_so(rt: HostRuntime) -> Result<(), Fail> {
+    let session: [(&str, &[u8]); 6] = [
+        (OWN, b"-NOGROUP No such key\r\n"),
+        ("XGROUP CREATE k g 0 MKSTREAM", b"+OK\r\n"),
+        (OWN, b"-NOGROUP No such key\r\n"),
+        ("XGROUP CREATE k g 0 MKSTREAM", b"-BUSYGROUP exists\r\n"),
+        (OWN, NONE),
+        (CLAIM, NO_CLAIM),
+    ];
+    let mut settings = settings(rt.alloc())?;
+    settings.make_group = MakeGroup::FromTheFirst;
+    let mut worker = Worker::new(rt.alloc(), settings);
+    go(&rt, &mut worker, &mut Gathered::new(rt.alloc()), &session)
+}
+
+#[test]
+fn errors_are_told_by_their_cause(rt: HostRuntime) -> Result<(), Fail> {
+    let cases: [(&[u8], &str); 4] = [
+        (b"-NOGROUP x\r\n", "an error of the server"),
+        (b"-LOADING x\r\n", "an error of the server"),
+        (
+            b":1\r\n",
+            "could not parse StreamReadReply in any known format",
+        ),
+        (OF_ANOTHER, "an answer about another stream"),
+    ];
+    let mut worker = Worker::new(rt.alloc(), settings(rt.alloc())?);
+    let mut handler = Gathered::new(rt.alloc());
+    for (bytes, text) in &cases {
+        assert_eq!(rt; asked(rt.alloc(), &mut worker, &mut handler)?.as_str(), OWN);
+        let Err(error) = told(rt.alloc(), &mut worker, &mut handler, bytes)? else {
+            return Err(Fail::new("it went on"));
+        };
+        assert_eq!(rt; format!(in rt.alloc(); "{error}")?.as_str(), *text);
+    }
+    let Err(error) = told(rt.alloc(), &mut worker, &mut handler, NONE)? else {
+        return Err(Fail::new("it went on"));
+    };
+    assert_eq!(rt;
+        format!(in rt.alloc(); "{error}")?.as_str(),
+        "an answer to no question"
+    );
+    assert_eq!(rt; handler.loose.len(), 0);
+    Ok(())
+}

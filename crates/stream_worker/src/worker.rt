@@ -1,0 +1,348 @@
+//! A worker of a consumer group.
+ghost use Rattle.std.specs.Prelude.{◌≡◌, ◌++◌, None, IfErr, IfOk, OnOk, OnErr, map, true, false};
+ghost use Rattle.redis_resp.specs.Number.{unsigned_reading};
+ghost use Rattle.redis_resp.specs.Refusal.{RefusesNumber};
+ghost use Rattle.redis_resp.specs.Value.{tree};
+ghost use Rattle.redis_wire.specs.Packed.{command_bytes};
+ghost use Rattle.redis_wire.specs.Reply as wire;
+ghost use Rattle.redis_wire.specs.Reply.{answer};
+ghost use Rattle.stream_group.specs.Worker.{begins_again, start};
+ghost use Rattle.stream_worker.specs.Answered.{Failed, Went};
+ghost use Rattle.stream_worker.specs.Answers.{group_after, hears, means};
+ghost use Rattle.stream_worker.specs.Machine.{Moved, at_request, commits, ending_said};
+ghost use Rattle.stream_worker.specs.Machine.{history_at_request, machine_of};
+ghost use Rattle.stream_worker.specs.Parts.{IsAcknowledged, IsOfGroup, IsRefused, Unread, missing_by};
+ghost use Rattle.stream_worker.specs.Questions.{asks, phase_of, sentence};
+ghost use Rattle.stream_worker.specs.Requested.{Unasked};
+ghost use Rattle.stream_worker.specs.Taking.{all_delivered, entry_meaning};
+
+use crate::commands::append_question;
+use crate::entries::{Entry, take_entries};
+use crate::error::{RequestError, WorkerError};
+use crate::handler::{Handler, NotCommitted};
+use crate::phases::{next_claim, next_own, next_round};
+use crate::reading::read_entries;
+use crate::state::{Asked, MakeGroup, Phase, Settings};
+use redis_resp::{Value, from_redis_value};
+use redis_streams::StreamAutoClaimReply;
+use redis_wire::{Reply, ServerError};
+use std::alloc::{AllocError, Global};
+use std::mem;
+
+/// Whether a worker's handler goes on.
+#[derive(Clone, Copy, Debug, PartialEq, Eq)]
+pub enum Progress {
+    /// It does.
+    GoesOn,
+    /// The handler said to stop. What was not done is pending, and is asked for next.
+    Stopped,
+}
+
+/// A worker of a consumer group, without input and output: `request` says the next command, and
+/// `answered` takes its answer.
+///
+/// It acknowledges just what its handler has done and committed, and what came without fields,
+/// since it was deleted from the stream.
+#[derive(Debug, Drop)]
+pub struct Worker {
+    settings: Settings,
+    group_missing: bool,
+    phase: Phase,
+    to_commit: Vec<String>,
+    to_acknowledge: Vec<String>,
+    asked: Asked,
+}
+
+impl Worker {
+    /// A worker that begins with what is pending for it. It takes no memory.
+    pub fn new(alloc: Global, settings: Settings) -> Worker
+        ensures machine { machine_of result ≡ start settings.every }
+        ensures settings { result.settings ≡ settings }
+        ensures group { result.group_missing ≡ false }
+        ensures asked { result.asked ≡ Asked.Nothing }
+    {
+        Worker {
+            settings,
+            group_missing: false,
+            phase: Phase::Start,
+            to_commit: Vec::new(alloc),
+            to_acknowledge: Vec::new(alloc),
+            asked: Asked::Nothing,
+        }
+    }
+
+    /// Appends the bytes of the next command: an acknowledgement of what is committed; where there
+    /// is nothing to acknowledge a group, if one is to be made; and else what the phase asks.
+    ///
+    /// Where something is done and not committed, the handler commits first. An `Err` appends
+    /// nothing, and after it the same is requested again.
+    pub fn request<H: Handler>(
+        &mut self,
+        alloc: Global,
+        out: &mut Vec<u8>,
+        handler: &mut H,
+    ) -> Result<(), RequestError>
+        ensures bytes { OnOk result (out.new.items ≡ out.old.items ++ command_bytes
+            (sentence self.old.settings self.old.group_missing (machine_of self.new).phase
+            (machine_of self.new).to_acknowledge)) }
+        ensures machine { OnOk result (machine_of self.new ≡ at_request (machine_of self.old)) }
+        ensures asked { OnOk result (self.new.asked ≡ asks self.old.group_missing
+            (machine_of self.new).phase (machine_of self.new).to_acknowledge) }
+        ensures history { OnOk result (H.history handler.new ≡ history_at_request H.with_commit
+            (machine_of self.old) (H.history handler.old)) }
+        ensures err { IfErr result (Unasked H.with_commit (machine_of self.old)
+            (machine_of self.new) (H.history handler.old) (H.history handler.new)) }
+        ensures err_bytes { OnErr result (out.new.items ≡ out.old.items) }
+        ensures err_asked { OnErr result (self.new.asked ≡ self.old.asked) }
+        ensures settings { self.new.settings ≡ self.old.settings }
+        ensures group { self.new.group_missing ≡ self.old.group_missing }
+    {
+        self.commit(alloc, handler)?;
+        let asked = append_question(
+            alloc,
+            out,
+            &self.settings,
+            self.group_missing,
+            &self.phase,
+            &self.to_acknowledge,
+        )?;
+        self.asked = asked;
+        Ok(())
+    }
+
+    /// Has the handler commit what is to be acknowledged next.
+    fn commit<H: Handler>(&mut self, alloc: Global, handler: &mut H) -> Result<(), NotCommitted>
+        ensures machine { OnOk result (machine_of self.new ≡ at_request (machine_of self.old)) }
+        ensures history { OnOk result (H.history handler.new ≡ history_at_request H.with_commit
+            (machine_of self.old) (H.history handler.old)) }
+        ensures err { OnErr result ((commits (machine_of self.old) ≡ true) × (self.new ≡ self.old)
+            × (H.history handler.new ≡ H.history handler.old)) }
+        ensures settings { self.new.settings ≡ self.old.settings }
+        ensures group { self.new.group_missing ≡ self.old.group_missing }
+        ensures asked { self.new.asked ≡ self.old.asked }
+    {
+        if self.to_acknowledge.is_empty() && !self.to_commit.is_empty() {
+            handler.commit(alloc)?;
+            mem::swap(&mut self.to_commit, &mut self.to_acknowledge);
+        }
+        Ok(())
+    }
+
+    /// Takes the answer to the command that was requested last.
+    pub fn answered<H: Handler>(
+        &mut self,
+        alloc: Global,
+        reply: Reply,
+        handler: &mut H,
+    ) -> Result<Progress, WorkerError>
+        ensures ok { IfOk result (Went H.with_verdict self.old.settings self.old.asked (answer reply)
+            (machine_of self.old) (machine_of self.new)
+            (H.history handler.old) (H.history handler.new)) }
+        ensures err { IfErr result (Failed H.with_verdict self.old.settings self.old.asked
+            (answer reply) (machine_of self.old) (machine_of self.new)
+            (H.history handler.old) (H.history handler.new)) }
+        ensures group { OnOk result (self.new.group_missing ≡ group_after self.old.group_missing
+            (hears self.old.settings self.old.asked (answer reply))) }
+        ensures err_group { OnErr result (self.new.group_missing ≡ self.old.group_missing) }
+        ensures settings { self.new.settings ≡ self.old.settings }
+        ensures asked { self.new.asked ≡ Asked.Nothing }
+    {
+        let asked = mem::replace(&mut self.asked, Asked::Nothing);
+        match reply {
+            Reply::Value(value) => self.told(alloc, asked, value, handler),
+            Reply::Error(error) => self.refused(asked, error),
+        }
+    }
+
+    /// Takes an error in place of a value.
+    fn refused(&mut self, asked: Asked, error: ServerError) -> Result<Progress, WorkerError>
+        ensures ok { IfOk result (λ p. (p ≡ Progress.GoesOn)
+            × IsOfGroup (means self.old.settings.make_group asked error.text.items)) }
+        ensures err { IfErr result (λ e. IsRefused asked error.text.items e
+            × (means self.old.settings.make_group asked error.text.items ≡ None)) }
+        ensures group { self.new.group_missing ≡ group_after self.old.group_missing
+            (means self.old.settings.make_group asked error.text.items) }
+        ensures machine { machine_of self.new ≡ machine_of self.old }
+        ensures settings { self.new.settings ≡ self.old.settings }
+        ensures asked { self.new.asked ≡ self.old.asked }
+    {
+        if asked == Asked::Nothing {
+            return Err(WorkerError::NotAsked);
+        }
+        match group_told(self.settings.make_group, asked, &error) {
+            Some(missing) => {
+                self.group_missing = missing;
+                Ok(Progress::GoesOn)
+            }
+            None => Err(WorkerError::Server(error)),
+        }
+    }
+
+    /// Takes a value.
+    fn told<H: Handler>(
+        &mut self,
+        alloc: Global,
+        asked: Asked,
+        value: Value,
+        handler: &mut H,
+    ) -> Result<Progress, WorkerError>
+        ensures ok { IfOk result (Went H.with_verdict self.old.settings asked
+            (wire.value (tree value)) (machine_of self.old) (machine_of self.new)
+            (H.history handler.old) (H.history handler.new)) }
+        ensures err { IfErr result (Failed H.with_verdict self.old.settings asked
+            (wire.value (tree value)) (machine_of self.old) (machine_of self.new)
+            (H.history handler.old) (H.history handler.new)) }
+        ensures group { OnOk result (self.new.group_missing ≡ group_after self.old.group_missing
+            (hears self.old.settings asked (wire.value (tree value)))) }
+        ensures err_group { OnErr result (self.new.group_missing ≡ self.old.group_missing) }
+        ensures settings { self.new.settings ≡ self.old.settings }
+        ensures asked { self.new.asked ≡ self.old.asked }
+    {
+        match asked {
+            Asked::Nothing => Err(WorkerError::NotAsked),
+            Asked::Acknowledgement => self.acknowledged(alloc, value),
+            Asked::Group => {
+                self.group_missing = false;
+                Ok(Progress::GoesOn)
+            }
+            Asked::Own => self.own(alloc, value, handler),
+            Asked::Claim => self.claimed(alloc, value, handler),
+            Asked::News => self.news(alloc, value, handler),
+        }
+    }
+
+    /// Takes the value of an XACK: what was to be acknowledged is.
+    fn acknowledged(&mut self, alloc: Global, value: Value) -> Result<Progress, WorkerError>
+        ensures ok { IfOk result (λ p. (p ≡ Progress.GoesOn)
+            × IsAcknowledged (tree value) (machine_of self.old) (machine_of self.new)) }
+        ensures err { IfErr result (λ e. Unread (unsigned_reading 64) RefusesNumber (tree value) e
+            × (machine_of self.new ≡ begins_again (machine_of self.old))) }
+        ensures group { self.new.group_missing ≡ self.old.group_missing }
+        ensures settings { self.new.settings ≡ self.old.settings }
+        ensures asked { self.new.asked ≡ self.old.asked }
+    {
+        let phase = mem::replace(&mut self.phase, Phase::Start);
+        let _count: usize = from_redis_value(alloc, value)?;
+        self.to_acknowledge.clear();
+        self.phase = phase;
+        Ok(Progress::GoesOn)
+    }
+
+    /// Takes a value with its own pending entries.
+    fn own<H: Handler>(
+        &mut self,
+        alloc: Global,
+        value: Value,
+        handler: &mut H,
+    ) -> Result<Progress, WorkerError>
+        ensures ok { IfOk result (Went H.with_verdict self.old.settings Asked.Own
+            (wire.value (tree value)) (machine_of self.old) (machine_of self.new)
+            (H.history handler.old) (H.history handler.new)) }
+        ensures err { IfErr result (Failed H.with_verdict self.old.settings Asked.Own
+            (wire.value (tree value)) (machine_of self.old) (machine_of self.new)
+            (H.history handler.old) (H.history handler.new)) }
+        ensures group { self.new.group_missing ≡ self.old.group_missing }
+        ensures settings { self.new.settings ≡ self.old.settings }
+        ensures asked { self.new.asked ≡ self.old.asked }
+    {
+        self.phase = Phase::Start;
+        let entries = read_entries(alloc, &self.settings.key, value)?;
+        let next = next_own(&entries)?;
+        Ok(self.take(alloc, &entries, next, handler)?)
+    }
+
+    /// Takes a value with what was claimed.
+    fn claimed<H: Handler>(
+        &mut self,
+        alloc: Global,
+        value: Value,
+        handler: &mut H,
+    ) -> Result<Progress, WorkerError>
+        ensures ok { IfOk result (Went H.with_verdict self.old.settings Asked.Claim
+            (wire.value (tree value)) (machine_of self.old) (machine_of self.new)
+            (H.history handler.old) (H.history handler.new)) }
+        ensures err { IfErr result (Failed H.with_verdict self.old.settings Asked.Claim
+            (wire.value (tree value)) (machine_of self.old) (machine_of self.new)
+            (H.history handler.old) (H.history handler.new)) }
+        ensures group { self.new.group_missing ≡ self.old.group_missing }
+        ensures settings { self.new.settings ≡ self.old.settings }
+        ensures asked { self.new.asked ≡ self.old.asked }
+    {
+        self.phase = Phase::Start;
+        let claim: StreamAutoClaimReply = from_redis_value(alloc, value)?;
+        let next = next_claim(claim.next_stream_id);
+        Ok(self.take(alloc, &claim.claimed, next, handler)?)
+    }
+
+    /// Takes a value with new entries.
+    fn news<H: Handler>(
+        &mut self,
+        alloc: Global,
+        value: Value,
+        handler: &mut H,
+    ) -> Result<Progress, WorkerError>
+        ensures ok { IfOk result (Went H.with_verdict self.old.settings Asked.News
+            (wire.value (tree value)) (machine_of self.old) (machine_of self.new)
+            (H.history handler.old) (H.history handler.new)) }
+        ensures err { IfErr result (Failed H.with_verdict self.old.settings Asked.News
+            (wire.value (tree value)) (machine_of self.old) (machine_of self.new)
+            (H.history handler.old) (H.history handler.new)) }
+        ensures group { self.new.group_missing ≡ self.old.group_missing }
+        ensures settings { self.new.settings ≡ self.old.settings }
+        ensures asked { self.new.asked ≡ self.old.asked }
+    {
+        let phase = mem::replace(&mut self.phase, Phase::Start);
+        let entries = read_entries(alloc, &self.settings.key, value)?;
+        let next = next_round(self.settings.every, phase);
+        Ok(self.take(alloc, &entries, next, handler)?)
+    }
+
+    /// Hands entries to the handler, and goes on in this phase; where it does not get through them
+    /// it begins again.
+    fn take<H: Handler>(
+        &mut self,
+        alloc: Global,
+        entries: &[Entry],
+        next: Phase,
+        handler: &mut H,
+    ) -> Result<Progress, AllocError>
+        ensures moved { Moved H.with_verdict (all_delivered (map entry_meaning entries.now))
+            (phase_of next) (machine_of self.old) (machine_of self.new)
+            (H.history handler.old) (H.history handler.new) (ending_said result) }
+        ensures group { self.new.group_missing ≡ self.old.group_missing }
+        ensures settings { self.new.settings ≡ self.old.settings }
+        ensures asked { self.new.asked ≡ self.old.asked }
+    {
+        self.phase = Phase::Start;
+        if take_entries(alloc, &mut self.to_commit, entries, handler)? {
+            self.phase = next;
+            Ok(Progress::GoesOn)
+        } else {
+            Ok(Progress::Stopped)
+        }
+    }
+}
+
+/// What an error says of the group that is to be made: true where there is none, false where there
+/// is one now.
+fn group_told(make: MakeGroup, asked: Asked, error: &ServerError) -> Option<bool>
+    ensures { result ≡ missing_by (means make asked error.now.text.items) }
+{
+    match asked {
+        Asked::Nothing | Asked::Acknowledgement => None,
+        Asked::Group => {
+            if error.code() == b"BUSYGROUP".as_slice() {
+                Some(false)
+            } else {
+                None
+            }
+        }
+        Asked::Own | Asked::Claim | Asked::News => {
+            if make != MakeGroup::Never && error.code() == b"NOGROUP".as_slice() {
+                Some(true)
+            } else {
+                None
+            }
+        }
+    }
+}

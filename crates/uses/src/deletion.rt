@@ -1,0 +1,49 @@
+//! What became of entries that XDELEX and XACKDEL were to delete, in the names of `redis`.
+ghost use Rattle.std.specs.Prelude.{◌≡◌, ◌≢◌, ◌↔◌, Some, IfOk, IfErr, IsTrue};
+ghost use Rattle.redis.specs.Words.{tree, xackdel_reading, xackdel_refusal, xdelex_reading};
+ghost use Rattle.redis.specs.Words.{xdelex_refusal};
+ghost use Rattle.redis_streams.specs.declared.status.XDelExStatusCode.TheVariants as deletion;
+ghost use Rattle.redis_streams.specs.declared.status.XAckDelStatusCode.TheVariants as acknowledgement;
+
+use redis::streams::{XAckDelStatusCode, XDelExStatusCode};
+use redis::{ParsingError, Value, from_redis_value};
+use std::alloc::Global;
+
+/// What one code of an answer of XDELEX says. It takes no memory.
+pub fn deletion_of(alloc: Global, code: Value) -> Result<XDelExStatusCode, ParsingError>
+    ensures ok { IfOk result (λ status. xdelex_reading (tree code) ≡ Some status) }
+    ensures err { IfErr result (λ e. e ≡ xdelex_refusal (tree code)) }
+{
+    from_redis_value(alloc, code)
+}
+
+/// What one code of an answer of XACKDEL says. It takes no memory.
+pub fn acknowledgement_of(alloc: Global, code: Value) -> Result<XAckDelStatusCode, ParsingError>
+    ensures ok { IfOk result (λ status. xackdel_reading (tree code) ≡ Some status) }
+    ensures err { IfErr result (λ e. e ≡ xackdel_refusal (tree code)) }
+{
+    from_redis_value(alloc, code)
+}
+
+/// Whether XDELEX left the entry in the stream.
+pub fn is_left(status: &XDelExStatusCode) -> bool
+    ensures { IsTrue result
+        ↔ (status.now ≡ deletion.NotDeletedUnacknowledgedOrStillReferenced) }
+{
+    match status {
+        XDelExStatusCode::IdNotFound => false,
+        XDelExStatusCode::Deleted => false,
+        XDelExStatusCode::NotDeletedUnacknowledgedOrStillReferenced => true,
+    }
+}
+
+/// Whether the entry was pending for the group, so that XACKDEL acknowledged it.
+pub fn was_pending(status: &XAckDelStatusCode) -> bool
+    ensures { IsTrue result ↔ (status.now ≢ acknowledgement.IdNotFound) }
+{
+    match status {
+        XAckDelStatusCode::IdNotFound => false,
+        XAckDelStatusCode::AcknowledgedAndDeleted => true,
+        XAckDelStatusCode::AcknowledgedNotDeletedStillReferenced => true,
+    }
+}
