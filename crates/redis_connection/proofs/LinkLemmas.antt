@@ -4,7 +4,8 @@ use Rattle.std.proofs.KnownBytes.{Consumes-nil, Consumes-trans, Consumes-kept}
 use Rattle.std.proofs.Math.Seq.{take-append_seam}
 use Rattle.std.proofs.lemmas.List.{length-append}
 use Rattle.std.specs.Io.KnownBytes.{Consumes, Keeps, IsAtEnd}
-use Rattle.redis_wire.specs.Decoded.{IsReply, NoReply, IsFirstFault}
+use Rattle.redis_wire.specs.Decoded.{NoReply, IsFirstFault}
+use Rattle.redis_wire.specs.Grammar.{IsReply}
 use Rattle.redis_wire.specs.Next.{Held, NextIs, IsRefused}
 use Rattle.redis_wire.specs.Reply.{Answer, answer}
 use Rattle.redis_wire.specs.declared.fault.Fault.{Fault}

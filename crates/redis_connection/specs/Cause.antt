@@ -24,3 +24,4 @@ write_failure_of write_errors.Full = errors.TooLong
 abbrev pub refusal_of : ReplyError → AskError
 refusal_of (reply_errors.Server e) = ask_errors.Server e
 refusal_of (reply_errors.Parsing e) = ask_errors.Parsing e
+refusal_of reply_errors.NotAnAnswer = ask_errors.NotAnAnswer

@@ -1,7 +1,8 @@
 -- What goes over a connection.
 use Rattle.std.specs.Prelude.{◌≡◌, ◌<◌, ◌⊎◌, ℕ, List, ◌++◌, take, length, Option}
 use Rattle.std.specs.Io.KnownBytes.{Appends, Consumes, IsAtEnd}
-use Rattle.redis_wire.specs.Decoded.{IsReply, NoReply, IsFirstFault}
+use Rattle.redis_wire.specs.Decoded.{NoReply, IsFirstFault}
+use Rattle.redis_wire.specs.Grammar.{IsReply}
 use Rattle.redis_wire.specs.Next.{Held}
 use Rattle.redis_wire.specs.Reply.{Answer}
 use Rattle.redis_wire.specs.declared.fault.Fault.TheVariants.{Overfull}

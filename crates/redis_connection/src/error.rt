@@ -82,6 +82,9 @@ pub enum AskError {
     /// The answer has no record of the type asked for, or memory was refused.
     #[error("{0}")]
     Parsing(ParsingError),
+    /// The reply is no answer of a command, but a message that the server pushed.
+    #[error("no answer of a command")]
+    NotAnAnswer,
 }
 
 impl From<ConnectionError> for AskError {
@@ -103,6 +106,7 @@ impl From<ReplyError> for AskError {
         match error {
             ReplyError::Server(error) => AskError::Server(error),
             ReplyError::Parsing(error) => AskError::Parsing(error),
+            ReplyError::NotAnAnswer => AskError::NotAnAnswer,
         }
     }
 }

@@ -2,14 +2,16 @@
 use Rattle.std.proofs.Common.{◌≡◌, ◌+◌, ◌∙◌, ℕ, zero, suc, List, [], ◌∷◌, ◌++◌, Ok, refl, ap, arith}
 use Rattle.redis_resp.specs.Tree.{Tree}
 use Rattle.redis_wire.specs.Reading.{Read, ◌>>=◌}
-use Rattle.redis_wire.specs.Reply.{Answer, value, refused, Answers, values, first_refused, join, one}
+use Rattle.redis_wire.specs.Reply.{Answer, value, refused, group, pushed, Answers, values, mixed, join, one}
 use Rattle.redis_wire.specs.Group.{many}
 use Rattle.redis_wire.proofs.FitsLemmas.{bind_ok}
 
 joined : (a : Answer) (ms : Answers) (ts : List Tree) → join (one a) ms ≡ values ts → (t : Tree) × (us : List Tree) × (a ≡ value t) × (ms ≡ values us) × (t ∷ us ≡ ts)
 joined (value t) (values us) ts e = (t, us, refl, refl, cc)
-joined (value t) (first_refused x) ts e = absurd cc
+joined (value t) (mixed xs) ts e = absurd cc
 joined (refused x) ms ts e = absurd cc
+joined (group k xs) ms ts e = absurd cc
+joined (pushed k xs) ms ts e = absurd cc
 
 same_read : (r : Read Answers) (a c : Answers) (b d : List ℕ) → r ≡ Ok (a, b) → r ≡ Ok (c, d) → (a ≡ c) × (b ≡ d)
 same_read r a c b d p q =

@@ -1,14 +1,16 @@
 -- Entries that are found are those of a reply.
-use Rattle.std.proofs.Common.{◌≡◌, ◌≤◌, ◌-◌, ◌∙◌, ℕ, zero, suc, List, [], ◌∷◌, map, length, take, drop, Bool, true, false, Ok, refl, sym, ap, subst, arith}
+use Rattle.std.proofs.Common.{◌≡◌, ◌≤◌, ◌-◌, ◌∙◌, ℕ, zero, suc, List, [], ◌∷◌, map, length, take, drop, Bool, true, false, cond, ◌==◌, None, Ok, refl, sym, ap, arith}
 use Rattle.std.specs.List.{AllByRecursion}
 use Rattle.std.specs.Str.{is_utf8}
+use Rattle.std.proofs.lemmas.Bool.{eqb-true}
 use Rattle.std.proofs.lemmas.List.{length-drop}
 use Rattle.redis_resp.specs.Tree.{Tree}
 use Rattle.redis_wire.specs.declared.limits.Limits.{Limits}
-use Rattle.redis_wire.specs.Reply.{value}
-use Rattle.redis_wire.specs.Grammar.{IsValue}
-use Rattle.redis_wire.specs.Level.{value_at}
-use Rattle.redis_wire.specs.Decoded.{IsReply}
+use Rattle.redis_wire.specs.Reply.{Answer, value}
+use Rattle.redis_wire.specs.Kind.{kind_of}
+use Rattle.redis_wire.specs.Level.{by_kind, level, value_at}
+use Rattle.redis_wire.specs.Push.{push_at, reply_at}
+use Rattle.redis_wire.specs.Grammar.{IsReply}
 use Rattle.redis_wire.specs.Place.{IsArrayAt}
 use Rattle.redis_wire.proofs.DecodeLemmas.{complete_sound}
 use Rattle.stream_refs.specs.declared.places.FieldPlace.{FieldPlace}
@@ -54,14 +56,26 @@ pub rows_of : (bytes : List ℕ) (fields : List FieldPlace) (es : List EntryPlac
 rows_of bytes fields [] = refl
 rows_of bytes fields (e ∷ es) = ap (λ (ts : List Tree). row_tree (entry_in bytes fields e) ∷ ts) (rows_of bytes fields es)
 
+-- a value is a whole reply: no value begins with the byte of a message that is pushed
+reads_reply : (limits : Limits) (d : ℕ) (bytes : List ℕ) (x : Answer × List ℕ) → d ≡ limits.depth → value_at limits d bytes ≡ Ok x → reply_at limits bytes ≡ Ok x
+unfolding value_at level by_kind reply_at
+reads_reply limits zero bytes x is e = absurd cc
+reads_reply limits (suc d) bytes x is e = told bytes e
+  where
+    by : (b : ℕ) (bytes : List ℕ) (c : Bool) → (b == 62) ≡ c → level limits (value_at limits d) (b ∷ bytes) ≡ Ok x → cond c (push_at limits bytes) (value_at limits limits.depth (b ∷ bytes)) ≡ Ok x
+    by b bytes true is_push e = let at : b ≡ 62 = eqb-true b 62 is_push in let none : kind_of b ≡ None = ap kind_of at in absurd cc
+    by b bytes false is_none e = ap (λ (n : ℕ). value_at limits n (b ∷ bytes)) (sym is) ∙ e
+
+    told : (bytes : List ℕ) → level limits (value_at limits d) bytes ≡ Ok x → reply_at limits bytes ≡ Ok x
+    told [] e = absurd cc
+    told (b ∷ bytes) e = by b bytes (b == 62) refl e
+
 -- a value that is read in place is a reply
 pub reply_is : (limits : Limits) (d : ℕ) (bytes : List ℕ) (t : Tree) (len : ℕ) → d ≡ limits.depth → len ≤ length bytes → value_at limits d bytes ≡ Ok (value t, drop len bytes) → IsReply limits (take len bytes) (value t)
 reply_is limits d bytes t len is within read =
-    let s = (complete_sound limits d bytes (value t) (drop len bytes) read).1 in
+    let s = (complete_sound limits bytes (value t) (drop len bytes) (reads_reply limits d bytes (value t, drop len bytes) is read)).1 in
     let n : length bytes - length (drop len bytes) ≡ len = omega (arith, length-drop len bytes) in
-    let at : IsValue limits d (take len bytes) (value t) = rw n at s in
-    let P : ℕ → Type 0 = λ k. IsValue limits k (take len bytes) (value t) in
-    subst P is at
+    rw n at s
 
 pub range_is : (limits : Limits) (bytes : List ℕ) (at count len : ℕ) (held : Held) (es : List SentEntry) → 4 ≤ limits.depth
     → IsArrayAt limits bytes 0 count at → EntriesAdded limits bytes at false count len none_held held → es ≡ map (entry_in bytes held.fields) held.entries → IsRange limits bytes es len

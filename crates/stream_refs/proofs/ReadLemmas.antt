@@ -12,7 +12,7 @@ use Rattle.redis_wire.specs.Reading.{Read}
 use Rattle.redis_wire.specs.Reply.{Answer, value, values}
 use Rattle.redis_wire.specs.Group.{many, group_tree}
 use Rattle.redis_wire.specs.Level.{group_body_at, value_at}
-use Rattle.redis_wire.specs.Decoded.{IsReply}
+use Rattle.redis_wire.specs.Grammar.{IsReply}
 use Rattle.redis_wire.specs.Place.{IsArrayAt, IsMapAt, IsNilAt}
 use Rattle.stream_entries.specs.Rows.{joined, standard_entries, entries_reading}
 use Rattle.stream_entries.specs.Read.{Streams, standard_reading, read_reading}

@@ -6,7 +6,7 @@ use Rattle.redis_wire.specs.declared.limits.Limits.{Limits}
 use Rattle.redis_wire.specs.Reply.{value, values}
 use Rattle.redis_wire.specs.Group.{many}
 use Rattle.redis_wire.specs.Level.{value_at}
-use Rattle.redis_wire.specs.Decoded.{IsReply}
+use Rattle.redis_wire.specs.Grammar.{IsReply}
 use Rattle.stream_refs.specs.declared.places.FieldPlace.{FieldPlace}
 use Rattle.stream_refs.specs.declared.places.EntryPlace.{EntryPlace}
 use Rattle.stream_refs.specs.declared.places.StreamPlace.{StreamPlace}

@@ -4,7 +4,8 @@ use Rattle.redis_wire.specs.declared.limits.Limits.{Limits}
 use Rattle.redis_wire.specs.declared.fault.WireError.{WireError}
 use Rattle.redis_wire.specs.declared.fault.WireError.TheVariants as errors
 use Rattle.redis_wire.specs.Reply.{Answer}
-use Rattle.redis_wire.specs.Decoded.{IsReply, NoReply}
+use Rattle.redis_wire.specs.Grammar.{IsReply}
+use Rattle.redis_wire.specs.Decoded.{NoReply}
 use Rattle.redis_wire.specs.Record.{IsRecord}
 use Rattle.stream_entries.specs.EntryMeaning.{entries_of}
 use Rattle.stream_entries.specs.ReadMeaning.{streams_of}

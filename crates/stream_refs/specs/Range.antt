@@ -3,7 +3,7 @@ use Rattle.std.specs.Prelude.{◌≡◌, ◌≤◌, ℕ, List, length, take, map
 use Rattle.redis_resp.specs.Tree.{Tree}
 use Rattle.redis_wire.specs.declared.limits.Limits.{Limits}
 use Rattle.redis_wire.specs.Reply.{value}
-use Rattle.redis_wire.specs.Decoded.{IsReply}
+use Rattle.redis_wire.specs.Grammar.{IsReply}
 use Rattle.stream_entries.specs.Rows.{rows_reading}
 use Rattle.stream_entries.specs.Read.{read_reading}
 use Rattle.stream_refs.specs.Sent.{SentEntry, SentStream, rows_tree, IsReadTree}

@@ -4,17 +4,15 @@ use Rattle.std.proofs.lemmas.Slice.Eq.{bytes_eq-Decides}
 use Rattle.std.specs.Str.{bytes_eq}
 use Rattle.redis_resp.specs.Table.{Fields}
 use Rattle.redis_resp.specs.Tree.{Tree}
-use Rattle.redis_wire.specs.Reply as wire
 use Rattle.stream_group.specs.Worker.{Verdict, done, left_pending, stop, follows, Machine, Entry, Delivered, Answer, Ending, entries_in, handled_one, handled_in, told_one, told_in, after, after_commit}
 use Rattle.stream_group.specs.Group.{Name}
-use Rattle.stream_group.specs.World.{World, Reply, Comes, Commit, Acknowledge, comes, happens, with_one, item}
+use Rattle.stream_group.specs.World.{World, Reply, Comes, Commit, comes, happens, with_one, item}
 use Rattle.stream_worker.specs.Handling.{with_all}
-use Rattle.stream_worker.specs.Answers.{Heard, told, no_group, group_made, hears}
-use Rattle.stream_worker.specs.Answered.{Took, Went, GoesBy}
+use Rattle.stream_worker.specs.Answers.{Heard, told}
+use Rattle.stream_worker.specs.Answered.{Took, GoesBy}
 use Rattle.stream_worker.specs.Gathered.{Doings, done_too, committed_too}
-use Rattle.stream_worker.specs.Machine.{ending_of, commits, at_request, history_at_request}
-use Rattle.stream_worker.specs.Step.{Steps, Asks, AnswersStayInStep, CutsStayInStep, RequestsStayInStep, as_it_asks, doings_in}
-use Rattle.stream_worker.specs.declared.worker.Progress.{Progress}
+use Rattle.stream_worker.specs.Machine.{ending_of, commits}
+use Rattle.stream_worker.specs.Step.{Steps, AnswersStayInStep, CutsStayInStep, RequestsStayInStep, as_it_asks, doings_in}
 
 nothing_behind : {A : Type 0} (xs : List A) → xs ++ [] ≡ xs
 nothing_behind [] = refl

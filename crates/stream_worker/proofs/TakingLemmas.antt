@@ -4,7 +4,7 @@ use Rattle.std.specs.FinMap as fin
 use Rattle.redis_resp.specs.Table.{Fields}
 use Rattle.redis_resp.specs.Tree.{Tree}
 use Rattle.stream_entries.specs.Entry.{Entry}
-use Rattle.stream_group.specs.Worker.{Id, Delivered, Verdict, follows, acks_one, told_one, of_each, acks_in, told_in, Ending, ending, went_through, stopped, cut_off}
+use Rattle.stream_group.specs.Worker.{Id, Delivered, Verdict, follows, acks_one, told_one, of_each, acks_in, told_in, ending, went_through, stopped, cut_off}
 use Rattle.stream_worker.specs.Handling.{with_all}
 use Rattle.std.proofs.lemmas.List.{take_more}
 use Rattle.std.specs.Result.{IsErr}

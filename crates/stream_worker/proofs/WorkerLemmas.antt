@@ -1,24 +1,18 @@
 -- From what an answer says to what a worker did with it.
-use Rattle.std.proofs.Common.{◌≡◌, ◌≢◌, ◌⊎◌, inl, inr, refl, sym, ap, subst, ◌∙◌, ℕ, List, [], ◌∷◌, ◌++◌, Option, Some, None, option_map, string_bytes, Result, Ok, Err}
+use Rattle.std.proofs.Common.{◌≡◌, ◌≢◌, inr, refl, sym, ap, subst, ◌∙◌, ℕ, List, [], ◌∷◌, ◌++◌, Option, Some, None, option_map, string_bytes, Result, Ok, Err}
 use Rattle.std.specs.Result.{IfOk, IfErr, IsErrAnd}
 use Rattle.redis_resp.specs.Number.{unsigned_reading}
-use Rattle.redis_resp.specs.Refusal.{Refuses, RefusesNumber}
 use Rattle.redis_resp.specs.Table.{Fields}
 use Rattle.redis_resp.specs.Tree.{Tree}
-use Rattle.redis_resp.specs.declared.value.error.ParsingError.{ParsingError}
-use Rattle.redis_resp.specs.declared.value.error.ParsingError.TheVariants as parsing
 use Rattle.redis_wire.specs.Reply as wire
 use Rattle.stream_entries.specs.AutoClaim.{AutoClaim, autoclaim_reading}
 use Rattle.stream_entries.specs.Entry.{Entry}
-use Rattle.stream_entries.specs.Read.{read_reading}
-use Rattle.stream_entries.specs.Refusal.{RefusesAutoClaim, RefusesRead}
 use Rattle.stream_group.specs.Worker as machine
 use Rattle.stream_group.specs.Worker.{Id, Delivered, Verdict, Answer, acknowledged, own_pending, taken_over, news, Machine, Ending, cut_off, ending, after, after_own, after_claim, after_news, phase_after, phase_at, still, entries_in, acks_in, begins_again}
-use Rattle.stream_worker.specs.Answered.{Took, Went, WasCut, Failed, MayRefuse, GoesBy}
+use Rattle.stream_worker.specs.Answered.{Took, Went, Failed}
 use Rattle.stream_worker.specs.Answers.{Heard, told, no_group, group_made, means, says, entries_read}
-use Rattle.stream_worker.specs.Errors.{read_error}
 use Rattle.stream_worker.specs.Machine.{Moved, ending_of}
-use Rattle.stream_worker.specs.Parts.{Unread, IsOther, NotRead, IsAcknowledged, IsOfGroup, IsRefused}
+use Rattle.stream_worker.specs.Parts.{IsAcknowledged, IsOfGroup, IsRefused}
 use Rattle.stream_worker.specs.Taking.{all_delivered}
 use Rattle.stream_worker.specs.declared.error.WorkerError.{WorkerError}
 use Rattle.stream_worker.specs.declared.error.WorkerError.TheVariants as causes
@@ -26,7 +20,7 @@ use Rattle.stream_worker.specs.declared.state.Asked.{Asked}
 use Rattle.stream_worker.specs.declared.state.Asked.TheVariants as asked
 use Rattle.stream_worker.specs.declared.state.Settings.{Settings}
 use Rattle.stream_worker.specs.declared.worker.Progress.{Progress}
-use Rattle.stream_worker.specs.declared.worker.Progress.TheVariants.{GoesOn, Stopped}
+use Rattle.stream_worker.specs.declared.worker.Progress.TheVariants.{GoesOn}
 
 -- what was moved is what the answer does to the machine
 took : {R : Type 0} (with_verdict : R → List ℕ × Fields Tree → Verdict → R) (answer : Answer (Fields Tree)) (next : machine.Phase) (m n : Machine) (r s : R) (how : Ending)

@@ -1,5 +1,5 @@
 -- What an answer does to a worker.
-use Rattle.std.specs.Prelude.{◌≡◌, ◌≢◌, ◌⊎◌, ℕ, List, Option, Some, None}
+use Rattle.std.specs.Prelude.{◌≡◌, ◌≢◌, ◌⊎◌, ℕ, List, Some, None}
 use Rattle.redis_resp.specs.Number.{unsigned_reading}
 use Rattle.redis_resp.specs.Refusal.{Refuses, RefusesNumber}
 use Rattle.redis_resp.specs.Table.{Fields}
@@ -11,7 +11,6 @@ use Rattle.stream_entries.specs.Read.{read_reading}
 use Rattle.stream_entries.specs.Refusal.{RefusesAutoClaim, RefusesRead}
 use Rattle.stream_group.specs.Worker.{Verdict, Machine, Answer, Ending, cut_off, ending, entries_in, told_in, after, begins_again}
 use Rattle.stream_worker.specs.Answers.{Heard, told, no_group, group_made, hears}
-use Rattle.stream_worker.specs.Errors.{read_error}
 use Rattle.stream_worker.specs.Handling.{with_all}
 use Rattle.stream_worker.specs.Machine.{ending_of}
 use Rattle.stream_worker.specs.declared.error.WorkerError.{WorkerError}

@@ -1,5 +1,5 @@
 -- What a worker does where it asks nothing.
-use Rattle.std.specs.Prelude.{◌≡◌, Bool, true}
+use Rattle.std.specs.Prelude.{◌≡◌, true}
 use Rattle.stream_group.specs.Worker.{Machine}
 use Rattle.stream_worker.specs.Machine.{commits, at_request, history_at_request}
 use Rattle.stream_worker.specs.declared.error.RequestError.{RequestError}

@@ -1,9 +1,9 @@
 -- A worker of the code beside the worker of the model.
-use Rattle.std.specs.Prelude.{◌≡◌, ℕ, Bool, true, List, [], ◌∷◌, ◌++◌, Some, if◌then◌else◌}
+use Rattle.std.specs.Prelude.{◌≡◌, ℕ, List, ◌∷◌, Some, if◌then◌else◌}
 use Rattle.redis_resp.specs.Table.{Fields}
 use Rattle.redis_resp.specs.Tree.{Tree}
 use Rattle.redis_wire.specs.Reply as wire
-use Rattle.stream_group.specs.Worker.{Verdict, Machine, entries_in, handled_in}
+use Rattle.stream_group.specs.Worker.{Verdict, Machine}
 use Rattle.stream_group.specs.Group.{Name}
 use Rattle.stream_group.specs.World.{World, Reply, Comes, Commit, Acknowledge, item, happens}
 use Rattle.stream_worker.specs.Answers.{hears, told}

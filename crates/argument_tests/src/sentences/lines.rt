@@ -1,4 +1,6 @@
 //! Lines, and readers and writers that fail.
+ghost use Rattle.std.specs.Prelude.{◌≡◌, IfOk};
+
 use std::alloc::{AllocError, Global};
 use std::io::{self, ErrorKind, Read, Write};
 use std::process::Abort;
@@ -76,7 +78,9 @@ struct Page {
 
 impl Page {
     // The answer of a page without room, which has room from then on where it says so.
-    fn write_without_room(&mut self) -> io::Result<usize> {
+    fn write_without_room(&mut self) -> io::Result<usize>
+        ensures { IfOk result (λ count. count ≡ 0) }
+    {
         match self.full {
             Full::Fails => Err(io::Error::from(ErrorKind::Interrupted)),
             Full::TakesNone => Ok(0),

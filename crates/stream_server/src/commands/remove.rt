@@ -112,11 +112,6 @@ pub(super) fn set_id(streams: &mut [Stream], arguments: &[Vec<u8>]) -> Result<An
         return Err(Refusal::Fixed("ERR no such key"));
     };
     let stream = &streams[index];
-    if state.last_id < stream.max_deleted_id {
-        return Err(Refusal::Fixed(
-            "ERR The ID specified in XSETID is smaller than current max_deleted_entry_id",
-        ));
-    }
     if let Some(entry) = stream.entries.back() {
         if state.last_id < entry.id {
             return Err(Refusal::Fixed(
@@ -170,7 +165,11 @@ fn state_in(last: &[u8], options: &[Vec<u8>]) -> Result<NewState, Refusal> {
                                 provided max_deleted_entry_id",
                     ));
                 }
-                state.max_deleted_id = Some(deleted);
+                state.max_deleted_id = if deleted == EntryId::ZERO {
+                    None
+                } else {
+                    Some(deleted)
+                };
                 rest = behind;
             }
             _ => return Err(SYNTAX),
