@@ -70,8 +70,9 @@ unfoldable pub use Rattle.redis_wire.specs.Packed.{command_bytes}
 pub use Rattle.redis_wire.specs.PackedArgs.{IsPacked, IsTooLarge, MayRefuse as MayRefusePacked}
 unfoldable pub use Rattle.redis_wire.specs.PackedArgs.{args_in}
 pub use Rattle.redis_wire.specs.Place.{IsArrayAt, IsIntAt, IsMapAt, IsNilAt, IsTextAt}
-pub use Rattle.redis_wire.specs.Record.{IsRecord}
-pub use Rattle.redis_wire.specs.Reply.{Answer, Answers, answer, code_of, message_of, refused, value}
+pub use Rattle.redis_wire.specs.Record.{IsErrorOf, IsRecord}
+pub use Rattle.redis_wire.specs.Reply.{Answer, Answers, answer, code_of, first_error, group, message_of, pushed}
+pub use Rattle.redis_wire.specs.Reply.{refused, value}
 pub use Rattle.stream_commands.specs.Fields.{AreFields, fields_joined, one_field}
 pub use Rattle.stream_commands.specs.JustId.{JustId, RefusesJustId, empty_justid, justid_reading}
 pub use Rattle.stream_commands.specs.JustIdMeaning.{justid_meaning}

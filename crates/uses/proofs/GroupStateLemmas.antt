@@ -1,5 +1,5 @@
 -- The oldest of pending entries.
-use Rattle.std.proofs.Common.{◌≡◌, ℕ, List, [], ◌∷◌, Option, Some, None, map, length, refl, arith}
+use Rattle.std.proofs.Common.{◌≡◌, ℕ, List, [], ◌∷◌, Some, None, map, length, refl, arith}
 use Rattle.redis.specs.Words.{full_pending_meaning}
 use Rattle.redis_streams.specs.declared.info.full.pending.StreamInfoFullPending.{StreamInfoFullPending}
 use Rattle.uses.specs.GroupState.{longest_in, oldest_in}

@@ -1,12 +1,12 @@
 -- What the bytes of a reply answer.
 use Rattle.std.specs.Prelude.{◌≡◌, ℕ, List, ◌++◌, Some, None, Result, Ok, Err}
 use Rattle.redis.specs.Words.{Answer, IsFirstFault, IsReply, NoReply, Tree, default_limits}
-use Rattle.redis.specs.Words.{read_reading, refused, streams_of, value}
+use Rattle.redis.specs.Words.{first_error, read_reading, streams_of, value}
 use Rattle.redis_resp.specs.declared.value.error.ParsingError.TheVariants.{UnknownReadFormat}
 use Rattle.stream_entries.specs.declared.read.StreamReadReply.{StreamReadReply}
 use Rattle.redis_wire.specs.declared.fault.WireError.TheVariants as errors
 use Rattle.uses.specs.declared.wire.AnswerError.{AnswerError}
-use Rattle.uses.specs.declared.wire.AnswerError.TheVariants.{Fault, Incomplete, Memory, Parsing, Server}
+use Rattle.uses.specs.declared.wire.AnswerError.TheVariants.{Fault, Incomplete, Memory, NotAnAnswer, Parsing, Server}
 
 -- a reply stands at the head of the bytes, and says this
 pub record BeginsWith (bytes : List ℕ) (a : Answer) : Type 0 where
@@ -15,19 +15,25 @@ pub record BeginsWith (bytes : List ℕ) (a : Answer) : Type 0 where
   pub head : bytes ≡ text ++ rest
   pub reply : IsReply default_limits text a
 
--- the record of a value, or that it has none, or the server's error; or memory ran out
+-- the record of a value, or that it has none; of what is no value its first error, or that it has
+-- none; or memory ran out
 abbrev pub Answers : Answer → Result StreamReadReply AnswerError → Type 0
+Answers a (Err Memory) = Unit {0}
+Answers a (Err (Server e)) = first_error a ≡ Some e.text.items
 Answers (value t) (Ok r) = read_reading t ≡ Some (streams_of r.keys)
 Answers (value t) (Err (Parsing e)) = read_reading t ≡ None
-Answers (refused text) (Err (Server e)) = e.text.items ≡ text
-Answers a (Err Memory) = Unit {0}
+Answers (value t) r = ⊥
+Answers a (Err NotAnAnswer) = first_error a ≡ None
 Answers a r = ⊥
 
--- a value stands at the head, or an error; or no reply does, or none ever will; or memory ran out
+-- a value stands at the head, or an answer with an error in it, or what is no answer; or no reply
+-- does, or none ever will; or memory ran out
 abbrev pub Tells : List ℕ → Result StreamReadReply AnswerError → Type 0
 Tells bytes (Ok r) = (t : Tree) × BeginsWith bytes (value t)
 Tells bytes (Err (Parsing e)) = (t : Tree) × BeginsWith bytes (value t)
-Tells bytes (Err (Server e)) = BeginsWith bytes (refused e.text.items)
+Tells bytes (Err (Server e)) =
+    (a : Answer) × BeginsWith bytes a × (first_error a ≡ Some e.text.items)
+Tells bytes (Err NotAnAnswer) = (a : Answer) × BeginsWith bytes a × (first_error a ≡ None)
 Tells bytes (Err Incomplete) = NoReply default_limits bytes
 Tells bytes (Err (Fault f)) = (more : List ℕ) → NoReply default_limits (bytes ++ more)
 Tells bytes (Err Memory) = Unit {0}

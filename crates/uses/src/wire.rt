@@ -22,6 +22,9 @@ pub enum AnswerError {
     /// The server answered an error.
     #[error("an error of the server")]
     Server(ServerError),
+    /// The reply is a message that was pushed, or its only errors stand inside attributes.
+    #[error("no answer of a command")]
+    NotAnAnswer,
     /// The reply is not what XREADGROUP answers.
     #[error("{0}")]
     Parsing(ParsingError),
@@ -40,6 +43,7 @@ pub fn streams_answered(alloc: Global, bytes: &[u8]) -> Result<StreamReadReply, 
         Ok(Decoded::Complete { reply, .. }) => match from_reply(alloc, reply) {
             Ok(streams) => Ok(streams),
             Err(ReplyError::Server(error)) => Err(AnswerError::Server(error)),
+            Err(ReplyError::NotAnAnswer) => Err(AnswerError::NotAnAnswer),
             Err(ReplyError::Parsing(ParsingError::Memory)) => Err(AnswerError::Memory),
             Err(ReplyError::Parsing(error)) => Err(AnswerError::Parsing(error)),
         },

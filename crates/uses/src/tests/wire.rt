@@ -52,6 +52,7 @@ fn assert_told(rt: &(impl Abort + AllocGlobal), bytes: &[u8], told: &str) -> Res
         Err(AnswerError::Fault(Fault::UnknownType)) => "unknown type",
         Err(AnswerError::Parsing(ParsingError::UnknownReadFormat)) => "no streams",
         Err(AnswerError::Server(error)) => str::from_utf8(error.code())?,
+        Err(AnswerError::NotAnAnswer) => "no answer",
         _ => "another answer",
     };
     assert!(rt; error == told, "{answered:?}");
@@ -63,5 +64,15 @@ fn bytes_without_streams_are_told_apart(rt: HostRuntime) -> Result<(), Fail> {
     assert_told(&rt, b"*1\r\n*2\r\n$1\r\n".as_slice(), "incomplete")?;
     assert_told(&rt, b"*1\r\n?".as_slice(), "unknown type")?;
     assert_told(&rt, b":1\r\n".as_slice(), "no streams")?;
-    assert_told(&rt, b"-NOGROUP No such key 's'\r\n".as_slice(), "NOGROUP")
+    assert_told(&rt, b"-NOGROUP No such key 's'\r\n".as_slice(), "NOGROUP")?;
+    assert_told(
+        &rt,
+        b"*2\r\n$3\r\n1-1\r\n-OOM no memory left\r\n".as_slice(),
+        "OOM",
+    )?;
+    assert_told(
+        &rt,
+        b">2\r\n$7\r\nmessage\r\n:1\r\n".as_slice(),
+        "no answer",
+    )
 }
