@@ -1,6 +1,6 @@
 -- How a text stands in a line.
-use Rattle.std.specs.Prelude.{ℕ, List, [], ◌∷◌, if◌then◌else◌, ◌==◌}
-use Rattle.std.specs.List.{flat_map}
+use Rattle.std.specs.Prelude.{◌≡◌, ◌≢◌, ℕ, List, [], ◌∷◌, if◌then◌else◌, ◌==◌}
+use Rattle.std.specs.List.{flat_map, AllByRecursion}
 
 -- a backslash, a tab, a line feed and a carriage return as `\\`, `\t`, `\n` and `\r`; other bytes as they are
 abbrev pub escaped_byte : ℕ → List ℕ
@@ -14,3 +14,25 @@ escaped_byte b =
 -- a text, byte by byte
 abbrev pub escaped : List ℕ → List ℕ
 escaped text = flat_map escaped_byte text
+
+-- the byte that stands behind a backslash
+abbrev pub byte_of : ℕ → ℕ
+byte_of c = if c == 116 then 9 else if c == 110 then 10 else if c == 114 then 13 else c
+
+-- a text out of a line
+abbrev pub unescaped : List ℕ → List ℕ
+unescaped [] = []
+unescaped (b ∷ []) = b ∷ []
+unescaped (b ∷ c ∷ rest) = if b == 92 then byte_of c ∷ unescaped rest else b ∷ unescaped (c ∷ rest)
+
+-- neither a tab nor an end of a line
+abbrev pub IsPlain : ℕ → Type 0
+IsPlain b = (b ≢ 9) × (b ≢ 10) × (b ≢ 13)
+
+-- a text comes back out of its line
+abbrev pub TextsComeBack : Type 0
+TextsComeBack = (text : List ℕ) → unescaped (escaped text) ≡ text
+
+-- no text has a tab or an end of a line in it once it is escaped
+abbrev pub TextsArePlain : Type 0
+TextsArePlain = (text : List ℕ) → AllByRecursion IsPlain (escaped text)

@@ -12,6 +12,7 @@
 mod device;
 mod error;
 mod escape;
+pub mod laws;
 mod log;
 mod memory;
 mod opening;
