@@ -5,7 +5,8 @@ use std::test::Fail;
 use stream_refs::{EntryTape, FieldError, StreamIdParts};
 
 /// An entry with numbers at the ends of their types, and with values that are none.
-const NUMBERS: &[u8] = b"*1\r\n*2\r\n$3\r\n1-0\r\n*14\r\n$1\r\na\r\n$20\r\n18446744073709551615\r\n$1\r\nb\r\n$20\r\n18446744073709551616\r\n$1\r\nc\r\n$20\r\n-9223372036854775808\r\n$1\r\nd\r\n$2\r\n+7\r\n$1\r\ne\r\n$0\r\n\r\n$1\r\nf\r\n$1\r\n\xff\r\n$1\r\ng\r\n$3\r\n007\r\n";
+const NUMBERS: &[u8] =
+    b"*1\r\n*2\r\n$3\r\n1-0\r\n*14\r\n$1\r\na\r\n$20\r\n18446744073709551615\r\n$1\r\nb\r\n$20\r\n18446744073709551616\r\n$1\r\nc\r\n$20\r\n-9223372036854775808\r\n$1\r\nd\r\n$2\r\n+7\r\n$1\r\ne\r\n$0\r\n\r\n$1\r\nf\r\n$1\r\n\xff\r\n$1\r\ng\r\n$3\r\n007\r\n";
 
 /// What the field of each name is as a `u64`, as an `i64` and as text.
 type Numbers = [(
