@@ -3,3 +3,5 @@
 
 #[cfg(test)]
 mod in_place;
+#[cfg(test)]
+mod numbers;

@@ -4,7 +4,7 @@ use Rattle.std.specs.List.{AllByRecursion}
 use Rattle.std.specs.Str.{is_utf8}
 use Rattle.std.proofs.lemmas.List.{drop-append-le, take-append-le, length-append, length-drop, take_all}
 use Rattle.std.proofs.Math.Seq.{drop-append_seam}
-use Rattle.redis_resp.specs.Tree.{Tree, bulk, array, trees, int}
+use Rattle.redis_resp.specs.Tree.{Tree, bulk, array, trees}
 use Rattle.redis_wire.specs.declared.limits.Limits.{Limits}
 use Rattle.redis_wire.specs.declared.kind.GroupKind.TheVariants.{Array}
 use Rattle.redis_wire.specs.declared.place.Span.{Span}
@@ -17,9 +17,9 @@ use Rattle.stream_entries.proofs.SkeletonLemmas.{all_append, all_more}
 use Rattle.stream_refs.specs.declared.places.FieldPlace.{FieldPlace}
 use Rattle.stream_refs.specs.declared.places.EntryPlace.{EntryPlace}
 use Rattle.stream_refs.specs.Held.{Held}
-use Rattle.stream_refs.specs.Sent.{Pairs, SentEntry, members_of, fields_tree, delivery_trees, row_tree}
+use Rattle.stream_refs.specs.Sent.{Pairs, SentEntry, members_of, row_tree}
 use Rattle.stream_refs.specs.Placed.{field_in, fields_if, delivery_if, own_fields, entry_in, IsField, IsEntry}
-use Rattle.stream_refs.specs.Added.{FieldsGrown, FieldsAdded, OwnAdded, delivery_count, row_count, IsDeliveryAt, EntryAdded, Grown, EntriesAdded}
+use Rattle.stream_refs.specs.Added.{FieldsAdded, OwnAdded, delivery_count, row_count, IsDeliveryAt, EntryAdded, EntriesAdded}
 use Rattle.stream_refs.proofs.ManyLemmas.{no_more, many_first, many_append}
 
 -- the members of an array

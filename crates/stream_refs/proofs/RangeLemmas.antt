@@ -18,7 +18,7 @@ use Rattle.stream_refs.specs.declared.places.EntryPlace.{EntryPlace}
 use Rattle.stream_refs.specs.Held.{Held, none_held}
 use Rattle.stream_refs.specs.Sent.{Pairs, SentEntry, row_tree, rows_tree, AreTextFields, IsTextEntry, IsStandard}
 use Rattle.stream_refs.specs.Placed.{field_in, fields_if, delivery_if, own_fields, entry_in, IsField, IsEntry}
-use Rattle.stream_refs.specs.Added.{Grown, EntriesAdded}
+use Rattle.stream_refs.specs.Added.{EntriesAdded}
 use Rattle.stream_refs.specs.Range.{IsRange}
 use Rattle.stream_refs.proofs.FillLemmas.{array_of}
 use Rattle.stream_refs.proofs.RowLemmas.{range_read}

@@ -1,7 +1,6 @@
 -- Streams that are found are those of a reply.
-use Rattle.std.proofs.Common.{◌≡◌, ◌≤◌, ◌-◌, ◌*◌, ◌∙◌, ℕ, suc, List, [], ◌∷◌, ◌++◌, map, flat_map, length, take, drop, Bool, true, false, Option, Some, None, Ok, refl, sym, ap, arith}
+use Rattle.std.proofs.Common.{◌≡◌, ◌≤◌, ◌-◌, ◌*◌, ◌∙◌, ℕ, suc, List, [], ◌∷◌, map, flat_map, length, drop, Bool, true, false, Some, Ok, refl, ap, arith}
 use Rattle.std.specs.List.{AllByRecursion}
-use Rattle.std.specs.Str.{is_utf8}
 use Rattle.redis_resp.specs.Tree.{Tree, nil, int, bulk, array, simple, okay, map_of_pairs, attribute, set, boolean, verbatim, push, trees, pairs, single, two_by_two}
 use Rattle.redis_resp.specs.Reading.{traverse}
 use Rattle.redis_resp.specs.Table.{table_reading}
@@ -12,18 +11,17 @@ use Rattle.redis_wire.specs.Reading.{Read}
 use Rattle.redis_wire.specs.Reply.{Answer, value, values}
 use Rattle.redis_wire.specs.Group.{many, group_tree}
 use Rattle.redis_wire.specs.Level.{group_body_at, value_at}
-use Rattle.redis_wire.specs.Grammar.{IsReply}
 use Rattle.redis_wire.specs.Place.{IsArrayAt, IsMapAt, IsNilAt}
 use Rattle.stream_entries.specs.Rows.{joined, standard_entries, entries_reading}
-use Rattle.stream_entries.specs.Read.{Streams, standard_reading, read_reading}
+use Rattle.stream_entries.specs.Read.{Streams, standard_reading}
 use Rattle.stream_refs.specs.declared.places.FieldPlace.{FieldPlace}
 use Rattle.stream_refs.specs.declared.places.EntryPlace.{EntryPlace}
 use Rattle.stream_refs.specs.declared.places.StreamPlace.{StreamPlace}
 use Rattle.stream_refs.specs.Held.{Held, none_held}
-use Rattle.stream_refs.specs.Sent.{SentEntry, SentStream, rows_tree, stream_tree, stream_pair, IsReadTree, IsTextEntry, IsTextStream, IsStandard}
+use Rattle.stream_refs.specs.Sent.{SentStream, stream_tree, stream_pair, IsReadTree, IsTextStream, IsStandard}
 use Rattle.stream_refs.specs.Copied.{copied, copied_streams}
-use Rattle.stream_refs.specs.Placed.{entry_in, own_entries, stream_in, IsField, IsEntry, IsStream}
-use Rattle.stream_refs.specs.Added.{stream_members, stream_count, AreWithin, StreamsAdded, IsFilled}
+use Rattle.stream_refs.specs.Placed.{own_entries, stream_in, IsField, IsEntry, IsStream}
+use Rattle.stream_refs.specs.Added.{stream_members, StreamsAdded, IsFilled}
 use Rattle.stream_refs.specs.Range.{IsRead}
 use Rattle.stream_refs.proofs.FillLemmas.{array_of}
 use Rattle.stream_refs.proofs.RangeLemmas.{all_taken, all_dropped, texts_told, standard_told, reply_is}

@@ -1,11 +1,11 @@
 -- What rows that servers send read as.
-use Rattle.std.proofs.Common.{◌≡◌, List, ℕ, [], ◌∷◌, map, true, Option, Some, None, refl, ap, sym}
+use Rattle.std.proofs.Common.{◌≡◌, List, ℕ, [], ◌∷◌, map, true, Option, Some, None, refl, ap}
 use Rattle.std.specs.List.{AllByRecursion}
 use Rattle.std.specs.Str.{is_utf8}
 use Rattle.std.specs.FinMap.{from_entries}
-use Rattle.redis_resp.specs.Tree.{Tree, bulk, array, trees, two_by_two}
+use Rattle.redis_resp.specs.Tree.{bulk, two_by_two}
 use Rattle.redis_resp.specs.Reading.{traverse}
-use Rattle.redis_resp.specs.Table.{entry_reading, table_reading, table_of, on_values}
+use Rattle.redis_resp.specs.Table.{entry_reading, table_of, on_values}
 use Rattle.redis_resp.proofs.TreeLemmas.{listed_trees}
 use Rattle.stream_entries.specs.Entry.{Entry}
 use Rattle.stream_entries.specs.Rows.{joined, field_reading, standard_entries, entries_reading, rows_reading}

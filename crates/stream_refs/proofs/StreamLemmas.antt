@@ -16,11 +16,11 @@ use Rattle.stream_refs.specs.declared.places.FieldPlace.{FieldPlace}
 use Rattle.stream_refs.specs.declared.places.EntryPlace.{EntryPlace}
 use Rattle.stream_refs.specs.declared.places.StreamPlace.{StreamPlace}
 use Rattle.stream_refs.specs.Held.{Held, none_held}
-use Rattle.stream_refs.specs.Sent.{SentEntry, SentStream, row_tree, rows_tree, stream_tree}
+use Rattle.stream_refs.specs.Sent.{SentEntry, SentStream, rows_tree, stream_tree}
 use Rattle.stream_refs.specs.Placed.{entry_in, own_entries, stream_in, IsField, IsEntry, IsStream}
-use Rattle.stream_refs.specs.Added.{Grown, EntriesAdded, stream_members, stream_count, IsStreamHead, StreamAdded, AreWithin, StreamsAdded}
+use Rattle.stream_refs.specs.Added.{EntriesAdded, stream_members, stream_count, IsStreamHead, StreamAdded, StreamsAdded}
 use Rattle.stream_refs.proofs.ManyLemmas.{no_more, many_first, many_append}
-use Rattle.stream_refs.proofs.FillLemmas.{array_of, map_more, entry_kept, more_within, with_entries}
+use Rattle.stream_refs.proofs.FillLemmas.{array_of, map_more, entry_kept, more_within}
 use Rattle.stream_refs.proofs.RangeLemmas.{rows_of, all_taken, all_dropped}
 
 own_new : (old more new : List EntryPlace) → new ≡ old ++ more → take (length new - length old) (drop (length old) new) ≡ more

@@ -1,5 +1,5 @@
 -- What the filling of tables finds and adds. `d` is any number of levels behind those needed.
-use Rattle.std.specs.Prelude.{◌≡◌, ◌≤◌, ◌*◌, ℕ, suc, List, [], ◌∷◌, ◌++◌, map, flat_map, length, take, drop, Bool, true, false, Ok, if◌then◌else◌}
+use Rattle.std.specs.Prelude.{◌≡◌, ◌≤◌, ◌*◌, ℕ, suc, List, [], ◌∷◌, ◌++◌, map, flat_map, length, take, drop, Bool, Ok, if◌then◌else◌}
 use Rattle.std.specs.List.{AllByRecursion}
 use Rattle.redis_resp.specs.Tree.{Tree, bulk}
 use Rattle.redis_wire.specs.declared.limits.Limits.{Limits}

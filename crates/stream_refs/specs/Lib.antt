@@ -5,3 +5,5 @@ pub mod Range
 pub mod Placed
 pub mod Added
 pub mod Outcome
+pub mod FieldValue
+pub mod IdParts

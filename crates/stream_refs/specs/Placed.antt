@@ -1,5 +1,5 @@
 -- What stands at places, and which places are within the bytes.
-use Rattle.std.specs.Prelude.{◌≡◌, ◌≤◌, ◌-◌, ℕ, List, map, length, take, drop, Bool, true, Option, Some, None, if◌then◌else◌}
+use Rattle.std.specs.Prelude.{◌≡◌, ◌≤◌, ◌-◌, ℕ, List, map, take, drop, Bool, true, Option, Some, None, if◌then◌else◌}
 use Rattle.std.specs.Str.{is_utf8}
 use Rattle.redis_wire.specs.Place.{text_in, IsSpan}
 use Rattle.stream_refs.specs.declared.places.FieldPlace.{FieldPlace}

@@ -1,10 +1,12 @@
 //! An entry, where it stands.
-ghost use Rattle.std.specs.Prelude.{◌≡◌, [], option_map};
+ghost use Rattle.std.specs.Prelude.{◌≡◌, [], Ok, Err, MatchResult, option_map};
 ghost use Rattle.redis_resp.specs.Table.{last_with};
 ghost use Rattle.stream_refs.specs.Sent.{is_none};
 ghost use Rattle.stream_refs.specs.Copied.{pairs_or_none};
 ghost use Rattle.stream_refs.specs.Placed.{fields_if};
+ghost use Rattle.stream_refs.specs.FieldValue.{text_value, unsigned_value, signed_value};
 
+use crate::field_value::{FieldError, i64_of, str_of, u64_of};
 use crate::fields::FieldsRef;
 use std::marker::Model;
 
@@ -75,6 +77,31 @@ impl<'a> EntryRef<'a> {
         } else {
             self.fields.get(name)
         }
+    }
+
+    /// The value of the last field of that name as text.
+    pub fn get_str(&self, name: &[u8]) -> Result<&'a str, FieldError>
+        ensures { MatchResult result
+            (λ t. text_value (last_with name.now (pairs_or_none self.now.fields)) ≡ Ok t.now)
+            (λ e. text_value (last_with name.now (pairs_or_none self.now.fields)) ≡ Err e) }
+    {
+        str_of(self.get(name))
+    }
+
+    /// The value of the last field of that name as a number: digits behind one `+` or none, within
+    /// 64 bits.
+    pub fn get_u64(&self, name: &[u8]) -> Result<u64, FieldError>
+        ensures { result ≡ unsigned_value (last_with name.now (pairs_or_none self.now.fields)) }
+    {
+        u64_of(self.get(name))
+    }
+
+    /// The value of the last field of that name as a number: digits behind one sign or none, that
+    /// fit an `i64`.
+    pub fn get_i64(&self, name: &[u8]) -> Result<i64, FieldError>
+        ensures { result ≡ signed_value (last_with name.now (pairs_or_none self.now.fields)) }
+    {
+        i64_of(self.get(name))
     }
 
     /// When and how often the entry was delivered, where the reply says so.

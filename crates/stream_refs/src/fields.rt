@@ -1,9 +1,11 @@
 //! The fields of an entry, where they stand.
-ghost use Rattle.std.specs.Prelude.{◌≡◌, ◌∷◌, [], length, map, nat_eq, MatchOption, option_map};
+ghost use Rattle.std.specs.Prelude.{◌≡◌, ◌∷◌, [], length, map, nat_eq, MatchOption, MatchResult, Ok, Err, option_map};
 ghost use Rattle.redis_resp.specs.Table.{last_with};
 ghost use Rattle.std.specs.List.{AllByRecursion};
 ghost use Rattle.stream_refs.specs.Placed.{field_in, IsField};
+ghost use Rattle.stream_refs.specs.FieldValue.{text_value, unsigned_value, signed_value};
 
+use crate::field_value::{FieldError, i64_of, str_of, u64_of};
 use crate::places::FieldPlace;
 use crate::rows::text_in;
 use std::marker::Model;
@@ -55,6 +57,30 @@ impl<'a> FieldsRef<'a> {
             }
         }
         found
+    }
+
+    /// The value of the last field of that name as text.
+    pub fn get_str(&self, name: &[u8]) -> Result<&'a str, FieldError>
+        ensures { MatchResult result (λ t. text_value (last_with name.now self.now) ≡ Ok t.now)
+            (λ e. text_value (last_with name.now self.now) ≡ Err e) }
+    {
+        str_of(self.get(name))
+    }
+
+    /// The value of the last field of that name as a number: digits behind one `+` or none, within
+    /// 64 bits.
+    pub fn get_u64(&self, name: &[u8]) -> Result<u64, FieldError>
+        ensures { result ≡ unsigned_value (last_with name.now self.now) }
+    {
+        u64_of(self.get(name))
+    }
+
+    /// The value of the last field of that name as a number: digits behind one sign or none, that
+    /// fit an `i64`.
+    pub fn get_i64(&self, name: &[u8]) -> Result<i64, FieldError>
+        ensures { result ≡ signed_value (last_with name.now self.now) }
+    {
+        i64_of(self.get(name))
     }
 
     /// The same fields again, from the first one that is left.

@@ -4,8 +4,10 @@
 
 mod entry;
 mod entry_list;
+mod field_value;
 mod fields;
 mod find;
+mod id_parts;
 mod outcome;
 mod places;
 mod room;
@@ -16,8 +18,10 @@ mod tape;
 
 pub use entry::{Delivery, EntryRef};
 pub use entry_list::{EntriesRef, RangeRef};
+pub use field_value::FieldError;
 pub use fields::FieldsRef;
 pub use find::{find_range, find_streams};
+pub use id_parts::StreamIdParts;
 pub use outcome::{RangeOutcome, ReadOutcome, read_any_range, read_any_streams};
 pub use places::{EntryPlace, FieldPlace, StreamPlace};
 pub use room::{EntryTables, Full, Places};

@@ -19,7 +19,7 @@ pub fn text_in(bytes: &[u8], span: Span) -> &[u8]
 }
 
 /// Whether bytes are UTF-8.
-fn is_text(bytes: &[u8]) -> bool
+pub fn is_text(bytes: &[u8]) -> bool
     ensures { result ≡ is_utf8 bytes.now }
 {
     if bytes.is_ascii() {

@@ -1,4 +1,4 @@
-use Rattle.std.proofs.Common.{◌≡◌, ◌≤◌, arith, map, false, refl}
+use Rattle.std.proofs.Common.{◌≤◌, arith, map, false, refl}
 use Rattle.stream_refs.specs.Held.{none_held}
 use Rattle.stream_refs.specs.Placed.{entry_in}
 use Rattle.stream_refs.specs.Added.{EntriesAdded}

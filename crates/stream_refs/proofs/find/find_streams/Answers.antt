@@ -1,4 +1,4 @@
-use Rattle.std.proofs.Common.{◌≡◌, map, false, refl}
+use Rattle.std.proofs.Common.{map, false, refl}
 use Rattle.stream_refs.specs.Placed.{stream_in}
 use Rattle.stream_refs.specs.Added.{IsFilled}
 use Rattle.stream_refs.proofs.ReadLemmas.{read_is}
