@@ -130,7 +130,9 @@ pub use Rattle.stream_options.specs.TrimCalls.{final_trim}
 pub use Rattle.stream_options.specs.View.{idempotency_of, maxlen_of, mode_of, nack_of, policy_of, strategy_of}
 pub use Rattle.stream_options.specs.Words.{IsFree, among}
 pub use Rattle.stream_refs.specs.Copied.{pairs_or_none}
+pub use Rattle.stream_refs.specs.FieldValue.{signed_value, text_value, unsigned_value}
 pub use Rattle.stream_refs.specs.Held.{Held as HeldPlaces, none_held}
+pub use Rattle.stream_refs.specs.IdParts.{behind_text, id_in, id_number, id_text}
 pub use Rattle.stream_refs.specs.Outcome.{IsRangeOutcome, IsReadOutcome}
 pub use Rattle.stream_refs.specs.Placed.{IsEntry, IsField, IsStream, entry_in, field_in, fields_if, stream_in}
 pub use Rattle.stream_refs.specs.Range.{IsRange, IsRead}
