@@ -165,6 +165,7 @@ module _ {R : Type 0} (with_verdict : R → List ℕ × Fields Tree → Verdict 
       → Failed with_verdict settings question (wire.refused text) m n r s e
   refused_failed text causes.NotAsked j k h = (h.0, j, k)
   refused_failed text (causes.Server e) j k h = (h.0.0, ap wire.refused h.0.1, h.1, j, k)
+  refused_failed text causes.NotAnAnswer j k h = absurd h.0
   refused_failed text (causes.Parsing e) j k h = absurd h.0
   refused_failed text causes.OtherStream j k h = absurd h.0
   refused_failed text causes.Memory j k h = absurd h.0

@@ -55,11 +55,20 @@ module _ {R : Type 0} (with_verdict : R → List ℕ × Fields Tree → Verdict 
     pub said : hears settings question (wire.value t) ≡ Some (told answer)
     pub took : Took answer m n r s cut_off
 
+  -- a group with an error in it, or a message that the server pushed: no answer of a command
+  abbrev pub IsNoAnswer : wire.Answer → Type 0
+  IsNoAnswer (wire.value t) = ⊥
+  IsNoAnswer (wire.refused text) = ⊥
+  IsNoAnswer (wire.group kind members) = Unit {0}
+  IsNoAnswer (wire.pushed kind payload) = Unit {0}
+
   -- why a worker did not go on, and what it does then
   abbrev pub Failed : Settings → Asked → wire.Answer → Machine → Machine → R → R → WorkerError → Type 0
   Failed settings question a m n r s causes.NotAsked = (question ≡ asked.Nothing) × (n ≡ m) × (s ≡ r)
   Failed settings question a m n r s (causes.Server e) =
       (question ≢ asked.Nothing) × (a ≡ wire.refused e.text.items) × (hears settings question a ≡ None) × (n ≡ m) × (s ≡ r)
+  Failed settings question a m n r s causes.NotAnAnswer =
+      IsNoAnswer a × (hears settings question a ≡ None) × (n ≡ m) × (s ≡ r)
   Failed settings question a m n r s (causes.Parsing e) =
       ((t : Tree) × (a ≡ wire.value t) × MayRefuse question t e) × (hears settings question a ≡ None) × (n ≡ begins_again m) × (s ≡ r)
   Failed settings question a m n r s causes.OtherStream =

@@ -69,6 +69,8 @@ means make asked.News text = where_none make text
 abbrev pub hears : Settings → Asked → wire.Answer → Option Heard
 hears s question (wire.value t) = says (string_bytes s.key) question t
 hears s question (wire.refused text) = means s.make_group question text
+hears s question (wire.group kind members) = None
+hears s question (wire.pushed kind payload) = None
 
 -- whether a group is missing, after what was heard
 abbrev pub group_after : Bool → Option Heard → Bool

@@ -44,6 +44,7 @@ IsOfGroup (Some group_made) = Unit {0}
 abbrev pub IsRefused : Asked → List ℕ → WorkerError → Type 0
 IsRefused question text causes.NotAsked = question ≡ asked.Nothing
 IsRefused question text (causes.Server e) = (question ≢ asked.Nothing) × (text ≡ e.text.items)
+IsRefused question text causes.NotAnAnswer = ⊥
 IsRefused question text (causes.Parsing e) = ⊥
 IsRefused question text causes.OtherStream = ⊥
 IsRefused question text causes.Memory = ⊥

@@ -55,6 +55,10 @@ pub enum WorkerError {
     /// where it was, and asks the same again.
     #[error("an error of the server")]
     Server(ServerError),
+    /// The reply answers no command: the server pushed it unasked, or it is a group with an error
+    /// in it. The worker is where it was, and asks the same again.
+    #[error("no answer of a command")]
+    NotAnAnswer,
     /// The answer is none to the question.
     #[error("{0}")]
     Parsing(ParsingError),

@@ -151,6 +151,7 @@ impl Worker {
         match reply {
             Reply::Value(value) => self.told(alloc, asked, value, handler),
             Reply::Error(error) => self.refused(asked, error),
+            Reply::Group { .. } | Reply::Push { .. } => Err(WorkerError::NotAnAnswer),
         }
     }
 
