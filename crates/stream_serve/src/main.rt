@@ -6,7 +6,7 @@
 
 use anyhow::{Result, bail};
 use redis_resp::Value;
-use redis_wire::{Limits, Reply, ReplyStream};
+use redis_wire::{Limits, Reply, ReplyStream, WireError};
 use std::alloc::{AllocError, Global};
 use std::io::{Read, Write};
 use std::rt::Clock;
@@ -55,7 +55,8 @@ fn answer_all(
         let words = match connection.commands.next(alloc) {
             Ok(Some(reply)) => command_of(alloc, reply)?,
             Ok(None) => return Ok(()),
-            Err(_) => None,
+            Err(WireError::Fault(_)) => None,
+            Err(WireError::Memory) => return Err(AllocError),
         };
         let Some(words) = words else {
             connection.has_ended = true;
