@@ -120,6 +120,7 @@ impl<R: Read, W: Write> Connection<R, W> {
         match from_reply(alloc, self.reply(alloc)?) {
             Ok(record) => Ok(record),
             Err(ReplyError::Parsing(error)) => Err(error.into()),
+            Err(ReplyError::NotAnAnswer) => Err(anyhow!("what came is no answer of a command")),
             Err(ReplyError::Server(error)) => {
                 let text = String::from_utf8_lossy(alloc, &error.text)?;
                 Err(anyhow!("the server answers {text}"))
