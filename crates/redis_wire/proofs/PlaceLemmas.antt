@@ -1,5 +1,6 @@
 -- Where values stand in bytes.
-use Rattle.std.proofs.Common.{◌≡◌, ◌≤◌, ◌+◌, ◌-◌, ◌∙◌, ℕ, suc, List, [], ◌∷◌, ◌++◌, length, take, drop, pos, Option, Some, None, Ok, refl, sym, ap, arith, append_assoc}
+use Rattle.std.proofs.Common.{◌≡◌, ◌≤◌, ◌+◌, ◌-◌, ◌∙◌, ℕ, suc, List, [], ◌∷◌, ◌++◌, length, take, drop, pos, Option}
+use Rattle.std.proofs.Common.{Some, None, Ok, refl, sym, ap, arith, append_assoc}
 use Rattle.std.proofs.lemmas.List.{length-append, length-drop, take-append-drop, drop_at, take_at}
 use Rattle.redis_resp.specs.Tree.{nil, int, bulk}
 use Rattle.redis_wire.specs.declared.limits.Limits.{Limits}
@@ -9,7 +10,8 @@ use Rattle.redis_wire.specs.Reply.{value}
 use Rattle.redis_wire.specs.Scalar.{number_of, line_answer, no_blob_answer}
 use Rattle.redis_wire.specs.Group.{no_group_answer}
 use Rattle.redis_wire.specs.Grammar.{IsLine, IsLength, IsBlob}
-use Rattle.redis_wire.specs.Level.{length_at, line_value_at, blob_body_at, blob_value_at, group_body_at, group_value_at, by_kind, level, value_at}
+use Rattle.redis_wire.specs.Level.{length_at, line_value_at, blob_body_at, blob_value_at, group_body_at, group_value_at}
+use Rattle.redis_wire.specs.Level.{by_kind, level, value_at}
 use Rattle.redis_wire.specs.Packed.{crlf}
 use Rattle.redis_wire.specs.Scan.{IsEnd}
 use Rattle.redis_wire.specs.Place.{IsHeadAt, IsLineAt, IsTextAt, IsArrayAt, IsMapAt, IsNilAt, IsIntAt}
@@ -37,35 +39,54 @@ end_of_drop n bytes = record { done = take n bytes; is = sym (take-append-drop n
 
 end_behind : (at b : ℕ) (bytes behind left : List ℕ) → drop at bytes ≡ b ∷ behind → IsEnd left behind → IsEnd left bytes
 end_behind at b bytes behind left is e =
-    end_of_end bytes (drop at bytes) left (end_of_drop at bytes) (end_of_end (drop at bytes) behind left (record { done = b ∷ []; is = is }) e)
+    end_of_end bytes (drop at bytes) left (end_of_drop at bytes)
+    (end_of_end (drop at bytes) behind left (record { done = b ∷ []; is = is }) e)
 
 -- ---- heads and lines
 
-module _ (limits : Limits) (bytes behind left : List ℕ) (at first : ℕ) (n : Option ℕ) (is : drop at bytes ≡ first ∷ behind) (len : length_at limits behind ≡ Ok (n, left)) where
+module _ (limits : Limits) (bytes behind left : List ℕ) (at first : ℕ) (n : Option ℕ)
+    (is : drop at bytes ≡ first ∷ behind) (len : length_at limits behind ≡ Ok (n, left)) where
   head_end : IsEnd left bytes
-  head_end = end_behind at first bytes behind left is (fits_end (length_at limits) (IsLength limits) (length_fits limits) behind (n, left) len)
+  head_end = end_behind at first bytes behind left is
+      (fits_end (length_at limits) (IsLength limits) (length_fits limits) behind (n, left) len)
 
   pub head_le : length left ≤ length bytes
   head_le = end_within bytes left head_end
 
   pub head_is : IsHeadAt limits bytes at first n (length bytes - length left)
-  head_is = record { behind = behind; is = is; len = len ∙ ap (λ (xs : List ℕ). Ok (n, xs)) (end_is bytes left head_end); end = omega arith }
+  head_is =
+      record {
+        behind = behind;
+        is = is;
+        len = len ∙ ap (λ (xs : List ℕ). Ok (n, xs)) (end_is bytes left head_end);
+        end = omega arith;
+      }
 
-module _ (limits : Limits) (bytes behind line left : List ℕ) (at first : ℕ) (is : drop at bytes ≡ first ∷ behind) (at_line : line_at limits.line behind ≡ Ok (line, left)) where
+module _ (limits : Limits) (bytes behind line left : List ℕ) (at first : ℕ) (is : drop at bytes ≡ first ∷ behind)
+    (at_line : line_at limits.line behind ≡ Ok (line, left)) where
   line_end : IsEnd left bytes
-  line_end = end_behind at first bytes behind left is (fits_end (line_at limits.line) (IsLine limits.line) (line_fits limits.line) behind (line, left) at_line)
+  line_end = end_behind at first bytes behind left is
+      (fits_end (line_at limits.line) (IsLine limits.line) (line_fits limits.line) behind (line, left) at_line)
 
   pub line_le : length left ≤ length bytes
   line_le = end_within bytes left line_end
 
   pub line_is : IsLineAt limits bytes at first line (length bytes - length left)
-  line_is = record { behind = behind; is = is; reads = at_line ∙ ap (λ (xs : List ℕ). Ok (line, xs)) (end_is bytes left line_end); end = omega arith }
+  line_is = record {
+    behind = behind;
+    is = is;
+    reads = at_line
+        ∙ ap (λ (xs : List ℕ). Ok (line, xs)) (end_is bytes left line_end);
+    end = omega arith;
+  }
 
 -- ---- texts
 
-module _ (limits : Limits) (bytes text left : List ℕ) (at n start : ℕ) (head : IsHeadAt limits bytes at 36 (Some n) start) (blob : blob_at n (drop start bytes) ≡ Ok (text, left)) where
+module _ (limits : Limits) (bytes text left : List ℕ) (at n start : ℕ)
+    (head : IsHeadAt limits bytes at 36 (Some n) start) (blob : blob_at n (drop start bytes) ≡ Ok (text, left)) where
   left_end : IsEnd left bytes
-  left_end = end_of_end bytes (drop start bytes) left (end_of_drop start bytes) (fits_end (blob_at n) (IsBlob n) (blob_fits n) (drop start bytes) (text, left) blob)
+  left_end = end_of_end bytes (drop start bytes) left (end_of_drop start bytes)
+      (fits_end (blob_at n) (IsBlob n) (blob_fits n) (drop start bytes) (text, left) blob)
 
   pub text_le : length left ≤ length bytes
   text_le = end_within bytes left left_end
@@ -74,13 +95,26 @@ module _ (limits : Limits) (bytes text left : List ℕ) (at n start : ℕ) (head
   text_place =
       let t = (blob_fits n).takes (drop start bytes) (text, left) blob in
       let two : length crlf ≡ 2 = refl in
-      let size : length (drop start bytes) ≡ n + 2 + length left = omega (arith, ap length t.is, length-append t.text left, ap length t.said.is, length-append text crlf, t.said.len, two) in
-      let same : text ≡ take n (drop start bytes) = sym (ap (take n) (t.is ∙ ap (λ (xs : List ℕ). xs ++ left) t.said.is ∙ append_assoc text crlf left) ∙ take_at text (crlf ++ left) n t.said.len) in
+      let size : length (drop start bytes) ≡ n + 2 + length left =
+      omega (
+        arith,
+        ap length t.is,
+        length-append t.text left,
+        ap length t.said.is,
+        length-append text crlf,
+        t.said.len,
+        two,
+      ) in
+      let same : text ≡ take n (drop start bytes) =
+      sym (ap (take n) (t.is ∙ ap (λ (xs : List ℕ). xs ++ left) t.said.is ∙ append_assoc text crlf left)
+      ∙ take_at text (crlf ++ left) n t.said.len) in
       record {
         within = omega (arith, head.end, size, length-drop start bytes);
         end = omega arith;
-        reads = λ d. bulk_is limits (suc d) (drop at bytes) head.behind (drop start bytes) text left n (omega arith) head.is head.len blob
-            ∙ ap (λ (x : List ℕ). Ok (value (bulk x), left)) same ∙ ap (λ (x : List ℕ). Ok (value (bulk (take n (drop start bytes))), x)) (end_is bytes left left_end);
+        reads = λ d. bulk_is limits (suc d) (drop at bytes) head.behind (drop start bytes) text left n
+            (omega arith) head.is head.len blob
+            ∙ ap (λ (x : List ℕ). Ok (value (bulk x), left)) same
+            ∙ ap (λ (x : List ℕ). Ok (value (bulk (take n (drop start bytes))), x)) (end_is bytes left left_end);
       }
 
 -- ---- groups, nil and numbers
@@ -88,24 +122,40 @@ module _ (limits : Limits) (bytes text left : List ℕ) (at n start : ℕ) (head
 module _ (limits : Limits) (bytes : List ℕ) (at after : ℕ) where
   pub array_place : (count : ℕ) → IsHeadAt limits bytes at 42 (Some count) after → IsArrayAt limits bytes at count after
   unfolding level by_kind group_value_at
-  array_place count head = record { end = head.end; reads = λ d. let e : suc d - 1 ≡ d = omega arith in rw (head.is, one_level limits (suc d) (omega arith), e, head.len) refl }
+  array_place count head =
+      record {
+        end = head.end;
+        reads = λ d. let e : suc d - 1 ≡ d =
+            omega arith in rw (head.is, one_level limits (suc d) (omega arith), e, head.len) refl;
+      }
 
   pub map_place : (count : ℕ) → IsHeadAt limits bytes at 37 (Some count) after → IsMapAt limits bytes at count after
   unfolding level by_kind group_value_at
-  map_place count head = record { end = head.end; reads = λ d. let e : suc d - 1 ≡ d = omega arith in rw (head.is, one_level limits (suc d) (omega arith), e, head.len) refl }
+  map_place count head =
+      record {
+        end = head.end;
+        reads = λ d. let e : suc d - 1 ≡ d =
+            omega arith in rw (head.is, one_level limits (suc d) (omega arith), e, head.len) refl;
+      }
 
   pub no_array_place : IsHeadAt limits bytes at 42 None after → IsNilAt limits bytes at after
   unfolding level by_kind group_value_at group_body_at no_group_answer
-  no_array_place head = record { end = head.end; reads = λ d. rw (head.is, one_level limits (suc d) (omega arith), head.len) refl }
+  no_array_place head =
+      record { end = head.end; reads = λ d. rw (head.is, one_level limits (suc d) (omega arith), head.len) refl }
 
   pub no_bulk_place : IsHeadAt limits bytes at 36 None after → IsNilAt limits bytes at after
   unfolding level by_kind blob_value_at blob_body_at no_blob_answer
-  no_bulk_place head = record { end = head.end; reads = λ d. rw (head.is, one_level limits (suc d) (omega arith), head.len) refl }
+  no_bulk_place head =
+      record { end = head.end; reads = λ d. rw (head.is, one_level limits (suc d) (omega arith), head.len) refl }
 
-  pub null_place : (line : List ℕ) → IsLineAt limits bytes at 95 line after → length line ≡ 0 → IsNilAt limits bytes at after
+  pub null_place : (line : List ℕ) → IsLineAt limits bytes at 95 line after → length line ≡ 0
+      → IsNilAt limits bytes at after
   unfolding level by_kind line_value_at line_answer
-  null_place line h none = record { end = h.end; reads = λ d. rw (h.is, one_level limits (suc d) (omega arith), h.reads, none) refl }
+  null_place line h none =
+      record { end = h.end; reads = λ d. rw (h.is, one_level limits (suc d) (omega arith), h.reads, none) refl }
 
-  pub int_place : (line : List ℕ) (n : ℕ) → IsLineAt limits bytes at 58 line after → number_of line ≡ Some (pos n) → IsIntAt limits bytes at n after
+  pub int_place : (line : List ℕ) (n : ℕ) → IsLineAt limits bytes at 58 line after → number_of line ≡ Some (pos n)
+      → IsIntAt limits bytes at n after
   unfolding level by_kind line_value_at line_answer
-  int_place line n h number = record { end = h.end; reads = λ d. rw (h.is, one_level limits (suc d) (omega arith), h.reads, number) refl }
+  int_place line n h number =
+      record { end = h.end; reads = λ d. rw (h.is, one_level limits (suc d) (omega arith), h.reads, number) refl }

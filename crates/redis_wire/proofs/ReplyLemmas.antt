@@ -20,5 +20,6 @@ last_error [] a = refl
 last_error (x ∷ []) a = refl
 last_error (x ∷ y ∷ xs) a = last_error (y ∷ xs) a
 
-pub error_of_last_is : (all rest : List Reply) (r : Reply) → all ≡ rest ++ r ∷ [] → error_of_last (answer_list (map answer all)) ≡ first_error (answer r)
+pub error_of_last_is : (all rest : List Reply) (r : Reply) → all ≡ rest ++ r ∷ []
+    → error_of_last (answer_list (map answer all)) ≡ first_error (answer r)
 error_of_last_is all rest r split = rw (split, map_push answer rest r) (last_error (map answer rest) (answer r))

@@ -1,5 +1,6 @@
 -- What values that stand one after the other are together.
-use Rattle.std.specs.Prelude.{ℕ, zero, suc, ◌+◌, ◌*◌, ◌-◌, List, [], length, take, slice_get, Option, Some, None, Result, Ok, Err}
+use Rattle.std.specs.Prelude.{ℕ, zero, suc, ◌+◌, ◌*◌, ◌-◌, List, [], length, take, slice_get, Option, Some, None}
+use Rattle.std.specs.Prelude.{Result, Ok, Err}
 use Rattle.redis_resp.specs.Tree.{Tree, nil, array, set, map_of_pairs, attribute, trees, pairs, two_by_two}
 use Rattle.redis_wire.specs.declared.fault.Fault.TheVariants.{BadLength}
 use Rattle.redis_wire.specs.declared.kind.GroupKind.{GroupKind}

@@ -36,18 +36,21 @@ pub record IsLineAt (limits : Limits) (bytes : List ℕ) (at first : ℕ) (line 
 pub record IsTextAt (limits : Limits) (bytes : List ℕ) (at : ℕ) (span : Span) (after : ℕ) : Type 0 where
   pub within : IsSpan bytes span
   pub end : after ≤ length bytes
-  pub reads : (d : ℕ) → value_at limits (suc d) (drop at bytes) ≡ Ok (value (bulk (text_in bytes span)), drop after bytes)
+  pub reads : (d : ℕ) → value_at limits (suc d) (drop at bytes)
+      ≡ Ok (value (bulk (text_in bytes span)), drop after bytes)
 
 -- Behind `at` bytes stands the head of an array of so many members, which ends with the first `after`
 -- bytes.
 pub record IsArrayAt (limits : Limits) (bytes : List ℕ) (at count after : ℕ) : Type 0 where
   pub end : after ≤ length bytes
-  pub reads : (d : ℕ) → value_at limits (suc d) (drop at bytes) ≡ group_body_at (value_at limits d) Array (Some count) (drop after bytes)
+  pub reads : (d : ℕ) → value_at limits (suc d) (drop at bytes)
+      ≡ group_body_at (value_at limits d) Array (Some count) (drop after bytes)
 
 -- The same of a map of so many pairs.
 pub record IsMapAt (limits : Limits) (bytes : List ℕ) (at count after : ℕ) : Type 0 where
   pub end : after ≤ length bytes
-  pub reads : (d : ℕ) → value_at limits (suc d) (drop at bytes) ≡ group_body_at (value_at limits d) Map (Some count) (drop after bytes)
+  pub reads : (d : ℕ) → value_at limits (suc d) (drop at bytes)
+      ≡ group_body_at (value_at limits d) Map (Some count) (drop after bytes)
 
 -- Behind `at` bytes stands nil, which ends with the first `after` bytes.
 pub record IsNilAt (limits : Limits) (bytes : List ℕ) (at after : ℕ) : Type 0 where

@@ -1,5 +1,6 @@
 -- A message that a server pushes, and a whole reply: such a message, or a value.
-use Rattle.std.specs.Prelude.{ℕ, zero, suc, ◌==◌, ◌-◌, List, [], ◌∷◌, Option, Some, None, Result, Ok, Err, if◌then◌else◌}
+use Rattle.std.specs.Prelude.{ℕ, zero, suc, ◌==◌, ◌-◌, List, [], ◌∷◌, Option, Some, None, Result, Ok, Err}
+use Rattle.std.specs.Prelude.{if◌then◌else◌}
 use Rattle.std.specs.Str.{is_utf8}
 use Rattle.redis_wire.specs.declared.fault.Fault.TheVariants.{BadLength, BadPush, NotUtf8, TooDeep}
 use Rattle.redis_wire.specs.declared.limits.Limits.{Limits}

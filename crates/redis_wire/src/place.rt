@@ -54,6 +54,7 @@ fn line_behind(limits: Limits, bytes: &[u8], at: usize, first: u8) -> Option<(&[
 
 /// The text of the bulk string behind `at` bytes, and how many bytes end with it, where a whole one
 /// stands there.
+#[inline(always)]
 pub fn text_at(limits: Limits, bytes: &[u8], at: usize) -> Option<(Span, usize)>
     requires { at ≤ length bytes.now }
     ensures { IfSome result (λ x. IsTextAt limits bytes.now at x.0 x.1) }

@@ -9,6 +9,7 @@ loop-rest-preserved c =
     let d = slice_index c.loop-rest.rest.now 0 in
     let digit : IsInRange 48 57 d = search rules in
     record {
-      so_far = one_digit_more c.args.bytes.now c.loop-rest.rest.now _ c.loop-rest.number d c.loop-rest.invariant.so_far (first_and_rest c.loop-rest.rest.now c.in-len1-up.len_at_least) digit;
+      so_far = one_digit_more c.args.bytes.now c.loop-rest.rest.now _ c.loop-rest.number d c.loop-rest.invariant.so_far
+          (first_and_rest c.loop-rest.rest.now c.in-len1-up.len_at_least) digit;
       small = omega (arith, digit);
     }

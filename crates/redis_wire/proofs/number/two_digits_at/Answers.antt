@@ -11,5 +11,7 @@ returns-else-not-is_ascii_digit-2 c =
     let lf : slice_index bytes 3 ≡ 10 = search rules in
     let first : IsInRange 48 57 (slice_index bytes 0) = search rules in
     let second : IsInRange 48 57 (slice_index bytes 1) = search rules in
-    let split = first_four bytes (slice_index bytes 0) (slice_index bytes 1) 13 10 c.in-13.len_at_least refl refl cr lf in
-    two_digits_are c.args.limits bytes _ c.requires.length c.requires.line (slice_index bytes 0) (slice_index bytes 1) split first second
+    let split = first_four bytes (slice_index bytes 0)
+    (slice_index bytes 1) 13 10 c.in-13.len_at_least refl refl cr lf in
+    two_digits_are c.args.limits bytes _ c.requires.length c.requires.line (slice_index bytes 0)
+    (slice_index bytes 1) split first second

@@ -5,9 +5,11 @@ use Rattle.redis_wire.proofs.place.head_at.Goals as goal
 pub overflow_sub-result : goal.overflow_sub-result
 overflow_sub-result c =
     let is : drop c.args.at c.args.bytes.now ≡ c.args.first ∷ c.in_ok-byte.behind.now = search rules in
-    head_le c.args.limits c.args.bytes.now c.in_ok-byte.behind.now c.in-Ok.left.now c.args.at c.args.first c.in-Ok.len is c.in-Ok.ensures
+    head_le c.args.limits c.args.bytes.now c.in_ok-byte.behind.now c.in-Ok.left.now c.args.at c.args.first c.in-Ok.len
+    is c.in-Ok.ensures
 
 pub returns-in-Ok : goal.returns-in-Ok
 returns-in-Ok c =
     let is : drop c.args.at c.args.bytes.now ≡ c.args.first ∷ c.in_ok-byte.behind.now = search rules in
-    head_is c.args.limits c.args.bytes.now c.in_ok-byte.behind.now c.in-Ok.left.now c.args.at c.args.first c.in-Ok.len is c.in-Ok.ensures
+    head_is c.args.limits c.args.bytes.now c.in_ok-byte.behind.now c.in-Ok.left.now c.args.at c.args.first c.in-Ok.len
+    is c.in-Ok.ensures

@@ -3,4 +3,6 @@ use Rattle.redis_wire.proofs.PlaceLemmas.{map_place}
 use Rattle.redis_wire.proofs.place.map_at.Goals as goal
 
 pub returns-in-Some-default : goal.returns-in-Some-default
-returns-in-Some-default c = map_place c.args.limits c.args.bytes.now c.args.at c.in_ok-count.field-0.1 c.in-Some-default.count (rw c.in-Some-default.is-0 at c.in_ok-count.ensures)
+returns-in-Some-default c =
+    map_place c.args.limits c.args.bytes.now c.args.at c.in_ok-count.field-0.1 c.in-Some-default.count
+    (rw c.in-Some-default.is-0 at c.in_ok-count.ensures)

@@ -5,4 +5,5 @@ use Rattle.redis_wire.proofs.place.null_at.Goals as goal
 pub returns-in-empty-default : goal.returns-in-empty-default
 returns-in-empty-default c =
     let none : length c.in_ok-after.field-0.0.now ≡ 0 = omega (arith, c.in-empty-default.len_below) in
-    null_place c.args.limits c.args.bytes.now c.args.at c.in_ok-after.field-0.1 c.in_ok-after.field-0.0.now c.in_ok-after.ensures none
+    null_place c.args.limits c.args.bytes.now c.args.at c.in_ok-after.field-0.1 c.in_ok-after.field-0.0.now
+    c.in_ok-after.ensures none

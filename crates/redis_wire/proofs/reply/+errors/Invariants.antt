@@ -5,6 +5,7 @@ use Rattle.redis_wire.proofs.reply.+errors.Given as goal
 
 abbrev pub invariant-error_among-loop-reply : goal.invariant-error_among-loop-reply
 invariant-error_among-loop-reply l = record {
-  so_far : error_among (answer_list (map answer (into_iter_items l.reply-iterator))) ≡ error_among (answer_list (map answer (into_iter_items l.initial.reply-iterator)));
+  so_far : error_among (answer_list (map answer (into_iter_items l.reply-iterator)))
+      ≡ error_among (answer_list (map answer (into_iter_items l.initial.reply-iterator)));
   count : into_iter_len l.reply-iterator ≡ length (into_iter_items l.reply-iterator);
 }

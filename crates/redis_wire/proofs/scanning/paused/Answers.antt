@@ -6,4 +6,6 @@ pub overflow_sub-at : goal.overflow_sub-at
 overflow_sub-at c = end_le c.args.left.now c.args.bytes.now c.requires.walked.end
 
 pub returns : goal.returns
-returns c = pauses c.args.limits _ c.args.bytes.now c.args.left.now c.wanted_len.result c.requires.walked c.requires.deep c.requires.some c.requires.short c.wanted_len.ensures.few refl refl refl
+returns c =
+    pauses c.args.limits _ c.args.bytes.now c.args.left.now c.wanted_len.result c.requires.walked c.requires.deep
+    c.requires.some c.requires.short c.wanted_len.ensures.few refl refl refl

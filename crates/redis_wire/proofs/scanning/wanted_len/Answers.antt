@@ -1,4 +1,5 @@
-use Rattle.std.proofs.Common.{◌≡◌, ◌≤◌, ◌<◌, ◌+◌, ◌-◌, ◌++◌, ℕ, List, Err, length, take, drop, slice_index, sym, subst, arith}
+use Rattle.std.proofs.Common.{◌≡◌, ◌≤◌, ◌<◌, ◌+◌, ◌-◌, ◌++◌, ℕ, List, Err, length, take, drop, slice_index, sym, subst}
+use Rattle.std.proofs.Common.{arith}
 use Rattle.std.proofs.lemmas.List.{length-append, length-drop}
 use Rattle.redis_wire.specs.Reading.{short}
 use Rattle.redis_wire.specs.Scan.{item_at}
@@ -21,7 +22,10 @@ returns-in-Ok-Some-default-clause-few c = λ more lt.
     let read = rw c.in-Ok-Some-default.field-0-0-is at c.in-Ok-Some-default.ensures in
     let kind = rw c.in-Some-Blob.field-0-is at c.in-Some-Blob.ensures in
     let len : length line ≡ length left - 1 = rw (rest_is left) (length-drop 1 left) in
-    let few : length (line ++ more) < length line - length c.in-Ok-Some-default.body.now + c.in-Ok-Some-default.len = omega (arith, lt, le, len, c.in-len1-up.len_at_least, length-append left more, length-append line more) in
+    let few : length (line ++ more) < length line - length c.in-Ok-Some-default.body.now + c.in-Ok-Some-default.len =
+    omega (arith, lt, le, len, c.in-len1-up.len_at_least, length-append left more, length-append line more) in
     let split = first_and_rest left c.in-len1-up.len_at_least in
     subst (λ (l : List ℕ). item_at c.args.limits (l ++ more) ≡ Err short) (sym split)
-    (few_short c.args.limits (slice_index left 0) c.in-Ok-Some-default.len c.in-Some-Blob.field-0-0 line c.in-Ok-Some-default.body.now more (sym kind) read few)
+    (few_short c.args.limits
+    (slice_index left 0) c.in-Ok-Some-default.len c.in-Some-Blob.field-0-0 line c.in-Ok-Some-default.body.now more
+    (sym kind) read few)

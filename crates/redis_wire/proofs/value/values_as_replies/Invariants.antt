@@ -6,6 +6,7 @@ use Rattle.redis_wire.proofs.value.values_as_replies.Given as goal
 
 abbrev pub invariant-loop-value : goal.invariant-loop-value
 invariant-loop-value l = record {
-  so_far : map answer l.replies.items ++ map value (map tree (into_iter_items l.value-iterator)) ≡ map value (map tree (into_iter_items l.initial.value-iterator));
+  so_far : map answer l.replies.items ++ map value (map tree (into_iter_items l.value-iterator))
+      ≡ map value (map tree (into_iter_items l.initial.value-iterator));
   count : into_iter_len l.value-iterator ≡ length (into_iter_items l.value-iterator);
 }

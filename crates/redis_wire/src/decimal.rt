@@ -1,0 +1,133 @@
+//! How doubles and big numbers are written.
+ghost use Rattle.std.specs.Prelude.{◌≡◌, option_map};
+ghost use Rattle.std.specs.List.{prefix_len};
+ghost use Rattle.std.specs.Char.{is_ascii_digit};
+ghost use Rattle.redis_wire.specs.Decimal.{is_sign, is_signed, without_sign, behind_digits, is_integer, is_exponent, is_fraction, fraction_behind, is_named, is_double};
+
+use crate::scanning::bytes_behind;
+
+/// Whether a byte is `+` or `-`.
+fn is_sign(byte: u8) -> bool
+    ensures { result ≡ is_sign byte }
+{
+    byte == b'+' || byte == b'-'
+}
+
+/// Whether a sign stands at the head.
+#[tactic(auto, unfolding(crate::specs::Decimal::is_signed))]
+pub fn is_signed(text: &[u8]) -> bool
+    ensures { result ≡ is_signed text.now }
+{
+    match text {
+        [] => false,
+        [first, ..] => is_sign(*first),
+    }
+}
+
+/// The text without the sign at its head, if there is one.
+#[tactic(auto, unfolding(crate::specs::Decimal::without_sign))]
+fn without_sign(text: &[u8]) -> &[u8]
+    ensures { result.now ≡ without_sign text.now }
+{
+    match text {
+        [] => text,
+        [first, rest @ ..] => { if is_sign(*first) { rest } else { text } }
+    }
+}
+
+/// How many digits stand at the head.
+fn digits_len(text: &[u8]) -> usize
+    ensures { result ≡ prefix_len is_ascii_digit text.now }
+{
+    text.iter().take_while(|byte| byte.is_ascii_digit()).count()
+}
+
+/// What stands behind the digits at the head, where there is one at least.
+#[tactic(auto, unfolding(crate::specs::Decimal::behind_digits))]
+fn behind_digits(text: &[u8]) -> Option<&[u8]>
+    ensures { option_map (λ rest. rest.now) result ≡ behind_digits text.now }
+{
+    let len = digits_len(text);
+    if len == 0 {
+        return None;
+    }
+    Some(bytes_behind(text, len))
+}
+
+/// Whether this is a big number: one sign or none, and one digit or more.
+#[tactic(auto, unfolding(crate::specs::Decimal::is_integer, crate::specs::Decimal::are_all))]
+pub fn is_integer(text: &[u8]) -> bool
+    ensures { result ≡ is_integer text.now }
+{
+    match behind_digits(without_sign(text)) {
+        Some([]) => true,
+        _ => false,
+    }
+}
+
+/// Whether this is nothing, or `e` or `E` and a number.
+#[tactic(auto, unfolding(crate::specs::Decimal::is_exponent))]
+fn is_exponent(text: &[u8]) -> bool
+    ensures { result ≡ is_exponent text.now }
+{
+    match text {
+        [] => true,
+        [first, rest @ ..] => {
+            if *first == b'E' || *first == b'e' {
+                is_integer(rest)
+            } else {
+                false
+            }
+        }
+    }
+}
+
+/// Whether this is `.` and one digit or more, or nothing; and then an exponent or none.
+#[tactic(auto, unfolding(crate::specs::Decimal::is_fraction, crate::specs::Decimal::exponent_behind))]
+fn is_fraction(text: &[u8]) -> bool
+    ensures { result ≡ is_fraction text.now }
+{
+    match text {
+        [] => true,
+        [first, rest @ ..] => {
+            if *first == b'.' {
+                match behind_digits(rest) {
+                    Some(behind) => is_exponent(behind),
+                    None => false,
+                }
+            } else {
+                is_exponent(text)
+            }
+        }
+    }
+}
+
+/// Whether this is infinite, or no number.
+#[tactic(auto, unfolding(crate::specs::Decimal::is_named))]
+fn is_named(text: &[u8]) -> bool
+    ensures { result ≡ is_named text.now }
+{
+    text == b"inf".as_slice()
+        || text == b"-inf".as_slice()
+        || text == b"nan".as_slice()
+        || text == b"-nan".as_slice()
+}
+
+/// Whether this is digits, a fraction or none and an exponent or none.
+#[tactic(auto, unfolding(crate::specs::Decimal::fraction_behind))]
+fn is_decimal(text: &[u8]) -> bool
+    ensures { result ≡ fraction_behind (behind_digits text.now) }
+{
+    match behind_digits(text) {
+        Some(behind) => is_fraction(behind),
+        None => false,
+    }
+}
+
+/// Whether this is a double.
+#[tactic(auto, unfolding(crate::specs::Decimal::is_double))]
+pub fn is_double(text: &[u8]) -> bool
+    ensures { result ≡ is_double text.now }
+{
+    is_named(text) || is_decimal(without_sign(text))
+}

@@ -1,0 +1,96 @@
+//! One error of all that may go wrong between a command and the record of its answer.
+ghost use Rattle.std.specs.Prelude.{◌≡◌};
+ghost use Rattle.redis_wire.specs.Failure.{wire_failure, write_failure, parsing_failure, reply_failure};
+ghost use Rattle.redis_wire.specs.declared.error.RedisError.TheVariants.{Memory};
+
+use crate::fault::{Fault, WireError};
+use crate::reply::{ReplyError, ServerError};
+use redis_resp::{ParsingError, WriteError};
+use std::alloc::{AllocError, AllocFailed};
+use thiserror::Error;
+
+/// Why a command was not written, or its answer not read as what was asked for: one error for a
+/// caller that goes through all of it with `?`.
+#[derive(Debug, Drop, PartialEq, Eq, Error)]
+pub enum RedisError {
+    /// A growth was refused. It says nothing of the bytes.
+    #[error("out of memory")]
+    Memory,
+    /// There is no room for an argument: the writer is of a fixed size, or the protocol's count or
+    /// length is too small for it.
+    #[error("no room for an argument")]
+    Full,
+    /// The bytes are no reply, however they go on.
+    #[error("{0}")]
+    Fault(Fault),
+    /// The server answers this error.
+    #[error("{0}")]
+    Server(ServerError),
+    /// The value has no record of the type asked for. It is never `Memory`.
+    #[error("{0}")]
+    Parsing(ParsingError),
+    /// The reply is a message that was pushed, or its only errors stand inside attributes.
+    #[error("no answer of a command")]
+    NotAnAnswer,
+}
+
+impl From<WireError> for RedisError {
+    ghost from_gives = { λ error result. result ≡ wire_failure error };
+
+    fn from(error: WireError) -> RedisError {
+        match error {
+            WireError::Memory => RedisError::Memory,
+            WireError::Fault(fault) => RedisError::Fault(fault),
+        }
+    }
+}
+
+impl From<WriteError> for RedisError {
+    ghost from_gives = { λ error result. result ≡ write_failure error };
+
+    fn from(error: WriteError) -> RedisError {
+        match error {
+            WriteError::Memory => RedisError::Memory,
+            WriteError::Full => RedisError::Full,
+        }
+    }
+}
+
+impl From<ParsingError> for RedisError {
+    ghost from_gives = { λ error result. result ≡ parsing_failure error };
+
+    fn from(error: ParsingError) -> RedisError {
+        match error {
+            ParsingError::Memory => RedisError::Memory,
+            other => RedisError::Parsing(other),
+        }
+    }
+}
+
+impl From<ReplyError> for RedisError {
+    ghost from_gives = { λ error result. result ≡ reply_failure error };
+
+    fn from(error: ReplyError) -> RedisError {
+        match error {
+            ReplyError::Server(error) => RedisError::Server(error),
+            ReplyError::Parsing(error) => RedisError::from(error),
+            ReplyError::NotAnAnswer => RedisError::NotAnAnswer,
+        }
+    }
+}
+
+impl From<AllocError> for RedisError {
+    ghost from_gives = { λ _ result. result ≡ Memory };
+
+    fn from(_error: AllocError) -> RedisError {
+        RedisError::Memory
+    }
+}
+
+impl<T: Drop> From<AllocFailed<T>> for RedisError {
+    ghost from_gives = { λ _ result. result ≡ Memory };
+
+    fn from(_error: AllocFailed<T>) -> RedisError {
+        RedisError::Memory
+    }
+}
