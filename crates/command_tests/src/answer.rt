@@ -1,5 +1,7 @@
 //! Answers, each read as the type of its command.
 use redis_resp::{ParsingError, Value};
+use redis_wire::{Reply, ReplyError, ServerError};
+use std::test::Fail;
 use stream_commands::{AtLeastOne, xadd_options, xlen, xread};
 use stream_options::StreamAddOptions;
 
@@ -13,6 +15,19 @@ fn a_length_is_read(rt: HostRuntime) {
         matches!(&borrowed, Err(ParsingError::NotNumber)),
         "{borrowed:?}"
     );
+}
+
+#[test]
+fn a_reply_is_read(rt: HostRuntime) -> Result<(), Fail> {
+    let length = xlen("orders");
+    let read = length.read_reply(rt.alloc(), Reply::Value(Value::Int(3)));
+    assert!(rt; matches!(&read, Ok(3)), "{read:?}");
+    let text = Vec::from_slice(rt.alloc(), b"WRONGTYPE no stream")?;
+    match length.read_reply(rt.alloc(), Reply::Error(ServerError { text })) {
+        Err(ReplyError::Server(error)) => assert_eq!(rt; error.code(), b"WRONGTYPE".as_slice()),
+        other => return Err(format!(in rt.alloc(); "{other:?}")?.into()),
+    }
+    Ok(())
 }
 
 #[test]

@@ -1,10 +1,11 @@
 //! Commands on the entries of a stream.
 use crate::check;
+use redis_resp::PairList;
 use std::test::Fail;
 use stream_commands::{
-    AtLeastOne, xadd, xadd_maxlen, xadd_options, xcfgset, xdel, xdel_ex, xlen, xrange, xrange_all,
-    xrange_count, xread, xread_options, xrevrange, xrevrange_all, xrevrange_count, xtrim,
-    xtrim_options,
+    AtLeastOne, FieldsThen, pair_fields, xadd, xadd_maxlen, xadd_options, xcfgset, xdel, xdel_ex,
+    xlen, xrange, xrange_all, xrange_count, xread, xread_options, xrevrange, xrevrange_all,
+    xrevrange_count, xtrim, xtrim_options,
 };
 use stream_options::{
     StreamAddOptions, StreamConfigOptions, StreamDeletionPolicy, StreamMaxlen, StreamReadOptions,
@@ -34,6 +35,33 @@ fn entries_of_two_fields_are_added(rt: HostRuntime) -> Result<(), Fail> {
         &xadd("orders", "2-0", two),
         "XADD orders 2-0 item cup size 2",
     )
+}
+
+#[test]
+fn fields_of_an_entry_are_added_again(rt: HostRuntime) -> Result<(), Fail> {
+    let alloc = rt.alloc();
+    let mut read = Vec::new(alloc);
+    for (name, value) in [("item", 7u64), ("item", 8)] {
+        read.push((String::from_str(alloc, name)?, value))?;
+    }
+    let fields = PairList(read);
+    check(
+        &rt,
+        &xadd("dead", "*", FieldsThen(&fields, ("times", 3u64))),
+        "XADD dead * item 7 item 8 times 3",
+    )?;
+    let Some(own) = pair_fields(&fields) else {
+        return Err(Fail::new("no fields"));
+    };
+    check(&rt, &xadd("dead", "*", own), "XADD dead * item 7 item 8")?;
+    let none: PairList<u64> = PairList(Vec::new(alloc));
+    check(
+        &rt,
+        &xadd("dead", "*", FieldsThen(&none, ("times", 3u64))),
+        "XADD dead * times 3",
+    )?;
+    assert!(rt; pair_fields(&none).is_none());
+    Ok(())
 }
 
 #[test]

@@ -1,7 +1,8 @@
 //! The answer of an automatic claim that asks for ids alone, by both calls.
+use redis_streams::StreamAutoClaimJustIdReply;
 use std::process::Abort;
 use std::test::Fail;
-use stream_commands::{StreamAutoClaimJustIdReply, xautoclaim_justid};
+use stream_commands::xautoclaim_justid;
 use stream_options::StreamAutoClaimOptions;
 use stream_text::read_value;
 

@@ -7,14 +7,25 @@ use Rattle.redis_args.specs.Room.{LacksRoom, MayRefuse, HasRoom}
 use Rattle.redis_args.specs.Writer.{Wrote}
 
 -- a beginning of the list leaves room for the next argument of it
-lacks_none : (count size : ℕ) (old written rest : List (List ℕ)) (next : List ℕ) → HasRoom count size old (written ++ next ∷ rest) → LacksRoom count size (old ++ written) next → ⊥
+lacks_none : (count size : ℕ) (old written rest : List (List ℕ)) (next : List ℕ)
+    → HasRoom count size old (written ++ next ∷ rest) → LacksRoom count size (old ++ written) next → ⊥
 lacks_none count size old written rest next room (inl full) =
     omega (arith, room.0, full, length-append old written, length-append written (next ∷ rest))
 lacks_none count size old written rest next room (inr over) =
-    omega (arith, room.1, over, sum_by-append length old written, sum_by-append length written (next ∷ rest), sum_by-cons length next rest)
+    omega (
+      arith,
+      room.1,
+      over,
+      sum_by-append length old written,
+      sum_by-append length written (next ∷ rest),
+      sum_by-cons length next rest,
+    )
 
 -- so writing a list for which there is room is Ok
-pub room_is_enough : {T : Type 0} (count size : ℕ) (result : Result T WriteError) (old args new : List (List ℕ)) → Wrote result old args new (MayRefuse count size new) → HasRoom count size old args → IsOk result
+pub room_is_enough : {T : Type 0} (count size : ℕ) (result : Result T WriteError) (old args new : List (List ℕ))
+    → Wrote result old args new (MayRefuse count size new) → HasRoom count size old args → IsOk result
 room_is_enough count size (Ok x) old args new wrote room = refl
 room_is_enough count size (Err e) old args new stops room =
-    absurd (lacks_none count size old stops.written stops.rest stops.next (rw stops.splits at room) (rw stops.holds at stops.refused.1))
+    absurd
+    (lacks_none count size old stops.written stops.rest stops.next (rw stops.splits at room)
+    (rw stops.holds at stops.refused.1))

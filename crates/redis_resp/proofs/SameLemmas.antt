@@ -10,13 +10,15 @@ and_false true r e = e
 and_false false r e = refl
 
 -- lists of other lengths are not the same
-pub each_long : (xs ys : List Value) → length xs ≢ length ys → false ≡ same_each (trees (map tree xs)) (trees (map tree ys))
+pub each_long : (xs ys : List Value) → length xs ≢ length ys
+    → false ≡ same_each (trees (map tree xs)) (trees (map tree ys))
 each_long [] [] h = absurd (h refl)
 each_long [] (y ∷ ys) h = refl
 each_long (x ∷ xs) [] h = refl
 each_long (x ∷ xs) (y ∷ ys) h = and_false _ _ (each_long xs ys (λ e. h (ap suc e)))
 
-pub pairs_long : (xs ys : List (Value × Value)) → length xs ≢ length ys → false ≡ same_pairs (pairs (map tree_of_pair xs)) (pairs (map tree_of_pair ys))
+pub pairs_long : (xs ys : List (Value × Value)) → length xs ≢ length ys
+    → false ≡ same_pairs (pairs (map tree_of_pair xs)) (pairs (map tree_of_pair ys))
 pairs_long [] [] h = absurd (h refl)
 pairs_long [] (y ∷ ys) h = refl
 pairs_long (x ∷ xs) [] h = refl

@@ -6,7 +6,8 @@ use Rattle.redis_resp.specs.Tree.{Tree, nil, int, bulk, simple, okay, boolean, p
 
 -- `1` is true, `0` is false, and no other text is a truth value
 abbrev pub truth_of_text : List ℕ → Option Bool
-truth_of_text text = if bytes_eq text (codes "1") then Some true else (if bytes_eq text (codes "0") then Some false else None)
+truth_of_text text = if bytes_eq text (codes "1") then Some true
+    else (if bytes_eq text (codes "0") then Some false else None)
 
 -- the truth value of a value with no attribute around it
 abbrev pub truth_of_plain : Tree → Option Bool

@@ -7,7 +7,8 @@ use Rattle.redis_resp.specs.Bytes.{bytes_reading}
 use Rattle.redis_resp.specs.Leaf.{has_buffer}
 use Rattle.redis_resp.specs.Text.{text_reading, is_written_out}
 use Rattle.redis_resp.specs.declared.value.error.ParsingError.{ParsingError}
-use Rattle.redis_resp.specs.declared.value.error.ParsingError.TheVariants.{NotText, NotNumber, NotBytes, NotList, NotPairs, NotTuple, Memory}
+use Rattle.redis_resp.specs.declared.value.error.ParsingError.TheVariants.{NotText, NotNumber, NotBytes, NotList}
+use Rattle.redis_resp.specs.declared.value.error.ParsingError.TheVariants.{NotPairs, NotTuple, Memory}
 
 -- it may be refused with this error, and has no record unless the error is `Memory`
 abbrev pub Refuses : {A M : Type 0} → (A → Option M) → (A → ParsingError → Type 0) → A → ParsingError → Type 0
@@ -23,7 +24,8 @@ RefusesText t error = MatchOption (text_reading t) (error ≡ NotText) (λ _. er
 
 -- the text of a value that is consumed: out of memory only where the value holds no text
 abbrev pub RefusesOwnedText : Tree → ParsingError → Type 0
-RefusesOwnedText t error = MatchOption (text_reading t) (error ≡ NotText) (λ _. (error ≡ Memory) × IsTrue (is_written_out (plain t)))
+RefusesOwnedText t error = MatchOption (text_reading t) (error ≡ NotText)
+    (λ _. (error ≡ Memory) × IsTrue (is_written_out (plain t)))
 
 -- bytes: `NotBytes` where the tree has none, and out of memory alone where it has some
 abbrev pub RefusesBytes : Tree → ParsingError → Type 0
@@ -63,7 +65,8 @@ RefusesEntry refuses p error = Refuses text_reading RefusesText p.0 error ⊎ re
 
 -- pairs: `NotPairs` where the tree has none, and else what one of its pairs is refused with
 abbrev pub RefusesPairs : (Tree → ParsingError → Type 0) → Tree → ParsingError → Type 0
-RefusesPairs refuses t error = MatchOption (pairs_in t) (error ≡ NotPairs) (λ ps. OneRefused (RefusesEntry refuses) ps error)
+RefusesPairs refuses t error = MatchOption (pairs_in t) (error ≡ NotPairs)
+    (λ ps. OneRefused (RefusesEntry refuses) ps error)
 
 -- an option: what a value other than nil is refused with
 abbrev pub RefusesOption : (Tree → ParsingError → Type 0) → Tree → ParsingError → Type 0
@@ -74,12 +77,16 @@ abbrev pub RefusesTwo : (Tree → ParsingError → Type 0) → (Tree → Parsing
 RefusesTwo a b t error = MatchOption (two_in t) (error ≡ NotTuple 2) (λ q. a q.0 error ⊎ b q.1 error)
 
 -- three, likewise
-abbrev pub RefusesThree : (Tree → ParsingError → Type 0) → (Tree → ParsingError → Type 0) → (Tree → ParsingError → Type 0) → Tree → ParsingError → Type 0
-RefusesThree a b c t error = MatchOption (three_in t) (error ≡ NotTuple 3) (λ q. a q.0 error ⊎ (b q.1 error ⊎ c q.2 error))
+abbrev pub RefusesThree : (Tree → ParsingError → Type 0) → (Tree → ParsingError → Type 0)
+    → (Tree → ParsingError → Type 0) → Tree → ParsingError → Type 0
+RefusesThree a b c t error = MatchOption (three_in t) (error ≡ NotTuple 3)
+    (λ q. a q.0 error ⊎ (b q.1 error ⊎ c q.2 error))
 
 -- four, likewise
-abbrev pub RefusesFour : (Tree → ParsingError → Type 0) → (Tree → ParsingError → Type 0) → (Tree → ParsingError → Type 0) → (Tree → ParsingError → Type 0) → Tree → ParsingError → Type 0
-RefusesFour a b c d t error = MatchOption (four_in t) (error ≡ NotTuple 4) (λ q. a q.0 error ⊎ (b q.1 error ⊎ (c q.2 error ⊎ d q.3 error)))
+abbrev pub RefusesFour : (Tree → ParsingError → Type 0) → (Tree → ParsingError → Type 0)
+    → (Tree → ParsingError → Type 0) → (Tree → ParsingError → Type 0) → Tree → ParsingError → Type 0
+RefusesFour a b c d t error = MatchOption (four_in t) (error ≡ NotTuple 4)
+    (λ q. a q.0 error ⊎ (b q.1 error ⊎ (c q.2 error ⊎ d q.3 error)))
 
 -- a field: what its value is refused with, where there is one
 abbrev pub RefusesField : (Tree → ParsingError → Type 0) → Option Tree → ParsingError → Type 0

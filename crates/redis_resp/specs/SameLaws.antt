@@ -7,7 +7,8 @@ use Rattle.std.proofs.lemmas.Bool.{and_parts}
 use Rattle.std.proofs.lemmas.Bool.Decides.{Decides-int_eq}
 use Rattle.std.proofs.lemmas.Slice.Eq.{bytes_eq-Decides}
 use Rattle.std.specs.Str.{bytes_eq}
-use Rattle.redis_resp.specs.Tree.{Tree, nil, int, bulk, array, simple, okay, map_of_pairs, attribute, set, boolean, verbatim, push, Trees, no_trees, more_trees, Pairs, no_pairs, more_pairs}
+use Rattle.redis_resp.specs.Tree.{Tree, nil, int, bulk, array, simple, okay, map_of_pairs, attribute, set, boolean}
+use Rattle.redis_resp.specs.Tree.{verbatim, push, Trees, no_trees, more_trees, Pairs, no_pairs, more_pairs}
 use Rattle.redis_resp.specs.Same.{same, same_each, same_pairs}
 use Rattle.redis_resp.specs.Value.{tree}
 use Rattle.redis_resp.specs.declared.value.Value.{Value}
@@ -52,7 +53,8 @@ mutual
   pairs_true (more_pairs k x ps) (more_pairs l y qs) h =
       let p = and_parts (same k l) (same x y && same_pairs ps qs) h in
       let q = and_parts (same x y) (same_pairs ps qs) p.1 in
-      ap (λ t. more_pairs t x ps) (same_true k l p.0) ∙ ap (λ t. more_pairs l t ps) (same_true x y q.0) ∙ ap (λ rs. more_pairs l y rs) (pairs_true ps qs q.1)
+      ap (λ t. more_pairs t x ps) (same_true k l p.0) ∙ ap (λ t. more_pairs l t ps) (same_true x y q.0)
+      ∙ ap (λ rs. more_pairs l y rs) (pairs_true ps qs q.1)
   pairs_true _ _ h = neither h
 
 mutual

@@ -10,7 +10,8 @@ use Rattle.redis_resp.specs.declared.value.Value.{Value}
 use Rattle.redis_resp.specs.declared.value.contents.Contents.{Contents}
 use Rattle.redis_resp.specs.declared.value.contents.Contents.TheVariants.{Nothing, Array, Set, Map, Other}
 use Rattle.redis_resp.specs.declared.value.pairs_left.PairsLeft.{PairsLeft}
-use Rattle.redis_resp.specs.declared.value.pairs_left.PairsLeft.TheVariants.{Nothing as no_pairs_left, TwoByTwo, Entries}
+use Rattle.redis_resp.specs.declared.value.pairs_left.PairsLeft.TheVariants.{Nothing as no_pairs_left, TwoByTwo}
+use Rattle.redis_resp.specs.declared.value.pairs_left.PairsLeft.TheVariants.{Entries}
 
 -- the tree of a borrowed value
 abbrev pub lent_tree : Bor Value → Tree
@@ -41,7 +42,8 @@ items_held values pairs (Map p) = Some (map single (pairs p))
 items_held values pairs Other = None
 
 -- the pairs that the contents hold
-abbrev pub pairs_held : {V P : Type 0} → (V → List Tree) → (P → List (Tree × Tree)) → Contents V P → Option (List (Tree × Tree))
+abbrev pub pairs_held : {V P : Type 0} → (V → List Tree) → (P → List (Tree × Tree)) → Contents V P
+    → Option (List (Tree × Tree))
 pairs_held values pairs Nothing = Some []
 pairs_held values pairs (Array v) = two_by_two (values v)
 pairs_held values pairs (Map p) = Some (pairs p)

@@ -1,6 +1,7 @@
 -- The tree that a `Value` stands for.
 use Rattle.std.specs.Prelude.{string_bytes}
-use Rattle.redis_resp.specs.Tree.{Tree, nil, int, bulk, array, simple, okay, map_of_pairs, attribute, set, boolean, verbatim, push, trees, pairs}
+use Rattle.redis_resp.specs.Tree.{Tree, nil, int, bulk, array, simple, okay, map_of_pairs, attribute, set, boolean}
+use Rattle.redis_resp.specs.Tree.{verbatim, push, trees, pairs}
 use Rattle.redis_resp.specs.declared.value.Value.{Value, fold-Value}
 use Rattle.redis_resp.specs.declared.value.Value.TheOpen.{Value-F}
 

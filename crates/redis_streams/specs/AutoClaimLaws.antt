@@ -14,7 +14,10 @@ holds_nil item = is_nil (plain item)
 abbrev pub IsOneEntry : Tree → Type 0
 IsOneEntry item = IsSome (text_reading item) ⊎ ((pair : Tree × Tree) × (pairs_in item ≡ Some (pair ∷ [])))
 
--- Where each item of an accepted claimed list is nil, one id or a row of one pair, entries are marked invalid exactly where a nil stands there.
+-- Where each item of an accepted claimed list is nil, one id or a row of one pair, entries are marked invalid exactly
+-- where a nil stands there.
 abbrev pub InvalidEntriesTellNil : Type 0
-InvalidEntriesTellNil = (t : Tree) (reply : AutoClaim) (parts : Parts) (items : List Tree) → autoclaim_reading t ≡ Some reply → parts_in t ≡ Some parts
-    → array_of_plain parts.1 ≡ Some items → AllByRecursion (λ item. (holds_nil item ≡ true) ⊎ IsOneEntry item) items → reply.invalid ≡ list_any holds_nil items
+InvalidEntriesTellNil = (t : Tree) (reply : AutoClaim) (parts : Parts) (items : List Tree)
+    → autoclaim_reading t ≡ Some reply → parts_in t ≡ Some parts
+    → array_of_plain parts.1 ≡ Some items → AllByRecursion (λ item. (holds_nil item ≡ true) ⊎ IsOneEntry item) items
+    → reply.invalid ≡ list_any holds_nil items

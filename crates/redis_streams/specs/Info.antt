@@ -1,4 +1,5 @@
--- What the replies of XINFO mean: named fields, each of which is read by its own reading or, where there is none, has an empty value.
+-- What the replies of XINFO mean: named fields, each of which is read by its own reading or, where there is none, has
+-- an empty value.
 use Rattle.std.specs.Prelude.{ℕ, List, [], ◌∷◌, Option, Some, None, option_map, unwrap_or, codes, if◌then◌else◌}
 use Rattle.std.specs.FinMap.{empty}
 use Rattle.redis_resp.specs.Then.{◌>>=◌}
@@ -38,11 +39,13 @@ number_or_nil_reading t = if is_nil t then Some None else option_map Some (unsig
 abbrev pub number_or_nil_field : NamedFields → List ℕ → Option (Option ℕ)
 number_or_nil_field fields name = field_or None number_or_nil_reading (fields name)
 
--- an entry by the items of an array: none is the empty entry; else the first is the id and the second, where there is one, the fields
+-- an entry by the items of an array: none is the empty entry; else the first is the id and the second, where there is
+-- one, the fields
 abbrev pub entry_of_items : List Tree → Option Entry
 entry_of_items [] = Some empty_entry
 entry_of_items (id ∷ []) = option_map (λ i. entry_of (i, empty)) (text_reading id)
-entry_of_items (id ∷ fields ∷ rest) = option_map entry_of (both_read (text_reading id) (fields_reading (λ t. Some t) fields))
+entry_of_items (id ∷ fields ∷ rest) =
+    option_map entry_of (both_read (text_reading id) (fields_reading (λ t. Some t) fields))
 
 -- an entry by the items of an array with no attribute around it; any other value is the empty entry
 abbrev pub info_entry_reading : Tree → Option Entry
@@ -64,7 +67,15 @@ pub record StreamInfo : Type 0 where
 
 -- a stream of which nothing is said
 abbrev pub empty_stream : StreamInfo
-empty_stream = record { last_generated_id = []; radix_tree_keys = 0; radix_tree_nodes = 0; groups = 0; length = 0; first_entry = empty_entry; last_entry = empty_entry }
+empty_stream = record {
+  last_generated_id = [];
+  radix_tree_keys = 0;
+  radix_tree_nodes = 0;
+  groups = 0;
+  length = 0;
+  first_entry = empty_entry;
+  last_entry = empty_entry;
+}
 
 -- a stream by its fields
 abbrev pub stream_of : NamedFields → Option StreamInfo
@@ -76,7 +87,16 @@ stream_of fields =
     number_field 64 fields (codes "length") >>= λ length.
     entry_field fields (codes "first-entry") >>= λ first.
     entry_field fields (codes "last-entry") >>= λ last.
-    Some (record { last_generated_id = id; radix_tree_keys = keys; radix_tree_nodes = nodes; groups = groups; length = length; first_entry = first; last_entry = last })
+    Some
+    (record {
+      last_generated_id = id;
+      radix_tree_keys = keys;
+      radix_tree_nodes = nodes;
+      groups = groups;
+      length = length;
+      first_entry = first;
+      last_entry = last;
+    })
 
 -- what a value says as the reply of XINFO STREAM
 abbrev pub stream_reading : Tree → Option StreamInfo
@@ -94,7 +114,15 @@ pub record TrackedStream : Type 0 where
 
 -- a stream and its producers of which nothing is said
 abbrev pub empty_tracked : TrackedStream
-empty_tracked = record { base = empty_stream; idmp_duration = 0; idmp_maxsize = 0; pids_tracked = 0; iids_tracked = 0; iids_added = 0; iids_duplicates = 0 }
+empty_tracked = record {
+  base = empty_stream;
+  idmp_duration = 0;
+  idmp_maxsize = 0;
+  pids_tracked = 0;
+  iids_tracked = 0;
+  iids_added = 0;
+  iids_duplicates = 0;
+}
 
 -- a stream and its idempotent producers by its fields
 abbrev pub tracked_of : NamedFields → Option TrackedStream
@@ -106,7 +134,16 @@ tracked_of fields =
     number_field 64 fields (codes "iids-added") >>= λ added.
     number_field 64 fields (codes "iids-duplicates") >>= λ duplicates.
     stream_of fields >>= λ base.
-    Some (record { base = base; idmp_duration = duration; idmp_maxsize = maxsize; pids_tracked = producers; iids_tracked = ids; iids_added = added; iids_duplicates = duplicates })
+    Some
+    (record {
+      base = base;
+      idmp_duration = duration;
+      idmp_maxsize = maxsize;
+      pids_tracked = producers;
+      iids_tracked = ids;
+      iids_added = added;
+      iids_duplicates = duplicates;
+    })
 
 -- what a value says as the reply of XINFO STREAM with its idempotent producers
 abbrev pub tracked_reading : Tree → Option TrackedStream
@@ -160,7 +197,15 @@ group_of fields =
     text_field fields (codes "last-delivered-id") >>= λ id.
     number_or_nil_field fields (codes "entries-read") >>= λ read.
     number_or_nil_field fields (codes "lag") >>= λ lag.
-    Some (record { name = name; consumers = consumers; pending = pending; last_delivered_id = id; entries_read = read; lag = lag })
+    Some
+    (record {
+      name = name;
+      consumers = consumers;
+      pending = pending;
+      last_delivered_id = id;
+      entries_read = read;
+      lag = lag;
+    })
 
 -- what a value says as a row of the reply of XINFO GROUPS
 abbrev pub group_reading : Tree → Option Group

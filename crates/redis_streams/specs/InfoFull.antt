@@ -1,5 +1,6 @@
 -- What the reply of XINFO STREAM FULL means: a stream with its entries, its groups and their consumers.
-use Rattle.std.specs.Prelude.{ℕ, ℤ, List, [], ◌∷◌, Option, Some, None, option_map, option_and_then, codes, if◌then◌else◌}
+use Rattle.std.specs.Prelude.{ℕ, ℤ, List, [], ◌∷◌, Option, Some, None, option_map, option_and_then, codes}
+use Rattle.std.specs.Prelude.{if◌then◌else◌}
 use Rattle.redis_resp.specs.Then.{◌>>=◌}
 use Rattle.redis_resp.specs.Tree.{Tree}
 use Rattle.redis_resp.specs.Text.{text_reading}
@@ -46,7 +47,8 @@ full_pending_of parts = record { id = parts.0; consumer = parts.1; delivery_time
 
 -- a pending entry of a group: an array of exactly its id, its consumer and two numbers
 abbrev pub full_pending_reading : Tree → Option FullPending
-full_pending_reading t = option_map full_pending_of (four_reading text_reading text_reading (unsigned_reading 64) (unsigned_reading 64) t)
+full_pending_reading t = option_map full_pending_of
+    (four_reading text_reading text_reading (unsigned_reading 64) (unsigned_reading 64) t)
 
 -- a pending entry of a consumer: the same without the consumer
 pub record OwnPending : Type 0 where
@@ -64,7 +66,8 @@ own_pending_of parts = record { id = parts.0; delivery_time = parts.1; times_del
 
 -- a pending entry of a consumer: an array of exactly its id and two numbers
 abbrev pub own_pending_reading : Tree → Option OwnPending
-own_pending_reading t = option_map own_pending_of (three_reading text_reading (unsigned_reading 64) (unsigned_reading 64) t)
+own_pending_reading t = option_map own_pending_of
+    (three_reading text_reading (unsigned_reading 64) (unsigned_reading 64) t)
 
 -- a time that the server may not tell, with its sign: nil, with no attribute around it, says so
 abbrev pub time_or_nil_reading : Tree → Option (Option ℤ)
@@ -112,7 +115,15 @@ pub record FullGroup : Type 0 where
 
 -- a group of which nothing is said
 abbrev pub empty_full_group : FullGroup
-empty_full_group = record { name = []; last_delivered_id = []; entries_read = None; lag = None; pending_count = 0; pending = []; consumers = [] }
+empty_full_group = record {
+  name = [];
+  last_delivered_id = [];
+  entries_read = None;
+  lag = None;
+  pending_count = 0;
+  pending = [];
+  consumers = [];
+}
 
 -- a group by its fields
 abbrev pub full_group_of : NamedFields → Option FullGroup
@@ -124,7 +135,16 @@ full_group_of fields =
     number_field 64 fields (codes "pel-count") >>= λ count.
     list_field full_pending_reading fields (codes "pending") >>= λ pending.
     list_field full_consumer_reading fields (codes "consumers") >>= λ consumers.
-    Some (record { name = name; last_delivered_id = id; entries_read = read; lag = lag; pending_count = count; pending = pending; consumers = consumers })
+    Some
+    (record {
+      name = name;
+      last_delivered_id = id;
+      entries_read = read;
+      lag = lag;
+      pending_count = count;
+      pending = pending;
+      consumers = consumers;
+    })
 
 -- what a value says as a group in the reply of XINFO STREAM FULL
 abbrev pub full_group_reading : Tree → Option FullGroup

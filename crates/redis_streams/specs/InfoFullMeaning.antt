@@ -1,4 +1,5 @@
--- What the records of XINFO STREAM FULL mean: the same as the mathematical ones, whatever room their texts and lists have.
+-- What the records of XINFO STREAM FULL mean: the same as the mathematical ones, whatever room their texts and lists
+-- have.
 use Rattle.std.specs.Prelude.{List, map, string_bytes}
 use Rattle.redis_resp.specs.Table.{entries_meaning}
 use Rattle.redis_resp.specs.Value.{tree}
@@ -25,7 +26,8 @@ full_pending_meaning p = record {
 
 -- what a record says of a consumer's pending entry
 abbrev pub own_pending_meaning : StreamInfoConsumerPending → OwnPending
-own_pending_meaning p = record { id = string_bytes p.id; delivery_time = p.delivery_time; times_delivered = p.times_delivered }
+own_pending_meaning p =
+    record { id = string_bytes p.id; delivery_time = p.delivery_time; times_delivered = p.times_delivered }
 
 -- what a record says of a consumer
 abbrev pub full_consumer_meaning : StreamInfoFullConsumer → FullConsumer

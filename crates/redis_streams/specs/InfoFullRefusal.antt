@@ -2,11 +2,13 @@
 use Rattle.std.specs.Prelude.{◌⊎◌, Some, codes}
 use Rattle.redis_resp.specs.Tree.{Tree}
 use Rattle.redis_resp.specs.Number.{unsigned_reading}
-use Rattle.redis_resp.specs.Refusal.{Refuses, RefusesText, RefusesNumber, RefusesValue, RefusesList, RefusesPairs, RefusesTwo, RefusesThree, RefusesFour, RefusesField}
+use Rattle.redis_resp.specs.Refusal.{Refuses, RefusesText, RefusesNumber, RefusesValue, RefusesList, RefusesPairs}
+use Rattle.redis_resp.specs.Refusal.{RefusesTwo, RefusesThree, RefusesFour, RefusesField}
 use Rattle.redis_resp.specs.Table.{pairs_reading}
 use Rattle.redis_resp.specs.declared.value.error.ParsingError.{ParsingError}
 use Rattle.redis_streams.specs.Info.{NamedFields}
-use Rattle.redis_streams.specs.InfoFull.{full_entry_reading, full_pending_reading, own_pending_reading, full_consumer_reading, full_group_reading}
+use Rattle.redis_streams.specs.InfoFull.{full_entry_reading, full_pending_reading, own_pending_reading}
+use Rattle.redis_streams.specs.InfoFull.{full_consumer_reading, full_group_reading}
 use Rattle.redis_streams.specs.InfoRefusal.{RefusesNamed}
 use Rattle.stream_entries.specs.Refusal.{RefusesTextIn}
 
@@ -52,7 +54,8 @@ RefusesFullGroupField fields error =
     ⊎ (RefusesField RefusesNumber (fields (codes "lag")) error
     ⊎ (RefusesField RefusesNumber (fields (codes "pel-count")) error
     ⊎ (RefusesField (RefusesList (Refuses full_pending_reading RefusesFullPending)) (fields (codes "pending")) error
-    ⊎ RefusesField (RefusesList (Refuses full_consumer_reading RefusesFullConsumer)) (fields (codes "consumers")) error)))))
+    ⊎ RefusesField (RefusesList (Refuses full_consumer_reading RefusesFullConsumer))
+    (fields (codes "consumers")) error)))))
 
 -- a group
 abbrev pub RefusesFullGroup : Tree → ParsingError → Type 0

@@ -1,7 +1,8 @@
 -- With which error a value may be refused as a reply of XINFO.
 use Rattle.std.specs.Prelude.{◌⊎◌, List, [], ◌∷◌, Some, MatchOption, unwrap_or, codes}
 use Rattle.redis_resp.specs.Tree.{Tree, array_of_plain}
-use Rattle.redis_resp.specs.Refusal.{Refuses, RefusesText, RefusesNumber, RefusesValue, RefusesList, RefusesPairs, RefusesField}
+use Rattle.redis_resp.specs.Refusal.{Refuses, RefusesText, RefusesNumber, RefusesValue, RefusesList, RefusesPairs}
+use Rattle.redis_resp.specs.Refusal.{RefusesField}
 use Rattle.redis_resp.specs.declared.value.error.ParsingError.{ParsingError}
 use Rattle.redis_streams.specs.Info.{NamedFields, fields_in, consumer_reading, group_reading}
 use Rattle.stream_entries.specs.Refusal.{RefusesFields, RefusesTextIn}
@@ -17,9 +18,11 @@ RefusesItems (id ∷ fields ∷ rest) error = RefusesTextIn id error ⊎ Refuses
 abbrev pub RefusesInfoEntry : Tree → ParsingError → Type 0
 RefusesInfoEntry t error = RefusesItems (unwrap_or (array_of_plain t) []) error
 
--- fields by name: pairs of a text and a value that is kept as it is, and where they are there what the fields are refused with
+-- fields by name: pairs of a text and a value that is kept as it is, and where they are there what the fields are
+-- refused with
 abbrev pub RefusesNamed : (NamedFields → ParsingError → Type 0) → Tree → ParsingError → Type 0
-RefusesNamed refuses t error = RefusesPairs (Refuses (λ u. Some u) RefusesValue) t error ⊎ MatchOption (fields_in t) ⊥ (λ fields. refuses fields error)
+RefusesNamed refuses t error = RefusesPairs (Refuses (λ u. Some u) RefusesValue) t error
+    ⊎ MatchOption (fields_in t) ⊥ (λ fields. refuses fields error)
 
 -- one of a stream's fields
 abbrev pub RefusesStreamField : NamedFields → ParsingError → Type 0

@@ -7,11 +7,13 @@ use Rattle.redis_resp.specs.Text.{text_reading}
 
 -- the names of a stream's fields
 abbrev pub stream_names : List (List ℕ)
-stream_names = codes "last-generated-id" ∷ codes "radix-tree-keys" ∷ codes "radix-tree-nodes" ∷ codes "groups" ∷ codes "length" ∷ codes "first-entry" ∷ codes "last-entry" ∷ []
+stream_names = codes "last-generated-id" ∷ codes "radix-tree-keys" ∷ codes "radix-tree-nodes" ∷ codes "groups"
+    ∷ codes "length" ∷ codes "first-entry" ∷ codes "last-entry" ∷ []
 
 -- the names of the fields of a stream and of its idempotent producers
 abbrev pub tracked_names : List (List ℕ)
-tracked_names = codes "idmp-duration" ∷ codes "idmp-maxsize" ∷ codes "pids-tracked" ∷ codes "iids-tracked" ∷ codes "iids-added" ∷ codes "iids-duplicates" ∷ stream_names
+tracked_names = codes "idmp-duration" ∷ codes "idmp-maxsize" ∷ codes "pids-tracked" ∷ codes "iids-tracked"
+    ∷ codes "iids-added" ∷ codes "iids-duplicates" ∷ stream_names
 
 -- the names of a consumer's fields
 abbrev pub consumer_names : List (List ℕ)
@@ -19,7 +21,8 @@ consumer_names = codes "name" ∷ codes "pending" ∷ codes "idle" ∷ []
 
 -- the names of a group's fields
 abbrev pub group_names : List (List ℕ)
-group_names = codes "name" ∷ codes "consumers" ∷ codes "pending" ∷ codes "last-delivered-id" ∷ codes "entries-read" ∷ codes "lag" ∷ []
+group_names = codes "name" ∷ codes "consumers" ∷ codes "pending" ∷ codes "last-delivered-id" ∷ codes "entries-read"
+    ∷ codes "lag" ∷ []
 
 -- the names of a consumer's fields in the reply of XINFO STREAM FULL
 abbrev pub full_consumer_names : List (List ℕ)
@@ -28,12 +31,14 @@ full_consumer_names = codes "name" ∷ codes "seen-time" ∷ codes "active-time"
 -- the names of a group's fields in it
 abbrev pub full_group_names : List (List ℕ)
 full_group_names =
-    codes "name" ∷ codes "last-delivered-id" ∷ codes "entries-read" ∷ codes "lag" ∷ codes "pel-count" ∷ codes "pending" ∷ codes "consumers" ∷ []
+    codes "name" ∷ codes "last-delivered-id" ∷ codes "entries-read" ∷ codes "lag" ∷ codes "pel-count" ∷ codes "pending"
+    ∷ codes "consumers" ∷ []
 
 -- the names of a stream's fields in it
 abbrev pub full_names : List (List ℕ)
 full_names =
-    codes "length" ∷ codes "radix-tree-keys" ∷ codes "radix-tree-nodes" ∷ codes "last-generated-id" ∷ codes "max-deleted-entry-id"
+    codes "length" ∷ codes "radix-tree-keys" ∷ codes "radix-tree-nodes" ∷ codes "last-generated-id"
+    ∷ codes "max-deleted-entry-id"
     ∷ codes "entries-added" ∷ codes "recorded-first-entry-id" ∷ codes "entries" ∷ codes "groups" ∷ []
 
 -- it is none of the names
@@ -66,7 +71,8 @@ pub record HasOtherItem (IsMore : Tree → Tree → Type 0) (t more : Tree) : Ty
   pub more_items_are : items more ≡ Some (before ++ changed ∷ after)
   pub is_more : IsMore item changed
 
--- `more` has the pairs of `t` but for one whose key is the name, in whose value's place one stands that is so related to it
+-- `more` has the pairs of `t` but for one whose key is the name, in whose value's place one stands that is so related
+-- to it
 pub record HasOtherValue (name : List ℕ) (IsMore : Tree → Tree → Type 0) (t more : Tree) : Type 0 where
   pub before : List (Tree × Tree)
   pub after : List (Tree × Tree)
@@ -86,7 +92,8 @@ HasMoreInGroup t more =
 
 -- `more` is the stream `t` with one field more, of the stream, of one of its groups or of one of their consumers
 abbrev pub HasMoreInStream : Tree → Tree → Type 0
-HasMoreInStream t more = HasOtherKey full_names t more ⊎ HasOtherValue (codes "groups") (HasOtherItem HasMoreInGroup) t more
+HasMoreInStream t more = HasOtherKey full_names t more
+    ⊎ HasOtherValue (codes "groups") (HasOtherItem HasMoreInGroup) t more
 
 -- one field more, wherever it stands, changes nothing
 abbrev pub MoreChangesNothing : {M : Type 0} → (Tree → Tree → Type 0) → (Tree → Option M) → Type 0

@@ -1,5 +1,7 @@
 -- What the replies of XPENDING mean, and which value means what.
-use Rattle.std.specs.Prelude.{ℕ, ◌-◌, ◌^◌, ℤ, pos, negsuc, suc, List, [], Option, Some, None, option_map, option_and_then, unwrap_or, option_to_list, flat_map, if◌then◌else◌, nat_eq, Bool, true, false, ◌&&◌}
+use Rattle.std.specs.Prelude.{ℕ, ◌-◌, ◌^◌, ℤ, pos, negsuc, suc, List, [], Option, Some, None, option_map}
+use Rattle.std.specs.Prelude.{option_and_then, unwrap_or, option_to_list, flat_map, if◌then◌else◌, nat_eq, Bool, true}
+use Rattle.std.specs.Prelude.{false, ◌&&◌}
 use Rattle.redis_resp.specs.Then.{◌>>=◌}
 use Rattle.redis_resp.specs.Tree.{Tree, int, bulk, array_of_plain, exactly_four}
 use Rattle.redis_resp.specs.Text.{text_reading}
@@ -24,7 +26,8 @@ SummaryParts = ℕ × Option (List ℕ) × Option (List ℕ) × List (Option (Li
 
 -- a count, the first and the last id where there are any, and a list of names with the texts of their counts
 abbrev pub summary_parts : Tree → Option SummaryParts
-summary_parts = four_reading (unsigned_reading 64) (option_reading text_reading) (option_reading text_reading) (list_reading (option_reading (two_reading text_reading text_reading)))
+summary_parts = four_reading (unsigned_reading 64) (option_reading text_reading) (option_reading text_reading)
+    (list_reading (option_reading (two_reading text_reading text_reading)))
 
 -- the number that a text writes, and 0 where it writes none
 abbrev pub number_in : List ℕ → ℕ
@@ -103,6 +106,7 @@ entry_of_four ts = exactly_four ts >>= entry_of_members
 abbrev pub pending_row : Tree → Option PendingEntry
 pending_row t = array_of_plain t >>= entry_of_four
 
--- what a value says as the reply of XPENDING with a range: a row for each entry, in an array with no attribute around it
+-- what a value says as the reply of XPENDING with a range: a row for each entry, in an array with no attribute around
+-- it
 abbrev pub pending_count_reading : Tree → Option (List PendingEntry)
 pending_count_reading t = array_of_plain t >>= traverse pending_row

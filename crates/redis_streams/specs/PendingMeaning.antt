@@ -11,7 +11,12 @@ use Rattle.redis_streams.specs.declared.pending.extended.StreamPendingCountReply
 
 -- what a record says is pending
 abbrev pub data_meaning : StreamPendingData → PendingSummary
-data_meaning d = record { count = d.count; start_id = string_bytes d.start_id; end_id = string_bytes d.end_id; consumers = map consumer_meaning d.consumers.items }
+data_meaning d = record {
+  count = d.count;
+  start_id = string_bytes d.start_id;
+  end_id = string_bytes d.end_id;
+  consumers = map consumer_meaning d.consumers.items;
+}
 
 -- what a reply says is pending, or None where nothing is
 abbrev pub pending_meaning : StreamPendingReply → Option PendingSummary
@@ -25,7 +30,12 @@ count_of (Data d) = d.count
 
 -- the pending entry that a record describes
 abbrev pub pending_id_meaning : StreamPendingId → PendingEntry
-pending_id_meaning p = record { id = string_bytes p.id; consumer = string_bytes p.consumer; last_delivered_ms = p.last_delivered_ms; times_delivered = p.times_delivered }
+pending_id_meaning p = record {
+  id = string_bytes p.id;
+  consumer = string_bytes p.consumer;
+  last_delivered_ms = p.last_delivered_ms;
+  times_delivered = p.times_delivered;
+}
 
 -- the pending entries that a reply lists
 abbrev pub pending_ids_meaning : StreamPendingCountReply → List PendingEntry
@@ -36,5 +46,7 @@ abbrev pub row_meaning : String Global × String Global → List ℕ × List ℕ
 row_meaning p = (string_bytes p.0, string_bytes p.1)
 
 -- the parts of a summary as they were read
-abbrev pub parts_meaning : ℕ × Option (String Global) × Option (String Global) × Vec (Option (String Global × String Global)) Global → SummaryParts
-parts_meaning p = (p.0, option_map string_bytes p.1, option_map string_bytes p.2, map (option_map row_meaning) p.3.items)
+abbrev pub parts_meaning : ℕ × Option (String Global) × Option (String Global)
+    × Vec (Option (String Global × String Global)) Global → SummaryParts
+parts_meaning p =
+    (p.0, option_map string_bytes p.1, option_map string_bytes p.2, map (option_map row_meaning) p.3.items)

@@ -4,19 +4,23 @@ use Rattle.redis_resp.specs.Tree.{Tree, array_of_plain, exactly_four}
 use Rattle.redis_resp.specs.Text.{text_reading}
 use Rattle.redis_resp.specs.Number.{unsigned_reading}
 use Rattle.redis_resp.specs.Reading.{option_reading, list_reading, two_reading}
-use Rattle.redis_resp.specs.Refusal.{Refuses, OneRefused, RefusesNumber, RefusesOption, RefusesList, RefusesTwo, RefusesFour}
+use Rattle.redis_resp.specs.Refusal.{Refuses, OneRefused, RefusesNumber, RefusesOption, RefusesList, RefusesTwo}
+use Rattle.redis_resp.specs.Refusal.{RefusesFour}
 use Rattle.redis_resp.specs.declared.value.error.ParsingError.{ParsingError}
-use Rattle.redis_resp.specs.declared.value.error.ParsingError.TheVariants.{PendingWithoutStart, PendingWithoutEnd, NotPendingRow, Memory}
+use Rattle.redis_resp.specs.declared.value.error.ParsingError.TheVariants.{PendingWithoutStart, PendingWithoutEnd}
+use Rattle.redis_resp.specs.declared.value.error.ParsingError.TheVariants.{NotPendingRow, Memory}
 use Rattle.redis_streams.specs.Pending.{SummaryParts, summary_parts, Members, row_numbers, pending_row}
 use Rattle.stream_entries.specs.Refusal.{RefusesTextIn, RefusesOptionalText}
 
 -- a row of a summary: a consumer's name and the text of its count, where they are there
 abbrev pub RefusesSummaryRow : Tree → ParsingError → Type 0
-RefusesSummaryRow = Refuses (option_reading (two_reading text_reading text_reading)) (RefusesOption (Refuses (two_reading text_reading text_reading) (RefusesTwo RefusesTextIn RefusesTextIn)))
+RefusesSummaryRow = Refuses (option_reading (two_reading text_reading text_reading))
+    (RefusesOption (Refuses (two_reading text_reading text_reading) (RefusesTwo RefusesTextIn RefusesTextIn)))
 
 -- the four parts of a summary
 abbrev pub RefusesSummaryParts : Tree → ParsingError → Type 0
-RefusesSummaryParts = RefusesFour (Refuses (unsigned_reading 64) RefusesNumber) RefusesOptionalText RefusesOptionalText (Refuses (list_reading (option_reading (two_reading text_reading text_reading))) (RefusesList RefusesSummaryRow))
+RefusesSummaryParts = RefusesFour (Refuses (unsigned_reading 64) RefusesNumber) RefusesOptionalText RefusesOptionalText
+    (Refuses (list_reading (option_reading (two_reading text_reading text_reading))) (RefusesList RefusesSummaryRow))
 
 -- which error a positive count has by its first and its last id; where both are there only memory may be missing
 abbrev pub error_by_ids : {A : Type 0} → Option A → Option A → ParsingError
@@ -30,11 +34,14 @@ RefusesSummary parts error = (nat_eq parts.0 0 ≡ false) × (error ≡ error_by
 
 -- what is pending in a group: what the parts are refused with, and where they are there what they make
 abbrev pub RefusesPending : Tree → ParsingError → Type 0
-RefusesPending t error = RefusesSummaryParts t error ⊎ MatchOption (summary_parts t) ⊥ (λ parts. RefusesSummary parts error)
+RefusesPending t error = RefusesSummaryParts t error
+    ⊎ MatchOption (summary_parts t) ⊥ (λ parts. RefusesSummary parts error)
 
--- the members of a pending entry: `NotPendingRow(3)` where one has another kind, and else what the id or the name is refused with as a text
+-- the members of a pending entry: `NotPendingRow(3)` where one has another kind, and else what the id or the name is
+-- refused with as a text
 abbrev pub RefusesMembers : Members → ParsingError → Type 0
-RefusesMembers q error = MatchOption (row_numbers q) (error ≡ NotPendingRow 3) (λ _. RefusesTextIn q.0 error ⊎ RefusesTextIn q.1 error)
+RefusesMembers q error = MatchOption (row_numbers q) (error ≡ NotPendingRow 3)
+    (λ _. RefusesTextIn q.0 error ⊎ RefusesTextIn q.1 error)
 
 -- the same of a list, which has exactly four members or is refused with `NotPendingRow(3)`
 abbrev pub RefusesFourMembers : List Tree → ParsingError → Type 0
@@ -46,4 +53,5 @@ RefusesPendingRow t error = MatchOption (array_of_plain t) (error ≡ NotPending
 
 -- the pending entries of a range: `NotPendingRow(1)` where there is no array, and else what one of them is refused with
 abbrev pub RefusesPendingCount : Tree → ParsingError → Type 0
-RefusesPendingCount t error = MatchOption (array_of_plain t) (error ≡ NotPendingRow 1) (λ ts. OneRefused (Refuses pending_row RefusesPendingRow) ts error)
+RefusesPendingCount t error = MatchOption (array_of_plain t) (error ≡ NotPendingRow 1)
+    (λ ts. OneRefused (Refuses pending_row RefusesPendingRow) ts error)

@@ -2,7 +2,8 @@
 use Rattle.std.specs.Prelude.{zero, suc, ℤ, pos, negsuc, Option, Some, None}
 use Rattle.redis_resp.specs.Tree.{Tree, int}
 use Rattle.redis_resp.specs.declared.value.error.ParsingError.{ParsingError}
-use Rattle.redis_resp.specs.declared.value.error.ParsingError.TheVariants.{UnknownXDelEx, UnknownXAckDel, NotXDelEx, NotXAckDel}
+use Rattle.redis_resp.specs.declared.value.error.ParsingError.TheVariants.{UnknownXDelEx, UnknownXAckDel, NotXDelEx}
+use Rattle.redis_resp.specs.declared.value.error.ParsingError.TheVariants.{NotXAckDel}
 use Rattle.redis_streams.specs.declared.status.XDelExStatusCode.{XDelExStatusCode}
 use Rattle.redis_streams.specs.declared.status.XAckDelStatusCode.{XAckDelStatusCode}
 

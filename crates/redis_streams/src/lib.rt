@@ -30,7 +30,7 @@ pub use pending::{
     StreamPendingCountReply, StreamPendingData, StreamPendingId, StreamPendingReply,
 };
 pub use rows::{
-    ReadForms, StreamAutoClaimReply, StreamClaimReply, StreamId, StreamKey, StreamRangeReply,
-    StreamReadReply,
+    ReadForms, StreamAutoClaimJustIdReply, StreamAutoClaimReply, StreamClaimReply, StreamId,
+    StreamKey, StreamRangeReply, StreamReadReply,
 };
 pub use status::{XAckDelStatusCode, XDelExStatusCode};

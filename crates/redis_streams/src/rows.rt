@@ -1,5 +1,5 @@
 //! Replies that hold entries of streams: ranges, claims, reads and automatic claims.
 pub use stream_entries::{
-    ReadForms, StreamAutoClaimReply, StreamClaimReply, StreamId, StreamKey, StreamRangeReply,
-    StreamReadReply,
+    ReadForms, StreamAutoClaimJustIdReply, StreamAutoClaimReply, StreamClaimReply, StreamId,
+    StreamKey, StreamRangeReply, StreamReadReply,
 };

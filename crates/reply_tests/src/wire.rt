@@ -1,8 +1,8 @@
 //! What the codec promises of memory, time and text, and values from outside.
 use redis_resp::FromRedisValue;
 use redis_wire::{
-    Decoded, Fault, Limits, PackedCommand, Reply, ReplyStream, WireError, append_command, decode,
-    from_reply, pack_args, pack_command,
+    Decoded, Fault, Limits, PackedCommand, RedisError, Reply, ReplyStream, WireError,
+    append_command, decode, from_reply, pack_args, pack_command,
 };
 use std::alloc::{AllocError, Global};
 use std::fmt::Debug;
@@ -27,7 +27,7 @@ fn check_decoded(rt: &(impl AllocGlobal + Abort), bytes: &[u8], shown: &str) -> 
 }
 
 /// The first fault from the left; groups with errors in them; and messages that are pushed.
-const DECODED: [(&[u8], &str); 31] = [
+const DECODED: [(&[u8], &str); 44] = [
     (b"?", "Err(Fault(UnknownType))"),
     (b"$?\r\n", "Err(Fault(Streamed))"),
     (b"+a\nb", "Err(Fault(BadEnd))"),
@@ -39,9 +39,17 @@ const DECODED: [(&[u8], &str); 31] = [
     (b"*1\r\n*1\r\n*1\r\n*1\r\n:1\r\n", "Err(Fault(TooDeep))"),
     (b":9223372036854775808\r\n", "Err(Fault(BadNumber))"),
     (b"*2\r\n:x\r\n#x\r\n", "Err(Fault(BadNumber))"),
+    (b"$+1\r\n", "Err(Fault(BadLength))"),
+    (b"*-0\r\n", "Err(Fault(BadLength))"),
+    (b"$-01\r\n", "Err(Fault(BadLength))"),
+    (b",x\r\n", "Err(Fault(BadNumber))"),
+    (b",.5\r\n", "Err(Fault(BadNumber))"),
+    (b",1.\r\n", "Err(Fault(BadNumber))"),
+    (b",1e\r\n", "Err(Fault(BadNumber))"),
+    (b"(1.5\r\n", "Err(Fault(BadNumber))"),
+    (b"(-\r\n", "Err(Fault(BadNumber))"),
     (b"_x\r\n", "Err(Fault(BadNull))"),
     (b"#x\r\n", "Err(Fault(BadBoolean))"),
-    (b"+\xff\r\n", "Err(Fault(NotUtf8))"),
     (b"=3\r\ntxt\r\n", "Err(Fault(BadVerbatim))"),
     (b">0\r\n", "Err(Fault(BadPush))"),
     (b">-1\r\n", "Err(Fault(BadLength))"),
@@ -52,6 +60,26 @@ const DECODED: [(&[u8], &str); 31] = [
     (b"*2\r\n-A\r\n:1", "Ok(Incomplete)"),
     (b">2\r\n+a\r\n*1\r\n", "Ok(Incomplete)"),
     (b"", "Ok(Incomplete)"),
+    (
+        b"+\xff\r\n",
+        "Ok(Complete { reply: Value(BulkString([255])), len: 4 })",
+    ),
+    (
+        b"=6\r\ntxt:\xff\xfe\r\n",
+        "Ok(Complete { reply: Value(BulkString([255, 254])), len: 12 })",
+    ),
+    (
+        b",-1.5e-7\r\n",
+        "Ok(Complete { reply: Value(SimpleString(\"-1.5e-7\")), len: 10 })",
+    ),
+    (
+        b",inf\r\n",
+        "Ok(Complete { reply: Value(SimpleString(\"inf\")), len: 6 })",
+    ),
+    (
+        b"(-12\r\n",
+        "Ok(Complete { reply: Value(SimpleString(\"-12\")), len: 6 })",
+    ),
     (
         b"*2\r\n-A\r\n:1\r\n",
         "Ok(Complete { reply: Group { kind: Array, members: [\
@@ -87,6 +115,36 @@ Value(SimpleString(\"a\")), Error(ServerError { text: [69] }), Value(Int(1))] },
 Error(ServerError { text: [69] }), Value(Int(1))] }, len: 16 })",
     ),
 ];
+
+/// A number out of a reply, with every error of a caller in one.
+fn number_in(alloc: Global, bytes: &[u8]) -> Result<usize, RedisError> {
+    match decode(alloc, bytes, LIMITS)? {
+        Decoded::Complete { reply, .. } => Ok(from_reply(alloc, reply)?),
+        Decoded::Incomplete => Err(RedisError::NotAnAnswer),
+    }
+}
+
+/// What a caller is told, in its own words or in those of the server.
+const TOLD: [(&[u8], &str); 5] = [
+    (b":7\r\n", "7"),
+    (b"-ERR no \xff\r\n", "ERR no \u{FFFD}"),
+    (b"*2\r\n:1\r\n-MOVED 1\r\n", "MOVED 1"),
+    (b"+x\r\n", "not a number of this type"),
+    (b":x\r\n", "not a number"),
+];
+
+#[test]
+fn errors_are_told_in_one(rt: HostRuntime) -> Result<(), Fail> {
+    let alloc = rt.alloc();
+    for (bytes, wanted) in &TOLD {
+        let told = match number_in(alloc, bytes) {
+            Ok(number) => format!(in alloc; "{number}")?,
+            Err(error) => format!(in alloc; "{error}")?,
+        };
+        assert_eq!(rt; told.as_str(), *wanted);
+    }
+    Ok(())
+}
 
 #[test]
 fn faults_and_errors_are_decoded(rt: HostRuntime) -> Result<(), Fail> {
@@ -175,7 +233,7 @@ const NUMBERS: [(&[u8], &str); 10] = [
         "Value(Int(-9223372036854775808))",
     ),
     (
-        b"$+0000000000000000000000001\r\na\r\n",
+        b"$0000000000000000000000001\r\na\r\n",
         "Value(BulkString([97]))",
     ),
 ];

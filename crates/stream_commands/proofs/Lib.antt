@@ -1,3 +1,2 @@
 mod IdLemmas
-pub mod JustIdLemmas
 pub mod WholeCommandLemmas

@@ -1,9 +1,14 @@
 -- What the arguments of whole commands determine.
-use Rattle.std.proofs.Common.{◌≡◌, ℕ, ◌+◌, suc, Bool, true, false, List, [], ◌∷◌, ◌++◌, length, map, codes, refl, sym, ◌∙◌, ap, arith, ◌⊎◌, inl, inr}
+use Rattle.std.proofs.Common.{◌≡◌, ℕ, ◌+◌, suc, Bool, true, false, List, [], ◌∷◌, ◌++◌, length, map, codes, refl, sym}
+use Rattle.std.proofs.Common.{◌∙◌, ap, arith, ◌⊎◌, inl, inr}
 use Rattle.std.proofs.lemmas.List.{length-append}
 use Rattle.std.proofs.lemmas.Fmt.{decimal_injective}
-use Rattle.stream_commands.specs.WholeCommands.{IsDetermined, IsApart, AreApart, add_list, AddPartsFit, SameAdd, trim_list, TrimPartsFit, SameTrim, read_list, ReadPartsFit, SameRead, claim_list, ClaimPartsFit, SameClaim, autoclaim_list, AutoClaimPartsFit, SameAutoClaim}
-use Rattle.stream_options.proofs.UniqueDecoding.{add_determined, trim_exact, read_determined, claim_reads, claim_exact, autoclaim_exact}
+use Rattle.stream_commands.specs.WholeCommands.{IsDetermined, IsApart, AreApart, add_list, AddPartsFit, SameAdd}
+use Rattle.stream_commands.specs.WholeCommands.{trim_list, TrimPartsFit, SameTrim, read_list, ReadPartsFit, SameRead}
+use Rattle.stream_commands.specs.WholeCommands.{claim_list, ClaimPartsFit, SameClaim, autoclaim_list, AutoClaimPartsFit}
+use Rattle.stream_commands.specs.WholeCommands.{SameAutoClaim}
+use Rattle.stream_options.proofs.UniqueDecoding.{add_determined, trim_exact, read_determined, claim_reads, claim_exact}
+use Rattle.stream_options.proofs.UniqueDecoding.{autoclaim_exact}
 use Rattle.stream_options.specs.Claim.{claim_sentence, claim_words}
 use Rattle.stream_options.specs.Words.{among, begins}
 
@@ -18,7 +23,8 @@ tail (x ∷ xs) = xs
 
 pub add_law : IsDetermined AddPartsFit add_list SameAdd
 add_law a b fa fb e =
-    let rest = add_determined a.options b.options (a.id ∷ a.fields) (b.id ∷ b.fields) fa.options fb.options fa.id fb.id (ap (λ xs. tail (tail xs)) e) in
+    let rest = add_determined a.options b.options (a.id ∷ a.fields) (b.id ∷ b.fields) fa.options fb.options fa.id fb.id
+    (ap (λ xs. tail (tail xs)) e) in
     record {
       key = ap (λ xs. head (tail xs)) e;
       options = rest.0;
@@ -37,9 +43,11 @@ autoclaim_law a b fa fb e = record {
   key = ap (λ xs. head (tail xs)) e;
   group = ap (λ xs. head (tail (tail xs))) e;
   consumer = ap (λ xs. head (tail (tail (tail xs)))) e;
-  min_idle = decimal_injective a.min_idle b.min_idle fa.min_idle fb.min_idle (ap (λ xs. head (tail (tail (tail (tail xs))))) e);
+  min_idle = decimal_injective a.min_idle b.min_idle fa.min_idle fb.min_idle
+      (ap (λ xs. head (tail (tail (tail (tail xs))))) e);
   start = ap (λ xs. head (tail (tail (tail (tail (tail xs)))))) e;
-  options = (autoclaim_exact a.options b.options fa.options fb.options).1 (ap (λ xs. tail (tail (tail (tail (tail (tail xs)))))) e);
+  options = (autoclaim_exact a.options b.options fa.options fb.options).1
+      (ap (λ xs. tail (tail (tail (tail (tail (tail xs)))))) e);
 }
 
 -- ---- ids before options
@@ -53,12 +61,14 @@ not_both true f t = absurd cc
 not_both false f t = absurd cc
 
 -- an id in front is no beginning of options
-no_opening : {A : Type 0} (words : List (List ℕ)) (id : List ℕ) (ids args : List (List ℕ)) → IsApart words id → Opens words args → args ≡ id ∷ ids → A
+no_opening : {A : Type 0} (words : List (List ℕ)) (id : List ℕ) (ids args : List (List ℕ)) → IsApart words id
+    → Opens words args → args ≡ id ∷ ids → A
 no_opening words id ids args p (inl none) e = absurd cc
 no_opening words id ids args p (inr one) e = not_both (among words id) p (sym (ap (begins words) e) ∙ one)
 
 -- ids, and then options
-before_options : (words ids others s t : List (List ℕ)) → AreApart words ids → AreApart words others → Opens words s → Opens words t
+before_options : (words ids others s t : List (List ℕ)) → AreApart words ids → AreApart words others → Opens words s
+    → Opens words t
     → ids ++ s ≡ others ++ t → (ids ≡ others) × (s ≡ t)
 before_options words [] [] s t p q os ot e = (refl, e)
 before_options words [] (y ∷ ys) s t p q os ot e = no_opening words y (ys ++ t) s q.0 os e
@@ -70,13 +80,15 @@ before_options words (x ∷ xs) (y ∷ ys) s t p q os ot e =
 
 pub claim_law : IsDetermined ClaimPartsFit claim_list SameClaim
 claim_law a b fa fb e =
-    let rest = before_options claim_words a.ids b.ids (claim_sentence a.options) (claim_sentence b.options) fa.ids fb.ids
+    let rest = before_options claim_words a.ids b.ids (claim_sentence a.options)
+    (claim_sentence b.options) fa.ids fb.ids
     (claim_reads.opens a.options) (claim_reads.opens b.options) (ap (λ xs. tail (tail (tail (tail (tail xs))))) e) in
     record {
       key = ap (λ xs. head (tail xs)) e;
       group = ap (λ xs. head (tail (tail xs))) e;
       consumer = ap (λ xs. head (tail (tail (tail xs)))) e;
-      min_idle = decimal_injective a.min_idle b.min_idle fa.min_idle fb.min_idle (ap (λ xs. head (tail (tail (tail (tail xs))))) e);
+      min_idle = decimal_injective a.min_idle b.min_idle fa.min_idle fb.min_idle
+          (ap (λ xs. head (tail (tail (tail (tail xs))))) e);
       ids = rest.0;
       options = (claim_exact a.options b.options fa.options fb.options).1 rest.1;
     }
@@ -98,10 +110,12 @@ len f (p ∷ ps) = ap suc (len f ps)
 
 -- so many keys and ids
 columns_len : (ps : List Pair) → length (keys ps ++ ids ps) ≡ length ps + length ps
-columns_len ps = length-append (keys ps) (ids ps) ∙ (ap (λ n. n + length (ids ps)) (len (λ s. s.0) ps) ∙ ap (λ n. length ps + n) (len (λ s. s.1) ps))
+columns_len ps = length-append (keys ps) (ids ps)
+    ∙ (ap (λ n. n + length (ids ps)) (len (λ s. s.0) ps) ∙ ap (λ n. length ps + n) (len (λ s. s.1) ps))
 
 -- lists of one length, each before a rest
-split : (ps qs : List Pair) (r s : List (List ℕ)) → length ps ≡ length qs → keys ps ++ r ≡ keys qs ++ s → (keys ps ≡ keys qs) × (r ≡ s)
+split : (ps qs : List Pair) (r s : List (List ℕ)) → length ps ≡ length qs → keys ps ++ r ≡ keys qs ++ s
+    → (keys ps ≡ keys qs) × (r ≡ s)
 split [] [] r s l e = (refl, e)
 split [] (q ∷ qs) r s l e = absurd (omega arith)
 split (p ∷ ps) [] r s l e = absurd (omega arith)
@@ -130,7 +144,8 @@ same_streams ps qs e =
 pub read_law : IsDetermined ReadPartsFit read_list SameRead
 read_law a b fa fb e =
     let rest = read_determined a.options b.options
-    (codes "STREAMS" ∷ (keys a.streams ++ ids a.streams)) (codes "STREAMS" ∷ (keys b.streams ++ ids b.streams)) fa fb refl refl (ap tail e) in
+    (codes "STREAMS" ∷ (keys a.streams ++ ids a.streams))
+    (codes "STREAMS" ∷ (keys b.streams ++ ids b.streams)) fa fb refl refl (ap tail e) in
     record {
       options = rest.0;
       streams = same_streams a.streams b.streams (ap tail rest.1);

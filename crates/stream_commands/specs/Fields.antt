@@ -1,8 +1,9 @@
 -- Lists of arguments that are the fields of an entry.
-use Rattle.std.specs.Prelude.{◌≡◌, ℕ, List, [], ◌∷◌, ◌++◌, length}
+use Rattle.std.specs.Prelude.{◌≡◌, ℕ, List, [], ◌∷◌, ◌++◌, length, Option, Some, None}
 use Rattle.std.specs.List.{flat_map}
 use Rattle.std.proofs.Common.{sym, ◌∙◌, ap, refl}
 use Rattle.std.proofs.lemmas.Grind.{flat_map-append}
+use Rattle.redis_args.specs.Clause.{clause}
 use Rattle.stream_commands.specs.NonEmpty.{NonEmpty, all}
 use Rattle.stream_commands.specs.Single.{the_one}
 
@@ -47,3 +48,42 @@ module _ {T : Type 0} (args : T → List (List ℕ)) (each : (x : T) → AreFiel
     };
     are = are_in (all xs);
   }
+
+-- a list of pairs, each the name of a field and its value, or nothing
+pub record AreAnyFields (args : List (List ℕ)) : Type 0 where
+  pub fields : List (List ℕ × List ℕ)
+  pub are : args ≡ flat_map field_sentence fields
+
+-- fields are fields or nothing
+pub any_fields : {args : List (List ℕ)} → AreFields args → AreAnyFields args
+any_fields are = record { fields = all are.fields; are = are.are }
+
+-- those of all items
+pub each_joined : {T : Type 0} (args : T → List (List ℕ)) (each : (x : T) → AreFields (args x)) (xs : List T)
+    → AreAnyFields (flat_map args xs)
+each_joined args each xs = record { fields = fields_in args each xs; are = are_in args each xs }
+
+-- those of the value that is set, if one is
+pub those_set : {T : Type 0} (args : T → List (List ℕ)) (each : (x : T) → AreFields (args x)) (value : Option T)
+    → AreAnyFields (clause args value)
+those_set args each (Some x) = any_fields (each x)
+those_set args each None = record { fields = []; are = refl }
+
+-- some, and behind them one or more
+abbrev followed : {A : Type 0} → List A → NonEmpty A → NonEmpty A
+followed [] behind = behind
+followed (x ∷ xs) behind = record { first = x; rest = xs ++ all behind }
+
+all_followed : {A : Type 0} (xs : List A) (behind : NonEmpty A) → all (followed xs behind) ≡ xs ++ all behind
+all_followed [] behind = refl
+all_followed (x ∷ xs) behind = refl
+
+-- fields or nothing, and fields behind them, are fields
+pub then_fields : (front behind : List (List ℕ)) → AreAnyFields front → AreFields behind → AreFields (front ++ behind)
+then_fields front behind a b = record {
+  fields = followed a.fields b.fields;
+  are = ap (λ args. args ++ behind) a.are
+      ∙ (ap (λ args. flat_map field_sentence a.fields ++ args) b.are
+      ∙ (sym (flat_map-append field_sentence a.fields (all b.fields))
+      ∙ ap (flat_map field_sentence) (sym (all_followed a.fields b.fields))));
+}

@@ -1,6 +1,4 @@
 pub mod Fields
-pub mod JustId
-pub mod JustIdMeaning
 pub mod NonEmpty
 pub mod Read
 pub mod Single

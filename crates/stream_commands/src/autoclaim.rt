@@ -4,9 +4,8 @@ ghost use Rattle.stream_options.specs.AutoClaim.{autoclaim_sentence};
 
 use crate::command::{Command, Word};
 use crate::error::JustIdIsSet;
-use crate::justid::StreamAutoClaimJustIdReply;
 use redis_resp::ToSingleRedisArg;
-use redis_streams::StreamAutoClaimReply;
+use redis_streams::{StreamAutoClaimJustIdReply, StreamAutoClaimReply};
 use stream_options::StreamAutoClaimOptions;
 
 /// `XAUTOCLAIM key group consumer min-idle start [options]`: entries from `start` on that are

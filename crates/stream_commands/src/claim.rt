@@ -38,6 +38,10 @@ pub fn xclaim<
     Command::new((Word("XCLAIM"), key, group, consumer, min_idle, ids))
 }
 
+/// The arguments of a claim with options: the name of the command, key, group, consumer, idle time, ids
+/// and options.
+pub type ClaimArgs<'w, 'a, K, G, C, I, O> = (Word<'w>, K, G, C, usize, (AtLeastOne<'a, I>, O));
+
 /// `XCLAIM key group consumer min-idle id .. [options]`: the same as `xclaim`, as the options say.
 /// `JustIdIsSet` where they have `JUSTID`, whose answer has no entries: that is `xclaim_justid`.
 ///
@@ -61,17 +65,7 @@ pub fn xclaim_options<
     ids: AtLeastOne<'a, I>,
     options: &'a StreamClaimOptions,
 ) -> Result<
-    Command<
-        (
-            Word<'w>,
-            K,
-            G,
-            C,
-            usize,
-            (AtLeastOne<'a, I>, &'a StreamClaimOptions),
-        ),
-        StreamClaimReply,
-    >,
+    Command<ClaimArgs<'w, 'a, K, G, C, I, &'a StreamClaimOptions>, StreamClaimReply>,
     JustIdIsSet,
 >
     ensures ok { IfOk result (λ command. command
@@ -115,17 +109,7 @@ pub fn xclaim_justid<
     min_idle: usize,
     ids: AtLeastOne<'a, I>,
     options: StreamClaimOptions,
-) -> Command<
-    (
-        Word<'w>,
-        K,
-        G,
-        C,
-        usize,
-        (AtLeastOne<'a, I>, StreamClaimOptions),
-    ),
-    Vec<String>,
->
+) -> Command<ClaimArgs<'w, 'a, K, G, C, I, StreamClaimOptions>, Vec<String>>
     ensures { result ≡ codes "XCLAIM" ∷ K.args key ++ (G.args group ++ (C.args consumer
         ++ decimal min_idle ∷ flat_map I.args (all ids.entry)
         ++ claim_sentence (record options { justid = true }))) }

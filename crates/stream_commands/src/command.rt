@@ -2,8 +2,11 @@
 ghost use Rattle.std.specs.Prelude.{◌≡◌, [], ◌∷◌, IfOk, IfErr, Some};
 ghost use Rattle.redis_resp.specs.Refusal.{Refuses};
 ghost use Rattle.redis_resp.specs.Value.{tree};
+ghost use Rattle.redis_wire.specs.Record.{IsRecord};
+ghost use Rattle.redis_wire.specs.Reply.{answer};
 
 use redis_resp::{FromRedisValue, ParsingError, RedisWrite, ToRedisArgs, Value, WriteError};
+use redis_wire::{Reply, ReplyError, from_reply};
 use std::alloc::Global;
 use std::marker::{Model, PhantomData};
 
@@ -57,6 +60,14 @@ impl<A: ToRedisArgs, R: FromRedisValue> Command<A, R> {
         ensures err { IfErr result (Refuses R.reading R.may_refuse (tree v.now)) }
     {
         R::from_redis_value_ref(alloc, v)
+    }
+
+    /// Reads the reply to this command as an `R`, and consumes it. An error of the server is
+    /// returned as such, whatever `R` is; so is the first one in a group.
+    pub fn read_reply(&self, alloc: Global, reply: Reply) -> Result<R, ReplyError>
+        ensures { IsRecord R.reading R.may_refuse R.meaning (answer reply) result }
+    {
+        from_reply::<R>(alloc, reply)
     }
 }
 

@@ -23,7 +23,6 @@ pub mod error;
 pub mod fields;
 pub mod group;
 pub mod info;
-pub mod justid;
 pub mod laws;
 pub mod pending;
 pub mod range;
@@ -36,13 +35,13 @@ pub use ack::{xack, xack_del};
 pub use add::{xadd, xadd_maxlen, xadd_options};
 pub use at_least_one::AtLeastOne;
 pub use autoclaim::{xautoclaim, xautoclaim_count, xautoclaim_justid, xautoclaim_options};
-pub use claim::{xclaim, xclaim_justid, xclaim_options};
+pub use claim::{ClaimArgs, xclaim, xclaim_justid, xclaim_options};
 pub use command::{Command, Word};
 pub use config::xcfgset;
 pub use counted::CountedIds;
 pub use delete::{xdel, xdel_ex};
 pub use error::JustIdIsSet;
-pub use fields::ToFieldArgs;
+pub use fields::{FieldsThen, ToAnyFieldArgs, ToFieldArgs, pair_fields};
 pub use group::{
     xgroup_create, xgroup_create_entries_read, xgroup_create_mkstream, xgroup_createconsumer,
     xgroup_delconsumer, xgroup_destroy, xgroup_setid, xgroup_setid_entries_read,
@@ -51,7 +50,6 @@ pub use info::{
     xinfo_consumers, xinfo_groups, xinfo_stream, xinfo_stream_full, xinfo_stream_full_count,
     xinfo_stream_with_idempotency,
 };
-pub use justid::StreamAutoClaimJustIdReply;
 pub use pending::{
     xpending, xpending_consumer_count, xpending_count, xpending_idle_consumer_count,
     xpending_idle_count,

@@ -3,6 +3,7 @@ pub mod FieldsLemmas
 pub mod InFormsLemmas
 pub mod ItemFormLemmas
 pub mod ItemsLeftLemmas
+pub mod JustIdLemmas
 pub mod NumbersLemmas
 pub mod OverlapLemmas
 pub mod ReadableLemmas

@@ -8,7 +8,8 @@ use Rattle.redis_resp.specs.Reading.{list_reading, option_reading}
 use Rattle.stream_entries.specs.Entry.{Entry, entry_of}
 use Rattle.stream_entries.specs.Rows.{rows_reading}
 
--- the id to go on with, the entries that were claimed, the ids that were deleted, and whether the list of claimed entries has more items than entries
+-- the id to go on with, the entries that were claimed, the ids that were deleted, and whether the list of claimed
+-- entries has more items than entries
 pub record AutoClaim : Type 0 where
   pub next : List ℕ
   pub claimed : List Entry
@@ -54,7 +55,8 @@ entries_by_kind rows t = rows_reading t
 
 -- the entries of a claimed list of that shape, and whether they are fewer than its items
 abbrev pub claimed_by_shape : Tree → ClaimedKind × ℕ → Option (List Entry × Bool)
-claimed_by_shape t shape = option_map (λ entries. (entries, nat_lt (length entries) shape.1)) (entries_by_kind shape.0 t)
+claimed_by_shape t shape = option_map (λ entries. (entries, nat_lt (length entries) shape.1))
+    (entries_by_kind shape.0 t)
 
 -- the entries of a claimed list, and whether they are fewer than its items
 abbrev pub claimed_reading : Tree → Option (List Entry × Bool)

@@ -14,7 +14,12 @@ text_bytes_of texts = map string_bytes texts.items
 
 -- the reply that a `StreamAutoClaimReply` holds
 abbrev pub autoclaim_meaning : StreamAutoClaimReply → AutoClaim
-autoclaim_meaning r = record { next = string_bytes r.next_stream_id; claimed = entries_of r.claimed; deleted = text_bytes_of r.deleted_ids; invalid = r.invalid_entries }
+autoclaim_meaning r = record {
+  next = string_bytes r.next_stream_id;
+  claimed = entries_of r.claimed;
+  deleted = text_bytes_of r.deleted_ids;
+  invalid = r.invalid_entries;
+}
 
 -- the kind that a `ClaimedKind` of the code names
 abbrev pub kind_meaning : KindInCode → ClaimedKind

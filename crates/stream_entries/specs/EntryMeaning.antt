@@ -11,7 +11,8 @@ use Rattle.stream_entries.specs.Read.{Delivery}
 use Rattle.stream_entries.specs.declared.stream_id.StreamId.{StreamId}
 
 -- the ids of a row, each with its fields
-abbrev pub row_of : {S W : Type 0} → HashMap (String Global) (HashMap (String Global) Value S) W → List (List ℕ × Fields Tree)
+abbrev pub row_of : {S W : Type 0} → HashMap (String Global) (HashMap (String Global) Value S) W
+    → List (List ℕ × Fields Tree)
 row_of row = entries_meaning fields_of row.entries
 
 -- what the four parts of a delivery mean

@@ -35,11 +35,17 @@ row_in_forms t = (table_reading (entries_reading standard_entries) t, table_read
 
 -- a row of one stream
 abbrev pub pair_in_forms : Tree × Tree → InForms Streams
-pair_in_forms p = (option_map (λ k. k ∷ []) (entry_reading (entries_reading standard_entries) p), option_map (λ k. k ∷ []) (entry_reading (entries_reading claim_entries) p))
+pair_in_forms p = (
+  option_map (λ k. k ∷ []) (entry_reading (entries_reading standard_entries) p),
+  option_map (λ k. k ∷ []) (entry_reading (entries_reading claim_entries) p),
+)
 
 -- the rows of a read
 abbrev pub rows_in_forms : List Tree → InForms Streams
-rows_in_forms ts = (all_joined (table_reading (entries_reading standard_entries)) ts, all_joined (table_reading (entries_reading claim_entries)) ts)
+rows_in_forms ts = (
+  all_joined (table_reading (entries_reading standard_entries)) ts,
+  all_joined (table_reading (entries_reading claim_entries)) ts,
+)
 
 -- what has one form at least
 abbrev pub some_form : {M : Type 0} → InForms M → Option (InForms M)

@@ -18,7 +18,8 @@ use Rattle.stream_entries.specs.declared.streams.OpenStreams.{OpenStreams}
 
 -- what an entry of both forms holds
 abbrev pub overlap_of : Overlap → OverlapEntry
-overlap_of o = record { id = string_bytes o.id; fields = fields_of o.map; number = o.number; text = string_bytes o.text }
+overlap_of o =
+    record { id = string_bytes o.id; fields = fields_of o.map; number = o.number; text = string_bytes o.text }
 
 -- what it gives in a form
 abbrev pub given_in : Form → OverlapEntry → List Entry
@@ -54,4 +55,5 @@ only_if b x = if b then Some x else None
 
 -- the streams in each form that all their lists have
 abbrev pub streams_held : OpenStreams → InForms Streams
-streams_held s = (only_if s.forms.standard (keys_in standard_form s.keys), only_if s.forms.claim (keys_in claim_form s.keys))
+streams_held s =
+    (only_if s.forms.standard (keys_in standard_form s.keys), only_if s.forms.claim (keys_in claim_form s.keys))

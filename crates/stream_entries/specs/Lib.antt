@@ -5,6 +5,8 @@ pub mod EntryMeaning
 pub mod InForms
 pub mod InFormsMeaning
 pub mod ItemsLeft
+pub mod JustId
+pub mod JustIdMeaning
 pub mod Overlap
 pub mod OverlapLaws
 pub mod Read

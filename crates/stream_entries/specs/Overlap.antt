@@ -1,5 +1,6 @@
 -- Which reads have a record in both forms, and what an entry gives in each.
-use Rattle.std.specs.Prelude.{◌≡◌, ℕ, List, [], ◌∷◌, flat_map, Option, Some, None, option_map, option_and_then, if◌then◌else◌}
+use Rattle.std.specs.Prelude.{◌≡◌, ℕ, List, [], ◌∷◌, flat_map, Option, Some, None, option_map, option_and_then}
+use Rattle.std.specs.Prelude.{if◌then◌else◌}
 use Rattle.std.specs.Option.{IsSome, IsSomeAnd, option_map_or}
 use Rattle.std.specs.List.{AllByRecursion}
 use Rattle.std.specs.Str.{bytes_eq}
@@ -35,7 +36,8 @@ kept_entries rows = flat_map (λ p. p.1) (kept_lists rows)
 
 -- a text, fields, a number, and what is nil
 abbrev pub FourOverlap : Tree × Tree × Tree × Tree → Type 0
-FourOverlap q = IsSome (text_reading q.0) × IsSome (field_reading q.1) × IsSome (unsigned_reading 64 q.2) × (plain q.3 ≡ nil)
+FourOverlap q = IsSome (text_reading q.0) × IsSome (field_reading q.1) × IsSome (unsigned_reading 64 q.2)
+    × (plain q.3 ≡ nil)
 
 -- an array of these four
 abbrev pub HasOverlapShape : Tree → Type 0
@@ -54,7 +56,10 @@ pub record OverlapEntry : Type 0 where
 
 -- the same of four members
 abbrev pub four_entry : Tree × Tree × Tree × Tree → Option OverlapEntry
-four_entry q = option_and_then (λ i. option_and_then (λ f. option_and_then (λ n. option_map (λ t. record { id = i; fields = f; number = n; text = t })
+four_entry q =
+    option_and_then
+    (λ i. option_and_then
+    (λ f. option_and_then (λ n. option_map (λ t. record { id = i; fields = f; number = n; text = t })
     (text_reading q.2)) (unsigned_reading 64 q.2)) (field_reading q.1)) (text_reading q.0)
 
 -- the same of an array of four: its id, its fields, and its third item as a number and as a text
@@ -63,11 +68,14 @@ overlap_entry t = option_and_then four_entry (four_in t)
 
 -- in the standard record: the id with the fields and the text without fields, or the second alone where they are one
 abbrev pub in_standard : OverlapEntry → List Entry
-in_standard e = if bytes_eq e.id e.text then entry_of (e.text, empty) ∷ [] else entry_of (e.id, e.fields) ∷ entry_of (e.text, empty) ∷ []
+in_standard e = if bytes_eq e.id e.text then entry_of (e.text, empty) ∷ []
+    else entry_of (e.id, e.fields) ∷ entry_of (e.text, empty) ∷ []
 
 -- in the claim record: one entry, with the number as the milliseconds since its delivery
 abbrev pub in_claim : OverlapEntry → List Entry
-in_claim e = record { id = e.id; fields = e.fields; milliseconds_elapsed_from_delivery = Some e.number; delivered_count = None } ∷ []
+in_claim e =
+    record { id = e.id; fields = e.fields; milliseconds_elapsed_from_delivery = Some e.number; delivered_count = None }
+    ∷ []
 
 -- what an item gives in a record
 abbrev pub given : (OverlapEntry → List Entry) → Tree → List Entry

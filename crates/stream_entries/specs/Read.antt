@@ -15,7 +15,8 @@ Delivery = List ℕ × Fields Tree × Option ℕ × Option ℕ
 
 -- an array of these four; each of the two numbers may be nil
 abbrev pub delivery_reading : Tree → Option Delivery
-delivery_reading t = four_reading text_reading field_reading (option_reading (unsigned_reading 64)) (option_reading (unsigned_reading 64)) t
+delivery_reading t = four_reading text_reading field_reading (option_reading (unsigned_reading 64))
+    (option_reading (unsigned_reading 64)) t
 
 -- the entry of a delivery
 abbrev pub delivered_entry : Delivery → Entry

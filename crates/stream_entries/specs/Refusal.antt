@@ -5,7 +5,8 @@ use Rattle.redis_resp.specs.Text.{text_reading}
 use Rattle.redis_resp.specs.Reading.{option_reading}
 use Rattle.redis_resp.specs.Refusal.{Refuses, RefusesText, RefusesValue, RefusesOption, RefusesList, RefusesPairs}
 use Rattle.redis_resp.specs.declared.value.error.ParsingError.{ParsingError}
-use Rattle.redis_resp.specs.declared.value.error.ParsingError.TheVariants.{NotArray, WrongItemCount, WrongClaimedType, UnknownReadFormat, Memory}
+use Rattle.redis_resp.specs.declared.value.error.ParsingError.TheVariants.{NotArray, WrongItemCount, WrongClaimedType}
+use Rattle.redis_resp.specs.declared.value.error.ParsingError.TheVariants.{UnknownReadFormat, Memory}
 use Rattle.stream_entries.specs.AutoClaim.{ClaimedKind, nils, ids, rows, Parts, two_or_three, claimed_shape}
 use Rattle.stream_entries.specs.Rows.{field_reading, row_reading}
 
@@ -45,20 +46,24 @@ RefusesByKind rows t error = RefusesRows t error
 
 -- a claimed list: `WrongClaimedType` where it has no shape, and else what its entries are refused with
 abbrev pub RefusesClaimed : Tree → ParsingError → Type 0
-RefusesClaimed t error = MatchOption (claimed_shape t) (error ≡ WrongClaimedType) (λ shape. RefusesByKind shape.0 t error)
+RefusesClaimed t error = MatchOption (claimed_shape t) (error ≡ WrongClaimedType)
+    (λ shape. RefusesByKind shape.0 t error)
 
 -- the deleted ids, where the reply has such an item: a list of texts
 abbrev pub RefusesDeleted : Option Tree → ParsingError → Type 0
 RefusesDeleted deleted error = MatchOption deleted ⊥ (λ t. RefusesList RefusesTextIn t error)
 
--- an array: `NotArray` where it is none, `WrongItemCount` where it has not two or three items, and else what its parts are refused with
+-- an array: `NotArray` where it is none, `WrongItemCount` where it has not two or three items, and else what its parts
+-- are refused with
 abbrev pub RefusesParts : (Parts → ParsingError → Type 0) → Tree → ParsingError → Type 0
-RefusesParts refuses t error = MatchOption (array_of_plain t) (error ≡ NotArray) (λ ts. MatchOption (two_or_three ts) (error ≡ WrongItemCount (length ts)) (λ parts. refuses parts error))
+RefusesParts refuses t error = MatchOption (array_of_plain t) (error ≡ NotArray)
+    (λ ts. MatchOption (two_or_three ts) (error ≡ WrongItemCount (length ts)) (λ parts. refuses parts error))
 
 -- the claimed list, the deleted ids or the next id
 abbrev pub RefusesPart : Parts → ParsingError → Type 0
 RefusesPart parts error = RefusesClaimed parts.1 error ⊎ (RefusesDeleted parts.2 error ⊎ RefusesTextIn parts.0 error)
 
--- an automatic claim: each of its three outer errors stands exactly where the shape is wrong, and a part that is unreadable is told by its own
+-- an automatic claim: each of its three outer errors stands exactly where the shape is wrong, and a part that is
+-- unreadable is told by its own
 abbrev pub RefusesAutoClaim : Tree → ParsingError → Type 0
 RefusesAutoClaim = RefusesParts RefusesPart

@@ -15,9 +15,11 @@ IsSymmetric R = (v w : Tree) → R v w → R w v
 abbrev pub KeepsRecord : {M : Type 0} → (Tree → Tree → Type 0) → (Tree → Option M) → Type 0
 KeepsRecord R reading = (v w : Tree) → R v w → reading v ≡ reading w
 
--- Of two values that are alike, answers mean the same: two records are one, and a record of the one is no refusal of the other.
+-- Of two values that are alike, answers mean the same: two records are one, and a record of the one is no refusal of
+-- the other.
 abbrev pub SameAnswers : {T M : Type 0} → (Tree → Option M) → (T → M) → Tree → Tree → Type 0
-SameAnswers {T} reading meaning v w = (a : T) → reading v ≡ Some (meaning a) → (reading w ≢ None) × ((b : T) → reading w ≡ Some (meaning b) → meaning a ≡ meaning b)
+SameAnswers {T} reading meaning v w = (a : T) → reading v ≡ Some (meaning a)
+    → (reading w ≢ None) × ((b : T) → reading w ≡ Some (meaning b) → meaning a ≡ meaning b)
 
 -- an array of a name and its entries for each stream
 abbrev pub rows_of_two : List (Tree × Tree) → Tree

@@ -36,8 +36,3 @@ items_entries form ts = option_map joined (traverse form ts)
 -- what an item holds, where it can be read, behind the entries that are there
 abbrev pub appended : List Entry → Option (List Entry) → Option (List Entry)
 appended before entries = option_map (λ es. before ++ es) entries
-
--- there is a list, and it has exactly one item
-abbrev pub is_one : {A : Type 0} → Option (List A) → Bool
-is_one None = false
-is_one (Some xs) = nat_eq (length xs) 1

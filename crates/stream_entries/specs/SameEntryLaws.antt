@@ -1,5 +1,6 @@
 -- The test of two `StreamId`s is true exactly where they mean the same entry, and so it is an equivalence.
-use Rattle.std.specs.Prelude.{◌≡◌, ◌==◌, ℕ, Bool, true, false, cond, ◌⊎◌, List, [], ◌∷◌, Option, Some, None, option_map, refl, String, string_bytes}
+use Rattle.std.specs.Prelude.{◌≡◌, ◌==◌, ℕ, Bool, true, false, cond, ◌⊎◌, List, [], ◌∷◌, Option, Some, None, option_map}
+use Rattle.std.specs.Prelude.{refl, String, string_bytes}
 use Rattle.std.specs.declared.alloc.Global.{Global}
 use Rattle.std.specs.Bool.{Decides}
 use Rattle.std.specs.Cmp.{IsEquivalence, both_ways}
@@ -40,36 +41,45 @@ option_same None (Some w) h = cc
 option_same (Some v) None h = cc
 
 -- bytes at which a map has nothing, or which are one of its keys
-found : {X : Type 0} (bytes : List ℕ) (es : List (String Global × X)) → (at bytes es ≡ None) ⊎ ((k : String Global) × (bytes ≡ string_bytes k))
+found : {X : Type 0} (bytes : List ℕ) (es : List (String Global × X))
+    → (at bytes es ≡ None) ⊎ ((k : String Global) × (bytes ≡ string_bytes k))
 found bytes [] = inl refl
 found {X = X} bytes (e ∷ es) = by (bytes_eq bytes (string_bytes e.0)) refl (found bytes es)
   where
-    by : (b : Bool) → bytes_eq bytes (string_bytes e.0) ≡ b → (at bytes es ≡ None) ⊎ ((k : String Global) × (bytes ≡ string_bytes k))
-        → (cond (bytes_eq bytes (string_bytes e.0)) (Some e.1) (at bytes es) ≡ None) ⊎ ((k : String Global) × (bytes ≡ string_bytes k))
+    by : (b : Bool) → bytes_eq bytes (string_bytes e.0) ≡ b
+        → (at bytes es ≡ None) ⊎ ((k : String Global) × (bytes ≡ string_bytes k))
+        → (cond (bytes_eq bytes (string_bytes e.0)) (Some e.1) (at bytes es) ≡ None)
+        ⊎ ((k : String Global) × (bytes ≡ string_bytes k))
     by true p f = inr (e.0, (bytes_eq-Decides bytes (string_bytes e.0)).0 p)
     by false p (inl n) = inl (ap (λ b. cond b (Some e.1) (at bytes es)) p ∙ n)
     by false p (inr k) = inr k
 
-agree : (es fs : List (String Global × Value)) → ((k : String Global) → option_eq same_value (lookup (string_eq k) es) (lookup (string_eq k) fs) ≡ true)
+agree : (es fs : List (String Global × Value))
+    → ((k : String Global) → option_eq same_value (lookup (string_eq k) es) (lookup (string_eq k) fs) ≡ true)
     → (bytes : List ℕ) → option_map tree (at bytes es) ≡ option_map tree (at bytes fs)
 agree es fs h bytes = by (found bytes es) (found bytes fs)
   where
     key : (k : String Global) → bytes ≡ string_bytes k → option_map tree (at bytes es) ≡ option_map tree (at bytes fs)
-    key k e = subst (λ b. option_map tree (at b es) ≡ option_map tree (at b fs)) (sym e) (same_option (lookup (string_eq k) es) (lookup (string_eq k) fs) (h k))
+    key k e = subst (λ b. option_map tree (at b es) ≡ option_map tree (at b fs)) (sym e)
+        (same_option (lookup (string_eq k) es) (lookup (string_eq k) fs) (h k))
 
-    by : (at bytes es ≡ None) ⊎ ((k : String Global) × (bytes ≡ string_bytes k)) → (at bytes fs ≡ None) ⊎ ((k : String Global) × (bytes ≡ string_bytes k))
+    by : (at bytes es ≡ None) ⊎ ((k : String Global) × (bytes ≡ string_bytes k))
+        → (at bytes fs ≡ None) ⊎ ((k : String Global) × (bytes ≡ string_bytes k))
         → option_map tree (at bytes es) ≡ option_map tree (at bytes fs)
     by (inr k) g = key k.0 k.1
     by (inl n) (inr k) = key k.0 k.1
     by (inl n) (inl m) = ap (option_map tree) (n ∙ sym m)
 
 -- `==` of two maps of fields is true exactly where they are one finite map
-fields-Decides : {S : Type 0} (m n : HashMap (String Global) Value S) → Decides (hash_map_eq string_eq same_value m n) (fields_of m ≡ fields_of n)
+fields-Decides : {S : Type 0} (m n : HashMap (String Global) Value S)
+    → Decides (hash_map_eq string_eq same_value m n) (fields_of m ≡ fields_of n)
 fields-Decides m n = (
   λ h. same_map nat_list_cmp_total (slice_cmp-IsAntisymmetric nat_cmp-IsAntisymmetric) _ _ (λ bytes.
-      get_of_fields tree m bytes ∙ agree m.entries n.entries (get_from_hash_map_eq string_eq same_value string_eq_equiv m n h) bytes ∙ sym (get_of_fields tree n bytes)),
+      get_of_fields tree m bytes ∙ agree m.entries n.entries
+      (get_from_hash_map_eq string_eq same_value string_eq_equiv m n h) bytes ∙ sym (get_of_fields tree n bytes)),
   λ e. hash_map_eq_from_get string_eq same_value m n (λ k. option_same _ _
-      (sym (get_of_fields tree m (string_bytes k)) ∙ ap (λ f. get f (string_bytes k)) e ∙ get_of_fields tree n (string_bytes k))),
+      (sym (get_of_fields tree m (string_bytes k)) ∙ ap (λ f. get f (string_bytes k)) e
+      ∙ get_of_fields tree n (string_bytes k))),
 )
 
 numbers-Decides : (o p : Option ℕ) → Decides (option_eq ◌==◌ o p) (o ≡ p)
@@ -86,8 +96,17 @@ same_entry_Decides a b =
     let elapsed = numbers-Decides a.milliseconds_elapsed_from_delivery b.milliseconds_elapsed_from_delivery in
     let delivered = numbers-Decides a.delivered_count b.delivered_count in
     let all = Decides-and _ _ id (Decides-and _ _ fields (Decides-and _ _ elapsed delivered)) in (
-      λ h. let parts = all.0 h in (λ i. record { id = parts.0 i; fields = parts.1.0 i; milliseconds_elapsed_from_delivery = parts.1.1.0 i; delivered_count = parts.1.1.1 i }),
-      λ e. all.1 (ap (λ x. x.id) e, (ap (λ x. x.fields) e, (ap (λ x. x.milliseconds_elapsed_from_delivery) e, ap (λ x. x.delivered_count) e))),
+      λ h. let parts =
+          all.0 h in (λ i. record {
+            id = parts.0 i;
+            fields = parts.1.0 i;
+            milliseconds_elapsed_from_delivery = parts.1.1.0 i;
+            delivered_count = parts.1.1.1 i;
+          }),
+      λ e. all.1 (
+        ap (λ x. x.id) e,
+        (ap (λ x. x.fields) e, (ap (λ x. x.milliseconds_elapsed_from_delivery) e, ap (λ x. x.delivered_count) e)),
+      ),
     )
 
 -- the laws of `==` of `StreamId`s

@@ -15,4 +15,5 @@ same_value v w = same (tree v) (tree w)
 -- the same id, the same fields, whatever order they lie in, and the same two numbers
 abbrev pub same_entry : StreamId → StreamId → Bool
 same_entry a b = string_eq a.id b.id && (hash_map_eq string_eq same_value a.map b.map
-    && (option_eq ◌==◌ a.milliseconds_elapsed_from_delivery b.milliseconds_elapsed_from_delivery && option_eq ◌==◌ a.delivered_count b.delivered_count))
+    && (option_eq ◌==◌ a.milliseconds_elapsed_from_delivery b.milliseconds_elapsed_from_delivery
+    && option_eq ◌==◌ a.delivered_count b.delivered_count))

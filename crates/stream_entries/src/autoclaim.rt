@@ -97,7 +97,7 @@ fn read_autoclaim<S: Source>(alloc: Global, v: S) -> Result<StreamAutoClaimReply
 
 /// The next id, the claimed list and, where there is a third item, the deleted ids. It takes no
 /// memory.
-fn into_parts<S: Source>(v: S) -> Result<(S, S, Option<S>), ParsingError>
+pub(crate) fn into_parts<S: Source>(v: S) -> Result<(S, S, Option<S>), ParsingError>
     ensures ok { IfOk result (λ parts. parts_in (S.seen v) ≡ Some (trees_of_parts S.seen parts)) }
     ensures err { IfErr result (Refuses parts_in (RefusesParts (λ _ _. ⊥)) (S.seen v)) }
 {
@@ -129,7 +129,10 @@ fn two_or_three_of<S: Source>(mut items: S::Values) -> Result<(S, S, Option<S>),
 }
 
 /// The deleted ids, and none where the reply has no such item.
-fn read_deleted<S: Source>(alloc: Global, deleted: Option<S>) -> Result<Vec<String>, ParsingError>
+pub(crate) fn read_deleted<S: Source>(
+    alloc: Global,
+    deleted: Option<S>,
+) -> Result<Vec<String>, ParsingError>
     ensures ok { IfOk result (λ ids. deleted_reading (option_map S.seen deleted)
         ≡ Some (text_bytes_of ids)) }
     ensures err { IfErr result (Refuses deleted_reading RefusesDeleted
@@ -142,7 +145,7 @@ fn read_deleted<S: Source>(alloc: Global, deleted: Option<S>) -> Result<Vec<Stri
 }
 
 /// The same texts, in order. It fails only where it is out of memory.
-fn copy_texts(alloc: Global, texts: &[String]) -> Result<Vec<String>, AllocError>
+pub(crate) fn copy_texts(alloc: Global, texts: &[String]) -> Result<Vec<String>, AllocError>
     ensures { IfOk result (λ v. text_bytes_of v ≡ map string_bytes texts.now) }
 {
     let mut copies = Vec::with_capacity(alloc, texts.len())?;

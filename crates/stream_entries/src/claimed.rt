@@ -37,7 +37,7 @@ pub(crate) fn read_claimed<S: Source>(
     let Some((kind, count)) = shape_of(v.as_value()) else {
         return Err(ParsingError::WrongClaimedType);
     };
-    let ids = read_entries(alloc, v, kind)?;
+    let ids = read_list_of_kind(alloc, v, kind)?;
     let invalid = ids.len() < count;
     Ok((ids, invalid))
 }
@@ -75,7 +75,7 @@ fn kind_of(items: &[Value]) -> Option<ClaimedKind>
 
 /// The entries of a list of that kind.
 #[tactic(auto, using(crate::proofs::AutoClaimLemmas::ids_read, crate::proofs::AutoClaimLemmas::ids_refused))]
-fn read_entries<S: Source>(
+fn read_list_of_kind<S: Source>(
     alloc: Global,
     v: S,
     kind: ClaimedKind,

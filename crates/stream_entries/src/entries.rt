@@ -11,9 +11,9 @@ ghost use Rattle.stream_entries.specs.Read.{claim_entries};
 ghost use Rattle.stream_entries.specs.Rows.{standard_entries};
 ghost use Rattle.stream_entries.specs.declared.entries.Entries.TheVariants.{Both};
 
+use crate::item_form::{ItemForm, Rows};
 use crate::items::{Delivery, ListItem};
 use crate::items_left::{Item, ItemsLeft, count_items, into_items, next_item};
-use crate::one_pair::push_row;
 use crate::overlap::{Form, Overlap, numbers_of, read_overlap, settle};
 use crate::stream_id::StreamId;
 use redis_resp::{FromRedisValue, ParsingError, Source, Value};
@@ -112,7 +112,10 @@ fn with_row<S: Source>(
     ensures err { IfErr result (λ e. e ≢ ParsingError.Memory
         → standard_entries (item_tree S.seen row) ≡ None) }
 {
-    push_row(alloc, row, &mut ids)?;
+    match row {
+        Item::Whole(v) => Rows::push(alloc, v, &mut ids)?,
+        Item::Pair(key, value) => Rows::push_single(alloc, key, value, &mut ids)?,
+    }
     Ok(Entries::Standard(ids))
 }
 
@@ -203,7 +206,7 @@ fn rule_out_standard<S: Source>(
 
 /// Reads the entries of a list by both forms, each as long as no item has ruled it out.
 #[tactic(auto, using(crate::proofs::InFormsLemmas::list_forms))]
-pub(crate) fn read_entries<S: Source>(alloc: Global, v: S) -> Result<Entries, ParsingError>
+pub(crate) fn read_in_forms<S: Source>(alloc: Global, v: S) -> Result<Entries, ParsingError>
     ensures ok { IfOk result (λ r. entries_in_forms (S.seen v) ≡ entries_held r) }
     ensures err { IfErr result (λ e. e ≢ ParsingError.Memory
         → entries_in_forms (S.seen v) ≡ (None, None)) }
@@ -242,10 +245,10 @@ impl FromRedisValue for Entries {
     ghost reading = { λ t. some_form (entries_in_forms t) };
 
     fn from_redis_value(alloc: Global, v: Value) -> Result<Entries, ParsingError> {
-        read_entries(alloc, v)
+        read_in_forms(alloc, v)
     }
 
     fn from_redis_value_ref(alloc: Global, v: &Value) -> Result<Entries, ParsingError> {
-        read_entries(alloc, v)
+        read_in_forms(alloc, v)
     }
 }

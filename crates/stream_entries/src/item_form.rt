@@ -1,21 +1,21 @@
 //! How an item of a list of entries is read.
-ghost use Rattle.std.specs.Prelude.{◌≡◌, ◌++◌, ◌∷◌, [], true, IfErr, List, OnOk, Option, Some, option_map};
+ghost use Rattle.std.specs.Prelude.{◌≡◌, ◌++◌, ◌∷◌, [], IfErr, List, OnOk, Option, Some, option_map};
 ghost use Rattle.redis_resp.specs.Reading.{option_reading};
 ghost use Rattle.redis_resp.specs.Refusal.{Refuses, MemoryOr, RefusesEntry};
 ghost use Rattle.redis_resp.specs.Table.{entry_reading};
 ghost use Rattle.redis_resp.specs.Text.{text_reading};
-ghost use Rattle.redis_resp.specs.Tree.{Tree, pairs_in, single};
-ghost use Rattle.redis_resp.specs.Value.{tree};
+ghost use Rattle.redis_resp.specs.Tree.{Tree, single};
 ghost use Rattle.redis_resp.specs.declared.value.error.ParsingError.{ParsingError};
 ghost use Rattle.stream_entries.specs.AutoClaim.{id_entries};
 ghost use Rattle.stream_entries.specs.Entry.{Entry, entry_of};
 ghost use Rattle.stream_entries.specs.EntryMeaning.{entries_of};
 ghost use Rattle.stream_entries.specs.Refusal.{RefusesFields, RefusesOptionalText, RefusesRow};
-ghost use Rattle.stream_entries.specs.Rows.{appended, field_reading, is_one, row_reading, standard_entries};
+ghost use Rattle.stream_entries.specs.Rows.{appended, field_reading, row_reading, standard_entries};
 
 use crate::items::{ListItem, Row};
+use crate::one_pair::into_one_pair;
 use crate::stream_id::StreamId;
-use redis_resp::{ParsingError, Source, Value, count_left, into_pairs, next_left};
+use redis_resp::{ParsingError, Source, Value};
 use std::alloc::Global;
 use std::collections::HashMap;
 
@@ -59,10 +59,9 @@ impl ItemForm for Rows {
         item: S,
         ids: &mut Vec<StreamId>,
     ) -> Result<(), ParsingError> {
-        if has_one_pair(item.as_value()) {
-            push_one(alloc, item, ids)
-        } else {
-            push_table(alloc, item, ids)
+        match into_one_pair(item) {
+            Ok((key, value)) => push_entry(alloc, key, value, ids),
+            Err(item) => push_table(alloc, item, ids),
         }
     }
 
@@ -73,16 +72,6 @@ impl ItemForm for Rows {
         ids: &mut Vec<StreamId>,
     ) -> Result<(), ParsingError> {
         push_entry(alloc, key, value, ids)
-    }
-}
-
-/// Whether the value holds exactly one pair.
-fn has_one_pair(v: &Value) -> bool
-    ensures { result ≡ is_one (pairs_in (tree v.now)) }
-{
-    match into_pairs(v) {
-        Some(pairs) => count_left::<&Value>(&pairs) == 1,
-        None => false,
     }
 }
 
@@ -108,23 +97,6 @@ fn push_entry<S: Source>(
         delivered_count: None,
     })?;
     Ok(())
-}
-
-/// Appends the entry of a row of one pair, with no table between.
-fn push_one<S: Source>(alloc: Global, row: S, ids: &mut Vec<StreamId>) -> Result<(), ParsingError>
-    requires { is_one (pairs_in (S.seen row)) ≡ true }
-    ensures ok { OnOk result (appended (entries_of ids.old) (standard_entries (S.seen row))
-        ≡ Some (entries_of ids.new)) }
-    ensures err { IfErr result (Refuses standard_entries
-        (MemoryOr (Refuses row_reading RefusesRow)) (S.seen row)) }
-{
-    let Some(mut pairs) = into_pairs(row) else {
-        return Err(ParsingError::NotPairs);
-    };
-    let Some((key, value)) = next_left::<S>(&mut pairs) else {
-        return Ok(());
-    };
-    push_entry(alloc, key, value, ids)
 }
 
 /// Appends the entries of a row of any number of pairs, of which equal ids are one entry.

@@ -128,7 +128,7 @@ fn read_singles<F: ItemForm, S: Source>(
 }
 
 /// The entries of a value that is a list of items of one form.
-pub(crate) fn read_entries<F: ItemForm, S: Source>(
+pub(crate) fn read_list_of<F: ItemForm, S: Source>(
     alloc: Global,
     v: S,
 ) -> Result<Vec<StreamId>, ParsingError>
@@ -150,7 +150,7 @@ pub(crate) fn read_rows<S: Source>(alloc: Global, v: S) -> Result<Vec<StreamId>,
     ensures ok { IfOk result (λ ids. rows_reading (S.seen v) ≡ Some (entries_of ids)) }
     ensures err { IfErr result (Refuses rows_reading RefusesRows (S.seen v)) }
 {
-    read_entries::<Rows, S>(alloc, v)
+    read_list_of::<Rows, S>(alloc, v)
 }
 
 /// The entries of a value that is a list of ids and nil.
@@ -160,5 +160,5 @@ pub(crate) fn read_ids<S: Source>(alloc: Global, v: S) -> Result<Vec<StreamId>, 
     ensures err { IfErr result (Refuses (entries_by_kind id_kind) (RefusesByKind id_kind)
         (S.seen v)) }
 {
-    read_entries::<Ids, S>(alloc, v)
+    read_list_of::<Ids, S>(alloc, v)
 }

@@ -10,6 +10,7 @@ mod entries;
 mod item_form;
 mod items;
 mod items_left;
+mod justid;
 mod law;
 mod one_pair;
 mod overlap;
@@ -22,6 +23,7 @@ mod streams;
 
 pub use autoclaim::StreamAutoClaimReply;
 pub use claim::StreamClaimReply;
+pub use justid::StreamAutoClaimJustIdReply;
 pub use law::{copied_forms, equal_read_forms};
 pub use range::StreamRangeReply;
 pub use read::StreamReadReply;

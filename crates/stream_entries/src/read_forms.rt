@@ -35,7 +35,7 @@ impl StreamReadReply {
     {
         ReadForms {
             standard: ListOf::<TableOf<ListOf<TableOf<Fields>>>>::reads(v),
-            claim: ListOf::<TableOf<ListOf<Delivery>>>::reads(v),
+            claim: ListOf::<TableOf<ListOf<DeliveredEntry>>>::reads(v),
         }
     }
 }
@@ -84,10 +84,10 @@ impl Readable for Fields {
 }
 
 /// An id, its fields and the two numbers of its delivery.
-pub(crate) struct Delivery;
+pub(crate) struct DeliveredEntry;
 
 #[tactic(auto, using(crate::proofs::ReadableLemmas::delivery_there, crate::proofs::ReadableLemmas::no_delivery))]
-impl Readable for Delivery {
+impl Readable for DeliveredEntry {
     ghost readable = { λ t. is_some (delivery_reading t) };
 
     fn reads(v: &Value) -> bool {

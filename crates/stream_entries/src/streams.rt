@@ -7,7 +7,7 @@ ghost use Rattle.stream_entries.specs.InFormsMeaning.{entries_held, held_in, key
 ghost use Rattle.stream_entries.specs.ItemsLeft.{item_tree, trees_left};
 ghost use Rattle.stream_entries.specs.ReadMeaning.{streams_of};
 
-use crate::entries::{Entries, read_entries};
+use crate::entries::{Entries, read_in_forms};
 use crate::items_left::{Item, ItemsLeft, count_items, next_item};
 use crate::one_pair::into_one_pair;
 use crate::overlap::Form;
@@ -47,9 +47,12 @@ impl OpenStreams {
         ensures err { IfErr result (λ e. e ≢ ParsingError.Memory
             → row_in_forms (item_tree S.seen row) ≡ (None, None)) }
     {
-        match into_one_pair(row) {
-            Ok((key, list)) => self.with_one(alloc, key, list),
-            Err(row) => self.with_many(alloc, row),
+        match row {
+            Item::Pair(key, list) => self.with_one(alloc, key, list),
+            Item::Whole(v) => match into_one_pair(v) {
+                Ok((key, list)) => self.with_one(alloc, key, list),
+                Err(v) => self.with_many(alloc, v),
+            },
         }
     }
 
@@ -68,7 +71,7 @@ impl OpenStreams {
     {
         let OpenStreams { forms, mut keys } = self;
         let key: String = key.read(alloc)?;
-        let entries = read_entries(alloc, list)?;
+        let entries = read_in_forms(alloc, list)?;
         let one = ReadForms {
             standard: entries.has(Form::Standard),
             claim: entries.has(Form::Claim),

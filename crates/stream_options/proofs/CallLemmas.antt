@@ -1,5 +1,6 @@
 -- What the order of calls means.
-use Rattle.std.proofs.Common.{◌≡◌, ◌≢◌, ℕ, Bool, List, [], ◌∷◌, ◌++◌, Option, Some, None, true, refl, sym, ◌∙◌, ap, ◌⊎◌, inl, inr}
+use Rattle.std.proofs.Common.{◌≡◌, ◌≢◌, ℕ, Bool, List, [], ◌∷◌, ◌++◌, Option, Some, None, true, refl, sym, ◌∙◌, ap, ◌⊎◌}
+use Rattle.std.proofs.Common.{inl, inr}
 use Rattle.std.specs.Prelude.{is_some}
 use Rattle.std.specs.Option.{option_or, unwrap_or}
 use Rattle.stream_options.specs.AddCalls as add
@@ -37,24 +38,29 @@ or_there None b e = absurd cc
 or_there (Some x) b e = refl
 
 -- what two lists of calls say, one behind the other
-pub last_said-append : {C T : Type 0} (said : C → Option T) (cs ds : List C) → last_said said (cs ++ ds) ≡ option_or (last_said said ds) (last_said said cs)
+pub last_said-append : {C T : Type 0} (said : C → Option T) (cs ds : List C)
+    → last_said said (cs ++ ds) ≡ option_or (last_said said ds) (last_said said cs)
 last_said-append said [] ds = sym (option_or_none (last_said said ds))
-last_said-append said (c ∷ cs) ds = ap (λ o. option_or o (said c)) (last_said-append said cs ds) ∙ option_or_assoc (last_said said ds) (last_said said cs) (said c)
+last_said-append said (c ∷ cs) ds = ap (λ o. option_or o (said c)) (last_said-append said cs ds)
+    ∙ option_or_assoc (last_said said ds) (last_said said cs) (said c)
 
 -- two lists say the same, whatever stands before and after
 same_said : {C T : Type 0} (said : C → Option T) (before xs ys after : List C) → last_said said xs ≡ last_said said ys
     → last_said said (before ++ (xs ++ after)) ≡ last_said said (before ++ (ys ++ after))
 same_said said before xs ys after e =
     last_said-append said before (xs ++ after)
-    ∙ ap (λ o. option_or o (last_said said before)) (last_said-append said xs after ∙ ap (option_or (last_said said after)) e ∙ sym (last_said-append said ys after))
+    ∙ ap (λ o. option_or o (last_said said before)) (last_said-append said xs after
+    ∙ ap (option_or (last_said said after)) e ∙ sym (last_said-append said ys after))
     ∙ sym (last_said-append said before (ys ++ after))
 
 -- a call speaks of the one setting that it names
 abbrev pub Names : {S : Type 0} {V : S → Type 0} → ((s : S) → (t : S) × V t → Option (V s)) → Type 0
-Names {S = S} {V = V} said = (s : S) (c : (t : S) × V t) → ((is_some (said s c) ≡ true) × (c.0 ≡ s)) ⊎ ((said s c ≡ None) × (c.0 ≢ s))
+Names {S = S} {V = V} said = (s : S) (c : (t : S) × V t)
+    → ((is_some (said s c) ≡ true) × (c.0 ≡ s)) ⊎ ((said s c ≡ None) × (c.0 ≢ s))
 
 -- of two that name one setting the last is heard
-pair_wins : {S : Type 0} {V : S → Type 0} (said : (s : S) → (t : S) × V t → Option (V s)) → Names said → (s : S) (c d : (t : S) × V t) → c.0 ≡ d.0
+pair_wins : {S : Type 0} {V : S → Type 0} (said : (s : S) → (t : S) × V t → Option (V s)) → Names said
+    → (s : S) (c d : (t : S) × V t) → c.0 ≡ d.0
     → last_said (said s) (c ∷ d ∷ []) ≡ last_said (said s) (d ∷ [])
 pair_wins said names s c d e = elim (names s d) [
   | inl h ↦ or_there (said s d) (said s c) h.0
@@ -65,7 +71,8 @@ pair_wins said names s c d e = elim (names s d) [
 ]
 
 -- two that name different settings are heard in either order
-pair_swaps : {S : Type 0} {V : S → Type 0} (said : (s : S) → (t : S) × V t → Option (V s)) → Names said → (s : S) (c d : (t : S) × V t) → c.0 ≢ d.0
+pair_swaps : {S : Type 0} {V : S → Type 0} (said : (s : S) → (t : S) × V t → Option (V s)) → Names said
+    → (s : S) (c d : (t : S) × V t) → c.0 ≢ d.0
     → last_said (said s) (c ∷ d ∷ []) ≡ last_said (said s) (d ∷ c ∷ [])
 pair_swaps said names s c d e = elim (names s d) [
   | inl h ↦ elim (names s c) [
@@ -75,11 +82,13 @@ pair_swaps said names s c d e = elim (names s d) [
   | inr h ↦ rw h.0 (sym (option_or_none (said s c)))
 ]
 
-module _ {S : Type 0} {V : S → Type 0} (said : (s : S) → (t : S) × V t → Option (V s)) (names : Names said) (before after : List ((t : S) × V t)) (c d : (t : S) × V t) where
+module _ {S : Type 0} {V : S → Type 0} (said : (s : S) → (t : S) × V t → Option (V s)) (names : Names said)
+    (before after : List ((t : S) × V t)) (c d : (t : S) × V t) where
   wins : c.0 ≡ d.0 → (s : S) → last_said (said s) (before ++ c ∷ d ∷ after) ≡ last_said (said s) (before ++ d ∷ after)
   wins e s = same_said (said s) before (c ∷ d ∷ []) (d ∷ []) after (pair_wins said names s c d e)
 
-  swaps : c.0 ≢ d.0 → (s : S) → last_said (said s) (before ++ c ∷ d ∷ after) ≡ last_said (said s) (before ++ d ∷ c ∷ after)
+  swaps : c.0 ≢ d.0 → (s : S) → last_said (said s) (before ++ c ∷ d ∷ after)
+      ≡ last_said (said s) (before ++ d ∷ c ∷ after)
   swaps e s = same_said (said s) before (c ∷ d ∷ []) (d ∷ c ∷ []) after (pair_swaps said names s c d e)
 
 -- ---- strategies of trimming
@@ -219,19 +228,29 @@ add_of start n p i t = record {
   trim = option_or t start.trim;
 }
 
-add_pushed : (start : Add) (c : AddCall) (n : Option Bool) (p : Option Policy) (i : Option Idempotency) (t : Option Strategy)
-    → add_of start (option_or (add_said add.nomkstream c) n) (option_or (add_said add.policy c) p) (option_or (add_said add.idempotency c) i) (option_or (add_said add.trim c) t) ≡ after_add (add_of start n p i t) c
+add_pushed : (start : Add) (c : AddCall) (n : Option Bool) (p : Option Policy) (i : Option Idempotency)
+    (t : Option Strategy)
+    → add_of start (option_or (add_said add.nomkstream c) n) (option_or (add_said add.policy c) p)
+    (option_or (add_said add.idempotency c) i) (option_or (add_said add.trim c) t)
+    ≡ after_add (add_of start n p i t) c
 add_pushed start (add.nomkstream, x) n p i t = refl
 add_pushed start (add.policy, x) n p i t = refl
 add_pushed start (add.idempotency, x) n p i t = refl
 add_pushed start (add.trim, x) n p i t = refl
 
 -- one call more on the options of an addition
-pub add_final_push : (start : Add) (calls : List AddCall) (c : AddCall) → final_add start (calls ++ c ∷ []) ≡ after_add (final_add start calls) c
+pub add_final_push : (start : Add) (calls : List AddCall) (c : AddCall)
+    → final_add start (calls ++ c ∷ []) ≡ after_add (final_add start calls) c
 add_final_push start calls c =
     let one = c ∷ [] in
-    rw (last_said-append (add_said add.nomkstream) calls one, last_said-append (add_said add.policy) calls one, last_said-append (add_said add.idempotency) calls one, last_said-append (add_said add.trim) calls one)
-    (add_pushed start c (last_said (add_said add.nomkstream) calls) (last_said (add_said add.policy) calls) (last_said (add_said add.idempotency) calls) (last_said (add_said add.trim) calls))
+    rw (
+      last_said-append (add_said add.nomkstream) calls one,
+      last_said-append (add_said add.policy) calls one,
+      last_said-append (add_said add.idempotency) calls one,
+      last_said-append (add_said add.trim) calls one,
+    )
+    (add_pushed start c (last_said (add_said add.nomkstream) calls) (last_said (add_said add.policy) calls)
+    (last_said (add_said add.idempotency) calls) (last_said (add_said add.trim) calls))
 
 -- the settings of a read that these last values leave
 abbrev read_of : Read → Option Group → Option ℕ → Option ℕ → Option Bool → Option ℕ → Read
@@ -244,7 +263,9 @@ read_of start g b n a c = record {
 }
 
 read_pushed : (start : Read) (c : ReadCall) (g : Option Group) (b n : Option ℕ) (a : Option Bool) (m : Option ℕ)
-    → read_of start (option_or (read_said read.group c) g) (option_or (read_said read.block c) b) (option_or (read_said read.count c) n) (option_or (read_said read.noack c) a) (option_or (read_said read.claim c) m) ≡ after_read (read_of start g b n a m) c
+    → read_of start (option_or (read_said read.group c) g) (option_or (read_said read.block c) b)
+    (option_or (read_said read.count c) n) (option_or (read_said read.noack c) a)
+    (option_or (read_said read.claim c) m) ≡ after_read (read_of start g b n a m) c
 read_pushed start (read.group, x) g b n a m = refl
 read_pushed start (read.block, x) g b n a m = refl
 read_pushed start (read.count, x) g b n a m = refl
@@ -252,14 +273,32 @@ read_pushed start (read.noack, x) g b n a m = refl
 read_pushed start (read.claim, x) g b n a m = refl
 
 -- one call more on the options of a read
-pub read_final_push : (start : Read) (calls : List ReadCall) (c : ReadCall) → final_read start (calls ++ c ∷ []) ≡ after_read (final_read start calls) c
+pub read_final_push : (start : Read) (calls : List ReadCall) (c : ReadCall)
+    → final_read start (calls ++ c ∷ []) ≡ after_read (final_read start calls) c
 read_final_push start calls c =
     let one = c ∷ [] in
-    rw (last_said-append (read_said read.group) calls one, last_said-append (read_said read.block) calls one, last_said-append (read_said read.count) calls one, last_said-append (read_said read.noack) calls one, last_said-append (read_said read.claim) calls one)
-    (read_pushed start c (last_said (read_said read.group) calls) (last_said (read_said read.block) calls) (last_said (read_said read.count) calls) (last_said (read_said read.noack) calls) (last_said (read_said read.claim) calls))
+    rw (
+      last_said-append (read_said read.group) calls one,
+      last_said-append (read_said read.block) calls one,
+      last_said-append (read_said read.count) calls one,
+      last_said-append (read_said read.noack) calls one,
+      last_said-append (read_said read.claim) calls one,
+    )
+    (read_pushed start c (last_said (read_said read.group) calls) (last_said (read_said read.block) calls)
+    (last_said (read_said read.count) calls) (last_said (read_said read.noack) calls)
+    (last_said (read_said read.claim) calls))
 
 -- ---- the laws of all types
 
-pub ruleset last_wins = (strategy_last_wins, trim_last_wins, add_last_wins, config_last_wins, autoclaim_last_wins, claim_last_wins, read_last_wins)
+pub ruleset last_wins = (
+  strategy_last_wins,
+  trim_last_wins,
+  add_last_wins,
+  config_last_wins,
+  autoclaim_last_wins,
+  claim_last_wins,
+  read_last_wins,
+)
 
-pub ruleset commute = (strategy_commutes, trim_commutes, add_commutes, config_commutes, autoclaim_commutes, claim_commutes, read_commutes)
+pub ruleset commute =
+    (strategy_commutes, trim_commutes, add_commutes, config_commutes, autoclaim_commutes, claim_commutes, read_commutes)

@@ -1,6 +1,7 @@
 -- The settings of each option type can be read back from their sentence, so the sentence determines
 -- them.
-use Rattle.std.proofs.Common.{◌≡◌, ℕ, ◌≤◌, Bool, true, false, cond, leb, ◌&&◌, ◌||◌, List, [], ◌∷◌, ◌++◌, codes, decimal, Option, Some, None, refl, sym, ◌∙◌, ap, subst, ◌⊎◌, inl, inr, arith, append-nil}
+use Rattle.std.proofs.Common.{◌≡◌, ℕ, ◌≤◌, Bool, true, false, cond, leb, ◌&&◌, ◌||◌, List, [], ◌∷◌, ◌++◌, codes}
+use Rattle.std.proofs.Common.{decimal, Option, Some, None, refl, sym, ◌∙◌, ap, subst, ◌⊎◌, inl, inr, arith, append-nil}
 use Rattle.std.specs.Prelude.{IfSome, IsSome, is_some, length}
 use Rattle.std.specs.Option.{option_map}
 use Rattle.std.specs.Str.{bytes_eq, IsUtf8}
@@ -12,37 +13,60 @@ use Rattle.stream_options.specs.Add.{add_sentence, add_words, AddFits}
 use Rattle.stream_options.specs.AutoClaim.{autoclaim_sentence, autoclaim_words, AutoClaimFits}
 use Rattle.stream_options.specs.Claim.{Claim, claim_sentence, claim_words, ClaimFits}
 use Rattle.stream_options.specs.Config.{config_sentence, config_words, IsConfig, IsDuration, IsMaxsize}
-use Rattle.stream_options.specs.Idempotency.{Idempotency, manual, automatic, idempotency_sentence, idempotency_words, IdempotencyFits}
+use Rattle.stream_options.specs.Idempotency.{Idempotency, manual, automatic, idempotency_sentence, idempotency_words}
+use Rattle.stream_options.specs.Idempotency.{IdempotencyFits}
 use Rattle.stream_options.specs.Laws.{Any, Determines, IsExact, Equal}
 use Rattle.stream_options.specs.Maxlen.{Maxlen, maxlen_sentence, maxlen_words, MaxlenFits}
 use Rattle.stream_options.specs.Nack.{Nack, silent, fail, fatal, nack_word, nack_sentence, nack_words}
 use Rattle.stream_options.specs.Policy.{Policy, keep_ref, del_ref, acked, policy_word, policy_sentence, policy_words}
-use Rattle.stream_options.specs.Read.{Group, Read, group_sentence, read_sentence, read_words, IsSingle, ReadFits, CountAlike}
-use Rattle.stream_options.specs.ReadBack.{number_of, text_of, number_clause, text_clause, both, one, two, ClaimParts, claim_with, claim_at, policy_of, policy_clause, idempotency_at, mode_of, bound_at, bound_words, strategy_with, strategy_at, trim_with, trim_at, maxlen_with, maxlen_at, add_with, add_at, optional, single_group, group_at, Ungrouped, Grouped, grouped_with, grouped_at, ungrouped_at, counted_at, read_with, read_at, seen, nack_of, nack_at, argument_at, autoclaim_with, autoclaim_at, argument_clause, kept, in_duration, in_maxsize, any_set, config_with, config_at}
-use Rattle.stream_options.specs.Trim.{Mode, exact, approx, mode_word, mode_sentence, mode_words, Bound, max_len, min_id, bound_sentence, BoundFits, Strategy, strategy_sentence, strategy_words, StrategyFits, trim_sentence, trim_words, TrimFits}
+use Rattle.stream_options.specs.Read.{Group, Read, group_sentence, read_sentence, read_words, IsSingle, ReadFits}
+use Rattle.stream_options.specs.Read.{CountAlike}
+use Rattle.stream_options.specs.ReadBack.{number_of, text_of, number_clause, text_clause, both, one, two, ClaimParts}
+use Rattle.stream_options.specs.ReadBack.{claim_with, claim_at, policy_of, policy_clause, idempotency_at, mode_of}
+use Rattle.stream_options.specs.ReadBack.{bound_at, bound_words, strategy_with, strategy_at, trim_with, trim_at}
+use Rattle.stream_options.specs.ReadBack.{maxlen_with, maxlen_at, add_with, add_at, optional, single_group, group_at}
+use Rattle.stream_options.specs.ReadBack.{Ungrouped, Grouped, grouped_with, grouped_at, ungrouped_at, counted_at}
+use Rattle.stream_options.specs.ReadBack.{read_with, read_at, seen, nack_of, nack_at, argument_at, autoclaim_with}
+use Rattle.stream_options.specs.ReadBack.{autoclaim_at, argument_clause, kept, in_duration, in_maxsize, any_set}
+use Rattle.stream_options.specs.ReadBack.{config_with, config_at}
+use Rattle.stream_options.specs.Trim.{Mode, exact, approx, mode_word, mode_sentence, mode_words, Bound, max_len, min_id}
+use Rattle.stream_options.specs.Trim.{bound_sentence, BoundFits, Strategy, strategy_sentence, strategy_words}
+use Rattle.stream_options.specs.Trim.{StrategyFits, trim_sentence, trim_words, TrimFits}
 use Rattle.stream_options.specs.Words.{begins, IsUsize}
-use Rattle.stream_options.proofs.Sentences.{seen_some, ReadsAlike, cases, CasesFit, and_true, free_within, ReadsBack, ReadsArgument, gives, optional_reads, either_reads, determined, whole, kept_reads, filtered_reads, apart, as_reads, told, both_reads, argument_reads, argument_at_reads, one_takes, flag_reads, number_reads, text_reads}
+use Rattle.stream_options.proofs.Sentences.{seen_some, ReadsAlike, cases, CasesFit, and_true, free_within, ReadsBack}
+use Rattle.stream_options.proofs.Sentences.{ReadsArgument, gives, optional_reads, either_reads, determined, whole}
+use Rattle.stream_options.proofs.Sentences.{kept_reads, filtered_reads, apart, as_reads, told, both_reads}
+use Rattle.stream_options.proofs.Sentences.{argument_reads, argument_at_reads, one_takes, flag_reads, number_reads}
+use Rattle.stream_options.proofs.Sentences.{text_reads}
 use Rattle.stream_options.proofs.Sentences as sentences
 
-number : (word : List ℕ) → ReadsBack (λ o. IfSome o IsUsize) (clause (word_number word)) (word ∷ []) (number_clause word)
+number : (word : List ℕ) → ReadsBack (λ o. IfSome o IsUsize) (clause (word_number word)) (word ∷ [])
+    (number_clause word)
 number word = argument_reads IsUsize decimal number_of word number_reads
 
 text : (word : List ℕ) → ReadsBack (λ o. IfSome o IsUtf8) (clause (word_text word)) (word ∷ []) (text_clause word)
 text word = argument_reads IsUtf8 (λ x. x) text_of word text_reads
 
 -- one after the other, which are apart
-seq : {A B : Type 0} {F : A → Type 0} {f : A → List (List ℕ)} {ws : List (List ℕ)} {rf : List (List ℕ) → Option (A × List (List ℕ))}
+seq : {A B : Type 0} {F : A → Type 0} {f : A → List (List ℕ)} {ws : List (List ℕ)} {rf : List (List ℕ)
+    → Option (A × List (List ℕ))}
     {G : B → Type 0} {g : B → List (List ℕ)} {vs : List (List ℕ)} {rg : List (List ℕ) → Option (B × List (List ℕ))}
-    → ReadsBack F f ws rf → ReadsBack G g vs rg → apart ws vs ≡ true → ReadsBack (λ x. F x.0 × G x.1) (λ x. f x.0 ++ g x.1) (ws ++ vs) (both rf rg)
+    → ReadsBack F f ws rf → ReadsBack G g vs rg → apart ws vs ≡ true
+    → ReadsBack (λ x. F x.0 × G x.1) (λ x. f x.0 ++ g x.1) (ws ++ vs) (both rf rg)
 seq p q e = both_reads _ _ _ _ _ _ _ _ p q e
 
 abbrev claim_flat : Claim → ClaimParts
 claim_flat c = (c.idle, (c.time, (c.retry, (c.force, (c.justid, c.lastid)))))
 
 pub claim_reads : ReadsBack ClaimFits claim_sentence claim_words claim_at
-claim_reads = whole _ _ _ _ (as_reads claim_flat claim_with _ _ _ _ (seq (number (codes "IDLE")) (seq (number (codes "TIME")) (seq (number (codes "RETRYCOUNT"))
-    (seq (flag_reads (codes "FORCE")) (seq (flag_reads (codes "JUSTID")) (text (codes "LASTID")) refl) refl) refl) refl) refl) (λ _. refl) (λ _. refl)) claim_words refl ClaimFits
-    (λ c h. (h.idle, (h.time, (h.retry, (tt, (tt, h.lastid)))))) (λ c h. record { idle = h.0; time = h.1.0; retry = h.1.1.0; lastid = h.1.1.1.1.1 })
+claim_reads =
+    whole _ _ _ _
+    (as_reads claim_flat claim_with _ _ _ _
+    (seq (number (codes "IDLE")) (seq (number (codes "TIME")) (seq (number (codes "RETRYCOUNT"))
+    (seq (flag_reads (codes "FORCE")) (seq (flag_reads (codes "JUSTID"))
+    (text (codes "LASTID")) refl) refl) refl) refl) refl) (λ _. refl) (λ _. refl)) claim_words refl ClaimFits
+    (λ c h. (h.idle, (h.time, (h.retry, (tt, (tt, h.lastid))))))
+    (λ c h. record { idle = h.0; time = h.1.0; retry = h.1.1.0; lastid = h.1.1.1.1.1 })
 
 pub claim_determined : Determines ClaimFits claim_sentence claim_words Equal
 claim_determined = determined _ _ _ _ claim_reads
@@ -53,7 +77,9 @@ claim_exact = sentences.exact _ _ _ _ claim_reads
 -- ---- automatic claim
 
 pub autoclaim_reads : ReadsBack AutoClaimFits autoclaim_sentence autoclaim_words autoclaim_at
-autoclaim_reads = whole _ _ _ _ (as_reads (λ c. (c.count, c.justid)) autoclaim_with _ _ _ _ (seq (number (codes "COUNT")) (flag_reads (codes "JUSTID")) refl) (λ _. refl) (λ _. refl))
+autoclaim_reads =
+    whole _ _ _ _ (as_reads (λ c. (c.count, c.justid)) autoclaim_with _ _ _ _
+    (seq (number (codes "COUNT")) (flag_reads (codes "JUSTID")) refl) (λ _. refl) (λ _. refl))
     autoclaim_words refl AutoClaimFits (λ c h. (h, tt)) (λ c h. h.0)
 
 pub autoclaim_determined : Determines AutoClaimFits autoclaim_sentence autoclaim_words Equal
@@ -64,7 +90,9 @@ autoclaim_exact = sentences.exact _ _ _ _ autoclaim_reads
 
 -- ---- config
 
-ranged : (test : ℕ → Bool) (word : List ℕ) → ReadsBack (λ o. IfSome o (λ n. IsUsize n × (test n ≡ true))) (clause (word_number word)) (word ∷ []) (argument_clause (kept test number_of) word)
+ranged : (test : ℕ → Bool) (word : List ℕ)
+    → ReadsBack (λ o. IfSome o (λ n. IsUsize n × (test n ≡ true))) (clause (word_number word)) (word ∷ [])
+    (argument_clause (kept test number_of) word)
 ranged test word = argument_reads _ decimal _ word (kept_reads IsUsize decimal number_of test number_reads)
 
 some_then : {T : Type 0} {P Q : T → Type 0} (o : Option T) → ((x : T) → P x → Q x) → IfSome o P → IfSome o Q
@@ -97,9 +125,13 @@ set_is_any None None h = absurd cc
 
 pub config_reads : ReadsBack IsConfig config_sentence config_words config_at
 config_reads = whole _ _ _ _ (filtered_reads _ _ _ _ any_set (as_reads (λ c. (c.seconds, c.maxsize)) config_with _ _ _ _
-    (seq (ranged in_duration (codes "IDMP-DURATION")) (ranged in_maxsize (codes "IDMP-MAXSIZE")) refl) (λ _. refl) (λ _. refl)))
+    (seq (ranged in_duration (codes "IDMP-DURATION")) (ranged in_maxsize (codes "IDMP-MAXSIZE")) refl) (λ _. refl)
+    (λ _. refl)))
     config_words refl IsConfig
-    (λ c h. ((some_then c.seconds is_duration h.seconds, some_then c.maxsize is_maxsize h.maxsize), any_is_set c.seconds c.maxsize h.any))
+    (λ c h. (
+      (some_then c.seconds is_duration h.seconds, some_then c.maxsize is_maxsize h.maxsize),
+      any_is_set c.seconds c.maxsize h.any,
+    ))
     (λ c h. record {
       seconds = some_then c.seconds (λ n f. between n 86400 f.1) h.0.0;
       maxsize = some_then c.maxsize (λ n f. between n 10000 f.1) h.0.1;
@@ -114,14 +146,16 @@ config_exact = sentences.exact _ _ _ _ config_reads
 
 -- ---- add
 
-two_takes : {A B V : Type 0} (make : A → B → V) (o : Option A) (p : Option B) (rest : List (List ℕ)) (v : V) (r : List (List ℕ)) {P : Type 0} → gives (two make o p rest) v r
+two_takes : {A B V : Type 0} (make : A → B → V) (o : Option A) (p : Option B) (rest : List (List ℕ)) (v : V)
+    (r : List (List ℕ)) {P : Type 0} → gives (two make o p rest) v r
     → ((a : A) (b : B) → o ≡ Some a → p ≡ Some b → make a b ≡ v → rest ≡ r → P) → P
 two_takes make None p rest v r e k = absurd cc
 two_takes make (Some a) None rest v r e k = absurd cc
 two_takes make (Some a) (Some b) rest v r e k = let s = some_pair_parts (make a b) v rest r e in k a b refl refl s.0 s.1
 
 -- a test for a word
-word_is : {A : Type 0} (w word : List ℕ) (x y : A) (z : A) {P : Type 0} → cond (bytes_eq w word) x y ≡ z → (w ≡ word → x ≡ z → P) → (y ≡ z → P) → P
+word_is : {A : Type 0} (w word : List ℕ) (x y : A) (z : A) {P : Type 0} → cond (bytes_eq w word) x y ≡ z
+    → (w ≡ word → x ≡ z → P) → (y ≡ z → P) → P
 word_is w word x y z {P = P} e yes_ no_ = elim (bytes_eq w word) as (λ q. bytes_eq w word ≡ q → cond q x y ≡ z → P) [
   | true ↦ λ h e. yes_ ((bytes_eq-Decides w word).0 h) e
   | false ↦ λ h e. no_ e
@@ -216,9 +250,11 @@ idempotency_begins (manual p i) = refl
 idempotency_begins (automatic p) = refl
 
 -- the word is that of the automatic one
-automatic_takes : (w p : List ℕ) (rest : List (List ℕ)) (x : Idempotency) (r : List (List ℕ)) → w ≡ codes "IDMPAUTO" → gives (one automatic (text_of p) rest) x r → (w ∷ p ∷ rest ≡ idempotency_sentence x ++ r) × IdempotencyFits x
+automatic_takes : (w p : List ℕ) (rest : List (List ℕ)) (x : Idempotency) (r : List (List ℕ)) → w ≡ codes "IDMPAUTO"
+    → gives (one automatic (text_of p) rest) x r → (w ∷ p ∷ rest ≡ idempotency_sentence x ++ r) × IdempotencyFits x
 automatic_takes w p rest x r h e = one_takes automatic (text_of p) rest x r e (λ t eq is s.
-    let k = text_reads.takes p t eq in subst (λ y. (w ∷ p ∷ rest ≡ idempotency_sentence y ++ r) × IdempotencyFits y) is (rw (h, k.0, s) refl, k.1))
+    let k = text_reads.takes p t eq in subst (λ y. (w ∷ p ∷ rest ≡ idempotency_sentence y ++ r) × IdempotencyFits y) is
+    (rw (h, k.0, s) refl, k.1))
 
 pub idempotency_reads : ReadsBack IdempotencyFits idempotency_sentence idempotency_words idempotency_at
 idempotency_reads = record {
@@ -232,13 +268,15 @@ idempotency_reads = record {
   takes = elim [
     | [] ↦ λ x r e. absurd cc
     | (w ∷ []) ↦ λ x r e. absurd cc
-    | (w ∷ p ∷ []) ↦ λ x r e. word_is w (codes "IDMPAUTO") _ _ _ e (λ h e. automatic_takes w p [] x r h e) (λ e. absurd cc)
+    | (w ∷ p ∷ []) ↦ λ x r e. word_is w (codes "IDMPAUTO") _ _ _ e (λ h e. automatic_takes w p [] x r h e)
+        (λ e. absurd cc)
     | (w ∷ p ∷ i ∷ rest) ↦ λ x r e. word_is w (codes "IDMPAUTO") _ _ _ e
         (λ h e. automatic_takes w p (i ∷ rest) x r h e)
         (λ e. word_is w (codes "IDMP") _ _ _ e
         (λ h e. two_takes manual (text_of p) (text_of i) rest x r e (λ t u et eu is s.
         let k = text_reads.takes p t et in let l = text_reads.takes i u eu in
-        subst (λ y. (w ∷ p ∷ i ∷ rest ≡ idempotency_sentence y ++ r) × IdempotencyFits y) is (rw (h, k.0, l.0, s) refl, (k.1, l.1))))
+        subst (λ y. (w ∷ p ∷ i ∷ rest ≡ idempotency_sentence y ++ r) × IdempotencyFits y) is
+        (rw (h, k.0, l.0, s) refl, (k.1, l.1))))
         (λ e. absurd cc))
   ];
   opens = λ x. inr (idempotency_begins x);
@@ -305,14 +343,19 @@ bound_reads = record {
 }
 
 -- the words that stand in front of its clauses
-strategy_reads_back : ReadsBack (λ s. BoundFits s.bound × IfSome s.limit IsUsize) strategy_sentence (bound_words ++ codes "LIMIT" ∷ []) strategy_at
-strategy_reads_back = as_reads (λ s. (s.bound, s.limit)) strategy_with _ _ _ _ (seq bound_reads (number (codes "LIMIT")) refl) (λ _. refl) (λ _. refl)
+strategy_reads_back : ReadsBack (λ s. BoundFits s.bound × IfSome s.limit IsUsize) strategy_sentence
+    (bound_words ++ codes "LIMIT" ∷ []) strategy_at
+strategy_reads_back = as_reads (λ s. (s.bound, s.limit)) strategy_with _ _ _ _
+    (seq bound_reads (number (codes "LIMIT")) refl) (λ _. refl) (λ _. refl)
 
 pub strategy_reads : ReadsBack StrategyFits strategy_sentence strategy_words strategy_at
-strategy_reads = whole _ _ _ _ strategy_reads_back strategy_words refl StrategyFits (λ s h. (h.bound, h.limit)) (λ s h. record { bound = h.0; limit = h.1 })
+strategy_reads = whole _ _ _ _ strategy_reads_back strategy_words refl StrategyFits (λ s h. (h.bound, h.limit))
+    (λ s h. record { bound = h.0; limit = h.1 })
 
 strategy_begins : (s : Strategy) → begins strategy_words (strategy_sentence s) ≡ true
-strategy_begins s = elim s.bound as (λ b. begins strategy_words (bound_sentence b ++ clause (word_number (codes "LIMIT")) s.limit) ≡ true) [ max_len m n ↦ refl | min_id m i ↦ refl ]
+strategy_begins s =
+    elim s.bound as (λ b. begins strategy_words (bound_sentence b ++ clause (word_number (codes "LIMIT")) s.limit)
+    ≡ true) [ max_len m n ↦ refl | min_id m i ↦ refl ]
 
 pub strategy_determined : Determines StrategyFits strategy_sentence strategy_words Equal
 strategy_determined = determined _ _ _ _ strategy_reads
@@ -325,7 +368,9 @@ any_policy None = tt
 any_policy (Some p) = tt
 
 pub trim_reads : ReadsBack TrimFits trim_sentence trim_words trim_at
-trim_reads = whole _ _ _ _ (as_reads (λ t. (t.strategy, t.policy)) trim_with _ _ _ _ (seq strategy_reads policy_clause_reads refl) (λ _. refl) (λ _. refl))
+trim_reads =
+    whole _ _ _ _ (as_reads (λ t. (t.strategy, t.policy)) trim_with _ _ _ _
+    (seq strategy_reads policy_clause_reads refl) (λ _. refl) (λ _. refl))
     trim_words refl TrimFits (λ t h. (h, any_policy t.policy)) (λ t h. h.0)
 
 pub trim_determined : Determines TrimFits trim_sentence trim_words Equal
@@ -337,13 +382,15 @@ trim_exact = sentences.exact _ _ _ _ trim_reads
 -- ---- additions
 
 -- the clause of a strategy reads back where a bound's word stands in front
-strategy_clause_reads : ReadsBack (λ o. IfSome o StrategyFits) (clause strategy_sentence) strategy_words (optional strategy_words strategy_at)
+strategy_clause_reads : ReadsBack (λ o. IfSome o StrategyFits) (clause strategy_sentence) strategy_words
+    (optional strategy_words strategy_at)
 strategy_clause_reads = optional_reads _ _ _ _ strategy_reads strategy_begins
 
 pub add_reads : ReadsBack AddFits add_sentence add_words add_at
 add_reads = whole _ _ _ _ (as_reads (λ a. (a.nomkstream, (a.policy, (a.idempotency, a.trim)))) add_with _ _ _ _
     (seq (flag_reads (codes "NOMKSTREAM")) (seq policy_clause_reads
-    (seq (optional_reads _ _ _ _ idempotency_reads idempotency_begins) strategy_clause_reads refl) refl) refl) (λ _. refl) (λ _. refl))
+    (seq (optional_reads _ _ _ _ idempotency_reads idempotency_begins) strategy_clause_reads refl) refl) refl)
+    (λ _. refl) (λ _. refl))
     add_words refl AddFits (λ a h. (tt, (any_policy a.policy, (h.idempotency, h.trim))))
     (λ a h. record { idempotency = h.1.1.0; trim = h.1.1.1 })
 
@@ -388,7 +435,10 @@ abbrev GroupedFits : Grouped → Type 0
 GroupedFits x = IsSingle x.0 × (IfSome x.1.0 IsUsize × (IfSome x.1.1.0 IsUsize × (Unit {0} × IfSome x.1.1.1.1 IsUsize)))
 
 grouped_reads : ReadsBack GroupedFits (λ x. read_sentence (grouped_with x)) read_words grouped_at
-grouped_reads = seq group_reads (seq (number (codes "BLOCK")) (seq (number (codes "COUNT")) (seq (flag_reads (codes "NOACK")) (number (codes "CLAIM")) refl) refl) refl) refl
+grouped_reads =
+    seq group_reads
+    (seq (number (codes "BLOCK"))
+    (seq (number (codes "COUNT")) (seq (flag_reads (codes "NOACK")) (number (codes "CLAIM")) refl) refl) refl) refl
 
 abbrev UngroupedFits : Ungrouped → Type 0
 UngroupedFits x = IfSome x.0 IsUsize × IfSome x.1 IsUsize
@@ -399,7 +449,9 @@ ungrouped_sentence x = clause (word_number (codes "BLOCK")) x.0 ++ clause (word_
 ungrouped_reads : ReadsBack UngroupedFits ungrouped_sentence (codes "BLOCK" ∷ codes "COUNT" ∷ []) ungrouped_at
 ungrouped_reads = seq (number (codes "BLOCK")) (number (codes "COUNT")) refl
 
-read_reads : ReadsBack (CasesFit GroupedFits UngroupedFits) (cases (λ x. read_sentence (grouped_with x)) ungrouped_sentence) (read_words ++ codes "BLOCK" ∷ codes "COUNT" ∷ []) counted_at
+read_reads : ReadsBack (CasesFit GroupedFits UngroupedFits)
+    (cases (λ x. read_sentence (grouped_with x)) ungrouped_sentence)
+    (read_words ++ codes "BLOCK" ∷ codes "COUNT" ∷ []) counted_at
 read_reads = either_reads _ _ _ _ _ _ _ _ (codes "GROUP" ∷ []) grouped_reads ungrouped_reads (λ _. refl) refl refl
 
 -- what counts of the settings
@@ -413,11 +465,15 @@ read_from g b c n l = record { group = g; block = b; count = c; noack = n; claim
 abbrev counted : Read → Grouped ⊎ Ungrouped
 counted r = counting r.group r.block r.count r.noack r.claim
 
-counting_sentence : (g : Option Group) (b c : Option ℕ) (n : Bool) (l : Option ℕ) → read_sentence (read_from g b c n l) ≡ cases (λ x. read_sentence (grouped_with x)) ungrouped_sentence (counting g b c n l)
+counting_sentence : (g : Option Group) (b c : Option ℕ) (n : Bool) (l : Option ℕ)
+    → read_sentence (read_from g b c n l)
+    ≡ cases (λ x. read_sentence (grouped_with x)) ungrouped_sentence (counting g b c n l)
 counting_sentence (Some g) b c n l = refl
-counting_sentence None b c n l = ap (λ t. clause (word_number (codes "BLOCK")) b ++ t) (append-nil (clause (word_number (codes "COUNT")) c))
+counting_sentence None b c n l = ap (λ t. clause (word_number (codes "BLOCK")) b ++ t)
+    (append-nil (clause (word_number (codes "COUNT")) c))
 
-counting_fits : (g : Option Group) (b c : Option ℕ) (n : Bool) (l : Option ℕ) → ReadFits (read_from g b c n l) → CasesFit GroupedFits UngroupedFits (counting g b c n l)
+counting_fits : (g : Option Group) (b c : Option ℕ) (n : Bool) (l : Option ℕ) → ReadFits (read_from g b c n l)
+    → CasesFit GroupedFits UngroupedFits (counting g b c n l)
 counting_fits (Some g) b c n l h = (h.group, (h.block, (h.count, (tt, h.claim))))
 counting_fits None b c n l h = (h.block, h.count)
 
@@ -427,14 +483,27 @@ same_inl x y e = cc
 same_inr : (x y : Ungrouped) → ◌≡◌ {A = Grouped ⊎ Ungrouped} (inr x) (inr y) → x ≡ y
 same_inr x y e = cc
 
-counting_same : (g : Option Group) (b c : Option ℕ) (n : Bool) (l : Option ℕ) (g' : Option Group) (b' c' : Option ℕ) (n' : Bool) (l' : Option ℕ)
+counting_same : (g : Option Group) (b c : Option ℕ) (n : Bool) (l : Option ℕ) (g' : Option Group) (b' c' : Option ℕ)
+    (n' : Bool) (l' : Option ℕ)
     → counting g b c n l ≡ counting g' b' c' n' l' → CountAlike (read_from g b c n l) (read_from g' b' c' n' l')
 counting_same (Some g) b c n l (Some g') b' c' n' l' e =
     let i = same_inl (g, (b, (c, (n, l)))) (g', (b', (c', (n', l')))) e in
-    record { group = ap (λ x. Some x.0) i; block = ap (λ x. x.1.0) i; count = ap (λ x. x.1.1.0) i; noack = λ _. ap (λ x. x.1.1.1.0) i; claim = λ _. ap (λ x. x.1.1.1.1) i }
+    record {
+      group = ap (λ x. Some x.0) i;
+      block = ap (λ x. x.1.0) i;
+      count = ap (λ x. x.1.1.0) i;
+      noack = λ _. ap (λ x. x.1.1.1.0) i;
+      claim = λ _. ap (λ x. x.1.1.1.1) i;
+    }
 counting_same None b c n l None b' c' n' l' e =
     let i = same_inr (b, c) (b', c') e in
-    record { group = refl; block = ap (λ x. x.0) i; count = ap (λ x. x.1) i; noack = λ h. absurd cc; claim = λ h. absurd cc }
+    record {
+      group = refl;
+      block = ap (λ x. x.0) i;
+      count = ap (λ x. x.1) i;
+      noack = λ h. absurd cc;
+      claim = λ h. absurd cc;
+    }
 counting_same (Some g) b c n l None b' c' n' l' e = absurd cc
 counting_same None b c n l (Some g') b' c' n' l' e = absurd cc
 
@@ -450,8 +519,10 @@ read_determined a b r s fa fb fr fs e =
     let ea = counting_sentence a.group a.block a.count a.noack a.claim in
     let eb = counting_sentence b.group b.block b.count b.noack b.claim in
     let t = told _ _ _ _ read_reads (counted a) (counted b) r s
-    (counting_fits a.group a.block a.count a.noack a.claim fa) (counting_fits b.group b.block b.count b.noack b.claim fb)
-    (free_within (read_words ++ codes "BLOCK" ∷ codes "COUNT" ∷ []) read_words r refl fr) (free_within (read_words ++ codes "BLOCK" ∷ codes "COUNT" ∷ []) read_words s refl fs)
+    (counting_fits a.group a.block a.count a.noack a.claim fa)
+    (counting_fits b.group b.block b.count b.noack b.claim fb)
+    (free_within (read_words ++ codes "BLOCK" ∷ codes "COUNT" ∷ []) read_words r refl fr)
+    (free_within (read_words ++ codes "BLOCK" ∷ codes "COUNT" ∷ []) read_words s refl fs)
     (ap (λ x. x ++ r) (sym ea) ∙ e ∙ ap (λ x. x ++ s) eb) in
     (counting_same a.group a.block a.count a.noack a.claim b.group b.block b.count b.noack b.claim t.0, t.1)
 
@@ -466,7 +537,8 @@ read_exact a b fa fb = (same_read a b, λ e. (read_determined a b [] [] fa fb re
 
 -- ---- for the readers of sentences
 
-counted_alike : (g : Option Group) (b c : Option ℕ) (n : Bool) (l : Option ℕ) → CountAlike (read_from g b c n l) (read_with (counting g b c n l))
+counted_alike : (g : Option Group) (b c : Option ℕ) (n : Bool) (l : Option ℕ)
+    → CountAlike (read_from g b c n l) (read_with (counting g b c n l))
 counted_alike (Some g) b c n l = record {
   group = refl;
   block = refl;
@@ -483,7 +555,8 @@ counted_alike None b c n l = record {
 }
 
 -- what counts, as it is written
-counted_written : (x : Grouped ⊎ Ungrouped) → cases (λ g. read_sentence (grouped_with g)) ungrouped_sentence x ≡ read_sentence (read_with x)
+counted_written : (x : Grouped ⊎ Ungrouped)
+    → cases (λ g. read_sentence (grouped_with g)) ungrouped_sentence x ≡ read_sentence (read_with x)
 counted_written (inl g) = refl
 counted_written (inr y) = sym (counting_sentence None y.0 y.1 false None)
 
@@ -501,18 +574,26 @@ counted_fits (inr y) h = record {
   claim = tt;
 }
 
-read_again : (x : Read) (r : List (List ℕ)) → ReadFits x → begins read_words r ≡ false → read_at (read_sentence x ++ r) ≡ Some (read_with (counted x), r)
+read_again : (x : Read) (r : List (List ℕ)) → ReadFits x → begins read_words r ≡ false
+    → read_at (read_sentence x ++ r) ≡ Some (read_with (counted x), r)
 read_again x r fits free =
     ap read_at (ap (λ t. t ++ r) (counting_sentence x.group x.block x.count x.noack x.claim))
-    ∙ ap (λ o. option_map (seen read_with) o) (read_reads.again (counted x) r (counting_fits x.group x.block x.count x.noack x.claim fits)
+    ∙ ap (λ o. option_map (seen read_with) o)
+    (read_reads.again (counted x) r (counting_fits x.group x.block x.count x.noack x.claim fits)
     (free_within (read_words ++ codes "BLOCK" ∷ codes "COUNT" ∷ []) read_words r refl free))
 
 pub read_alike : ReadsAlike ReadFits read_sentence read_words CountAlike read_at
 read_alike = record {
-  again = λ x r fits free. (read_with (counted x), read_again x r fits free, counted_alike x.group x.block x.count x.noack x.claim);
+  again =
+      λ x r fits free. (
+        read_with (counted x),
+        read_again x r fits free,
+        counted_alike x.group x.block x.count x.noack x.claim,
+      );
   takes = λ args x r e. seen_some read_with (counted_at args) x r e (λ t h is.
       let k = read_reads.takes args t r h in
-      subst (λ y. (args ≡ read_sentence y ++ r) × ReadFits y) is (k.0 ∙ ap (λ s. s ++ r) (counted_written t), counted_fits t k.1));
+      subst (λ y. (args ≡ read_sentence y ++ r) × ReadFits y) is
+      (k.0 ∙ ap (λ s. s ++ r) (counted_written t), counted_fits t k.1));
 }
 
 -- ---- the laws by type

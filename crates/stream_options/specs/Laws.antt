@@ -6,7 +6,8 @@ use Rattle.stream_options.specs.Words.{IsFree}
 -- the rest
 abbrev pub Determines : {T : Type 0} → (T → Type 0) → (T → List (List ℕ)) → List (List ℕ) → (T → T → Type 0) → Type 0
 Determines {T = T} Fits sentence words Alike =
-    (a b : T) (r s : List (List ℕ)) → Fits a → Fits b → IsFree words r → IsFree words s → sentence a ++ r ≡ sentence b ++ s → Alike a b × (r ≡ s)
+    (a b : T) (r s : List (List ℕ)) → Fits a → Fits b → IsFree words r → IsFree words s
+    → sentence a ++ r ≡ sentence b ++ s → Alike a b × (r ≡ s)
 
 -- settings are alike exactly where their sentences are equal
 abbrev pub IsExact : {T : Type 0} → (T → Type 0) → (T → List (List ℕ)) → (T → T → Type 0) → Type 0

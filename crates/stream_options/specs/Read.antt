@@ -1,5 +1,6 @@
 -- What a read is asked for, as settings, and how it reads as arguments.
-use Rattle.std.specs.Prelude.{◌≡◌, ℕ, Bool, false, List, [], ◌∷◌, ◌++◌, codes, length, Option, None, is_some, IfSome, true, if◌then◌else◌}
+use Rattle.std.specs.Prelude.{◌≡◌, ℕ, Bool, false, List, [], ◌∷◌, ◌++◌, codes, length, Option, None, is_some, IfSome}
+use Rattle.std.specs.Prelude.{true, if◌then◌else◌}
 use Rattle.redis_args.specs.Clause.{clause, word_number, flag}
 use Rattle.stream_options.specs.Words.{IsUsize}
 

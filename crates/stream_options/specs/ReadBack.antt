@@ -1,7 +1,8 @@
 -- How arguments read back as settings: from the left, the settings and the arguments that are
 -- left, or None. Whether these are the inverse of the sentences is proved, and no promise rests on
 -- them.
-use Rattle.std.specs.Prelude.{◌^◌, ◌⊎◌, ℕ, Bool, true, false, ◌&&◌, ◌||◌, nat_lt, nat_le, List, [], ◌∷◌, codes, decimal, Option, Some, None, is_some, if◌then◌else◌}
+use Rattle.std.specs.Prelude.{◌^◌, ◌⊎◌, ℕ, Bool, true, false, ◌&&◌, ◌||◌, nat_lt, nat_le, List, [], ◌∷◌, codes, decimal}
+use Rattle.std.specs.Prelude.{Option, Some, None, is_some, if◌then◌else◌}
 use Rattle.std.proofs.Common.{inl, inr}
 use Rattle.std.specs.Option.{option_map, option_and_then}
 use Rattle.std.specs.Str.{bytes_eq, is_utf8}
@@ -23,7 +24,8 @@ use Rattle.stream_options.specs.Words.{begins}
 -- the number that these bytes write as sentences do: with no sign and no leading zero, and in the
 -- range of usize
 unfoldable pub number_of : List ℕ → Option ℕ
-number_of bytes = if bytes_eq bytes (decimal (digits_value 10 bytes)) && nat_lt (digits_value 10 bytes) (2 ^ 64) then Some (digits_value 10 bytes) else None
+number_of bytes = if bytes_eq bytes (decimal (digits_value 10 bytes)) && nat_lt (digits_value 10 bytes) (2 ^ 64)
+    then Some (digits_value 10 bytes) else None
 
 -- the text
 unfoldable pub text_of : List ℕ → Option (List ℕ)
@@ -35,11 +37,13 @@ mode_of arg = if bytes_eq arg (codes "=") then Some exact else if bytes_eq arg (
 
 -- the policy of a word
 abbrev pub policy_of : List ℕ → Option Policy
-policy_of arg = if bytes_eq arg (codes "KEEPREF") then Some keep_ref else if bytes_eq arg (codes "DELREF") then Some del_ref else if bytes_eq arg (codes "ACKED") then Some acked else None
+policy_of arg = if bytes_eq arg (codes "KEEPREF") then Some keep_ref else if bytes_eq arg (codes "DELREF")
+    then Some del_ref else if bytes_eq arg (codes "ACKED") then Some acked else None
 
 -- why an entry is given back, of a word
 abbrev pub nack_of : List ℕ → Option Nack
-nack_of arg = if bytes_eq arg (codes "SILENT") then Some silent else if bytes_eq arg (codes "FAIL") then Some fail else if bytes_eq arg (codes "FATAL") then Some fatal else None
+nack_of arg = if bytes_eq arg (codes "SILENT") then Some silent else if bytes_eq arg (codes "FAIL") then Some fail
+    else if bytes_eq arg (codes "FATAL") then Some fatal else None
 
 -- ---- ways to read
 
@@ -104,7 +108,8 @@ reading_as from read args = option_map (seen from) (read args)
 
 -- one reading where a word stands in front, and else another
 abbrev pub either : {A B S : Type 0} → List (List ℕ) → (A → S) → ReadsAs A → (B → S) → ReadsAs B → ReadsAs S
-either words left f right g args = if begins words args then option_map (seen left) (f args) else option_map (seen right) (g args)
+either words left f right g args = if begins words args then option_map (seen left) (f args)
+    else option_map (seen right) (g args)
 
 -- made of one value that was read
 abbrev pub one : {A V : Type 0} → (A → V) → Option A → List (List ℕ) → Option (V × List (List ℕ))
@@ -151,14 +156,16 @@ abbrev pub maxlen_at : ReadsAs Maxlen
 maxlen_at [] = None
 maxlen_at (w ∷ []) = None
 maxlen_at (w ∷ m ∷ []) = None
-maxlen_at (w ∷ m ∷ x ∷ rest) = if bytes_eq w (codes "MAXLEN") then two maxlen_with (mode_of m) (number_of x) rest else None
+maxlen_at (w ∷ m ∷ x ∷ rest) = if bytes_eq w (codes "MAXLEN") then two maxlen_with (mode_of m) (number_of x) rest
+    else None
 
 -- `MAXLEN mode n` or `MINID mode id`
 abbrev pub bound_at : ReadsAs Bound
 bound_at [] = None
 bound_at (w ∷ []) = None
 bound_at (w ∷ m ∷ []) = None
-bound_at (w ∷ m ∷ x ∷ rest) = if bytes_eq w (codes "MAXLEN") then two max_len (mode_of m) (number_of x) rest else if bytes_eq w (codes "MINID") then two min_id (mode_of m) (text_of x) rest else None
+bound_at (w ∷ m ∷ x ∷ rest) = if bytes_eq w (codes "MAXLEN") then two max_len (mode_of m) (number_of x) rest
+    else if bytes_eq w (codes "MINID") then two min_id (mode_of m) (text_of x) rest else None
 
 -- a bound and a limit
 abbrev pub strategy_with : Bound × Option ℕ → Strategy
@@ -191,7 +198,8 @@ abbrev pub idempotency_at : ReadsAs Idempotency
 idempotency_at [] = None
 idempotency_at (w ∷ []) = None
 idempotency_at (w ∷ p ∷ []) = if bytes_eq w (codes "IDMPAUTO") then one automatic (text_of p) [] else None
-idempotency_at (w ∷ p ∷ i ∷ rest) = if bytes_eq w (codes "IDMPAUTO") then one automatic (text_of p) (i ∷ rest) else if bytes_eq w (codes "IDMP") then two manual (text_of p) (text_of i) rest else None
+idempotency_at (w ∷ p ∷ i ∷ rest) = if bytes_eq w (codes "IDMPAUTO") then one automatic (text_of p) (i ∷ rest)
+    else if bytes_eq w (codes "IDMP") then two manual (text_of p) (text_of i) rest else None
 
 -- `[idempotency]`
 abbrev pub idempotency_clause : ReadsAs (Option Idempotency)
@@ -207,7 +215,9 @@ add_with x = record { nomkstream = x.0; policy = x.1.0; idempotency = x.1.1.0; t
 
 -- the options of an addition
 abbrev pub add_at : ReadsAs Add
-add_at = reading_as add_with (both (flag_clause (codes "NOMKSTREAM")) (both policy_clause (both idempotency_clause strategy_clause)))
+add_at =
+    reading_as add_with
+    (both (flag_clause (codes "NOMKSTREAM")) (both policy_clause (both idempotency_clause strategy_clause)))
 
 -- ---- configurations
 
@@ -255,11 +265,14 @@ ClaimParts = Option ℕ × (Option ℕ × (Option ℕ × (Bool × (Bool × Optio
 
 -- a claim of them
 abbrev pub claim_with : ClaimParts → Claim
-claim_with x = record { idle = x.0; time = x.1.0; retry = x.1.1.0; force = x.1.1.1.0; justid = x.1.1.1.1.0; lastid = x.1.1.1.1.1 }
+claim_with x =
+    record { idle = x.0; time = x.1.0; retry = x.1.1.0; force = x.1.1.1.0; justid = x.1.1.1.1.0; lastid = x.1.1.1.1.1 }
 
 -- the options of a claim
 abbrev pub claim_at : ReadsAs Claim
-claim_at = reading_as claim_with (both (number_clause (codes "IDLE")) (both (number_clause (codes "TIME")) (both (number_clause (codes "RETRYCOUNT"))
+claim_at =
+    reading_as claim_with
+    (both (number_clause (codes "IDLE")) (both (number_clause (codes "TIME")) (both (number_clause (codes "RETRYCOUNT"))
     (both (flag_clause (codes "FORCE")) (both (flag_clause (codes "JUSTID")) (text_clause (codes "LASTID")))))))
 
 -- ---- reads
@@ -293,7 +306,10 @@ grouped_with x = record { group = Some x.0; block = x.1.0; count = x.1.1.0; noac
 
 -- `GROUP g c [BLOCK n] [COUNT n] [NOACK] [CLAIM n]`
 abbrev pub grouped_at : ReadsAs Grouped
-grouped_at = both group_at (both (number_clause (codes "BLOCK")) (both (number_clause (codes "COUNT")) (both (flag_clause (codes "NOACK")) (number_clause (codes "CLAIM")))))
+grouped_at =
+    both group_at
+    (both (number_clause (codes "BLOCK"))
+    (both (number_clause (codes "COUNT")) (both (flag_clause (codes "NOACK")) (number_clause (codes "CLAIM")))))
 
 -- `[BLOCK n] [COUNT n]`
 abbrev pub ungrouped_at : ReadsAs Ungrouped

@@ -50,7 +50,8 @@ abbrev pub reply_line : Reply → List ℕ
 reply_line reply = reply_text reply ++ 10 ∷ []
 
 -- the reply to arguments for one type: the k of the one split, or that there is none
-abbrev pub IsVerdict : {T : Type 0} → (T → Type 0) → (T → List (List ℕ)) → List (List ℕ) → List (List ℕ) → Reply → Type 0
+abbrev pub IsVerdict : {T : Type 0} → (T → Type 0) → (T → List (List ℕ)) → List (List ℕ) → List (List ℕ) → Reply
+    → Type 0
 IsVerdict Fits sentence words args unknown = ⊥
 IsVerdict Fits sentence words args no = HasNoSplit Fits sentence words args
 IsVerdict {T = T} Fits sentence words args (ok k) = (settings : T) × IsSplit Fits sentence words args settings k
@@ -78,7 +79,8 @@ IsReply (word ∷ args) reply = IsReplyOf (type_of word) args reply
 -- a line for each line
 abbrev pub AnswersLines : List (List ℕ) → List ℕ → Type 0
 AnswersLines [] text = text ≡ []
-AnswersLines (line ∷ lines) text = (reply : Reply) × (rest : List ℕ) × IsReply (parts_of line) reply × (text ≡ reply_line reply ++ rest) × AnswersLines lines rest
+AnswersLines (line ∷ lines) text = (reply : Reply) × (rest : List ℕ) × IsReply (parts_of line) reply
+    × (text ≡ reply_line reply ++ rest) × AnswersLines lines rest
 
 -- the answer to an input
 abbrev pub IsAnswer : List ℕ → List ℕ → Type 0

@@ -13,14 +13,16 @@ arguments args = map (λ arg. arg.items) args
 
 -- a split: the first k arguments are the sentence of these settings, and what follows is a free
 -- rest
-pub record IsSplit {T : Type 0} (Fits : T → Type 0) (sentence : T → List (List ℕ)) (words args : List (List ℕ)) (settings : T) (k : ℕ) : Type 0 where
+pub record IsSplit {T : Type 0} (Fits : T → Type 0) (sentence : T → List (List ℕ)) (words args : List (List ℕ))
+    (settings : T) (k : ℕ) : Type 0 where
   pub fits : Fits settings
   pub within : k ≤ length args
   pub spelled : take k args ≡ sentence settings
   pub free : IsFree words (drop k args)
 
 -- the one split: every other has the same settings, as far as they are compared, and the same k
-pub record IsOneSplit {T : Type 0} (Fits : T → Type 0) (sentence : T → List (List ℕ)) (words : List (List ℕ)) (Alike : T → T → Type 0) (args : List (List ℕ)) (settings : T) (k : ℕ) : Type 0 where
+pub record IsOneSplit {T : Type 0} (Fits : T → Type 0) (sentence : T → List (List ℕ)) (words : List (List ℕ))
+    (Alike : T → T → Type 0) (args : List (List ℕ)) (settings : T) (k : ℕ) : Type 0 where
   pub split : IsSplit Fits sentence words args settings k
   pub only : (other : T) (l : ℕ) → IsSplit Fits sentence words args other l → Alike other settings × (l ≡ k)
 

@@ -15,12 +15,16 @@ abbrev by_name : Bor (List ℕ) → Bor (List ℕ) → Ordering
 by_name a b = slice_cmp nat_cmp a.now b.now
 
 -- A field that is put among others stands there by its name and its value.
-pub pairs_of_insert : (fields : List (Bor (List ℕ) × Bor Value)) (name : Bor (List ℕ)) (value : Bor Value) → pairs_of (insert_entry by_name fields name value) ≡ insert_entry (slice_cmp nat_cmp) (pairs_of fields) name.now (tree value.now)
+pub pairs_of_insert : (fields : List (Bor (List ℕ) × Bor Value)) (name : Bor (List ℕ)) (value : Bor Value)
+    → pairs_of (insert_entry by_name fields name value)
+    ≡ insert_entry (slice_cmp nat_cmp) (pairs_of fields) name.now (tree value.now)
 pairs_of_insert [] name value = refl
 pairs_of_insert (f ∷ fs) name value =
     let rest = pairs_of_insert fs name value in
-    let P : Ordering → Type 0 = λ o. pairs_of (match_ordering o ((name, value) ∷ f ∷ fs) ((f.0, value) ∷ fs) (f ∷ insert_entry by_name fs name value))
-    ≡ match_ordering o ((name.now, tree value.now) ∷ pairs_of (f ∷ fs)) ((f.0.now, tree value.now) ∷ pairs_of fs) ((f.0.now, tree f.1.now) ∷ insert_entry (slice_cmp nat_cmp) (pairs_of fs) name.now (tree value.now)) in
+    let P : Ordering → Type 0 = λ o. pairs_of
+    (match_ordering o ((name, value) ∷ f ∷ fs) ((f.0, value) ∷ fs) (f ∷ insert_entry by_name fs name value))
+    ≡ match_ordering o ((name.now, tree value.now) ∷ pairs_of (f ∷ fs)) ((f.0.now, tree value.now) ∷ pairs_of fs)
+    ((f.0.now, tree f.1.now) ∷ insert_entry (slice_cmp nat_cmp) (pairs_of fs) name.now (tree value.now)) in
     elim (slice_cmp nat_cmp name.now f.0.now) as P [
       | Less ↦ refl
       | Equal ↦ refl

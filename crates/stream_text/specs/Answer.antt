@@ -6,8 +6,10 @@ use Rattle.redis_resp.specs.declared.value.error.ParsingError.TheVariants.{Memor
 use Rattle.redis_resp.specs.Tree.{Tree}
 use Rattle.stream_text.specs.Refusal.{answer_form}
 
--- what a reading may answer of a tree: a record with the tree's meaning, or, where it has none, a refusal that is allowed there; that memory ran out is no answer
-abbrev pub MayAnswer : {T M : Type 0} → (T → M) → (Tree → Option M) → (Tree → ParsingError → Type 0) → Tree → Result T ParsingError → Type 0
+-- what a reading may answer of a tree: a record with the tree's meaning, or, where it has none, a refusal that is
+-- allowed there; that memory ran out is no answer
+abbrev pub MayAnswer : {T M : Type 0} → (T → M) → (Tree → Option M) → (Tree → ParsingError → Type 0) → Tree
+    → Result T ParsingError → Type 0
 MayAnswer meaning reading may_refuse t (Ok answer) = reading t ≡ Some (meaning answer)
 MayAnswer meaning reading may_refuse t (Err error) = (error ≢ Memory) × may_refuse t error × (reading t ≡ None)
 
@@ -16,7 +18,8 @@ abbrev pub compared : List ℕ → List ℕ → List ℕ
 compared owned lent = if bytes_eq owned lent then owned else owned ++ (codes " owned, " ++ (lent ++ codes " lent"))
 
 -- the line is the form of what both readings of a tree may answer
-pub record IsAnswer {T M : Type 0} (meaning : T → M) (reading : Tree → Option M) (may_refuse : Tree → ParsingError → Type 0) (form : T → List ℕ) (t : Tree) (line : List ℕ) : Type 0 where
+pub record IsAnswer {T M : Type 0} (meaning : T → M) (reading : Tree → Option M)
+    (may_refuse : Tree → ParsingError → Type 0) (form : T → List ℕ) (t : Tree) (line : List ℕ) : Type 0 where
   pub owned : Result T ParsingError
   pub lent : Result T ParsingError
   pub owned_may : MayAnswer meaning reading may_refuse t owned

@@ -13,7 +13,8 @@ refusal_text (Maxsize n) = codes "IDMP-MAXSIZE must be between 1 and 10000 entri
 
 -- the text of a refusal, with a remark where that is not what it prints
 abbrev pub IsRefusalText : ConfigError → List ℕ → Type 0
-IsRefusalText error text = (text ≡ refusal_text error) ⊎ (text ≡ refusal_text error ++ codes ", but another text is printed")
+IsRefusalText error text = (text ≡ refusal_text error)
+    ⊎ (text ≡ refusal_text error ++ codes ", but another text is printed")
 
 -- the sentence of the options that a call made, or the text of its refusal
 abbrev pub IsConfigText : Result StreamConfigOptions ConfigError → List ℕ → Type 0

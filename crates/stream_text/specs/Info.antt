@@ -17,7 +17,8 @@ ends_form r = codes " first=" ++ entry_form r.first_entry ++ codes " final=" ++ 
 unfoldable pub stream_form : StreamInfoStreamReply → List ℕ
 stream_form r =
     codes "last=" ++ string_bytes r.last_generated_id ++ codes " keys=" ++ decimal r.radix_tree_keys
-    ++ codes " nodes=" ++ decimal r.radix_tree_nodes ++ codes " groups=" ++ decimal r.groups ++ codes " length=" ++ decimal r.length
+    ++ codes " nodes=" ++ decimal r.radix_tree_nodes ++ codes " groups=" ++ decimal r.groups ++ codes " length="
+    ++ decimal r.length
     ++ ends_form r
 
 -- the same, and the numbers on idempotent producers

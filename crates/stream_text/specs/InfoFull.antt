@@ -51,7 +51,8 @@ full_consumer_form c =
 -- how far a group has come, and how much is pending in it
 unfoldable pub group_numbers_form : StreamInfoFullGroup → List ℕ
 group_numbers_form g =
-    string_bytes g.name ++ codes " last=" ++ string_bytes g.last_delivered_id ++ codes " read=" ++ number_form g.entries_read
+    string_bytes g.name ++ codes " last=" ++ string_bytes g.last_delivered_id ++ codes " read="
+    ++ number_form g.entries_read
     ++ codes " lag=" ++ number_form g.lag ++ codes " count=" ++ decimal g.pending_count
 
 -- a group, and in brackets what is pending in it, and its consumers

@@ -1,7 +1,12 @@
 -- How a refusal stands in a line.
 use Rattle.std.specs.Prelude.{ℕ, List, ◌++◌, Result, Ok, Err, codes, decimal}
 use Rattle.redis_resp.specs.declared.value.error.ParsingError.{ParsingError}
-use Rattle.redis_resp.specs.declared.value.error.ParsingError.TheVariants.{NotText, NotNumber, NotList, NotPairs, NotTuple, NotArray, WrongItemCount, WrongClaimedType, UnknownReadFormat, PendingWithoutStart, PendingWithoutEnd, NotPendingRow, UnknownXDelEx, UnknownXAckDel, NotXDelEx, NotXAckDel, NotBytes, Memory}
+use Rattle.redis_resp.specs.declared.value.error.ParsingError.TheVariants.{NotText, NotNumber, NotList, NotPairs}
+use Rattle.redis_resp.specs.declared.value.error.ParsingError.TheVariants.{NotTuple, NotArray, WrongItemCount}
+use Rattle.redis_resp.specs.declared.value.error.ParsingError.TheVariants.{WrongClaimedType, UnknownReadFormat}
+use Rattle.redis_resp.specs.declared.value.error.ParsingError.TheVariants.{PendingWithoutStart, PendingWithoutEnd}
+use Rattle.redis_resp.specs.declared.value.error.ParsingError.TheVariants.{NotPendingRow, UnknownXDelEx, UnknownXAckDel}
+use Rattle.redis_resp.specs.declared.value.error.ParsingError.TheVariants.{NotXDelEx, NotXAckDel, NotBytes, Memory}
 
 -- the place of a cause in the order of their declaration, from 1
 abbrev pub refusal_number : ParsingError → ℕ

@@ -19,11 +19,13 @@ pub record AddsRow (IsText : List ℕ → Type 0) (old new : List Row) (name sto
   pub adds : map row_texts new ≡ map row_texts old ++ (name, text, stored) ∷ []
 
 -- the row of a vector: its name, a text that is as said of what stands between, and the stored text
-abbrev pub IsRow : {T : Type 0} → (T → List ℕ → Type 0) → Bor (List ℕ) × T × Bor (List ℕ) → List ℕ × List ℕ × List ℕ → Type 0
+abbrev pub IsRow : {T : Type 0} → (T → List ℕ → Type 0) → Bor (List ℕ) × T × Bor (List ℕ) → List ℕ × List ℕ × List ℕ
+    → Type 0
 IsRow IsText vector row = (row.0 ≡ vector.0.now) × IsText vector.1 row.1 × (row.2 ≡ vector.2.now)
 
 -- a row for each vector of a table was added, in order
-pub record AddsRows {T : Type 0} (IsText : T → List ℕ → Type 0) (old new : List Row) (vectors : List (Bor (List ℕ) × T × Bor (List ℕ))) : Type 0 where
+pub record AddsRows {T : Type 0} (IsText : T → List ℕ → Type 0) (old new : List Row)
+    (vectors : List (Bor (List ℕ) × T × Bor (List ℕ))) : Type 0 where
   pub rows : List (List ℕ × List ℕ × List ℕ)
   pub are_rows : AllZip (IsRow IsText) vectors rows
   pub adds : map row_texts new ≡ map row_texts old ++ rows

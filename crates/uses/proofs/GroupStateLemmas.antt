@@ -4,7 +4,8 @@ use Rattle.redis.specs.Words.{full_pending_meaning}
 use Rattle.redis_streams.specs.declared.info.full.pending.StreamInfoFullPending.{StreamInfoFullPending}
 use Rattle.uses.specs.GroupState.{longest_in, oldest_in}
 
-pub oldest_none : (now : ℕ) (pending : List StreamInfoFullPending) → length pending ≡ 0 → oldest_in now (map full_pending_meaning pending) ≡ None
+pub oldest_none : (now : ℕ) (pending : List StreamInfoFullPending) → length pending ≡ 0
+    → oldest_in now (map full_pending_meaning pending) ≡ None
 oldest_none now [] h = refl
 oldest_none now (p ∷ ps) h = absurd (omega arith)
 

@@ -1,5 +1,6 @@
 -- What stands at the head of bytes, and what refused bytes say of the values in them.
-use Rattle.std.proofs.Common.{◌≡◌, ◌≢◌, ◌⊎◌, inl, inr, ℕ, List, Option, Some, None, Result, Ok, Err, take, drop, refl, sym, ap, ◌∙◌, subst}
+use Rattle.std.proofs.Common.{◌≡◌, ◌≢◌, ◌⊎◌, inl, inr, ℕ, List, Option, Some, None, Result, Ok, Err, take, drop, refl}
+use Rattle.std.proofs.Common.{sym, ap, ◌∙◌, subst}
 use Rattle.std.proofs.lemmas.List.{take-append-drop}
 use Rattle.std.proofs.lemmas.Option.{none-some}
 use Rattle.redis.specs.Words.{Answer, IsErrorOf, IsRecord, IsReply, RefusesRead, Tree, default_limits}
@@ -25,14 +26,17 @@ unread t (Parsing p) h m = h
 unread t Memory h m = absurd (m refl)
 
 -- and neither has another value that reads the same
-pub first_refused : (v w : Tree) (e : AnswerError) → read_reading v ≡ read_reading w → Answers (value v) (Err e) → e ≢ Memory → (read_reading v ≡ None) × (read_reading w ≡ None)
+pub first_refused : (v w : Tree) (e : AnswerError) → read_reading v ≡ read_reading w → Answers (value v) (Err e)
+    → e ≢ Memory → (read_reading v ≡ None) × (read_reading w ≡ None)
 first_refused v w e same h m = let none = unread v e h m in (none, sym same ∙ none)
 
-pub second_refused : (v w : Tree) (e : AnswerError) → read_reading v ≡ read_reading w → Answers (value w) (Err e) → e ≢ Memory → (read_reading v ≡ None) × (read_reading w ≡ None)
+pub second_refused : (v w : Tree) (e : AnswerError) → read_reading v ≡ read_reading w → Answers (value w) (Err e)
+    → e ≢ Memory → (read_reading v ≡ None) × (read_reading w ≡ None)
 second_refused v w e same h m = let none = unread w e h m in (same ∙ none, none)
 
 -- the bytes begin with what is decoded of them
-begun : (limits : Limits) (bytes : List ℕ) (len : ℕ) (a : Answer) → limits ≡ default_limits → IsReply limits (take len bytes) a → BeginsWith bytes a
+begun : (limits : Limits) (bytes : List ℕ) (len : ℕ) (a : Answer) → limits ≡ default_limits
+    → IsReply limits (take len bytes) a → BeginsWith bytes a
 begun limits bytes len a e is = record {
   text = take len bytes;
   rest = drop len bytes;
@@ -60,7 +64,8 @@ no_parsing None e h = h
 no_parsing (Some text) e h = h
 
 -- what is answered is its error
-error_is : (o : Option (List ℕ)) (e : ServerError) → IsErrorOf {R = StreamReadReply} o (Err (replies.Server e)) → o ≡ Some e.text.items
+error_is : (o : Option (List ℕ)) (e : ServerError) → IsErrorOf {R = StreamReadReply} o (Err (replies.Server e))
+    → o ≡ Some e.text.items
 error_is None e h = absurd h
 error_is (Some text) e h = ap Some (sym h)
 
@@ -83,7 +88,8 @@ none_is (group k xs) h = nothing_is (first_error (group k xs)) h
 none_is (pushed k xs) h = refl
 
 -- no streams are refused under one name, unless memory ran out
-pub unknown_format : (a : Answer) (e : ParsingError) → IsStreams a (Err (replies.Parsing e)) → e ≢ parsing.Memory → e ≡ parsing.UnknownReadFormat
+pub unknown_format : (a : Answer) (e : ParsingError) → IsStreams a (Err (replies.Parsing e)) → e ≢ parsing.Memory
+    → e ≡ parsing.UnknownReadFormat
 unknown_format (value t) e read m = the_first read.0 (λ q. m q.0)
 unknown_format (refused text) e read m = absurd read
 unknown_format (group k xs) e read m = absurd (no_parsing (first_error (group k xs)) e read)
@@ -91,23 +97,27 @@ unknown_format (pushed k xs) e read m = absurd read
 
 module _ (limits : Limits) (bytes : List ℕ) (len : ℕ) (same : limits ≡ default_limits) where
   -- a value, where a record was read
-  pub value_begun : (a : Answer) (r : StreamReadReply) → IsReply limits (take len bytes) a → IsStreams a (Ok r) → (t : Tree) × BeginsWith bytes (value t)
+  pub value_begun : (a : Answer) (r : StreamReadReply) → IsReply limits (take len bytes) a → IsStreams a (Ok r)
+      → (t : Tree) × BeginsWith bytes (value t)
   value_begun (value t) r is read = (t, begun limits bytes len (value t) same is)
   value_begun (refused text) r is read = absurd read
   value_begun (group k xs) r is read = absurd (no_record (first_error (group k xs)) r read)
   value_begun (pushed k xs) r is read = absurd read
 
   -- or was refused
-  pub refused_begun : (a : Answer) (e : ParsingError) → IsReply limits (take len bytes) a → IsStreams a (Err (replies.Parsing e)) → (t : Tree) × BeginsWith bytes (value t)
+  pub refused_begun : (a : Answer) (e : ParsingError) → IsReply limits (take len bytes) a
+      → IsStreams a (Err (replies.Parsing e)) → (t : Tree) × BeginsWith bytes (value t)
   refused_begun (value t) e is read = (t, begun limits bytes len (value t) same is)
   refused_begun (refused text) e is read = absurd read
   refused_begun (group k xs) e is read = absurd (no_parsing (first_error (group k xs)) e read)
   refused_begun (pushed k xs) e is read = absurd read
 
   -- an error, where the server answered it
-  pub error_begun : (a : Answer) (e : ServerError) → IsReply limits (take len bytes) a → IsStreams a (Err (replies.Server e)) → (b : Answer) × BeginsWith bytes b × (first_error b ≡ Some e.text.items)
+  pub error_begun : (a : Answer) (e : ServerError) → IsReply limits (take len bytes) a
+      → IsStreams a (Err (replies.Server e)) → (b : Answer) × BeginsWith bytes b × (first_error b ≡ Some e.text.items)
   error_begun a e is read = (a, begun limits bytes len a same is, first_is a e read)
 
   -- none, where the reply has none
-  pub none_begun : (a : Answer) → IsReply limits (take len bytes) a → IsStreams a (Err replies.NotAnAnswer) → (b : Answer) × BeginsWith bytes b × (first_error b ≡ None)
+  pub none_begun : (a : Answer) → IsReply limits (take len bytes) a → IsStreams a (Err replies.NotAnAnswer)
+      → (b : Answer) × BeginsWith bytes b × (first_error b ≡ None)
   none_begun a is read = (a, begun limits bytes len a same is, none_is a read)

@@ -1,9 +1,11 @@
 -- What a tool shows of a group, by what XINFO STREAM FULL tells of it and the time of the server's clock.
-use Rattle.std.specs.Prelude.{ℕ, ◌-◌, ◌&&◌, Bool, List, [], ◌∷◌, Option, Some, None, map, filter, fold, max, nat_le, nat_lt, string_bytes}
+use Rattle.std.specs.Prelude.{ℕ, ◌-◌, ◌&&◌, Bool, List, [], ◌∷◌, Option, Some, None, map, filter, fold, max, nat_le}
+use Rattle.std.specs.Prelude.{nat_lt, string_bytes}
 use Rattle.redis.specs.Words.{FullConsumer, FullGroup, FullPending}
 use Rattle.uses.specs.declared.group_state.GroupState.{GroupState}
 
--- how many entries the group has still to read and how many are pending, for how long the oldest of these has been idle, which were delivered too often, and which consumers left some behind
+-- how many entries the group has still to read and how many are pending, for how long the oldest of these has been
+-- idle, which were delivered too often, and which consumers left some behind
 pub record State : Type 0 where
   pub lag : Option ℕ
   pub pending : ℕ

@@ -1,5 +1,6 @@
 -- An order, as mathematics, and which fields say one.
-use Rattle.std.specs.Prelude.{◌≡◌, ◌⊎◌, ℕ, List, Option, Some, IsSome, option_map, option_and_then, option_to_list, is_some, if◌then◌else◌, [], ◌∷◌, codes, string_bytes}
+use Rattle.std.specs.Prelude.{◌≡◌, ◌⊎◌, ℕ, List, Option, Some, IsSome, option_map, option_and_then, option_to_list}
+use Rattle.std.specs.Prelude.{is_some, if◌then◌else◌, [], ◌∷◌, codes, string_bytes}
 use Rattle.redis.specs.Words.{Entry, Fields, RefusesFields, Tree, field_record, fields_reading}
 use Rattle.redis.specs.Words.{text_reading, unsigned_reading}
 use Rattle.redis_resp.specs.declared.value.error.ParsingError.{ParsingError}
@@ -25,7 +26,8 @@ order_of fields = option_and_then (λ id. option_and_then (λ customer. option_m
 abbrev pub order_reading : Tree → Option Meant
 order_reading t = option_and_then order_of (fields_reading (λ u. Some u) t)
 
--- what a value is refused with: `NotPairs` where its fields say no order, what its fields are refused with, or out of memory
+-- what a value is refused with: `NotPairs` where its fields say no order, what its fields are refused with, or out of
+-- memory
 abbrev pub RefusesOrder : Tree → ParsingError → Type 0
 RefusesOrder t error = (error ≡ Memory) ⊎ ((error ≡ NotPairs) ⊎ RefusesFields t error)
 

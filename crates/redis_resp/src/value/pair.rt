@@ -1,5 +1,6 @@
 //! Pairs that are read from values, in the order in which they arrive.
-ghost use Rattle.std.specs.Prelude.{◌≡◌, IfOk, IfErr, ℕ, List, Some, string_bytes};
+ghost use Rattle.std.specs.Prelude.{◌≡◌, ◌∷◌, IfOk, IfErr, ℕ, List, Some, string_bytes};
+ghost use Rattle.std.specs.List.{flat_map};
 ghost use Rattle.redis_resp.specs.Reading.{traverse};
 ghost use Rattle.redis_resp.specs.Refusal.{Refuses, OneRefused, RefusesEntry, RefusesPairs};
 ghost use Rattle.redis_resp.specs.Source.{all_left};
@@ -10,6 +11,7 @@ use crate::value::error::ParsingError;
 use crate::value::from_value::FromRedisValue;
 use crate::value::pairs_left::{PairsLeft, count_left, into_pairs, next_left};
 use crate::value::source::Source;
+use redis_args::{RedisWrite, ToRedisArgs, WriteError};
 use std::alloc::Global;
 
 /// The pairs of a value in order, each key as text and each value by its own reading. A key that
@@ -85,5 +87,14 @@ impl<V: FromRedisValue> FromRedisValue for PairList<V> {
 
     fn from_redis_value_ref(alloc: Global, v: &Value) -> Result<PairList<V>, ParsingError> {
         Ok(PairList(read_pairs(alloc, v)?))
+    }
+}
+
+/// The pairs as they were read, in order: each key, and the arguments of its value behind it.
+impl<V: ToRedisArgs> ToRedisArgs for PairList<V> {
+    ghost args = { λ list. flat_map (λ pair. string_bytes pair.0 ∷ V.args pair.1) list.0.items };
+
+    fn write_redis_args<W: RedisWrite>(&self, out: &mut W) -> Result<(), WriteError> {
+        self.0.write_redis_args(out)
     }
 }

@@ -9,4 +9,6 @@ use Rattle.stream_entries.proofs.entries.rule_out_claim.Goals as goal
 
 pub returns-clause-ok : goal.returns-clause-ok
 returns-clause-ok g c =
-    IfOk-weaker c.with_row.result _ _ (λ r h. h ∙ claim_ruled_out (item_tree g.S.Source.seen c.args.item) (entries_of c.in_ok-ids.ids) (settled_in Standard c.args.overlaps) (settled_in Claim c.args.overlaps) c.in_ok-ids.ensures c.requires) c.with_row.ensures.ok
+    IfOk-weaker c.with_row.result _ _ (λ r h. h ∙ claim_ruled_out (item_tree g.S.Source.seen c.args.item)
+    (entries_of c.in_ok-ids.ids) (settled_in Standard c.args.overlaps)
+    (settled_in Claim c.args.overlaps) c.in_ok-ids.ensures c.requires) c.with_row.ensures.ok

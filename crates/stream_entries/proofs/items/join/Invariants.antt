@@ -5,6 +5,7 @@ use Rattle.stream_entries.proofs.items.join.Given as goal
 
 abbrev pub invariant-loop-item : goal.invariant-loop-item
 invariant-loop-item g l = record {
-  so_far : entries_of l.ids ++ flat_map g.T.ListItem.entries (into_iter_items l.item-iterator) ≡ flat_map g.T.ListItem.entries (into_iter_items l.initial.item-iterator);
+  so_far : entries_of l.ids ++ flat_map g.T.ListItem.entries (into_iter_items l.item-iterator)
+      ≡ flat_map g.T.ListItem.entries (into_iter_items l.initial.item-iterator);
   count : into_iter_len l.item-iterator ≡ length (into_iter_items l.item-iterator);
 }

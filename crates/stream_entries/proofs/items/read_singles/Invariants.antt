@@ -5,7 +5,8 @@ use Rattle.stream_entries.proofs.ItemFormLemmas.{EntriesSoFar}
 use Rattle.stream_entries.proofs.items.read_singles.Given as goal
 
 abbrev pub invariant-loop-key : goal.invariant-loop-key
-invariant-loop-key g l = EntriesSoFar g.F.ItemForm.form (map single (g.S.Source.pairs_left l.initial.pairs)) (map single (g.S.Source.pairs_left l.pairs)) (entries_of l.ids)
+invariant-loop-key g l = EntriesSoFar g.F.ItemForm.form (map single (g.S.Source.pairs_left l.initial.pairs))
+    (map single (g.S.Source.pairs_left l.pairs)) (entries_of l.ids)
 
 abbrev pub decreases-loop-key : goal.decreases-loop-key
 decreases-loop-key g l = length (g.S.Source.pairs_left l.pairs)

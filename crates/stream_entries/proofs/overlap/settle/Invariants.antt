@@ -6,6 +6,7 @@ use Rattle.stream_entries.proofs.overlap.settle.Given as goal
 
 abbrev pub invariant-loop-overlap : goal.invariant-loop-overlap
 invariant-loop-overlap l = record {
-  so_far : entries_of l.ids ++ flat_map (λ o. given_in l.form (overlap_of o)) (into_iter_items l.overlap-iterator) ≡ flat_map (λ o. given_in l.form (overlap_of o)) (into_iter_items l.initial.overlap-iterator);
+  so_far : entries_of l.ids ++ flat_map (λ o. given_in l.form (overlap_of o)) (into_iter_items l.overlap-iterator)
+      ≡ flat_map (λ o. given_in l.form (overlap_of o)) (into_iter_items l.initial.overlap-iterator);
   count : into_iter_len l.overlap-iterator ≡ length (into_iter_items l.overlap-iterator);
 }

@@ -6,7 +6,9 @@ use Rattle.stream_sentences.proofs.answer.answer_to.Goals as goal
 pub lines-preserved : goal.lines-preserved
 lines-preserved c = record {
   answered =
-      answers_more c.args.input.now c.lines.answer.items c.push_reply.new.answer.items c.lines.rest.now c.cut_line.result.0.now c.cut_line.result.1.now (reply_of c.in_ok-reply.reply)
+      answers_more c.args.input.now c.lines.answer.items c.push_reply.new.answer.items c.lines.rest.now
+      c.cut_line.result.0.now c.cut_line.result.1.now
+      (reply_of c.in_ok-reply.reply)
       c.lines.invariant.answered c.cut_line.ensures.lines c.in_ok-reply.ensures.ok c.in_ok-push_reply.ensures.ok;
   within = search rules;
 }

@@ -9,13 +9,16 @@ use Rattle.stream_sentences.proofs.autoclaim.read_autoclaim.Goals as goal
 
 pub returns-then-begins_with-clause-none : goal.returns-then-begins_with-clause-none
 returns-then-begins_with-clause-none c =
-    let e : autoclaim_at (arguments c.args.args.now) ≡ Some (c.in-Some.options, arguments c.in-Some.rest.now) = search rules in
+    let e : autoclaim_at (arguments c.args.args.now) ≡ Some (c.in-Some.options, arguments c.in-Some.rest.now) =
+    search rules in
     split_not_free _ _ _ _ _ (alike autoclaim_reads) _ _ _ e (sym c.begins_with.ensures ∙ c.if-begins_with.true)
 
 pub returns-clause-split : goal.returns-clause-split
 returns-clause-split c =
-    let e : autoclaim_at (arguments c.args.args.now) ≡ Some (c.in-Some.options, arguments c.in-Some.rest.now) = search rules in
-    let s = one_split _ _ _ _ _ (alike autoclaim_reads) (arguments c.args.args.now) c.in-Some.options (arguments c.in-Some.rest.now) e (sym c.begins_with.ensures ∙ c.if-begins_with.false) in
+    let e : autoclaim_at (arguments c.args.args.now) ≡ Some (c.in-Some.options, arguments c.in-Some.rest.now) =
+    search rules in
+    let s = one_split _ _ _ _ _ (alike autoclaim_reads) (arguments c.args.args.now) c.in-Some.options
+    (arguments c.in-Some.rest.now) e (sym c.begins_with.ensures ∙ c.if-begins_with.false) in
     simp length-map at s
 
 pub returns-in_default-clause-none : goal.returns-in_default-clause-none

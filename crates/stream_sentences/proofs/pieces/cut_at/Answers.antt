@@ -14,4 +14,5 @@ loop-i-preserved c =
     λ end. sym (front_more c.args.mark end c.args.bytes.now c.loop-i.i c.loop-i-test.true e) ∙ c.loop-i.invariant end
 
 pub returns-clause-cut : goal.returns-clause-cut
-returns-clause-cut c = λ end. sym (c.loop-i.invariant end) ∙ front_all c.args.mark end c.args.bytes.now c.loop-i.i c.loop-i-test.false
+returns-clause-cut c = λ end. sym (c.loop-i.invariant end)
+    ∙ front_all c.args.mark end c.args.bytes.now c.loop-i.i c.loop-i-test.false

@@ -13,12 +13,17 @@ returns-in_err-options-clause-none c =
     rw (p.1, p.2) (split_fails _ _ _ _ _ (alike trim_reads) _ _ c.in_err-options.ensures)
 
 pub overflow_sub-result : goal.overflow_sub-result
-overflow_sub-result c = let s = rest_le _ _ _ _ _ (alike trim_reads) (arguments c.args.args.now) c.in_ok-options.options (arguments c.in_ok-options.rest.now) c.in_ok-options.ensures in simp length-map at s
+overflow_sub-result c = let s = rest_le _ _ _ _ _ (alike trim_reads) (arguments c.args.args.now) c.in_ok-options.options
+    (arguments c.in_ok-options.rest.now) c.in_ok-options.ensures in simp length-map at s
 
 pub returns-then-begins_with-clause-none : goal.returns-then-begins_with-clause-none
-returns-then-begins_with-clause-none c = λ _. split_not_free _ _ _ _ _ (alike trim_reads) _ _ _ c.in_ok-options.ensures (sym c.begins_with.ensures ∙ c.if-begins_with.true)
+returns-then-begins_with-clause-none c =
+    λ _. split_not_free _ _ _ _ _ (alike trim_reads) _ _ _ c.in_ok-options.ensures
+    (sym c.begins_with.ensures ∙ c.if-begins_with.true)
 
 pub returns-clause-split : goal.returns-clause-split
 returns-clause-split c =
-    let s = one_split _ _ _ _ _ (alike trim_reads) (arguments c.args.args.now) c.in_ok-options.options (arguments c.in_ok-options.rest.now) c.in_ok-options.ensures (sym c.begins_with.ensures ∙ c.if-begins_with.false) in
+    let s = one_split _ _ _ _ _ (alike trim_reads) (arguments c.args.args.now) c.in_ok-options.options
+    (arguments c.in_ok-options.rest.now) c.in_ok-options.ensures
+    (sym c.begins_with.ensures ∙ c.if-begins_with.false) in
     simp length-map at s

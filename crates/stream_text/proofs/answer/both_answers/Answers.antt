@@ -9,6 +9,12 @@ returns g c =
     let reading = g.T.FromRedisValue.reading in
     let may_refuse = g.T.FromRedisValue.may_refuse in
     let t = tree c.args.value in
-    let owned = may_answer meaning reading may_refuse t c.from_redis_value.result c.from_redis_value.ensures.ok c.from_redis_value.ensures.err c.in_ok-owned.ensures.told in
-    let lent = may_answer meaning reading may_refuse t c.from_redis_value_ref.result c.from_redis_value_ref.ensures.ok c.from_redis_value_ref.ensures.err c.in_ok-lent.ensures.told in
-    is_answer meaning reading may_refuse g.T.PrintedForm.form t c.from_redis_value.result c.from_redis_value_ref.result _ _ c.compared_forms.result c.in_ok-owned.ensures.form (c.deref.ensures ∙ c.in_ok-lent.ensures.form) owned lent c.compared_forms.ensures
+    let owned =
+    may_answer meaning reading may_refuse t c.from_redis_value.result c.from_redis_value.ensures.ok
+    c.from_redis_value.ensures.err c.in_ok-owned.ensures.told in
+    let lent =
+    may_answer meaning reading may_refuse t c.from_redis_value_ref.result c.from_redis_value_ref.ensures.ok
+    c.from_redis_value_ref.ensures.err c.in_ok-lent.ensures.told in
+    is_answer meaning reading may_refuse g.T.PrintedForm.form t c.from_redis_value.result c.from_redis_value_ref.result
+    _ _ c.compared_forms.result c.in_ok-owned.ensures.form
+    (c.deref.ensures ∙ c.in_ok-lent.ensures.form) owned lent c.compared_forms.ensures

@@ -6,6 +6,7 @@ use Rattle.stream_text.proofs.vectors.push_options_rows.Given as goal
 -- the rows of the vectors so far were added
 abbrev pub invariant-loop-name : goal.invariant-loop-name
 invariant-loop-name g l = record {
-  rows : map row_texts l.rows.items ≡ map row_texts l.initial.rows.items ++ map (options_texts g.T.PrintedForm.form) (take l.name-index l.vectors);
+  rows : map row_texts l.rows.items ≡ map row_texts l.initial.rows.items
+      ++ map (options_texts g.T.PrintedForm.form) (take l.name-index l.vectors);
   count : vec_len l.rows ≡ vec_len l.initial.rows + l.name-index;
 }

@@ -13,6 +13,15 @@ loop-vector-preserved g c =
     let vector = get_or vectors i (nothing, nothing, nothing) in
     let within = c.loop-vector-test.true in
     record {
-      rows = adds_more (IsReplyText g.T.FromRedisValue.meaning g.T.FromRedisValue.reading g.T.FromRedisValue.may_refuse g.T.PrintedForm.form) c.args.rows.now.items c.loop-vector.rows.items c.push_reply_row.new.rows.items vectors i vector within (get_or_default vectors i (nothing, nothing, nothing) vector within) c.loop-vector.invariant.rows c.in_ok-push_reply_row.ensures.row;
+      rows =
+          adds_more
+          (IsReplyText g.T.FromRedisValue.meaning g.T.FromRedisValue.reading g.T.FromRedisValue.may_refuse
+          g.T.PrintedForm.form) c.args.rows.now.items c.loop-vector.rows.items c.push_reply_row.new.rows.items
+          vectors i vector within
+          (get_or_default vectors i (
+            nothing,
+            nothing,
+            nothing,
+          ) vector within) c.loop-vector.invariant.rows c.in_ok-push_reply_row.ensures.row;
       count = search rules;
     }

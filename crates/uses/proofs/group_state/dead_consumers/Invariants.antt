@@ -5,4 +5,5 @@ use Rattle.uses.proofs.group_state.dead_consumers.Given as goal
 
 -- the names of those so far that are dead
 abbrev pub invariant-loop-consumer : goal.invariant-loop-consumer
-invariant-loop-consumer l = map string_bytes l.names.items ≡ dead_in l.now l.silent (map full_consumer_meaning (take l.consumer-index l.consumers))
+invariant-loop-consumer l = map string_bytes l.names.items ≡ dead_in l.now l.silent
+    (map full_consumer_meaning (take l.consumer-index l.consumers))

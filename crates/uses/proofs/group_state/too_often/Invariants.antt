@@ -5,4 +5,5 @@ use Rattle.uses.proofs.group_state.too_often.Given as goal
 
 -- the ids of those so far that were delivered too often
 abbrev pub invariant-loop-entry : goal.invariant-loop-entry
-invariant-loop-entry l = map string_bytes l.ids.items ≡ too_often_in l.times (map full_pending_meaning (take l.entry-index l.pending))
+invariant-loop-entry l = map string_bytes l.ids.items
+    ≡ too_often_in l.times (map full_pending_meaning (take l.entry-index l.pending))

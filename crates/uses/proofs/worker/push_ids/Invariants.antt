@@ -5,4 +5,5 @@ use Rattle.uses.proofs.worker.push_ids.Given as goal
 
 -- the ids so far stand behind what was there
 abbrev pub invariant-loop-entry : goal.invariant-loop-entry
-invariant-loop-entry l = map string_bytes l.ids.items ≡ map string_bytes l.initial.ids.items ++ ids_of (map entry_meaning (take l.entry-index l.entries))
+invariant-loop-entry l = map string_bytes l.ids.items ≡ map string_bytes l.initial.ids.items
+    ++ ids_of (map entry_meaning (take l.entry-index l.entries))

@@ -13,10 +13,14 @@ alike-returns-in-Map-Map t c =
 
 pub alike-returns-then-alike : goal.alike-returns-then-alike
 alike-returns-then-alike t c =
-    let a = ap tree c.in-Attribute-Attribute.is-0 ∙ tree-Attribute c.in-Attribute-Attribute.x c.in-Attribute-Attribute.m in
-    let b = ap tree c.in-Attribute-Attribute.is-1 ∙ tree-Attribute c.in-Attribute-Attribute.y c.in-Attribute-Attribute.n in
-    let first : same (tree c.in-Attribute-Attribute.x.value) (tree c.in-Attribute-Attribute.y.value) ≡ true = search rules in
-    c.pairs_alike-then-alike.ensures ∙ rw (c.deref-then-alike.ensures.value, c.deref-then-alike-2.ensures.value, a, b, first) refl
+    let a = ap tree c.in-Attribute-Attribute.is-0
+    ∙ tree-Attribute c.in-Attribute-Attribute.x c.in-Attribute-Attribute.m in
+    let b = ap tree c.in-Attribute-Attribute.is-1
+    ∙ tree-Attribute c.in-Attribute-Attribute.y c.in-Attribute-Attribute.n in
+    let first : same (tree c.in-Attribute-Attribute.x.value) (tree c.in-Attribute-Attribute.y.value) ≡ true =
+    search rules in
+    c.pairs_alike-then-alike.ensures
+    ∙ rw (c.deref-then-alike.ensures.value, c.deref-then-alike-2.ensures.value, a, b, first) refl
 
 pub all_alike-returns-then-a-b : goal.all_alike-returns-then-a-b
 all_alike-returns-then-a-b t c = each_long c.args.a.now c.args.b.now c.if-a-b.true

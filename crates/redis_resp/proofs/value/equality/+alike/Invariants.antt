@@ -6,12 +6,14 @@ use Rattle.redis_resp.proofs.value.equality.+alike.Given as goal
 
 abbrev pub invariant-all_alike-loop-i : goal.invariant-all_alike-loop-i
 invariant-all_alike-loop-i l = record {
-  rest : same_each (trees (map tree l.a)) (trees (map tree l.b)) ≡ same_each (trees (map tree (drop l.i l.a))) (trees (map tree (drop l.i l.b)));
+  rest : same_each (trees (map tree l.a)) (trees (map tree l.b))
+      ≡ same_each (trees (map tree (drop l.i l.a))) (trees (map tree (drop l.i l.b)));
   long : length l.a ≡ length l.b;
 }
 
 abbrev pub invariant-pairs_alike-loop-i : goal.invariant-pairs_alike-loop-i
 invariant-pairs_alike-loop-i l = record {
-  rest : same_pairs (pairs (map tree_of_pair l.a)) (pairs (map tree_of_pair l.b)) ≡ same_pairs (pairs (map tree_of_pair (drop l.i l.a))) (pairs (map tree_of_pair (drop l.i l.b)));
+  rest : same_pairs (pairs (map tree_of_pair l.a)) (pairs (map tree_of_pair l.b))
+      ≡ same_pairs (pairs (map tree_of_pair (drop l.i l.a))) (pairs (map tree_of_pair (drop l.i l.b)));
   long : length l.a ≡ length l.b;
 }

@@ -5,7 +5,9 @@ use Rattle.redis_resp.proofs.SortedLemmas.{at_sorted_key}
 use Rattle.redis_resp.proofs.value.ordered.insert_sorted.Given as goal
 
 abbrev pub invariant-loop-key : goal.invariant-loop-key
-invariant-loop-key g l = FieldsSoFar g.V.FromRedisValue.reading (all_left g.S.Source.values_left g.S.Source.pairs_left l.initial.pairs) (all_left g.S.Source.values_left g.S.Source.pairs_left l.pairs) (at_sorted_key g.V.FromRedisValue.meaning l.fields)
+invariant-loop-key g l = FieldsSoFar g.V.FromRedisValue.reading
+    (all_left g.S.Source.values_left g.S.Source.pairs_left l.initial.pairs)
+    (all_left g.S.Source.values_left g.S.Source.pairs_left l.pairs) (at_sorted_key g.V.FromRedisValue.meaning l.fields)
 
 abbrev pub decreases-loop-key : goal.decreases-loop-key
 decreases-loop-key g l = length (all_left g.S.Source.values_left g.S.Source.pairs_left l.pairs)

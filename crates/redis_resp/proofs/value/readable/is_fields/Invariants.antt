@@ -5,7 +5,8 @@ use Rattle.redis_resp.proofs.ReadableLemmas.{fields_read}
 use Rattle.redis_resp.proofs.value.readable.is_fields.Given as goal
 
 abbrev pub invariant-loop-key : goal.invariant-loop-key
-invariant-loop-key l = fields_read (all_left (λ vs. map tree vs.now) (λ ps. map tree_of_pair ps.now) l.pairs) ≡ fields_read (all_left (λ vs. map tree vs.now) (λ ps. map tree_of_pair ps.now) l.initial.pairs)
+invariant-loop-key l = fields_read (all_left (λ vs. map tree vs.now) (λ ps. map tree_of_pair ps.now) l.pairs)
+    ≡ fields_read (all_left (λ vs. map tree vs.now) (λ ps. map tree_of_pair ps.now) l.initial.pairs)
 
 abbrev pub decreases-loop-key : goal.decreases-loop-key
 decreases-loop-key l = length (all_left (λ vs. map tree vs.now) (λ ps. map tree_of_pair ps.now) l.pairs)

@@ -5,7 +5,10 @@ use Rattle.redis_resp.proofs.MapLemmas.{TableSoFar}
 use Rattle.redis_resp.proofs.value.table.insert_in_order.Given as goal
 
 abbrev pub invariant-loop-key : goal.invariant-loop-key
-invariant-loop-key g l = TableSoFar g.V.FromRedisValue.reading (all_left g.S.Source.values_left g.S.Source.pairs_left l.initial.pairs) (all_left g.S.Source.values_left g.S.Source.pairs_left l.pairs) (entries_meaning g.V.FromRedisValue.meaning l.table.entries)
+invariant-loop-key g l = TableSoFar g.V.FromRedisValue.reading
+    (all_left g.S.Source.values_left g.S.Source.pairs_left l.initial.pairs)
+    (all_left g.S.Source.values_left g.S.Source.pairs_left l.pairs)
+    (entries_meaning g.V.FromRedisValue.meaning l.table.entries)
 
 abbrev pub decreases-loop-key : goal.decreases-loop-key
 decreases-loop-key g l = length (all_left g.S.Source.values_left g.S.Source.pairs_left l.pairs)

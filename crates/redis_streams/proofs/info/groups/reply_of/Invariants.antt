@@ -5,6 +5,7 @@ use Rattle.redis_streams.proofs.info.groups.reply_of.Given as goal
 
 abbrev pub invariant-loop-row : goal.invariant-loop-row
 invariant-loop-row l = record {
-  so_far : map group_meaning l.groups.items ++ map (λ row. group_meaning row.0) (into_iter_items l.row-iterator) ≡ map (λ row. group_meaning row.0) (into_iter_items l.initial.row-iterator);
+  so_far : map group_meaning l.groups.items ++ map (λ row. group_meaning row.0) (into_iter_items l.row-iterator)
+      ≡ map (λ row. group_meaning row.0) (into_iter_items l.initial.row-iterator);
   count : into_iter_len l.row-iterator ≡ length (into_iter_items l.row-iterator);
 }

@@ -8,8 +8,12 @@ use Rattle.redis_streams.proofs.info.named_fields.named_fields.Goals as goal
 
 pub returns-in_ok-hash_map_of-in-Some-clause-ok : goal.returns-in_ok-hash_map_of-in-Some-clause-ok
 returns-in_ok-hash_map_of-in-Some-clause-ok g c =
-    let there : pairs_in (g.S.Source.seen c.args.v) ≡ Some (all_left g.S.Source.values_left g.S.Source.pairs_left c.in-Some.left) = search rules in
-    fields_of_pairs g.S.Source.seen (g.S.Source.seen c.args.v) c.in_ok-pairs-in-Some.pairs.items c.in_ok-hash_map_of-in-Some.field-0 (ap (option_and_then (traverse (entry_reading (λ u. Some u)))) there ∙ c.in_ok-pairs-in-Some.ensures.ok) c.in_ok-hash_map_of-in-Some.ensures
+    let there : pairs_in (g.S.Source.seen c.args.v)
+    ≡ Some (all_left g.S.Source.values_left g.S.Source.pairs_left c.in-Some.left) = search rules in
+    fields_of_pairs g.S.Source.seen
+    (g.S.Source.seen c.args.v) c.in_ok-pairs-in-Some.pairs.items c.in_ok-hash_map_of-in-Some.field-0
+    (ap (option_and_then (traverse (entry_reading (λ u. Some u)))) there
+    ∙ c.in_ok-pairs-in-Some.ensures.ok) c.in_ok-hash_map_of-in-Some.ensures
 
 pub returns-then-count_left-eq0-clause-ok : goal.returns-then-count_left-eq0-clause-ok
 returns-then-count_left-eq0-clause-ok g c =

@@ -7,4 +7,5 @@ use Rattle.redis_streams.proofs.pending.summary.consumer_of_row.Goals as goal
 pub returns : goal.returns
 returns c =
     let with_pending : ℕ → Consumer = λ n. record { name = string_bytes c.args.name; pending = n; idle = 0 } in
-    ap with_pending (c.unwrap_or.ensures ∙ number_parsed c.as_str.result.now c.parse.result c.parse.ensures.value.0 ∙ ap number_in c.as_str.ensures.value)
+    ap with_pending (c.unwrap_or.ensures ∙ number_parsed c.as_str.result.now c.parse.result c.parse.ensures.value.0
+    ∙ ap number_in c.as_str.ensures.value)

@@ -7,6 +7,8 @@ use Rattle.redis_streams.proofs.pending.summary.read_consumers.Given as goal
 
 abbrev pub invariant-loop-row : goal.invariant-loop-row
 invariant-loop-row l = record {
-  so_far : map consumer_meaning l.consumers.items ++ consumers_of (map (option_map row_meaning) (into_iter_items l.row-iterator)) ≡ consumers_of (map (option_map row_meaning) (into_iter_items l.initial.row-iterator));
+  so_far : map consumer_meaning l.consumers.items ++ consumers_of
+      (map (option_map row_meaning) (into_iter_items l.row-iterator))
+      ≡ consumers_of (map (option_map row_meaning) (into_iter_items l.initial.row-iterator));
   count : into_iter_len l.row-iterator ≡ length (into_iter_items l.row-iterator);
 }

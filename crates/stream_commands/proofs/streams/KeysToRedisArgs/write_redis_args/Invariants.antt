@@ -6,4 +6,5 @@ use Rattle.stream_commands.proofs.streams.KeysToRedisArgs.write_redis_args.Given
 abbrev pub invariant-loop-stream : goal.invariant-loop-stream
 invariant-loop-stream g l =
     g.W.RedisWrite.written l.out
-    ≡ g.W.RedisWrite.written l.initial.out ++ flat_map (λ s. g.K.ToRedisArgs.args s.0) (take l.stream-index l.self.0.now)
+    ≡ g.W.RedisWrite.written l.initial.out
+    ++ flat_map (λ s. g.K.ToRedisArgs.args s.0) (take l.stream-index l.self.0.now)

@@ -8,4 +8,5 @@ use Rattle.stream_entries.proofs.item_form.RowsItemForm.push_single.Goals as goa
 pub returns-clause-ok : goal.returns-clause-ok
 returns-clause-ok g c =
     let p : Tree × Tree = (g.S.Source.seen c.args.key, g.S.Source.seen c.args.value) in
-    on_ok_weaker c.push_entry.result (one_pair (single p) p refl (entries_of c.args.ids.now) (entries_of c.push_entry.new.ids)) c.push_entry.ensures.ok
+    on_ok_weaker c.push_entry.result (one_pair (single p) p refl (entries_of c.args.ids.now)
+    (entries_of c.push_entry.new.ids)) c.push_entry.ensures.ok

@@ -10,4 +10,9 @@ pub loop-key-preserved : goal.loop-key-preserved
 loop-key-preserved g c =
     let text : is_some (text_reading (tree c.in-Some-next_left.key.now)) ≡ true = search rules in
     let value : g.T.Readable.readable (tree c.in-Some-next_left.value.now) ≡ true = search rules in
-    sym (pairs_go_on g.T.Readable.readable (all_left (λ vs. map tree vs.now) (λ ps. map tree_of_pair ps.now) c.loop-key.pairs) _ (tree c.in-Some-next_left.key.now, tree c.in-Some-next_left.value.now) c.in-Some-next_left.ensures text value) ∙ c.loop-key.invariant
+    sym
+    (pairs_go_on g.T.Readable.readable (all_left (λ vs. map tree vs.now)
+    (λ ps. map tree_of_pair ps.now) c.loop-key.pairs) _ (
+      tree c.in-Some-next_left.key.now,
+      tree c.in-Some-next_left.value.now,
+    ) c.in-Some-next_left.ensures text value) ∙ c.loop-key.invariant

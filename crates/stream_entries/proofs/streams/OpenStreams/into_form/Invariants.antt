@@ -7,7 +7,8 @@ use Rattle.stream_entries.proofs.streams.OpenStreams.into_form.Given as goal
 
 abbrev pub invariant-loop-key : goal.invariant-loop-key
 invariant-loop-key l = record {
-  so_far : streams_of l.keys ++ entries_meaning (λ e. list_or_none (held_in l.form (entries_held e))) (into_iter_items l.key-iterator)
+  so_far : streams_of l.keys ++ entries_meaning (λ e. list_or_none (held_in l.form (entries_held e)))
+      (into_iter_items l.key-iterator)
       ≡ entries_meaning (λ e. list_or_none (held_in l.form (entries_held e))) (into_iter_items l.initial.key-iterator);
   count : into_iter_len l.key-iterator ≡ length (into_iter_items l.key-iterator);
 }

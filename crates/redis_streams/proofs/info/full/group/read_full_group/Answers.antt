@@ -11,5 +11,10 @@ use Rattle.redis_streams.proofs.info.full.group.read_full_group.Goals as goal
 pub returns-in_err-consumers-clause-err : goal.returns-in_err-consumers-clause-err
 returns-in_err-consumers-clause-err g c =
     let fields = fields_by_name g.S.Source.seen c.args.fields in
-    passed_on (Refuses full_group_of RefusesFullGroupField fields) c.in_err-consumers.field-0.0 _ c.from_residual-in_err-consumers.ensures.1
-    (refused_by_consumers fields _ _ c.in_err-consumers.field-0.0 (ap (map full_consumer_meaning) c.new-4.ensures.items) c.full_group_fields-fields.ensures.consumers c.in_err-consumers.ensures.err)
+    passed_on
+    (Refuses full_group_of RefusesFullGroupField fields) c.in_err-consumers.field-0.0 _
+    c.from_residual-in_err-consumers.ensures.1
+    (refused_by_consumers fields _ _ c.in_err-consumers.field-0.0
+    (ap
+    (map full_consumer_meaning) c.new-4.ensures.items) c.full_group_fields-fields.ensures.consumers
+    c.in_err-consumers.ensures.err)

@@ -11,5 +11,9 @@ use Rattle.redis_streams.proofs.info.full.stream.read_full.Goals as goal
 pub returns-in_err-groups-clause-err : goal.returns-in_err-groups-clause-err
 returns-in_err-groups-clause-err g c =
     let fields = fields_by_name g.S.Source.seen c.args.fields in
-    passed_on (Refuses full_stream_of RefusesFullField fields) c.in_err-groups.field-0.0 _ c.from_residual-in_err-groups.ensures.1
-    (refused_by_groups fields _ _ c.in_err-groups.field-0.0 (ap (map full_group_meaning) c.new-5.ensures.items) c.full_fields-fields.ensures.groups c.in_err-groups.ensures.err)
+    passed_on
+    (Refuses full_stream_of RefusesFullField fields) c.in_err-groups.field-0.0 _
+    c.from_residual-in_err-groups.ensures.1
+    (refused_by_groups fields _ _ c.in_err-groups.field-0.0
+    (ap
+    (map full_group_meaning) c.new-5.ensures.items) c.full_fields-fields.ensures.groups c.in_err-groups.ensures.err)

@@ -6,5 +6,6 @@ use Rattle.stream_text.proofs.replies.rows.stream_id.print_fields.Goals as goal
 pub returns : goal.returns
 returns c =
     let fields = c.in_ok-fields_in.field-0.items in
-    let forms = join_by_parts pair_form pair_of (codes ",") fields (put_all [] c.args.map.now.entries) (c.in_ok-fields_in.ensures ∙ c.in_ok-sorted.ensures) in
+    let forms = join_by_parts pair_form pair_of (codes ",") fields (put_all [] c.args.map.now.entries)
+    (c.in_ok-fields_in.ensures ∙ c.in_ok-sorted.ensures) in
     rw (← forms) (rw c.deref.ensures.value at c.print_joined.ensures)

@@ -7,7 +7,8 @@ use Rattle.stream_text.proofs.replies.rows.stream_id.sorted.Goals as goal
 
 pub loop-name-preserved : goal.loop-name-preserved
 loop-name-preserved c =
-    let left = rest_more deref_pair c.loop-name.name-iterator c.next.new.self c.next.result (c.in-Some.name, c.in-Some.value) c.in-Some.is c.next.ensures.steps in
+    let left = rest_more deref_pair c.loop-name.name-iterator c.next.new.self c.next.result
+    (c.in-Some.name, c.in-Some.value) c.in-Some.is c.next.ensures.steps in
     let put = pairs_of_insert c.loop-name.fields.entries c.as_str.result c.in-Some.value in
     let before = ap (put_all (pairs_of c.loop-name.fields.entries)) left in
     rw (c.in_ok-insert.ensures.entries, put, c.as_str.ensures.value) (sym before ∙ c.loop-name.invariant)

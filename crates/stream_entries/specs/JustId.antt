@@ -33,8 +33,10 @@ justid_reading t = parts_in t >>= justid_of
 
 -- what the claimed ids, the deleted ids or the next id are refused with
 abbrev pub RefusesIds : Parts → ParsingError → Type 0
-RefusesIds parts error = RefusesList RefusesTextIn parts.1 error ⊎ (RefusesDeleted parts.2 error ⊎ RefusesTextIn parts.0 error)
+RefusesIds parts error = RefusesList RefusesTextIn parts.1 error
+    ⊎ (RefusesDeleted parts.2 error ⊎ RefusesTextIn parts.0 error)
 
--- `NotArray` and `WrongItemCount` stand exactly where the shape is wrong, and a part that is unreadable is told by its own
+-- `NotArray` and `WrongItemCount` stand exactly where the shape is wrong, and a part that is unreadable is told by its
+-- own
 abbrev pub RefusesJustId : Tree → ParsingError → Type 0
 RefusesJustId = RefusesParts RefusesIds

@@ -1,5 +1,6 @@
 -- The answer of an automatic claim that asks for ids alone is read from its parts, and copied.
-use Rattle.std.proofs.Common.{◌≡◌, inl, ℕ, List, [], ◌∷◌, length, map, Option, Some, None, option_and_then, refl, ◌∙◌, ap}
+use Rattle.std.proofs.Common.{◌≡◌, inl, ℕ, List, [], ◌∷◌, length, map, Option, Some, None, option_and_then, refl, ◌∙◌}
+use Rattle.std.proofs.Common.{ap}
 use Rattle.std.specs.Prelude.{MatchOption, String, Vec, string_bytes}
 use Rattle.std.specs.List.{AllZip}
 use Rattle.std.specs.declared.alloc.Global.{Global}
@@ -12,14 +13,16 @@ use Rattle.redis_resp.specs.declared.value.error.ParsingError.TheVariants.{NotAr
 use Rattle.stream_entries.specs.AutoClaim.{Parts, two_or_three, parts_in, deleted_reading}
 use Rattle.stream_entries.specs.AutoClaimMeaning.{text_bytes_of}
 use Rattle.stream_entries.specs.Refusal.{RefusesTextIn}
-use Rattle.stream_commands.specs.JustId.{justid_of, justid_reading, RefusesIds, RefusesJustId}
+use Rattle.stream_entries.specs.JustId.{justid_of, justid_reading, RefusesIds, RefusesJustId}
 
 module _ (t : Tree) (parts : Parts) (there : parts_in t ≡ Some parts) where
   by_parts : justid_reading t ≡ justid_of parts
   by_parts = ap (option_and_then justid_of) there
 
-  pub justid_read : (claimed deleted : List (List ℕ)) (next : List ℕ) → list_reading text_reading parts.1 ≡ Some claimed → deleted_reading parts.2 ≡ Some deleted
-      → text_reading parts.0 ≡ Some next → justid_reading t ≡ Some (record { next = next; claimed = claimed; deleted = deleted })
+  pub justid_read : (claimed deleted : List (List ℕ)) (next : List ℕ) → list_reading text_reading parts.1 ≡ Some claimed
+      → deleted_reading parts.2 ≡ Some deleted
+      → text_reading parts.0 ≡ Some next → justid_reading t
+      ≡ Some (record { next = next; claimed = claimed; deleted = deleted })
   justid_read claimed deleted next c d n = by_parts ∙ rw (c, d, n) refl
 
   -- an answer whose parts are there is refused with what one of them is refused with
@@ -28,19 +31,11 @@ module _ (t : Tree) (parts : Parts) (there : parts_in t ≡ Some parts) where
     told p = in_parts (array_of_plain t) there
       where
         in_parts : (o : Option (List Tree)) → option_and_then two_or_three o ≡ Some parts
-            → MatchOption o (error ≡ NotArray) (λ ts. MatchOption (two_or_three ts) (error ≡ WrongItemCount (length ts)) (λ q. RefusesIds q error))
+            → MatchOption o (error ≡ NotArray) (λ ts. MatchOption (two_or_three ts) (error ≡ WrongItemCount (length ts))
+            (λ q. RefusesIds q error))
         in_parts None is = absurd cc
         in_parts (Some ts) is = rw is p
 
-    pub claimed_part : Refuses (list_reading text_reading) (RefusesList RefusesTextIn) parts.1 error → Refuses justid_reading RefusesJustId t error
+    pub claimed_part : Refuses (list_reading text_reading) (RefusesList RefusesTextIn) parts.1 error
+        → Refuses justid_reading RefusesJustId t error
     claimed_part r = (told (inl r.0), λ h. by_parts ∙ rw (r.1 h) refl)
-
-same_texts : (texts copies : List (String Global)) → AllZip (λ s t. string_bytes t ≡ string_bytes s) texts copies → map string_bytes copies ≡ map string_bytes texts
-same_texts [] [] same = refl
-same_texts [] (t ∷ copies) same = absurd same
-same_texts (s ∷ texts) [] same = absurd same
-same_texts (s ∷ texts) (t ∷ copies) same = rw (same.0, same_texts texts copies same.1) refl
-
--- a copy of a list of texts has the same texts, in order
-pub texts_copied : (texts copies : Vec (String Global) Global) → AllZip (λ s t. string_bytes t ≡ string_bytes s) texts.items copies.items → text_bytes_of copies ≡ text_bytes_of texts
-texts_copied texts copies same = same_texts texts.items copies.items same

@@ -1,12 +1,10 @@
 //! The reply of XAUTOCLAIM where it is asked for ids alone.
-ghost use Rattle.std.specs.Prelude.{◌≡◌, Some, None, IsOk, IfOk, IfErr, length, option_map};
+ghost use Rattle.std.specs.Prelude.{◌≡◌, Some, IsOk, IfOk, IfErr};
 ghost use Rattle.redis_resp.specs.Refusal.{Refuses};
-ghost use Rattle.stream_commands.specs.JustId.{JustId, RefusesJustId, empty_justid, justid_reading};
-ghost use Rattle.stream_commands.specs.JustIdMeaning.{justid_meaning};
-ghost use Rattle.stream_entries.specs.AutoClaim.{deleted_reading, parts_in, two_or_three};
-ghost use Rattle.stream_entries.specs.AutoClaimMeaning.{text_bytes_of, trees_of_parts};
-ghost use Rattle.stream_entries.specs.Refusal.{RefusesDeleted, RefusesParts};
+ghost use Rattle.stream_entries.specs.JustId.{JustId, RefusesJustId, empty_justid, justid_reading};
+ghost use Rattle.stream_entries.specs.JustIdMeaning.{justid_meaning};
 
+use crate::autoclaim::{copy_texts, into_parts, read_deleted};
 use redis_resp::{FromRedisValue, ParsingError, Source, Value};
 use std::alloc::{AllocError, Global};
 
@@ -35,14 +33,13 @@ impl StreamAutoClaimJustIdReply {
     }
 
     /// The same reply. It fails only where it is out of memory.
-    #[tactic(auto, using(crate::proofs::JustIdLemmas::texts_copied))]
     pub fn try_clone(&self, alloc: Global) -> Result<StreamAutoClaimJustIdReply, AllocError>
         ensures { IfOk result (λ r. justid_meaning r ≡ justid_meaning self.now) }
     {
         Ok(StreamAutoClaimJustIdReply {
             next_stream_id: String::from_str(alloc, &self.next_stream_id)?,
-            claimed: self.claimed.clone()?,
-            deleted_ids: self.deleted_ids.clone()?,
+            claimed: copy_texts(alloc, &self.claimed)?,
+            deleted_ids: copy_texts(alloc, &self.deleted_ids)?,
         })
     }
 }
@@ -90,50 +87,4 @@ fn read_justid<S: Source>(alloc: Global, v: S) -> Result<StreamAutoClaimJustIdRe
         claimed,
         deleted_ids,
     })
-}
-
-/// The deleted ids, where there is a third item; memory is asked for only where it is a list.
-fn read_deleted<S: Source>(alloc: Global, deleted: Option<S>) -> Result<Vec<String>, ParsingError>
-    ensures ok { IfOk result (λ ids. deleted_reading (option_map S.seen deleted)
-        ≡ Some (text_bytes_of ids)) }
-    ensures err { IfErr result
-        (Refuses deleted_reading RefusesDeleted (option_map S.seen deleted)) }
-{
-    match deleted {
-        Some(ids) => ids.read(alloc),
-        None => Ok(Vec::new(alloc)),
-    }
-}
-
-/// The next id, the claimed ids and, where there is a third item, the deleted ids. It takes no
-/// memory.
-fn into_parts<S: Source>(v: S) -> Result<(S, S, Option<S>), ParsingError>
-    ensures ok { IfOk result (λ parts. parts_in (S.seen v) ≡ Some (trees_of_parts S.seen parts)) }
-    ensures err { IfErr result (Refuses parts_in (RefusesParts (λ _ _. ⊥)) (S.seen v)) }
-{
-    match v.into_array() {
-        Some(items) => two_or_three_of::<S>(items),
-        None => Err(ParsingError::NotArray),
-    }
-}
-
-/// The parts of a list of two or three items.
-fn two_or_three_of<S: Source>(mut items: S::Values) -> Result<(S, S, Option<S>), ParsingError>
-    ensures ok { IfOk result (λ parts. two_or_three (S.values_left items)
-        ≡ Some (trees_of_parts S.seen parts)) }
-    ensures err { IfErr result (λ e. (two_or_three (S.values_left items) ≡ None)
-        × (e ≡ ParsingError.WrongItemCount (length (S.values_left items)))) }
-{
-    let count = S::count_values(&items);
-    if count > 3 {
-        return Err(ParsingError::WrongItemCount(count));
-    }
-    let Some(next) = S::next_value(&mut items) else {
-        return Err(ParsingError::WrongItemCount(count));
-    };
-    let Some(claimed) = S::next_value(&mut items) else {
-        return Err(ParsingError::WrongItemCount(count));
-    };
-    let deleted = S::next_value(&mut items);
-    Ok((next, claimed, deleted))
 }
