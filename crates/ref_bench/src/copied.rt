@@ -1,4 +1,10 @@
 //! The answer, read by the copying path.
+ghost use Rattle.std.specs.Prelude.{◌≤◌, IfOk, length, take};
+ghost use Rattle.redis_wire.specs.Limits.{default_limits};
+ghost use Rattle.redis_wire.specs.Reply.{answer};
+ghost use Rattle.redis_wire.specs.Grammar.{IsReply};
+ghost use Rattle.ref_bench.specs.Reading.{IsHead, HasRecord};
+
 use anyhow::anyhow;
 use redis_resp::Value;
 use redis_wire::{Decoded, Limits, Reply, decode, from_reply};
@@ -7,14 +13,18 @@ use std::collections::HashMap;
 use stream_entries::{StreamId, StreamKey, StreamReadReply};
 
 /// Makes the value and no record; how many bytes it has.
-pub fn decoded(alloc: Global, bytes: &[u8]) -> Result<usize, anyhow::Error> {
+pub fn decoded(alloc: Global, bytes: &[u8]) -> Result<usize, anyhow::Error>
+    ensures { IfOk result (λ len. IsHead bytes.now len) }
+{
     let (reply, len) = head_of(alloc, bytes)?;
     drop(reply);
     Ok(len)
 }
 
 /// Makes the record; the sum of the lengths of all ids, names and values.
-pub fn read(alloc: Global, bytes: &[u8]) -> Result<usize, anyhow::Error> {
+pub fn read(alloc: Global, bytes: &[u8]) -> Result<usize, anyhow::Error>
+    ensures { IfOk result (λ _. HasRecord bytes.now) }
+{
     let (reply, _) = head_of(alloc, bytes)?;
     match from_reply::<StreamReadReply>(alloc, reply) {
         Ok(read) => Ok(sum_streams(&read.keys)),
@@ -22,7 +32,9 @@ pub fn read(alloc: Global, bytes: &[u8]) -> Result<usize, anyhow::Error> {
     }
 }
 
-fn head_of(alloc: Global, bytes: &[u8]) -> Result<(Reply, usize), anyhow::Error> {
+fn head_of(alloc: Global, bytes: &[u8]) -> Result<(Reply, usize), anyhow::Error>
+    ensures { IfOk result (λ x. (x.1 ≤ length bytes.now) × IsReply default_limits (take x.1 bytes.now) (answer x.0)) }
+{
     match decode(alloc, bytes, Limits::default())? {
         Decoded::Complete { reply, len } => Ok((reply, len)),
         Decoded::Incomplete => Err(anyhow!("incomplete")),

@@ -1,4 +1,7 @@
 //! The answer, read where it stands.
+ghost use Rattle.std.specs.Prelude.{IfOk};
+ghost use Rattle.ref_bench.specs.Reading.{HasStreams, AreInPlace};
+
 use anyhow::anyhow;
 use redis_wire::Limits;
 use stream_refs::{EntriesRef, EntryTape, FieldsRef, StreamsRef};
@@ -7,7 +10,9 @@ use stream_refs::{EntriesRef, EntryTape, FieldsRef, StreamsRef};
 const NAMES: [&[u8]; 2] = [b"customer", b"note"];
 
 /// Finds where all stands; how many streams there are.
-pub fn places(tape: &mut EntryTape, bytes: &[u8]) -> Result<usize, anyhow::Error> {
+pub fn places(tape: &mut EntryTape, bytes: &[u8]) -> Result<usize, anyhow::Error>
+    ensures { IfOk result (λ count. HasStreams bytes.now count) }
+{
     match tape.read_streams(bytes, Limits::default())? {
         Some(found) => Ok(found.streams.len()),
         None => Err(anyhow!("not in place")),
@@ -15,7 +20,9 @@ pub fn places(tape: &mut EntryTape, bytes: &[u8]) -> Result<usize, anyhow::Error
 }
 
 /// The sum of the lengths of all ids, names and values.
-pub fn fields(tape: &mut EntryTape, bytes: &[u8]) -> Result<usize, anyhow::Error> {
+pub fn fields(tape: &mut EntryTape, bytes: &[u8]) -> Result<usize, anyhow::Error>
+    ensures { IfOk result (λ _. AreInPlace bytes.now) }
+{
     match tape.read_streams(bytes, Limits::default())? {
         Some(found) => Ok(sum_streams(found.streams)),
         None => Err(anyhow!("not in place")),
@@ -23,7 +30,9 @@ pub fn fields(tape: &mut EntryTape, bytes: &[u8]) -> Result<usize, anyhow::Error
 }
 
 /// The sum of the lengths of two values of each entry, which are taken by name.
-pub fn gets(tape: &mut EntryTape, bytes: &[u8]) -> Result<usize, anyhow::Error> {
+pub fn gets(tape: &mut EntryTape, bytes: &[u8]) -> Result<usize, anyhow::Error>
+    ensures { IfOk result (λ _. AreInPlace bytes.now) }
+{
     match tape.read_streams(bytes, Limits::default())? {
         Some(found) => Ok(sum_gets(found.streams)),
         None => Err(anyhow!("not in place")),

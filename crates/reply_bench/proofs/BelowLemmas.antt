@@ -22,7 +22,8 @@ pushed : (old new : List Value) (v : Value) → new ≡ old ++ v ∷ [] → map 
 pushed old new v put = ap (λ l. map tree l) put ∙ map-append tree old (v ∷ [])
 
 -- two values are put behind those of the numbers so far
-pub two_pushed : (f : ℕ → List Tree) (n : ℕ) (old between new : List Value) (v w : Value) → between ≡ old ++ v ∷ [] → new ≡ between ++ w ∷ []
+pub two_pushed : (f : ℕ → List Tree) (n : ℕ) (old between new : List Value) (v w : Value) → between ≡ old ++ v ∷ []
+    → new ≡ between ++ w ∷ []
     → map tree old ≡ below f n → tree v ∷ tree w ∷ [] ≡ f n → map tree new ≡ below f (n + 1)
 two_pushed f n old between new v w first second so_far are =
     pushed between new w second

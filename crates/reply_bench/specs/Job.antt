@@ -5,7 +5,8 @@ use Rattle.redis_resp.specs.Number.{unsigned_of, within}
 use Rattle.redis_resp.specs.Then.{◌>>=◌}
 use Rattle.reply_bench.specs.declared.job.Job.{Job}
 use Rattle.reply_bench.specs.declared.job.Operation.{Operation}
-use Rattle.reply_bench.specs.declared.job.Operation.TheVariants.{Range, RangeOfOneField, Read, ReadWithClaim, Autoclaim, AutoclaimOfIds, Pending, Table, Add}
+use Rattle.reply_bench.specs.declared.job.Operation.TheVariants.{Range, RangeOfOneField, Read, ReadWithClaim, Autoclaim}
+use Rattle.reply_bench.specs.declared.job.Operation.TheVariants.{AutoclaimOfIds, Pending, Table, Add}
 use Rattle.reply_bench.specs.declared.job.Way.{Way}
 use Rattle.reply_bench.specs.declared.job.Way.TheVariants.{Copied, Owned, Borrowed}
 
@@ -35,5 +36,6 @@ number_of word = option_and_then (within 64) (unsigned_of word)
 
 -- the job that four words name
 abbrev pub job_of : List ℕ → List ℕ → List ℕ → List ℕ → Option Job
-job_of operation way count rows = operation_named operation >>= λ o. way_named way >>= λ w. number_of count >>= λ n. number_of rows >>= λ m.
+job_of operation way count rows = operation_named operation >>= λ o. way_named way >>= λ w. number_of count
+    >>= λ n. number_of rows >>= λ m.
     Some (record { operation = o; way = w; count = n; rows = m })

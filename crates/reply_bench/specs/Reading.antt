@@ -9,7 +9,8 @@ use Rattle.redis_streams.specs.Pending.{pending_count_reading}
 use Rattle.stream_entries.specs.Read.{read_reading}
 use Rattle.stream_entries.specs.Rows.{rows_reading}
 use Rattle.reply_bench.specs.declared.job.Operation.{Operation}
-use Rattle.reply_bench.specs.declared.job.Operation.TheVariants.{Range, RangeOfOneField, Read, ReadWithClaim, Autoclaim, AutoclaimOfIds, Pending, Table, Add}
+use Rattle.reply_bench.specs.declared.job.Operation.TheVariants.{Range, RangeOfOneField, Read, ReadWithClaim, Autoclaim}
+use Rattle.reply_bench.specs.declared.job.Operation.TheVariants.{AutoclaimOfIds, Pending, Table, Add}
 use Rattle.reply_bench.specs.declared.job.Way.{Way}
 use Rattle.reply_bench.specs.declared.job.Way.TheVariants.{Copied}
 

@@ -3,7 +3,8 @@ use Rattle.std.specs.Prelude.{ℕ, zero, suc, ◌-◌, ◌^◌, pos, false, List
 use Rattle.std.specs.Fmt.{format_spec, padded_integral}
 use Rattle.redis_resp.specs.Tree.{Tree, nil, int, bulk, array, trees}
 use Rattle.reply_bench.specs.declared.job.Operation.{Operation}
-use Rattle.reply_bench.specs.declared.job.Operation.TheVariants.{Range, RangeOfOneField, Read, ReadWithClaim, Autoclaim, AutoclaimOfIds, Pending, Table, Add}
+use Rattle.reply_bench.specs.declared.job.Operation.TheVariants.{Range, RangeOfOneField, Read, ReadWithClaim, Autoclaim}
+use Rattle.reply_bench.specs.declared.job.Operation.TheVariants.{AutoclaimOfIds, Pending, Table, Add}
 use Rattle.reply_bench.specs.declared.replies.Row.{Row}
 use Rattle.reply_bench.specs.declared.replies.Row.TheVariants.{Entry, Claimed, Id, Waiting}
 
@@ -22,7 +23,8 @@ id_tree index = bulk (codes "17134655" ++ (five_digits index ++ codes "-0"))
 
 -- a field of a row, and its value
 abbrev pub field_trees : ℕ → ℕ → List Tree
-field_trees index field = bulk (codes "field-" ++ decimal field) ∷ bulk (codes "value-" ++ (decimal index ++ (codes "-" ++ decimal field))) ∷ []
+field_trees index field = bulk (codes "field-" ++ decimal field)
+    ∷ bulk (codes "value-" ++ (decimal index ++ (codes "-" ++ decimal field))) ∷ []
 
 -- the fields of a row and their values, one behind the other
 abbrev pub fields_tree : ℕ → ℕ → Tree
@@ -31,7 +33,8 @@ fields_tree index count = array (trees (below (field_trees index) count))
 -- a row
 abbrev pub row_tree : Row → ℕ → Tree
 row_tree (Entry count) index = array (trees (id_tree index ∷ fields_tree index count ∷ []))
-row_tree (Claimed count) index = array (trees (id_tree index ∷ fields_tree index count ∷ int (pos 7) ∷ int (pos 2) ∷ []))
+row_tree (Claimed count) index = array
+    (trees (id_tree index ∷ fields_tree index count ∷ int (pos 7) ∷ int (pos 2) ∷ []))
 row_tree Id index = id_tree index
 row_tree Waiting index = array (trees (id_tree index ∷ bulk (codes "worker-1") ∷ int (pos 7) ∷ int (pos 2) ∷ []))
 

@@ -1,5 +1,6 @@
 -- Entries that are found are those of a reply.
-use Rattle.std.proofs.Common.{◌≡◌, ◌≤◌, ◌-◌, ◌∙◌, ℕ, zero, suc, List, [], ◌∷◌, map, length, take, drop, Bool, true, false, cond, ◌==◌, None, Ok, refl, sym, ap, arith}
+use Rattle.std.proofs.Common.{◌≡◌, ◌≤◌, ◌-◌, ◌∙◌, ℕ, zero, suc, List, [], ◌∷◌, map, length, take, drop, Bool, true}
+use Rattle.std.proofs.Common.{false, cond, ◌==◌, None, Ok, refl, sym, ap, arith}
 use Rattle.std.specs.List.{AllByRecursion}
 use Rattle.std.specs.Str.{is_utf8}
 use Rattle.std.proofs.lemmas.Bool.{eqb-true}
@@ -28,42 +29,59 @@ all_taken P zero xs h = tt
 all_taken P (suc n) [] h = tt
 all_taken P (suc n) (x ∷ xs) h = (h.0, all_taken P n xs h.1)
 
-pub all_dropped : {A : Type 0} (P : A → Type 0) (n : ℕ) (xs : List A) → AllByRecursion P xs → AllByRecursion P (drop n xs)
+pub all_dropped : {A : Type 0} (P : A → Type 0) (n : ℕ) (xs : List A) → AllByRecursion P xs
+    → AllByRecursion P (drop n xs)
 all_dropped P zero xs h = h
 all_dropped P (suc n) [] h = tt
 all_dropped P (suc n) (x ∷ xs) h = all_dropped P n xs h.1
 
-names_told : (bytes : List ℕ) (fs : List FieldPlace) → AllByRecursion (IsField bytes) fs → AllByRecursion (λ p. is_utf8 p.0 ≡ true) (map (field_in bytes) fs)
+names_told : (bytes : List ℕ) (fs : List FieldPlace) → AllByRecursion (IsField bytes) fs
+    → AllByRecursion (λ p. is_utf8 p.0 ≡ true) (map (field_in bytes) fs)
 names_told bytes [] h = tt
 names_told bytes (f ∷ fs) h = (h.0.is_text, names_told bytes fs h.1)
 
-fields_told : (deleted : Bool) (ps : Pairs) → AllByRecursion (λ p. is_utf8 p.0 ≡ true) ps → AreTextFields (fields_if deleted ps)
+fields_told : (deleted : Bool) (ps : Pairs) → AllByRecursion (λ p. is_utf8 p.0 ≡ true) ps
+    → AreTextFields (fields_if deleted ps)
 fields_told true ps h = tt
 fields_told false ps h = h
 
 module _ (bytes : List ℕ) (fields : List FieldPlace) (each : AllByRecursion (IsField bytes) fields) where
-  pub texts_told : (es : List EntryPlace) → AllByRecursion (IsEntry bytes (length fields)) es → AllByRecursion IsTextEntry (map (entry_in bytes fields) es)
+  pub texts_told : (es : List EntryPlace) → AllByRecursion (IsEntry bytes (length fields)) es
+      → AllByRecursion IsTextEntry (map (entry_in bytes fields) es)
   texts_told [] h = tt
   texts_told (e ∷ es) h =
-      let own = all_taken (IsField bytes) (e.to - e.from) (drop e.from fields) (all_dropped (IsField bytes) e.from fields each) in
-      (record { id = h.0.is_text; names = fields_told e.deleted (map (field_in bytes) (own_fields fields e)) (names_told bytes (own_fields fields e) own) }, texts_told es h.1)
+      let own = all_taken (IsField bytes) (e.to - e.from) (drop e.from fields)
+      (all_dropped (IsField bytes) e.from fields each) in (
+        record {
+          id = h.0.is_text;
+          names = fields_told e.deleted (map (field_in bytes) (own_fields fields e))
+              (names_told bytes (own_fields fields e) own);
+        },
+        texts_told es h.1,
+      )
 
-  pub standard_told : (es : List EntryPlace) → AllByRecursion (λ e. e.delivered ≡ false) es → AllByRecursion IsStandard (map (entry_in bytes fields) es)
+  pub standard_told : (es : List EntryPlace) → AllByRecursion (λ e. e.delivered ≡ false) es
+      → AllByRecursion IsStandard (map (entry_in bytes fields) es)
   standard_told [] h = tt
   standard_told (e ∷ es) h = (ap (λ (b : Bool). delivery_if b e.elapsed e.count) h.0, standard_told es h.1)
 
-pub rows_of : (bytes : List ℕ) (fields : List FieldPlace) (es : List EntryPlace) → map (λ e. row_tree (entry_in bytes fields e)) es ≡ map row_tree (map (entry_in bytes fields) es)
+pub rows_of : (bytes : List ℕ) (fields : List FieldPlace) (es : List EntryPlace)
+    → map (λ e. row_tree (entry_in bytes fields e)) es ≡ map row_tree (map (entry_in bytes fields) es)
 rows_of bytes fields [] = refl
-rows_of bytes fields (e ∷ es) = ap (λ (ts : List Tree). row_tree (entry_in bytes fields e) ∷ ts) (rows_of bytes fields es)
+rows_of bytes fields (e ∷ es) = ap (λ (ts : List Tree). row_tree (entry_in bytes fields e) ∷ ts)
+    (rows_of bytes fields es)
 
 -- a value is a whole reply: no value begins with the byte of a message that is pushed
-reads_reply : (limits : Limits) (d : ℕ) (bytes : List ℕ) (x : Answer × List ℕ) → d ≡ limits.depth → value_at limits d bytes ≡ Ok x → reply_at limits bytes ≡ Ok x
+reads_reply : (limits : Limits) (d : ℕ) (bytes : List ℕ) (x : Answer × List ℕ) → d ≡ limits.depth
+    → value_at limits d bytes ≡ Ok x → reply_at limits bytes ≡ Ok x
 unfolding value_at level by_kind reply_at
 reads_reply limits zero bytes x is e = absurd cc
 reads_reply limits (suc d) bytes x is e = told bytes e
   where
-    by : (b : ℕ) (bytes : List ℕ) (c : Bool) → (b == 62) ≡ c → level limits (value_at limits d) (b ∷ bytes) ≡ Ok x → cond c (push_at limits bytes) (value_at limits limits.depth (b ∷ bytes)) ≡ Ok x
-    by b bytes true is_push e = let at : b ≡ 62 = eqb-true b 62 is_push in let none : kind_of b ≡ None = ap kind_of at in absurd cc
+    by : (b : ℕ) (bytes : List ℕ) (c : Bool) → (b == 62) ≡ c → level limits (value_at limits d) (b ∷ bytes) ≡ Ok x
+        → cond c (push_at limits bytes) (value_at limits limits.depth (b ∷ bytes)) ≡ Ok x
+    by b bytes true is_push e = let at : b ≡ 62 = eqb-true b 62 is_push in let none : kind_of b ≡ None =
+        ap kind_of at in absurd cc
     by b bytes false is_none e = ap (λ (n : ℕ). value_at limits n (b ∷ bytes)) (sym is) ∙ e
 
     told : (bytes : List ℕ) → level limits (value_at limits d) bytes ≡ Ok x → reply_at limits bytes ≡ Ok x
@@ -71,25 +89,37 @@ reads_reply limits (suc d) bytes x is e = told bytes e
     told (b ∷ bytes) e = by b bytes (b == 62) refl e
 
 -- a value that is read in place is a reply
-pub reply_is : (limits : Limits) (d : ℕ) (bytes : List ℕ) (t : Tree) (len : ℕ) → d ≡ limits.depth → len ≤ length bytes → value_at limits d bytes ≡ Ok (value t, drop len bytes) → IsReply limits (take len bytes) (value t)
+pub reply_is : (limits : Limits) (d : ℕ) (bytes : List ℕ) (t : Tree) (len : ℕ) → d ≡ limits.depth → len ≤ length bytes
+    → value_at limits d bytes ≡ Ok (value t, drop len bytes) → IsReply limits (take len bytes) (value t)
 reply_is limits d bytes t len is within read =
-    let s = (complete_sound limits bytes (value t) (drop len bytes) (reads_reply limits d bytes (value t, drop len bytes) is read)).1 in
+    let s =
+    (complete_sound limits bytes (value t) (drop len bytes)
+    (reads_reply limits d bytes (value t, drop len bytes) is read)).1 in
     let n : length bytes - length (drop len bytes) ≡ len = omega (arith, length-drop len bytes) in
     rw n at s
 
-pub range_is : (limits : Limits) (bytes : List ℕ) (at count len : ℕ) (held : Held) (es : List SentEntry) → 4 ≤ limits.depth
-    → IsArrayAt limits bytes 0 count at → EntriesAdded limits bytes at false count len none_held held → es ≡ map (entry_in bytes held.fields) held.entries → IsRange limits bytes es len
+pub range_is : (limits : Limits) (bytes : List ℕ) (at count len : ℕ) (held : Held) (es : List SentEntry)
+    → 4 ≤ limits.depth
+    → IsArrayAt limits bytes 0 count at → EntriesAdded limits bytes at false count len none_held held
+    → es ≡ map (entry_in bytes held.fields) held.entries → IsRange limits bytes es len
 range_is limits bytes at count len held es deep head h is =
     let fields_are : held.fields ≡ h.grown.more_fields = ap (λ (x : Held). x.fields) h.grown.is in
     let entries_are : held.entries ≡ h.grown.more = ap (λ (x : Held). x.entries) h.grown.is in
     let all_fields : AllByRecursion (IsField bytes) held.fields = rw fields_are h.grown.fields in
-    let es_are : es ≡ map (entry_in bytes held.fields) h.grown.more = is ∙ ap (map (entry_in bytes held.fields)) entries_are in
-    let texts : AllByRecursion IsTextEntry es = rw es_are (texts_told bytes held.fields all_fields h.grown.more h.grown.entries) in
-    let forms : AllByRecursion IsStandard es = rw es_are (standard_told bytes held.fields all_fields h.grown.more h.grown.forms) in
+    let es_are : es ≡ map (entry_in bytes held.fields) h.grown.more =
+    is ∙ ap (map (entry_in bytes held.fields)) entries_are in
+    let texts : AllByRecursion IsTextEntry es =
+    rw es_are (texts_told bytes held.fields all_fields h.grown.more h.grown.entries) in
+    let forms : AllByRecursion IsStandard es =
+    rw es_are (standard_told bytes held.fields all_fields h.grown.more h.grown.forms) in
     let d : suc (suc (suc (suc (limits.depth - 4)))) ≡ limits.depth = omega arith in
-    let rows : map (λ e. row_tree (entry_in bytes held.fields e)) h.grown.more ≡ map row_tree es = rows_of bytes held.fields h.grown.more ∙ ap (map row_tree) (sym es_are) in
-    let read : value_at limits (suc (suc (suc (suc (limits.depth - 4))))) bytes ≡ Ok (value (rows_tree es), drop len bytes) =
-    head.reads (suc (suc (suc (limits.depth - 4)))) ∙ array_of (value_at limits (suc (suc (suc (limits.depth - 4))))) count (drop at bytes) (map row_tree es) (drop len bytes) (rw rows at (h.reads (limits.depth - 4))) in
+    let rows : map (λ e. row_tree (entry_in bytes held.fields e)) h.grown.more ≡ map row_tree es =
+    rows_of bytes held.fields h.grown.more ∙ ap (map row_tree) (sym es_are) in
+    let read : value_at limits (suc (suc (suc (suc (limits.depth - 4))))) bytes
+    ≡ Ok (value (rows_tree es), drop len bytes) =
+    head.reads (suc (suc (suc (limits.depth - 4))))
+    ∙ array_of (value_at limits (suc (suc (suc (limits.depth - 4))))) count (drop at bytes) (map row_tree es)
+    (drop len bytes) (rw rows at (h.reads (limits.depth - 4))) in
     record {
       within = h.end;
       reply = reply_is limits (suc (suc (suc (suc (limits.depth - 4))))) bytes (rows_tree es) len d h.end read;

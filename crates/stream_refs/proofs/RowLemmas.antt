@@ -9,7 +9,8 @@ use Rattle.redis_resp.specs.Table.{entry_reading, table_of, on_values}
 use Rattle.redis_resp.proofs.TreeLemmas.{listed_trees}
 use Rattle.stream_entries.specs.Entry.{Entry}
 use Rattle.stream_entries.specs.Rows.{joined, field_reading, standard_entries, entries_reading, rows_reading}
-use Rattle.stream_refs.specs.Sent.{Pairs, SentEntry, members_of, fields_tree, row_tree, rows_tree, AreTextFields, IsTextEntry, IsStandard}
+use Rattle.stream_refs.specs.Sent.{Pairs, SentEntry, members_of, fields_tree, row_tree, rows_tree, AreTextFields}
+use Rattle.stream_refs.specs.Sent.{IsTextEntry, IsStandard}
 use Rattle.stream_refs.specs.Copied.{pairs_or_none, copied}
 
 -- the pairs of names and values that stand in turn
@@ -17,18 +18,23 @@ pairs_of_members : (ps : Pairs) → two_by_two (members_of ps) ≡ Some (map (λ
 pairs_of_members [] = refl
 pairs_of_members (p ∷ ps) = rw (pairs_of_members ps) refl
 
-pairs_told : (ps : Pairs) → AllByRecursion (λ p. is_utf8 p.0 ≡ true) ps → traverse (entry_reading (λ u. Some u)) (map (λ p. (bulk p.0, bulk p.1)) ps) ≡ Some (on_values bulk ps)
+pairs_told : (ps : Pairs) → AllByRecursion (λ p. is_utf8 p.0 ≡ true) ps
+    → traverse (entry_reading (λ u. Some u)) (map (λ p. (bulk p.0, bulk p.1)) ps) ≡ Some (on_values bulk ps)
 pairs_told [] h = refl
 pairs_told (p ∷ ps) h = rw (h.0, pairs_told ps h.1) refl
 
-pub fields_read : (o : Option Pairs) → AreTextFields o → field_reading (fields_tree o) ≡ Some (from_entries (table_of (on_values bulk (pairs_or_none o))))
+pub fields_read : (o : Option Pairs) → AreTextFields o → field_reading (fields_tree o)
+    ≡ Some (from_entries (table_of (on_values bulk (pairs_or_none o))))
 fields_read None h = refl
 fields_read (Some ps) h = rw (listed_trees (members_of ps), pairs_of_members ps, pairs_told ps h) refl
 
-row_read : (id : List ℕ) (o : Option Pairs) (d : Option (ℕ × ℕ)) → d ≡ None → is_utf8 id ≡ true → AreTextFields o → standard_entries (row_tree (record { id = id; fields = o; delivery = d })) ≡ Some (copied (record { id = id; fields = o; delivery = d }) ∷ [])
+row_read : (id : List ℕ) (o : Option Pairs) (d : Option (ℕ × ℕ)) → d ≡ None → is_utf8 id ≡ true → AreTextFields o
+    → standard_entries (row_tree (record { id = id; fields = o; delivery = d }))
+    ≡ Some (copied (record { id = id; fields = o; delivery = d }) ∷ [])
 row_read id o d none text names = rw (none, text, fields_read o names) refl
 
-rows_told : (es : List SentEntry) → AllByRecursion IsTextEntry es → AllByRecursion IsStandard es → traverse standard_entries (map row_tree es) ≡ Some (map (λ e. copied e ∷ []) es)
+rows_told : (es : List SentEntry) → AllByRecursion IsTextEntry es → AllByRecursion IsStandard es
+    → traverse standard_entries (map row_tree es) ≡ Some (map (λ e. copied e ∷ []) es)
 rows_told [] h s = refl
 rows_told (e ∷ es) h s = rw (row_read e.id e.fields e.delivery s.0 h.0.id h.0.names, rows_told es h.1 s.1) refl
 
@@ -36,9 +42,11 @@ joined_ones : (es : List SentEntry) → joined (map (λ e. copied e ∷ []) es) 
 joined_ones [] = refl
 joined_ones (e ∷ es) = ap (λ (xs : List Entry). copied e ∷ xs) (joined_ones es)
 
-pub range_entries : (es : List SentEntry) → AllByRecursion IsTextEntry es → AllByRecursion IsStandard es → entries_reading standard_entries (rows_tree es) ≡ Some (map copied es)
+pub range_entries : (es : List SentEntry) → AllByRecursion IsTextEntry es → AllByRecursion IsStandard es
+    → entries_reading standard_entries (rows_tree es) ≡ Some (map copied es)
 range_entries es h s = rw (listed_trees (map row_tree es), rows_told es h s, joined_ones es) refl
 
-pub range_read : (es : List SentEntry) → AllByRecursion IsTextEntry es → AllByRecursion IsStandard es → rows_reading (rows_tree es) ≡ Some (map copied es)
+pub range_read : (es : List SentEntry) → AllByRecursion IsTextEntry es → AllByRecursion IsStandard es
+    → rows_reading (rows_tree es) ≡ Some (map copied es)
 unfolding rows_reading
 range_read es h s = range_entries es h s

@@ -1,5 +1,6 @@
 -- What the filling of tables finds and adds. `d` is any number of levels behind those needed.
-use Rattle.std.specs.Prelude.{◌≡◌, ◌≤◌, ◌*◌, ℕ, suc, List, [], ◌∷◌, ◌++◌, map, flat_map, length, take, drop, Bool, Ok, if◌then◌else◌}
+use Rattle.std.specs.Prelude.{◌≡◌, ◌≤◌, ◌*◌, ℕ, suc, List, [], ◌∷◌, ◌++◌, map, flat_map, length, take, drop, Bool, Ok}
+use Rattle.std.specs.Prelude.{if◌then◌else◌}
 use Rattle.std.specs.List.{AllByRecursion}
 use Rattle.redis_resp.specs.Tree.{Tree, bulk}
 use Rattle.redis_wire.specs.declared.limits.Limits.{Limits}
@@ -11,7 +12,8 @@ use Rattle.stream_refs.specs.declared.places.FieldPlace.{FieldPlace}
 use Rattle.stream_refs.specs.declared.places.EntryPlace.{EntryPlace}
 use Rattle.stream_refs.specs.declared.places.StreamPlace.{StreamPlace}
 use Rattle.stream_refs.specs.Held.{Held}
-use Rattle.stream_refs.specs.Sent.{SentStream, members_of, fields_tree, delivery_trees, row_tree, rows_tree, stream_tree, IsReadTree}
+use Rattle.stream_refs.specs.Sent.{SentStream, members_of, fields_tree, delivery_trees, row_tree, rows_tree}
+use Rattle.stream_refs.specs.Sent.{stream_tree, IsReadTree}
 use Rattle.stream_refs.specs.Placed.{field_in, fields_if, delivery_if, entry_in, stream_in, IsField, IsEntry, IsStream}
 
 -- fields that were added, all of them within the bytes
@@ -28,7 +30,8 @@ pub record FieldsAdded (limits : Limits) (bytes : List ℕ) (at count after : �
       ≡ Ok (values (members_of (map (field_in bytes) grown.more)), drop after bytes)
 
 -- From `at` on there are the fields of an entry, or nil where they are deleted.
-pub record OwnAdded (limits : Limits) (bytes : List ℕ) (at : ℕ) (deleted : Bool) (after : ℕ) (old new : Held) : Type 0 where
+pub record OwnAdded (limits : Limits) (bytes : List ℕ) (at : ℕ) (deleted : Bool) (after : ℕ)
+    (old new : Held) : Type 0 where
   pub grown : FieldsGrown bytes old new
   pub end : after ≤ length bytes
   pub reads : (d : ℕ) → value_at limits (suc (suc d)) (drop at bytes)
@@ -43,13 +46,15 @@ abbrev pub row_count : Bool → ℕ
 row_count claim = suc (suc (delivery_count claim))
 
 -- From `at` on there are the two numbers of a delivery, where the form has them.
-pub record IsDeliveryAt (limits : Limits) (bytes : List ℕ) (at : ℕ) (claim : Bool) (elapsed count after : ℕ) : Type 0 where
+pub record IsDeliveryAt (limits : Limits) (bytes : List ℕ) (at : ℕ) (claim : Bool)
+    (elapsed count after : ℕ) : Type 0 where
   pub end : after ≤ length bytes
   pub reads : (d : ℕ) → many (value_at limits (suc d)) (delivery_count claim) (drop at bytes)
       ≡ Ok (values (delivery_trees (delivery_if claim elapsed count)), drop after bytes)
 
 -- From `at` on there is an entry of that form, whose fields are added.
-pub record EntryAdded (limits : Limits) (bytes : List ℕ) (at : ℕ) (claim : Bool) (after : ℕ) (e : EntryPlace) (old new : Held) : Type 0 where
+pub record EntryAdded (limits : Limits) (bytes : List ℕ) (at : ℕ) (claim : Bool) (after : ℕ) (e : EntryPlace)
+    (old new : Held) : Type 0 where
   pub grown : FieldsGrown bytes old new
   pub entry : IsEntry bytes (length new.fields) e
   pub form : e.delivered ≡ claim
@@ -67,7 +72,8 @@ pub record Grown (bytes : List ℕ) (claim : Bool) (old new : Held) : Type 0 whe
   pub fields : AllByRecursion (IsField bytes) more_fields
 
 -- From `at` on there are so many entries of that form, which are added with their fields.
-pub record EntriesAdded (limits : Limits) (bytes : List ℕ) (at : ℕ) (claim : Bool) (count after : ℕ) (old new : Held) : Type 0 where
+pub record EntriesAdded (limits : Limits) (bytes : List ℕ) (at : ℕ) (claim : Bool) (count after : ℕ)
+    (old new : Held) : Type 0 where
   pub grown : Grown bytes claim old new
   pub end : after ≤ length bytes
   pub reads : (d : ℕ) → many (value_at limits (suc (suc (suc d)))) count (drop at bytes)
@@ -86,11 +92,14 @@ stream_count in_map = if in_map then 2 else 1
 pub record IsStreamHead (limits : Limits) (bytes : List ℕ) (at : ℕ) (in_map : Bool) (behind : ℕ) : Type 0 where
   pub end : behind ≤ length bytes
   pub reads : (d : ℕ) (s : SentStream) (after : ℕ)
-      → ((e : ℕ) → many (value_at limits (suc (suc (suc (suc e))))) 2 (drop behind bytes) ≡ Ok (values (bulk s.name ∷ rows_tree s.entries ∷ []), drop after bytes))
-      → many (value_at limits (suc (suc (suc (suc (suc d)))))) (stream_count in_map) (drop at bytes) ≡ Ok (values (stream_members in_map s), drop after bytes)
+      → ((e : ℕ) → many (value_at limits (suc (suc (suc (suc e))))) 2 (drop behind bytes)
+      ≡ Ok (values (bulk s.name ∷ rows_tree s.entries ∷ []), drop after bytes))
+      → many (value_at limits (suc (suc (suc (suc (suc d)))))) (stream_count in_map) (drop at bytes)
+      ≡ Ok (values (stream_members in_map s), drop after bytes)
 
 -- From `at` on there is a stream, whose entries are added.
-pub record StreamAdded (limits : Limits) (bytes : List ℕ) (at : ℕ) (in_map claim : Bool) (after : ℕ) (s : StreamPlace) (old new : Held) : Type 0 where
+pub record StreamAdded (limits : Limits) (bytes : List ℕ) (at : ℕ) (in_map claim : Bool) (after : ℕ) (s : StreamPlace)
+    (old new : Held) : Type 0 where
   pub grown : Grown bytes claim old new
   pub stream : IsStream bytes (length new.entries) s
   pub end : after ≤ length bytes
@@ -105,11 +114,16 @@ pub record AreWithin (bytes : List ℕ) (claim : Bool) (held : Held) : Type 0 wh
   pub fields : AllByRecursion (IsField bytes) held.fields
 
 -- From `at` on there are so many streams, and the tables hold these and nothing else.
-pub record StreamsAdded (limits : Limits) (bytes : List ℕ) (at : ℕ) (in_map claim : Bool) (count after : ℕ) (held : Held) : Type 0 where
+pub record StreamsAdded (limits : Limits) (bytes : List ℕ) (at : ℕ) (in_map claim : Bool) (count after : ℕ)
+    (held : Held) : Type 0 where
   pub within : AreWithin bytes claim held
   pub end : after ≤ length bytes
-  pub reads : (d : ℕ) → many (value_at limits (suc (suc (suc (suc (suc d)))))) (stream_count in_map * count) (drop at bytes)
-      ≡ Ok (values (flat_map (stream_members in_map) (map (stream_in bytes held.entries held.fields) held.streams)), drop after bytes)
+  pub reads : (d : ℕ) → many (value_at limits (suc (suc (suc (suc (suc d)))))) (stream_count in_map * count)
+      (drop at bytes)
+      ≡ Ok (
+        values (flat_map (stream_members in_map) (map (stream_in bytes held.entries held.fields) held.streams)),
+        drop after bytes,
+      )
 
 -- The tables hold the streams of the reply that the first `len` bytes are, and nothing else.
 pub record IsFilled (limits : Limits) (bytes : List ℕ) (claim : Bool) (len : ℕ) (held : Held) : Type 0 where

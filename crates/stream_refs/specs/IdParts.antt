@@ -1,5 +1,6 @@
 -- Ids as numbers, in the order of a stream, and as texts.
-use Rattle.std.specs.Prelude.{ℕ, ◌+◌, ◌*◌, ◌==◌, Bool, not, List, [], ◌∷◌, ◌++◌, take, drop, decimal, Option, None, option_map, option_and_then}
+use Rattle.std.specs.Prelude.{ℕ, ◌+◌, ◌*◌, ◌==◌, Bool, not, List, [], ◌∷◌, ◌++◌, take, drop, decimal, Option, None}
+use Rattle.std.specs.Prelude.{option_map, option_and_then}
 use Rattle.std.specs.List.{prefix_len}
 use Rattle.redis_resp.specs.Number.{unsigned_of, within}
 use Rattle.stream_refs.specs.declared.id_parts.StreamIdParts.{StreamIdParts}

@@ -21,7 +21,8 @@ use Rattle.stream_refs.specs.Range.{IsRange, IsRead}
 -- in place, or the record of the reply at the head, or no reply, now or whatever comes behind
 abbrev pub IsRangeOutcome : Limits → List ℕ → Result RangeOutcome WireError → Type 0
 IsRangeOutcome limits bytes (Ok (ranges.InPlace r)) = IsRange limits bytes r.entries r.len
-IsRangeOutcome limits bytes (Ok (ranges.Copied reply len)) = (a : Answer) × (len ≤ length bytes) × IsReply limits (take len bytes) a
+IsRangeOutcome limits bytes (Ok (ranges.Copied reply len)) =
+    (a : Answer) × (len ≤ length bytes) × IsReply limits (take len bytes) a
     × IsRecord rows_reading RefusesRows (λ r. entries_of r.ids) a reply
 IsRangeOutcome limits bytes (Ok ranges.Incomplete) = NoReply limits bytes
 IsRangeOutcome limits bytes (Err errors.Memory) = Unit {0}
@@ -30,7 +31,8 @@ IsRangeOutcome limits bytes (Err (errors.Fault fault)) = (more : List ℕ) → N
 -- the same of a read
 abbrev pub IsReadOutcome : Limits → List ℕ → Result ReadOutcome WireError → Type 0
 IsReadOutcome limits bytes (Ok (reads.InPlace r)) = IsRead limits bytes r.streams r.len
-IsReadOutcome limits bytes (Ok (reads.Copied reply len)) = (a : Answer) × (len ≤ length bytes) × IsReply limits (take len bytes) a
+IsReadOutcome limits bytes (Ok (reads.Copied reply len)) =
+    (a : Answer) × (len ≤ length bytes) × IsReply limits (take len bytes) a
     × IsRecord read_reading RefusesRead (λ r. streams_of r.keys) a reply
 IsReadOutcome limits bytes (Ok reads.Incomplete) = NoReply limits bytes
 IsReadOutcome limits bytes (Err errors.Memory) = Unit {0}

@@ -34,6 +34,27 @@ impl EntryTape {
         }
     }
 
+    /// Where the streams stand that were found last.
+    pub fn stream_places(&self) -> &[StreamPlace]
+        ensures { result.now ≡ (⟦<EntryTape as Places>⟧.held self.now).streams }
+    {
+        &self.streams
+    }
+
+    /// Where the entries stand, of all streams.
+    pub fn entry_places(&self) -> &[EntryPlace]
+        ensures { result.now ≡ (⟦<EntryTape as Places>⟧.held self.now).entries }
+    {
+        &self.entries
+    }
+
+    /// Where the fields stand, of all entries.
+    pub fn field_places(&self) -> &[FieldPlace]
+        ensures { result.now ≡ (⟦<EntryTape as Places>⟧.held self.now).fields }
+    {
+        &self.fields
+    }
+
     /// Reads the entries of the reply at the head of bytes where they stand, where it has the shape in
     /// which servers answer XRANGE, XREVRANGE and XCLAIM: an array of rows, each of an id and an array
     /// of names and values, or nil for the fields of an entry that was deleted.

@@ -10,4 +10,6 @@ use Rattle.reply_bench.proofs.replies.pairs.Goals as goal
 pub loop-number-preserved : goal.loop-number-preserved
 loop-number-preserved c =
     let name : tree c.text.result ≡ bulk (codes "n" ++ decimal c.loop-number.number-counter) = search rules in
-    two_pushed pair_trees c.loop-number.number-counter _ _ _ _ _ c.in_ok-push.ensures.items c.in_ok-push-2.ensures.items c.loop-number.invariant (rw (name, tree-Int (pos 7)) refl)
+    two_pushed pair_trees c.loop-number.number-counter _ _ _ _ _ c.in_ok-push.ensures.items c.in_ok-push-2.ensures.items
+    c.loop-number.invariant
+    (rw (name, tree-Int (pos 7)) refl)

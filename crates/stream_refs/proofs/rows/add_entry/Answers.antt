@@ -12,7 +12,12 @@ returns g c =
     let from : c.count_fields-from.result ≡ length old.fields = search rules in
     let to : c.count_fields.result ≡ length new.fields = search rules in
     let members : c.in-Some.members ≡ row_count c.args.claim = search rules in
-    let row : IsArrayAt c.args.limits bytes c.args.at (row_count c.args.claim) c.in-Some.behind = rw members at c.in-Some.ensures in
-    let own : OwnAdded c.args.limits bytes c.in-Some-name_at.behind c.in-Some-2.deleted c.in-Some-2.behind old new = rw c.in-Some-2.is at c.in_ok-deleted.ensures in
-    entry_added c.args.limits bytes c.args.at c.in-Some.behind c.in-Some-name_at.behind c.in-Some-2.behind c.in-Some-delivery_at.after c.args.claim c.in-Some-name_at.id old new c.in-Some-2.deleted c.in-Some-delivery_at.elapsed c.in-Some-delivery_at.count
-    c.count_fields-from.result c.count_fields.result from to row c.in-Some-name_at.ensures.is c.in-Some-name_at.ensures.text own c.in-Some-delivery_at.ensures
+    let row : IsArrayAt c.args.limits bytes c.args.at (row_count c.args.claim) c.in-Some.behind =
+    rw members at c.in-Some.ensures in
+    let own : OwnAdded c.args.limits bytes c.in-Some-name_at.behind c.in-Some-2.deleted c.in-Some-2.behind old new =
+    rw c.in-Some-2.is at c.in_ok-deleted.ensures in
+    entry_added c.args.limits bytes c.args.at c.in-Some.behind c.in-Some-name_at.behind c.in-Some-2.behind
+    c.in-Some-delivery_at.after c.args.claim c.in-Some-name_at.id old new c.in-Some-2.deleted
+    c.in-Some-delivery_at.elapsed c.in-Some-delivery_at.count
+    c.count_fields-from.result c.count_fields.result from to row c.in-Some-name_at.ensures.is
+    c.in-Some-name_at.ensures.text own c.in-Some-delivery_at.ensures

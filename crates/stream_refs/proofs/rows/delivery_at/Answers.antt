@@ -10,4 +10,6 @@ returns-then-not-claim c =
 pub returns : goal.returns
 returns c =
     let is : c.args.claim ≡ true = search rules in
-    rw is (delivery_is c.args.limits c.args.bytes.now c.args.at c.in_ok-elapsed.elapsed c.in_ok-count.count c.in_ok-elapsed.behind c.in_ok-count.after c.in_ok-elapsed.ensures c.in_ok-count.ensures)
+    rw is
+    (delivery_is c.args.limits c.args.bytes.now c.args.at c.in_ok-elapsed.elapsed c.in_ok-count.count
+    c.in_ok-elapsed.behind c.in_ok-count.after c.in_ok-elapsed.ensures c.in_ok-count.ensures)

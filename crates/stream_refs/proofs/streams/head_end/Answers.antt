@@ -6,7 +6,9 @@ pub returns-in-2-default : goal.returns-in-2-default
 returns-in-2-default c =
     let is : c.args.in_map ≡ false = search rules in
     let two : c.in_ok-behind.field-0.0 ≡ 2 = search rules in
-    rw is (head_in_array c.args.limits c.args.bytes.now c.args.at c.in_ok-behind.field-0.1 (rw two at c.in_ok-behind.ensures))
+    rw is
+    (head_in_array c.args.limits c.args.bytes.now c.args.at c.in_ok-behind.field-0.1
+    (rw two at c.in_ok-behind.ensures))
 
 pub returns-then-in_map : goal.returns-then-in_map
 returns-then-in_map c =

@@ -12,12 +12,27 @@ loop-place-preserved c =
     elim c.if-eq.branch [
       | then-eq w ↦
           record {
-            each = each_left bytes name fields c.loop-place.place-index any_field (option_map (λ v. v.now) c.loop-place.found) _ c.loop-place-test.true c.loop-place.invariant.each c.loop-place.invariant.so_far;
-            so_far = got_it bytes name fields c.loop-place.place-index _ (option_map (λ v. v.now) c.loop-place.found) _ c.loop-place-test.true c.loop-place.invariant.each c.loop-place.invariant.so_far text _ c.text_in.ensures (sym c.eq.ensures ∙ w.if-eq.true) (ap (option_map (λ (v : Bor (List ℕ)). v.now)) w.found-is ∙ ap Some w.text_in-then-eq.ensures);
+            each = each_left bytes name fields c.loop-place.place-index any_field
+                (option_map
+                (λ v. v.now) c.loop-place.found) _ c.loop-place-test.true c.loop-place.invariant.each
+                c.loop-place.invariant.so_far;
+            so_far = got_it bytes name fields c.loop-place.place-index _
+                (option_map
+                (λ v. v.now) c.loop-place.found) _ c.loop-place-test.true c.loop-place.invariant.each
+                c.loop-place.invariant.so_far text _ c.text_in.ensures
+                (sym c.eq.ensures ∙ w.if-eq.true) (ap (option_map (λ (v : Bor (List ℕ)). v.now)) w.found-is
+                ∙ ap Some w.text_in-then-eq.ensures);
           }
       | else-eq w ↦
           record {
-            each = each_left bytes name fields c.loop-place.place-index any_field (option_map (λ v. v.now) c.loop-place.found) _ c.loop-place-test.true c.loop-place.invariant.each c.loop-place.invariant.so_far;
-            so_far = got_other bytes name fields c.loop-place.place-index _ (option_map (λ v. v.now) c.loop-place.found) _ c.loop-place-test.true c.loop-place.invariant.each c.loop-place.invariant.so_far text _ c.text_in.ensures (sym c.eq.ensures ∙ w.if-eq.false) (ap (option_map (λ (v : Bor (List ℕ)). v.now)) w.found-is);
+            each = each_left bytes name fields c.loop-place.place-index any_field
+                (option_map
+                (λ v. v.now) c.loop-place.found) _ c.loop-place-test.true c.loop-place.invariant.each
+                c.loop-place.invariant.so_far;
+            so_far = got_other bytes name fields c.loop-place.place-index _
+                (option_map
+                (λ v. v.now) c.loop-place.found) _ c.loop-place-test.true c.loop-place.invariant.each
+                c.loop-place.invariant.so_far text _ c.text_in.ensures
+                (sym c.eq.ensures ∙ w.if-eq.false) (ap (option_map (λ (v : Bor (List ℕ)). v.now)) w.found-is);
           }
     ]

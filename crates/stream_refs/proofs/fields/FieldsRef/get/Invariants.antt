@@ -8,5 +8,6 @@ use Rattle.stream_refs.proofs.fields.FieldsRef.get.Given as goal
 abbrev pub invariant-loop-place : goal.invariant-loop-place
 invariant-loop-place l = record {
   each : AllByRecursion (IsField l.self-inside.bytes.now) (drop l.place-index l.place-items);
-  so_far : option_or (last_with l.name (map (field_in l.self-inside.bytes.now) (drop l.place-index l.place-items))) (option_map (λ v. v.now) l.found) ≡ last_with l.name l.fn.self;
+  so_far : option_or (last_with l.name (map (field_in l.self-inside.bytes.now) (drop l.place-index l.place-items)))
+      (option_map (λ v. v.now) l.found) ≡ last_with l.name l.fn.self;
 }

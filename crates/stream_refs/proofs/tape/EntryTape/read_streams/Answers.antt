@@ -9,6 +9,8 @@ pub returns-in-Some : goal.returns-in-Some
 returns-in-Some c =
     let new = c.find_form.new.places in
     let held : Held = record { streams = new.streams.items; entries = new.entries.items; fields = new.fields.items } in
-    let filled : IsFilled c.args.limits c.args.bytes.now false c.in-Some.len held = rw c.in-Some.is at c.in_ok-find_form.ensures in
-    let ss : c.streams_at.result ≡ map (stream_in c.args.bytes.now held.entries held.fields) held.streams = search rules in
+    let filled : IsFilled c.args.limits c.args.bytes.now false c.in-Some.len held =
+    rw c.in-Some.is at c.in_ok-find_form.ensures in
+    let ss : c.streams_at.result ≡ map (stream_in c.args.bytes.now held.entries held.fields) held.streams =
+    search rules in
     read_is c.args.limits c.args.bytes.now c.in-Some.len held c.streams_at.result filled ss

@@ -1,0 +1,34 @@
+-- What has been read.
+use Rattle.std.specs.Prelude.{◌≡◌, ◌≤◌, ℕ, List, take, length, Some}
+use Rattle.redis_resp.specs.Tree.{Tree}
+use Rattle.redis_wire.specs.Limits.{default_limits}
+use Rattle.redis_wire.specs.Reply.{Answer, value}
+use Rattle.redis_wire.specs.Grammar.{IsReply}
+use Rattle.stream_entries.specs.Read.{read_reading, Streams}
+use Rattle.stream_refs.specs.Sent.{SentStream}
+use Rattle.stream_refs.specs.Range.{IsRead}
+
+-- the bytes begin with a reply of that length
+abbrev pub IsHead : List ℕ → ℕ → Type 0
+IsHead bytes len = (a : Answer) × (len ≤ length bytes) × IsReply default_limits (take len bytes) a
+
+-- The bytes begin with a reply that has a record.
+pub record HasRecord (bytes : List ℕ) : Type 0 where
+  pub len : ℕ
+  pub tree : Tree
+  pub reply : IsReply default_limits (take len bytes) (value tree)
+  pub streams : Streams
+  pub reading : read_reading tree ≡ Some streams
+
+-- The bytes begin with a reply of so many streams, which stand there.
+pub record HasStreams (bytes : List ℕ) (count : ℕ) : Type 0 where
+  pub len : ℕ
+  pub streams : List SentStream
+  pub is : IsRead default_limits bytes streams len
+  pub so_many : count ≡ length streams
+
+-- The bytes begin with a reply whose streams stand there.
+pub record AreInPlace (bytes : List ℕ) : Type 0 where
+  pub len : ℕ
+  pub streams : List SentStream
+  pub is : IsRead default_limits bytes streams len
