@@ -1,0 +1,160 @@
+/* Redis streams for C: replies read where they stand in the bytes of a connection, and commands written
+   into a buffer of the caller.
+
+   The library is proved: what a comment here says of a call is a contract of the function behind it.
+   Three things are the caller's, and nothing checks them:
+
+   - A pointer that is followed by a number points to that many bytes or items, which nothing else
+     writes during the call. Two things that a call writes to do not overlap each other or what it
+     reads. No pointer is null, also where the number is 0.
+   - Tables are zeroed before the first call (`= {0}` or calloc): a `bool` holds 0 or 1 at all times.
+   - `malloc`, `realloc` and `free` are those of the C library.
+
+   No call ends the process, unwinds or keeps anything: there is no state, so any thread may call at any
+   time. Texts are not ended by a zero. A place is a number of bytes from the start of the bytes that were
+   handed in, so it stays true where these are moved. */
+#ifndef REDIS_STREAMS_H
+#define REDIS_STREAMS_H
+
+#include <stdbool.h>
+#include <stddef.h>
+#include <stdint.h>
+
+#ifdef __cplusplus
+extern "C" {
+#endif
+
+/* What a call says. A number from REDIS_FAULT on is a fault of the bytes. */
+enum {
+    REDIS_OK = 0,           /* it is done */
+    REDIS_ROOM = 1,         /* there is too little room, and so much is wanted */
+    REDIS_INCOMPLETE = 2,   /* the bytes end before the reply does: call again with more of them */
+    REDIS_SERVER_ERROR = 3, /* the server answered an error */
+    REDIS_OTHER = 4,        /* a reply of another shape than the call reads */
+    REDIS_MEMORY = 5,       /* out of memory; it says nothing of the bytes */
+    REDIS_TOO_LARGE = 6,    /* an argument of 2^32 bytes or more */
+
+    /* The bytes are no reply, however they go on: the first fault that reading from the left meets. */
+    REDIS_FAULT = 16,
+    REDIS_FAULT_UNKNOWN_TYPE = 16, /* the first byte of a value names no type of the protocol */
+    REDIS_FAULT_STREAMED = 17,     /* a value with no length in front of it */
+    REDIS_FAULT_BAD_END = 18,      /* a line or a bulk string does not end in CR LF */
+    REDIS_FAULT_BAD_LENGTH = 19,   /* not a length */
+    REDIS_FAULT_TOO_LONG = 20,     /* a length over 512 MiB */
+    REDIS_FAULT_LONG_LINE = 21,    /* a line over 64 KiB */
+    REDIS_FAULT_TOO_DEEP = 22,     /* more than 128 levels of values */
+    REDIS_FAULT_BAD_NUMBER = 23,   /* not a number of 64 bits */
+    REDIS_FAULT_BAD_NULL = 24,     /* a null with bytes of its own */
+    REDIS_FAULT_BAD_BOOLEAN = 25,  /* neither `t` nor `f` */
+    REDIS_FAULT_NOT_UTF8 = 26,     /* a text that has to be UTF-8 and is not */
+    REDIS_FAULT_BAD_VERBATIM = 27, /* not a verbatim string */
+    REDIS_FAULT_BAD_PUSH = 28,     /* not a push */
+    REDIS_FAULT_OVERFULL = 29      /* no call here answers it */
+};
+
+/* Where a text stands in bytes. */
+typedef struct {
+    size_t start; /* so many bytes stand before it */
+    size_t len;   /* how many bytes it has */
+} redis_span;
+
+/* Where a field stands. The name is UTF-8; the value is any bytes. */
+typedef struct {
+    redis_span name;
+    redis_span value;
+} redis_field;
+
+/* Where an entry stands. Its fields are those from `from` on, up to but without `to`. */
+typedef struct {
+    redis_span id; /* UTF-8, such as 1526919030474-55 */
+    size_t from;
+    size_t to;
+    bool deleted;     /* nil stands in place of the fields: the entry was deleted */
+    bool delivered;   /* the reply says when and how often the entry was delivered */
+    uint64_t elapsed; /* so many milliseconds ago, and 0 where the reply does not say */
+    uint64_t count;   /* so often, and 0 where the reply does not say */
+} redis_entry;
+
+/* Where a stream stands. Its entries are those from `from` on, up to but without `to`. */
+typedef struct {
+    redis_span name; /* UTF-8 */
+    size_t from;
+    size_t to;
+} redis_stream;
+
+/* What a reading found. */
+typedef struct {
+    size_t len;       /* how many bytes the reply has: the next one stands behind them; 0 where there is none */
+    size_t streams;   /* how many streams, entries of all of them, and fields of all of these: with */
+    size_t entries;   /*     REDIS_OK the tables begin with so many, with REDIS_ROOM so many are wanted, */
+    size_t fields;    /*     and else these are 0 */
+    redis_span error; /* where the text of the server's error stands, with REDIS_SERVER_ERROR */
+} redis_found;
+
+/* Finds the streams and entries of the reply of XREAD or XREADGROUP at the head of `bytes`, in RESP2 and
+   RESP3, where it has the shape in which servers send it.
+
+   REDIS_OK: the first `found->len` bytes are the reply, and these are its streams, entries and fields, in
+   the order of the reply and none left out; nil, which says that nothing came in time, has no streams.
+   REDIS_ROOM: such a reply too, of so many streams, entries and fields, for which the tables are too small.
+   REDIS_INCOMPLETE: no beginning of `bytes` is a reply.
+   REDIS_SERVER_ERROR: the first `found->len` bytes are an error, whose text stands at `found->error`.
+   REDIS_OTHER: the first `found->len` bytes are another reply.
+   REDIS_FAULT and above: no beginning of `bytes` is a reply, whatever comes behind. */
+uint32_t redis_find_streams(const uint8_t *bytes, size_t len, redis_stream *streams, size_t stream_room,
+                            redis_entry *entries, size_t entry_room, redis_field *fields, size_t field_room,
+                            redis_found *found);
+
+/* Finds the entries of the reply of XRANGE, XREVRANGE or XCLAIM at the head of `bytes`. It answers as
+   `redis_find_streams` does, and `found->streams` is 0. */
+uint32_t redis_find_range(const uint8_t *bytes, size_t len, redis_entry *entries, size_t entry_room,
+                          redis_field *fields, size_t field_room, redis_found *found);
+
+/* What a read of a group asks for. */
+typedef struct {
+    bool counts;  /* at most `count` entries are read */
+    bool blocks;  /* the read waits up to `block` milliseconds for entries, and 0 without end */
+    bool noack;   /* what is read needs no acknowledgement */
+    bool claims;  /* entries that are idle for `claim` milliseconds are claimed and read first */
+    size_t count;
+    size_t block;
+    size_t claim;
+} redis_read_settings;
+
+/* Each of the calls below packs one command, as a server reads it.
+
+   REDIS_OK: `out` begins with the command, of `*len` bytes.
+   REDIS_ROOM: the command has `*len` bytes, for which `room` is too little.
+   REDIS_MEMORY, REDIS_TOO_LARGE: there is no command, and `*len` is 0.
+
+   Texts are any bytes. Memory is taken for the command, and given back before the call ends. */
+
+/* XREADGROUP GROUP group consumer [BLOCK n] [COUNT n] [NOACK] [CLAIM n] STREAMS key id
+   With ">" as id it asks for entries that no consumer was given yet. */
+uint32_t redis_xreadgroup(const redis_read_settings *settings, const uint8_t *group, size_t group_len,
+                          const uint8_t *consumer, size_t consumer_len, const uint8_t *key, size_t key_len,
+                          const uint8_t *id, size_t id_len, uint8_t *out, size_t room, size_t *len);
+
+/* XACK key group id */
+uint32_t redis_xack(const uint8_t *key, size_t key_len, const uint8_t *group, size_t group_len, const uint8_t *id,
+                    size_t id_len, uint8_t *out, size_t room, size_t *len);
+
+/* XAUTOCLAIM key group consumer min-idle start COUNT count; `min_idle` in milliseconds */
+uint32_t redis_xautoclaim(const uint8_t *key, size_t key_len, const uint8_t *group, size_t group_len,
+                          const uint8_t *consumer, size_t consumer_len, size_t min_idle, const uint8_t *start,
+                          size_t start_len, size_t count, uint8_t *out, size_t room, size_t *len);
+
+/* XPENDING key group start end count */
+uint32_t redis_xpending(const uint8_t *key, size_t key_len, const uint8_t *group, size_t group_len,
+                        const uint8_t *start, size_t start_len, const uint8_t *end, size_t end_len, size_t count,
+                        uint8_t *out, size_t room, size_t *len);
+
+/* XTRIM key MAXLEN = n, and with ~ in place of = where `about` is true: about so many, or some more */
+uint32_t redis_xtrim(const uint8_t *key, size_t key_len, bool about, size_t maxlen, uint8_t *out, size_t room,
+                     size_t *len);
+
+#ifdef __cplusplus
+}
+#endif
+
+#endif

@@ -1,0 +1,4 @@
+pub mod Outcome
+pub mod Told
+pub mod Packing
+pub mod Commands

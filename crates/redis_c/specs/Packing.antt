@@ -1,0 +1,40 @@
+-- What C is told of a command that is packed.
+use Rattle.std.specs.Prelude.{◌≡◌, ℕ, List, length, take}
+use Rattle.redis_wire.specs.Packed.{command_bytes}
+use Rattle.redis_wire.specs.PackedArgs.{IsTooLarge}
+use Rattle.redis_c.specs.declared.packing.Packing.{Packing}
+use Rattle.redis_c.specs.declared.packing.Packing.TheVariants as packings
+
+-- the number of what packing comes to; no two kinds have one
+abbrev pub number : Packing → ℕ
+number (packings.Written len) = 0
+number (packings.Room len) = 1
+number packings.Memory = 5
+number packings.TooLarge = 6
+
+-- how many bytes were written, or are wanted
+abbrev pub len_of : Packing → ℕ
+len_of (packings.Written len) = len
+len_of (packings.Room len) = len
+len_of packings.Memory = 0
+len_of packings.TooLarge = 0
+
+-- the buffer begins with the bytes, and they are so many; or so many are wanted
+abbrev pub IsWritten : List ℕ → List ℕ → Packing → Type 0
+IsWritten bytes out (packings.Written len) = (length bytes ≡ len) × (take len out ≡ bytes)
+IsWritten bytes out (packings.Room len) = length bytes ≡ len
+IsWritten bytes out _ = ⊥
+
+-- The buffer begins with the command of these arguments, or so many bytes are wanted for it; memory ran
+-- out; or an argument is too large.
+abbrev pub IsPacking : List (List ℕ) → List ℕ → Packing → Type 0
+IsPacking args out packings.Memory = Unit {0}
+IsPacking args out packings.TooLarge = IsTooLarge args
+IsPacking args out p = IsWritten (command_bytes args) out p
+
+-- C is told by the number of what packing comes to, and how many bytes were written or are wanted.
+pub record IsPackedAs (P : Packing → Type 0) (n count : ℕ) : Type 0 where
+  pub packing : Packing
+  pub told : n ≡ number packing
+  pub counted : count ≡ len_of packing
+  pub is : P packing

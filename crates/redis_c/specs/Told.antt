@@ -1,0 +1,79 @@
+-- What C is told of the bytes of a reply.
+use Rattle.std.specs.Prelude.{◌≡◌, ◌≤◌, ◌++◌, ℕ, List, length, take, map}
+use Rattle.redis_wire.specs.Limits.{default_limits}
+use Rattle.redis_wire.specs.Reply.{Answer, refused}
+use Rattle.redis_wire.specs.Grammar.{IsReply}
+use Rattle.redis_wire.specs.Decoded.{NoReply}
+use Rattle.redis_wire.specs.Place.{text_in}
+use Rattle.stream_refs.specs.declared.places.FieldPlace.{FieldPlace}
+use Rattle.stream_refs.specs.declared.places.EntryPlace.{EntryPlace}
+use Rattle.stream_refs.specs.declared.places.StreamPlace.{StreamPlace}
+use Rattle.stream_refs.specs.Held.{Held}
+use Rattle.stream_refs.specs.Placed.{entry_in, stream_in}
+use Rattle.stream_refs.specs.Range.{IsRange, IsRead}
+use Rattle.redis_c.specs.declared.outcome.Counts.{Counts}
+use Rattle.redis_c.specs.declared.outcome.Found.{Found}
+use Rattle.redis_c.specs.declared.outcome.Outcome.{Outcome}
+use Rattle.redis_c.specs.declared.outcome.Outcome.TheVariants as outcomes
+use Rattle.redis_c.specs.Outcome.{code, found}
+
+-- The first `len` bytes are a reply, whose entries stand at these places.
+abbrev pub RangeIn : List ℕ → ℕ → Held → Type 0
+RangeIn bytes len held = IsRange default_limits bytes (map (entry_in bytes held.fields) held.entries) len
+
+-- The first `len` bytes are a reply, whose streams stand at these places.
+abbrev pub StreamsIn : List ℕ → ℕ → Held → Type 0
+StreamsIn bytes len held =
+    IsRead default_limits bytes (map (stream_in bytes held.entries held.fields) held.streams) len
+
+-- so many places
+pub record HasCounts (counts : Counts) (held : Held) : Type 0 where
+  pub streams : counts.streams ≡ length held.streams
+  pub entries : counts.entries ≡ length held.entries
+  pub fields : counts.fields ≡ length held.fields
+
+-- The first `len` bytes are this answer.
+pub record IsAnswered (bytes : List ℕ) (len : ℕ) (a : Answer) : Type 0 where
+  pub within : len ≤ length bytes
+  pub reply : IsReply default_limits (take len bytes) a
+
+-- Where no entries stand in place: no reply, now or whatever comes behind; an error of the server,
+-- whose text stands there; or a reply of another shape.
+abbrev pub IsOther : List ℕ → Outcome → Type 0
+IsOther bytes outcomes.Incomplete = NoReply default_limits bytes
+IsOther bytes (outcomes.ServerError len text) = IsAnswered bytes len (refused (text_in bytes text))
+IsOther bytes (outcomes.OtherShape len) = (a : Answer) × IsAnswered bytes len a
+IsOther bytes outcomes.Memory = Unit {0}
+IsOther bytes (outcomes.Fault fault) = (more : List ℕ) → NoReply default_limits (bytes ++ more)
+IsOther bytes _ = ⊥
+
+-- the first places of tables
+abbrev pub first_of : Counts → List StreamPlace → List EntryPlace → List FieldPlace → Held
+first_of counts streams entries fields = record {
+  streams = take counts.streams streams;
+  entries = take counts.entries entries;
+  fields = take counts.fields fields;
+}
+
+-- The tables begin with the places that are held, or there are so many and no room for them.
+abbrev pub IsHanded : ℕ → Held → List StreamPlace → List EntryPlace → List FieldPlace → Outcome → Type 0
+IsHanded len held streams entries fields (outcomes.InPlace n counts) =
+    (n ≡ len) × (first_of counts streams entries fields ≡ held)
+IsHanded len held streams entries fields (outcomes.Room n counts) = (n ≡ len) × HasCounts counts held
+IsHanded len held streams entries fields _ = ⊥
+
+module _ (In : List ℕ → ℕ → Held → Type 0) (bytes : List ℕ) (streams : List StreamPlace) (entries : List EntryPlace)
+    (fields : List FieldPlace) where
+  -- What reading comes to: the tables begin with the places; or there are places, so many, but no room for
+  -- them; or there are none.
+  abbrev pub IsOutcome : Outcome → Type 0
+  IsOutcome (outcomes.InPlace len counts) = In bytes len (first_of counts streams entries fields)
+  IsOutcome (outcomes.Room len counts) = (held : Held) × In bytes len held × HasCounts counts held
+  IsOutcome o = IsOther bytes o
+
+  -- C is told the outcome by its number and what was found.
+  pub record IsTold (n : ℕ) (f : Found) : Type 0 where
+    pub outcome : Outcome
+    pub number : n ≡ code outcome
+    pub beside : f ≡ found outcome
+    pub is : IsOutcome outcome

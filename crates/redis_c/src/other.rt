@@ -1,0 +1,52 @@
+//! What bytes are in which no entries stand in place.
+ghost use Rattle.std.specs.Prelude.{◌≡◌, IfSome};
+ghost use Rattle.redis_wire.specs.Place.{text_in};
+ghost use Rattle.redis_wire.specs.Reply.{answer};
+ghost use Rattle.redis_c.specs.Told.{IsAnswered, IsOther};
+
+use crate::outcome::Outcome;
+use redis_wire::place::Span;
+use redis_wire::{Decoded, Limits, Reply, WireError, decode};
+use std::alloc::Global;
+
+/// Where a text of an error stands in the bytes of a reply of this length: two bytes, CR and LF, end
+/// the reply behind it.
+fn place_of(bytes: &[u8], len: usize, text: &[u8]) -> Option<Span>
+    ensures { IfSome result (λ span. text_in bytes.now span ≡ text.now) }
+{
+    let start = len.checked_sub(2)?.checked_sub(text.len())?;
+    let there = bytes.get(start..start + text.len())?;
+    if there != text {
+        return None;
+    }
+    Some(Span {
+        start,
+        len: text.len(),
+    })
+}
+
+/// What the reply is that was decoded.
+fn kind_of(bytes: &[u8], len: usize, reply: Reply) -> Outcome
+    requires { IsAnswered bytes.now len (answer reply) }
+    ensures { IsOther bytes.now result }
+{
+    match reply {
+        Reply::Error(error) => match place_of(bytes, len, &error.text) {
+            Some(text) => Outcome::ServerError { len, text },
+            None => Outcome::OtherShape { len },
+        },
+        _ => Outcome::OtherShape { len },
+    }
+}
+
+/// What the bytes are in which no entries stand in place.
+pub fn other(alloc: Global, bytes: &[u8]) -> Outcome
+    ensures { IsOther bytes.now result }
+{
+    match decode(alloc, bytes, Limits::default()) {
+        Ok(Decoded::Complete { reply, len }) => kind_of(bytes, len, reply),
+        Ok(Decoded::Incomplete) => Outcome::Incomplete,
+        Err(WireError::Memory) => Outcome::Memory,
+        Err(WireError::Fault(fault)) => Outcome::Fault(fault),
+    }
+}

@@ -1,0 +1,73 @@
+//! Commands as bytes in a buffer of the caller.
+ghost use Rattle.std.specs.Prelude.{◌≡◌};
+ghost use Rattle.redis_c.specs.Packing.{number, len_of, IsPacking, IsWritten};
+
+use redis_resp::{ToRedisArgs, WriteError};
+use redis_wire::pack_command;
+use std::alloc::Global;
+
+/// What packing a command comes to.
+#[derive(Clone, Copy)]
+pub enum Packing {
+    /// The buffer begins with the command.
+    Written {
+        /// How many bytes it has.
+        len: usize,
+    },
+    /// The buffer has too little room.
+    Room {
+        /// How many bytes are wanted.
+        len: usize,
+    },
+    /// Out of memory.
+    Memory,
+    /// An argument is of 2^32 bytes or more, or there are as many.
+    TooLarge,
+}
+
+impl Packing {
+    /// The number by which C is told.
+    pub fn number(self) -> u32
+        ensures { result ≡ number self }
+    {
+        match self {
+            Packing::Written { .. } => 0,
+            Packing::Room { .. } => 1,
+            Packing::Memory => 5,
+            Packing::TooLarge => 6,
+        }
+    }
+
+    /// How many bytes were written or are wanted.
+    pub fn len(self) -> usize
+        ensures { result ≡ len_of self }
+    {
+        match self {
+            Packing::Written { len } | Packing::Room { len } => len,
+            Packing::Memory | Packing::TooLarge => 0,
+        }
+    }
+}
+
+/// Copies the bytes to the front of the buffer, where they have room.
+fn copied(bytes: &[u8], out: &mut [u8]) -> Packing
+    ensures { IsWritten bytes.now out.new result }
+{
+    if bytes.len() > out.len() {
+        return Packing::Room { len: bytes.len() };
+    }
+    let (front, _) = out.split_at_mut(bytes.len());
+    front.copy_from_slice(bytes);
+    Packing::Written { len: bytes.len() }
+}
+
+/// Packs a command into the front of the buffer.
+pub fn packed<T: ToRedisArgs>(alloc: Global, command: &T, out: &mut [u8]) -> Packing
+    ensures { IsPacking (T.args command.now) out.new result }
+{
+    match pack_command(alloc, command) {
+        Ok(bytes) => copied(&bytes, out),
+        Err(WriteError::Full) => Packing::TooLarge,
+        Err(_) => Packing::Memory,
+    }
+}
