@@ -1,5 +1,6 @@
 -- Texts as they stand in lines.
-use Rattle.std.proofs.Common.{◌≡◌, ◌≢◌, ◌<◌, inl, inr, ℕ, suc, List, [], ◌∷◌, ◌++◌, length, take, get_or, refl, sym, ◌∙◌, ap, subst, arith, append-nil}
+use Rattle.std.proofs.Common.{◌≡◌, ◌≢◌, ◌<◌, inl, inr, ℕ, suc, List, [], ◌∷◌, ◌++◌, length, take, get_or, refl, sym}
+use Rattle.std.proofs.Common.{◌∙◌, ap, subst, arith, append-nil}
 use Rattle.std.proofs.lemmas.Bool.{cases_eq}
 use Rattle.std.proofs.lemmas.Bool.Decides.{nat_tests}
 use Rattle.std.specs.List.{AllByRecursion}
@@ -8,8 +9,10 @@ use Rattle.std.proofs.lemmas.Grind.{flat_map-append}
 use Rattle.line_log.specs.Escape.{escaped, escaped_byte, unescaped, IsPlain}
 
 -- one byte more
-pub escaped_more : (text : List ℕ) (i : ℕ) → i < length text → escaped (take (suc i) text) ≡ escaped (take i text) ++ escaped_byte (get_or text i 0)
-escaped_more text i lt = ap escaped (take-suc text i 0 lt) ∙ flat_map-append escaped_byte (take i text) (get_or text i 0 ∷ []) ∙ ap (λ xs. escaped (take i text) ++ xs) (append-nil (escaped_byte (get_or text i 0)))
+pub escaped_more : (text : List ℕ) (i : ℕ) → i < length text
+    → escaped (take (suc i) text) ≡ escaped (take i text) ++ escaped_byte (get_or text i 0)
+escaped_more text i lt = ap escaped (take-suc text i 0 lt) ∙ flat_map-append escaped_byte (take i text)
+    (get_or text i 0 ∷ []) ∙ ap (λ xs. escaped (take i text) ++ xs) (append-nil (escaped_byte (get_or text i 0)))
 
 -- ---- out of a line
 
@@ -61,7 +64,8 @@ module _ (xs : List ℕ) (plain : AllByRecursion IsPlain xs) where
         | inl is ↦ subst Plain (sym is) (backslash, ((omega arith, omega arith, omega arith), plain))
         | inr n10 ↦ elim (cases_eq b 13) [
           | inl is ↦ subst Plain (sym is) (backslash, ((omega arith, omega arith, omega arith), plain))
-          | inr n13 ↦ subst (λ ys. AllByRecursion IsPlain (ys ++ xs)) (sym (plain_byte b n92 n9 n10 n13)) ((n9, n10, n13), plain)
+          | inr n13 ↦ subst (λ ys. AllByRecursion IsPlain (ys ++ xs)) (sym (plain_byte b n92 n9 n10 n13))
+              ((n9, n10, n13), plain)
         ]
       ]
     ]

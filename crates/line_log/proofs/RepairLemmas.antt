@@ -5,28 +5,38 @@ use Rattle.line_log.specs.Lines.{EndsAt, HasTheLines}
 use Rattle.line_log.proofs.EndLemmas.{same_lines, cut_lines}
 use Rattle.line_log.proofs.Moments.{started, goes_on}
 
-only_of : (known : Option (List ℕ)) (outcomes : List ℕ → Type 0) (c : List ℕ) → IfSome known (λ file. Only file outcomes) → outcomes c → IfSome known (λ file. c ≡ file)
+only_of : (known : Option (List ℕ)) (outcomes : List ℕ → Type 0) (c : List ℕ)
+    → IfSome known (λ file. Only file outcomes) → outcomes c → IfSome known (λ file. c ≡ file)
 only_of None outcomes c disk left = tt
 only_of (Some file) outcomes c disk left = disk c left
 
-cut_of : (known : Option (List ℕ)) (len : ℕ) (c d : List ℕ) → IfSome known (λ file. d ≡ file) → c ≡ take len d → IfSome known (λ file. c ≡ take len file)
+cut_of : (known : Option (List ℕ)) (len : ℕ) (c d : List ℕ) → IfSome known (λ file. d ≡ file) → c ≡ take len d
+    → IfSome known (λ file. c ≡ take len file)
 cut_of None len c d was is = tt
 cut_of (Some file) len c d was is = is ∙ ap (λ xs. take len xs) was
 
-module _ {D : Type 0} (seen : D → Option (List ℕ)) (may_leave : D → List ℕ → Type 0) (moment : D → ℕ) (left_since : D → ℕ → List ℕ → Type 0)
-    (only_now : (file : D) (c : List ℕ) → left_since file (moment file) c → may_leave file c) (old : D) (disk : IsOnDisk seen may_leave old) where
+module _ {D : Type 0} (seen : D → Option (List ℕ)) (may_leave : D → List ℕ → Type 0) (moment : D → ℕ)
+    (left_since : D → ℕ → List ℕ → Type 0)
+    (only_now : (file : D) (c : List ℕ) → left_since file (moment file) c → may_leave file c) (old : D)
+    (disk : IsOnDisk seen may_leave old) where
   pub at_start : LeavesOnly moment left_since old old (HasTheLines (seen old))
-  at_start = started moment left_since old (HasTheLines (seen old)) (λ c left. same_lines (seen old) c (only_of (seen old) (may_leave old) c disk (only_now old c left)))
+  at_start = started moment left_since old (HasTheLines (seen old))
+      (λ c left. same_lines (seen old) c (only_of (seen old) (may_leave old) c disk (only_now old c left)))
 
-  module _ (end : ℕ) (ends : EndsAt (seen old) end) (mid : D) (crash : Follows (IsCut end) (may_leave old) (may_leave mid))
+  module _ (end : ℕ) (ends : EndsAt (seen old) end) (mid : D)
+      (crash : Follows (IsCut end) (may_leave old) (may_leave mid))
       (time : Elapses (moment old) (moment mid) (left_since old) (left_since mid) (may_leave mid)) where
     left : (c : List ℕ) → may_leave mid c → HasTheLines (seen old) c
     left c now =
         let from = crash c now in
-        cut_lines (seen old) end from.2.0 c ends from.2.1 (cut_of (seen old) from.2.0 c from.0 (only_of (seen old) (may_leave old) from.0 disk from.1) from.2.2)
+        cut_lines (seen old) end from.2.0 c ends from.2.1
+        (cut_of (seen old) from.2.0 c from.0 (only_of (seen old) (may_leave old) from.0 disk from.1) from.2.2)
 
     pub after_cut : LeavesOnly moment left_since old mid (HasTheLines (seen old))
     after_cut = goes_on moment left_since old old mid (HasTheLines (seen old)) (may_leave mid) at_start time left
 
-    pub after_sync : (new : D) → ((c : List ℕ) → may_leave new c → may_leave mid c) → Elapses (moment mid) (moment new) (left_since mid) (left_since new) (may_leave new) → LeavesOnly moment left_since old new (HasTheLines (seen old))
-    after_sync new kept later = goes_on moment left_since old mid new (HasTheLines (seen old)) (may_leave new) after_cut later (λ c now. left c (kept c now))
+    pub after_sync : (new : D) → ((c : List ℕ) → may_leave new c → may_leave mid c)
+        → Elapses (moment mid) (moment new) (left_since mid) (left_since new) (may_leave new)
+        → LeavesOnly moment left_since old new (HasTheLines (seen old))
+    after_sync new kept later = goes_on moment left_since old mid new (HasTheLines (seen old))
+        (may_leave new) after_cut later (λ c now. left c (kept c now))

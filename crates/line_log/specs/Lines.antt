@@ -22,7 +22,8 @@ EndsAt known end = IfSome known (λ file. (end ≤ length file) × AreLines (tak
 
 -- the known file was cut behind its last whole line
 abbrev pub IsRepaired : Option (List ℕ) → Option (List ℕ) → Type 0
-IsRepaired old new = IfSome old (λ file. (lines : List ℕ) × (torn : List ℕ) × IsLinesAnd file lines torn × (new ≡ Some lines))
+IsRepaired old new =
+    IfSome old (λ file. (lines : List ℕ) × (torn : List ℕ) × IsLinesAnd file lines torn × (new ≡ Some lines))
 
 -- a crash left the same whole lines, and behind them at most a last line that has no end
 abbrev pub HasTheLines : Option (List ℕ) → List ℕ → Type 0

@@ -1,5 +1,6 @@
 -- Lemmas on what comes in and is held.
-use Rattle.std.proofs.Common.{◌≡◌, ◌+◌, ◌<◌, inl, inr, ℕ, List, [], ◌++◌, length, take, Option, Some, None, Result, Ok, Err, IfOk, OnErr, refl, sym, ◌∙◌, ap, subst, arith, append_assoc, append-nil}
+use Rattle.std.proofs.Common.{◌≡◌, ◌+◌, ◌<◌, inl, inr, ℕ, List, [], ◌++◌, length, take, Option, Some, None, Result, Ok}
+use Rattle.std.proofs.Common.{Err, IfOk, OnErr, refl, sym, ◌∙◌, ap, subst, arith, append_assoc, append-nil}
 use Rattle.std.proofs.KnownBytes.{Consumes-nil, Consumes-trans, Consumes-kept}
 use Rattle.std.proofs.Math.Seq.{take-append_seam}
 use Rattle.std.proofs.lemmas.List.{length-append}
@@ -20,13 +21,22 @@ use Rattle.redis_connection.specs.declared.error.ConnectionError.{ConnectionErro
 use Rattle.redis_connection.specs.declared.error.ConnectionError.TheVariants as errors
 
 pub waits_start : (link : Link) → Waits link link
-waits_start link = ([], record { consumes = Consumes-nil link.coming; bytes = sym (append-nil link.held.bytes); limits = refl; written = refl })
+waits_start link = (
+  [],
+  record {
+    consumes = Consumes-nil link.coming;
+    bytes = sym (append-nil link.held.bytes);
+    limits = refl;
+    written = refl;
+  },
+)
 
 next_err_same : (h h' : Held) (e : WireError) → NextIs h (Err e) h' → h' ≡ h
 next_err_same h h' wire_errors.Memory n = n
 next_err_same h h' (wire_errors.Fault f) n = n.0
 
-module _ (old : Link) (coming : Option (List ℕ)) (h : Held) (piece : List ℕ) (unfed : ℕ) (w : Waits old (seen None coming h piece unfed)) where
+module _ (old : Link) (coming : Option (List ℕ)) (h : Held) (piece : List ℕ) (unfed : ℕ)
+    (w : Waits old (seen None coming h piece unfed)) where
   -- a stream that stays as it was
   pub waits_same : (h' : Held) → h' ≡ h → Waits old (seen None coming h' piece unfed)
   waits_same h' is = subst (λ (x : Held). Waits old (seen None coming x piece unfed)) (sym is) w
@@ -34,21 +44,25 @@ module _ (old : Link) (coming : Option (List ℕ)) (h : Held) (piece : List ℕ)
   pub waits_err : (h' : Held) (e : WireError) → NextIs h (Err e) h' → Waits old (seen None coming h' piece unfed)
   waits_err h' e n = waits_same h' (next_err_same h h' e n)
 
-  pub reply_given : (h' : Held) (reply : Reply) → NextIs h (Ok (Some reply)) h' → Receives old (seen None coming h' piece unfed) (answer reply)
+  pub reply_given : (h' : Held) (reply : Reply) → NextIs h (Ok (Some reply)) h'
+      → Receives old (seen None coming h' piece unfed) (answer reply)
   reply_given h' reply n = record {
     taken = w.0;
     text = n.0;
     consumes = w.1.consumes;
-    bytes = sym w.1.bytes ∙ ap (λ b. b ++ take unfed piece) n.2 ∙ append_assoc n.0 n.1 (take unfed piece) ∙ ap (λ (x : Held). n.0 ++ (x.bytes ++ take unfed piece)) (sym n.4);
+    bytes = sym w.1.bytes ∙ ap (λ b. b ++ take unfed piece) n.2 ∙ append_assoc n.0 n.1 (take unfed piece)
+        ∙ ap (λ (x : Held). n.0 ++ (x.bytes ++ take unfed piece)) (sym n.4);
     reply = subst (λ l. IsReply l n.0 (answer reply)) w.1.limits n.3;
     limits = ap (λ (x : Held). x.limits) n.4 ∙ w.1.limits;
     written = w.1.written;
   }
 
   -- nothing of the piece was left, and more was read
-  pub read_more : (coming' : Option (List ℕ)) (piece' : List ℕ) (len : ℕ) → unfed ≡ 0 → Consumes coming coming' (take len piece') → Waits old (seen None coming' h piece' len)
+  pub read_more : (coming' : Option (List ℕ)) (piece' : List ℕ) (len : ℕ) → unfed ≡ 0
+      → Consumes coming coming' (take len piece') → Waits old (seen None coming' h piece' len)
   read_more coming' piece' len none more =
-      let bytes : h.bytes ≡ old.held.bytes ++ w.0 = sym (append-nil h.bytes) ∙ ap (λ n. h.bytes ++ take n piece) (sym none) ∙ w.1.bytes in (
+      let bytes : h.bytes ≡ old.held.bytes ++ w.0 =
+      sym (append-nil h.bytes) ∙ ap (λ n. h.bytes ++ take n piece) (sym none) ∙ w.1.bytes in (
         w.0 ++ take len piece',
         record {
           consumes = Consumes-trans old.coming coming coming' w.0 (take len piece') w.1.consumes more;
@@ -58,14 +72,19 @@ module _ (old : Link) (coming : Option (List ℕ)) (h : Held) (piece : List ℕ)
         },
       )
 
-  pub read_none : (coming' : Option (List ℕ)) (piece' : List ℕ) → unfed ≡ 0 → Keeps coming coming' → Waits old (seen None coming' h piece' unfed)
+  pub read_none : (coming' : Option (List ℕ)) (piece' : List ℕ) → unfed ≡ 0 → Keeps coming coming'
+      → Waits old (seen None coming' h piece' unfed)
   read_none coming' piece' none kept =
-      subst (λ n. Waits old (seen None coming' h piece' n)) (sym none) (read_more coming' piece' 0 none (Consumes-kept coming coming coming' [] (Consumes-nil coming) kept))
+      subst (λ n. Waits old (seen None coming' h piece' n)) (sym none)
+      (read_more coming' piece' 0 none (Consumes-kept coming coming coming' [] (Consumes-nil coming) kept))
 
-  pub read_end : (coming' : Option (List ℕ)) (piece' : List ℕ) → unfed ≡ 0 → Consumes coming coming' [] → Waits old (seen None coming' h piece' unfed)
-  read_end coming' piece' none more = subst (λ n. Waits old (seen None coming' h piece' n)) (sym none) (read_more coming' piece' 0 none more)
+  pub read_end : (coming' : Option (List ℕ)) (piece' : List ℕ) → unfed ≡ 0 → Consumes coming coming' []
+      → Waits old (seen None coming' h piece' unfed)
+  read_end coming' piece' none more = subst (λ n. Waits old (seen None coming' h piece' n)) (sym none)
+      (read_more coming' piece' 0 none more)
 
-  pub waits_fed : (h' : Held) → h' ≡ record h { bytes = h.bytes ++ take unfed piece } → Waits old (seen None coming h' piece 0)
+  pub waits_fed : (h' : Held) → h' ≡ record h { bytes = h.bytes ++ take unfed piece }
+      → Waits old (seen None coming h' piece 0)
   waits_fed h' is = (
     w.0,
     record {
@@ -76,42 +95,64 @@ module _ (old : Link) (coming : Option (List ℕ)) (h : Held) (piece : List ℕ)
     },
   )
 
-pub faulty_next : (coming : Option (List ℕ)) (h h' : Held) (piece : List ℕ) (unfed : ℕ) (e : WireError) → NextIs h (Err e) h' → IsFaulty (seen None coming h' piece unfed).held (failure_of e)
+pub faulty_next : (coming : Option (List ℕ)) (h h' : Held) (piece : List ℕ) (unfed : ℕ) (e : WireError)
+    → NextIs h (Err e) h' → IsFaulty (seen None coming h' piece unfed).held (failure_of e)
 faulty_next coming h h' piece unfed wire_errors.Memory n = tt
 faulty_next coming h h' piece unfed (wire_errors.Fault f) n =
     let u = take unfed piece in
     subst (λ (x : Held). IsFaulty (seen None coming x piece unfed).held (errors.Fault f)) (sym n.0) (inl (
       λ more. subst (NoReply h.limits) (sym (append_assoc h.bytes u more)) (n.1 (u ++ more)),
-      (length h.bytes, subst (λ b. IsFirstFault h.limits b (wire_errors.Fault f)) (sym (take-append_seam h.bytes u)) n.2),
+      (
+        length h.bytes,
+        subst (λ b. IsFirstFault h.limits b (wire_errors.Fault f))
+            (sym (take-append_seam h.bytes u)) n.2,
+      ),
     ))
 
 pub ended_never : (link : Link) (e : WireError) → IsEnded link (failure_of e)
 ended_never link wire_errors.Memory = tt
 ended_never link (wire_errors.Fault f) = tt
 
-pub ended_closed : (coming : Option (List ℕ)) (h : Held) (piece : List ℕ) (unfed : ℕ) → unfed ≡ 0 → IsAtEnd coming → NoReply h.limits h.bytes → IsEnded (seen None coming h piece unfed) errors.Closed
+pub ended_closed : (coming : Option (List ℕ)) (h : Held) (piece : List ℕ) (unfed : ℕ) → unfed ≡ 0 → IsAtEnd coming
+    → NoReply h.limits h.bytes → IsEnded (seen None coming h piece unfed) errors.Closed
 ended_closed coming h piece unfed none end nothing =
     (end, subst (NoReply h.limits) (sym (append-nil h.bytes) ∙ ap (λ n. h.bytes ++ take n piece) (sym none)) nothing)
 
-pub faulty_feed : (coming : Option (List ℕ)) (h h' : Held) (piece : List ℕ) (unfed : ℕ) (e : WireError) → h' ≡ h → IsRefused h (take unfed piece) e → IsFaulty (seen None coming h' piece unfed).held (failure_of e)
+pub faulty_feed : (coming : Option (List ℕ)) (h h' : Held) (piece : List ℕ) (unfed : ℕ) (e : WireError) → h' ≡ h
+    → IsRefused h (take unfed piece) e → IsFaulty (seen None coming h' piece unfed).held (failure_of e)
 faulty_feed coming h h' piece unfed wire_errors.Memory same r = tt
 faulty_feed coming h h' piece unfed (wire_errors.Fault f) same (inl other) = absurd (cc other)
 faulty_feed coming h h' piece unfed (wire_errors.Fault f) same (inr full) =
     let is : f ≡ Overfull = cc in
-    subst (λ (x : Held). IsFaulty (seen None coming x piece unfed).held (errors.Fault f)) (sym same) (inr (is, omega (arith, full.1, length-append h.bytes (take unfed piece))))
+    subst (λ (x : Held). IsFaulty (seen None coming x piece unfed).held (errors.Fault f)) (sym same)
+    (inr (is, omega (arith, full.1, length-append h.bytes (take unfed piece))))
 
 -- ---- a connection with a writer, of which nothing went out
 
-module _ (written : Option (List ℕ)) (coming coming' : Option (List ℕ)) (h h' : Held) (piece piece' : List ℕ) (unfed unfed' : ℕ) (old : Link) (is : seen written coming h piece unfed ≡ old) where
-  received_one : (a : Answer) → Receives (seen None coming h piece unfed) (seen None coming' h' piece' unfed') a → Receives old (seen written coming' h' piece' unfed') a
+module _ (written : Option (List ℕ)) (coming coming' : Option (List ℕ)) (h h' : Held) (piece piece' : List ℕ)
+    (unfed unfed' : ℕ) (old : Link) (is : seen written coming h piece unfed ≡ old) where
+  received_one : (a : Answer) → Receives (seen None coming h piece unfed) (seen None coming' h' piece' unfed') a
+      → Receives old (seen written coming' h' piece' unfed') a
   received_one a r = subst (λ (l : Link). Receives l (seen written coming' h' piece' unfed') a) is
-      (record { taken = r.taken; text = r.text; consumes = r.consumes; bytes = r.bytes; reply = r.reply; limits = r.limits; written = refl })
+      (record {
+        taken = r.taken;
+        text = r.text;
+        consumes = r.consumes;
+        bytes = r.bytes;
+        reply = r.reply;
+        limits = r.limits;
+        written = refl;
+      })
 
-  pub received : {E : Type 0} (r : Result Reply E) → IfOk r (λ reply. Receives (seen None coming h piece unfed) (seen None coming' h' piece' unfed') (answer reply)) → IfOk r (λ reply. Receives old (seen written coming' h' piece' unfed') (answer reply))
+  pub received : {E : Type 0} (r : Result Reply E)
+      → IfOk r (λ reply. Receives (seen None coming h piece unfed) (seen None coming' h' piece' unfed') (answer reply))
+      → IfOk r (λ reply. Receives old (seen written coming' h' piece' unfed') (answer reply))
   received (Ok reply) p = received_one (answer reply) p
   received (Err e) p = tt
 
-  pub waited : {A E : Type 0} (r : Result A E) → OnErr r (Waits (seen None coming h piece unfed) (seen None coming' h' piece' unfed')) → OnErr r (Waits old (seen written coming' h' piece' unfed'))
+  pub waited : {A E : Type 0} (r : Result A E)
+      → OnErr r (Waits (seen None coming h piece unfed) (seen None coming' h' piece' unfed'))
+      → OnErr r (Waits old (seen written coming' h' piece' unfed'))
   waited (Ok x) p = tt
   waited (Err e) p = subst (λ (l : Link). Waits l (seen written coming' h' piece' unfed')) is
       (p.0, record { consumes = p.1.consumes; bytes = p.1.bytes; limits = p.1.limits; written = refl })

@@ -1,5 +1,6 @@
 -- Lemmas on bytes that go out and come in.
-use Rattle.std.proofs.Common.{◌≡◌, ◌+◌, ◌≤◌, ℕ, List, [], ◌++◌, length, take, drop, Option, Some, None, Result, Ok, Err, OnOk, OnErr, arith, refl, sym, ◌∙◌, ap, subst, append_assoc, append-nil}
+use Rattle.std.proofs.Common.{◌≡◌, ◌+◌, ◌≤◌, ℕ, List, [], ◌++◌, length, take, drop, Option, Some, None, Result, Ok, Err}
+use Rattle.std.proofs.Common.{OnOk, OnErr, arith, refl, sym, ◌∙◌, ap, subst, append_assoc, append-nil}
 use Rattle.std.proofs.Math.Seq.{take-add}
 use Rattle.std.proofs.lemmas.List.{take_all}
 use Rattle.std.specs.Io.KnownBytes.{Appends, Consumes, Keeps}
@@ -18,19 +19,28 @@ pub taken_on : (a b c : Option (List ℕ)) (bs : List ℕ) → Consumes a b [] �
 taken_on a b c bs p q = Consumes-trans a b c [] bs p q
 
 -- some front of the bytes went out, and then more of the rest
-pub front_more : (a b c : Option (List ℕ)) (bytes rest : List ℕ) (at n : ℕ) → rest ≡ drop at bytes → Appends a b (take at bytes) → Appends b c (take n rest) → Appends a c (take (at + n) bytes)
+pub front_more : (a b c : Option (List ℕ)) (bytes rest : List ℕ) (at n : ℕ) → rest ≡ drop at bytes
+    → Appends a b (take at bytes) → Appends b c (take n rest) → Appends a c (take (at + n) bytes)
 front_more a b c bytes rest at n is p q =
-    subst (Appends a c) (sym (take-add at n bytes)) (Appends-trans a b c (take at bytes) (take n (drop at bytes)) p (subst (λ r. Appends b c (take n r)) is q))
+    subst (Appends a c) (sym (take-add at n bytes))
+    (Appends-trans a b c (take at bytes) (take n (drop at bytes)) p (subst (λ r. Appends b c (take n r)) is q))
 
 -- all of them
-pub front_all : (a b : Option (List ℕ)) (bytes : List ℕ) (at : ℕ) → length bytes ≤ at → Appends a b (take at bytes) → Appends a b bytes
+pub front_all : (a b : Option (List ℕ)) (bytes : List ℕ) (at : ℕ) → length bytes ≤ at → Appends a b (take at bytes)
+    → Appends a b bytes
 front_all a b bytes at le p = subst (Appends a b) (take_all at bytes le) p
 
 -- what went out stays where the writer is flushed, whatever comes of it
-pub flushed : {A E : Type 0} (r : Result A E) (a b c : Option (List ℕ)) (bytes : List ℕ) → Appends a b bytes → Keeps b c → OnOk r (Appends a c bytes)
+pub flushed : {A E : Type 0} (r : Result A E) (a b c : Option (List ℕ)) (bytes : List ℕ) → Appends a b bytes → Keeps b c
+    → OnOk r (Appends a c bytes)
 flushed (Ok x) a b c bytes p q = Appends-kept a b c bytes p q
 flushed (Err e) a b c bytes p q = tt
 
-pub flushed_err : {A E : Type 0} (r : Result A E) (a b c : Option (List ℕ)) (bytes : List ℕ) → Appends a b bytes → Keeps b c → OnErr r ((n : ℕ) × Appends a c (take n bytes))
+pub flushed_err : {A E : Type 0} (r : Result A E) (a b c : Option (List ℕ)) (bytes : List ℕ) → Appends a b bytes
+    → Keeps b c → OnErr r ((n : ℕ) × Appends a c (take n bytes))
 flushed_err (Ok x) a b c bytes p q = tt
-flushed_err (Err e) a b c bytes p q = (length bytes, subst (Appends a c) (sym (take_all (length bytes) bytes (omega arith))) (Appends-kept a b c bytes p q))
+flushed_err (Err e) a b c bytes p q = (
+  length bytes,
+  subst (Appends a c) (sym (take_all (length bytes) bytes (omega arith)))
+      (Appends-kept a b c bytes p q),
+)

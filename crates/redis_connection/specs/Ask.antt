@@ -33,6 +33,8 @@ module _ {M : Type 0} (old new : Link) (args : List (List ℕ)) (reading : Tree 
   -- that is refused; or it is no answer of a command
   abbrev pub HasNoAnswer : (Tree → ParsingError → Type 0) → AskError → Type 0
   HasNoAnswer may_refuse (errors.Connection e) = Fails old new (command_bytes args)
-  HasNoAnswer may_refuse (errors.Server e) = (a : Answer) × Exchanges old new args a × (first_error a ≡ Some e.text.items)
-  HasNoAnswer may_refuse (errors.Parsing e) = (t : Tree) × Exchanges old new args (value t) × Refuses reading may_refuse t e
+  HasNoAnswer may_refuse (errors.Server e) =
+      (a : Answer) × Exchanges old new args a × (first_error a ≡ Some e.text.items)
+  HasNoAnswer may_refuse (errors.Parsing e) =
+      (t : Tree) × Exchanges old new args (value t) × Refuses reading may_refuse t e
   HasNoAnswer may_refuse errors.NotAnAnswer = (a : Answer) × Exchanges old new args a × IsNoAnswer a

@@ -1,5 +1,6 @@
 -- From what an answer says to what a worker did with it.
-use Rattle.std.proofs.Common.{◌≡◌, ◌≢◌, inr, refl, sym, ap, subst, ◌∙◌, ℕ, List, [], ◌∷◌, ◌++◌, Option, Some, None, option_map, string_bytes, Result, Ok, Err}
+use Rattle.std.proofs.Common.{◌≡◌, ◌≢◌, inr, refl, sym, ap, subst, ◌∙◌, ℕ, List, [], ◌∷◌, ◌++◌, Option, Some, None}
+use Rattle.std.proofs.Common.{option_map, string_bytes, Result, Ok, Err}
 use Rattle.std.specs.Result.{IfOk, IfErr, IsErrAnd}
 use Rattle.redis_resp.specs.Number.{unsigned_reading}
 use Rattle.redis_resp.specs.Table.{Fields}
@@ -8,7 +9,9 @@ use Rattle.redis_wire.specs.Reply as wire
 use Rattle.stream_entries.specs.AutoClaim.{AutoClaim, autoclaim_reading}
 use Rattle.stream_entries.specs.Entry.{Entry}
 use Rattle.stream_group.specs.Worker as machine
-use Rattle.stream_group.specs.Worker.{Id, Delivered, Verdict, Answer, acknowledged, own_pending, taken_over, news, Machine, Ending, cut_off, ending, after, after_own, after_claim, after_news, phase_after, phase_at, still, entries_in, acks_in, begins_again}
+use Rattle.stream_group.specs.Worker.{Id, Delivered, Verdict, Answer, acknowledged, own_pending, taken_over, news}
+use Rattle.stream_group.specs.Worker.{Machine, Ending, cut_off, ending, after, after_own, after_claim, after_news}
+use Rattle.stream_group.specs.Worker.{phase_after, phase_at, still, entries_in, acks_in, begins_again}
 use Rattle.stream_worker.specs.Answered.{Took, Went, Failed}
 use Rattle.stream_worker.specs.Answers.{Heard, told, no_group, group_made, means, says, entries_read}
 use Rattle.stream_worker.specs.Machine.{Moved, ending_of}
@@ -23,31 +26,57 @@ use Rattle.stream_worker.specs.declared.worker.Progress.{Progress}
 use Rattle.stream_worker.specs.declared.worker.Progress.TheVariants.{GoesOn}
 
 -- what was moved is what the answer does to the machine
-took : {R : Type 0} (with_verdict : R → List ℕ × Fields Tree → Verdict → R) (answer : Answer (Fields Tree)) (next : machine.Phase) (m n : Machine) (r s : R) (how : Ending)
+took : {R : Type 0} (with_verdict : R → List ℕ × Fields Tree → Verdict → R) (answer : Answer (Fields Tree))
+    (next : machine.Phase) (m n : Machine) (r s : R) (how : Ending)
     → next ≡ phase_after m.every m.phase answer → still m.to_acknowledge answer ≡ m.to_acknowledge
     → Moved with_verdict (entries_in answer) next (begins_again m) n r s how → Took with_verdict answer m n r s how
 took with_verdict answer next m n r s how e k v = record {
   verdicts = v.verdicts;
   machine = v.machine
-      ∙ (ap (λ h. let x : Machine = record { every = m.every; phase = phase_at h next; to_commit = m.to_commit ++ acks_in (entries_in answer) v.verdicts; to_acknowledge = m.to_acknowledge } in x) v.ended
-      ∙ (ap (λ p. let x : Machine = record { every = m.every; phase = phase_at (ending (entries_in answer) v.verdicts) p; to_commit = m.to_commit ++ acks_in (entries_in answer) v.verdicts; to_acknowledge = m.to_acknowledge } in x) e
-      ∙ ap (λ l. let x : Machine = record { every = m.every; phase = phase_at (ending (entries_in answer) v.verdicts) (phase_after m.every m.phase answer); to_commit = m.to_commit ++ acks_in (entries_in answer) v.verdicts; to_acknowledge = l } in x) (sym k)));
+      ∙ (ap
+      (λ h. let x : Machine = record {
+        every = m.every;
+        phase = phase_at h next;
+        to_commit = m.to_commit ++ acks_in (entries_in answer) v.verdicts;
+        to_acknowledge = m.to_acknowledge;
+      } in x) v.ended
+      ∙ (ap
+      (λ p. let x : Machine = record {
+        every = m.every;
+        phase = phase_at (ending (entries_in answer) v.verdicts) p;
+        to_commit = m.to_commit ++ acks_in (entries_in answer) v.verdicts;
+        to_acknowledge = m.to_acknowledge;
+      } in x) e
+      ∙ ap
+      (λ l. let x : Machine = record {
+        every = m.every;
+        phase = phase_at (ending (entries_in answer) v.verdicts)
+            (phase_after m.every m.phase answer);
+        to_commit = m.to_commit ++ acks_in (entries_in answer) v.verdicts;
+        to_acknowledge = l;
+      } in x) (sym k)));
   history = v.history;
   ended = v.ended;
 }
 
-said_own : (key : List ℕ) (t : Tree) (es : List Entry) → entries_read key t ≡ Some es → says key asked.Own t ≡ Some (told (own_pending (all_delivered es)))
+said_own : (key : List ℕ) (t : Tree) (es : List Entry) → entries_read key t ≡ Some es
+    → says key asked.Own t ≡ Some (told (own_pending (all_delivered es)))
 said_own key t es h = ap (λ o. option_map (λ xs. told (own_pending (all_delivered xs))) o) h
 
-said_news : (key : List ℕ) (t : Tree) (es : List Entry) → entries_read key t ≡ Some es → says key asked.News t ≡ Some (told (news (all_delivered es)))
+said_news : (key : List ℕ) (t : Tree) (es : List Entry) → entries_read key t ≡ Some es
+    → says key asked.News t ≡ Some (told (news (all_delivered es)))
 said_news key t es h = ap (λ o. option_map (λ xs. told (news (all_delivered xs))) o) h
 
-said_claim : (key : List ℕ) (t : Tree) (c : AutoClaim) → autoclaim_reading t ≡ Some c → says key asked.Claim t ≡ Some (told (taken_over c.next (all_delivered c.claimed)))
+said_claim : (key : List ℕ) (t : Tree) (c : AutoClaim) → autoclaim_reading t ≡ Some c
+    → says key asked.Claim t ≡ Some (told (taken_over c.next (all_delivered c.claimed)))
 said_claim key t c h = ap (λ o. option_map (λ x. told (taken_over x.next (all_delivered x.claimed))) o) h
 
-module _ {R : Type 0} (with_verdict : R → List ℕ × Fields Tree → Verdict → R) (settings : Settings) (t : Tree) (m n : Machine) (r s : R) where
-  pub own_went : (es : List Entry) (next : machine.Phase) (p : Progress) → entries_read (string_bytes settings.key) t ≡ Some es
-      → next ≡ after_own (all_delivered es) → Moved with_verdict (all_delivered es) next (begins_again m) n r s (ending_of p)
+module _ {R : Type 0} (with_verdict : R → List ℕ × Fields Tree → Verdict → R) (settings : Settings) (t : Tree)
+    (m n : Machine) (r s : R) where
+  pub own_went : (es : List Entry) (next : machine.Phase) (p : Progress)
+      → entries_read (string_bytes settings.key) t ≡ Some es
+      → next ≡ after_own (all_delivered es)
+      → Moved with_verdict (all_delivered es) next (begins_again m) n r s (ending_of p)
       → Went with_verdict settings asked.Own (wire.value t) m n r s p
   own_went es next p h e v = record {
     heard = told (own_pending (all_delivered es));
@@ -68,8 +97,10 @@ module _ {R : Type 0} (with_verdict : R → List ℕ × Fields Tree → Verdict 
     }),
   )
 
-  pub news_went : (es : List Entry) (next : machine.Phase) (p : Progress) → entries_read (string_bytes settings.key) t ≡ Some es
-      → next ≡ after_news m.every m.phase → Moved with_verdict (all_delivered es) next (begins_again m) n r s (ending_of p)
+  pub news_went : (es : List Entry) (next : machine.Phase) (p : Progress)
+      → entries_read (string_bytes settings.key) t ≡ Some es
+      → next ≡ after_news m.every m.phase → Moved with_verdict (all_delivered es) next (begins_again m) n r s
+      (ending_of p)
       → Went with_verdict settings asked.News (wire.value t) m n r s p
   news_went es next p h e v = record {
     heard = told (news (all_delivered es));
@@ -91,7 +122,8 @@ module _ {R : Type 0} (with_verdict : R → List ℕ × Fields Tree → Verdict 
   )
 
   pub claim_went : (c : AutoClaim) (next : machine.Phase) (p : Progress) → autoclaim_reading t ≡ Some c
-      → next ≡ after_claim c.next → Moved with_verdict (all_delivered c.claimed) next (begins_again m) n r s (ending_of p)
+      → next ≡ after_claim c.next → Moved with_verdict (all_delivered c.claimed) next (begins_again m) n r s
+      (ending_of p)
       → Went with_verdict settings asked.Claim (wire.value t) m n r s p
   claim_went c next p h e v = record {
     heard = told (taken_over c.next (all_delivered c.claimed));
@@ -120,7 +152,8 @@ pub if_err : {T E : Type 0} (r : Result T E) (P Q : E → Type 0) → ((e : E) �
 if_err (Ok x) P Q f h = h
 if_err (Err e) P Q f h = f e h
 
-pub memory_err : {T : Type 0} (r : Result T WorkerError) (P : WorkerError → Type 0) → IsErrAnd r (λ e. e ≡ causes.Memory) → P causes.Memory → IfErr r P
+pub memory_err : {T : Type 0} (r : Result T WorkerError) (P : WorkerError → Type 0)
+    → IsErrAnd r (λ e. e ≡ causes.Memory) → P causes.Memory → IfErr r P
 memory_err (Ok x) P h p = tt
 memory_err (Err e) P h p = subst P (sym h) p
 
@@ -132,36 +165,47 @@ nothing_behind : {A : Type 0} (xs : List A) → xs ++ [] ≡ xs
 nothing_behind [] = refl
 nothing_behind (x ∷ xs) = ap (λ r. x ∷ r) (nothing_behind xs)
 
-module _ {R : Type 0} (with_verdict : R → List ℕ × Fields Tree → Verdict → R) (settings : Settings) (question : Asked) (m n : Machine) (r s : R) where
-  pub ack_went : (t : Tree) (p : Progress) → question ≡ asked.Acknowledgement → s ≡ r → (p ≡ GoesOn) × IsAcknowledged t m n
+module _ {R : Type 0} (with_verdict : R → List ℕ × Fields Tree → Verdict → R) (settings : Settings) (question : Asked)
+    (m n : Machine) (r s : R) where
+  pub ack_went : (t : Tree) (p : Progress) → question ≡ asked.Acknowledgement → s ≡ r
+      → (p ≡ GoesOn) × IsAcknowledged t m n
       → Went with_verdict settings question (wire.value t) m n r s p
   ack_went t p q k h = record {
     heard = told acknowledged;
     said = ap (λ x. says (string_bytes settings.key) x t) q ∙ some_of (unsigned_reading 64 t) (told acknowledged) h.1.0;
     goes = record {
       verdicts = [];
-      machine = h.1.1 ∙ ap (λ l. let x : Machine = record { every = m.every; phase = m.phase; to_commit = l; to_acknowledge = [] } in x) (sym (nothing_behind m.to_commit));
+      machine =
+          h.1.1
+          ∙ ap
+          (λ l. let x : Machine = record { every = m.every; phase = m.phase; to_commit = l; to_acknowledge = [] } in x)
+          (sym (nothing_behind m.to_commit));
       history = k;
       ended = ap ending_of h.0;
     };
   }
 
   -- a group that was heard of changes nothing else
-  pub group_went : (text : List ℕ) (p : Progress) → n ≡ m → s ≡ r → (p ≡ GoesOn) × IsOfGroup (means settings.make_group question text)
+  pub group_went : (text : List ℕ) (p : Progress) → n ≡ m → s ≡ r
+      → (p ≡ GoesOn) × IsOfGroup (means settings.make_group question text)
       → Went with_verdict settings question (wire.refused text) m n r s p
   group_went text p j k h =
-      let case : (o : Option Heard) → means settings.make_group question text ≡ o → IsOfGroup o → Went with_verdict settings question (wire.refused text) m n r s p
-      = λ o. elim o as (λ v. means settings.make_group question text ≡ v → IsOfGroup v → Went with_verdict settings question (wire.refused text) m n r s p) [
+      let case : (o : Option Heard) → means settings.make_group question text ≡ o → IsOfGroup o
+      → Went with_verdict settings question (wire.refused text) m n r s p
+      = λ o. elim o as (λ v. means settings.make_group question text ≡ v → IsOfGroup v
+      → Went with_verdict settings question (wire.refused text) m n r s p) [
         | None ↦ λ q f. absurd f
-        | Some x ↦ elim x as (λ v. means settings.make_group question text ≡ Some v → IsOfGroup (Some v) → Went with_verdict settings question (wire.refused text) m n r s p) [
-          | told answer ↦ λ q f. absurd f
-          | no_group ↦ λ q f. record { heard = no_group; said = q; goes = (j, k, h.0) }
-          | group_made ↦ λ q f. record { heard = group_made; said = q; goes = (j, k, h.0) }
-        ]
+        | Some x ↦ elim x as (λ v. means settings.make_group question text ≡ Some v → IsOfGroup (Some v)
+            → Went with_verdict settings question (wire.refused text) m n r s p) [
+              | told answer ↦ λ q f. absurd f
+              | no_group ↦ λ q f. record { heard = no_group; said = q; goes = (j, k, h.0) }
+              | group_made ↦ λ q f. record { heard = group_made; said = q; goes = (j, k, h.0) }
+            ]
       ] in
       case (means settings.make_group question text) refl h.1
 
-  pub refused_failed : (text : List ℕ) (e : WorkerError) → n ≡ m → s ≡ r → IsRefused question text e × (means settings.make_group question text ≡ None)
+  pub refused_failed : (text : List ℕ) (e : WorkerError) → n ≡ m → s ≡ r
+      → IsRefused question text e × (means settings.make_group question text ≡ None)
       → Failed with_verdict settings question (wire.refused text) m n r s e
   refused_failed text causes.NotAsked j k h = (h.0, j, k)
   refused_failed text (causes.Server e) j k h = (h.0.0, ap wire.refused h.0.1, h.1, j, k)

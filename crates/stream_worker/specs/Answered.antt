@@ -9,7 +9,8 @@ use Rattle.redis_wire.specs.Reply as wire
 use Rattle.stream_entries.specs.AutoClaim.{autoclaim_reading}
 use Rattle.stream_entries.specs.Read.{read_reading}
 use Rattle.stream_entries.specs.Refusal.{RefusesAutoClaim, RefusesRead}
-use Rattle.stream_group.specs.Worker.{Verdict, Machine, Answer, Ending, cut_off, ending, entries_in, told_in, after, begins_again}
+use Rattle.stream_group.specs.Worker.{Verdict, Machine, Answer, Ending, cut_off, ending, entries_in, told_in, after}
+use Rattle.stream_group.specs.Worker.{begins_again}
 use Rattle.stream_worker.specs.Answers.{Heard, told, no_group, group_made, hears}
 use Rattle.stream_worker.specs.Handling.{with_all}
 use Rattle.stream_worker.specs.Machine.{ending_of}
@@ -44,7 +45,8 @@ module _ {R : Type 0} (with_verdict : R → List ℕ × Fields Tree → Verdict 
   GoesBy no_group m n r s p = (n ≡ m) × (s ≡ r) × (p ≡ GoesOn)
   GoesBy group_made m n r s p = (n ≡ m) × (s ≡ r) × (p ≡ GoesOn)
 
-  pub record Went (settings : Settings) (question : Asked) (a : wire.Answer) (m n : Machine) (r s : R) (p : Progress) : Type 0 where
+  pub record Went (settings : Settings) (question : Asked) (a : wire.Answer) (m n : Machine) (r s : R)
+      (p : Progress) : Type 0 where
     pub heard : Heard
     pub said : hears settings question a ≡ Some heard
     pub goes : GoesBy heard m n r s p
@@ -66,12 +68,15 @@ module _ {R : Type 0} (with_verdict : R → List ℕ × Fields Tree → Verdict 
   abbrev pub Failed : Settings → Asked → wire.Answer → Machine → Machine → R → R → WorkerError → Type 0
   Failed settings question a m n r s causes.NotAsked = (question ≡ asked.Nothing) × (n ≡ m) × (s ≡ r)
   Failed settings question a m n r s (causes.Server e) =
-      (question ≢ asked.Nothing) × (a ≡ wire.refused e.text.items) × (hears settings question a ≡ None) × (n ≡ m) × (s ≡ r)
+      (question ≢ asked.Nothing) × (a ≡ wire.refused e.text.items) × (hears settings question a ≡ None) × (n ≡ m)
+      × (s ≡ r)
   Failed settings question a m n r s causes.NotAnAnswer =
       IsNoAnswer a × (hears settings question a ≡ None) × (n ≡ m) × (s ≡ r)
   Failed settings question a m n r s (causes.Parsing e) =
-      ((t : Tree) × (a ≡ wire.value t) × MayRefuse question t e) × (hears settings question a ≡ None) × (n ≡ begins_again m) × (s ≡ r)
+      ((t : Tree) × (a ≡ wire.value t) × MayRefuse question t e) × (hears settings question a ≡ None)
+      × (n ≡ begins_again m) × (s ≡ r)
   Failed settings question a m n r s causes.OtherStream =
-      ((t : Tree) × (a ≡ wire.value t) × (read_reading t ≢ None)) × (hears settings question a ≡ None) × (n ≡ begins_again m) × (s ≡ r)
+      ((t : Tree) × (a ≡ wire.value t) × (read_reading t ≢ None)) × (hears settings question a ≡ None)
+      × (n ≡ begins_again m) × (s ≡ r)
   Failed settings question a m n r s causes.Memory =
       (t : Tree) × (a ≡ wire.value t) × (((n ≡ begins_again m) × (s ≡ r)) ⊎ WasCut settings question t m n r s)

@@ -10,3 +10,4 @@ pub mod Requested
 pub mod Parts
 pub mod Step
 pub mod Gathered
+pub mod Letters

@@ -1,10 +1,12 @@
 -- A worker as the machine that the laws speak of.
-use Rattle.std.specs.Prelude.{◌≡◌, ℕ, Bool, true, false, not, ◌&&◌, List, [], ◌∷◌, ◌++◌, map, Result, Ok, Err, String, Vec, string_bytes, if◌then◌else◌}
+use Rattle.std.specs.Prelude.{◌≡◌, ℕ, Bool, true, false, not, ◌&&◌, List, [], ◌∷◌, ◌++◌, map, Result, Ok, Err, String}
+use Rattle.std.specs.Prelude.{Vec, string_bytes, if◌then◌else◌}
 use Rattle.std.specs.declared.alloc.Global.{Global}
 use Rattle.redis_resp.specs.Table.{Fields}
 use Rattle.redis_resp.specs.Tree.{Tree}
 use Rattle.stream_group.specs.Worker as machine
-use Rattle.stream_group.specs.Worker.{Id, Delivered, Verdict, Machine, Ending, went_through, stopped, cut_off, ending, acks_in, told_in, phase_at, after_commit}
+use Rattle.stream_group.specs.Worker.{Id, Delivered, Verdict, Machine, Ending, went_through, stopped, cut_off, ending}
+use Rattle.stream_group.specs.Worker.{acks_in, told_in, phase_at, after_commit}
 use Rattle.stream_worker.specs.Handling.{with_all}
 use Rattle.stream_worker.specs.Questions.{phase_of}
 use Rattle.stream_worker.specs.declared.worker.Progress.{Progress}
@@ -53,8 +55,14 @@ ending_said (Err e) = cut_off
 
 module _ {R : Type 0} (with_verdict : R → List ℕ × Fields Tree → Verdict → R) where
   -- the machine took entries, and goes on in this phase, or begins again where it did not get through them
-  pub record Moved (es : List (Delivered (Fields Tree))) (next : machine.Phase) (m n : Machine) (r s : R) (how : Ending) : Type 0 where
+  pub record Moved (es : List (Delivered (Fields Tree))) (next : machine.Phase) (m n : Machine) (r s : R)
+      (how : Ending) : Type 0 where
     pub verdicts : List Verdict
-    pub machine : n ≡ record { every = m.every; phase = phase_at how next; to_commit = m.to_commit ++ acks_in es verdicts; to_acknowledge = m.to_acknowledge }
+    pub machine : n ≡ record {
+      every = m.every;
+      phase = phase_at how next;
+      to_commit = m.to_commit ++ acks_in es verdicts;
+      to_acknowledge = m.to_acknowledge;
+    }
     pub history : s ≡ with_all with_verdict r (told_in es verdicts)
     pub ended : how ≡ ending es verdicts

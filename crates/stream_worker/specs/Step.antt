@@ -36,7 +36,8 @@ AnswersStayInStep = (w : World (Fields Tree)) (k : ℕ) (r : Reply (Fields Tree)
 -- and so where memory runs out among the entries
 abbrev pub CutsStayInStep : Type 0
 CutsStayInStep = (w : World (Fields Tree)) (k : ℕ) (r : Reply (Fields Tree)) → item w.replies k ≡ Some r
-    → (settings : Settings) (question : Asked) (t : Tree) → hears settings question (wire.value t) ≡ Some (told r.answer)
+    → (settings : Settings) (question : Asked) (t : Tree)
+    → hears settings question (wire.value t) ≡ Some (told r.answer)
     → (n : Machine) (now : Doings)
     → WasCut done_too settings question t (w.workers r.consumer) n (doings_in w r.consumer) now → Steps w k r n now
 
@@ -49,7 +50,8 @@ as_it_asks w c = if commits (w.workers c) then happens w (Commit c) else w
 pub record Asks (w : World (Fields Tree)) (c : Name) : Type 0 where
   pub worker : (as_it_asks w c).workers c ≡ at_request (w.workers c)
   pub done : doings_in (as_it_asks w c) c ≡ history_at_request committed_too (w.workers c) (doings_in w c)
-  pub sent : (happens (as_it_asks w c) (Acknowledge c)).acks ≡ (c, (at_request (w.workers c)).to_acknowledge) ∷ (as_it_asks w c).acks
+  pub sent : (happens (as_it_asks w c) (Acknowledge c)).acks ≡ (c, (at_request (w.workers c)).to_acknowledge)
+      ∷ (as_it_asks w c).acks
 
 -- and they are so in every world
 abbrev pub RequestsStayInStep : Type 0

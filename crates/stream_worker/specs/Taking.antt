@@ -1,12 +1,14 @@
 -- What a worker makes of entries: the machine's `acks_in` and `told_in`, for some verdicts.
-use Rattle.std.specs.Prelude.{◌≡◌, ℕ, Bool, true, false, nat_eq, List, ◌++◌, map, Some, None, Result, Ok, Err, if◌then◌else◌}
+use Rattle.std.specs.Prelude.{◌≡◌, ℕ, Bool, true, false, nat_eq, List, ◌++◌, map, Some, None, Result, Ok, Err}
+use Rattle.std.specs.Prelude.{if◌then◌else◌}
 use Rattle.std.specs.FinMap as fin
 use Rattle.redis_resp.specs.Table.{Fields}
 use Rattle.redis_resp.specs.Tree.{Tree}
 use Rattle.stream_entries.specs.Entry.{Entry}
 use Rattle.stream_entries.specs.EntryMeaning as entries
 use Rattle.stream_entries.specs.declared.stream_id.StreamId.{StreamId}
-use Rattle.stream_group.specs.Worker.{Id, Delivered, Verdict, follows, acks_one, told_one, acks_in, told_in, Ending, ending, went_through, stopped, cut_off}
+use Rattle.stream_group.specs.Worker.{Id, Delivered, Verdict, follows, acks_one, told_one, acks_in, told_in, Ending}
+use Rattle.stream_group.specs.Worker.{ending, went_through, stopped, cut_off}
 use Rattle.stream_worker.specs.Handling.{with_all}
 
 -- the entry that a handler is given

@@ -3,6 +3,7 @@ use crate::entries::Entry;
 use crate::error::{RequestError, WorkerError};
 use crate::gathered::Gathered;
 use crate::handler::{Handler, NotCommitted, Verdict};
+use crate::letters::{DeadLetters, LetterAsked};
 use crate::state::{MakeGroup, Settings};
 use crate::worker::{Progress, Worker};
 use redis_wire::{Decoded, Limits, Reply, decode};
@@ -72,6 +73,11 @@ impl Handler for Scripted {
 fn asked<H: Handler>(alloc: Global, worker: &mut Worker, handler: &mut H) -> Result<String, Fail> {
     let mut bytes = Vec::new(alloc);
     worker.request(alloc, &mut bytes, handler)?;
+    words_of(alloc, bytes)
+}
+
+// The words of a command, joined by spaces.
+fn words_of(alloc: Global, bytes: Vec<u8>) -> Result<String, Fail> {
     let text = String::from_utf8(bytes)?;
     let mut words = String::new(alloc);
     for (index, word) in text.split("\r\n").enumerate() {
@@ -252,5 +258,49 @@ fn errors_are_told_by_their_cause(rt: HostRuntime) -> Result<(), Fail> {
         "an answer to no question"
     );
     assert_eq!(rt; handler.loose.len(), 0);
+    Ok(())
+}
+
+// What comes, and whether it brings the letters on; the lines are what is asked before each.
+#[test]
+fn a_letter_is_added_before_its_entry_is_acknowledged(rt: HostRuntime) -> Result<(), Fail> {
+    let alloc = rt.alloc();
+    let mut letters = DeadLetters::new(
+        alloc,
+        String::from_str(alloc, "k")?,
+        String::from_str(alloc, "g")?,
+        String::from_str(alloc, "dead")?,
+    );
+    letters.give_up(alloc, "1-1", 5, &("item", "tea"))?;
+    letters.give_up(alloc, "2-1", 7, &("item", "cup"))?;
+    let one = "XADD dead * entry 1-1 deliveries 5 item tea";
+    let two = "XADD dead * entry 2-1 deliveries 7 item cup";
+    let session: [(&str, &[u8], bool); 13] = [
+        (one, b"-OOM command not allowed\r\n", false),
+        (one, b"-LOADING x\r\n", false),
+        (one, b"$-1\r\n", false),
+        (one, b"+QUEUED\r\n", false),
+        (one, b":1\r\n", false),
+        (one, b"$3\r\n9-1\r\n", true),
+        ("XACK k g 1-1", b"-READONLY x\r\n", false),
+        ("XACK k g 1-1", b"$3\r\n9-1\r\n", false),
+        ("XACK k g 1-1", b":1\r\n", true),
+        (two, b"$3\r\n9-2\r\n", true),
+        ("XACK k g 2-1", b":0\r\n", true),
+        ("", b":1\r\n", false),
+        ("", b"$3\r\n9-1\r\n", false),
+    ];
+    for (line, bytes, goes_on) in &session {
+        let mut out = Vec::new(alloc);
+        let asked = letters.request(alloc, &mut out)?;
+        assert_eq!(rt; asked == LetterAsked::Nothing, line.is_empty());
+        assert_eq!(rt; words_of(alloc, out)?.as_str(), *line);
+        match decode(alloc, bytes, LIMITS)? {
+            Decoded::Complete { reply, len: _ } => {
+                assert_eq!(rt; letters.answered(reply).is_ok(), *goes_on, "{line}");
+            }
+            Decoded::Incomplete => return Err(Fail::new("no whole reply")),
+        }
+    }
     Ok(())
 }

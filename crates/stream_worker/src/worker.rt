@@ -71,6 +71,13 @@ impl Worker {
         }
     }
 
+    /// What it waits to be answered.
+    pub fn asked(&self) -> Asked
+        ensures { result ≡ self.now.asked }
+    {
+        self.asked
+    }
+
     /// Appends the bytes of the next command: an acknowledgement of what is committed; where there
     /// is nothing to acknowledge a group, if one is to be made; and else what the phase asks.
     ///

@@ -3,14 +3,18 @@ use Rattle.line_log.proofs.opening.repair.Goals as goal
 
 pub returns-in_err-end-clause-any_moment : goal.returns-in_err-end-clause-any_moment
 returns-in_err-end-clause-any_moment g c disk =
-    at_start g.D.LogFile.seen g.D.LogFile.may_leave g.D.LogFile.moment g.D.LogFile.left_since g.met.D.LogFile.only_now c.args.file.now disk
+    at_start g.D.LogFile.seen g.D.LogFile.may_leave g.D.LogFile.moment g.D.LogFile.left_since g.met.D.LogFile.only_now
+    c.args.file.now disk
 
 pub returns-in_err-cut-clause-any_moment : goal.returns-in_err-cut-clause-any_moment
 returns-in_err-cut-clause-any_moment g c disk =
-    after_cut g.D.LogFile.seen g.D.LogFile.may_leave g.D.LogFile.moment g.D.LogFile.left_since g.met.D.LogFile.only_now c.args.file.now disk
+    after_cut g.D.LogFile.seen g.D.LogFile.may_leave g.D.LogFile.moment g.D.LogFile.left_since g.met.D.LogFile.only_now
+    c.args.file.now disk
     c.in_ok-end.end c.in_ok-end.ensures c.cut.new.self c.cut.ensures.crash c.cut.ensures.time
 
 pub returns-clause-any_moment : goal.returns-clause-any_moment
 returns-clause-any_moment g c disk =
-    after_sync g.D.LogFile.seen g.D.LogFile.may_leave g.D.LogFile.moment g.D.LogFile.left_since g.met.D.LogFile.only_now c.args.file.now disk
-    c.in_ok-end.end c.in_ok-end.ensures c.cut.new.self c.cut.ensures.crash c.cut.ensures.time c.sync.new.self c.sync.ensures.crash c.sync.ensures.time
+    after_sync g.D.LogFile.seen g.D.LogFile.may_leave g.D.LogFile.moment g.D.LogFile.left_since g.met.D.LogFile.only_now
+    c.args.file.now disk
+    c.in_ok-end.end c.in_ok-end.ensures c.cut.new.self c.cut.ensures.crash c.cut.ensures.time c.sync.new.self
+    c.sync.ensures.crash c.sync.ensures.time

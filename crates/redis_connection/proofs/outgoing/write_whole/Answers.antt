@@ -10,12 +10,24 @@ pub loop-turn-preserved : goal.loop-turn-preserved
 loop-turn-preserved g c =
     let bytes = c.args.bytes.now in
     let at = c.loop-turn.at in
-    let rest : take (length bytes - at) (drop at bytes) ≡ drop at bytes = take_all (length bytes - at) (drop at bytes) (omega (arith, length-drop at bytes)) in
-    let went : ℕ → Type 0 = λ k. Appends (g.W.Write.contents c.args.writer.now) (g.W.Write.contents c.write.new.self) (take k bytes) in
+    let rest : take (length bytes - at) (drop at bytes) ≡ drop at bytes =
+    take_all (length bytes - at) (drop at bytes) (omega (arith, length-drop at bytes)) in
+    let went : ℕ → Type 0 = λ k. Appends (g.W.Write.contents c.args.writer.now) (g.W.Write.contents c.write.new.self)
+    (take k bytes) in
     elim c.match-write.branch [
       | in-Ok w ↦ record {
-        within = omega (arith, w.at-is, length-drop at bytes, rw rest at w.in-Ok.ensures.bound, c.loop-turn.invariant.within);
-        went = subst went (sym w.at-is) (front_more _ _ _ bytes (take (length bytes - at) (drop at bytes)) at _ rest c.loop-turn.invariant.went w.in-Ok.ensures.bytes);
+        within =
+            omega (
+              arith,
+              w.at-is,
+              length-drop at bytes,
+              rw rest at w.in-Ok.ensures.bound,
+              c.loop-turn.invariant.within,
+            );
+        went =
+            subst went (sym w.at-is)
+            (front_more _ _ _ bytes
+            (take (length bytes - at) (drop at bytes)) at _ rest c.loop-turn.invariant.went w.in-Ok.ensures.bytes);
       }
       | in-Err+else-ne w ↦ record {
         within = omega (arith, w.at-is, c.loop-turn.invariant.within);

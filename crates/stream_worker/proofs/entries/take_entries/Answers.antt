@@ -11,25 +11,34 @@ use Rattle.stream_worker.proofs.entries.take_entries.Goals as goal
 pub loop-entry-preserved : goal.loop-entry-preserved
 loop-entry-preserved g c =
     let o = rw c.if-not-branch.false at c.in_ok-take_entry.ensures in
-    loop_step g.H.Handler.with_verdict entry_meaning c.args.entries.now c.loop-entry.entry-index c.entry-item.result _ _ _ _ _ _ c.loop-entry-test.true c.entry-item.is c.loop-entry.invariant o
+    loop_step g.H.Handler.with_verdict entry_meaning c.args.entries.now c.loop-entry.entry-index c.entry-item.result _ _
+    _ _ _ _ c.loop-entry-test.true c.entry-item.is c.loop-entry.invariant o
 
 pub returns-then-not-branch : goal.returns-then-not-branch
 returns-then-not-branch g c =
     let o = rw c.if-not-branch.true at c.in_ok-take_entry.ensures in
-    loop_stops g.H.Handler.with_verdict entry_meaning c.args.entries.now c.loop-entry.entry-index c.entry-item.result _ _ _ _ _ _ c.loop-entry-test.true c.entry-item.is c.loop-entry.invariant o
+    loop_stops g.H.Handler.with_verdict entry_meaning c.args.entries.now c.loop-entry.entry-index c.entry-item.result _
+    _ _ _ _ _ c.loop-entry-test.true c.entry-item.is c.loop-entry.invariant o
 
 pub returns-in_err-take_entry : goal.returns-in_err-take_entry
 returns-in_err-take_entry g c =
     let o = c.in_err-take_entry.ensures in
-    let P : Ending → Type 0 = λ b. Took g.H.Handler.with_verdict (all_delivered (map entry_meaning c.args.entries.now)) (map string_bytes c.args.ids.now.items) (map string_bytes c.take_entry.new.ids.items) (g.H.Handler.history c.args.handler.now) (g.H.Handler.history c.take_entry.new.handler) b in
+    let P : Ending → Type 0 = λ b. Took g.H.Handler.with_verdict (all_delivered (map entry_meaning c.args.entries.now))
+    (map string_bytes c.args.ids.now.items) (map string_bytes c.take_entry.new.ids.items)
+    (g.H.Handler.history c.args.handler.now) (g.H.Handler.history c.take_entry.new.handler) b in
     subst P (sym (said_error c.from_residual.result c.from_residual.ensures.0))
-    (loop_cut g.H.Handler.with_verdict entry_meaning c.args.entries.now c.loop-entry.entry-index c.entry-item.result _ _ _ _ _ _ c.loop-entry-test.true c.entry-item.is c.loop-entry.invariant o.0 o.1)
+    (loop_cut g.H.Handler.with_verdict entry_meaning c.args.entries.now c.loop-entry.entry-index c.entry-item.result _ _
+    _ _ _ _ c.loop-entry-test.true c.entry-item.is c.loop-entry.invariant o.0 o.1)
 
 pub returns : goal.returns
 returns g c =
     let past : length c.args.entries.now ≤ c.loop-entry.entry-index = omega arith in
     let e = take_all c.loop-entry.entry-index c.args.entries.now past in
-    let all : all_delivered (map entry_meaning (take c.loop-entry.entry-index c.args.entries.now)) ≡ all_delivered (map entry_meaning c.args.entries.now)
+    let all : all_delivered (map entry_meaning (take c.loop-entry.entry-index c.args.entries.now))
+    ≡ all_delivered (map entry_meaning c.args.entries.now)
     = ap (λ es. all_delivered (map entry_meaning es)) e in
-    let P : List (Delivered (Fields Tree)) → Type 0 = λ es. Took g.H.Handler.with_verdict es (map string_bytes c.args.ids.now.items) (map string_bytes c.loop-entry.ids.items) (g.H.Handler.history c.args.handler.now) (g.H.Handler.history c.loop-entry.handler) went_through in
+    let P : List (Delivered (Fields Tree)) → Type 0 =
+    λ es. Took g.H.Handler.with_verdict es (map string_bytes c.args.ids.now.items)
+    (map string_bytes c.loop-entry.ids.items) (g.H.Handler.history c.args.handler.now)
+    (g.H.Handler.history c.loop-entry.handler) went_through in
     subst P all (ends g.H.Handler.with_verdict _ _ _ _ _ c.loop-entry.invariant)

@@ -6,4 +6,6 @@ use Rattle.stream_worker.proofs.entries.take_entries.Given as goal
 
 -- all entries so far got verdicts
 abbrev pub invariant-loop-entry : goal.invariant-loop-entry
-invariant-loop-entry g l = Going g.H.Handler.with_verdict (all_delivered (map entry_meaning (take l.entry-index l.entries))) (map string_bytes l.initial.ids.items) (map string_bytes l.ids.items) (g.H.Handler.history l.initial.handler) (g.H.Handler.history l.handler)
+invariant-loop-entry g l = Going g.H.Handler.with_verdict
+    (all_delivered (map entry_meaning (take l.entry-index l.entries))) (map string_bytes l.initial.ids.items)
+    (map string_bytes l.ids.items) (g.H.Handler.history l.initial.handler) (g.H.Handler.history l.handler)

@@ -8,9 +8,12 @@ pub returns-in_err-take-clause-err : goal.returns-in_err-take-clause-err
 returns-in_err-take-clause-err g c =
     let moved = rw c.deref.ensures.value at c.in_err-take.ensures.moved in
     memory_err c.from_residual-in_err-take.result _ c.from_residual-in_err-take.ensures.1
-    (claim_cut g.H.Handler.with_verdict c.args.self.now.settings (tree c.args.value) (machine_of c.args.self.now) _ _ _ (autoclaim_meaning c.in_ok-claim.claim) _ c.in_ok-claim.ensures.ok c.next_claim-next.ensures moved)
+    (claim_cut g.H.Handler.with_verdict c.args.self.now.settings (tree c.args.value) (machine_of c.args.self.now) _ _ _
+    (autoclaim_meaning c.in_ok-claim.claim) _ c.in_ok-claim.ensures.ok c.next_claim-next.ensures moved)
 
 pub returns-clause-ok : goal.returns-clause-ok
 returns-clause-ok g c =
     let moved = rw c.deref.ensures.value at c.in_ok-take.ensures.moved in
-    claim_went g.H.Handler.with_verdict c.args.self.now.settings (tree c.args.value) (machine_of c.args.self.now) _ _ _ (autoclaim_meaning c.in_ok-claim.claim) _ c.in_ok-take.field-0 c.in_ok-claim.ensures.ok c.next_claim-next.ensures moved
+    claim_went g.H.Handler.with_verdict c.args.self.now.settings (tree c.args.value) (machine_of c.args.self.now) _ _ _
+    (autoclaim_meaning c.in_ok-claim.claim) _ c.in_ok-take.field-0 c.in_ok-claim.ensures.ok
+    c.next_claim-next.ensures moved

@@ -10,7 +10,8 @@ returns-in_err-take-clause-err g c =
     let taken = rw c.deref-2.ensures.value at c.in_err-take.ensures.moved in
     let moved = rw c.replace-phase.ensures.after at taken in
     memory_err c.from_residual-in_err-take.result _ c.from_residual-in_err-take.ensures.1
-    (news_cut g.H.Handler.with_verdict c.args.self.now.settings (tree c.args.value) (machine_of c.args.self.now) _ _ _ _ _ said next moved)
+    (news_cut g.H.Handler.with_verdict c.args.self.now.settings (tree c.args.value)
+    (machine_of c.args.self.now) _ _ _ _ _ said next moved)
 
 pub returns-clause-ok : goal.returns-clause-ok
 returns-clause-ok g c =
@@ -18,4 +19,5 @@ returns-clause-ok g c =
     let next = rw c.replace-phase.ensures.value at c.next_round-next.ensures in
     let taken = rw c.deref-2.ensures.value at c.in_ok-take.ensures.moved in
     let moved = rw c.replace-phase.ensures.after at taken in
-    news_went g.H.Handler.with_verdict c.args.self.now.settings (tree c.args.value) (machine_of c.args.self.now) _ _ _ _ _ c.in_ok-take.field-0 said next moved
+    news_went g.H.Handler.with_verdict c.args.self.now.settings (tree c.args.value)
+    (machine_of c.args.self.now) _ _ _ _ _ c.in_ok-take.field-0 said next moved

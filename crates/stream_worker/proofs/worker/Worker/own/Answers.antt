@@ -9,11 +9,13 @@ returns-in_err-take-clause-err g c =
     let next = rw c.deref-2.ensures.value at c.in_ok-next.ensures in
     let moved = rw c.deref-3.ensures.value at c.in_err-take.ensures.moved in
     memory_err c.from_residual-in_err-take.result _ c.from_residual-in_err-take.ensures.1
-    (own_cut g.H.Handler.with_verdict c.args.self.now.settings (tree c.args.value) (machine_of c.args.self.now) _ _ _ _ _ said next moved)
+    (own_cut g.H.Handler.with_verdict c.args.self.now.settings (tree c.args.value)
+    (machine_of c.args.self.now) _ _ _ _ _ said next moved)
 
 pub returns-clause-ok : goal.returns-clause-ok
 returns-clause-ok g c =
     let said = rw c.deref.ensures at c.in_ok-entries.ensures.ok in
     let next = rw c.deref-2.ensures.value at c.in_ok-next.ensures in
     let moved = rw c.deref-3.ensures.value at c.in_ok-take.ensures.moved in
-    own_went g.H.Handler.with_verdict c.args.self.now.settings (tree c.args.value) (machine_of c.args.self.now) _ _ _ _ _ c.in_ok-take.field-0 said next moved
+    own_went g.H.Handler.with_verdict c.args.self.now.settings (tree c.args.value)
+    (machine_of c.args.self.now) _ _ _ _ _ c.in_ok-take.field-0 said next moved

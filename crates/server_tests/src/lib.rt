@@ -1,0 +1,28 @@
+//! Tests of the stream server in memory.
+#![tactic(auto)]
+
+#[cfg(test)]
+mod answers;
+#[cfg(test)]
+mod schedules;
+
+use std::alloc::Global;
+use std::test::Fail;
+use stream_server::{Server, Session, append_reply};
+
+// What the command of this line is answered.
+fn told(
+    alloc: Global,
+    server: &mut Server,
+    session: &mut Session,
+    line: &str,
+) -> Result<String, Fail> {
+    let mut words = Vec::new(alloc);
+    for word in line.split(' ') {
+        words.push(Vec::from_slice(alloc, word.as_bytes())?)?;
+    }
+    let reply = server.step(alloc, 0, session, words)?;
+    let mut bytes = Vec::new(alloc);
+    append_reply(alloc, &mut bytes, session.protocol, &reply)?;
+    Ok(String::from_utf8(bytes)?)
+}

@@ -1,0 +1,87 @@
+//! The loop of the program: it asks, and takes the answers.
+ghost use Rattle.std.specs.Prelude.{IfOk, IsTrue};
+
+use crate::lines::{LineFault, Lines};
+use crate::report::Report;
+use anyhow::{Error, Result, anyhow, bail};
+use line_log::LogFile;
+use redis_connection::Connection;
+use redis_resp::Value;
+use redis_wire::Reply;
+use std::alloc::Global;
+use std::io::{Read, Write};
+use std::rt::Clock;
+use stream_worker::{Asked, Progress, RequestError, Worker, WorkerError};
+
+/// Drains until something fails, or until a read finds nothing new where that is asked for.
+pub fn drain<R: Read + Drop, W: Write + Drop, D: LogFile + Drop, T: Clock + Eprint + AllocGlobal>(
+    rt: &T,
+    mut connection: Connection<R, W>,
+    mut worker: Worker,
+    lines: &mut Lines<D>,
+    report: &mut Report,
+    until_empty: bool,
+) -> Result<()>
+    ensures { IfOk result (λ _. IsTrue until_empty) }
+{
+    let alloc = rt.alloc();
+    let mut question = Vec::new(alloc);
+    for _ in 0..u64::MAX {
+        question.clear();
+        if let Err(error) = worker.request(alloc, &mut question, lines) {
+            return Err(not_asked(error, &lines.fault));
+        }
+        connection.send_bytes(&question)?;
+        let reply = connection.receive(alloc)?;
+        let asked = worker.asked();
+        let nothing_new = if let Reply::Value(value) = &reply {
+            lines.came(alloc, asked, value)?;
+            asked == Asked::News && matches!(value, Value::Nil)
+        } else {
+            false
+        };
+        match worker.answered(alloc, reply, lines) {
+            Ok(Progress::GoesOn) => {}
+            Ok(Progress::Stopped) => return Err(stopped(&lines.fault)),
+            Err(error) => return Err(not_taken(alloc, error)),
+        }
+        if asked == Asked::Acknowledgement {
+            if report.count(rt, lines.committed)? {
+                eprintln!(rt; "{report}")?;
+            }
+        }
+        if until_empty && nothing_new {
+            return Ok(());
+        }
+    }
+    bail!("the last turn came")
+}
+
+// Why nothing was asked.
+fn not_asked(error: RequestError, fault: &Option<LineFault>) -> Error {
+    match (error, fault) {
+        (RequestError::NotCommitted, Some(LineFault::Log(reason))) => {
+            anyhow!("cannot write the file: {reason}")
+        }
+        (error, _) => error.into(),
+    }
+}
+
+// Why an entry was not done.
+fn stopped(fault: &Option<LineFault>) -> Error {
+    match fault {
+        Some(LineFault::Log(reason)) => anyhow!("cannot write a line: {reason}"),
+        Some(LineFault::NoText) | None => anyhow!("an entry has a field that is no text"),
+    }
+}
+
+// Why an answer was not taken.
+fn not_taken(alloc: Global, error: WorkerError) -> Error {
+    match error {
+        WorkerError::Server(error) => match String::from_utf8_lossy(alloc, &error.text) {
+            Ok(text) => anyhow!("the server answers {text}"),
+            Err(error) => error.into(),
+        },
+        error => error.into(),
+    }
+}

@@ -1,0 +1,60 @@
+//! Drains a stream for one consumer of a group into a file, over a connection that stands at its
+//! standard input and output:
+//!
+//! ```text
+//! bash -c 'exec 3<>/dev/tcp/127.0.0.1/6379; stream_drain orders packers ann orders.txt <&3 >&3'
+//! ```
+//!
+//! Each entry is a line of the file: its id and its fields, in order and with repeated ones,
+//! separated by tabs. A backslash, a tab, a line feed and a carriage return in them stand as `\\`,
+//! `\t`, `\n` and `\r`. The lines of a batch are on the disk before its entries are acknowledged,
+//! so whatever crash comes, an entry that was added is still to come, or pending, or in the file,
+//! or was deleted. A line may come again after a crash.
+//!
+//! What it does stands on standard error, once a second and at the end. It ends with 0 where
+//! `--until-empty` is there and nothing new came, and else with 1 and the reason.
+#![tactic(auto)]
+
+mod drain;
+mod lines;
+mod options;
+mod report;
+
+use crate::drain::drain;
+use crate::lines::Lines;
+use crate::options::{Options, options_of};
+use crate::report::Report;
+use anyhow::{Context, Result};
+use line_log::{LineLog, SystemFile};
+use redis_connection::Connection;
+use redis_wire::Limits;
+use std::{env, io};
+use stream_worker::Worker;
+
+fn main(rt: HostRuntime) -> Result<()> {
+    let alloc = rt.alloc();
+    let mut words = Vec::new(alloc);
+    for word in env::args(&rt)?.skip(1) {
+        words.push(word)?;
+    }
+    let Options {
+        settings,
+        path,
+        until_empty,
+    } = options_of(alloc, &words)?;
+    let file = SystemFile::open(&rt, &path).context(format_args!("cannot open {path}"))?;
+    let log = LineLog::open(alloc, file).context(format_args!("cannot open {path}"))?;
+    let connection = Connection::new(alloc, rt.reader(), io::writer(&rt), Limits::default())?;
+    let mut lines = Lines::new(alloc, log);
+    let mut report = Report::new(&rt)?;
+    let ended = drain(
+        &rt,
+        connection,
+        Worker::new(alloc, settings),
+        &mut lines,
+        &mut report,
+        until_empty,
+    );
+    eprintln!(rt; "{report}")?;
+    ended
+}

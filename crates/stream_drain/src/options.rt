@@ -1,0 +1,101 @@
+//! The words that the program is called with.
+ghost use Rattle.std.specs.Prelude.{◌≤◌, length, IfOk};
+
+use anyhow::{Result, bail};
+use std::alloc::Global;
+use stream_worker::{MakeGroup, Settings};
+
+const USAGE: &str = "wanted: KEY GROUP CONSUMER FILE [--from 0|$] [--count N] [--block MS] \
+                     [--idle MS] [--every N] [--until-empty]";
+
+/// What the program is to do.
+#[derive(Drop)]
+pub struct Options {
+    pub settings: Settings,
+    pub path: String,
+    /// It ends where a read finds nothing new.
+    pub until_empty: bool,
+}
+
+/// An option with a value.
+#[derive(Clone, Copy)]
+enum Valued {
+    /// Makes the group where there is none, with all entries or with those from then on.
+    From,
+    /// At most so many entries at once.
+    Count,
+    /// For so many milliseconds the server waits for new entries.
+    Block,
+    /// Entries that others left for so many milliseconds are claimed.
+    Idle,
+    /// It claims after so many reads.
+    Every,
+}
+
+/// The options of these words.
+pub fn options_of(alloc: Global, words: &[String]) -> Result<Options>
+    ensures { IfOk result (λ _. 4 ≤ length words.now) }
+{
+    let [key, group, consumer, path, rest @ ..] = words else {
+        bail!("{USAGE}");
+    };
+    let settings = Settings::new(key.clone()?, group.clone()?, consumer.clone()?);
+    let mut options = Options {
+        settings,
+        path: String::from_str(alloc, path)?,
+        until_empty: false,
+    };
+    let mut valued = None;
+    for word in rest {
+        valued = match valued {
+            Some(option) => {
+                set(&mut options.settings, option, word)?;
+                None
+            }
+            None if word.as_str() == "--until-empty" => {
+                options.until_empty = true;
+                None
+            }
+            None => Some(valued_of(word)?),
+        };
+    }
+    if valued.is_some() {
+        bail!("{USAGE}");
+    }
+    Ok(options)
+}
+
+fn valued_of(word: &str) -> Result<Valued> {
+    Ok(match word {
+        "--from" => Valued::From,
+        "--count" => Valued::Count,
+        "--block" => Valued::Block,
+        "--idle" => Valued::Idle,
+        "--every" => Valued::Every,
+        _ => bail!("{word}: {USAGE}"),
+    })
+}
+
+fn set(settings: &mut Settings, option: Valued, value: &str) -> Result<()> {
+    match option {
+        Valued::From => {
+            settings.make_group = match value {
+                "0" => MakeGroup::FromTheFirst,
+                "$" => MakeGroup::FromNow,
+                _ => bail!("--from {value}: {USAGE}"),
+            };
+        }
+        Valued::Count => settings.count = number(value)?,
+        Valued::Block => settings.block = number(value)?,
+        Valued::Idle => settings.min_idle = number(value)?,
+        Valued::Every => settings.every = number(value)?,
+    }
+    Ok(())
+}
+
+fn number(value: &str) -> Result<usize> {
+    match value.parse::<usize>() {
+        Ok(number) => Ok(number),
+        Err(_) => bail!("no number: {value}"),
+    }
+}

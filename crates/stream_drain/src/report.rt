@@ -1,0 +1,50 @@
+//! What the program says of its progress, on standard error.
+ghost use Rattle.std.specs.Prelude.{◌≡◌, ◌++◌, IfOk, OnOk, Some, codes, decimal};
+
+use anyhow::Result;
+use std::fmt;
+use std::rt::Clock;
+use std::time::{Duration, Instant};
+
+/// Counts, which are shown once a second and at the end.
+#[derive(Drop)]
+pub struct Report {
+    shown: Instant,
+    entries: u64,
+    batches: u64,
+}
+
+impl Report {
+    /// Nothing was done yet.
+    pub fn new<R: Clock>(rt: &R) -> Result<Report>
+        ensures { IfOk result (λ r. (r.entries ≡ 0) × (r.batches ≡ 0)) }
+    {
+        Ok(Report {
+            shown: Instant::now(rt)?,
+            entries: 0,
+            batches: 0,
+        })
+    }
+
+    /// So many entries are in the file; an acknowledgement was answered. Whether it is time to show
+    /// the counts.
+    pub fn count<R: Clock>(&mut self, rt: &R, entries: u64) -> Result<bool>
+        ensures { OnOk result (self.new.entries ≡ entries) }
+    {
+        self.entries = entries;
+        self.batches = self.batches.saturating_add(1);
+        if self.shown.elapsed(rt)? < Duration::from_secs(1) {
+            return Ok(false);
+        }
+        self.shown = Instant::now(rt)?;
+        Ok(true)
+    }
+}
+
+impl fmt::Display for Report {
+    ghost output = { λ r. Some (decimal r.entries ++ codes " entries in " ++ decimal r.batches ++ codes " batches") };
+
+    fn fmt<W: fmt::Write>(&self, f: &mut fmt::Formatter<W>) -> fmt::Result {
+        write!(f, "{} entries in {} batches", self.entries, self.batches)
+    }
+}
