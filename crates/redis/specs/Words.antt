@@ -62,6 +62,7 @@ pub use Rattle.redis_streams.specs.StatusMeaning.{xackdel_code, xackdel_of_code,
 pub use Rattle.redis_streams.specs.StatusMeaning.{xdelex_code, xdelex_of_code, xdelex_reading, xdelex_refusal}
 pub use Rattle.redis_wire.specs.Decoded.{Decodes, EndTooEarly, IsFirstFault, IsIncomplete, IsWhole, NoReply}
 pub use Rattle.redis_wire.specs.Equality.{AreEqual}
+pub use Rattle.redis_wire.specs.Failure.{parsing_failure, reply_failure, wire_failure, write_failure}
 unfoldable pub use Rattle.redis_wire.specs.Grammar.{IsReply}
 pub use Rattle.redis_wire.specs.Laws.{CommandsAreValues, RepliesAreApart}
 pub use Rattle.redis_wire.specs.Limits.{default_limits}
@@ -73,9 +74,9 @@ pub use Rattle.redis_wire.specs.Place.{IsArrayAt, IsIntAt, IsMapAt, IsNilAt, IsT
 pub use Rattle.redis_wire.specs.Record.{IsErrorOf, IsRecord}
 pub use Rattle.redis_wire.specs.Reply.{Answer, Answers, answer, code_of, first_error, group, message_of, pushed}
 pub use Rattle.redis_wire.specs.Reply.{refused, value}
-pub use Rattle.stream_commands.specs.Fields.{AreFields, fields_joined, one_field}
-pub use Rattle.stream_commands.specs.JustId.{JustId, RefusesJustId, empty_justid, justid_reading}
-pub use Rattle.stream_commands.specs.JustIdMeaning.{justid_meaning}
+pub use Rattle.redis_wire.specs.WrittenReply.{answer_bytes}
+pub use Rattle.stream_commands.specs.Fields.{AreAnyFields, AreFields, any_fields, each_joined, fields_joined}
+pub use Rattle.stream_commands.specs.Fields.{one_field, then_fields, those_set}
 pub use Rattle.stream_commands.specs.NonEmpty.{NonEmpty, all}
 pub use Rattle.stream_commands.specs.Read.{read_word}
 pub use Rattle.stream_commands.specs.WholeCommands.{AddPartsFit, AutoClaimPartsFit, ClaimPartsFit, IsApart}
@@ -86,6 +87,8 @@ pub use Rattle.stream_entries.specs.AutoClaim.{AutoClaim, autoclaim_reading, emp
 pub use Rattle.stream_entries.specs.AutoClaimMeaning.{autoclaim_meaning}
 pub use Rattle.stream_entries.specs.Entry.{Entry, empty_entry, entry_of}
 pub use Rattle.stream_entries.specs.EntryMeaning.{delivery_of, entries_of, entry_meaning, row_of}
+pub use Rattle.stream_entries.specs.JustId.{JustId, RefusesJustId, empty_justid, justid_reading}
+pub use Rattle.stream_entries.specs.JustIdMeaning.{justid_meaning}
 pub use Rattle.stream_entries.specs.OverlapLaws.{BothRecordsAreShape, ClaimIsGiven, EachEntryIsRead, RecordsDiffer}
 pub use Rattle.stream_entries.specs.OverlapLaws.{StandardIsGiven}
 pub use Rattle.stream_entries.specs.Read.{Streams, delivered_entry, delivery_reading, read_reading}

@@ -7,9 +7,11 @@ pub use redis_streams::laws::{
     other_keys_change_nothing_in_full, overlap, respell_autoclaim, respell_claim, respell_range,
     respell_read,
 };
+pub use redis_wire::answers_are_read;
 pub use redis_wire::laws::{
-    commands_are_values, equal_faults, equal_limits, equal_reply_errors, equal_server_errors,
-    equal_wire_errors, replies_are_apart,
+    commands_are_values, copied_fault, copied_group_kind, copied_limits, copied_wire_error,
+    equal_faults, equal_limits, equal_reply_errors, equal_server_errors, equal_wire_errors,
+    replies_are_apart,
 };
 pub use stream_commands::laws::{
     ids_are_apart, unique_xadd, unique_xautoclaim, unique_xclaim, unique_xread, unique_xtrim,

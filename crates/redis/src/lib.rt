@@ -20,3 +20,4 @@ pub use redis_resp::{
     ToSingleRedisArg, Value, WriteError, field_of, from_redis_value, from_redis_value_ref,
     hash_map_of, index_map_of, write_with_room,
 };
+pub use redis_wire::RedisError;

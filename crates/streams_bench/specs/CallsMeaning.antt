@@ -17,7 +17,8 @@ abbrev pub add_call_of : AddCall → add.AddCall
 add_call_of add_call.Nomkstream = (add.nomkstream, true)
 add_call_of (add_call.Trim s) = (add.trim, strategy_of s)
 add_call_of (add_call.Policy p) = (add.policy, policy_of p)
-add_call_of (add_call.Idmp producer idempotent) = (add.idempotency, manual (string_bytes producer) (string_bytes idempotent))
+add_call_of (add_call.Idmp producer idempotent) =
+    (add.idempotency, manual (string_bytes producer) (string_bytes idempotent))
 add_call_of (add_call.Idmpauto producer) = (add.idempotency, automatic (string_bytes producer))
 
 -- the arguments of a name: one for each of its parts

@@ -9,7 +9,8 @@ IsSame row = string_bytes row.text ≡ string_bytes row.stored
 
 -- what a line says behind its text
 abbrev pub difference : Row → List ℕ
-difference row = if bytes_eq (string_bytes row.text) (string_bytes row.stored) then [] else codes " differs from " ++ string_bytes row.stored
+difference row = if bytes_eq (string_bytes row.text) (string_bytes row.stored) then []
+    else codes " differs from " ++ string_bytes row.stored
 
 -- `name text`, or `name text differs from stored`, and a line feed
 abbrev pub line_of : Row → List ℕ

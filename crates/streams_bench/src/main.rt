@@ -12,6 +12,9 @@
 //! or standard input or output failed.
 #![tactic(auto)]
 
+ghost use Rattle.std.specs.Prelude.{◌≡◌, Ok, OnErr, false, true};
+ghost use Rattle.std.specs.Process.{exit_status};
+
 mod call_sequences;
 mod fixed_args;
 mod print;
@@ -60,7 +63,16 @@ impl From<RunError> for Failure {
 }
 
 fn main(rt: HostRuntime) -> ExitCode {
-    match print_and_answer(&rt) {
+    exit_code(print_and_answer(&rt))
+}
+
+// The status of a run: that all texts are the stored ones, that one differs, or why it failed.
+fn exit_code(outcome: Result<bool, Failure>) -> ExitCode
+    ensures same { outcome ≡ Ok true → exit_status result ≡ 0 }
+    ensures differs { outcome ≡ Ok false → exit_status result ≡ 1 }
+    ensures failed { OnErr outcome (exit_status result ≡ 2) }
+{
+    match outcome {
         Ok(true) => ExitCode::SUCCESS,
         Ok(false) => ExitCode::from(DIFFERENT),
         Err(_failure) => ExitCode::from(FAILED),

@@ -7,6 +7,7 @@ use Rattle.streams_bench.proofs.print.print_rows.Given as goal
 -- the lines so far were written, and no text so far differed exactly where `all_same` says so
 abbrev pub invariant-loop-row : goal.invariant-loop-row
 invariant-loop-row g l = record {
-  lines : Appends (g.W.Write.contents l.initial.output) (g.W.Write.contents l.output) (flat_map line_of (take l.row-index l.rows));
+  lines : Appends (g.W.Write.contents l.initial.output) (g.W.Write.contents l.output)
+      (flat_map line_of (take l.row-index l.rows));
   same : IsTrue l.all_same ↔ All IsSame (take l.row-index l.rows);
 }
