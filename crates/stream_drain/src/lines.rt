@@ -57,25 +57,7 @@ impl<D: LogFile + Drop> Lines<D> {
             × (self.new.committed ≡ self.old.committed) }
     {
         self.came.clear();
-        match (asked, answer) {
-            (Asked::Own | Asked::News, Value::Map(streams)) => {
-                for (_key, entries) in streams {
-                    push_entries(alloc, &mut self.came, entries)?;
-                }
-            }
-            (Asked::Own | Asked::News, Value::Array(streams)) => {
-                for stream in streams {
-                    push_stream(alloc, &mut self.came, stream)?;
-                }
-            }
-            (Asked::Claim, Value::Array(parts)) => {
-                if let Some(entries) = parts.get(1) {
-                    push_entries(alloc, &mut self.came, entries)?;
-                }
-            }
-            _ => {}
-        }
-        Ok(())
+        push_lines(alloc, &mut self.came, asked, answer)
     }
 
     // The line of the next entry that came with this id.
@@ -128,6 +110,34 @@ impl<D: LogFile + Drop> Handler for Lines<D> {
             }
         }
     }
+}
+
+// The streams of an answer to a read, or the entries of an answer to a claim.
+fn push_lines(
+    alloc: Global,
+    lines: &mut VecDeque<Line>,
+    asked: Asked,
+    answer: &Value,
+) -> Result<(), AllocError> {
+    match (asked, answer) {
+        (Asked::Own | Asked::News, Value::Map(streams)) => {
+            for (_key, entries) in streams {
+                push_entries(alloc, lines, entries)?;
+            }
+        }
+        (Asked::Own | Asked::News, Value::Array(streams)) => {
+            for stream in streams {
+                push_stream(alloc, lines, stream)?;
+            }
+        }
+        (Asked::Claim, Value::Array(parts)) => {
+            if let Some(entries) = parts.get(1) {
+                push_entries(alloc, lines, entries)?;
+            }
+        }
+        _ => {}
+    }
+    Ok(())
 }
 
 // A stream is its key and its entries.
