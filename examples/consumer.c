@@ -1,4 +1,4 @@
-/* A consumer of a group: reads entries, prints each, and acknowledges it once it is printed.
+/* A consumer of a group: reads entries, prints them, and acknowledges them once they are printed.
 
    usage: consumer KEY GROUP NAME HOST PORT    over a live server, until nothing is left to read
           consumer KEY GROUP NAME              over a stored connection: the replies come on standard input, and
@@ -113,13 +113,21 @@ static void print_entry(const connection *c, const redis_entry *entry) {
     puts(entry->deleted ? " deleted" : "");
 }
 
-static void acknowledge(connection *c, const char *key, const char *group, redis_span id) {
-    uint8_t out[4096];
-    size_t len;
-    if (redis_xack(text(key), strlen(key), text(group), strlen(group), c->bytes + id.start, id.len, out, sizeof out,
-                   &len) != REDIS_OK)
-        fail("no room for a command");
+/* Acknowledges so many entries by one command, once all that was printed has left this program. */
+static void acknowledge(connection *c, const char *key, const char *group, size_t entries) {
+    if (fflush(stdout) != 0) fail("the output takes nothing");
+    uint8_t *out = NULL;
+    size_t room, len = 4096;
+    uint32_t told;
+    do {
+        room = len;
+        out = table(out, room, 1);
+        told = redis_xack_entries(text(key), strlen(key), text(group), strlen(group), c->bytes, c->held, c->entries,
+                                  entries, out, room, &len);
+    } while (told == REDIS_ROOM);
+    if (told != REDIS_OK) fail("no command");
     send_all(c, out, len);
+    free(out);
 }
 
 static void ask(connection *c, const char *key, const char *group, const char *name) {
@@ -151,20 +159,18 @@ int main(int count, char **words) {
     c.fields = table(NULL, 0, sizeof *c.fields);
     c.bytes = malloc(c.room = 4096);
     if (c.bytes == NULL) fail("out of memory");
-    size_t acknowledged = 0; /* answers of XACK that are still to come */
+    bool acknowledging = false; /* the answer of XACK is still to come */
     for (;;) {
         redis_found found;
-        if (acknowledged == 0) ask(&c, words[1], words[2], words[3]);
+        if (!acknowledging) ask(&c, words[1], words[2], words[3]);
         if (!next_streams(&c, &found)) return 0;
-        if (acknowledged > 0) {
-            acknowledged--;
+        if (acknowledging) {
+            acknowledging = false;
         } else {
             if (live && found.entries == 0) return 0;
-            for (size_t i = 0; i < found.entries; i++) {
-                print_entry(&c, &c.entries[i]);
-                acknowledge(&c, words[1], words[2], c.entries[i].id);
-            }
-            acknowledged = found.entries;
+            for (size_t i = 0; i < found.entries; i++) print_entry(&c, &c.entries[i]);
+            if (found.entries > 0) acknowledge(&c, words[1], words[2], found.entries);
+            acknowledging = found.entries > 0;
         }
         take_off(&c, found.len);
     }

@@ -33,6 +33,8 @@ enum {
     REDIS_OTHER = 4,        /* a reply of another shape than the call reads */
     REDIS_MEMORY = 5,       /* out of memory; it says nothing of the bytes */
     REDIS_TOO_LARGE = 6,    /* an argument of 2^32 bytes or more */
+    REDIS_OUTSIDE = 7,      /* a place that was handed in is not within the bytes */
+    REDIS_NOTHING = 8,      /* no entry or field was handed in, and the server wants one */
 
     /* The bytes are no reply, however they go on: the first fault that reading from the left meets. */
     REDIS_FAULT = 16,
@@ -138,6 +140,26 @@ uint32_t redis_xreadgroup(const redis_read_settings *settings, const uint8_t *gr
 /* XACK key group id */
 uint32_t redis_xack(const uint8_t *key, size_t key_len, const uint8_t *group, size_t group_len, const uint8_t *id,
                     size_t id_len, uint8_t *out, size_t room, size_t *len);
+
+/* The next three take texts from where they stand in `bytes`, such as the entries or fields that
+   `redis_find_streams` found there: REDIS_OUTSIDE says that one of the places is not within `bytes`, and
+   REDIS_NOTHING that there is none. */
+
+/* XACK key group id .., the ids of these entries */
+uint32_t redis_xack_entries(const uint8_t *key, size_t key_len, const uint8_t *group, size_t group_len,
+                            const uint8_t *bytes, size_t bytes_len, const redis_entry *entries, size_t entry_count,
+                            uint8_t *out, size_t room, size_t *len);
+
+/* XCLAIM key group consumer min-idle id .., the ids of these entries; `min_idle` in milliseconds */
+uint32_t redis_xclaim_entries(const uint8_t *key, size_t key_len, const uint8_t *group, size_t group_len,
+                              const uint8_t *consumer, size_t consumer_len, size_t min_idle, const uint8_t *bytes,
+                              size_t bytes_len, const redis_entry *entries, size_t entry_count, uint8_t *out,
+                              size_t room, size_t *len);
+
+/* XADD key id name value .., these fields; with "*" as id the server makes one */
+uint32_t redis_xadd_fields(const uint8_t *key, size_t key_len, const uint8_t *id, size_t id_len, const uint8_t *bytes,
+                           size_t bytes_len, const redis_field *fields, size_t field_count, uint8_t *out, size_t room,
+                           size_t *len);
 
 /* XAUTOCLAIM key group consumer min-idle start COUNT count; `min_idle` in milliseconds */
 uint32_t redis_xautoclaim(const uint8_t *key, size_t key_len, const uint8_t *group, size_t group_len,

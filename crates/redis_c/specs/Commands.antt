@@ -1,5 +1,6 @@
 -- The arguments of commands by the parts that C hands in.
 use Rattle.std.specs.Prelude.{ℕ, Bool, List, [], ◌∷◌, codes, decimal, Option, Some, None, if◌then◌else◌}
+use Rattle.std.specs.List.{flat_map}
 use Rattle.stream_options.specs.Trim.{exact, approx}
 use Rattle.stream_options.specs.Maxlen.{maxlen_sentence}
 use Rattle.stream_options.specs.Read.{Read, default_read, group_with}
@@ -31,6 +32,14 @@ read_parts s group consumer key id = record { options = read_of s group consumer
 -- `XACK key group id ..`
 abbrev pub ack_args : List ℕ → List ℕ → List (List ℕ) → List (List ℕ)
 ack_args key group ids = codes "XACK" ∷ key ∷ group ∷ ids
+
+-- `XCLAIM key group consumer min-idle id ..`
+abbrev pub claim_args : List ℕ → List ℕ → List ℕ → ℕ → List (List ℕ) → List (List ℕ)
+claim_args key group consumer min_idle ids = codes "XCLAIM" ∷ key ∷ group ∷ consumer ∷ decimal min_idle ∷ ids
+
+-- `XADD key id name value ..`
+abbrev pub add_args : List ℕ → List ℕ → List (List ℕ × List ℕ) → List (List ℕ)
+add_args key id fields = codes "XADD" ∷ key ∷ id ∷ flat_map (λ field. field.0 ∷ field.1 ∷ []) fields
 
 -- `XAUTOCLAIM key group consumer min-idle start COUNT count`
 abbrev pub autoclaim_args : List ℕ → List ℕ → List ℕ → ℕ → List ℕ → ℕ → List (List ℕ)

@@ -2,3 +2,4 @@ pub mod Outcome
 pub mod Told
 pub mod Packing
 pub mod Commands
+pub mod Placed

@@ -1,5 +1,5 @@
 -- What C is told of a command that is packed.
-use Rattle.std.specs.Prelude.{◌≡◌, ℕ, List, length, take}
+use Rattle.std.specs.Prelude.{◌≡◌, ℕ, List, [], length, take, Option, Some, None}
 use Rattle.redis_wire.specs.Packed.{command_bytes}
 use Rattle.redis_wire.specs.PackedArgs.{IsTooLarge}
 use Rattle.redis_c.specs.declared.packing.Packing.{Packing}
@@ -11,6 +11,8 @@ number (packings.Written len) = 0
 number (packings.Room len) = 1
 number packings.Memory = 5
 number packings.TooLarge = 6
+number packings.Outside = 7
+number packings.Nothing = 8
 
 -- how many bytes were written, or are wanted
 abbrev pub len_of : Packing → ℕ
@@ -18,6 +20,8 @@ len_of (packings.Written len) = len
 len_of (packings.Room len) = len
 len_of packings.Memory = 0
 len_of packings.TooLarge = 0
+len_of packings.Outside = 0
+len_of packings.Nothing = 0
 
 -- the buffer begins with the bytes, and they are so many; or so many are wanted
 abbrev pub IsWritten : List ℕ → List ℕ → Packing → Type 0
@@ -31,6 +35,15 @@ abbrev pub IsPacking : List (List ℕ) → List ℕ → Packing → Type 0
 IsPacking args out packings.Memory = Unit {0}
 IsPacking args out packings.TooLarge = IsTooLarge args
 IsPacking args out p = IsWritten (command_bytes args) out p
+
+-- Of texts at places: a place is not within the bytes, or there is none of them, or the command of the
+-- texts is packed.
+abbrev pub IsPackingOf : {A : Type 0} → (List A → List (List ℕ)) → Option (List A) → List ℕ → Packing → Type 0
+IsPackingOf args texts out packings.Memory = Unit {0}
+IsPackingOf args texts out packings.Outside = texts ≡ None
+IsPackingOf args texts out packings.Nothing = texts ≡ Some []
+IsPackingOf args None out p = ⊥
+IsPackingOf args (Some ts) out p = IsPacking (args ts) out p
 
 -- C is told by the number of what packing comes to, and how many bytes were written or are wanted.
 pub record IsPackedAs (P : Packing → Type 0) (n count : ℕ) : Type 0 where

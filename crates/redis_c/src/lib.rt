@@ -5,12 +5,15 @@
 #![tactic(auto)]
 
 mod argument;
+mod at_places;
 mod commands;
 mod entries;
 mod other;
 mod outcome;
 mod packing;
+mod placed;
 
+pub use at_places::{redis_xack_entries, redis_xadd_fields, redis_xclaim_entries};
 pub use commands::{
     ReadSettings, redis_xack, redis_xautoclaim, redis_xpending, redis_xreadgroup, redis_xtrim,
 };

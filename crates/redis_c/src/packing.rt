@@ -23,6 +23,10 @@ pub enum Packing {
     Memory,
     /// An argument is of 2^32 bytes or more, or there are as many.
     TooLarge,
+    /// A place is not within the bytes.
+    Outside,
+    /// There is no entry or no field, and the server wants one.
+    Nothing,
 }
 
 impl Packing {
@@ -35,6 +39,8 @@ impl Packing {
             Packing::Room { .. } => 1,
             Packing::Memory => 5,
             Packing::TooLarge => 6,
+            Packing::Outside => 7,
+            Packing::Nothing => 8,
         }
     }
 
@@ -44,7 +50,7 @@ impl Packing {
     {
         match self {
             Packing::Written { len } | Packing::Room { len } => len,
-            Packing::Memory | Packing::TooLarge => 0,
+            Packing::Memory | Packing::TooLarge | Packing::Outside | Packing::Nothing => 0,
         }
     }
 }
