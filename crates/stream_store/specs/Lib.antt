@@ -1,2 +1,5 @@
 pub mod EntryId
+pub mod Order
+pub mod Pending
 pub mod Stream
+pub mod Trim

@@ -1,10 +1,8 @@
 -- What a stream and a group show, and how they change.
-use Rattle.std.specs.Prelude.{◌≡◌, ◌≤◌, ℕ, ℤ, List, [], ◌∷◌, ◌++◌, length, slice_set, insert, remove, drop, ◌⊎◌}
+use Rattle.std.specs.Prelude.{◌≡◌, ℕ, ℤ, List, [], ◌∷◌, remove}
 use Rattle.std.specs.List.{HoldsAt}
-use Rattle.std.specs.Global.{Vec}
 use Rattle.stream_store.specs.declared.entry_id.EntryId.{EntryId}
 use Rattle.stream_store.specs.declared.group.Group.{Group}
-use Rattle.stream_store.specs.declared.group.Pending.{Pending}
 use Rattle.stream_store.specs.declared.stream.Entry.{Entry}
 use Rattle.stream_store.specs.declared.stream.Node.{Node}
 use Rattle.stream_store.specs.declared.stream.Stream.{Stream}
@@ -36,33 +34,6 @@ pub record IsWithoutOne (id : EntryId) (old new : List Entry) : Type 0 where
   pub index : ℕ
   pub named : HoldsAt (λ entry. entry.id ≡ id) old index
   pub others : new ≡ remove old index
-
--- what was pending with this id is taken out, and the others stay
-pub record IsWithoutPending (id : EntryId) (old new : List Pending) : Type 0 where
-  pub index : ℕ
-  pub named : HoldsAt (λ pending. pending.id ≡ id) old index
-  pub others : new ≡ remove old index
-
--- it is pending in the place of what was pending with its id
-pub record IsRegiven (p : Pending) (old new : List Pending) : Type 0 where
-  pub index : ℕ
-  pub named : HoldsAt (λ pending. pending.id ≡ p.id) old index
-  pub is : new ≡ slice_set old index p
-
--- it is pending in addition
-pub record IsGivenNew (p : Pending) (old new : List Pending) : Type 0 where
-  pub index : ℕ
-  pub within : index ≤ length old
-  pub is : new ≡ insert old index p
-
--- it is pending, and what was pending beside it stays
-abbrev pub IsGiven : Pending → List Pending → List Pending → Type 0
-IsGiven p old new = IsRegiven p old new ⊎ IsGivenNew p old new
-
--- these are the last ones
-pub record IsEndOf (end all : List Pending) : Type 0 where
-  pub count : ℕ
-  pub is : end ≡ drop count all
 
 -- the id of the first one, 0-0 where there is none
 abbrev pub first_id_of : List Entry → EntryId

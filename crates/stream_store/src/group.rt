@@ -1,9 +1,10 @@
 //! A group of consumers.
-ghost use Rattle.std.specs.Prelude.{◌≡◌, ◌≤◌, [], length, IfOk, IfSome, OnOk, OnErr};
+ghost use Rattle.std.specs.Prelude.{◌≡◌, ◌≤◌, [], length, map, IfErr, IfNone, IfOk, IfSome, OnOk, OnErr};
 ghost use Rattle.std.specs.Bool.{OnTrue, OnFalse};
 ghost use Rattle.std.specs.List.{HoldsAt};
 ghost use Rattle.std.specs.List.Sorted.{IsSearchInRange};
-ghost use Rattle.stream_store.specs.Stream.{IsWithoutPending, IsGiven, IsEndOf};
+ghost use Rattle.stream_store.specs.Order.{IsAscending, IsGapFor, IsNowhere, IsSplitBefore};
+ghost use Rattle.stream_store.specs.Pending.{IsAcknowledged, IsEndOf, IsGiven, with_less, with_more};
 
 use crate::entry_id::EntryId;
 use std::alloc::{AllocError, Global};
@@ -71,19 +72,17 @@ impl Group {
     pub fn place(&self, id: EntryId) -> Result<usize, usize>
         ensures bound { IsSearchInRange result (length self.now.pending.items) }
         ensures found { IfOk result (HoldsAt (λ pending. pending.id ≡ id) self.now.pending.items) }
+        ensures missing { IfErr result (λ index. IsAscending (λ pending. pending.id) self.now.pending.items
+            → IsGapFor (λ pending. pending.id) id self.now.pending.items index) }
     {
-        let index = self
-            .pending
-            .binary_search_by_key(&id, |pending| pending.id)?;
-        match self.pending.get(index) {
-            Some(pending) if pending.id == id => Ok(index),
-            _ => Err(index),
-        }
+        self.pending.binary_search_by_key(&id, |pending| pending.id)
     }
 
     /// The index of the first that is pending with at least this id.
     pub fn start(&self, id: EntryId) -> usize
-        ensures { result ≤ length self.now.pending.items }
+        ensures bound { result ≤ length self.now.pending.items }
+        ensures split { IsAscending (λ pending. pending.id) self.now.pending.items
+            → IsSplitBefore (λ pending. pending.id) id self.now.pending.items result }
     {
         match self.place(id) {
             Ok(index) => index,
@@ -100,7 +99,9 @@ impl Group {
 
     /// What is pending with this id.
     pub fn get(&self, id: EntryId) -> Option<&Pending>
-        ensures { IfSome result (λ pending. pending.now.id ≡ id) }
+        ensures some { IfSome result (λ pending. pending.now.id ≡ id) }
+        ensures none { IfNone result (IsAscending (λ pending. pending.id) self.now.pending.items
+            → IsNowhere (λ pending. pending.id) id self.now.pending.items) }
     {
         match self.place(id) {
             Ok(index) => self.pending.get(index),
@@ -147,9 +148,10 @@ impl Group {
 
     /// The entry is pending so, whether it was pending or not.
     pub fn give(&mut self, pending: Pending) -> Result<(), AllocError>
-        ensures ok { OnOk result (IsGiven pending self.old.pending.items self.new.pending.items) }
-        ensures last_id { self.new.last_id ≡ self.old.last_id }
+        ensures ok { OnOk result (IsGiven pending self.old self.new) }
         ensures err { OnErr result (self.new.pending.items ≡ self.old.pending.items) }
+        ensures err_consumers { OnErr result (self.new.consumers ≡ self.old.consumers) }
+        ensures others { self.new ≡ record self.old { pending = self.new.pending; consumers = self.new.consumers } }
     {
         match self.place(pending.id) {
             Ok(index) => {
@@ -165,10 +167,11 @@ impl Group {
 
     /// The entry is no longer pending; tells whether it was.
     pub fn acknowledge(&mut self, id: EntryId) -> bool
-        ensures gone { OnTrue result (IsWithoutPending id self.old.pending.items
-            self.new.pending.items) }
-        ensures none { OnFalse result (self.new ≡ self.old) }
-        ensures last_id { self.new.last_id ≡ self.old.last_id }
+        ensures gone { OnTrue result (IsAcknowledged id self.old self.new) }
+        ensures same { OnFalse result (self.new ≡ self.old) }
+        ensures none { OnFalse result (IsAscending (λ pending. pending.id) self.old.pending.items
+            → IsNowhere (λ pending. pending.id) id self.old.pending.items) }
+        ensures others { self.new ≡ record self.old { pending = self.new.pending; consumers = self.new.consumers } }
     {
         let Ok(index) = self.place(id) else {
             return false;
@@ -207,20 +210,38 @@ impl Group {
     }
 }
 
-/// One more entry is pending for the consumer.
-fn one_more(consumers: &mut [Consumer], number: u64) {
-    for consumer in consumers {
-        if consumer.number == number {
-            consumer.pending = consumer.pending.saturating_add(1);
-        }
+/// One more entry is pending for the consumer of this number.
+fn one_more(consumers: &mut [Consumer], number: u64)
+    ensures { consumers.new ≡ map (with_more number) consumers.old }
+{
+    for consumer in consumers.iter_mut() {
+        count_more(consumer, number);
     }
 }
 
-/// One less entry is pending for the consumer.
-fn one_less(consumers: &mut [Consumer], number: u64) {
-    for consumer in consumers {
-        if consumer.number == number {
-            consumer.pending = consumer.pending.saturating_sub(1);
-        }
+/// One less entry is pending for the consumer of this number.
+fn one_less(consumers: &mut [Consumer], number: u64)
+    ensures { consumers.new ≡ map (with_less number) consumers.old }
+{
+    for consumer in consumers.iter_mut() {
+        count_less(consumer, number);
+    }
+}
+
+/// One more entry is pending for the consumer where it has this number.
+fn count_more(consumer: &mut Consumer, number: u64)
+    ensures { consumer.new ≡ with_more number consumer.old }
+{
+    if consumer.number == number {
+        consumer.pending = consumer.pending.saturating_add(1);
+    }
+}
+
+/// One less entry is pending for the consumer where it has this number.
+fn count_less(consumer: &mut Consumer, number: u64)
+    ensures { consumer.new ≡ with_less number consumer.old }
+{
+    if consumer.number == number {
+        consumer.pending = consumer.pending.saturating_sub(1);
     }
 }

@@ -1,9 +1,11 @@
 //! A stream.
 ghost use Rattle.std.specs.Prelude.{◌≡◌, ◌≤◌, ◌++◌, ◌∷◌, [], false, Some, drop, length};
-ghost use Rattle.std.specs.Prelude.{IfOk, IfSome, OnOk, OnErr};
+ghost use Rattle.std.specs.Prelude.{IfErr, IfNone, IfOk, IfSome, OnOk, OnErr};
 ghost use Rattle.std.specs.Bool.{OnTrue, OnFalse};
 ghost use Rattle.std.specs.List.{HoldsAt};
 ghost use Rattle.std.specs.List.Sorted.{IsSearchInRange};
+ghost use Rattle.stream_store.specs.Order.{IsAscending, IsGapFor, IsNowhere, IsSplitBefore};
+ghost use Rattle.stream_store.specs.Trim.{IsExactCount};
 ghost use Rattle.stream_store.specs.Stream.{seen_stream, first_id_of, IsWithoutOne};
 
 use crate::entry_id::EntryId;
@@ -106,17 +108,17 @@ impl Stream {
     pub fn place(&self, id: EntryId) -> Result<usize, usize>
         ensures bound { IsSearchInRange result (length self.now.entries.items) }
         ensures found { IfOk result (HoldsAt (λ entry. entry.id ≡ id) self.now.entries.items) }
+        ensures missing { IfErr result (λ index. IsAscending (λ entry. entry.id) self.now.entries.items
+            → IsGapFor (λ entry. entry.id) id self.now.entries.items index) }
     {
-        let index = self.entries.binary_search_by_key(&id, |entry| entry.id)?;
-        match self.entries.get(index) {
-            Some(entry) if entry.id == id => Ok(index),
-            _ => Err(index),
-        }
+        self.entries.binary_search_by_key(&id, |entry| entry.id)
     }
 
     /// The index of the first entry that has at least this id.
     pub fn start(&self, id: EntryId) -> usize
-        ensures { result ≤ length self.now.entries.items }
+        ensures bound { result ≤ length self.now.entries.items }
+        ensures split { IsAscending (λ entry. entry.id) self.now.entries.items
+            → IsSplitBefore (λ entry. entry.id) id self.now.entries.items result }
     {
         match self.place(id) {
             Ok(index) => index,
@@ -126,7 +128,9 @@ impl Stream {
 
     /// The entry with this id.
     pub fn get(&self, id: EntryId) -> Option<&Entry>
-        ensures { IfSome result (λ entry. entry.now.id ≡ id) }
+        ensures some { IfSome result (λ entry. entry.now.id ≡ id) }
+        ensures none { IfNone result (IsAscending (λ entry. entry.id) self.now.entries.items
+            → IsNowhere (λ entry. entry.id) id self.now.entries.items) }
     {
         match self.place(id) {
             Ok(index) => self.entries.get(index),
@@ -138,9 +142,14 @@ impl Stream {
     pub fn remove(&mut self, id: EntryId) -> bool
         ensures gone { OnTrue result (IsWithoutOne id self.old.entries.items
             self.new.entries.items) }
-        ensures none { OnFalse result (self.new ≡ self.old) }
-        ensures last_id { self.new.last_id ≡ self.old.last_id }
-        ensures groups { self.new.groups ≡ self.old.groups }
+        ensures same { OnFalse result (self.new ≡ self.old) }
+        ensures none { OnFalse result (IsAscending (λ entry. entry.id) self.old.entries.items
+            → IsNowhere (λ entry. entry.id) id self.old.entries.items) }
+        ensures others { self.new ≡ record self.old {
+          entries = self.new.entries;
+          nodes = self.new.nodes;
+          max_deleted_id = self.new.max_deleted_id;
+        } }
     {
         let Ok(index) = self.place(id) else {
             return false;
@@ -158,8 +167,9 @@ impl Stream {
     /// Takes away the oldest entries, as many as the trim names, and tells how many these were.
     pub fn trim(&mut self, trim: Trim) -> usize
         ensures entries { self.new.entries.items ≡ drop result self.old.entries.items }
-        ensures last_id { self.new.last_id ≡ self.old.last_id }
-        ensures groups { self.new.groups ≡ self.old.groups }
+        ensures exact { trim.is_approximate ≡ false
+            → IsExactCount trim.bound self.old.entries.items result }
+        ensures others { self.new ≡ record self.old { entries = self.new.entries; nodes = self.new.nodes } }
     {
         let (nodes, whole) = self.whole_nodes(trim);
         let count = if trim.is_approximate {
@@ -220,7 +230,10 @@ impl Stream {
     }
 
     /// How many of the oldest entries the bound takes away.
-    fn exact_count(&self, bound: Bound) -> usize {
+    fn exact_count(&self, bound: Bound) -> usize
+        ensures bound { result ≤ length self.now.entries.items }
+        ensures exact { IsExactCount bound self.now.entries.items result }
+    {
         match bound {
             Bound::Length(most) => match usize::try_from(most) {
                 Ok(most) => self.entries.len().saturating_sub(most),
