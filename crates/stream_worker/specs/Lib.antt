@@ -11,3 +11,4 @@ pub mod Parts
 pub mod Step
 pub mod Gathered
 pub mod Letters
+pub mod Session

@@ -1,5 +1,6 @@
 //! Why a worker asks nothing, or an answer does not bring it on.
 use crate::handler::NotCommitted;
+use redis_connection::ConnectionError;
 use redis_resp::{ParsingError, WriteError};
 use redis_wire::ServerError;
 use std::alloc::{AllocError, AllocFailed};
@@ -92,5 +93,45 @@ impl From<ParsingError> for WorkerError {
             ParsingError::Memory => WorkerError::Memory,
             error => WorkerError::Parsing(error),
         }
+    }
+}
+
+/// Why a worker does not go on over a connection. What is done stays remembered, and what is not
+/// stays pending.
+#[derive(Debug, Drop, Error)]
+pub enum RunError {
+    /// It asked nothing, and nothing was sent.
+    #[error("{0}")]
+    Request(RequestError),
+    /// Some front of its command was sent.
+    #[error("{0}")]
+    Send(ConnectionError),
+    /// Its command was sent, and no whole reply came; what came of one is held.
+    #[error("{0}")]
+    Receive(ConnectionError),
+    /// A reply came, which does not bring it on.
+    #[error("{0}")]
+    Answer(WorkerError),
+}
+
+impl From<RequestError> for RunError {
+    ghost use Rattle.std.specs.Prelude.{◌≡◌};
+    ghost use Rattle.stream_worker.specs.declared.error.RunError.TheVariants as causes;
+
+    ghost from_gives = { λ r e. e ≡ causes.Request r };
+
+    fn from(error: RequestError) -> RunError {
+        RunError::Request(error)
+    }
+}
+
+impl From<WorkerError> for RunError {
+    ghost use Rattle.std.specs.Prelude.{◌≡◌};
+    ghost use Rattle.stream_worker.specs.declared.error.RunError.TheVariants as causes;
+
+    ghost from_gives = { λ w e. e ≡ causes.Answer w };
+
+    fn from(error: WorkerError) -> RunError {
+        RunError::Answer(error)
     }
 }

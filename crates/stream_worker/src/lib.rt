@@ -12,13 +12,14 @@ pub mod laws;
 mod letters;
 mod phases;
 mod reading;
+mod session;
 mod state;
 #[cfg(test)]
 mod tests;
 mod worker;
 
 pub use entries::Entry;
-pub use error::{RequestError, WorkerError};
+pub use error::{RequestError, RunError, WorkerError};
 pub use gathered::Gathered;
 pub use handler::{Handler, NotCommitted, Verdict};
 pub use letters::{DeadLetters, LetterAsked, LetterError};

@@ -1,0 +1,277 @@
+-- Lemmas on the rounds of a session.
+use Rattle.std.proofs.Common.{◌≡◌, ◌+◌, ◌<◌, ℕ, Bool, List, [], ◌∷◌, ◌++◌, length, Option, Some}
+use Rattle.std.proofs.Common.{arith, refl, sym, ◌∙◌, ap, subst, append_assoc, append-nil}
+use Rattle.std.proofs.KnownBytes.{Appends-nil, Appends-trans, Consumes-nil, Consumes-trans}
+use Rattle.std.specs.Io.KnownBytes.{Appends, Consumes}
+use Rattle.redis_resp.specs.Table.{Fields}
+use Rattle.redis_resp.specs.Tree.{Tree}
+use Rattle.redis_wire.specs.Grammar.{IsReply}
+use Rattle.redis_wire.specs.Next.{Held}
+use Rattle.redis_wire.specs.Packed.{command_bytes}
+use Rattle.redis_wire.specs.Reply as wire
+use Rattle.redis_wire.specs.declared.limits.Limits.{Limits}
+use Rattle.redis_connection.specs.Ask.{Exchanges}
+use Rattle.redis_connection.specs.Link.{Link}
+use Rattle.stream_group.specs.Worker.{Verdict, Machine}
+use Rattle.stream_worker.specs.Answers.{Heard, told, no_group, group_made, hears, group_after}
+use Rattle.stream_worker.specs.Answered.{Went, GoesBy, Failed}
+use Rattle.stream_worker.specs.Session.{Standing, Turn, answers_of, AreReplies, Converses, command, asking}
+use Rattle.stream_worker.specs.Session.{having_heard, EndsBy, ends_before, after_turn, after_turns, bytes_asked, Ends}
+use Rattle.stream_worker.specs.Session.{Rounds, Ran, IsAsked, IsUnanswered, Fails, Broke}
+use Rattle.stream_worker.specs.declared.error.RunError.{RunError}
+use Rattle.stream_worker.specs.declared.error.RunError.TheVariants as causes
+use Rattle.stream_worker.specs.declared.error.WorkerError.{WorkerError}
+use Rattle.stream_worker.specs.declared.state.Asked.{Asked}
+use Rattle.stream_worker.specs.declared.state.Asked.TheVariants.{Nothing}
+use Rattle.stream_worker.specs.declared.state.Settings.{Settings}
+use Rattle.stream_worker.specs.declared.worker.Progress.{Progress}
+use Rattle.stream_worker.specs.declared.worker.Progress.TheVariants.{GoesOn, Stopped}
+
+-- ---- what goes over the connection
+
+pub replies_more : (limits : Limits) (bytes text : List ℕ) (came : List wire.Answer) (a : wire.Answer)
+    → AreReplies limits bytes came → IsReply limits text a → AreReplies limits (bytes ++ text) (came ++ a ∷ [])
+replies_more limits bytes text [] a none reply =
+    (text, [], ap (λ b. b ++ text) none ∙ sym (append-nil text), reply, refl)
+replies_more limits bytes text (b ∷ came) a h reply = (
+  h.0,
+  h.1 ++ text,
+  ap (λ x. x ++ text) h.2 ∙ append_assoc h.0 h.1 text,
+  h.3,
+  replies_more limits h.1 text came a h.4 reply,
+)
+
+pub converses_none : (link : Link) → Converses link link [] []
+converses_none link = record {
+  appends = Appends-nil link.written;
+  taken = [];
+  texts = [];
+  consumes = Consumes-nil link.coming;
+  bytes = append-nil link.held.bytes;
+  replies = refl;
+  limits = refl;
+}
+
+pub converses_more : (old mid new : Link) (out : List ℕ) (came : List wire.Answer) (args : List (List ℕ))
+    (a : wire.Answer) → Converses old mid out came → Exchanges mid new args a
+    → Converses old new (out ++ command_bytes args) (came ++ a ∷ [])
+converses_more old mid new out came args a c x =
+    let s = x.sends in
+    let r = x.receives in
+    let went : Appends mid.written new.written (command_bytes args) =
+    subst (λ w. Appends mid.written w (command_bytes args)) (sym r.written) s.appends in
+    let consumed : Consumes mid.coming new.coming r.taken =
+    subst (λ l. Consumes l new.coming r.taken) s.coming r.consumes in
+    let held : mid.held.bytes ++ r.taken ≡ r.text ++ new.held.bytes =
+    ap (λ (h : Held). h.bytes ++ r.taken) (sym s.held) ∙ r.bytes in
+    let first : x.between.held.limits ≡ old.held.limits = ap (λ (h : Held). h.limits) s.held ∙ c.limits in
+    record {
+      appends = Appends-trans old.written mid.written new.written out (command_bytes args) c.appends went;
+      taken = c.taken ++ r.taken;
+      texts = c.texts ++ r.text;
+      consumes = Consumes-trans old.coming mid.coming new.coming c.taken r.taken c.consumes consumed;
+      bytes = sym (append_assoc old.held.bytes c.taken r.taken)
+          ∙ ap (λ b. b ++ r.taken) c.bytes
+          ∙ append_assoc c.texts mid.held.bytes r.taken
+          ∙ ap (λ b. c.texts ++ b) held
+          ∙ sym (append_assoc c.texts r.text new.held.bytes);
+      replies = replies_more old.held.limits c.texts r.text came a c.replies
+          (subst (λ l. IsReply l r.text a) first r.reply);
+      limits = r.limits ∙ first;
+    }
+
+-- ---- turns, and one more
+
+answers_more : (turns : List Turn) (t : Turn) → answers_of (turns ++ t ∷ []) ≡ answers_of turns ++ t.answer ∷ []
+answers_more [] t = refl
+answers_more (u ∷ turns) t = ap (λ l. u.answer ∷ l) (answers_more turns t)
+
+count_more : (turns : List Turn) (t : Turn) → length (turns ++ t ∷ []) ≡ length turns + 1
+count_more [] t = refl
+count_more (u ∷ turns) t = omega (arith, count_more turns t)
+
+before_one : (turns : List Turn) (t : Turn) (p : Progress) → ends_before (turns ++ t ∷ []) p ≡ GoesOn
+before_one [] t p = refl
+before_one (u ∷ turns) t p = refl
+
+before_some : (turns : List Turn) → ends_before turns GoesOn ≡ GoesOn
+before_some [] = refl
+before_some (u ∷ turns) = refl
+
+standing_is : {R : Type 0} (x : Standing R) (m : Machine) (b : Bool) (q : Asked) (r : R) → x.machine ≡ m → x.missing ≡ b
+    → x.asked ≡ q → x.history ≡ r
+    → x ≡ (let y : Standing R = record { machine = m; missing = b; asked = q; history = r } in y)
+standing_is {R = R} x m b q r im ib iq ir =
+    ap (λ v. let y : Standing R = record { machine = v; missing = x.missing; asked = x.asked; history = x.history } in y)
+    im
+    ∙ ap (λ v. let y : Standing R = record { machine = m; missing = v; asked = x.asked; history = x.history } in y) ib
+    ∙ ap (λ v. let y : Standing R = record { machine = m; missing = b; asked = v; history = x.history } in y) iq
+    ∙ ap (λ v. let y : Standing R = record { machine = m; missing = b; asked = q; history = v } in y) ir
+
+module _ {R : Type 0} (with_verdict : R → List ℕ × Fields Tree → Verdict → R) (with_commit : R → R)
+    (settings : Settings) where
+  stands_more : (w : Standing R) (turns : List Turn) (t : Turn)
+      → after_turns with_verdict with_commit settings w (turns ++ t ∷ [])
+      ≡ after_turn with_verdict with_commit settings (after_turns with_verdict with_commit settings w turns) t
+  stands_more w [] t = refl
+  stands_more w (u ∷ turns) t = stands_more (after_turn with_verdict with_commit settings w u) turns t
+
+  bytes_more : (w : Standing R) (turns : List Turn) (t : Turn)
+      → bytes_asked with_verdict with_commit settings w (turns ++ t ∷ [])
+      ≡ bytes_asked with_verdict with_commit settings w turns
+      ++ command_bytes (command settings (after_turns with_verdict with_commit settings w turns))
+  bytes_more w [] t = append-nil (command_bytes (command settings w))
+  bytes_more w (u ∷ turns) t =
+      let x : Standing R = after_turn with_verdict with_commit settings w u in
+      ap (λ b. command_bytes (command settings w) ++ b) (bytes_more x turns t)
+      ∙ sym (append_assoc (command_bytes (command settings w)) (bytes_asked with_verdict with_commit settings x turns)
+      (command_bytes (command settings (after_turns with_verdict with_commit settings x turns))))
+
+  ends_more : (w : Standing R) (turns : List Turn) (t : Turn) (p : Progress)
+      → Ends with_verdict with_commit settings w turns GoesOn
+      → EndsBy (hears settings
+      (asking with_commit settings (after_turns with_verdict with_commit settings w turns)).asked t.answer) t.verdicts p
+      → Ends with_verdict with_commit settings w (turns ++ t ∷ []) p
+  ends_more w [] t p h e = (e, tt)
+  ends_more w (u ∷ turns) t p h e =
+      let x : Standing R = after_turn with_verdict with_commit settings w u in
+      let heard : Option Heard = hears settings (asking with_commit settings w).asked u.answer in (
+        subst (EndsBy heard u.verdicts) (sym (before_one turns t p)) (subst (EndsBy heard u.verdicts) (before_some turns) h.0),
+        ends_more x turns t p h.1 e,
+      )
+
+  -- what a worker did with an answer is a turn
+  module _ (w x : Standing R) (a : wire.Answer) (p : Progress) where
+    abbrev IsTurn : Type 0
+    IsTurn = (verdicts : List Verdict) × (x ≡ having_heard with_verdict w (hears settings w.asked a) verdicts)
+        × EndsBy (hears settings w.asked a) verdicts p
+
+    of_heard : (h : Heard) → hears settings w.asked a ≡ Some h → x.missing ≡ group_after w.missing (Some h)
+        → x.asked ≡ Nothing → GoesBy with_verdict h w.machine x.machine w.history x.history p
+        → (verdicts : List Verdict) × (x ≡ having_heard with_verdict w (Some h) verdicts) × EndsBy (Some h) verdicts p
+    of_heard (told answer) said missing asked g =
+        (g.verdicts, standing_is x _ _ _ _ g.machine missing asked g.history, g.ended)
+    of_heard no_group said missing asked g = ([], standing_is x _ _ _ _ g.0 missing asked g.1, g.2)
+    of_heard group_made said missing asked g = ([], standing_is x _ _ _ _ g.0 missing asked g.1, g.2)
+
+    pub turn_of : Went with_verdict settings w.asked a w.machine x.machine w.history x.history p
+        → x.missing ≡ group_after w.missing (hears settings w.asked a) → x.asked ≡ Nothing → IsTurn
+    turn_of g missing asked =
+        let P : Option Heard → Type 0 = λ o. (verdicts : List Verdict) × (x ≡ having_heard with_verdict w o verdicts)
+        × EndsBy o verdicts p in
+        subst P (sym g.said)
+        (of_heard g.heard g.said (missing ∙ ap (group_after w.missing) g.said) asked g.goes)
+
+  -- ---- rounds, and one more
+
+  pub rounds_none : (link : Link) (w : Standing R) → Rounds with_verdict with_commit settings link link w w 0 GoesOn
+  rounds_none link w = record { turns = []; count = refl; converses = converses_none link; stands = refl; ends = tt }
+
+  pub rounds_more : (old mid new : Link) (w y z x : Standing R) (n : ℕ) (a : wire.Answer) (p : Progress)
+      → Rounds with_verdict with_commit settings old mid w y n GoesOn
+      → IsAsked with_commit settings mid new y z a
+      → Went with_verdict settings z.asked a z.machine x.machine z.history x.history p
+      → x.missing ≡ group_after z.missing (hears settings z.asked a) → x.asked ≡ Nothing
+      → Rounds with_verdict with_commit settings old new w x (n + 1) p
+  rounds_more old mid new w y z x n a p r q g missing asked =
+      let s = turn_of z x a p g missing asked in
+      let t : Turn = record { answer = a; verdicts = s.0 } in
+      let is : z ≡ asking with_commit settings (after_turns with_verdict with_commit settings w r.turns) =
+      q.0 ∙ ap (asking with_commit settings) r.stands in
+      let ends : EndsBy (hears settings
+      (asking with_commit settings (after_turns with_verdict with_commit settings w r.turns)).asked a) s.0 p =
+      subst (λ (v : Standing R). EndsBy (hears settings v.asked a) s.0 p) is s.2 in
+      let stands : x ≡ after_turn with_verdict with_commit settings
+      (after_turns with_verdict with_commit settings w r.turns) t =
+      subst (λ (v : Standing R). x ≡ having_heard with_verdict v (hears settings v.asked a) s.0) is s.1 in
+      let c = converses_more old mid new _ _ _ a r.converses q.1 in
+      record {
+        turns = r.turns ++ t ∷ [];
+        count = count_more r.turns t ∙ ap (λ k. k + 1) r.count;
+        converses =
+            subst (λ (l : List wire.Answer). Converses old new
+            (bytes_asked with_verdict with_commit settings w (r.turns ++ t ∷ [])) l) (sym (answers_more r.turns t))
+            (subst (λ b. Converses old new b (answers_of r.turns ++ a ∷ [])) (sym (bytes_more w r.turns t))
+            (subst (λ (v : Standing R). Converses old new
+            (bytes_asked with_verdict with_commit settings w r.turns ++ command_bytes (command settings v))
+            (answers_of r.turns ++ a ∷ [])) r.stands c));
+        stands = stands ∙ sym (stands_more w r.turns t);
+        ends = ends_more w r.turns t p r.ends ends;
+      }
+
+  -- ---- how a session ends
+
+  failing : (old new : Link) (w x : Standing R) (e : RunError) → IsUnanswered with_commit settings old new w x e
+      → Fails with_verdict with_commit settings old new w x e
+  failing old new w x (causes.Request e) u = u
+  failing old new w x (causes.Send e) u = u
+  failing old new w x (causes.Receive e) u = u
+  failing old new w x (causes.Answer e) u = absurd u
+
+  pub ran_all : (old new : Link) (w x : Standing R) (rounds n : ℕ) → n ≡ rounds
+      → Rounds with_verdict with_commit settings old new w x n GoesOn
+      → Ran with_verdict with_commit settings old new w x rounds GoesOn
+  ran_all old new w x rounds n all r = (n, all, r)
+
+  pub ran_stopped : (old new : Link) (w x : Standing R) (rounds n : ℕ) → n < rounds
+      → Rounds with_verdict with_commit settings old new w x (n + 1) Stopped
+      → Ran with_verdict with_commit settings old new w x rounds Stopped
+  ran_stopped old new w x rounds n fewer r = (n + 1, (omega arith, omega (arith, fewer)), r)
+
+  module _ (s : Settings) (same : s ≡ settings) where
+    pub broke_unanswered : (old mid new : Link) (w y x : Standing R) (rounds n : ℕ) (e : RunError) → n < rounds
+        → Rounds with_verdict with_commit settings old mid w y n GoesOn
+        → IsUnanswered with_commit s mid new y x e
+        → Broke with_verdict with_commit settings old new w x rounds e
+    broke_unanswered old mid new w y x rounds n e fewer r u =
+        record {
+          n = n;
+          fewer = fewer;
+          link = mid;
+          before = y;
+          made = r;
+          fails = failing mid new y x e (subst (λ (v : Settings). IsUnanswered with_commit v mid new y x e) same u);
+        }
+
+    -- the answer was taken by a worker of the same settings
+    module _ (t : Settings) (too : t ≡ s) where
+      pub rounds_step : (old mid new : Link) (w y z x : Standing R) (n : ℕ) (a : wire.Answer) (p : Progress)
+          → Rounds with_verdict with_commit settings old mid w y n GoesOn
+          → IsAsked with_commit s mid new y z a
+          → Went with_verdict t z.asked a z.machine x.machine z.history x.history p
+          → x.missing ≡ group_after z.missing (hears t z.asked a) → x.asked ≡ Nothing
+          → Rounds with_verdict with_commit settings old new w x (n + 1) p
+      rounds_step old mid new w y z x n a p r q g missing asked =
+          rounds_more old mid new w y z x n a p r
+          (subst (λ (v : Settings). IsAsked with_commit v mid new y z a) same q)
+          (subst (λ (v : Settings). Went with_verdict v z.asked a z.machine x.machine z.history x.history p)
+          (too ∙ same) g)
+          (subst (λ (v : Settings). x.missing ≡ group_after z.missing (hears v z.asked a)) (too ∙ same) missing) asked
+
+      pub broke_refused : (old mid new : Link) (w y z x : Standing R) (rounds n : ℕ) (a : wire.Answer)
+          (e : WorkerError) → n < rounds → Rounds with_verdict with_commit settings old mid w y n GoesOn
+          → IsAsked with_commit s mid new y z a
+          → Failed with_verdict t z.asked a z.machine x.machine z.history x.history e
+          → x.missing ≡ z.missing → x.asked ≡ Nothing
+          → Broke with_verdict with_commit settings old new w x rounds (causes.Answer e)
+      broke_refused old mid new w y z x rounds n a e fewer r i f missing asked =
+          let q : IsAsked with_commit settings mid new y z a =
+          subst (λ (v : Settings). IsAsked with_commit v mid new y z a) same i in
+          let g : Failed with_verdict settings z.asked a z.machine x.machine z.history x.history e =
+          subst (λ (v : Settings). Failed with_verdict v z.asked a z.machine x.machine z.history x.history e)
+          (too ∙ same) f in
+          record {
+            n = n;
+            fewer = fewer;
+            link = mid;
+            before = y;
+            made = r;
+            fails = (
+              a,
+              q.1,
+              subst (λ (v : Standing R). Failed with_verdict settings v.asked a v.machine x.machine v.history x.history
+                  e) q.0 g,
+              missing ∙ ap (λ (v : Standing R). v.missing) q.0,
+              asked,
+            );
+          }

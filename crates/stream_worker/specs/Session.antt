@@ -1,0 +1,179 @@
+-- A session of a worker over a connection: the run of its machine over the answers that came.
+use Rattle.std.specs.Prelude.{◌≡◌, ◌≢◌, ◌≤◌, ◌<◌, ℕ, Bool, true, false, List, [], ◌∷◌, ◌++◌, map, length, Option, Some, None}
+use Rattle.std.specs.Io.KnownBytes.{Appends, Consumes}
+use Rattle.redis_resp.specs.Table.{Fields}
+use Rattle.redis_resp.specs.Tree.{Tree}
+use Rattle.redis_wire.specs.Grammar.{IsReply}
+use Rattle.redis_wire.specs.Packed.{command_bytes}
+use Rattle.redis_wire.specs.Reply as wire
+use Rattle.redis_wire.specs.declared.limits.Limits.{Limits}
+use Rattle.redis_connection.specs.Ask.{Exchanges}
+use Rattle.redis_connection.specs.Link.{Link, Sends, SendsFront, Waits, IsEnded, IsFaulty}
+use Rattle.redis_connection.specs.declared.error.ConnectionError.TheVariants.{TooLong}
+use Rattle.stream_group.specs.Worker.{Verdict, Machine, ending, entries_in, told_in, after}
+use Rattle.stream_worker.specs.Answers.{Heard, told, no_group, group_made, hears}
+use Rattle.stream_worker.specs.Answered.{Failed}
+use Rattle.stream_worker.specs.Handling.{with_all}
+use Rattle.stream_worker.specs.Machine.{machine_of, at_request, history_at_request, ending_of}
+use Rattle.stream_worker.specs.Questions.{asks, sentence}
+use Rattle.stream_worker.specs.Requested.{Unasked}
+use Rattle.stream_worker.specs.declared.error.RunError.{RunError}
+use Rattle.stream_worker.specs.declared.error.RunError.TheVariants as causes
+use Rattle.stream_worker.specs.declared.state.Asked.{Asked}
+use Rattle.stream_worker.specs.declared.state.Asked.TheVariants.{Nothing}
+use Rattle.stream_worker.specs.declared.state.Settings.{Settings}
+use Rattle.stream_worker.specs.declared.worker.Progress.{Progress}
+use Rattle.stream_worker.specs.declared.worker.Progress.TheVariants.{GoesOn, Stopped}
+use Rattle.stream_worker.specs.declared.worker.Worker.{Worker}
+
+-- where a worker and its handler stand
+pub record Standing (R : Type 0) : Type 0 where
+  pub machine : Machine
+  pub missing : Bool  -- a group is to be made
+  pub asked : Asked  -- what is to be answered
+  pub history : R  -- what passed between the worker and its handler
+
+abbrev pub standing_of : {R : Type 0} → Worker → R → Standing R
+standing_of w r = record { machine = machine_of w; missing = w.group_missing; asked = w.asked; history = r }
+
+-- an answer that came, and what the handler said of its entries
+pub record Turn : Type 0 where
+  pub answer : wire.Answer
+  pub verdicts : List Verdict
+
+-- the answers of turns
+abbrev pub answers_of : List Turn → List wire.Answer
+answers_of turns = map (λ t. t.answer) turns
+
+-- these bytes are these replies, one after the other
+abbrev pub AreReplies : Limits → List ℕ → List wire.Answer → Type 0
+AreReplies limits bytes [] = bytes ≡ []
+AreReplies limits bytes (a ∷ more) =
+    (text : List ℕ) × (rest : List ℕ) × (bytes ≡ text ++ rest) × IsReply limits text a × AreReplies limits rest more
+
+-- these bytes went out; bytes came in; and these answers stood at the head of what is held and were given out,
+-- just their bytes
+pub record Converses (old new : Link) (out : List ℕ) (came : List wire.Answer) : Type 0 where
+  pub appends : Appends old.written new.written out
+  pub taken : List ℕ
+  pub texts : List ℕ
+  pub consumes : Consumes old.coming new.coming taken
+  pub bytes : old.held.bytes ++ taken ≡ texts ++ new.held.bytes
+  pub replies : AreReplies old.held.limits texts came
+  pub limits : new.held.limits ≡ old.held.limits
+
+-- the command that a worker asks, after its handler has committed what is to be acknowledged
+abbrev pub command : {R : Type 0} → Settings → Standing R → List (List ℕ)
+command settings w =
+    sentence settings w.missing (at_request w.machine).phase (at_request w.machine).to_acknowledge
+
+module _ {R : Type 0} (with_commit : R → R) (settings : Settings) where
+  -- where it stands as it asks
+  abbrev pub asking : Standing R → Standing R
+  asking w = record {
+    machine = at_request w.machine;
+    missing = w.missing;
+    asked = asks w.missing (at_request w.machine).phase (at_request w.machine).to_acknowledge;
+    history = history_at_request with_commit w.machine w.history;
+  }
+
+  -- it asked, and this is the answer that came
+  abbrev pub IsAsked : Link → Link → Standing R → Standing R → wire.Answer → Type 0
+  IsAsked old new w x a = (x ≡ asking w) × Exchanges old new (command settings w) a
+
+  -- it asked nothing; or a front of its command went out; or all of it, and no answer came
+  abbrev pub IsUnanswered : Link → Link → Standing R → Standing R → RunError → Type 0
+  IsUnanswered old new w x (causes.Request e) =
+      (new ≡ old) × Unasked with_commit w.machine x.machine w.history x.history e
+      × (x.missing ≡ w.missing) × (x.asked ≡ w.asked)
+  IsUnanswered old new w x (causes.Send e) =
+      (x ≡ asking w) × SendsFront old new (command_bytes (command settings w)) × (e ≢ TooLong)
+  IsUnanswered old new w x (causes.Receive e) =
+      (x ≡ asking w) × ((between : Link) × Sends old between (command_bytes (command settings w)) × Waits between new)
+      × IsEnded new e × IsFaulty new.held e
+  IsUnanswered old new w x (causes.Answer e) = ⊥
+
+-- where a worker stands by what it heard, where its handler said this of the entries
+abbrev pub having_heard : {R : Type 0} → (R → List ℕ × Fields Tree → Verdict → R) → Standing R → Option Heard
+    → List Verdict → Standing R
+having_heard with_verdict w None verdicts = record w { asked = Nothing }
+having_heard with_verdict w (Some (told answer)) verdicts = record {
+  machine = after w.machine answer verdicts;
+  missing = w.missing;
+  asked = Nothing;
+  history = with_all with_verdict w.history (told_in (entries_in answer) verdicts);
+}
+having_heard with_verdict w (Some no_group) verdicts = record w { missing = true; asked = Nothing }
+having_heard with_verdict w (Some group_made) verdicts = record w { missing = false; asked = Nothing }
+
+-- how a turn ends by what was heard
+abbrev pub EndsBy : Option Heard → List Verdict → Progress → Type 0
+EndsBy None verdicts p = ⊥
+EndsBy (Some (told answer)) verdicts p = ending_of p ≡ ending (entries_in answer) verdicts
+EndsBy (Some no_group) verdicts p = p ≡ GoesOn
+EndsBy (Some group_made) verdicts p = p ≡ GoesOn
+
+-- how a turn ends that may be the last: others follow on it only where it goes on
+abbrev pub ends_before : List Turn → Progress → Progress
+ends_before [] p = p
+ends_before (t ∷ turns) p = GoesOn
+
+-- so many rounds were made: all that were allowed, or fewer where its handler said to stop
+abbrev pub IsCount : ℕ → ℕ → Progress → Type 0
+IsCount rounds n GoesOn = n ≡ rounds
+IsCount rounds n Stopped = (0 < n) × (n ≤ rounds)
+
+module _ {R : Type 0} (with_verdict : R → List ℕ × Fields Tree → Verdict → R) (with_commit : R → R)
+    (settings : Settings) where
+  -- where it stands after a round: it asked, and took the answer
+  abbrev pub after_turn : Standing R → Turn → Standing R
+  after_turn w t =
+      let x : Standing R = asking with_commit settings w in
+      having_heard with_verdict x (hears settings x.asked t.answer) t.verdicts
+
+  -- after all of them
+  abbrev pub after_turns : Standing R → List Turn → Standing R
+  after_turns w [] = w
+  after_turns w (t ∷ turns) = after_turns (after_turn w t) turns
+
+  -- the bytes of all commands that it asks
+  abbrev pub bytes_asked : Standing R → List Turn → List ℕ
+  bytes_asked w [] = []
+  bytes_asked w (t ∷ turns) = command_bytes (command settings w) ++ bytes_asked (after_turn w t) turns
+
+  -- each answer is one to its question, and the worker goes on after it; after the last one it ends so
+  abbrev pub Ends : Standing R → List Turn → Progress → Type 0
+  Ends w [] p = Unit {0}
+  Ends w (t ∷ turns) p =
+      EndsBy (hears settings (asking with_commit settings w).asked t.answer) t.verdicts (ends_before turns p)
+      × Ends (after_turn w t) turns p
+
+  -- the rounds that were made: what went out are the commands that the machine asks, and what came in are the
+  -- answers that brought it here
+  pub record Rounds (old new : Link) (w x : Standing R) (n : ℕ) (p : Progress) : Type 0 where
+    pub turns : List Turn
+    pub count : length turns ≡ n
+    pub converses : Converses old new (bytes_asked w turns) (answers_of turns)
+    pub stands : x ≡ after_turns w turns
+    pub ends : Ends w turns p
+
+  -- the session came to its end
+  abbrev pub Ran : Link → Link → Standing R → Standing R → ℕ → Progress → Type 0
+  Ran old new w x rounds p = (n : ℕ) × IsCount rounds n p × Rounds old new w x n p
+
+  -- a round fails: it has no answer, or one that does not bring it on
+  abbrev pub Fails : Link → Link → Standing R → Standing R → RunError → Type 0
+  Fails old new w x (causes.Answer e) = (a : wire.Answer) × Exchanges old new (command settings w) a
+      × Failed with_verdict settings (asking with_commit settings w).asked a (at_request w.machine) x.machine
+      (asking with_commit settings w).history x.history e
+      × (x.missing ≡ w.missing) × (x.asked ≡ Nothing)
+  Fails old new w x e = IsUnanswered with_commit settings old new w x e
+
+  -- the session broke off: some rounds were made, and the next one failed
+  pub record Broke (old new : Link) (w x : Standing R) (rounds : ℕ) (e : RunError) : Type 0 where
+    pub n : ℕ
+    pub fewer : n < rounds
+    pub link : Link
+    pub before : Standing R
+    pub made : Rounds old link w before n GoesOn
+    pub fails : Fails link new before x e
