@@ -6,3 +6,5 @@ pub mod RowLemmas
 pub mod RangeLemmas
 pub mod StreamLemmas
 pub mod ReadLemmas
+pub mod IdLemmas
+pub mod AutoClaimLemmas

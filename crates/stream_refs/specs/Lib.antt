@@ -7,3 +7,7 @@ pub mod Added
 pub mod Outcome
 pub mod FieldValue
 pub mod IdParts
+pub mod AutoClaim
+pub mod ClaimPlaced
+pub mod AddedIds
+pub mod ClaimOutcome

@@ -2,12 +2,15 @@
 //! tables of places keep their room for the next reply.
 #![tactic(auto)]
 
+mod autoclaim;
+mod claim_outcome;
 mod entry;
 mod entry_list;
 mod field_value;
 mod fields;
 mod find;
 mod id_parts;
+mod ids;
 mod outcome;
 mod places;
 mod room;
@@ -16,14 +19,17 @@ mod stream_list;
 mod streams;
 mod tape;
 
+pub use autoclaim::{AutoClaimJustIdRef, AutoClaimRef, find_autoclaim, find_justid};
+pub use claim_outcome::{AutoClaimOutcome, JustIdOutcome, read_any_autoclaim, read_any_justid};
 pub use entry::{Delivery, EntryRef};
 pub use entry_list::{EntriesRef, RangeRef};
 pub use field_value::FieldError;
 pub use fields::FieldsRef;
 pub use find::{find_range, find_streams};
 pub use id_parts::StreamIdParts;
+pub use ids::IdsRef;
 pub use outcome::{RangeOutcome, ReadOutcome, read_any_range, read_any_streams};
-pub use places::{EntryPlace, FieldPlace, StreamPlace};
+pub use places::{AutoClaimPlace, EntryPlace, FieldPlace, StreamPlace};
 pub use room::{EntryTables, Full, Places};
 pub use stream_list::{ReadRef, StreamRef, StreamsRef};
 pub use tape::EntryTape;

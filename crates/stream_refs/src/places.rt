@@ -42,3 +42,16 @@ pub struct StreamPlace {
     /// How many entries there are with its own.
     pub to: usize,
 }
+
+/// Where the reply of XAUTOCLAIM stands: its next id, and how many of the entries were claimed. The
+/// entries behind those are the deleted ids, of which only `id` says something.
+#[repr(C)]
+#[derive(Clone, Copy, Debug, PartialEq, Eq)]
+pub struct AutoClaimPlace {
+    /// The id from which the next XAUTOCLAIM goes on.
+    pub next: Span,
+    /// How many of the entries were claimed.
+    pub claimed: usize,
+    /// How many bytes the reply has.
+    pub len: usize,
+}

@@ -2,7 +2,11 @@
 ghost use Rattle.std.specs.Prelude.{◌≡◌, IfOk, IfSome};
 ghost use Rattle.stream_refs.specs.Held.{none_held};
 ghost use Rattle.stream_refs.specs.Range.{IsRange, IsRead};
+ghost use Rattle.stream_refs.specs.AutoClaim.{IsAutoClaim, IsJustId};
 
+use crate::autoclaim::{
+    AutoClaimJustIdRef, AutoClaimRef, autoclaim_at, find_autoclaim, find_justid, justid_at,
+};
 use crate::entry_list::{RangeRef, entries_at};
 use crate::find::find_form;
 use crate::places::{EntryPlace, FieldPlace, StreamPlace};
@@ -100,6 +104,39 @@ impl EntryTape {
                 streams: streams_at(bytes, &self.streams, &self.entries, &self.fields),
                 len,
             })),
+        }
+    }
+
+    /// Reads the reply of XAUTOCLAIM at the head of bytes where it stands, where it has the shape in
+    /// which servers send it: an array of the next id, the rows of the entries that were claimed and,
+    /// from 7.0 on, the deleted ids.
+    pub fn read_autoclaim<'a>(
+        &'a mut self,
+        bytes: &'a [u8],
+        limits: Limits,
+    ) -> Result<Option<AutoClaimRef<'a>>, AllocError>
+        ensures { IfOk result (λ o. IfSome o (λ r. IsAutoClaim limits bytes.now
+            (record { next = r.next_stream_id.now; claimed = r.claimed; deleted = r.deleted_ids }) r.len)) }
+    {
+        match find_autoclaim(limits, bytes, self)? {
+            None => Ok(None),
+            Some(place) => Ok(Some(autoclaim_at(bytes, place, &self.entries, &self.fields))),
+        }
+    }
+
+    /// Reads the reply of XAUTOCLAIM where it was asked for ids alone, as `read_autoclaim` does: an
+    /// array of the next id, the ids that were claimed and, from 7.0 on, the deleted ids.
+    pub fn read_justid<'a>(
+        &'a mut self,
+        bytes: &'a [u8],
+        limits: Limits,
+    ) -> Result<Option<AutoClaimJustIdRef<'a>>, AllocError>
+        ensures { IfOk result (λ o. IfSome o (λ r. IsJustId limits bytes.now
+            (record { next = r.next_stream_id.now; claimed = r.claimed; deleted = r.deleted_ids }) r.len)) }
+    {
+        match find_justid(limits, bytes, self)? {
+            None => Ok(None),
+            Some(place) => Ok(Some(justid_at(bytes, place, &self.entries))),
         }
     }
 }

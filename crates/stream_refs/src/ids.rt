@@ -1,0 +1,143 @@
+//! Ids alone, where they stand.
+ghost use Rattle.std.specs.Prelude.{◌≡◌, ◌≤◌, ◌∷◌, [], IfOk, IfSome, MatchOption, false, length, map, nat_eq};
+ghost use Rattle.std.specs.List.{AllByRecursion};
+ghost use Rattle.stream_refs.specs.ClaimPlaced.{id_at, IsId};
+ghost use Rattle.stream_refs.specs.AddedIds.{IdsAdded};
+
+use crate::places::EntryPlace;
+use crate::room::Places;
+use crate::rows::{name_at, text_in};
+use redis_wire::Limits;
+use redis_wire::place::Span;
+use std::marker::Model;
+
+/// Ids, in order. As an iterator it returns those that are left.
+#[derive(Drop)]
+pub struct IdsRef<'a> {
+    bytes: &'a [u8],
+    places: &'a [EntryPlace],
+}
+
+impl<'a> Model for IdsRef<'a> {
+    ghost use Rattle.std.specs.Prelude.{ℕ, List, map};
+    ghost use Rattle.std.specs.List.{AllByRecursion};
+    ghost use Rattle.stream_refs.specs.ClaimPlaced.{id_at, IsId};
+
+    ghost Value = { List (List ℕ) };
+
+    ghost view = { λ s. map (id_at s.bytes.now) s.places.now };
+
+    ghost invariant = { λ s. AllByRecursion (IsId s.bytes.now) s.places.now };
+}
+
+impl<'a> IdsRef<'a> {
+    /// How many ids are left.
+    pub fn len(&self) -> usize
+        ensures { result ≡ length self.now }
+    {
+        self.places.len()
+    }
+
+    /// Whether no id is left.
+    pub fn is_empty(&self) -> bool
+        ensures { result ≡ nat_eq (length self.now) 0 }
+    {
+        self.places.is_empty()
+    }
+
+    /// The same ids again, from the first one that is left.
+    pub fn again(&self) -> IdsRef<'a>
+        ensures { result ≡ self.now }
+    {
+        IdsRef {
+            bytes: self.bytes,
+            places: self.places,
+        }
+    }
+
+    /// Takes the next id.
+    fn take_id(&mut self) -> Option<&'a str>
+        ensures { MatchOption result ((self.old ≡ []) × (self.new ≡ []))
+            (λ id. self.old ≡ id.now ∷ self.new) }
+    {
+        let (first, rest) = self.places.split_first()?;
+        self.places = rest;
+        Some(id_of(self.bytes, *first))
+    }
+}
+
+/// The id that stands there.
+fn id_of(bytes: &[u8], place: EntryPlace) -> &str
+    requires { IsId bytes.now place }
+    ensures { result.now ≡ id_at bytes.now place }
+{
+    unsafe { str::from_utf8_unchecked(text_in(bytes, place.id)) }
+}
+
+impl<'a> Iterator for IdsRef<'a> {
+    type Item = &'a str;
+
+    ghost use Rattle.std.specs.Iterator.{YieldsFirstBy, item_count};
+
+    ghost next_gives = { YieldsFirstBy (λ id. id.now) (λ s. s) };
+
+    ghost remaining = { item_count (λ s. s) };
+
+    fn next(&mut self) -> Option<&'a str> {
+        self.take_id()
+    }
+}
+
+/// The ids that stand there.
+pub fn ids_at<'a>(bytes: &'a [u8], places: &'a [EntryPlace]) -> IdsRef<'a>
+    requires { AllByRecursion (IsId bytes.now) places.now }
+    ensures { result ≡ map (id_at bytes.now) places.now }
+{
+    IdsRef { bytes, places }
+}
+
+/// The place of an id, as that of an entry without fields.
+fn id_place(id: Span) -> EntryPlace
+    ensures { result ≡ record {
+      id = id;
+      from = 0;
+      to = 0;
+      deleted = false;
+      delivered = false;
+      elapsed = 0;
+      count = 0;
+    } }
+{
+    EntryPlace {
+        id,
+        from: 0,
+        to: 0,
+        deleted: false,
+        delivered: false,
+        elapsed: 0,
+        count: 0,
+    }
+}
+
+/// Holds so many ids from `at` on, as entries without fields, and returns how many bytes end with them.
+pub fn add_ids<P: Places>(
+    limits: Limits,
+    bytes: &[u8],
+    at: usize,
+    count: u32,
+    places: &mut P,
+) -> Result<Option<usize>, P::Refusal>
+    requires { at ≤ length bytes.now }
+    ensures { IfOk result (λ o. IfSome o (λ after.
+        IdsAdded limits bytes.now at count after (P.held places.old) (P.held places.new))) }
+{
+    let mut behind = at;
+    for _ in 0..count {
+        let Some((id, after)) = name_at(limits, bytes, behind) else {
+            return Ok(None);
+        };
+        places.push_entry(id_place(id))?;
+        behind = after;
+    }
+    Ok(Some(behind))
+}
