@@ -51,7 +51,8 @@ enum {
     REDIS_FAULT_NOT_UTF8 = 26,     /* a text that has to be UTF-8 and is not */
     REDIS_FAULT_BAD_VERBATIM = 27, /* not a verbatim string */
     REDIS_FAULT_BAD_PUSH = 28,     /* not a push */
-    REDIS_FAULT_OVERFULL = 29      /* no call here answers it */
+    REDIS_FAULT_OVERFULL = 29,     /* no call here answers it */
+    REDIS_FAULT_TOO_MANY = 30      /* more than 16,777,216 values, in a reply of another shape */
 };
 
 /* Where a text stands in bytes. */

@@ -60,10 +60,12 @@ pub use Rattle.redis_streams.specs.PendingMeaning.{pending_meaning}
 pub use Rattle.redis_streams.specs.PendingRefusal.{RefusesPending, RefusesPendingCount}
 pub use Rattle.redis_streams.specs.StatusMeaning.{xackdel_code, xackdel_of_code, xackdel_reading, xackdel_refusal}
 pub use Rattle.redis_streams.specs.StatusMeaning.{xdelex_code, xdelex_of_code, xdelex_reading, xdelex_refusal}
+pub use Rattle.redis_wire.specs.Count.{value_count}
 pub use Rattle.redis_wire.specs.Decoded.{Decodes, EndTooEarly, IsFirstFault, IsIncomplete, IsWhole, NoReply}
 pub use Rattle.redis_wire.specs.Equality.{AreEqual}
 pub use Rattle.redis_wire.specs.Failure.{parsing_failure, reply_failure, wire_failure, write_failure}
-unfoldable pub use Rattle.redis_wire.specs.Grammar.{IsReply}
+unfoldable pub use Rattle.redis_wire.specs.Grammar.{IsAnyReply}
+pub use Rattle.redis_wire.specs.Grammar.{IsReply}
 pub use Rattle.redis_wire.specs.Laws.{CommandsAreValues, RepliesAreApart}
 pub use Rattle.redis_wire.specs.Limits.{default_limits}
 pub use Rattle.redis_wire.specs.Next.{Held, IsRefused, NextIs}

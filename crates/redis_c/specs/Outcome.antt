@@ -24,6 +24,7 @@ code_of_fault faults.NotUtf8 = 26
 code_of_fault faults.BadVerbatim = 27
 code_of_fault faults.BadPush = 28
 code_of_fault faults.Overfull = 29
+code_of_fault faults.TooMany = 30
 
 -- the number of an outcome; no two kinds have one
 abbrev pub code : Outcome → ℕ

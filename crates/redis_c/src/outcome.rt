@@ -141,5 +141,6 @@ fn code_of_fault(fault: Fault) -> u32
         Fault::BadVerbatim => 27,
         Fault::BadPush => 28,
         Fault::Overfull => 29,
+        Fault::TooMany => 30,
     }
 }

@@ -16,7 +16,7 @@ use Rattle.redis_wire.specs.Packed.{crlf}
 use Rattle.redis_wire.specs.Scan.{IsEnd}
 use Rattle.redis_wire.specs.Place.{IsHeadAt, IsLineAt, IsTextAt, IsArrayAt, IsMapAt, IsNilAt, IsIntAt}
 use Rattle.redis_wire.proofs.FitsLemmas.{line_fits, length_fits, blob_fits}
-use Rattle.redis_wire.proofs.ScanLemmas.{fits_end}
+use Rattle.redis_wire.proofs.ItemLemmas.{fits_end}
 use Rattle.redis_wire.proofs.LevelLemmas.{bulk_is, one_level}
 
 -- the end of bytes is what stands behind as many as come before it

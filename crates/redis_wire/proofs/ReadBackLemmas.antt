@@ -20,7 +20,7 @@ use Rattle.redis_wire.specs.Reading.{is_inner}
 use Rattle.redis_wire.specs.Reply.{Answer, value, refused, values}
 use Rattle.redis_wire.specs.Scalar.{number_of, length_of, line_answer, no_blob_answer}
 use Rattle.redis_wire.specs.Group.{group_tree}
-use Rattle.redis_wire.specs.Grammar.{IsOfKind, IsValue, IsReply, IsPush, Where, AreMembers}
+use Rattle.redis_wire.specs.Grammar.{IsOfKind, IsValue, IsAnyReply, IsPush, Where, AreMembers}
 use Rattle.redis_wire.specs.Packed.{crlf}
 use Rattle.redis_wire.specs.Written.{line_bytes, count_bytes, text_bytes, tree_count, pair_count, tree_bytes}
 use Rattle.redis_wire.specs.Written.{trees_bytes, pairs_bytes}
@@ -262,8 +262,8 @@ no_message limits (suc d) b text a e s =
     subst (λ (n : ℕ). IsOfKind limits (IsValue limits d) (kind_of n) text a) (eqb-true b 62 e) s
 
 reply_of_value : (limits : Limits) (text : List ℕ) (a : Answer) → IsValue limits limits.depth text a
-    → IsReply limits text a
-unfolding IsReply
+    → IsAnyReply limits text a
+unfolding IsAnyReply
 reply_of_value limits [] a s = absurd (no_value limits limits.depth a s)
 reply_of_value limits (b ∷ text) a s = by (b == 62) refl
   where
@@ -273,11 +273,18 @@ reply_of_value limits (b ∷ text) a s = by (b == 62) refl
     by false e = rw e s
 
 pub answers_are_read : AnswersAreRead
-answers_are_read p limits (value t) small line w =
-    reply_of_value limits (tree_bytes p t) (value t) (tree_is limits small line p t limits.depth w)
-answers_are_read p limits (refused text) small line w =
+answers_are_read p limits (value t) small line w few = record {
+  few = few;
+  reply =
+      reply_of_value limits (tree_bytes p t) (value t) (tree_is limits small line p t limits.depth w);
+}
+answers_are_read p limits (refused text) small line w few =
     let d : ℕ = limits.depth - 1 in
     let e : suc d ≡ limits.depth = omega (arith, w.0) in
-    reply_of_value limits (error_bytes p text) (refused text)
-    (subst (λ n. IsValue limits n (error_bytes p text) (refused text)) e (error_is limits small line p d text w.1))
-answers_are_read p limits a small line w = absurd w
+    record {
+      few = few;
+      reply = reply_of_value limits (error_bytes p text) (refused text)
+          (subst (λ n. IsValue limits n (error_bytes p text) (refused text)) e
+          (error_is limits small line p d text w.1));
+    }
+answers_are_read p limits a small line w few = absurd w

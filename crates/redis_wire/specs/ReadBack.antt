@@ -9,6 +9,7 @@ use Rattle.redis_wire.specs.declared.written.Protocol.{Protocol}
 use Rattle.redis_wire.specs.declared.written.Protocol.TheVariants.{Resp2, Resp3}
 use Rattle.redis_wire.specs.Reading.{is_inner}
 use Rattle.redis_wire.specs.Reply.{Answer, value, refused}
+use Rattle.redis_wire.specs.Count.{value_count}
 use Rattle.redis_wire.specs.Grammar.{IsReply}
 use Rattle.redis_wire.specs.Written.{tree_count, pair_count}
 use Rattle.redis_wire.specs.WrittenReply.{answer_bytes}
@@ -58,7 +59,8 @@ IsSendable p limits (value t) = IsWritable p limits limits.depth t
 IsSendable p limits (refused text) = (0 < limits.depth) × FitsLine limits text
 IsSendable p limits a = ⊥
 
--- where lines of 20 bytes are allowed, the bytes of such a reply are that reply, and nothing else
+-- where lines of 20 bytes are allowed, the bytes of such a reply of so many values are that reply, and
+-- nothing else
 abbrev pub AnswersAreRead : Type 0
 AnswersAreRead = (p : Protocol) (limits : Limits) (a : Answer) → limits.length < 2 ^ 32 → 20 ≤ limits.line
-    → IsSendable p limits a → IsReply limits (answer_bytes p a) a
+    → IsSendable p limits a → value_count a ≤ limits.values → IsReply limits (answer_bytes p a) a

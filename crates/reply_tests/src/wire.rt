@@ -13,6 +13,7 @@ const LIMITS: Limits = Limits {
     depth: 4,
     length: 1000,
     line: 30,
+    values: 6,
     bytes: 64,
 };
 
@@ -27,7 +28,7 @@ fn check_decoded(rt: &(impl AllocGlobal + Abort), bytes: &[u8], shown: &str) -> 
 }
 
 /// The first fault from the left; groups with errors in them; and messages that are pushed.
-const DECODED: [(&[u8], &str); 44] = [
+const DECODED: [(&[u8], &str); 52] = [
     (b"?", "Err(Fault(UnknownType))"),
     (b"$?\r\n", "Err(Fault(Streamed))"),
     (b"+a\nb", "Err(Fault(BadEnd))"),
@@ -37,6 +38,29 @@ const DECODED: [(&[u8], &str); 44] = [
     (b"*1001\r\n", "Err(Fault(TooLong))"),
     (b"+0123456789012345678901234567890", "Err(Fault(LongLine))"),
     (b"*1\r\n*1\r\n*1\r\n*1\r\n:1\r\n", "Err(Fault(TooDeep))"),
+    (
+        b"*6\r\n:1\r\n:2\r\n:3\r\n:4\r\n:5\r\n",
+        "Err(Fault(TooMany))",
+    ),
+    (b"*6\r\n:1\r\n:2\r\n:3\r\n:4\r\n:5\r", "Ok(Incomplete)"),
+    (
+        b"%3\r\n_\r\n_\r\n_\r\n_\r\n_\r\n_\r\n",
+        "Err(Fault(TooMany))",
+    ),
+    (b"*2\r\n*2\r\n_\r\n_\r\n*2\r\n_\r\n", "Err(Fault(TooMany))"),
+    (b"*6\r\n_\r\n_\r\n_\r\n_\r\n:x\r\n", "Err(Fault(BadNumber))"),
+    (
+        b">8\r\n+a\r\n_\r\n_\r\n_\r\n_\r\n_\r\n_\r\n",
+        "Err(Fault(TooMany))",
+    ),
+    (
+        b"*5\r\n_\r\n_\r\n_\r\n_\r\n_\r\n",
+        "Ok(Complete { reply: Value(Array([Nil, Nil, Nil, Nil, Nil])), len: 19 })",
+    ),
+    (
+        b"+a\r\n_\r\n_\r\n_\r\n_\r\n_\r\n_\r\n_\r\n",
+        "Ok(Complete { reply: Value(SimpleString(\"a\")), len: 4 })",
+    ),
     (b":9223372036854775808\r\n", "Err(Fault(BadNumber))"),
     (b"*2\r\n:x\r\n#x\r\n", "Err(Fault(BadNumber))"),
     (b"$+1\r\n", "Err(Fault(BadLength))"),

@@ -11,9 +11,9 @@ use Rattle.redis_wire.specs.Reply.{Answer, value}
 use Rattle.redis_wire.specs.Kind.{kind_of}
 use Rattle.redis_wire.specs.Level.{by_kind, level, value_at}
 use Rattle.redis_wire.specs.Push.{push_at, reply_at}
-use Rattle.redis_wire.specs.Grammar.{IsReply}
+use Rattle.redis_wire.specs.Grammar.{IsAnyReply}
 use Rattle.redis_wire.specs.Place.{IsArrayAt}
-use Rattle.redis_wire.proofs.DecodeLemmas.{complete_sound}
+use Rattle.redis_wire.proofs.DecodeLemmas.{any_sound}
 use Rattle.stream_refs.specs.declared.places.FieldPlace.{FieldPlace}
 use Rattle.stream_refs.specs.declared.places.EntryPlace.{EntryPlace}
 use Rattle.stream_refs.specs.Held.{Held, none_held}
@@ -90,11 +90,11 @@ reads_reply limits (suc d) bytes x is e = told bytes e
 
 -- a value that is read in place is a reply
 pub reply_is : (limits : Limits) (d : ℕ) (bytes : List ℕ) (t : Tree) (len : ℕ) → d ≡ limits.depth → len ≤ length bytes
-    → value_at limits d bytes ≡ Ok (value t, drop len bytes) → IsReply limits (take len bytes) (value t)
+    → value_at limits d bytes ≡ Ok (value t, drop len bytes) → IsAnyReply limits (take len bytes) (value t)
 reply_is limits d bytes t len is within read =
     let s =
-    (complete_sound limits bytes (value t) (drop len bytes)
-    (reads_reply limits d bytes (value t, drop len bytes) is read)).1 in
+    any_sound limits bytes (value t) (drop len bytes)
+    (reads_reply limits d bytes (value t, drop len bytes) is read) in
     let n : length bytes - length (drop len bytes) ≡ len = omega (arith, length-drop len bytes) in
     rw n at s
 

@@ -7,7 +7,7 @@ use Rattle.redis_wire.specs.declared.limits.Limits.{Limits}
 use Rattle.redis_wire.specs.Reply.{value, values}
 use Rattle.redis_wire.specs.Group.{many}
 use Rattle.redis_wire.specs.Level.{value_at}
-use Rattle.redis_wire.specs.Grammar.{IsReply}
+use Rattle.redis_wire.specs.Grammar.{IsAnyReply}
 use Rattle.stream_refs.specs.declared.places.FieldPlace.{FieldPlace}
 use Rattle.stream_refs.specs.declared.places.EntryPlace.{EntryPlace}
 use Rattle.stream_refs.specs.declared.places.StreamPlace.{StreamPlace}
@@ -131,4 +131,4 @@ pub record IsFilled (limits : Limits) (bytes : List ℕ) (claim : Bool) (len : �
   pub end : len ≤ length bytes
   pub tree : Tree
   pub is : IsReadTree (map (stream_in bytes held.entries held.fields) held.streams) tree
-  pub reply : IsReply limits (take len bytes) (value tree)
+  pub reply : IsAnyReply limits (take len bytes) (value tree)

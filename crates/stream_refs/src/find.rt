@@ -13,7 +13,7 @@ use redis_wire::place::{array_at, map_at, nil_at};
 
 /// Holds the places of the entries of the reply at the head of bytes, and returns how many bytes it
 /// has, where it has the shape in which servers answer XRANGE, XREVRANGE and XCLAIM. With tables of
-/// the caller no memory is asked for.
+/// the caller no memory is asked for. No value is made, so `Limits::values` bounds nothing here.
 pub fn find_range<P: Places>(
     limits: Limits,
     bytes: &[u8],
@@ -106,7 +106,7 @@ pub fn find_form<P: Places>(
 
 /// Holds the places of the streams of the reply at the head of bytes, and returns how many bytes it
 /// has, where it has the shape in which servers answer XREAD and XREADGROUP. With tables of the caller
-/// no memory is asked for.
+/// no memory is asked for. No value is made, so `Limits::values` bounds nothing here.
 pub fn find_streams<P: Places>(
     limits: Limits,
     bytes: &[u8],

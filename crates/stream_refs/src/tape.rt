@@ -61,7 +61,8 @@ impl EntryTape {
 
     /// Reads the entries of the reply at the head of bytes where they stand, where it has the shape in
     /// which servers answer XRANGE, XREVRANGE and XCLAIM: an array of rows, each of an id and an array
-    /// of names and values, or nil for the fields of an entry that was deleted.
+    /// of names and values, or nil for the fields of an entry that was deleted. No value is made, so
+    /// `Limits::values` bounds nothing here.
     pub fn read_range<'a>(
         &'a mut self,
         bytes: &'a [u8],
@@ -87,7 +88,7 @@ impl EntryTape {
 
     /// Reads the streams of the reply at the head of bytes where they stand, where it has the shape in
     /// which servers answer XREAD and XREADGROUP: an array of streams, each of its name and its rows, in
-    /// RESP3 a map of names to rows, or nil.
+    /// RESP3 a map of names to rows, or nil. No value is made, so `Limits::values` bounds nothing here.
     pub fn read_streams<'a>(
         &'a mut self,
         bytes: &'a [u8],

@@ -15,6 +15,7 @@ const LIMITS: Limits = Limits {
     depth: 8,
     length: 1000,
     line: 100,
+    values: 1000,
     bytes: 1000,
 };
 

@@ -2,7 +2,7 @@ use Rattle.std.proofs.Common.{rules, ◌≡◌, ◌≤◌, ◌+◌, ◌-◌, ℕ
 use Rattle.std.specs.List.{prefix_len}
 use Rattle.redis_wire.specs.Reading.{is_inner}
 use Rattle.redis_wire.proofs.LineLemmas.{prefix_len_le, prefix_len_from, first_and_rest, rest_is}
-use Rattle.redis_wire.proofs.ScanLemmas.{cut_short}
+use Rattle.redis_wire.proofs.ItemLemmas.{cut_short}
 use Rattle.redis_wire.proofs.scanning.cut_line.Goals as goal
 
 counted : (seen len : ℕ) (left from : List ℕ) → seen ≤ prefix_len is_inner (drop 1 left)

@@ -2,9 +2,9 @@ use Rattle.std.proofs.Common.{◌≡◌, ◌≤◌, ◌<◌, ◌+◌, ◌-◌, �
 use Rattle.std.proofs.Common.{arith}
 use Rattle.std.proofs.lemmas.List.{length-append, length-drop}
 use Rattle.redis_wire.specs.Reading.{short}
-use Rattle.redis_wire.specs.Scan.{item_at}
+use Rattle.redis_wire.specs.Item.{item_at}
 use Rattle.redis_wire.proofs.LineLemmas.{first_and_rest, rest_is}
-use Rattle.redis_wire.proofs.ScanLemmas.{few_short, body_le}
+use Rattle.redis_wire.proofs.ItemLemmas.{few_short, body_le}
 use Rattle.redis_wire.proofs.scanning.wanted_len.Goals as goal
 
 pub overflow_sub-result : goal.overflow_sub-result
