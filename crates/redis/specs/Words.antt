@@ -134,6 +134,9 @@ pub use Rattle.stream_options.specs.Trim.{trim_sentence, trim_words, unlimited}
 pub use Rattle.stream_options.specs.TrimCalls.{final_trim}
 pub use Rattle.stream_options.specs.View.{idempotency_of, maxlen_of, mode_of, nack_of, policy_of, strategy_of}
 pub use Rattle.stream_options.specs.Words.{IsFree, among}
+pub use Rattle.stream_refs.specs.AutoClaim.{IsAutoClaim, IsJustId, SentAutoClaim}
+pub use Rattle.stream_refs.specs.ClaimOutcome.{IsAutoClaimOutcome, IsJustIdOutcome}
+pub use Rattle.stream_refs.specs.ClaimPlaced.{AreClaimPlaces, AreJustIdPlaces, autoclaim_in, justid_in}
 pub use Rattle.stream_refs.specs.Copied.{pairs_or_none}
 pub use Rattle.stream_refs.specs.FieldValue.{signed_value, text_value, unsigned_value}
 pub use Rattle.stream_refs.specs.Held.{Held as HeldPlaces, none_held}

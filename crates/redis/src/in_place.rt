@@ -1,7 +1,9 @@
 //! Replies that hold entries, read where they are in a server's bytes: nothing is copied, fields keep
 //! their order, and one that comes twice is there twice.
 pub use stream_refs::{
-    Delivery, EntriesRef, EntryPlace, EntryRef, EntryTables, EntryTape, FieldError, FieldPlace,
-    FieldsRef, Full, Places, RangeOutcome, RangeRef, ReadOutcome, ReadRef, StreamIdParts,
-    StreamPlace, StreamRef, StreamsRef, find_range, find_streams, read_any_range, read_any_streams,
+    AutoClaimJustIdRef, AutoClaimOutcome, AutoClaimPlace, AutoClaimRef, Delivery, EntriesRef,
+    EntryPlace, EntryRef, EntryTables, EntryTape, FieldError, FieldPlace, FieldsRef, Full, IdsRef,
+    JustIdOutcome, Places, RangeOutcome, RangeRef, ReadOutcome, ReadRef, StreamIdParts,
+    StreamPlace, StreamRef, StreamsRef, find_autoclaim, find_justid, find_range, find_streams,
+    read_any_autoclaim, read_any_justid, read_any_range, read_any_streams,
 };

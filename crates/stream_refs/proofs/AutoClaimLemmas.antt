@@ -20,15 +20,13 @@ use Rattle.redis_wire.specs.Place.{text_in}
 use Rattle.stream_entries.specs.AutoClaim.{AutoClaim, claimed_reading, autoclaim_reading}
 use Rattle.stream_entries.specs.Entry.{Entry}
 use Rattle.stream_entries.specs.JustId.{JustId, justid_reading}
-use Rattle.stream_refs.specs.declared.places.EntryPlace.{EntryPlace}
-use Rattle.stream_refs.specs.declared.places.FieldPlace.{FieldPlace}
 use Rattle.stream_refs.specs.Held.{Held, none_held}
 use Rattle.stream_refs.specs.Sent.{SentEntry, row_tree, rows_tree, IsTextEntry, IsStandard}
 use Rattle.stream_refs.specs.Copied.{copied}
-use Rattle.stream_refs.specs.Placed.{entry_in, IsField, IsEntry}
+use Rattle.stream_refs.specs.Placed.{entry_in, IsField}
 use Rattle.stream_refs.specs.AutoClaim.{SentAutoClaim, ids_tree, deleted_trees, autoclaim_tree, justid_tree}
 use Rattle.stream_refs.specs.AutoClaim.{copied_autoclaim, IsAutoClaim, IsJustId}
-use Rattle.stream_refs.specs.ClaimPlaced.{id_at, autoclaim_in, justid_in, IsId, AreClaimPlaces, AreJustIdPlaces}
+use Rattle.stream_refs.specs.ClaimPlaced.{id_at, autoclaim_in, justid_in, AreClaimPlaces, AreJustIdPlaces}
 use Rattle.stream_refs.specs.Added.{EntriesAdded}
 use Rattle.stream_refs.specs.AddedIds.{deleted_count, IdsAdded, DeletedAdded, IsClaimHead}
 use Rattle.stream_refs.proofs.FillLemmas.{array_of}

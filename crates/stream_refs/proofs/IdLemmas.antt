@@ -1,9 +1,9 @@
 -- Ids that are found one after the other.
-use Rattle.std.proofs.Common.{◌≡◌, ◌≤◌, ◌+◌, ◌∙◌, ℕ, suc, List, [], ◌∷◌, ◌++◌, map, length, drop, Bool, true, false, Ok}
+use Rattle.std.proofs.Common.{◌≡◌, ◌≤◌, ◌+◌, ◌∙◌, ℕ, suc, List, [], ◌∷◌, ◌++◌, map, length, drop, true, false}
 use Rattle.std.proofs.Common.{refl, sym, ap, append_assoc, append-nil}
 use Rattle.std.specs.List.{AllByRecursion}
 use Rattle.std.specs.Str.{is_utf8}
-use Rattle.redis_resp.specs.Tree.{Tree, bulk}
+use Rattle.redis_resp.specs.Tree.{bulk}
 use Rattle.redis_wire.specs.declared.limits.Limits.{Limits}
 use Rattle.redis_wire.specs.declared.place.Span.{Span}
 use Rattle.redis_wire.specs.Level.{value_at}

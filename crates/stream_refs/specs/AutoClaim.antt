@@ -3,7 +3,7 @@ use Rattle.std.specs.Prelude.{◌≡◌, ◌≤◌, ℕ, List, [], ◌∷◌, le
 use Rattle.redis_resp.specs.Tree.{Tree, bulk, array, trees}
 use Rattle.redis_wire.specs.declared.limits.Limits.{Limits}
 use Rattle.redis_wire.specs.Reply.{value}
-use Rattle.redis_wire.specs.Grammar.{IsReply}
+use Rattle.redis_wire.specs.Grammar.{IsAnyReply}
 use Rattle.stream_entries.specs.AutoClaim.{AutoClaim, autoclaim_reading}
 use Rattle.stream_entries.specs.JustId.{JustId, justid_reading}
 use Rattle.stream_refs.specs.Sent.{SentEntry, rows_tree}
@@ -35,17 +35,17 @@ justid_tree told r = array (trees (bulk r.next ∷ ids_tree r.claimed ∷ delete
 abbrev pub copied_autoclaim : SentAutoClaim → AutoClaim
 copied_autoclaim r = record { next = r.next; claimed = map copied r.claimed; deleted = r.deleted; invalid = false }
 
--- The first `len` bytes are a reply within the limits, which says this: what the record of the copying
--- path holds.
+-- The first `len` bytes are a reply within the limits, however many values it has, which says this: what the
+-- record of the copying path holds.
 pub record IsAutoClaim (limits : Limits) (bytes : List ℕ) (r : SentAutoClaim) (len : ℕ) : Type 0 where
   pub within : len ≤ length bytes
   pub told : Bool
-  pub reply : IsReply limits (take len bytes) (value (autoclaim_tree told r))
+  pub reply : IsAnyReply limits (take len bytes) (value (autoclaim_tree told r))
   pub reading : autoclaim_reading (autoclaim_tree told r) ≡ Some (copied_autoclaim r)
 
 -- The same where the command asked for ids alone.
 pub record IsJustId (limits : Limits) (bytes : List ℕ) (r : JustId) (len : ℕ) : Type 0 where
   pub within : len ≤ length bytes
   pub told : Bool
-  pub reply : IsReply limits (take len bytes) (value (justid_tree told r))
+  pub reply : IsAnyReply limits (take len bytes) (value (justid_tree told r))
   pub reading : justid_reading (justid_tree told r) ≡ Some r

@@ -98,11 +98,11 @@ before_some : (turns : List Turn) → ends_before turns GoesOn ≡ GoesOn
 before_some [] = refl
 before_some (u ∷ turns) = refl
 
-standing_is : {R : Type 0} (x : Standing R) (m : Machine) (b : Bool) (q : Asked) (r : R) → x.machine ≡ m → x.missing ≡ b
-    → x.asked ≡ q → x.history ≡ r
+standing_is : {R : Type 0} (x : Standing R) (m : Machine) (b : Bool) (q : Asked) (r : R) → x.machine ≡ m
+    → x.missing ≡ b → x.asked ≡ q → x.history ≡ r
     → x ≡ (let y : Standing R = record { machine = m; missing = b; asked = q; history = r } in y)
 standing_is {R = R} x m b q r im ib iq ir =
-    ap (λ v. let y : Standing R = record { machine = v; missing = x.missing; asked = x.asked; history = x.history } in y)
+    ap (λ v. let y : Standing R = record x { machine = v } in y)
     im
     ∙ ap (λ v. let y : Standing R = record { machine = m; missing = v; asked = x.asked; history = x.history } in y) ib
     ∙ ap (λ v. let y : Standing R = record { machine = m; missing = b; asked = v; history = x.history } in y) iq
@@ -136,7 +136,7 @@ module _ {R : Type 0} (with_verdict : R → List ℕ × Fields Tree → Verdict 
   ends_more w (u ∷ turns) t p h e =
       let x : Standing R = after_turn with_verdict with_commit settings w u in
       let heard : Option Heard = hears settings (asking with_commit settings w).asked u.answer in (
-        subst (EndsBy heard u.verdicts) (sym (before_one turns t p)) (subst (EndsBy heard u.verdicts) (before_some turns) h.0),
+        subst (EndsBy heard u.verdicts) (before_some turns ∙ sym (before_one turns t p)) h.0,
         ends_more x turns t p h.1 e,
       )
 

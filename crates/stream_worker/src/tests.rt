@@ -1,11 +1,12 @@
 //! Sessions: what a worker asks, in order, and what its handler sees.
 use crate::entries::Entry;
-use crate::error::{RequestError, WorkerError};
+use crate::error::{RequestError, RunError, WorkerError};
 use crate::gathered::Gathered;
 use crate::handler::{Handler, NotCommitted, Verdict};
 use crate::letters::{DeadLetters, LetterAsked};
 use crate::state::{MakeGroup, Settings};
 use crate::worker::{Progress, Worker};
+use redis_connection::{Connection, ConnectionError};
 use redis_wire::{Decoded, Limits, Reply, decode};
 use std::alloc::Global;
 use std::process::Abort;
@@ -303,5 +304,143 @@ fn a_letter_is_added_before_its_entry_is_acknowledged(rt: HostRuntime) -> Result
             Decoded::Incomplete => return Err(Fail::new("no whole reply")),
         }
     }
+    Ok(())
+}
+
+// What comes over a connection.
+fn coming(alloc: Global, replies: &[&[u8]]) -> Result<Vec<u8>, Fail> {
+    let mut bytes = Vec::new(alloc);
+    for reply in replies {
+        bytes.extend_from_slice(reply)?;
+    }
+    Ok(bytes)
+}
+
+// The commands that went out, one a line.
+fn lines_of(alloc: Global, bytes: &[u8]) -> Result<String, Fail> {
+    let text = String::from_utf8(bytes.to_vec(alloc)?)?;
+    let mut lines = String::new(alloc);
+    for word in text.split("\r\n") {
+        if word.starts_with('*') {
+            lines.push_str("\n-")?;
+        } else if !word.is_empty() && !word.starts_with('$') {
+            lines.push(' ')?;
+            lines.push_str(word)?;
+        }
+    }
+    Ok(lines)
+}
+
+const SESSION: [&[u8]; 7] = [ONE, b":1\r\n", NONE, NO_CLAIM, THREE, b":3\r\n", NIL];
+
+const COMMANDS: &str = "
+- XREADGROUP GROUP g c COUNT 100 STREAMS k 0
+- XACK k g 1-1
+- XREADGROUP GROUP g c COUNT 100 STREAMS k 1-1
+- XAUTOCLAIM k g c 60000 0-0 COUNT 100
+- XREADGROUP GROUP g c BLOCK 5000 COUNT 100 STREAMS k >
+- XACK k g 1-1 2-1 3-1
+- XREADGROUP GROUP g c BLOCK 5000 COUNT 100 STREAMS k >";
+
+#[test]
+fn a_session_runs_over_a_connection(rt: HostRuntime) -> Result<(), Fail> {
+    let alloc = rt.alloc();
+    let input = coming(alloc, &SESSION)?;
+    let mut sent = Vec::new(alloc);
+    let mut connection = Connection::new(alloc, input.as_slice(), &mut sent, LIMITS)?;
+    let mut worker = Worker::new(alloc, settings(alloc)?);
+    let mut handler = Gathered::new(alloc);
+    // In parts: no round, then some, then the others.
+    for rounds in [0u64, 3, 4] {
+        let progress = worker.run(alloc, &mut connection, &mut handler, rounds)?;
+        assert_eq!(rt; progress, Progress::GoesOn);
+    }
+    drop(connection);
+    assert_eq!(rt; lines_of(alloc, &sent)?.as_str(), COMMANDS);
+    assert_eq!(rt; handler.loose.len(), 0);
+    assert_eq!(rt; handler.committed.len(), 3);
+    Ok(())
+}
+
+// Wherever what comes ends, what was sent is a front of the session, and so is what was handled.
+#[test]
+fn an_end_in_a_reply_loses_nothing(rt: HostRuntime) -> Result<(), Fail> {
+    let alloc = rt.alloc();
+    let input = coming(alloc, &SESSION)?;
+    for end in 0..input.len() {
+        let mut sent = Vec::new(alloc);
+        let mut connection = Connection::new(alloc, &input[..end], &mut sent, LIMITS)?;
+        let mut worker = Worker::new(alloc, settings(alloc)?);
+        let mut handler = Gathered::new(alloc);
+        match worker.run(alloc, &mut connection, &mut handler, 7) {
+            Err(RunError::Receive(ConnectionError::Closed)) => {}
+            _ => return Err(Fail::new("not closed")),
+        }
+        drop(connection);
+        let lines = lines_of(alloc, &sent)?;
+        assert!(rt; COMMANDS.starts_with(lines.as_str()));
+        let untouched = handler.loose.is_empty() && handler.committed.is_empty();
+        assert_eq!(rt; untouched, end < ONE.len());
+        assert_eq!(rt; lines.contains("XACK"), !handler.committed.is_empty());
+        // Over another connection it asks the same again.
+        let mut again = Vec::new(alloc);
+        worker.request(alloc, &mut again, &mut handler)?;
+        assert!(rt; sent.ends_with(&again));
+    }
+    Ok(())
+}
+
+#[test]
+fn a_write_that_is_refused_is_told(rt: HostRuntime) -> Result<(), Fail> {
+    let alloc = rt.alloc();
+    let input = coming(alloc, &SESSION)?;
+    let mut worker = Worker::new(alloc, settings(alloc)?);
+    let mut handler = Gathered::new(alloc);
+    // It takes so much, and no more.
+    let mut room = [0u8; 10];
+    let mut connection = Connection::new(alloc, input.as_slice(), &mut room[..], LIMITS)?;
+    match worker.run(alloc, &mut connection, &mut handler, 7) {
+        Err(RunError::Send(ConnectionError::Write(_error))) => {}
+        _ => return Err(Fail::new("it was sent")),
+    }
+    drop(connection);
+    assert_eq!(rt; room.as_slice(), b"*9\r\n$10\r\nX".as_slice());
+    assert_eq!(rt; handler.loose.len(), 0);
+    go(&rt, &mut worker, &mut handler, &[(OWN, ONE)])
+}
+
+#[test]
+fn a_session_ends_where_the_handler_stops_or_an_answer_is_refused(
+    rt: HostRuntime,
+) -> Result<(), Fail> {
+    let alloc = rt.alloc();
+    let input = coming(alloc, &[THREE, b":1\r\n", b"-READONLY x\r\n"])?;
+    let mut sent = Vec::new(alloc);
+    let mut connection = Connection::new(alloc, input.as_slice(), &mut sent, LIMITS)?;
+    let mut worker = Worker::new(alloc, settings(alloc)?);
+    let mut handler = Scripted {
+        verdicts: vec![in alloc; Verdict::Done]?,
+        may_commit: true,
+        commits: 0,
+    };
+    let progress = worker.run(alloc, &mut connection, &mut handler, 7)?;
+    assert_eq!(rt; progress, Progress::Stopped);
+    match worker.run(alloc, &mut connection, &mut handler, 7) {
+        Err(RunError::Answer(WorkerError::Server(error))) => {
+            assert_eq!(rt; error.code(), b"READONLY".as_slice());
+        }
+        _ => return Err(Fail::new("no error of the server")),
+    }
+    handler.may_commit = false;
+    worker.run(alloc, &mut connection, &mut handler, 0)?;
+    drop(connection);
+    assert_eq!(rt;
+        lines_of(alloc, &sent)?.as_str(),
+        "
+- XREADGROUP GROUP g c COUNT 100 STREAMS k 0
+- XACK k g 1-1 2-1
+- XREADGROUP GROUP g c COUNT 100 STREAMS k 0"
+    );
+    assert_eq!(rt; handler.commits, 1);
     Ok(())
 }

@@ -1,6 +1,3 @@
-use Rattle.std.proofs.Common.{◌≡◌, suc}
-use Rattle.redis_wire.specs.Place.{IsArrayAt}
-use Rattle.stream_refs.specs.AddedIds.{deleted_count}
 use Rattle.stream_refs.proofs.autoclaim.claim_head.Goals as goal
 
 pub returns : goal.returns
