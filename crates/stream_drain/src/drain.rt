@@ -11,7 +11,7 @@ use redis_wire::Reply;
 use std::alloc::Global;
 use std::io::{Read, Write};
 use std::rt::Clock;
-use stream_worker::{Asked, Progress, RequestError, Worker, WorkerError};
+use stream_worker::{Asked, Progress, RequestError, RunError, Worker, WorkerError};
 
 /// Drains until something fails, or until a read finds nothing new where that is asked for.
 pub fn drain<R: Read + Drop, W: Write + Drop, D: LogFile + Drop, T: Clock + Eprint + AllocGlobal>(
@@ -25,14 +25,11 @@ pub fn drain<R: Read + Drop, W: Write + Drop, D: LogFile + Drop, T: Clock + Epri
     ensures { IfOk result (λ _. IsTrue until_empty) }
 {
     let alloc = rt.alloc();
-    let mut question = Vec::new(alloc);
     for _ in 0..u64::MAX {
-        question.clear();
-        if let Err(error) = worker.request(alloc, &mut question, lines) {
-            return Err(not_asked(error, &lines.fault));
-        }
-        connection.send_bytes(&question)?;
-        let reply = connection.receive(alloc)?;
+        let reply = match worker.ask(alloc, &mut connection, lines) {
+            Ok(reply) => reply,
+            Err(error) => return Err(not_heard(error, &lines.fault)),
+        };
         let asked = worker.asked();
         let nothing_new = if let Reply::Value(value) = &reply {
             lines.came(alloc, asked, value)?;
@@ -57,10 +54,10 @@ pub fn drain<R: Read + Drop, W: Write + Drop, D: LogFile + Drop, T: Clock + Epri
     bail!("the last turn came")
 }
 
-// Why nothing was asked.
-fn not_asked(error: RequestError, fault: &Option<LineFault>) -> Error {
+// Why no reply came.
+fn not_heard(error: RunError, fault: &Option<LineFault>) -> Error {
     match (error, fault) {
-        (RequestError::NotCommitted, Some(LineFault::Log(reason))) => {
+        (RunError::Request(RequestError::NotCommitted), Some(LineFault::Log(reason))) => {
             anyhow!("cannot write the file: {reason}")
         }
         (error, _) => error.into(),
