@@ -20,6 +20,7 @@ pub record Desk : Type 0 where
 abbrev pub letter_of : Letter → Id × List ℕ
 letter_of l = (string_bytes l.id, l.command.items)
 
+-- what waits at a desk, and whether its first letter was added
 abbrev pub desk_of : DeadLetters → Desk
 desk_of d = record { waiting = map letter_of d.letters.items; added = d.added }
 
@@ -42,6 +43,7 @@ abbrev pub bytes_of_first : List ℕ × List ℕ × List ℕ → List (Id × Lis
 bytes_of_first names [] added = []
 bytes_of_first names (letter ∷ rest) added = of_first names letter added
 
+-- the bytes of the next command of a desk
 abbrev pub letter_bytes : List ℕ × List ℕ × List ℕ → Desk → List ℕ
 letter_bytes names desk = bytes_of_first names desk.waiting desk.added
 
@@ -51,6 +53,7 @@ asks_of_first [] added = asked.Nothing
 asks_of_first (letter ∷ rest) false = asked.Add
 asks_of_first (letter ∷ rest) true = asked.Acknowledge
 
+-- what the next command of a desk asks
 abbrev pub letter_asks : Desk → LetterAsked
 letter_asks desk = asks_of_first desk.waiting desk.added
 

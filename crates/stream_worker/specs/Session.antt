@@ -34,6 +34,7 @@ pub record Standing (R : Type 0) : Type 0 where
   pub asked : Asked  -- what is to be answered
   pub history : R  -- what passed between the worker and its handler
 
+-- where a worker with this history of its handler stands
 abbrev pub standing_of : {R : Type 0} → Worker → R → Standing R
 standing_of w r = record { machine = machine_of w; missing = w.group_missing; asked = w.asked; history = r }
 
