@@ -8,9 +8,7 @@ use crate::other::other;
 use crate::outcome::{Found, Outcome};
 use redis_wire::Limits;
 use std::alloc::Global;
-use stream_refs::{
-    AutoClaimPlace, EntryPlace, EntryTape, FieldPlace, find_autoclaim, find_justid,
-};
+use stream_refs::{AutoClaimPlace, EntryPlace, EntryTape, FieldPlace, find_autoclaim, find_justid};
 
 /// Where the entries of an automatic claim stand.
 fn autoclaim_outcome(
