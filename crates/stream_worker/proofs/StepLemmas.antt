@@ -18,12 +18,12 @@ use Rattle.stream_worker.specs.Machine.{ending_of, commits}
 use Rattle.stream_worker.specs.Step.{Steps, AnswersStayInStep, CutsStayInStep, RequestsStayInStep, as_it_asks}
 use Rattle.stream_worker.specs.Step.{doings_in}
 
-nothing_behind : {A : Type 0} (xs : List A) → xs ++ [] ≡ xs
+pub nothing_behind : {A : Type 0} (xs : List A) → xs ++ [] ≡ xs
 nothing_behind [] = refl
 nothing_behind (x ∷ xs) = ap (λ r. x ∷ r) (nothing_behind xs)
 
 -- what was done, with these behind it
-abbrev more : Doings → List (Entry (Fields Tree)) → Doings
+abbrev pub more : Doings → List (Entry (Fields Tree)) → Doings
 more d es = record d { loose = d.loose ++ es }
 
 more_none : (d : Doings) → more d [] ≡ d
@@ -44,7 +44,7 @@ one_done d id (Some f) done = refl
 one_done d id (Some f) left_pending = sym (more_none d)
 one_done d id (Some f) stop = sym (more_none d)
 
-all_done : (d : Doings) (es : List (Delivered (Fields Tree))) (vs : List Verdict)
+pub all_done : (d : Doings) (es : List (Delivered (Fields Tree))) (vs : List Verdict)
     → with_all done_too d (told_in es vs) ≡ more d (handled_in es vs)
 all_done d [] vs = sym (more_none d)
 all_done d (e ∷ es) [] = sym (more_none d)

@@ -12,3 +12,4 @@ pub mod Step
 pub mod Gathered
 pub mod Letters
 pub mod Session
+pub mod Life

@@ -3,6 +3,7 @@ ghost use Rattle.redis_resp.specs.Table.{Fields};
 ghost use Rattle.redis_resp.specs.Tree.{Tree};
 ghost use Rattle.stream_group.specs.Law.{AcknowledgedIsSettled, EachEntryIsKept, HandledAsDelivered};
 ghost use Rattle.stream_group.specs.Law.{CommittedIsHandled, HandledIsOfTheLog};
+ghost use Rattle.stream_worker.specs.Life.{OnlyCommittedIsAcknowledged, SessionsAreLived};
 ghost use Rattle.stream_worker.specs.Step.{AnswersStayInStep, CutsStayInStep, RequestsStayInStep};
 
 /// The laws of `stream_group`, of entries with the fields that a worker sees: each that was ever
@@ -22,4 +23,12 @@ pub fn stays_in_step()
     ensures answers { AnswersStayInStep }
     ensures cuts { CutsStayInStep }
     ensures requests { RequestsStayInStep }
+{}
+
+/// Over its whole life, in sessions that come to their end and in those that break off, a worker
+/// acknowledges an entry only after its handler said that it is done, and committed that; or after
+/// the server said that the entry was deleted from the stream.
+pub fn acknowledges_what_is_committed()
+    ensures acknowledged { OnlyCommittedIsAcknowledged }
+    ensures sessions { SessionsAreLived }
 {}

@@ -1,0 +1,91 @@
+-- The life of a worker, over any number of sessions, and the law of what it acknowledges.
+use Rattle.std.specs.Prelude.{◌⊎◌, ℕ, List, [], ◌∷◌, ◌++◌, false, Option, Some, None}
+use Rattle.redis_resp.specs.Table.{Fields}
+use Rattle.redis_resp.specs.Tree.{Tree}
+use Rattle.redis_wire.specs.Reply as wire
+use Rattle.redis_connection.specs.Link.{Link}
+use Rattle.stream_group.specs.Law.{Among}
+use Rattle.stream_group.specs.Worker.{Id, Delivered, start, entries_in}
+use Rattle.stream_worker.specs.Answers.{Heard, told, no_group, group_made, hears}
+use Rattle.stream_worker.specs.Gathered.{Doings, done_too, committed_too}
+use Rattle.stream_worker.specs.Session.{Standing, Turn, asking, after_turn, Ran, Fails, Broke}
+use Rattle.stream_worker.specs.declared.error.RunError.{RunError}
+use Rattle.stream_worker.specs.declared.error.RunError.TheVariants as causes
+use Rattle.stream_worker.specs.declared.state.Asked.TheVariants.{Nothing}
+use Rattle.stream_worker.specs.declared.state.Settings.{Settings}
+use Rattle.stream_worker.specs.declared.worker.Progress.{Progress}
+
+-- the id of an entry that came without fields, since it was deleted from the stream
+abbrev pub deleted_one : {F : Type 0} → Id → Option F → List Id
+deleted_one id None = id ∷ []
+deleted_one id (Some fields) = []
+
+-- the ids of all of them
+abbrev pub deleted_in : {F : Type 0} → List (Delivered F) → List Id
+deleted_in [] = []
+deleted_in (e ∷ es) = deleted_one e.0 e.1 ++ deleted_in es
+
+-- and of those that were heard of
+abbrev pub deleted_by : Option Heard → List Id
+deleted_by None = []
+deleted_by (Some (told answer)) = deleted_in (entries_in answer)
+deleted_by (Some no_group) = []
+deleted_by (Some group_made) = []
+
+-- a new worker, whose handler did nothing yet
+abbrev pub newborn : Settings → Standing Doings
+newborn settings = record {
+  machine = start settings.every;
+  missing = false;
+  asked = Nothing;
+  history = record { loose = []; committed = [] };
+}
+
+module _ (settings : Settings) where
+  -- the ids of entries that this answer to its question brought without fields
+  abbrev pub deleted_told : Standing Doings → wire.Answer → List Id
+  deleted_told w a = deleted_by (hears settings (asking committed_too settings w).asked a)
+
+  -- and of those that came in a round that failed
+  abbrev pub deleted_at : (old new : Link) (w x : Standing Doings) (e : RunError)
+      → Fails done_too committed_too settings old new w x e → List Id
+  deleted_at old new w x (causes.Request e) f = []
+  deleted_at old new w x (causes.Send e) f = []
+  deleted_at old new w x (causes.Receive e) f = []
+  deleted_at old new w x (causes.Answer e) f = deleted_told w f.0
+
+  -- where a worker may stand, and of which entries it was told that they were deleted: at first it is new; in each
+  -- round an answer brings it on, or the round fails, and it goes on over this connection or another one
+  pub data Lives : Standing Doings → List Id → Type 0 where
+    begins : Lives (newborn settings) []
+    goes_on : (w : Standing Doings) (deleted : List Id) (t : Turn) → Lives w deleted
+        → Lives (after_turn done_too committed_too settings w t) (deleted ++ deleted_told w t.answer)
+    fails : (w x : Standing Doings) (deleted : List Id) (old new : Link) (e : RunError)
+        (f : Fails done_too committed_too settings old new w x e) → Lives w deleted
+        → Lives x (deleted ++ deleted_at old new w x e f)
+
+-- what its next command acknowledges, where it acknowledges anything
+abbrev pub acknowledges : Settings → Standing Doings → List Id
+acknowledges settings w = (asking committed_too settings w).machine.to_acknowledge
+
+-- an entry of this id was done, and that was committed
+abbrev pub IsCommitted : Doings → Id → Type 0
+IsCommitted d id = (fields : Fields Tree) × Among (id, fields) d.committed
+
+-- the law: wherever a worker stands, before it asks to acknowledge an id its handler said that this entry is done,
+-- and committed that; or the server said that it was deleted
+abbrev pub OnlyCommittedIsAcknowledged : Type 0
+OnlyCommittedIsAcknowledged = (settings : Settings) (w : Standing Doings) (deleted : List Id)
+    → Lives settings w deleted → (id : Id) → Among id (acknowledges settings w)
+    → IsCommitted (asking committed_too settings w).history id ⊎ Among id deleted
+
+-- it may stand there later, after some more entries were deleted
+abbrev pub LivesOn : Settings → Standing Doings → List Id → Type 0
+LivesOn settings x deleted = (more : List Id) × Lives settings x (deleted ++ more)
+
+-- where `run` leaves a worker is a standing of its life: a session that came to its end, and one that broke off
+abbrev pub SessionsAreLived : Type 0
+SessionsAreLived = (settings : Settings) (old new : Link) (w x : Standing Doings) (rounds : ℕ) (deleted : List Id)
+    → Lives settings w deleted
+    → ((p : Progress) → Ran done_too committed_too settings old new w x rounds p → LivesOn settings x deleted)
+    × ((e : RunError) → Broke done_too committed_too settings old new w x rounds e → LivesOn settings x deleted)
