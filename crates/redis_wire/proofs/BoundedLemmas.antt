@@ -24,7 +24,7 @@ use Rattle.redis_wire.specs.Bounded.{begun_behind, many_begun, inside_begun, val
 use Rattle.redis_wire.specs.Bounded.{reply_begun, bounded_at}
 use Rattle.redis_wire.specs.Scan.{passed}
 use Rattle.redis_wire.proofs.SteadyLemmas.{value_steady, reply_steady}
-use Rattle.redis_wire.proofs.FitsLemmas.{Takes, Fits, bind_ok, line_fits, length_fits, reply_fits}
+use Rattle.redis_wire.proofs.FitsLemmas.{Takes, Fits, bind_ok, line_fits, reply_fits}
 use Rattle.redis_wire.proofs.CountLemmas.{reply_counted}
 use Rattle.redis_wire.proofs.ItemLemmas.{read_as, item_steady, begins_steady, many_rest, value_part, is_run, alone_rest}
 use Rattle.redis_wire.proofs.ItemLemmas.{reply_part, begins_ends, blob_ends, end_le}
