@@ -376,9 +376,11 @@ whole_small limits text a le reply = record { reply = reply; few = few }
   where
     read : reply_at limits (text ++ []) ≡ Ok (a, [])
     read = (reply_fits limits).again text [] a reply
+
     small : 3 * reply_begun limits (text ++ []) + 0 ≤ length (text ++ [])
     small = subst (λ (r : Read Answer). Small (rest_of r) (reply_begun limits (text ++ [])) (length (text ++ [])))
         read (reply_part_small limits (text ++ []))
+
     few : Rattle.redis_wire.specs.Count.value_count a ≤ limits.values
     few = omega (
       arith,
