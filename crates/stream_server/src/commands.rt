@@ -343,10 +343,7 @@ fn see_help(alloc: Global, fault: &[u8], subcommand: &[u8], word: &[u8]) -> Refu
         return Refusal::Memory;
     };
     upper.make_ascii_uppercase();
-    refusal_of(
-        alloc,
-        &[fault, subcommand, b"'. Try ", &upper, b" HELP."],
-    )
+    refusal_of(alloc, &[fault, subcommand, b"'. Try ", &upper, b" HELP."])
 }
 
 /// The texts behind one another as a refusal.
