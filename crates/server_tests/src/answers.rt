@@ -5,7 +5,7 @@ use std::process::Abort;
 use std::test::Fail;
 use stream_server::{Protocol, Server, Session};
 
-const OF_RESP2: [(&str, &str); 49] = [
+const OF_RESP2: [(&str, &str); 56] = [
     ("PING", "+PONG\r\n"),
     ("XADD s 1-1 a b", "$3\r\n1-1\r\n"),
     (
@@ -106,6 +106,11 @@ const OF_RESP2: [(&str, &str); 49] = [
         lag\r\n:0\r\n",
     ),
     ("XINFO STREAM nokey", "-ERR no such key\r\n"),
+    ("XINFO STREAM nokey FULL COUNT x", "-ERR no such key\r\n"),
+    (
+        "XINFO STREAM s BAD",
+        "-ERR unknown subcommand or wrong number of arguments for 'STREAM'. Try XINFO HELP.\r\n",
+    ),
     (
         "XSETID s 1-0",
         "-ERR The ID specified in XSETID is smaller than the target stream top item\r\n",
@@ -130,6 +135,16 @@ const OF_RESP2: [(&str, &str); 49] = [
     ),
     ("DEL s t", ":1\r\n"),
     ("XLEN s", ":0\r\n"),
+    ("XADD s 1-1 a b", "$3\r\n1-1\r\n"),
+    ("XGROUP CREATE s g 0 ENTRIESREAD 0", "+OK\r\n"),
+    ("XDEL s 1-1", ":1\r\n"),
+    ("XADD s 2-1 a b", "$3\r\n2-1\r\n"),
+    (
+        "XINFO GROUPS s",
+        "*1\r\n*12\r\n$4\r\nname\r\n$1\r\ng\r\n$9\r\nconsumers\r\n:0\r\n$7\r\npending\r\n\
+        :0\r\n$17\r\nlast-delivered-id\r\n$3\r\n0-0\r\n$12\r\nentries-read\r\n:0\r\n$3\r\n\
+        lag\r\n:2\r\n",
+    ),
     ("HELLO 9", "-NOPROTO unsupported protocol version\r\n"),
     ("FLUSHALL", "+OK\r\n"),
 ];

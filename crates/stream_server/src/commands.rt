@@ -328,20 +328,22 @@ fn wrong_subcount(alloc: Global, word: &[u8], subcommand: &[u8]) -> Refusal {
 
 /// That there is no such subcommand.
 fn unknown_subcommand(alloc: Global, word: &[u8], subcommand: &[u8]) -> Refusal {
+    see_help(alloc, b"ERR unknown subcommand '", subcommand, word)
+}
+
+/// That the subcommand has no such options.
+fn wrong_options(alloc: Global, word: &[u8], subcommand: &[u8]) -> Refusal {
+    let fault = b"ERR unknown subcommand or wrong number of arguments for '";
+    see_help(alloc, fault, subcommand, word)
+}
+
+/// The fault and the subcommand, and which help there is.
+fn see_help(alloc: Global, fault: &[u8], subcommand: &[u8], word: &[u8]) -> Refusal {
     let Ok(mut upper) = Vec::from_slice(alloc, word) else {
         return Refusal::Memory;
     };
     upper.make_ascii_uppercase();
-    refusal_of(
-        alloc,
-        &[
-            b"ERR unknown subcommand '",
-            subcommand,
-            b"'. Try ",
-            &upper,
-            b" HELP.",
-        ],
-    )
+    refusal_of(alloc, &[fault, subcommand, b"'. Try ", &upper, b" HELP."])
 }
 
 /// The texts behind one another as a refusal.

@@ -1,6 +1,8 @@
 -- What a stream and a group show, and how they change.
-use Rattle.std.specs.Prelude.{◌≡◌, ℕ, ℤ, List, [], ◌∷◌, remove}
+use Rattle.std.specs.Prelude.{◌≡◌, ◌≢◌, ℕ, ℤ, List, [], ◌∷◌, remove}
+use Rattle.std.specs.declared.cmp.Ordering.TheVariants.{Greater}
 use Rattle.std.specs.List.{HoldsAt}
+use Rattle.stream_store.specs.Order.{id_order}
 use Rattle.stream_store.specs.declared.entry_id.EntryId.{EntryId}
 use Rattle.stream_store.specs.declared.group.Group.{Group}
 use Rattle.stream_store.specs.declared.stream.Entry.{Entry}
@@ -39,3 +41,10 @@ pub record IsWithoutOne (id : EntryId) (old new : List Entry) : Type 0 where
 abbrev pub first_id_of : List Entry → EntryId
 first_id_of [] = record { milliseconds = 0; sequence = 0 }
 first_id_of (entry ∷ entries) = entry.id
+
+-- the largest id that was deleted is neither before this one nor before the first that is there
+pub record IsTombstoneFrom (id : EntryId) (s : Stream) : Type 0 where
+  pub some : s.entries.items ≢ []
+  pub deleted : s.max_deleted_id ≢ record { milliseconds = 0; sequence = 0 }
+  pub first : id_order (first_id_of s.entries.items) s.max_deleted_id ≢ Greater
+  pub behind : id_order id s.max_deleted_id ≢ Greater

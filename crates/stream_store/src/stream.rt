@@ -6,7 +6,7 @@ ghost use Rattle.std.specs.List.{HoldsAt};
 ghost use Rattle.std.specs.List.Sorted.{IsSearchInRange};
 ghost use Rattle.stream_store.specs.Order.{IsAscending, IsGapFor, IsNowhere, IsSplitBefore};
 ghost use Rattle.stream_store.specs.Trim.{IsExactCount};
-ghost use Rattle.stream_store.specs.Stream.{seen_stream, first_id_of, IsWithoutOne};
+ghost use Rattle.stream_store.specs.Stream.{seen_stream, first_id_of, IsWithoutOne, IsTombstoneFrom};
 
 use crate::entry_id::EntryId;
 use crate::group::Group;
@@ -194,12 +194,15 @@ impl Stream {
         }
     }
 
-    /// Whether an entry with at least this id was deleted, as far as the stream remembers.
+    /// Whether an entry with at least this id was deleted from behind the first one that is there,
+    /// as far as the stream remembers.
     pub fn has_tombstone_from(&self, id: EntryId) -> bool
-        ensures none { self.now.entries.items ≡ [] → result ≡ false }
+        ensures some { OnTrue result (IsTombstoneFrom id self.now) }
+        ensures none { OnFalse result (IsTombstoneFrom id self.now → ⊥) }
     {
         !self.entries.is_empty()
             && self.max_deleted_id != EntryId::ZERO
+            && self.first_id() <= self.max_deleted_id
             && id <= self.max_deleted_id
     }
 

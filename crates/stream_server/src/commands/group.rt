@@ -5,7 +5,7 @@ ghost use Rattle.stream_store.specs.Stream.{seen_stream};
 
 use super::{
     INVALID_ID, SYNTAX, integer, is_word, loose_id, no_group_for, place_of, place_of_group,
-    refusal_of, strict_id, unknown_subcommand, wrong_subcount,
+    strict_id, unknown_subcommand, wrong_options, wrong_subcount,
 };
 use crate::answer::Answer;
 use crate::refusal::Refusal;
@@ -41,7 +41,7 @@ pub(super) fn group(
     let [subcommand, key, name, rest @ ..] = arguments else {
         return Err(SYNTAX);
     };
-    let options = options_in(alloc, action, subcommand, rest)?;
+    let options = options_in(alloc, action, word, subcommand, rest)?;
     match place_of(streams, key) {
         Ok(index) => done_on(alloc, &mut streams[index], now, action, arguments, options),
         Err(_) if options.makes_stream => create_stream(alloc, streams, key, name, rest, options),
@@ -114,6 +114,7 @@ struct GroupOptions {
 fn options_in(
     alloc: Global,
     action: Action,
+    word: &[u8],
     subcommand: &[u8],
     words: &[Vec<u8>],
 ) -> Result<GroupOptions, Refusal> {
@@ -129,24 +130,15 @@ fn options_in(
     for _ in 0..behind.len() {
         match rest {
             [] => break,
-            [word, after @ ..] if action == Action::Create && is_word(word, "MKSTREAM") => {
+            [option, after @ ..] if action == Action::Create && is_word(option, "MKSTREAM") => {
                 options.makes_stream = true;
                 rest = after;
             }
-            [word, text, after @ ..] if takes_count && is_word(word, "ENTRIESREAD") => {
+            [option, text, after @ ..] if takes_count && is_word(option, "ENTRIESREAD") => {
                 options.entries_read = entries_read_in(text)?;
                 rest = after;
             }
-            _ => {
-                return Err(refusal_of(
-                    alloc,
-                    &[
-                        b"ERR unknown subcommand or wrong number of arguments for '",
-                        subcommand,
-                        b"'. Try XGROUP HELP.",
-                    ],
-                ));
-            }
+            _ => return Err(wrong_options(alloc, word, subcommand)),
         }
     }
     Ok(options)

@@ -6,7 +6,7 @@ ghost use Rattle.stream_server.specs.Kinds.{IsInfo};
 
 use super::{
     SYNTAX, entry_answer, group_of, integer, is_word, length, no_group_for, number, stream_of,
-    unknown_subcommand, wrong_subcount,
+    unknown_subcommand, wrong_options, wrong_subcount,
 };
 use crate::answer::Answer;
 use crate::refusal::Refusal;
@@ -34,20 +34,17 @@ pub(super) fn info(
     ensures { IfOk result IsInfo }
 {
     let topic = topic_in(alloc, word, arguments)?;
-    let [_, key, rest @ ..] = arguments else {
+    let [subcommand, key, rest @ ..] = arguments else {
         return Err(SYNTAX);
     };
+    let stream = stream_of(streams, key).ok_or(NO_KEY)?;
     match topic {
-        Topic::Stream => match full_in(rest)? {
-            Some(most) => {
-                let stream = stream_of(streams, key).ok_or(NO_KEY)?;
-                Ok(full::stream_in_full(alloc, stream, most)?)
-            }
-            None => Ok(stream_info(alloc, stream_of(streams, key).ok_or(NO_KEY)?)?),
+        Topic::Stream => match full_in(alloc, word, subcommand, rest)? {
+            Some(most) => Ok(full::stream_in_full(alloc, stream, most)?),
+            None => Ok(stream_info(alloc, stream)?),
         },
-        Topic::Groups => Ok(groups_info(alloc, stream_of(streams, key).ok_or(NO_KEY)?)?),
+        Topic::Groups => Ok(groups_info(alloc, stream)?),
         Topic::Consumers => {
-            let stream = stream_of(streams, key).ok_or(NO_KEY)?;
             let [name, ..] = rest else {
                 return Err(SYNTAX);
             };
@@ -82,14 +79,19 @@ fn topic_in(alloc: Global, word: &[u8], arguments: &[Vec<u8>]) -> Result<Topic, 
 }
 
 /// `[FULL [COUNT count]]`: at most how many entries are told, where they are; 0 is any number.
-fn full_in(words: &[Vec<u8>]) -> Result<Option<u64>, Refusal> {
-    match words {
+fn full_in(
+    alloc: Global,
+    word: &[u8],
+    subcommand: &[u8],
+    options: &[Vec<u8>],
+) -> Result<Option<u64>, Refusal> {
+    match options {
         [] => Ok(None),
-        [word] if is_word(word, "FULL") => Ok(Some(10)),
-        [word, count, text] if is_word(word, "FULL") && is_word(count, "COUNT") => {
+        [full] if is_word(full, "FULL") => Ok(Some(10)),
+        [full, count, text] if is_word(full, "FULL") && is_word(count, "COUNT") => {
             Ok(Some(u64::try_from(integer(text)?).unwrap_or(10)))
         }
-        _ => Err(SYNTAX),
+        _ => Err(wrong_options(alloc, word, subcommand)),
     }
 }
 

@@ -176,51 +176,61 @@ const NOACK_ALONE: &str = "ERR The NOACK option is only supported by XREADGROUP.
 
 /// The options, up to `STREAMS` and what stands behind it.
 fn options_in(arguments: &[Vec<u8>], is_group: bool) -> Result<ReadOptions<'_>, Refusal> {
-    let mut most = 0;
-    let mut names = None;
-    let mut acknowledges = false;
+    let mut options = ReadOptions {
+        most: u64::MAX,
+        names: None,
+        acknowledges: false,
+        keys: &[],
+        ids: &[],
+    };
     let mut rest = arguments;
     for _ in 0..arguments.len() {
         match rest {
-            [word, text, behind @ ..] if is_word(word, "BLOCK") => {
-                check_timeout(text)?;
-                rest = behind;
-            }
-            [word, text, behind @ ..] if is_word(word, "COUNT") => {
-                most = count(text)?;
-                rest = behind;
-            }
             [word, streams @ ..] if is_word(word, "STREAMS") && !streams.is_empty() => {
                 if streams.len() % 2 != 0 {
                     return Err(Refusal::Fixed(UNBALANCED));
                 }
-                let (keys, ids) = streams.split_at(streams.len() / 2);
-                return Ok(ReadOptions {
-                    most: if most == 0 { u64::MAX } else { most },
-                    names,
-                    acknowledges,
-                    keys,
-                    ids,
-                });
+                (options.keys, options.ids) = streams.split_at(streams.len() / 2);
+                return Ok(options);
             }
-            [word, group, consumer, behind @ ..] if is_word(word, "GROUP") => {
-                if !is_group {
-                    return Err(Refusal::Fixed(GROUP_ALONE));
-                }
-                names = Some((group.as_slice(), consumer.as_slice()));
-                rest = behind;
-            }
-            [word, behind @ ..] if is_word(word, "NOACK") => {
-                if !is_group {
-                    return Err(Refusal::Fixed(NOACK_ALONE));
-                }
-                acknowledges = true;
-                rest = behind;
-            }
-            _ => return Err(SYNTAX),
+            _ => rest = option_at(&mut options, rest, is_group)?,
         }
     }
     Err(SYNTAX)
+}
+
+/// Reads one option, and gives the words behind it.
+fn option_at<'a>(
+    options: &mut ReadOptions<'a>,
+    words: &'a [Vec<u8>],
+    is_group: bool,
+) -> Result<&'a [Vec<u8>], Refusal> {
+    match words {
+        [word, text, behind @ ..] if is_word(word, "BLOCK") => {
+            check_timeout(text)?;
+            Ok(behind)
+        }
+        [word, text, behind @ ..] if is_word(word, "COUNT") => {
+            let most = count(text)?;
+            options.most = if most == 0 { u64::MAX } else { most };
+            Ok(behind)
+        }
+        [word, group, consumer, behind @ ..] if is_word(word, "GROUP") => {
+            if !is_group {
+                return Err(Refusal::Fixed(GROUP_ALONE));
+            }
+            options.names = Some((group.as_slice(), consumer.as_slice()));
+            Ok(behind)
+        }
+        [word, behind @ ..] if is_word(word, "NOACK") => {
+            if !is_group {
+                return Err(Refusal::Fixed(NOACK_ALONE));
+            }
+            options.acknowledges = true;
+            Ok(behind)
+        }
+        _ => Err(SYNTAX),
+    }
 }
 
 /// Whether it is a time to wait.
