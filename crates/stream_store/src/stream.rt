@@ -223,10 +223,10 @@ impl Stream {
         let len = i64::try_from(self.entries.len()).unwrap_or(i64::MAX);
         if self.max_deleted_id == EntryId::ZERO || self.max_deleted_id < first {
             if id < first {
-                return Some(self.entries_added.saturating_sub(len));
+                return Some(self.entries_added.wrapping_sub(len));
             }
             if id == first {
-                return Some(self.entries_added.saturating_sub(len).saturating_add(1));
+                return Some(self.entries_added.wrapping_sub(len).wrapping_add(1));
             }
         }
         None
@@ -257,7 +257,7 @@ impl Stream {
             let behind = whole.saturating_add(usize::try_from(node.live).unwrap_or(usize::MAX));
             let is_over = trim.limit != 0 && u64::try_from(behind).unwrap_or(u64::MAX) > trim.limit;
             let goes = match trim.bound {
-                Bound::Length(_) => behind <= most,
+                Bound::Length(_) => whole < most && behind <= most,
                 Bound::Below(least) => node.last < least,
             };
             if is_over || !goes {
@@ -288,14 +288,11 @@ fn forget(nodes: &mut VecDeque<Node>, index: usize) {
     }
 }
 
-/// So many entries less in the first node.
+/// So many entries less in the first node, which stays though none may be left in it.
 fn take_from_first(nodes: &mut VecDeque<Node>, count: usize) {
     let count = u64::try_from(count).unwrap_or(u64::MAX);
     let Some(node) = nodes.front_mut() else {
         return;
     };
     node.live = node.live.saturating_sub(count);
-    if node.live == 0 {
-        let _node = nodes.pop_front();
-    }
 }

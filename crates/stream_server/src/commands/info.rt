@@ -202,11 +202,11 @@ fn lag(stream: &Stream, group: &Group) -> Option<i64> {
     }
     if !stream.has_tombstone_from(group.last_id) {
         if let Some(n) = group.entries_read {
-            return Some(stream.entries_added.saturating_sub(n));
+            return Some(stream.entries_added.wrapping_sub(n));
         }
     }
     let n = stream.distance(group.last_id)?;
-    Some(stream.entries_added.saturating_sub(n))
+    Some(stream.entries_added.wrapping_sub(n))
 }
 
 /// `XINFO CONSUMERS key group`

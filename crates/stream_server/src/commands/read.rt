@@ -398,7 +398,7 @@ fn hand_out(
         let id = entry.id;
         match group.entries_read {
             Some(n) if !stream.has_tombstone_from(id) => {
-                group.entries_read = Some(n.saturating_add(1));
+                group.entries_read = Some(n.wrapping_add(1));
             }
             _ => {
                 if stream.entries_added != 0 {
