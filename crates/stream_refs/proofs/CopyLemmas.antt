@@ -1,6 +1,7 @@
 -- Fields that are copied into a map are those of a record.
-use Rattle.std.proofs.Common.{◌≡◌, ◌<◌, ◌≤◌, ◌+◌, ◌∙◌, ℕ, zero, suc, Bool, List, [], ◌∷◌, true, false, cond, map, length, drop, Option}
-use Rattle.std.proofs.Common.{Some, None, refl, sym, ap, add-one, arith, append_assoc, append-nil, ◌++◌, String, Global}
+use Rattle.std.proofs.Common.{◌≡◌, ◌<◌, ◌≤◌, ◌+◌, ◌∙◌, ℕ, zero, suc, Bool, List, [], ◌∷◌, true, false, cond}
+use Rattle.std.proofs.Common.{map, length, drop, Option, Some, None, refl, sym, ap, add-one, arith}
+use Rattle.std.proofs.Common.{append_assoc, append-nil, ◌++◌, String, Global}
 use Rattle.std.specs.List.{AllByRecursion}
 use Rattle.std.specs.Option.{option_or}
 use Rattle.std.specs.Str.{bytes_eq}

@@ -19,7 +19,8 @@ use Rattle.stream_refs.specs.declared.places.StreamPlace.{StreamPlace}
 use Rattle.stream_refs.specs.Held.{Held, none_held}
 use Rattle.stream_refs.specs.Sent.{SentEntry, SentStream, rows_tree, stream_tree}
 use Rattle.stream_refs.specs.Placed.{entry_in, own_entries, stream_in, IsField, IsEntry, IsStream}
-use Rattle.stream_refs.specs.Added.{IsForm, EntriesAdded, stream_members, stream_count, IsStreamHead, StreamAdded, StreamsAdded}
+use Rattle.stream_refs.specs.Added.{IsForm, EntriesAdded, stream_members, stream_count}
+use Rattle.stream_refs.specs.Added.{IsStreamHead, StreamAdded, StreamsAdded}
 use Rattle.stream_refs.proofs.ManyLemmas.{no_more, many_first, many_append}
 use Rattle.stream_refs.proofs.FillLemmas.{array_of, map_more, entry_kept, more_within}
 use Rattle.stream_refs.proofs.RangeLemmas.{rows_of, all_taken, all_dropped}

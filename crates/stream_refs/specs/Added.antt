@@ -1,6 +1,6 @@
 -- What the filling of tables finds and adds. `d` is any number of levels behind those needed.
-use Rattle.std.specs.Prelude.{◌≡◌, ◌≤◌, ◌<◌, ◌*◌, ◌^◌, ℕ, suc, List, [], ◌∷◌, ◌++◌, map, flat_map, length, take, drop, Bool, Ok}
-use Rattle.std.specs.Prelude.{if◌then◌else◌}
+use Rattle.std.specs.Prelude.{◌≡◌, ◌≤◌, ◌<◌, ◌*◌, ◌^◌, ℕ, suc, List, [], ◌∷◌, ◌++◌, map, flat_map, length, take, drop}
+use Rattle.std.specs.Prelude.{Bool, Ok, if◌then◌else◌}
 use Rattle.std.specs.List.{AllByRecursion}
 use Rattle.redis_resp.specs.Tree.{Tree, bulk}
 use Rattle.redis_wire.specs.declared.limits.Limits.{Limits}

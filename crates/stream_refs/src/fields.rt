@@ -1,6 +1,6 @@
 //! The fields of an entry, where they stand.
-ghost use Rattle.std.specs.Prelude.{◌≡◌, ◌∷◌, [], length, map, nat_eq, true, MatchOption, MatchResult, Ok, Err, option_map};
-ghost use Rattle.std.specs.Prelude.{IfOk, OnOk, string_bytes};
+ghost use Rattle.std.specs.Prelude.{◌≡◌, ◌∷◌, [], length, map, nat_eq, true, MatchOption, MatchResult};
+ghost use Rattle.std.specs.Prelude.{Ok, Err, option_map, IfOk, OnOk, string_bytes};
 ghost use Rattle.std.specs.FinMap as fin;
 ghost use Rattle.std.specs.FinMap.{from_entries};
 ghost use Rattle.std.specs.Str.{is_utf8};
