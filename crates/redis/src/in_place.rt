@@ -4,6 +4,7 @@ pub use stream_refs::{
     AutoClaimJustIdRef, AutoClaimOutcome, AutoClaimPlace, AutoClaimRef, Delivery, EntriesRef,
     EntryPlace, EntryRef, EntryTables, EntryTape, FieldError, FieldPlace, FieldsRef, Full, IdsRef,
     JustIdOutcome, Places, RangeOutcome, RangeRef, ReadOutcome, ReadRef, StreamIdParts,
-    StreamPlace, StreamRef, StreamsRef, find_autoclaim, find_justid, find_range, find_streams,
-    read_any_autoclaim, read_any_justid, read_any_range, read_any_streams,
+    StreamPlace, StreamRef, StreamsRef, find_autoclaim, find_claimed_streams, find_justid,
+    find_range, find_streams, read_any_autoclaim, read_any_justid, read_any_range,
+    read_any_streams,
 };

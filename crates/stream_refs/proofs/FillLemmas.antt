@@ -1,6 +1,6 @@
 -- Fields and entries that are found one after the other.
-use Rattle.std.proofs.Common.{◌≡◌, ◌≤◌, ◌+◌, ◌-◌, ◌*◌, ◌/◌, ◌%◌, ◌∙◌, ℕ, suc, List, [], ◌∷◌, ◌++◌, map, length, take}
-use Rattle.std.proofs.Common.{drop, Bool, true, false, Some, Ok, refl, sym, ap, arith, append_assoc, append-nil}
+use Rattle.std.proofs.Common.{◌≡◌, ◌≤◌, ◌<◌, ◌^◌, ◌+◌, ◌-◌, ◌*◌, ◌/◌, ◌%◌, ◌∙◌, ℕ, suc, List, [], ◌∷◌, ◌++◌, map}
+use Rattle.std.proofs.Common.{length, take, drop, Bool, true, false, Some, Ok, refl, sym, ap, arith, append_assoc, append-nil}
 use Rattle.std.specs.List.{AllByRecursion}
 use Rattle.std.specs.Str.{is_utf8}
 use Rattle.std.proofs.lemmas.List.{drop-append-le, take-append-le, length-append, length-drop, take_all}
@@ -21,7 +21,7 @@ use Rattle.stream_refs.specs.Held.{Held}
 use Rattle.stream_refs.specs.Sent.{Pairs, SentEntry, members_of, row_tree}
 use Rattle.stream_refs.specs.Placed.{field_in, fields_if, delivery_if, own_fields, entry_in, IsField, IsEntry}
 use Rattle.stream_refs.specs.Added.{FieldsAdded, OwnAdded, delivery_count, row_count, IsDeliveryAt, EntryAdded}
-use Rattle.stream_refs.specs.Added.{EntriesAdded}
+use Rattle.stream_refs.specs.Added.{IsForm, EntriesAdded}
 use Rattle.stream_refs.proofs.ManyLemmas.{no_more, many_first, many_append}
 
 -- the members of an array
@@ -109,11 +109,19 @@ module _ (limits : Limits) (bytes : List ℕ) (at : ℕ) (old : Held) where
 
 module _ (limits : Limits) (bytes : List ℕ) (at : ℕ) where
   pub no_delivery : at ≤ length bytes → IsDeliveryAt limits bytes at false 0 0 at
-  no_delivery within = record { end = within; reads = λ d. no_more (value_at limits (suc d)) (drop at bytes) }
+  no_delivery within = record {
+    elapsed_fits = omega arith;
+    count_fits = omega arith;
+    end = within;
+    reads = λ d. no_more (value_at limits (suc d)) (drop at bytes);
+  }
 
-  pub delivery_is : (elapsed count behind after : ℕ) → IsIntAt limits bytes at elapsed behind
+  pub delivery_is : (elapsed count behind after : ℕ) → elapsed < 2 ^ 64 → count < 2 ^ 64
+      → IsIntAt limits bytes at elapsed behind
       → IsIntAt limits bytes behind count after → IsDeliveryAt limits bytes at true elapsed count after
-  delivery_is elapsed count behind after first second = record {
+  delivery_is elapsed count behind after short few first second = record {
+    elapsed_fits = short;
+    count_fits = few;
     end = second.end;
     reads = λ d.
         let inner = value_at limits (suc d) in
@@ -177,7 +185,7 @@ module _ (limits : Limits) (bytes : List ℕ) (at behind middle third after : �
               order = omega (arith, from_is, to_is, ap length is, length-append old.fields own.grown.more);
               within = omega arith;
             };
-        form = refl;
+        form = record { delivered = refl; elapsed = delivery.elapsed_fits; count = delivery.count_fits };
         end = delivery.end;
         reads = λ d. rw (from_is, to_is, own_new old.fields own.grown.more new.fields is) (row_reads d);
       }
@@ -265,7 +273,7 @@ module _ (limits : Limits) (bytes : List ℕ) (at : ℕ) (claim : Bool) (old : H
               (all_more (IsEntry bytes (length before.fields)) (IsEntry bytes (length new.fields))
               (more_within bytes (length before.fields) (length new.fields) grows) g.more g.entries)
               (more_within bytes (length found.fields) (length new.fields) (omega (arith, same)) e x.entry, tt);
-          forms = all_append (λ (y : EntryPlace). y.delivered ≡ claim) g.more (e ∷ []) g.forms (x.form, tt);
+          forms = all_append (IsForm claim) g.more (e ∷ []) g.forms (x.form, tt);
           fields = all_append (IsField bytes) g.more_fields fs g.fields x.grown.each;
         };
         end = x.end;

@@ -2,6 +2,8 @@ pub mod TextLemmas
 pub mod ManyLemmas
 pub mod FillLemmas
 pub mod GetLemmas
+pub mod CopyLemmas
+pub mod AgreeLemmas
 pub mod RowLemmas
 pub mod RangeLemmas
 pub mod StreamLemmas

@@ -18,8 +18,9 @@ use Rattle.stream_refs.specs.declared.places.FieldPlace.{FieldPlace}
 use Rattle.stream_refs.specs.declared.places.EntryPlace.{EntryPlace}
 use Rattle.stream_refs.specs.Held.{Held, none_held}
 use Rattle.stream_refs.specs.Sent.{Pairs, SentEntry, row_tree, rows_tree, AreTextFields, IsTextEntry, IsStandard}
+use Rattle.stream_refs.specs.Sent.{IsClaimed}
 use Rattle.stream_refs.specs.Placed.{field_in, fields_if, delivery_if, own_fields, entry_in, IsField, IsEntry}
-use Rattle.stream_refs.specs.Added.{EntriesAdded}
+use Rattle.stream_refs.specs.Added.{IsForm, EntriesAdded}
 use Rattle.stream_refs.specs.Range.{IsRange}
 use Rattle.stream_refs.proofs.FillLemmas.{array_of}
 use Rattle.stream_refs.proofs.RowLemmas.{range_read}
@@ -60,10 +61,15 @@ module _ (bytes : List ℕ) (fields : List FieldPlace) (each : AllByRecursion (I
         texts_told es h.1,
       )
 
-  pub standard_told : (es : List EntryPlace) → AllByRecursion (λ e. e.delivered ≡ false) es
+  pub standard_told : (es : List EntryPlace) → AllByRecursion (IsForm false) es
       → AllByRecursion IsStandard (map (entry_in bytes fields) es)
   standard_told [] h = tt
-  standard_told (e ∷ es) h = (ap (λ (b : Bool). delivery_if b e.elapsed e.count) h.0, standard_told es h.1)
+  standard_told (e ∷ es) h = (ap (λ (b : Bool). delivery_if b e.elapsed e.count) h.0.delivered, standard_told es h.1)
+
+  pub claimed_told : (es : List EntryPlace) → AllByRecursion (IsForm true) es
+      → AllByRecursion IsClaimed (map (entry_in bytes fields) es)
+  claimed_told [] h = tt
+  claimed_told (e ∷ es) h = (rw h.0.delivered (h.0.elapsed, h.0.count), claimed_told es h.1)
 
 pub rows_of : (bytes : List ℕ) (fields : List FieldPlace) (es : List EntryPlace)
     → map (λ e. row_tree (entry_in bytes fields e)) es ≡ map row_tree (map (entry_in bytes fields) es)

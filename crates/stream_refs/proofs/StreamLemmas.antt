@@ -19,7 +19,8 @@ use Rattle.stream_refs.specs.declared.places.StreamPlace.{StreamPlace}
 use Rattle.stream_refs.specs.Held.{Held, none_held}
 use Rattle.stream_refs.specs.Sent.{SentEntry, SentStream, rows_tree, stream_tree}
 use Rattle.stream_refs.specs.Placed.{entry_in, own_entries, stream_in, IsField, IsEntry, IsStream}
-use Rattle.stream_refs.specs.Added.{EntriesAdded, stream_members, stream_count, IsStreamHead, StreamAdded, StreamsAdded}
+use Rattle.stream_refs.specs.Added.{IsForm, EntriesAdded, stream_members, stream_count}
+use Rattle.stream_refs.specs.Added.{IsStreamHead, StreamAdded, StreamsAdded}
 use Rattle.stream_refs.proofs.ManyLemmas.{no_more, many_first, many_append}
 use Rattle.stream_refs.proofs.FillLemmas.{array_of, map_more, entry_kept, more_within}
 use Rattle.stream_refs.proofs.RangeLemmas.{rows_of, all_taken, all_dropped}
@@ -201,7 +202,7 @@ module _ (limits : Limits) (bytes : List ℕ) (at : ℕ) (in_map claim : Bool) w
               (all_more (IsEntry bytes (length before.fields)) (IsEntry bytes (length (before.fields ++ g.more_fields)))
               (more_within bytes (length before.fields)
               (length (before.fields ++ g.more_fields)) fields_grow) before.entries w.entries) more_entries;
-          forms = all_append (λ (y : EntryPlace). y.delivered ≡ claim) before.entries g.more w.forms g.forms;
+          forms = all_append (IsForm claim) before.entries g.more w.forms g.forms;
           fields = all_append (IsField bytes) before.fields g.more_fields w.fields g.fields;
         };
         end = x.end;

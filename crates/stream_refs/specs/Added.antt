@@ -1,6 +1,6 @@
 -- What the filling of tables finds and adds. `d` is any number of levels behind those needed.
-use Rattle.std.specs.Prelude.{◌≡◌, ◌≤◌, ◌*◌, ℕ, suc, List, [], ◌∷◌, ◌++◌, map, flat_map, length, take, drop, Bool, Ok}
-use Rattle.std.specs.Prelude.{if◌then◌else◌}
+use Rattle.std.specs.Prelude.{◌≡◌, ◌≤◌, ◌<◌, ◌*◌, ◌^◌, ℕ, suc, List, [], ◌∷◌, ◌++◌, map, flat_map, length, take, drop}
+use Rattle.std.specs.Prelude.{Bool, Ok, if◌then◌else◌}
 use Rattle.std.specs.List.{AllByRecursion}
 use Rattle.redis_resp.specs.Tree.{Tree, bulk}
 use Rattle.redis_wire.specs.declared.limits.Limits.{Limits}
@@ -48,16 +48,24 @@ row_count claim = suc (suc (delivery_count claim))
 -- From `at` on there are the two numbers of a delivery, where the form has them.
 pub record IsDeliveryAt (limits : Limits) (bytes : List ℕ) (at : ℕ) (claim : Bool)
     (elapsed count after : ℕ) : Type 0 where
+  pub elapsed_fits : elapsed < 2 ^ 64
+  pub count_fits : count < 2 ^ 64
   pub end : after ≤ length bytes
   pub reads : (d : ℕ) → many (value_at limits (suc d)) (delivery_count claim) (drop at bytes)
       ≡ Ok (values (delivery_trees (delivery_if claim elapsed count)), drop after bytes)
+
+-- an entry of that form, with a time and a count of 64 bits
+pub record IsForm (claim : Bool) (e : EntryPlace) : Type 0 where
+  pub delivered : e.delivered ≡ claim
+  pub elapsed : e.elapsed < 2 ^ 64
+  pub count : e.count < 2 ^ 64
 
 -- From `at` on there is an entry of that form, whose fields are added.
 pub record EntryAdded (limits : Limits) (bytes : List ℕ) (at : ℕ) (claim : Bool) (after : ℕ) (e : EntryPlace)
     (old new : Held) : Type 0 where
   pub grown : FieldsGrown bytes old new
   pub entry : IsEntry bytes (length new.fields) e
-  pub form : e.delivered ≡ claim
+  pub form : IsForm claim e
   pub end : after ≤ length bytes
   pub reads : (d : ℕ) → value_at limits (suc (suc (suc d))) (drop at bytes)
       ≡ Ok (value (row_tree (entry_in bytes new.fields e)), drop after bytes)
@@ -68,7 +76,7 @@ pub record Grown (bytes : List ℕ) (claim : Bool) (old new : Held) : Type 0 whe
   pub more_fields : List FieldPlace
   pub is : new ≡ record { streams = old.streams; entries = old.entries ++ more; fields = old.fields ++ more_fields }
   pub entries : AllByRecursion (IsEntry bytes (length new.fields)) more
-  pub forms : AllByRecursion (λ e. e.delivered ≡ claim) more
+  pub forms : AllByRecursion (IsForm claim) more
   pub fields : AllByRecursion (IsField bytes) more_fields
 
 -- From `at` on there are so many entries of that form, which are added with their fields.
@@ -110,7 +118,7 @@ pub record StreamAdded (limits : Limits) (bytes : List ℕ) (at : ℕ) (in_map c
 pub record AreWithin (bytes : List ℕ) (claim : Bool) (held : Held) : Type 0 where
   pub streams : AllByRecursion (IsStream bytes (length held.entries)) held.streams
   pub entries : AllByRecursion (IsEntry bytes (length held.fields)) held.entries
-  pub forms : AllByRecursion (λ e. e.delivered ≡ claim) held.entries
+  pub forms : AllByRecursion (IsForm claim) held.entries
   pub fields : AllByRecursion (IsField bytes) held.fields
 
 -- From `at` on there are so many streams, and the tables hold these and nothing else.

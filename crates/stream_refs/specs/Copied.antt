@@ -1,5 +1,5 @@
 -- What the copying path keeps of entries as servers send them.
-use Rattle.std.specs.Prelude.{List, [], map, Option, Some, None, option_map}
+use Rattle.std.specs.Prelude.{ℕ, List, [], map, Option, Some, None, option_map}
 use Rattle.std.specs.FinMap.{from_entries}
 use Rattle.redis_resp.specs.Tree.{bulk}
 use Rattle.redis_resp.specs.Table.{table_of, on_values}
@@ -21,6 +21,10 @@ copied e = record {
   delivered_count = option_map (λ d. d.1) e.delivery;
 }
 
+-- the stream of a record
+abbrev pub copied_stream : SentStream → List ℕ × List Entry
+copied_stream s = (s.name, map copied s.entries)
+
 -- the streams of a record
 abbrev pub copied_streams : List SentStream → Streams
-copied_streams ss = map (λ s. (s.name, map copied s.entries)) ss
+copied_streams ss = map copied_stream ss

@@ -1,5 +1,5 @@
 -- Entries as servers send them, and the values of a reply that they stand in.
-use Rattle.std.specs.Prelude.{◌≡◌, ℕ, pos, List, [], ◌∷◌, map, Bool, true, false, Option, Some, None}
+use Rattle.std.specs.Prelude.{◌≡◌, ◌<◌, ◌^◌, ℕ, pos, List, [], ◌∷◌, map, Bool, true, false, Option, Some, None}
 use Rattle.std.specs.List.{AllByRecursion}
 use Rattle.std.specs.Str.{is_utf8}
 use Rattle.redis_resp.specs.Tree.{Tree, nil, int, bulk, array, map_of_pairs, trees, pairs}
@@ -81,3 +81,12 @@ pub record IsTextStream (s : SentStream) : Type 0 where
 -- an entry of the form that says nothing of a delivery
 abbrev pub IsStandard : SentEntry → Type 0
 IsStandard e = e.delivery ≡ None
+
+-- a time and a count are there, and fit 64 bits
+abbrev pub IsDelivery : Option (ℕ × ℕ) → Type 0
+IsDelivery None = ⊥
+IsDelivery (Some d) = (d.0 < 2 ^ 64) × (d.1 < 2 ^ 64)
+
+-- an entry of the claim form
+abbrev pub IsClaimed : SentEntry → Type 0
+IsClaimed e = IsDelivery e.delivery

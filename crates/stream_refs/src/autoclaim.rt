@@ -1,6 +1,8 @@
 //! The reply of XAUTOCLAIM, where it stands.
 ghost use Rattle.std.specs.Prelude.{◌≡◌, ◌≤◌, suc, IfOk, IfSome, length};
-ghost use Rattle.stream_refs.specs.AutoClaim.{IsAutoClaim, IsJustId};
+ghost use Rattle.stream_refs.specs.AutoClaim.{copied_autoclaim, IsAutoClaim, IsJustId};
+ghost use Rattle.stream_entries.specs.AutoClaimMeaning.{autoclaim_meaning};
+ghost use Rattle.stream_entries.specs.JustIdMeaning.{justid_meaning};
 ghost use Rattle.stream_refs.specs.ClaimPlaced.{autoclaim_in, justid_in, AreClaimPlaces, AreJustIdPlaces};
 ghost use Rattle.stream_refs.specs.AddedIds.{deleted_count, IsClaimHead, DeletedAdded};
 
@@ -11,6 +13,8 @@ use crate::room::Places;
 use crate::rows::{add_entries, name_at, text_in};
 use redis_wire::Limits;
 use redis_wire::place::{Span, array_at};
+use std::alloc::{AllocError, Global};
+use stream_entries::{StreamAutoClaimJustIdReply, StreamAutoClaimReply};
 
 /// What XAUTOCLAIM answers, where it stands, and how many bytes the reply has.
 #[derive(Drop)]
@@ -38,6 +42,41 @@ pub struct AutoClaimJustIdRef<'a> {
     pub deleted_ids: IdsRef<'a>,
     /// How many bytes the reply has.
     pub len: usize,
+}
+
+impl<'a> AutoClaimRef<'a> {
+    /// The record of the copying path, where all entries and ids are left.
+    pub fn to_owned(&self, alloc: Global) -> Result<StreamAutoClaimReply, AllocError>
+        ensures { IfOk result (λ r. autoclaim_meaning r ≡ copied_autoclaim (record {
+          next = self.now.next_stream_id.now;
+          claimed = self.now.claimed;
+          deleted = self.now.deleted_ids;
+        })) }
+    {
+        Ok(StreamAutoClaimReply {
+            next_stream_id: String::from_str(alloc, self.next_stream_id)?,
+            claimed: self.claimed.to_owned(alloc)?,
+            deleted_ids: self.deleted_ids.to_owned(alloc)?,
+            invalid_entries: false,
+        })
+    }
+}
+
+impl<'a> AutoClaimJustIdRef<'a> {
+    /// The record of the copying path, where all ids are left.
+    pub fn to_owned(&self, alloc: Global) -> Result<StreamAutoClaimJustIdReply, AllocError>
+        ensures { IfOk result (λ r. justid_meaning r ≡ record {
+          next = self.now.next_stream_id.now;
+          claimed = self.now.claimed;
+          deleted = self.now.deleted_ids;
+        }) }
+    {
+        Ok(StreamAutoClaimJustIdReply {
+            next_stream_id: String::from_str(alloc, self.next_stream_id)?,
+            claimed: self.claimed.to_owned(alloc)?,
+            deleted_ids: self.deleted_ids.to_owned(alloc)?,
+        })
+    }
 }
 
 /// How the reply of XAUTOCLAIM begins.

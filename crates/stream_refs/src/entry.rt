@@ -1,14 +1,17 @@
 //! An entry, where it stands.
-ghost use Rattle.std.specs.Prelude.{◌≡◌, [], Ok, Err, MatchResult, option_map};
+ghost use Rattle.std.specs.Prelude.{◌≡◌, [], Ok, Err, IfOk, MatchResult, option_map};
 ghost use Rattle.redis_resp.specs.Table.{last_with};
 ghost use Rattle.stream_refs.specs.Sent.{is_none};
-ghost use Rattle.stream_refs.specs.Copied.{pairs_or_none};
+ghost use Rattle.stream_refs.specs.Copied.{copied, pairs_or_none};
+ghost use Rattle.stream_entries.specs.EntryMeaning.{entry_meaning};
 ghost use Rattle.stream_refs.specs.Placed.{fields_if};
 ghost use Rattle.stream_refs.specs.FieldValue.{text_value, unsigned_value, signed_value};
 
 use crate::field_value::{FieldError, i64_of, str_of, u64_of};
 use crate::fields::FieldsRef;
+use std::alloc::{AllocError, Global};
 use std::marker::Model;
+use stream_entries::StreamId;
 
 /// When an entry was delivered, and how often.
 #[derive(Clone, Copy, Debug, PartialEq, Eq)]
@@ -104,6 +107,18 @@ impl<'a> EntryRef<'a> {
         i64_of(self.get(name))
     }
 
+    /// The entry as a record has it: of fields with one name the last, and none where it was deleted.
+    pub fn to_owned(&self, alloc: Global) -> Result<StreamId, AllocError>
+        ensures { IfOk result (λ s. entry_meaning s ≡ copied self.now) }
+    {
+        Ok(StreamId {
+            id: String::from_str(alloc, self.id)?,
+            map: self.fields().to_owned(alloc)?,
+            milliseconds_elapsed_from_delivery: self.elapsed(),
+            delivered_count: self.count(),
+        })
+    }
+
     /// When and how often the entry was delivered, where the reply says so.
     pub fn delivery(&self) -> Option<Delivery>
         ensures { option_map (λ d. (d.elapsed, d.count)) result ≡ self.now.delivery }
@@ -118,6 +133,26 @@ impl<'a> EntryRef<'a> {
         match self.delivery {
             None => None,
             Some(delivery) => Some(delivery.count),
+        }
+    }
+
+    /// How many milliseconds ago the entry was last delivered, as a record has it.
+    fn elapsed(&self) -> Option<usize>
+        ensures { result ≡ option_map (λ d. d.0) self.now.delivery }
+    {
+        match self.delivery {
+            None => None,
+            Some(delivery) => Some(delivery.elapsed as usize),
+        }
+    }
+
+    /// How often the entry was delivered, as a record has it.
+    fn count(&self) -> Option<usize>
+        ensures { result ≡ option_map (λ d. d.1) self.now.delivery }
+    {
+        match self.delivery {
+            None => None,
+            Some(delivery) => Some(delivery.count as usize),
         }
     }
 }

@@ -1,13 +1,17 @@
 //! Entries, where they stand.
-ghost use Rattle.std.specs.Prelude.{◌≡◌, ◌∷◌, [], length, map, nat_eq, option_map, MatchOption};
+ghost use Rattle.std.specs.Prelude.{◌≡◌, ◌∷◌, [], length, map, nat_eq, option_map, IfOk, MatchOption};
 ghost use Rattle.std.specs.List.{AllByRecursion};
+ghost use Rattle.stream_entries.specs.EntryMeaning.{entries_of};
+ghost use Rattle.stream_refs.specs.Copied.{copied};
 ghost use Rattle.stream_refs.specs.Placed.{delivery_if, entry_in, IsField, IsEntry};
 
 use crate::entry::{Delivery, EntryRef, entry_of};
 use crate::fields::fields_at;
 use crate::places::{EntryPlace, FieldPlace};
 use crate::rows::text_in;
+use std::alloc::{AllocError, Global};
 use std::marker::Model;
+use stream_entries::{StreamId, StreamRangeReply};
 
 /// Entries, in order. As an iterator it returns those that are left.
 #[derive(Drop)]
@@ -55,6 +59,17 @@ impl<'a> EntriesRef<'a> {
             places: self.places,
             fields: self.fields,
         }
+    }
+
+    /// The entries that are left, as records.
+    pub fn to_owned(&self, alloc: Global) -> Result<Vec<StreamId>, AllocError>
+        ensures { IfOk result (λ ids. entries_of ids ≡ map copied self.now) }
+    {
+        let mut copies = Vec::with_capacity(alloc, self.places.len())?;
+        for entry in self.again() {
+            copies.push(entry.to_owned(alloc)?)?;
+        }
+        Ok(copies)
     }
 
     /// Takes the next entry.
@@ -132,4 +147,15 @@ pub struct RangeRef<'a> {
     pub entries: EntriesRef<'a>,
     /// How many bytes the reply has.
     pub len: usize,
+}
+
+impl<'a> RangeRef<'a> {
+    /// The record of the copying path, where all entries are left.
+    pub fn to_owned(&self, alloc: Global) -> Result<StreamRangeReply, AllocError>
+        ensures { IfOk result (λ r. entries_of r.ids ≡ map copied self.now.entries) }
+    {
+        Ok(StreamRangeReply {
+            ids: self.entries.to_owned(alloc)?,
+        })
+    }
 }

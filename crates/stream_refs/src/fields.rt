@@ -1,6 +1,13 @@
 //! The fields of an entry, where they stand.
-ghost use Rattle.std.specs.Prelude.{◌≡◌, ◌∷◌, [], length, map, nat_eq, MatchOption, MatchResult, Ok, Err, option_map};
-ghost use Rattle.redis_resp.specs.Table.{last_with};
+ghost use Rattle.std.specs.Prelude.{◌≡◌, ◌∷◌, [], length, map, nat_eq, true, MatchOption, MatchResult};
+ghost use Rattle.std.specs.Prelude.{Ok, Err, option_map, IfOk, OnOk, string_bytes};
+ghost use Rattle.std.specs.FinMap as fin;
+ghost use Rattle.std.specs.FinMap.{from_entries};
+ghost use Rattle.std.specs.Str.{is_utf8};
+ghost use Rattle.redis_resp.specs.Tree.{bulk};
+ghost use Rattle.redis_resp.specs.Value.{tree};
+ghost use Rattle.redis_resp.specs.Table.{last_with, on_values, table_of};
+ghost use Rattle.redis_resp.specs.FieldsMeaning.{fields_of};
 ghost use Rattle.std.specs.List.{AllByRecursion};
 ghost use Rattle.stream_refs.specs.Placed.{field_in, IsField};
 ghost use Rattle.stream_refs.specs.FieldValue.{text_value, unsigned_value, signed_value};
@@ -8,6 +15,9 @@ ghost use Rattle.stream_refs.specs.FieldValue.{text_value, unsigned_value, signe
 use crate::field_value::{FieldError, i64_of, str_of, u64_of};
 use crate::places::FieldPlace;
 use crate::rows::text_in;
+use redis_resp::Value;
+use std::alloc::{AllocError, Global};
+use std::collections::HashMap;
 use std::marker::Model;
 
 /// The fields of an entry, in order and with repeated ones: names, which are UTF-8, and values, which
@@ -83,6 +93,20 @@ impl<'a> FieldsRef<'a> {
         i64_of(self.get(name))
     }
 
+    /// The fields by name, as a record keeps them: of those with one name the last.
+    pub fn to_owned(&self, alloc: Global) -> Result<HashMap<String, Value>, AllocError>
+        ensures { IfOk result (λ fields. fields_of fields
+            ≡ from_entries (table_of (on_values bulk self.now))) }
+    {
+        let mut copies = HashMap::new(alloc);
+        for place in self.places {
+            let name = text_in(self.bytes, place.name);
+            let value = text_in(self.bytes, place.value);
+            put_field(alloc, &mut copies, name, value)?;
+        }
+        Ok(copies)
+    }
+
     /// The same fields again, from the first one that is left.
     pub fn again(&self) -> FieldsRef<'a>
         ensures { result ≡ self.now }
@@ -129,6 +153,40 @@ impl<'a> Iterator for FieldsRef<'a> {
     fn next(&mut self) -> Option<(&'a [u8], &'a [u8])> {
         self.take_field()
     }
+}
+
+/// The bytes as text.
+fn as_text(bytes: &[u8]) -> &str
+    requires { is_utf8 bytes.now ≡ true }
+    ensures { result.now ≡ bytes.now }
+{
+    unsafe { str::from_utf8_unchecked(bytes) }
+}
+
+/// Puts a field.
+#[tactic(auto, using(stream_entries::proofs::FieldsLemmas::fields_put))]
+fn put(copies: &mut HashMap<String, Value>, name: String, value: Value) -> Result<(), AllocError>
+    ensures { OnOk result (fields_of copies.new
+        ≡ fin.insert (fields_of copies.old) (string_bytes name) (tree value)) }
+{
+    copies.insert(name, value)?;
+    Ok(())
+}
+
+/// Puts a copy of a field.
+fn put_field(
+    alloc: Global,
+    copies: &mut HashMap<String, Value>,
+    name: &[u8],
+    value: &[u8],
+) -> Result<(), AllocError>
+    requires { is_utf8 name.now ≡ true }
+    ensures { OnOk result (fields_of copies.new
+        ≡ fin.insert (fields_of copies.old) name.now (bulk value.now)) }
+{
+    let name = String::from_str(alloc, as_text(name))?;
+    let value = Value::BulkString(Vec::from_slice(alloc, value)?);
+    put(copies, name, value)
 }
 
 /// The fields that stand there.

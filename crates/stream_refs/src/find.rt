@@ -124,3 +124,44 @@ pub fn find_streams<P: Places>(
         Some(len) => Ok(Some(len)),
     }
 }
+
+/// Holds the places of the streams of the reply at the head of bytes, as `find_streams` does, where each
+/// row has the claim form: behind its fields the milliseconds since the entry was delivered, and how
+/// often it was. So servers answer XREADGROUP with CLAIM.
+pub fn find_claimed_streams<P: Places>(
+    limits: Limits,
+    bytes: &[u8],
+    places: &mut P,
+) -> Result<Option<usize>, P::Refusal>
+    ensures { IfOk result (λ o. IfSome o (λ len. IsRead limits bytes.now
+        (map (stream_in bytes.now (P.held places.new).entries (P.held places.new).fields)
+        (P.held places.new).streams) len)) }
+{
+    if limits.depth < 6 {
+        return Ok(None);
+    }
+    match find_form(limits, bytes, true, places)? {
+        None => Ok(None),
+        Some(len) => Ok(Some(len)),
+    }
+}
+
+/// Holds the streams of the reply at the head of bytes, in the standard form or else in the claim form,
+/// and returns whether it is the claim form, and how many bytes it has.
+pub fn find_either_form<P: Places>(
+    limits: Limits,
+    bytes: &[u8],
+    places: &mut P,
+) -> Result<Option<(bool, usize)>, P::Refusal>
+    requires { 6 ≤ limits.depth }
+    ensures { IfOk result (λ o. IfSome o (λ x.
+        IsFilled limits bytes.now x.0 x.1 (P.held places.new))) }
+{
+    if let Some(len) = find_form(limits, bytes, false, places)? {
+        return Ok(Some((false, len)));
+    }
+    match find_form(limits, bytes, true, places)? {
+        None => Ok(None),
+        Some(len) => Ok(Some((true, len))),
+    }
+}

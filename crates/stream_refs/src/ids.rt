@@ -1,6 +1,7 @@
 //! Ids alone, where they stand.
 ghost use Rattle.std.specs.Prelude.{◌≡◌, ◌≤◌, ◌∷◌, [], IfOk, IfSome, MatchOption, false, length, map, nat_eq};
 ghost use Rattle.std.specs.List.{AllByRecursion};
+ghost use Rattle.stream_entries.specs.AutoClaimMeaning.{text_bytes_of};
 ghost use Rattle.stream_refs.specs.ClaimPlaced.{id_at, IsId};
 ghost use Rattle.stream_refs.specs.AddedIds.{IdsAdded};
 
@@ -9,6 +10,7 @@ use crate::room::Places;
 use crate::rows::{name_at, text_in};
 use redis_wire::Limits;
 use redis_wire::place::Span;
+use std::alloc::{AllocError, Global};
 use std::marker::Model;
 
 /// Ids, in order. As an iterator it returns those that are left.
@@ -53,6 +55,17 @@ impl<'a> IdsRef<'a> {
             bytes: self.bytes,
             places: self.places,
         }
+    }
+
+    /// The ids that are left, as records have them.
+    pub fn to_owned(&self, alloc: Global) -> Result<Vec<String>, AllocError>
+        ensures { IfOk result (λ ids. text_bytes_of ids ≡ self.now) }
+    {
+        let mut copies = Vec::with_capacity(alloc, self.places.len())?;
+        for id in self.again() {
+            copies.push(String::from_str(alloc, id)?)?;
+        }
+        Ok(copies)
     }
 
     /// Takes the next id.

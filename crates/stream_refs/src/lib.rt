@@ -25,7 +25,7 @@ pub use entry::{Delivery, EntryRef};
 pub use entry_list::{EntriesRef, RangeRef};
 pub use field_value::FieldError;
 pub use fields::FieldsRef;
-pub use find::{find_range, find_streams};
+pub use find::{find_claimed_streams, find_range, find_streams};
 pub use id_parts::StreamIdParts;
 pub use ids::IdsRef;
 pub use outcome::{RangeOutcome, ReadOutcome, read_any_range, read_any_streams};

@@ -76,7 +76,7 @@ fn copied_range<'a>(
 }
 
 /// Reads the reply of XREAD or XREADGROUP at the head of bytes, whatever its shape, as
-/// `read_any_range` does.
+/// `read_any_range` does: its rows in the standard form or in the claim form.
 pub fn read_any_streams<'a>(
     alloc: Global,
     tape: &'a mut EntryTape,
@@ -85,7 +85,7 @@ pub fn read_any_streams<'a>(
 ) -> Result<ReadOutcome<'a>, WireError>
     ensures { IsReadOutcome limits bytes.now result }
 {
-    match tape.read_streams(bytes, limits) {
+    match tape.read_either_form(bytes, limits) {
         Err(_) => Err(WireError::Memory),
         Ok(Some(found)) => Ok(ReadOutcome::InPlace(found)),
         Ok(None) => copied_streams(alloc, bytes, limits),

@@ -1,12 +1,16 @@
 //! Streams with their entries, where they stand.
-ghost use Rattle.std.specs.Prelude.{◌≡◌, ◌∷◌, [], length, map, nat_eq, MatchOption};
+ghost use Rattle.std.specs.Prelude.{◌≡◌, ◌∷◌, [], length, map, nat_eq, IfOk, MatchOption};
 ghost use Rattle.std.specs.List.{AllByRecursion};
+ghost use Rattle.stream_entries.specs.ReadMeaning.{stream_key_meaning, streams_of};
+ghost use Rattle.stream_refs.specs.Copied.{copied_stream, copied_streams};
 ghost use Rattle.stream_refs.specs.Placed.{stream_in, IsField, IsEntry, IsStream};
 
 use crate::entry_list::{EntriesRef, entries_at};
 use crate::places::{EntryPlace, FieldPlace, StreamPlace};
 use crate::rows::text_in;
+use std::alloc::{AllocError, Global};
 use std::marker::Model;
+use stream_entries::{StreamKey, StreamReadReply};
 
 /// A stream, where it stands.
 #[derive(Drop)]
@@ -36,6 +40,18 @@ impl<'a> StreamRef<'a> {
         ensures { result ≡ self.now.entries }
     {
         self.entries.again()
+    }
+}
+
+impl<'a> StreamRef<'a> {
+    /// The stream as a record has it.
+    pub fn to_owned(&self, alloc: Global) -> Result<StreamKey, AllocError>
+        ensures { IfOk result (λ k. stream_key_meaning k ≡ copied_stream self.now) }
+    {
+        Ok(StreamKey {
+            key: String::from_str(alloc, self.name)?,
+            ids: self.entries.to_owned(alloc)?,
+        })
     }
 }
 
@@ -88,6 +104,17 @@ impl<'a> StreamsRef<'a> {
             entries: self.entries,
             fields: self.fields,
         }
+    }
+
+    /// The streams that are left, as records.
+    pub fn to_owned(&self, alloc: Global) -> Result<Vec<StreamKey>, AllocError>
+        ensures { IfOk result (λ keys. streams_of keys ≡ copied_streams self.now) }
+    {
+        let mut copies = Vec::with_capacity(alloc, self.places.len())?;
+        for stream in self.again() {
+            copies.push(stream.to_owned(alloc)?)?;
+        }
+        Ok(copies)
     }
 
     /// Takes the next stream.
@@ -160,4 +187,15 @@ pub struct ReadRef<'a> {
     pub streams: StreamsRef<'a>,
     /// How many bytes the reply has.
     pub len: usize,
+}
+
+impl<'a> ReadRef<'a> {
+    /// The record of the copying path, where all streams are left.
+    pub fn to_owned(&self, alloc: Global) -> Result<StreamReadReply, AllocError>
+        ensures { IfOk result (λ r. streams_of r.keys ≡ copied_streams self.now.streams) }
+    {
+        Ok(StreamReadReply {
+            keys: self.streams.to_owned(alloc)?,
+        })
+    }
 }

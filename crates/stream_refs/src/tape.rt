@@ -8,7 +8,7 @@ use crate::autoclaim::{
     AutoClaimJustIdRef, AutoClaimRef, autoclaim_at, find_autoclaim, find_justid, justid_at,
 };
 use crate::entry_list::{RangeRef, entries_at};
-use crate::find::find_form;
+use crate::find::{find_either_form, find_form};
 use crate::places::{EntryPlace, FieldPlace, StreamPlace};
 use crate::room::Places;
 use crate::rows::add_entries;
@@ -102,6 +102,49 @@ impl EntryTape {
         match find_form(limits, bytes, false, self)? {
             None => Ok(None),
             Some(len) => Ok(Some(ReadRef {
+                streams: streams_at(bytes, &self.streams, &self.entries, &self.fields),
+                len,
+            })),
+        }
+    }
+
+    /// Reads the streams of the reply at the head of bytes where they stand, as `read_streams` does, where
+    /// each row has the claim form: behind its fields the milliseconds since the entry was delivered,
+    /// and how often it was. So servers answer XREADGROUP with CLAIM.
+    pub fn read_claimed_streams<'a>(
+        &'a mut self,
+        bytes: &'a [u8],
+        limits: Limits,
+    ) -> Result<Option<ReadRef<'a>>, AllocError>
+        ensures { IfOk result (λ o. IfSome o (λ r. IsRead limits bytes.now r.streams r.len)) }
+    {
+        if limits.depth < 6 {
+            return Ok(None);
+        }
+        match find_form(limits, bytes, true, self)? {
+            None => Ok(None),
+            Some(len) => Ok(Some(ReadRef {
+                streams: streams_at(bytes, &self.streams, &self.entries, &self.fields),
+                len,
+            })),
+        }
+    }
+
+    /// Reads the streams of the reply at the head of bytes where they stand, in the standard form or else
+    /// in the claim form.
+    pub fn read_either_form<'a>(
+        &'a mut self,
+        bytes: &'a [u8],
+        limits: Limits,
+    ) -> Result<Option<ReadRef<'a>>, AllocError>
+        ensures { IfOk result (λ o. IfSome o (λ r. IsRead limits bytes.now r.streams r.len)) }
+    {
+        if limits.depth < 6 {
+            return Ok(None);
+        }
+        match find_either_form(limits, bytes, self)? {
+            None => Ok(None),
+            Some((_, len)) => Ok(Some(ReadRef {
                 streams: streams_at(bytes, &self.streams, &self.entries, &self.fields),
                 len,
             })),

@@ -9,5 +9,5 @@ returns-in-Some g c =
     let held = g.P.Places.held c.find_form.new.places in
     let filled : IsFilled c.args.limits c.args.bytes.now false c.in-Some.len held =
     rw c.in-Some.is at c.in_ok-find_form.ensures in
-    read_is c.args.limits c.args.bytes.now c.in-Some.len held
+    read_is c.args.limits c.args.bytes.now false c.in-Some.len held
     (map (stream_in c.args.bytes.now held.entries held.fields) held.streams) filled refl

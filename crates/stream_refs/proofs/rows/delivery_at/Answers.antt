@@ -1,4 +1,4 @@
-use Rattle.std.proofs.Common.{rules, ◌≡◌, true, false}
+use Rattle.std.proofs.Common.{rules, ◌≡◌, true, false, arith}
 use Rattle.stream_refs.proofs.FillLemmas.{no_delivery, delivery_is}
 use Rattle.stream_refs.proofs.rows.delivery_at.Goals as goal
 
@@ -12,4 +12,5 @@ returns c =
     let is : c.args.claim ≡ true = search rules in
     rw is
     (delivery_is c.args.limits c.args.bytes.now c.args.at c.in_ok-elapsed.elapsed c.in_ok-count.count
-    c.in_ok-elapsed.behind c.in_ok-count.after c.in_ok-elapsed.ensures c.in_ok-count.ensures)
+    c.in_ok-elapsed.behind c.in_ok-count.after (omega arith) (omega arith) c.in_ok-elapsed.ensures
+    c.in_ok-count.ensures)

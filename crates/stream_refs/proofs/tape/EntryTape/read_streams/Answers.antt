@@ -13,4 +13,4 @@ returns-in-Some c =
     rw c.in-Some.is at c.in_ok-find_form.ensures in
     let ss : c.streams_at.result ≡ map (stream_in c.args.bytes.now held.entries held.fields) held.streams =
     search rules in
-    read_is c.args.limits c.args.bytes.now c.in-Some.len held c.streams_at.result filled ss
+    read_is c.args.limits c.args.bytes.now false c.in-Some.len held c.streams_at.result filled ss
