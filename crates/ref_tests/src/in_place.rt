@@ -139,8 +139,8 @@ fn ranges_are_read_in_place(rt: HostRuntime) -> Result<(), Fail> {
     Ok(())
 }
 
-/// Replies of XREAD, and what they come to.
-const READS: [(&[u8], &str); 6] = [
+/// Replies of XREAD, and what they come to; the last but one has the claim form.
+const READS: [(&[u8], &str); 7] = [
     (b"*-1\r\n", ""),
     (b"_\r\n", ""),
     (
@@ -154,6 +154,10 @@ const READS: [(&[u8], &str); 6] = [
     (
         b"*1\r\n*2\r\n$1\r\ns\r\n*1\r\n*2\r\n$3\r\n1-0\r\n_\r\n",
         "s: 1-0 deleted;",
+    ),
+    (
+        b"*1\r\n*2\r\n$1\r\ns\r\n*1\r\n*4\r\n$3\r\n1-0\r\n*2\r\n$1\r\na\r\n$1\r\n1\r\n:5\r\n:2\r\n",
+        "s: 1-0 a=1;",
     ),
     (b"%1\r\n$1\r\ns\r\n*0\r", "incomplete"),
 ];

@@ -7,3 +7,5 @@ mod claims;
 mod in_place;
 #[cfg(test)]
 mod numbers;
+#[cfg(test)]
+mod owned;
