@@ -1,9 +1,10 @@
 -- What has been read.
-use Rattle.std.specs.Prelude.{◌≡◌, ◌≤◌, ℕ, List, take, length, Some}
+use Rattle.std.specs.Prelude.{◌≡◌, ◌≤◌, ◌++◌, ℕ, List, take, length, Option, Some, None}
 use Rattle.redis_resp.specs.Tree.{Tree}
 use Rattle.redis_wire.specs.Limits.{default_limits}
 use Rattle.redis_wire.specs.Reply.{Answer, value}
 use Rattle.redis_wire.specs.Grammar.{IsReply}
+use Rattle.redis_wire.specs.Next.{Held}
 use Rattle.stream_entries.specs.Read.{read_reading, Streams}
 use Rattle.stream_refs.specs.Sent.{SentStream}
 use Rattle.stream_refs.specs.Range.{IsRead}
@@ -32,3 +33,9 @@ pub record AreInPlace (bytes : List ℕ) : Type 0 where
   pub len : ℕ
   pub streams : List SentStream
   pub is : IsRead default_limits bytes streams len
+
+-- a reply of that length went out of what a stream holds; or none did, and nothing changed
+abbrev pub IsNext : Held → Option ℕ → Held → Type 0
+IsNext old None new = new ≡ old
+IsNext old (Some len) new = (text : List ℕ) × (a : Answer) × (len ≡ length text)
+    × (old.bytes ≡ text ++ new.bytes) × (new.limits ≡ old.limits) × IsReply old.limits text a

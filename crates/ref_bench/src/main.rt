@@ -10,8 +10,10 @@
 //! fields, and whether it is RESP2's array of streams or RESP3's map of them. The ways: `places`
 //! finds where all stands; `fields` also looks at each id, name and value, in place; `gets` takes two
 //! fields of each entry by name; `decoded` makes the value and no record; `copied` makes the record,
-//! and looks at what `fields` does. It prints its arguments, how many bytes the answer has and the
-//! sum of the lengths of what was looked at.
+//! and looks at what `fields` does; `fed` feeds ten answers to a stream of replies, each in one piece,
+//! and then takes them out, and `fed-bytes` feeds ten answers byte by byte and asks for a reply behind
+//! each byte; `fed-one` and `fed-one-bytes` do so with one. It prints its arguments, how many bytes the
+//! answer has and the sum of the lengths of what was looked at, or taken out.
 //!
 //! It ends with 0, or with 1 where the arguments name no work and standard error says why, or with 2
 //! where memory ran out, standard output failed, or the answer was not read.
@@ -20,8 +22,10 @@
 mod answer;
 mod copied;
 mod in_place;
+mod streamed;
 
 use answer::Form;
+use redis_wire::{Limits, ReplyStream};
 use std::alloc::Global;
 use std::io::Write;
 use std::process::ExitCode;
@@ -43,6 +47,10 @@ enum Way {
     Gets,
     Decoded,
     Copied,
+    /// A stream is fed so many answers and asked for as many replies, again and again.
+    Fed(u32),
+    /// A stream is fed so many answers byte by byte.
+    FedBytes(u32),
 }
 
 /// What is done.
@@ -108,6 +116,10 @@ fn way_named(name: &str) -> Option<Way> {
         "gets" => Some(Way::Gets),
         "decoded" => Some(Way::Decoded),
         "copied" => Some(Way::Copied),
+        "fed" => Some(Way::Fed(10)),
+        "fed-bytes" => Some(Way::FedBytes(10)),
+        "fed-one" => Some(Way::Fed(1)),
+        "fed-one-bytes" => Some(Way::FedBytes(1)),
         _ => None,
     }
 }
@@ -123,9 +135,51 @@ fn form_named(name: &str) -> Option<Form> {
 // Reads the answer so often, and sums up what was looked at.
 fn done(alloc: Global, bytes: &[u8], job: Job) -> Result<usize, anyhow::Error> {
     let mut tape = EntryTape::new(alloc);
+    let mut stream = ReplyStream::new(alloc, Limits::default());
     let mut sum = 0usize;
     for _ in 0..job.calls {
-        sum = sum.wrapping_add(once(alloc, &mut tape, bytes, job.way)?);
+        let read = match job.way {
+            Way::Fed(answers) => fed(alloc, &mut stream, bytes, answers)?,
+            Way::FedBytes(answers) => fed_bytes(alloc, &mut stream, bytes, answers)?,
+            _ => once(alloc, &mut tape, bytes, job.way)?,
+        };
+        sum = sum.wrapping_add(read);
+    }
+    Ok(sum)
+}
+
+// Feeds so many answers, each in one piece, and then takes as many replies out; their bytes.
+fn fed(
+    alloc: Global,
+    stream: &mut ReplyStream,
+    bytes: &[u8],
+    answers: u32,
+) -> Result<usize, anyhow::Error> {
+    for _ in 0..answers {
+        stream.feed(bytes)?;
+    }
+    let mut sum = 0usize;
+    for _ in 0..answers {
+        let len = streamed::next_len(alloc, stream)?;
+        sum = sum.wrapping_add(len.unwrap_or(0));
+    }
+    Ok(sum)
+}
+
+// Feeds so many answers byte by byte, and asks for a reply behind each byte; the bytes of all replies.
+fn fed_bytes(
+    alloc: Global,
+    stream: &mut ReplyStream,
+    bytes: &[u8],
+    answers: u32,
+) -> Result<usize, anyhow::Error> {
+    let mut sum = 0usize;
+    for _ in 0..answers {
+        for byte in bytes {
+            stream.feed(&[*byte])?;
+            let len = streamed::next_len(alloc, stream)?;
+            sum = sum.wrapping_add(len.unwrap_or(0));
+        }
     }
     Ok(sum)
 }
@@ -137,7 +191,7 @@ fn once(
     way: Way,
 ) -> Result<usize, anyhow::Error> {
     match way {
-        Way::Print => Ok(0),
+        Way::Print | Way::Fed(_) | Way::FedBytes(_) => Ok(0),
         Way::Places => in_place::places(tape, bytes),
         Way::Fields => in_place::fields(tape, bytes),
         Way::Gets => in_place::gets(tape, bytes),
