@@ -42,16 +42,26 @@ int main(int count, char **words) {
         for (uint64_t changes = drawn(3); changes > 0; changes--)
             bytes[drawn(len)] = drawn(2) == 0 ? (uint8_t)drawn(256) : (uint8_t) "*$:-+%_\r\n0123456789"[drawn(19)];
         redis_found found;
-        for (int call = 0; call < 2; call++) {
+        redis_claim claim;
+        for (int call = 0; call < 4; call++) {
             uint32_t n = call == 0 ? redis_find_streams(bytes, len, streams, ROOM, entries, ROOM, fields, ROOM, &found)
-                                   : redis_find_range(bytes, len, entries, ROOM, fields, ROOM, &found);
+                       : call == 1 ? redis_find_range(bytes, len, entries, ROOM, fields, ROOM, &found)
+                       : call == 2 ? redis_find_autoclaim(bytes, len, entries, ROOM, fields, ROOM, &claim, &found)
+                                   : redis_find_justid(bytes, len, entries, ROOM, &claim, &found);
             told[n < 32 ? n : 31]++;
             within(found.error, len);
             if (found.len > len) exit(1);
             if (n != REDIS_OK) continue;
+            if (call >= 2) {
+                within(claim.next, found.len);
+                if (claim.claimed > found.entries || claim.len != found.len) exit(1);
+            }
             for (size_t i = 0; i < found.streams; i++) within(streams[i].name, found.len);
             for (size_t i = 0; i < found.entries; i++) within(entries[i].id, found.len);
-            for (size_t i = 0; i < found.fields; i++) within(fields[i].name, found.len), within(fields[i].value, found.len);
+            for (size_t i = 0; i < found.fields; i++) {
+                within(fields[i].name, found.len);
+                within(fields[i].value, found.len);
+            }
         }
         free(bytes);
     }

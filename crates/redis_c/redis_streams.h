@@ -113,6 +113,28 @@ uint32_t redis_find_streams(const uint8_t *bytes, size_t len, redis_stream *stre
 uint32_t redis_find_range(const uint8_t *bytes, size_t len, redis_entry *entries, size_t entry_room,
                           redis_field *fields, size_t field_room, redis_found *found);
 
+/* Where the reply of XAUTOCLAIM stands. */
+typedef struct {
+    redis_span next; /* the id from which the next XAUTOCLAIM goes on: 0-0 where all pending entries were seen */
+    size_t claimed;  /* so many entries were claimed */
+    size_t len;      /* how many bytes the reply has */
+} redis_claim;
+
+/* Finds the entries of the reply of XAUTOCLAIM at the head of `bytes`. It answers as `redis_find_streams` does, and
+   `found->streams` is 0.
+
+   REDIS_OK: the first `claim->claimed` of the `found->entries` entries are those that were claimed. The others are
+   the ids that were pending and are no longer in the stream, which the server has taken off the list of what is
+   pending: of them only `id` says something.
+   REDIS_OK and REDIS_ROOM write `claim`; behind another number it says nothing. */
+uint32_t redis_find_autoclaim(const uint8_t *bytes, size_t len, redis_entry *entries, size_t entry_room,
+                              redis_field *fields, size_t field_room, redis_claim *claim, redis_found *found);
+
+/* The same of the reply of XAUTOCLAIM with JUSTID, which has ids alone: of each entry only `id` says something, and
+   `found->fields` is 0. */
+uint32_t redis_find_justid(const uint8_t *bytes, size_t len, redis_entry *entries, size_t entry_room,
+                           redis_claim *claim, redis_found *found);
+
 /* What a read of a group asks for. */
 typedef struct {
     bool counts;  /* at most `count` entries are read */

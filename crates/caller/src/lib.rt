@@ -5,15 +5,15 @@
 ghost use Rattle.std.specs.Prelude.{◌≡◌, ◌≢◌, [], ◌∷◌, codes, string_bytes, Some, None, IfOk, IfErr};
 ghost use Rattle.redis.specs.Words.{command_bytes, text_reading, tree};
 
-use redis::wire::pack_command;
-use redis::{ParsingError, Value, WriteError, from_redis_value};
+use redis::wire::{PackError, pack_command};
+use redis::{ParsingError, Value, from_redis_value};
 use std::alloc::Global;
 
 #[cfg(test)]
 mod tests;
 
 /// The bytes of `XADD orders * customer NAME`.
-pub fn order_bytes(alloc: Global, customer: &str) -> Result<Vec<u8>, WriteError>
+pub fn order_bytes(alloc: Global, customer: &str) -> Result<Vec<u8>, PackError>
     ensures { IfOk result (λ bytes. bytes.items ≡ command_bytes (codes "XADD" ∷ codes "orders"
         ∷ codes "*" ∷ codes "customer" ∷ customer.now ∷ [])) }
 {

@@ -5,7 +5,7 @@ pub use Rattle.redis_args.specs.FixedArgs.{AreEnds, pieces}
 pub use Rattle.redis_args.specs.Room.{HasRoom, LacksRoom, MayRefuse}
 pub use Rattle.redis_args.specs.Writer.{Wrote}
 pub use Rattle.redis_connection.specs.Ask.{Asks, HasNoAnswer}
-pub use Rattle.redis_connection.specs.Cause.{failure_of, refusal_of, write_failure_of}
+pub use Rattle.redis_connection.specs.Cause.{failure_of, pack_failure_of, refusal_of, write_failure_of}
 pub use Rattle.redis_connection.specs.Link.{IsEnded, IsFaulty, Link, Receives, Sends, SendsFront, Waits}
 pub use Rattle.redis_connection.specs.Seen.{seen}
 pub use Rattle.redis_resp.specs.Boolean.{truth_reading}
@@ -63,10 +63,11 @@ pub use Rattle.redis_streams.specs.StatusMeaning.{xdelex_code, xdelex_of_code, x
 pub use Rattle.redis_wire.specs.Count.{value_count}
 pub use Rattle.redis_wire.specs.Decoded.{Decodes, EndTooEarly, IsFirstFault, IsIncomplete, IsWhole, NoReply}
 pub use Rattle.redis_wire.specs.Equality.{AreEqual}
-pub use Rattle.redis_wire.specs.Failure.{parsing_failure, reply_failure, wire_failure, write_failure}
+pub use Rattle.redis_wire.specs.Failure.{pack_error, pack_failure, parsing_failure, reply_failure, wire_failure}
+pub use Rattle.redis_wire.specs.Failure.{write_failure}
 unfoldable pub use Rattle.redis_wire.specs.Grammar.{IsAnyReply}
 pub use Rattle.redis_wire.specs.Grammar.{IsReply}
-pub use Rattle.redis_wire.specs.Laws.{CommandsAreValues, RepliesAreApart}
+pub use Rattle.redis_wire.specs.Laws.{CommandsAreValues, FewBytesHaveFewValues, RepliesAreApart}
 pub use Rattle.redis_wire.specs.Limits.{default_limits}
 pub use Rattle.redis_wire.specs.Next.{Held, IsRefused, NextIs}
 unfoldable pub use Rattle.redis_wire.specs.Packed.{command_bytes}

@@ -9,9 +9,9 @@ pub use redis_streams::laws::{
 };
 pub use redis_wire::answers_are_read;
 pub use redis_wire::laws::{
-    commands_are_values, copied_fault, copied_group_kind, copied_limits, copied_wire_error,
-    equal_faults, equal_limits, equal_reply_errors, equal_server_errors, equal_wire_errors,
-    replies_are_apart,
+    commands_are_values, copied_fault, copied_group_kind, copied_limits, copied_pack_error,
+    copied_wire_error, equal_faults, equal_limits, equal_pack_errors, equal_reply_errors,
+    equal_server_errors, equal_wire_errors, few_bytes_have_few_values, replies_are_apart,
 };
 pub use stream_commands::laws::{
     ids_are_apart, unique_xadd, unique_xautoclaim, unique_xclaim, unique_xread, unique_xtrim,

@@ -31,7 +31,7 @@ fn copy_to_front<T: Copy>(places: &[T], table: &mut [T])
 }
 
 /// Hands the places that are held out into tables of the caller, where they have room for all.
-fn handed_out(
+pub fn handed_out(
     len: usize,
     tape: &EntryTape,
     streams: &mut [StreamPlace],

@@ -6,6 +6,7 @@
 
 mod argument;
 mod at_places;
+mod claims;
 mod commands;
 mod entries;
 mod other;
@@ -14,6 +15,7 @@ mod packing;
 mod placed;
 
 pub use at_places::{redis_xack_entries, redis_xadd_fields, redis_xclaim_entries};
+pub use claims::{redis_find_autoclaim, redis_find_justid};
 pub use commands::{
     ReadSettings, redis_xack, redis_xautoclaim, redis_xpending, redis_xreadgroup, redis_xtrim,
 };

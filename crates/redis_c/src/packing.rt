@@ -2,8 +2,8 @@
 ghost use Rattle.std.specs.Prelude.{◌≡◌};
 ghost use Rattle.redis_c.specs.Packing.{number, len_of, IsPacking, IsWritten};
 
-use redis_resp::{ToRedisArgs, WriteError};
-use redis_wire::pack_command;
+use redis_resp::ToRedisArgs;
+use redis_wire::{PackError, pack_command};
 use std::alloc::Global;
 
 /// What packing a command comes to.
@@ -73,7 +73,8 @@ pub fn packed<T: ToRedisArgs>(alloc: Global, command: &T, out: &mut [u8]) -> Pac
 {
     match pack_command(alloc, command) {
         Ok(bytes) => copied(&bytes, out),
-        Err(WriteError::Full) => Packing::TooLarge,
-        Err(_) => Packing::Memory,
+        Err(PackError::Full) => Packing::TooLarge,
+        // No command of this crate is without its name, so that there are arguments.
+        Err(PackError::Memory | PackError::NoArguments) => Packing::Memory,
     }
 }

@@ -3,6 +3,8 @@ use Rattle.redis_args.specs.declared.writer.WriteError.{WriteError}
 use Rattle.redis_args.specs.declared.writer.WriteError.TheVariants as write_errors
 use Rattle.redis_wire.specs.declared.fault.WireError.{WireError}
 use Rattle.redis_wire.specs.declared.fault.WireError.TheVariants as wire_errors
+use Rattle.redis_wire.specs.declared.pack_error.PackError.{PackError}
+use Rattle.redis_wire.specs.declared.pack_error.PackError.TheVariants as pack_errors
 use Rattle.redis_wire.specs.declared.reply.ReplyError.{ReplyError}
 use Rattle.redis_wire.specs.declared.reply.ReplyError.TheVariants as reply_errors
 use Rattle.redis_connection.specs.declared.error.ConnectionError.{ConnectionError}
@@ -15,10 +17,16 @@ abbrev pub failure_of : WireError → ConnectionError
 failure_of wire_errors.Memory = errors.Memory
 failure_of (wire_errors.Fault fault) = errors.Fault fault
 
--- why a command was not packed
+-- why an argument was not written
 abbrev pub write_failure_of : WriteError → ConnectionError
 write_failure_of write_errors.Memory = errors.Memory
 write_failure_of write_errors.Full = errors.TooLong
+
+-- why a command was not packed
+abbrev pub pack_failure_of : PackError → ConnectionError
+pack_failure_of pack_errors.Memory = errors.Memory
+pack_failure_of pack_errors.Full = errors.TooLong
+pack_failure_of pack_errors.NoArguments = errors.NoArguments
 
 -- why a reply is no record
 abbrev pub refusal_of : ReplyError → AskError

@@ -1,5 +1,5 @@
 //! A connection over a reader and a writer.
-ghost use Rattle.std.specs.Prelude.{◌≡◌, ◌≢◌, Err, [], ℕ, IfOk, OnOk, OnErr, IfErr};
+ghost use Rattle.std.specs.Prelude.{◌≡◌, ◌≢◌, ◌↔◌, Err, [], ℕ, IfOk, OnOk, OnErr, IfErr};
 ghost use Rattle.redis_wire.specs.Packed.{command_bytes};
 ghost use Rattle.redis_wire.specs.PackedArgs.{IsTooLarge};
 ghost use Rattle.redis_wire.specs.Reply.{answer};
@@ -72,6 +72,7 @@ impl<R: Read + Drop, W: Write + Drop> Connection<R, W> {
         ensures ok { OnOk result (Sends self.old self.new bytes.now) }
         ensures err { OnErr result (SendsFront self.old self.new bytes.now) }
         ensures cause { result ≢ Err ConnectionError.TooLong }
+        ensures whole { result ≢ Err ConnectionError.NoArguments }
     {
         if let Err(error) = write_out(&mut self.writer, bytes) {
             return Err(ConnectionError::Write(error));
@@ -79,8 +80,8 @@ impl<R: Read + Drop, W: Write + Drop> Connection<R, W> {
         Ok(())
     }
 
-    /// Sends a command. An `Err` is `TooLong` only where an argument is of 2^32 bytes or more, or
-    /// there are as many.
+    /// Sends a command. An `Err` is `NoArguments` where the command has none, and then nothing was
+    /// sent; it is `TooLong` only where an argument is of 2^32 bytes or more, or there are as many.
     pub fn send<T: ToRedisArgs>(
         &mut self,
         alloc: Global,
@@ -90,6 +91,8 @@ impl<R: Read + Drop, W: Write + Drop> Connection<R, W> {
         ensures err { OnErr result
             (SendsFront self.old self.new (command_bytes (T.args command.now))) }
         ensures too_long { result ≡ Err ConnectionError.TooLong → IsTooLarge (T.args command.now) }
+        ensures none { (result ≡ Err ConnectionError.NoArguments) ↔ (T.args command.now ≡ []) }
+        ensures unsent { result ≡ Err ConnectionError.NoArguments → self.new ≡ self.old }
     {
         let bytes = pack_command(alloc, command)?;
         self.send_bytes(&bytes)
@@ -112,7 +115,8 @@ impl<R: Read + Drop, W: Write + Drop> Connection<R, W> {
         )
     }
 
-    /// Sends a command, and reads its answer as an `M`.
+    /// Sends a command, and reads its answer as an `M`. Where the command has no arguments, nothing
+    /// is sent or received, and an `Err` says so: `ConnectionError::NoArguments`.
     pub fn ask_as<M: FromRedisValue, T: ToRedisArgs>(
         &mut self,
         alloc: Global,
@@ -122,6 +126,8 @@ impl<R: Read + Drop, W: Write + Drop> Connection<R, W> {
             M.reading (M.meaning m)) }
         ensures err { IfErr result (HasNoAnswer self.old self.new (T.args command.now)
             M.reading M.may_refuse) }
+        ensures none { T.args command.now ≡ []
+            → (result ≡ Err (AskError.Connection ConnectionError.NoArguments)) × (self.new ≡ self.old) }
     {
         self.send(alloc, command)?;
         let reply = self.receive(alloc)?;

@@ -1,10 +1,10 @@
 //! Why a command has no answer.
 ghost use Rattle.std.specs.Prelude.{◌≡◌};
-ghost use Rattle.redis_connection.specs.Cause.{failure_of, write_failure_of};
+ghost use Rattle.redis_connection.specs.Cause.{failure_of, pack_failure_of, write_failure_of};
 ghost use Rattle.redis_connection.specs.declared.error.ConnectionError.TheVariants.{Memory};
 
 use redis_resp::{ParsingError, WriteError};
-use redis_wire::{Fault, ReplyError, ServerError, WireError};
+use redis_wire::{Fault, PackError, ReplyError, ServerError, WireError};
 use std::alloc::{AllocError, AllocFailed};
 use std::io;
 use thiserror::Error;
@@ -18,6 +18,9 @@ pub enum ConnectionError {
     /// The command is too long for the protocol, and nothing of it was sent.
     #[error("the command is too long for the protocol")]
     TooLong,
+    /// The command has no arguments, and nothing was sent: a server answers no such command.
+    #[error("a command of no arguments")]
+    NoArguments,
     /// The writer failed, and some front of the bytes was written.
     #[error("cannot write to the server: {0}")]
     Write(io::Error),
@@ -50,6 +53,18 @@ impl From<WriteError> for ConnectionError {
         match error {
             WriteError::Memory => ConnectionError::Memory,
             WriteError::Full => ConnectionError::TooLong,
+        }
+    }
+}
+
+impl From<PackError> for ConnectionError {
+    ghost from_gives = { λ error result. result ≡ pack_failure_of error };
+
+    fn from(error: PackError) -> ConnectionError {
+        match error {
+            PackError::Memory => ConnectionError::Memory,
+            PackError::Full => ConnectionError::TooLong,
+            PackError::NoArguments => ConnectionError::NoArguments,
         }
     }
 }

@@ -18,13 +18,13 @@ use Rattle.redis_wire.specs.Level.{length_at, value_at}
 use Rattle.redis_wire.specs.Push.{reply_at}
 use Rattle.redis_wire.specs.Packed.{crlf}
 use Rattle.redis_wire.specs.Steady.{Stays, IsSteady}
-use Rattle.redis_wire.specs.Grammar.{IsReply}
+use Rattle.redis_wire.specs.Grammar.{IsAnyReply, IsReply}
 use Rattle.redis_wire.specs.Item.{blob_passed, count_behind, item_of, item_at, begins_at}
 use Rattle.redis_wire.specs.Bounded.{begun_behind, many_begun, inside_begun, value_begun, open_begun, asked_begun}
 use Rattle.redis_wire.specs.Bounded.{reply_begun, bounded_at}
 use Rattle.redis_wire.specs.Scan.{passed}
 use Rattle.redis_wire.proofs.SteadyLemmas.{value_steady, reply_steady}
-use Rattle.redis_wire.proofs.FitsLemmas.{Takes, Fits, bind_ok, line_fits, length_fits, reply_fits}
+use Rattle.redis_wire.proofs.FitsLemmas.{Takes, Fits, bind_ok, line_fits, reply_fits}
 use Rattle.redis_wire.proofs.CountLemmas.{reply_counted}
 use Rattle.redis_wire.proofs.ItemLemmas.{read_as, item_steady, begins_steady, many_rest, value_part, is_run, alone_rest}
 use Rattle.redis_wire.proofs.ItemLemmas.{reply_part, begins_ends, blob_ends, end_le}
@@ -345,6 +345,50 @@ reply_small limits bytes = by (begins_at limits bytes) (begins_ends limits bytes
         (many_small (value_at limits x.0.depth) (value_begun limits x.0.depth) (value_small limits x.0.depth)
         x.0.left x.1)
     by (Err e) h = no_small (length bytes)
+
+small_wider : (r : Result (List ℕ) Halt) (n k len : ℕ) → k ≤ len → Small r n k → Small r n len
+small_wider (Ok rest) n k len a b = omega (arith, a, b)
+small_wider (Err e) n k len a b = omega (arith, a, b)
+
+reply_part_small : (limits : Limits) (bytes : List ℕ)
+    → Small (rest_of (reply_at limits bytes)) (reply_begun limits bytes) (length bytes)
+unfolding reply_begun
+reply_part_small limits bytes =
+    subst (λ (r : Result (List ℕ) Halt). Small r (asked_begun limits (begins_at limits bytes)) (length bytes))
+    (sym (reply_part limits bytes)) (by (begins_at limits bytes) (begins_ends limits bytes))
+  where
+    by : (i : Read Open) → ((x : Open × List ℕ) → i ≡ Ok x → Rattle.redis_wire.specs.Scan.IsEnd x.1 bytes)
+        → Small (i >>= λ x. passed limits (x.0 ∷ []) x.1) (asked_begun limits i) (length bytes)
+    by (Ok x) h =
+        let many_read = many (value_at limits x.0.depth) x.0.left x.1 in
+        subst (λ (r : Result (List ℕ) Halt). Small r (open_begun limits x.0 x.1) (length bytes))
+        (sym (one_passed limits x.0 x.1))
+        (small_wider (rest_of many_read) (open_begun limits x.0 x.1)
+        (length x.1) (length bytes) (end_le x.1 bytes (h x refl))
+        (many_small (value_at limits x.0.depth) (value_begun limits x.0.depth) (value_small limits x.0.depth)
+        x.0.left x.1))
+    by (Err e) h = no_small (length bytes)
+
+-- a whole reply has three bytes for each of its values
+pub whole_small : (limits : Limits) (text : List ℕ) (a : Answer) → length text ≤ 3 * limits.values
+    → IsAnyReply limits text a → IsReply limits text a
+whole_small limits text a le reply = record { reply = reply; few = few }
+  where
+    read : reply_at limits (text ++ []) ≡ Ok (a, [])
+    read = (reply_fits limits).again text [] a reply
+
+    small : 3 * reply_begun limits (text ++ []) + 0 ≤ length (text ++ [])
+    small = subst (λ (r : Read Answer). Small (rest_of r) (reply_begun limits (text ++ [])) (length (text ++ [])))
+        read (reply_part_small limits (text ++ []))
+
+    few : Rattle.redis_wire.specs.Count.value_count a ≤ limits.values
+    few = omega (
+      arith,
+      le,
+      small,
+      reply_counted limits (text ++ []) (a, []) read,
+      length-append text [],
+    )
 
 -- few bytes have few values
 pub few_bytes : (limits : Limits) (bytes : List ℕ) → length bytes / 3 < limits.values

@@ -7,7 +7,7 @@ use Rattle.std.specs.Str.{is_utf8, bytes_eq}
 use Rattle.redis_resp.specs.Tree.{Tree, nil, int, bulk, array, simple, okay, map_of_pairs, attribute, set, boolean}
 use Rattle.redis_resp.specs.Tree.{verbatim, trees, pairs, two_by_two}
 use Rattle.redis_wire.specs.declared.limits.Limits.{Limits}
-use Rattle.redis_wire.specs.declared.fault.Fault.TheVariants.{BadNumber, BadNull, BadBoolean, BadVerbatim, TooDeep}
+use Rattle.redis_wire.specs.declared.fault.Fault.TheVariants.{BadNull, BadBoolean, BadVerbatim, TooDeep}
 use Rattle.redis_wire.specs.declared.kind.Kind.{Kind}
 use Rattle.redis_wire.specs.declared.kind.Kind.TheVariants as kinds
 use Rattle.redis_wire.specs.declared.kind.LineKind.{LineKind}
@@ -18,12 +18,12 @@ use Rattle.redis_wire.specs.declared.kind.GroupKind.{GroupKind}
 use Rattle.redis_wire.specs.declared.kind.GroupKind.TheVariants as groups
 use Rattle.redis_wire.specs.declared.scanning.Open.{Open}
 use Rattle.redis_wire.specs.Kind.{kind_of}
-use Rattle.redis_wire.specs.Reading.{Halt, short, bad, Read, ◌>>=◌, rest_of, line_at, blob_at}
+use Rattle.redis_wire.specs.Reading.{Halt, bad, Read, ◌>>=◌, rest_of, line_at, blob_at}
 use Rattle.redis_wire.specs.Reply.{Answer, value, refused, group, pushed, answer_list, Answers, values, mixed, join}
 use Rattle.redis_wire.specs.Reply.{one}
 use Rattle.redis_wire.specs.Reply.{one_by_one}
-use Rattle.redis_wire.specs.Scalar.{number_of, text_answer, written_answer, int_answer, boolean_answer, line_answer}
-use Rattle.redis_wire.specs.Scalar.{verbatim_answer, blob_answer, no_blob_answer}
+use Rattle.redis_wire.specs.Scalar.{number_of, text_answer, written_answer, int_answer, line_answer}
+use Rattle.redis_wire.specs.Scalar.{blob_answer, no_blob_answer}
 use Rattle.redis_wire.specs.Group.{member_count, many, pairs_or_fault, pairs_of, map_answer, attribute_round}
 use Rattle.redis_wire.specs.Group.{attribute_answer, group_tree, group_answer, no_group_answer}
 use Rattle.redis_wire.specs.Level.{length_at, line_value_at, blob_body_at, blob_value_at, group_body_at, group_value_at}
@@ -32,7 +32,7 @@ use Rattle.redis_wire.specs.Push.{kind_at, push_body_at, push_at, reply_at}
 use Rattle.redis_wire.specs.Count.{values_of, values_of_trees, values_of_pairs, value_count, values_among}
 use Rattle.redis_wire.specs.Item.{body_passed, blob_passed, count_behind, item_of, item_at, push_begins}
 use Rattle.redis_wire.specs.Item.{push_begins_at, begins_at}
-use Rattle.redis_wire.specs.Bounded.{begun_behind, many_begun, inside_begun, value_begun, open_begun, asked_begun}
+use Rattle.redis_wire.specs.Bounded.{begun_behind, many_begun, inside_begun, value_begun, asked_begun}
 use Rattle.redis_wire.specs.Bounded.{reply_begun}
 use Rattle.redis_wire.proofs.FitsLemmas.{bind_ok}
 use Rattle.redis_wire.proofs.AttributeLemmas.{last_of}

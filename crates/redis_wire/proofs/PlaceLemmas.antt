@@ -2,16 +2,15 @@
 use Rattle.std.proofs.Common.{◌≡◌, ◌≤◌, ◌+◌, ◌-◌, ◌∙◌, ℕ, suc, List, [], ◌∷◌, ◌++◌, length, take, drop, pos, Option}
 use Rattle.std.proofs.Common.{Some, None, Ok, refl, sym, ap, arith, append_assoc}
 use Rattle.std.proofs.lemmas.List.{length-append, length-drop, take-append-drop, drop_at, take_at}
-use Rattle.redis_resp.specs.Tree.{nil, int, bulk}
+use Rattle.redis_resp.specs.Tree.{bulk}
 use Rattle.redis_wire.specs.declared.limits.Limits.{Limits}
-use Rattle.redis_wire.specs.declared.kind.GroupKind.TheVariants.{Array, Map}
 use Rattle.redis_wire.specs.Reading.{blob_at, line_at}
 use Rattle.redis_wire.specs.Reply.{value}
 use Rattle.redis_wire.specs.Scalar.{number_of, line_answer, no_blob_answer}
 use Rattle.redis_wire.specs.Group.{no_group_answer}
 use Rattle.redis_wire.specs.Grammar.{IsLine, IsLength, IsBlob}
 use Rattle.redis_wire.specs.Level.{length_at, line_value_at, blob_body_at, blob_value_at, group_body_at, group_value_at}
-use Rattle.redis_wire.specs.Level.{by_kind, level, value_at}
+use Rattle.redis_wire.specs.Level.{by_kind, level}
 use Rattle.redis_wire.specs.Packed.{crlf}
 use Rattle.redis_wire.specs.Scan.{IsEnd}
 use Rattle.redis_wire.specs.Place.{IsHeadAt, IsLineAt, IsTextAt, IsArrayAt, IsMapAt, IsNilAt, IsIntAt}

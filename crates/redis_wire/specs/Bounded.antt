@@ -5,7 +5,6 @@ use Rattle.redis_wire.specs.declared.limits.Limits.{Limits}
 use Rattle.redis_wire.specs.declared.scanning.Open.{Open}
 use Rattle.redis_wire.specs.Reading.{Halt, bad, Read, rest_of}
 use Rattle.redis_wire.specs.Reply.{Answer}
-use Rattle.redis_wire.specs.Group.{many}
 use Rattle.redis_wire.specs.Level.{value_at}
 use Rattle.redis_wire.specs.Item.{item_at, begins_at}
 use Rattle.redis_wire.specs.Push.{reply_at}

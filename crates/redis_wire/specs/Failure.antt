@@ -5,6 +5,8 @@ use Rattle.redis_resp.specs.declared.value.error.ParsingError.{ParsingError}
 use Rattle.redis_resp.specs.declared.value.error.ParsingError.TheVariants as parsing_errors
 use Rattle.redis_wire.specs.declared.fault.WireError.{WireError}
 use Rattle.redis_wire.specs.declared.fault.WireError.TheVariants as wire_errors
+use Rattle.redis_wire.specs.declared.pack_error.PackError.{PackError}
+use Rattle.redis_wire.specs.declared.pack_error.PackError.TheVariants as pack_errors
 use Rattle.redis_wire.specs.declared.reply.ReplyError.{ReplyError}
 use Rattle.redis_wire.specs.declared.reply.ReplyError.TheVariants as reply_errors
 use Rattle.redis_wire.specs.declared.error.RedisError.{RedisError}
@@ -19,6 +21,17 @@ wire_failure (wire_errors.Fault fault) = errors.Fault fault
 abbrev pub write_failure : WriteError → RedisError
 write_failure write_errors.Memory = errors.Memory
 write_failure write_errors.Full = errors.Full
+
+-- why a command was not packed, where one of its arguments was not written
+abbrev pub pack_error : WriteError → PackError
+pack_error write_errors.Memory = pack_errors.Memory
+pack_error write_errors.Full = pack_errors.Full
+
+-- why a command was not packed
+abbrev pub pack_failure : PackError → RedisError
+pack_failure pack_errors.Memory = errors.Memory
+pack_failure pack_errors.Full = errors.Full
+pack_failure pack_errors.NoArguments = errors.NoArguments
 
 -- why a value has no record; running out of memory says nothing of the value
 abbrev pub parsing_failure : ParsingError → RedisError

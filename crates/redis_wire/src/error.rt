@@ -1,9 +1,10 @@
 //! One error of all that may go wrong between a command and the record of its answer.
 ghost use Rattle.std.specs.Prelude.{◌≡◌};
-ghost use Rattle.redis_wire.specs.Failure.{wire_failure, write_failure, parsing_failure, reply_failure};
+ghost use Rattle.redis_wire.specs.Failure.{wire_failure, write_failure, pack_failure, parsing_failure, reply_failure};
 ghost use Rattle.redis_wire.specs.declared.error.RedisError.TheVariants.{Memory};
 
 use crate::fault::{Fault, WireError};
+use crate::pack_error::PackError;
 use crate::reply::{ReplyError, ServerError};
 use redis_resp::{ParsingError, WriteError};
 use std::alloc::{AllocError, AllocFailed};
@@ -20,6 +21,9 @@ pub enum RedisError {
     /// length is too small for it.
     #[error("no room for an argument")]
     Full,
+    /// The command has no arguments.
+    #[error("a command of no arguments")]
+    NoArguments,
     /// The bytes are no reply, however they go on.
     #[error("{0}")]
     Fault(Fault),
@@ -52,6 +56,18 @@ impl From<WriteError> for RedisError {
         match error {
             WriteError::Memory => RedisError::Memory,
             WriteError::Full => RedisError::Full,
+        }
+    }
+}
+
+impl From<PackError> for RedisError {
+    ghost from_gives = { λ error result. result ≡ pack_failure error };
+
+    fn from(error: PackError) -> RedisError {
+        match error {
+            PackError::Memory => RedisError::Memory,
+            PackError::Full => RedisError::Full,
+            PackError::NoArguments => RedisError::NoArguments,
         }
     }
 }

@@ -1,7 +1,7 @@
 //! What the codec promises of memory, time and text, and values from outside.
 use redis_resp::FromRedisValue;
 use redis_wire::{
-    Decoded, Fault, Limits, PackedCommand, RedisError, Reply, ReplyStream, WireError,
+    Decoded, Fault, Limits, PackError, PackedCommand, RedisError, Reply, ReplyStream, WireError,
     append_command, decode, from_reply, pack_args, pack_command,
 };
 use std::alloc::{AllocError, Global};
@@ -378,8 +378,6 @@ fn a_stream_holds_no_more_than_its_limit(rt: HostRuntime) -> Result<(), Fail> {
 fn commands_are_packed(rt: HostRuntime) -> Result<(), Fail> {
     let packed = pack_command(rt.alloc(), &("PING", 5u64))?;
     assert!(rt; packed.as_slice() == PING);
-    let empty = PackedCommand::new(rt.alloc()).to_bytes(rt.alloc())?;
-    assert!(rt; empty.as_slice() == b"*0\r\n".as_slice());
     Ok(())
 }
 
@@ -390,6 +388,22 @@ fn arguments_are_packed(rt: HostRuntime) -> Result<(), Fail> {
         args.push(Vec::from_slice(rt.alloc(), word)?)?;
     }
     assert!(rt; pack_args(rt.alloc(), &args)?.as_slice() == PING);
+    Ok(())
+}
+
+#[test]
+fn no_arguments_are_packed_by_no_call(rt: HostRuntime) -> Result<(), Fail> {
+    let none: &[Vec<u8>] = &[];
+    let refused = Some(PackError::NoArguments);
+    let mut pipeline = Vec::from_slice(rt.alloc(), PING)?;
+    assert!(rt; pack_args(rt.alloc(), none).err() == refused);
+    assert!(rt; pack_command(rt.alloc(), &none).err() == refused);
+    assert!(rt; pack_command(rt.alloc(), &(none, none)).err() == refused);
+    assert!(rt; append_command(rt.alloc(), &mut pipeline, &none).err() == refused);
+    let command = PackedCommand::new(rt.alloc());
+    assert!(rt; command.to_bytes(rt.alloc()).err() == refused);
+    assert!(rt; command.append_to(&mut pipeline).err() == refused);
+    assert!(rt; pipeline.as_slice() == PING);
     Ok(())
 }
 

@@ -5,7 +5,7 @@ use Rattle.redis_wire.specs.declared.fault.WireError.{WireError}
 use Rattle.redis_wire.specs.declared.fault.WireError.TheVariants as errors
 use Rattle.redis_wire.specs.Reply.{Answer}
 use Rattle.redis_wire.specs.Grammar.{IsReply}
-use Rattle.redis_wire.specs.Decoded.{NoReply}
+use Rattle.redis_wire.specs.Decoded.{NoReply, EndTooEarly, IsFirstFault}
 use Rattle.redis_wire.specs.Record.{IsRecord}
 use Rattle.stream_entries.specs.AutoClaim.{autoclaim_reading}
 use Rattle.stream_entries.specs.AutoClaimMeaning.{autoclaim_meaning}
@@ -18,16 +18,18 @@ use Rattle.stream_refs.specs.declared.claim_outcome.JustIdOutcome.{JustIdOutcome
 use Rattle.stream_refs.specs.declared.claim_outcome.JustIdOutcome.TheVariants as justids
 use Rattle.stream_refs.specs.AutoClaim.{IsAutoClaim, IsJustId}
 
--- in place, or the record of the reply at the head, or no reply, now or whatever comes behind
+-- in place; or the record of the reply at the head, its refusal or the server's error; or the bytes end too
+-- early; or the first fault, behind which none is a reply, whatever comes behind
 abbrev pub IsAutoClaimOutcome : Limits → List ℕ → Result AutoClaimOutcome WireError → Type 0
 IsAutoClaimOutcome limits bytes (Ok (claims.InPlace r)) =
     IsAutoClaim limits bytes (record { next = r.next_stream_id.now; claimed = r.claimed; deleted = r.deleted_ids }) r.len
 IsAutoClaimOutcome limits bytes (Ok (claims.Copied reply len)) =
     (a : Answer) × (len ≤ length bytes) × IsReply limits (take len bytes) a
     × IsRecord autoclaim_reading RefusesAutoClaim autoclaim_meaning a reply
-IsAutoClaimOutcome limits bytes (Ok claims.Incomplete) = NoReply limits bytes
+IsAutoClaimOutcome limits bytes (Ok claims.Incomplete) = NoReply limits bytes × EndTooEarly limits bytes
 IsAutoClaimOutcome limits bytes (Err errors.Memory) = Unit {0}
-IsAutoClaimOutcome limits bytes (Err (errors.Fault fault)) = (more : List ℕ) → NoReply limits (bytes ++ more)
+IsAutoClaimOutcome limits bytes (Err (errors.Fault fault)) =
+    ((more : List ℕ) → NoReply limits (bytes ++ more)) × IsFirstFault limits bytes (errors.Fault fault)
 
 -- the same of ids alone
 abbrev pub IsJustIdOutcome : Limits → List ℕ → Result JustIdOutcome WireError → Type 0
@@ -36,6 +38,7 @@ IsJustIdOutcome limits bytes (Ok (justids.InPlace r)) =
 IsJustIdOutcome limits bytes (Ok (justids.Copied reply len)) =
     (a : Answer) × (len ≤ length bytes) × IsReply limits (take len bytes) a
     × IsRecord justid_reading RefusesJustId justid_meaning a reply
-IsJustIdOutcome limits bytes (Ok justids.Incomplete) = NoReply limits bytes
+IsJustIdOutcome limits bytes (Ok justids.Incomplete) = NoReply limits bytes × EndTooEarly limits bytes
 IsJustIdOutcome limits bytes (Err errors.Memory) = Unit {0}
-IsJustIdOutcome limits bytes (Err (errors.Fault fault)) = (more : List ℕ) → NoReply limits (bytes ++ more)
+IsJustIdOutcome limits bytes (Err (errors.Fault fault)) =
+    ((more : List ℕ) → NoReply limits (bytes ++ more)) × IsFirstFault limits bytes (errors.Fault fault)

@@ -5,7 +5,7 @@ use Rattle.redis_wire.specs.declared.fault.WireError.{WireError}
 use Rattle.redis_wire.specs.declared.fault.WireError.TheVariants as errors
 use Rattle.redis_wire.specs.Reply.{Answer}
 use Rattle.redis_wire.specs.Grammar.{IsReply}
-use Rattle.redis_wire.specs.Decoded.{NoReply}
+use Rattle.redis_wire.specs.Decoded.{NoReply, EndTooEarly, IsFirstFault}
 use Rattle.redis_wire.specs.Record.{IsRecord}
 use Rattle.stream_entries.specs.EntryMeaning.{entries_of}
 use Rattle.stream_entries.specs.ReadMeaning.{streams_of}
@@ -18,15 +18,17 @@ use Rattle.stream_refs.specs.declared.outcome.ReadOutcome.{ReadOutcome}
 use Rattle.stream_refs.specs.declared.outcome.ReadOutcome.TheVariants as reads
 use Rattle.stream_refs.specs.Range.{IsRange, IsRead}
 
--- in place, or the record of the reply at the head, or no reply, now or whatever comes behind
+-- in place; or the record of the reply at the head, its refusal or the server's error; or the bytes end too
+-- early; or the first fault, behind which none is a reply, whatever comes behind
 abbrev pub IsRangeOutcome : Limits → List ℕ → Result RangeOutcome WireError → Type 0
 IsRangeOutcome limits bytes (Ok (ranges.InPlace r)) = IsRange limits bytes r.entries r.len
 IsRangeOutcome limits bytes (Ok (ranges.Copied reply len)) =
     (a : Answer) × (len ≤ length bytes) × IsReply limits (take len bytes) a
     × IsRecord rows_reading RefusesRows (λ r. entries_of r.ids) a reply
-IsRangeOutcome limits bytes (Ok ranges.Incomplete) = NoReply limits bytes
+IsRangeOutcome limits bytes (Ok ranges.Incomplete) = NoReply limits bytes × EndTooEarly limits bytes
 IsRangeOutcome limits bytes (Err errors.Memory) = Unit {0}
-IsRangeOutcome limits bytes (Err (errors.Fault fault)) = (more : List ℕ) → NoReply limits (bytes ++ more)
+IsRangeOutcome limits bytes (Err (errors.Fault fault)) =
+    ((more : List ℕ) → NoReply limits (bytes ++ more)) × IsFirstFault limits bytes (errors.Fault fault)
 
 -- the same of a read
 abbrev pub IsReadOutcome : Limits → List ℕ → Result ReadOutcome WireError → Type 0
@@ -34,6 +36,7 @@ IsReadOutcome limits bytes (Ok (reads.InPlace r)) = IsRead limits bytes r.stream
 IsReadOutcome limits bytes (Ok (reads.Copied reply len)) =
     (a : Answer) × (len ≤ length bytes) × IsReply limits (take len bytes) a
     × IsRecord read_reading RefusesRead (λ r. streams_of r.keys) a reply
-IsReadOutcome limits bytes (Ok reads.Incomplete) = NoReply limits bytes
+IsReadOutcome limits bytes (Ok reads.Incomplete) = NoReply limits bytes × EndTooEarly limits bytes
 IsReadOutcome limits bytes (Err errors.Memory) = Unit {0}
-IsReadOutcome limits bytes (Err (errors.Fault fault)) = (more : List ℕ) → NoReply limits (bytes ++ more)
+IsReadOutcome limits bytes (Err (errors.Fault fault)) =
+    ((more : List ℕ) → NoReply limits (bytes ++ more)) × IsFirstFault limits bytes (errors.Fault fault)

@@ -4,9 +4,9 @@ ghost use Rattle.redis_wire.specs.Packed.{command_bytes};
 ghost use Rattle.stream_worker.specs.Questions.{ack_sentence, asks, claim_sentence, group_sentence, news_sentence, own_sentence};
 ghost use Rattle.stream_worker.specs.Questions.{phase_asks, phase_of, phase_sentence, sentence};
 
+use crate::packing::append_command;
 use crate::state::{Asked, MakeGroup, Phase, Settings};
 use redis_resp::WriteError;
-use redis_wire::append_command;
 use std::alloc::Global;
 use stream_commands::{
     AtLeastOne, xack, xautoclaim_options, xgroup_create_mkstream, xread_options,

@@ -5,8 +5,9 @@ ghost use Rattle.redis_wire.specs.Reply.{answer};
 ghost use Rattle.stream_worker.specs.Letters.{Unserved, after_letter, desk_of, letter_asks, letter_bytes};
 ghost use Rattle.stream_worker.specs.Letters.{letter_sentence, names_of, serves};
 
+use crate::packing::append_command;
 use redis_resp::{Value, WriteError};
-use redis_wire::{Reply, ServerError, append_command};
+use redis_wire::{Reply, ServerError};
 use std::alloc::Global;
 use std::mem;
 use stream_commands::{AtLeastOne, ToFieldArgs, xack};

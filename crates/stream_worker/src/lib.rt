@@ -10,6 +10,7 @@ mod gathered;
 mod handler;
 pub mod laws;
 mod letters;
+mod packing;
 mod phases;
 mod reading;
 mod session;

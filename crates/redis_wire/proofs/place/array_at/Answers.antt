@@ -1,4 +1,3 @@
-use Rattle.std.proofs.Common.{◌≡◌, Some}
 use Rattle.redis_wire.proofs.PlaceLemmas.{array_place}
 use Rattle.redis_wire.proofs.place.array_at.Goals as goal
 

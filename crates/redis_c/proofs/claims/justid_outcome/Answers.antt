@@ -1,0 +1,18 @@
+use Rattle.std.proofs.Common.{arith, refl, ◌≡◌, [], length}
+use Rattle.std.proofs.lemmas.List.{nil_from_length}
+use Rattle.redis_c.specs.Claimed.{JustIdIn}
+use Rattle.redis_c.proofs.HandedLemmas.{handed_is}
+use Rattle.redis_c.proofs.claims.justid_outcome.Goals as goal
+
+pub returns : goal.returns
+returns c =
+    let place = c.in-Ok-Some.place in
+    let none : length c.handed_out.new.streams ≡ 0 = omega arith in
+    let bare : length c.handed_out.new.fields ≡ 0 = omega arith in
+    rw (nil_from_length c.handed_out.new.streams none, nil_from_length c.handed_out.new.fields bare) at
+    (handed_is (JustIdIn place) c.args.bytes.now place.len _ _ _ _ c.handed_out.result c.handed_out.ensures
+    (record {
+      all = refl;
+      is = rw (c.in-Ok-Some.field-0-is, c.default.ensures) at c.in-Ok-Some.ensures.is;
+      within = rw (c.in-Ok-Some.field-0-is) at c.in-Ok-Some.ensures.within;
+    }))

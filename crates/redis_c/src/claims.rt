@@ -1,0 +1,87 @@
+//! Entries and ids that XAUTOCLAIM claimed, where they stand, in tables of the caller.
+ghost use Rattle.std.specs.Prelude.{[]};
+ghost use Rattle.redis_c.specs.Told.{IsOutcome, IsTold};
+ghost use Rattle.redis_c.specs.Claimed.{AutoClaimIn, JustIdIn};
+
+use crate::entries::handed_out;
+use crate::other::other;
+use crate::outcome::{Found, Outcome};
+use redis_wire::Limits;
+use std::alloc::Global;
+use stream_refs::{AutoClaimPlace, EntryPlace, EntryTape, FieldPlace, find_autoclaim, find_justid};
+
+/// Where the entries of an automatic claim stand.
+fn autoclaim_outcome(
+    alloc: Global,
+    bytes: &[u8],
+    entries: &mut [EntryPlace],
+    fields: &mut [FieldPlace],
+    claim: &mut AutoClaimPlace,
+) -> Outcome
+    ensures { IsOutcome (AutoClaimIn claim.new) bytes.now [] entries.new fields.new result }
+{
+    let mut tape = EntryTape::new(alloc);
+    match find_autoclaim(Limits::default(), bytes, &mut tape) {
+        Err(_) => Outcome::Memory,
+        Ok(None) => other(alloc, bytes),
+        Ok(Some(place)) => {
+            *claim = place;
+            handed_out(place.len, &tape, &mut [], entries, fields)
+        }
+    }
+}
+
+/// Where the ids of an automatic claim stand that was asked for ids alone.
+fn justid_outcome(
+    alloc: Global,
+    bytes: &[u8],
+    entries: &mut [EntryPlace],
+    claim: &mut AutoClaimPlace,
+) -> Outcome
+    ensures { IsOutcome (JustIdIn claim.new) bytes.now [] entries.new [] result }
+{
+    let mut tape = EntryTape::new(alloc);
+    match find_justid(Limits::default(), bytes, &mut tape) {
+        Err(_) => Outcome::Memory,
+        Ok(None) => other(alloc, bytes),
+        Ok(Some(place)) => {
+            *claim = place;
+            handed_out(place.len, &tape, &mut [], entries, &mut [])
+        }
+    }
+}
+
+/// Finds where the entries stand of the reply of XAUTOCLAIM at the head of bytes, and behind them the
+/// deleted ids.
+#[unsafe(no_mangle)]
+pub extern "C" fn redis_find_autoclaim(
+    alloc: Global,
+    bytes: &[u8],
+    entries: &mut [EntryPlace],
+    fields: &mut [FieldPlace],
+    claim: &mut AutoClaimPlace,
+    found: &mut Found,
+) -> u32
+    ensures { IsTold (AutoClaimIn claim.new) bytes.now [] entries.new fields.new result found.new }
+{
+    let outcome = autoclaim_outcome(alloc, bytes, entries, fields, claim);
+    *found = outcome.found();
+    outcome.code()
+}
+
+/// Finds where the ids stand of the reply of XAUTOCLAIM with JUSTID at the head of bytes, and behind
+/// them the deleted ids.
+#[unsafe(no_mangle)]
+pub extern "C" fn redis_find_justid(
+    alloc: Global,
+    bytes: &[u8],
+    entries: &mut [EntryPlace],
+    claim: &mut AutoClaimPlace,
+    found: &mut Found,
+) -> u32
+    ensures { IsTold (JustIdIn claim.new) bytes.now [] entries.new [] result found.new }
+{
+    let outcome = justid_outcome(alloc, bytes, entries, claim);
+    *found = outcome.found();
+    outcome.code()
+}
