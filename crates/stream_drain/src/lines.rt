@@ -1,7 +1,7 @@
 //! Entries as lines of a file.
 ghost use Rattle.std.specs.Prelude.{◌≡◌};
 
-use crate::json::json_line;
+use crate::json_lines::json_line;
 use line_log::{LineLog, LogError, LogFile, push_escaped};
 use redis_resp::Value;
 use std::alloc::{AllocError, Global};

@@ -1,4 +1,8 @@
 //! Entries as lines of JSON.
+ghost use Rattle.std.specs.Prelude.{◌≡◌, ◌≢◌, IfOk, IfSome, OnOk};
+ghost use Rattle.std.specs.List.{AllByRecursion};
+ghost use Rattle.stream_drain.specs.Json.{are_texts};
+
 #[cfg(test)]
 mod tests;
 
@@ -9,11 +13,9 @@ use std::alloc::{AllocError, Global};
 
 /// The line of an entry: `{"id":"1-0","fields":[["name","value"],..]}`, where a text that is not
 /// UTF-8 is `{"base64":"..."}`. None where its fields are no texts in pairs.
-pub fn json_line(
-    alloc: Global,
-    id: &[u8],
-    fields: &[Value],
-) -> Result<Option<Vec<u8>>, AllocError> {
+pub fn json_line(alloc: Global, id: &[u8], fields: &[Value]) -> Result<Option<Vec<u8>>, AllocError>
+    ensures one_line { IfOk result (λ o. IfSome o (λ line. AllByRecursion (λ b. b ≢ 10) line.items)) }
+{
     let mut out = Writer::new(Vec::with_capacity(alloc, 128)?);
     out.begin_object()?;
     out.key("id")?;
@@ -41,7 +43,10 @@ fn push_field(
     out: &mut Writer,
     name: &Value,
     value: &Value,
-) -> Result<bool, AllocError> {
+) -> Result<bool, AllocError>
+    ensures before { out.new.before ≡ out.old.before }
+    ensures texts { OnOk result (are_texts out.new.tokens ≡ are_texts out.old.tokens) }
+{
     let (Value::BulkString(name), Value::BulkString(value)) = (name, value) else {
         return Ok(false);
     };
@@ -53,7 +58,10 @@ fn push_field(
 }
 
 /// A text as a string, or, where it is not UTF-8, as an object of its Base64.
-fn push_text(alloc: Global, out: &mut Writer, bytes: &[u8]) -> Result<(), AllocError> {
+fn push_text(alloc: Global, out: &mut Writer, bytes: &[u8]) -> Result<(), AllocError>
+    ensures before { out.new.before ≡ out.old.before }
+    ensures texts { OnOk result (are_texts out.new.tokens ≡ are_texts out.old.tokens) }
+{
     match str::from_utf8(bytes) {
         Ok(text) => out.string(text),
         Err(_) => {
