@@ -1,6 +1,7 @@
 //! Entries as lines of a file.
 ghost use Rattle.std.specs.Prelude.{◌≡◌};
 
+use crate::json_lines::json_line;
 use line_log::{LineLog, LogError, LogFile, push_escaped};
 use redis_resp::Value;
 use std::alloc::{AllocError, Global};
@@ -27,6 +28,8 @@ pub enum LineFault {
 #[derive(Drop)]
 pub struct Lines<D: LogFile + Drop> {
     log: LineLog<D>,
+    /// Each line is JSON.
+    json: bool,
     /// The lines of the answer that is handled, in its order.
     came: VecDeque<Line>,
     /// How many entries were done, and how many of them are committed.
@@ -37,12 +40,13 @@ pub struct Lines<D: LogFile + Drop> {
 }
 
 impl<D: LogFile + Drop> Lines<D> {
-    /// It writes into this log.
-    pub fn new(alloc: Global, log: LineLog<D>) -> Lines<D>
-        ensures { (result.done ≡ 0) × (result.committed ≡ 0) }
+    /// It writes into this log, lines of tabs or of JSON.
+    pub fn new(alloc: Global, log: LineLog<D>, json: bool) -> Lines<D>
+        ensures { (result.log ≡ log) × (result.json ≡ json) × (result.done ≡ 0) × (result.committed ≡ 0) }
     {
         Lines {
             log,
+            json,
             came: VecDeque::new(alloc),
             done: 0,
             committed: 0,
@@ -53,11 +57,12 @@ impl<D: LogFile + Drop> Lines<D> {
     /// Makes the lines of an answer to this question: a worker hands out an entry's fields by name,
     /// and a line has them in order.
     pub fn came(&mut self, alloc: Global, asked: Asked, answer: &Value) -> Result<(), AllocError>
-        ensures { (self.new.log ≡ self.old.log) × (self.new.done ≡ self.old.done)
+        ensures { (self.new.log ≡ self.old.log) × (self.new.json ≡ self.old.json)
+            × (self.new.done ≡ self.old.done)
             × (self.new.committed ≡ self.old.committed) }
     {
         self.came.clear();
-        push_lines(alloc, &mut self.came, asked, answer)
+        push_lines(alloc, &mut self.came, self.json, asked, answer)
     }
 
     // The line of the next entry that came with this id.
@@ -116,23 +121,24 @@ impl<D: LogFile + Drop> Handler for Lines<D> {
 fn push_lines(
     alloc: Global,
     lines: &mut VecDeque<Line>,
+    json: bool,
     asked: Asked,
     answer: &Value,
 ) -> Result<(), AllocError> {
     match (asked, answer) {
         (Asked::Own | Asked::News, Value::Map(streams)) => {
             for (_key, entries) in streams {
-                push_entries(alloc, lines, entries)?;
+                push_entries(alloc, lines, json, entries)?;
             }
         }
         (Asked::Own | Asked::News, Value::Array(streams)) => {
             for stream in streams {
-                push_stream(alloc, lines, stream)?;
+                push_stream(alloc, lines, json, stream)?;
             }
         }
         (Asked::Claim, Value::Array(parts)) => {
             if let Some(entries) = parts.get(1) {
-                push_entries(alloc, lines, entries)?;
+                push_entries(alloc, lines, json, entries)?;
             }
         }
         _ => {}
@@ -144,11 +150,12 @@ fn push_lines(
 fn push_stream(
     alloc: Global,
     lines: &mut VecDeque<Line>,
+    json: bool,
     stream: &Value,
 ) -> Result<(), AllocError> {
     if let Value::Array(parts) = stream {
         if let [_key, entries] = parts.as_slice() {
-            push_entries(alloc, lines, entries)?;
+            push_entries(alloc, lines, json, entries)?;
         }
     }
     Ok(())
@@ -158,6 +165,7 @@ fn push_stream(
 fn push_entries(
     alloc: Global,
     lines: &mut VecDeque<Line>,
+    json: bool,
     entries: &Value,
 ) -> Result<(), AllocError> {
     let Value::Array(entries) = entries else {
@@ -166,7 +174,12 @@ fn push_entries(
     for entry in entries {
         if let Value::Array(parts) = entry {
             if let [Value::BulkString(id), Value::Array(fields), ..] = parts.as_slice() {
-                if let Some(text) = text_of(alloc, id, fields)? {
+                let text = if json {
+                    json_line(alloc, id, fields)?
+                } else {
+                    text_of(alloc, id, fields)?
+                };
+                if let Some(text) = text {
                     let id = id.to_vec(alloc)?;
                     lines.push_back(Line { id, text })?;
                 }

@@ -7,15 +7,17 @@
 //!
 //! Each entry is a line of the file: its id and its fields, in order and with repeated ones,
 //! separated by tabs. A backslash, a tab, a line feed and a carriage return in them stand as `\\`,
-//! `\t`, `\n` and `\r`. The lines of a batch are on the disk before its entries are acknowledged,
-//! so whatever crash comes, an entry that was added is still to come, or pending, or in the file,
-//! or was deleted. A line may come again after a crash.
+//! `\t`, `\n` and `\r`. With `--json` each line is `{"id":"1-0","fields":[["name","value"],..]}`, and
+//! a text that is not UTF-8 stands there as `{"base64":".."}`. The lines of a batch are on the disk
+//! before its entries are acknowledged, so whatever crash comes, an entry that was added is still to
+//! come, or pending, or in the file, or was deleted. A line may come again after a crash.
 //!
 //! What it does stands on standard error, once a second and at the end. It ends with 0 where
 //! `--until-empty` is there and nothing new came, and else with 1 and the reason.
 #![tactic(auto)]
 
 mod drain;
+mod json_lines;
 mod lines;
 mod options;
 mod report;
@@ -41,11 +43,12 @@ fn main(rt: HostRuntime) -> Result<()> {
         settings,
         path,
         until_empty,
+        json,
     } = options_of(alloc, &words)?;
     let file = SystemFile::open(&rt, &path).context(format_args!("cannot open {path}"))?;
     let log = LineLog::open(alloc, file).context(format_args!("cannot open {path}"))?;
     let connection = Connection::new(alloc, rt.reader(), io::writer(&rt), Limits::default())?;
-    let mut lines = Lines::new(alloc, log);
+    let mut lines = Lines::new(alloc, log, json);
     let mut report = Report::new(&rt)?;
     let ended = drain(
         &rt,

@@ -6,7 +6,7 @@ use std::alloc::Global;
 use stream_worker::{MakeGroup, Settings};
 
 const USAGE: &str = "wanted: KEY GROUP CONSUMER FILE [--from 0|$] [--count N] [--block MS] \
-                     [--idle MS] [--every N] [--until-empty]";
+                     [--idle MS] [--every N] [--json] [--until-empty]";
 
 /// What the program is to do.
 #[derive(Drop)]
@@ -15,6 +15,8 @@ pub struct Options {
     pub path: String,
     /// It ends where a read finds nothing new.
     pub until_empty: bool,
+    /// Each line is JSON.
+    pub json: bool,
 }
 
 /// An option with a value.
@@ -44,6 +46,7 @@ pub fn options_of(alloc: Global, words: &[String]) -> Result<Options>
         settings,
         path: String::from_str(alloc, path)?,
         until_empty: false,
+        json: false,
     };
     let mut valued = None;
     for word in rest {
@@ -54,6 +57,10 @@ pub fn options_of(alloc: Global, words: &[String]) -> Result<Options>
             }
             None if word.as_str() == "--until-empty" => {
                 options.until_empty = true;
+                None
+            }
+            None if word.as_str() == "--json" => {
+                options.json = true;
                 None
             }
             None => Some(valued_of(word)?),

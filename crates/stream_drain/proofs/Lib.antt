@@ -1,0 +1,2 @@
+-- Lemmas on lines of JSON.
+pub mod JsonLemmas
