@@ -9,3 +9,5 @@ mod in_place;
 mod numbers;
 #[cfg(test)]
 mod owned;
+#[cfg(test)]
+mod shown;

@@ -17,7 +17,7 @@ use std::alloc::{AllocError, Global};
 use stream_entries::{StreamAutoClaimJustIdReply, StreamAutoClaimReply};
 
 /// What XAUTOCLAIM answers, where it stands, and how many bytes the reply has.
-#[derive(Drop)]
+#[derive(Debug, Drop)]
 pub struct AutoClaimRef<'a> {
     /// The id from which the next XAUTOCLAIM goes on; `0-0` where all pending entries were seen.
     pub next_stream_id: &'a str,
@@ -31,7 +31,7 @@ pub struct AutoClaimRef<'a> {
 }
 
 /// What XAUTOCLAIM answers where it is asked for ids alone, and how many bytes the reply has.
-#[derive(Drop)]
+#[derive(Debug, Drop)]
 pub struct AutoClaimJustIdRef<'a> {
     /// The id from which the next XAUTOCLAIM goes on; `0-0` where all pending entries were seen.
     pub next_stream_id: &'a str,

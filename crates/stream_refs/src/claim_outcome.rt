@@ -8,7 +8,7 @@ use std::alloc::Global;
 use stream_entries::{StreamAutoClaimJustIdReply, StreamAutoClaimReply};
 
 /// What reading the reply of XAUTOCLAIM comes to.
-#[derive(Drop)]
+#[derive(Debug, Drop)]
 pub enum AutoClaimOutcome<'a> {
     /// The reply has the shape that servers send: its entries and ids where they stand.
     InPlace(AutoClaimRef<'a>),
@@ -23,7 +23,7 @@ pub enum AutoClaimOutcome<'a> {
 }
 
 /// What reading the reply of XAUTOCLAIM comes to where it was asked for ids alone.
-#[derive(Drop)]
+#[derive(Debug, Drop)]
 pub enum JustIdOutcome<'a> {
     /// The reply has the shape that servers send: its ids where they stand.
     InPlace(AutoClaimJustIdRef<'a>),

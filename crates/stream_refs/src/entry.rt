@@ -10,6 +10,7 @@ ghost use Rattle.stream_refs.specs.FieldValue.{text_value, unsigned_value, signe
 use crate::field_value::{FieldError, i64_of, str_of, u64_of};
 use crate::fields::FieldsRef;
 use std::alloc::{AllocError, Global};
+use std::fmt;
 use std::marker::Model;
 use stream_entries::StreamId;
 
@@ -154,6 +155,17 @@ impl<'a> EntryRef<'a> {
             None => None,
             Some(delivery) => Some(delivery.count as usize),
         }
+    }
+}
+
+impl<'a> fmt::Debug for EntryRef<'a> {
+    fn fmt<W: fmt::Write>(&self, f: &mut fmt::Formatter<W>) -> fmt::Result {
+        f.debug_struct("EntryRef")
+            .field("id", &self.id)
+            .field("fields", &self.fields())
+            .field("is_deleted", &self.deleted)
+            .field("delivery", &self.delivery)
+            .finish()
     }
 }
 

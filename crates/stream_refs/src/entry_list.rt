@@ -10,6 +10,8 @@ use crate::fields::fields_at;
 use crate::places::{EntryPlace, FieldPlace};
 use crate::rows::text_in;
 use std::alloc::{AllocError, Global};
+use std::fmt;
+use std::iter::ExactSizeIterator;
 use std::marker::Model;
 use stream_entries::{StreamId, StreamRangeReply};
 
@@ -123,6 +125,18 @@ impl<'a> Iterator for EntriesRef<'a> {
     }
 }
 
+impl<'a> ExactSizeIterator for EntriesRef<'a> {
+    fn len(&self) -> usize {
+        self.places.len()
+    }
+}
+
+impl<'a> fmt::Debug for EntriesRef<'a> {
+    fn fmt<W: fmt::Write>(&self, f: &mut fmt::Formatter<W>) -> fmt::Result {
+        f.debug_list().entries(self.again()).finish()
+    }
+}
+
 /// The entries that stand there.
 pub fn entries_at<'a>(
     bytes: &'a [u8],
@@ -141,7 +155,7 @@ pub fn entries_at<'a>(
 }
 
 /// The entries of a range, where they stand, and how many bytes the reply has.
-#[derive(Drop)]
+#[derive(Debug, Drop)]
 pub struct RangeRef<'a> {
     /// The entries, in order.
     pub entries: EntriesRef<'a>,

@@ -6,7 +6,7 @@ ghost use Rattle.std.specs.FinMap.{from_entries};
 ghost use Rattle.std.specs.Str.{is_utf8};
 ghost use Rattle.redis_resp.specs.Tree.{bulk};
 ghost use Rattle.redis_resp.specs.Value.{tree};
-ghost use Rattle.redis_resp.specs.Table.{last_with, on_values, table_of};
+ghost use Rattle.redis_resp.specs.Table.{entries_meaning, last_with, on_values, table_of};
 ghost use Rattle.redis_resp.specs.FieldsMeaning.{fields_of};
 ghost use Rattle.std.specs.List.{AllByRecursion};
 ghost use Rattle.stream_refs.specs.Placed.{field_in, IsField};
@@ -15,9 +15,12 @@ ghost use Rattle.stream_refs.specs.FieldValue.{text_value, unsigned_value, signe
 use crate::field_value::{FieldError, i64_of, str_of, u64_of};
 use crate::places::FieldPlace;
 use crate::rows::text_in;
-use redis_resp::Value;
+use bstr::BStr;
+use redis_resp::{PairList, Value};
 use std::alloc::{AllocError, Global};
 use std::collections::HashMap;
+use std::fmt;
+use std::iter::ExactSizeIterator;
 use std::marker::Model;
 
 /// The fields of an entry, in order and with repeated ones: names, which are UTF-8, and values, which
@@ -107,6 +110,17 @@ impl<'a> FieldsRef<'a> {
         Ok(copies)
     }
 
+    /// The fields in order and with repeated ones, for who keeps them so.
+    pub fn to_pairs(&self, alloc: Global) -> Result<PairList<Value>, AllocError>
+        ensures { IfOk result (λ list. entries_meaning tree list.0.items ≡ on_values bulk self.now) }
+    {
+        let mut pairs = Vec::with_capacity(alloc, self.places.len())?;
+        for place in self.places {
+            pairs.push(pair_at(alloc, self.bytes, *place)?)?;
+        }
+        Ok(PairList(pairs))
+    }
+
     /// The same fields again, from the first one that is left.
     pub fn again(&self) -> FieldsRef<'a>
         ensures { result ≡ self.now }
@@ -155,12 +169,40 @@ impl<'a> Iterator for FieldsRef<'a> {
     }
 }
 
+impl<'a> ExactSizeIterator for FieldsRef<'a> {
+    fn len(&self) -> usize {
+        self.places.len()
+    }
+}
+
+/// The fields that are left, as texts; bytes that are no UTF-8 are escaped.
+impl<'a> fmt::Debug for FieldsRef<'a> {
+    fn fmt<W: fmt::Write>(&self, f: &mut fmt::Formatter<W>) -> fmt::Result {
+        let mut shown = f.debug_map();
+        for (name, value) in self.again() {
+            shown.entry(&BStr::new(name), &BStr::new(value));
+        }
+        shown.finish()
+    }
+}
+
 /// The bytes as text.
 fn as_text(bytes: &[u8]) -> &str
     requires { is_utf8 bytes.now ≡ true }
     ensures { result.now ≡ bytes.now }
 {
     unsafe { str::from_utf8_unchecked(bytes) }
+}
+
+/// A copy of the field that stands there.
+fn pair_at(alloc: Global, bytes: &[u8], place: FieldPlace) -> Result<(String, Value), AllocError>
+    requires { IsField bytes.now place }
+    ensures name { IfOk result (λ p. string_bytes p.0 ≡ (field_in bytes.now place).0) }
+    ensures value { IfOk result (λ p. tree p.1 ≡ bulk (field_in bytes.now place).1) }
+{
+    let name = String::from_str(alloc, as_text(text_in(bytes, place.name)))?;
+    let value = Vec::from_slice(alloc, text_in(bytes, place.value))?;
+    Ok((name, Value::BulkString(value)))
 }
 
 /// Puts a field.

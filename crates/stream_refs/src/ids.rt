@@ -11,6 +11,8 @@ use crate::rows::{name_at, text_in};
 use redis_wire::Limits;
 use redis_wire::place::Span;
 use std::alloc::{AllocError, Global};
+use std::fmt;
+use std::iter::ExactSizeIterator;
 use std::marker::Model;
 
 /// Ids, in order. As an iterator it returns those that are left.
@@ -98,6 +100,18 @@ impl<'a> Iterator for IdsRef<'a> {
 
     fn next(&mut self) -> Option<&'a str> {
         self.take_id()
+    }
+}
+
+impl<'a> ExactSizeIterator for IdsRef<'a> {
+    fn len(&self) -> usize {
+        self.places.len()
+    }
+}
+
+impl<'a> fmt::Debug for IdsRef<'a> {
+    fn fmt<W: fmt::Write>(&self, f: &mut fmt::Formatter<W>) -> fmt::Result {
+        f.debug_list().entries(self.again()).finish()
     }
 }
 

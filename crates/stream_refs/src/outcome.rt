@@ -10,7 +10,7 @@ use std::alloc::Global;
 use stream_entries::{StreamRangeReply, StreamReadReply};
 
 /// What reading the entries of a reply comes to.
-#[derive(Drop)]
+#[derive(Debug, Drop)]
 pub enum RangeOutcome<'a> {
     /// The reply has the shape that servers send: its entries where they stand.
     InPlace(RangeRef<'a>),
@@ -25,7 +25,7 @@ pub enum RangeOutcome<'a> {
 }
 
 /// What reading the streams of a reply comes to.
-#[derive(Drop)]
+#[derive(Debug, Drop)]
 pub enum ReadOutcome<'a> {
     /// The reply has the shape that servers send: its streams where they stand.
     InPlace(ReadRef<'a>),

@@ -9,11 +9,13 @@ use crate::entry_list::{EntriesRef, entries_at};
 use crate::places::{EntryPlace, FieldPlace, StreamPlace};
 use crate::rows::text_in;
 use std::alloc::{AllocError, Global};
+use std::fmt;
+use std::iter::ExactSizeIterator;
 use std::marker::Model;
 use stream_entries::{StreamKey, StreamReadReply};
 
 /// A stream, where it stands.
-#[derive(Drop)]
+#[derive(Debug, Drop)]
 pub struct StreamRef<'a> {
     name: &'a str,
     entries: EntriesRef<'a>,
@@ -160,6 +162,18 @@ impl<'a> Iterator for StreamsRef<'a> {
     }
 }
 
+impl<'a> ExactSizeIterator for StreamsRef<'a> {
+    fn len(&self) -> usize {
+        self.places.len()
+    }
+}
+
+impl<'a> fmt::Debug for StreamsRef<'a> {
+    fn fmt<W: fmt::Write>(&self, f: &mut fmt::Formatter<W>) -> fmt::Result {
+        f.debug_list().entries(self.again()).finish()
+    }
+}
+
 /// The streams that stand there.
 pub fn streams_at<'a>(
     bytes: &'a [u8],
@@ -181,7 +195,7 @@ pub fn streams_at<'a>(
 }
 
 /// The streams of a read, where they stand, and how many bytes the reply has.
-#[derive(Drop)]
+#[derive(Debug, Drop)]
 pub struct ReadRef<'a> {
     /// The streams, in order.
     pub streams: StreamsRef<'a>,
