@@ -8,6 +8,8 @@
 #[cfg(test)]
 mod depth;
 #[cfg(test)]
+mod in_place;
+#[cfg(test)]
 mod memory;
 #[cfg(test)]
 mod moved;
