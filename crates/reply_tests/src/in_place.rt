@@ -40,7 +40,10 @@ const FRONTS: [(&[u8], Option<Fault>); 12] = [
     (b">2\r\n+kind\r\n", None),
     (b"?", Some(Fault::UnknownType)),
     (b"*2\r\n:x\r\n", Some(Fault::BadNumber)),
-    (b"*6\r\n:1\r\n:2\r\n:3\r\n:4\r\n:5\r\n", Some(Fault::TooMany)),
+    (
+        b"*6\r\n:1\r\n:2\r\n:3\r\n:4\r\n:5\r\n",
+        Some(Fault::TooMany),
+    ),
     (b"*1\r\n*1\r\n*1\r\n*1\r\n:1\r\n", Some(Fault::TooDeep)),
     (b"$1\r\nab\r\n", Some(Fault::BadEnd)),
     (b"*1001\r\n", Some(Fault::TooLong)),
@@ -123,7 +126,7 @@ fn a_reply_stands_until_it_is_given_out(rt: HostRuntime) -> Result<(), Fail> {
     }
     stream.give_out(5);
     assert!(rt; stream.next_in_place(rt.alloc()) == Ok(Some(5)));
-    assert!(rt; stream.bytes() == b":12\r\n+");
+    assert!(rt; stream.bytes() == b":12\r\n+".as_slice());
     stream.give_out(5);
     assert!(rt; stream.next_in_place(rt.alloc()) == Ok(None));
     stream.give_out(100);

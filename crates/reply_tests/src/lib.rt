@@ -14,6 +14,8 @@ mod memory;
 #[cfg(test)]
 mod moved;
 #[cfg(test)]
+mod nodes;
+#[cfg(test)]
 mod notation;
 #[cfg(test)]
 mod readings;
