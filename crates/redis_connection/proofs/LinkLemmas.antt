@@ -1,13 +1,14 @@
 -- Lemmas on what comes in and is held.
-use Rattle.std.proofs.Common.{◌≡◌, ◌+◌, ◌<◌, inl, inr, ℕ, List, [], ◌++◌, length, take, Option, Some, None, Result, Ok}
-use Rattle.std.proofs.Common.{Err, IfOk, OnErr, refl, sym, ◌∙◌, ap, subst, arith, append_assoc, append-nil}
+use Rattle.std.proofs.Common.{◌≡◌, ◌+◌, ◌-◌, ◌<◌, ◌≤◌, inl, inr, ℕ, List, [], ◌++◌, length, take, drop, Option, Some, None}
+use Rattle.std.proofs.Common.{Result, Ok, Err, IfOk, OnErr, refl, sym, ◌∙◌, ap, subst, arith, append_assoc, append-nil}
 use Rattle.std.proofs.KnownBytes.{Consumes-nil, Consumes-trans, Consumes-kept}
 use Rattle.std.proofs.Math.Seq.{take-append_seam}
-use Rattle.std.proofs.lemmas.List.{length-append}
+use Rattle.std.proofs.lemmas.List.{length-append, length-drop, take-append-drop, take-append-le, drop-append-le}
+use Rattle.std.proofs.lemmas.Grind.{common_steps}
 use Rattle.std.specs.Io.KnownBytes.{Consumes, Keeps, IsAtEnd}
 use Rattle.redis_wire.specs.Decoded.{NoReply, IsFirstFault}
 use Rattle.redis_wire.specs.Grammar.{IsReply}
-use Rattle.redis_wire.specs.Next.{Held, NextIs, IsRefused}
+use Rattle.redis_wire.specs.Next.{Held, NextIs, LenIs, IsRefused}
 use Rattle.redis_wire.specs.Reply.{Answer, answer}
 use Rattle.redis_wire.specs.declared.fault.Fault.{Fault}
 use Rattle.redis_wire.specs.declared.fault.Fault.TheVariants.{Overfull}
@@ -15,7 +16,7 @@ use Rattle.redis_wire.specs.declared.fault.WireError.{WireError}
 use Rattle.redis_wire.specs.declared.fault.WireError.TheVariants as wire_errors
 use Rattle.redis_wire.specs.declared.reply.Reply.{Reply}
 use Rattle.redis_connection.specs.Cause.{failure_of}
-use Rattle.redis_connection.specs.Link.{Link, TakesIn, Waits, Receives, IsFaulty, IsEnded}
+use Rattle.redis_connection.specs.Link.{Link, TakesIn, Waits, Receives, Stands, IsInPlace, GivesOut, IsFaulty, IsEnded}
 use Rattle.redis_connection.specs.Seen.{seen}
 use Rattle.redis_connection.specs.declared.error.ConnectionError.{ConnectionError}
 use Rattle.redis_connection.specs.declared.error.ConnectionError.TheVariants as errors
@@ -28,6 +29,18 @@ waits_start link = (
     bytes = sym (append-nil link.held.bytes);
     limits = refl;
     written = refl;
+  },
+)
+
+-- more came in behind what had
+pub waits_on : (a b c : Link) → Waits a b → Waits b c → Waits a c
+waits_on a b c p q = (
+  p.0 ++ q.0,
+  record {
+    consumes = Consumes-trans a.coming b.coming c.coming p.0 q.0 p.1.consumes q.1.consumes;
+    bytes = q.1.bytes ∙ ap (λ bs. bs ++ q.0) p.1.bytes ∙ append_assoc a.held.bytes p.0 q.0;
+    limits = q.1.limits ∙ p.1.limits;
+    written = q.1.written ∙ p.1.written;
   },
 )
 
@@ -56,6 +69,23 @@ module _ (old : Link) (coming : Option (List ℕ)) (h : Held) (piece : List ℕ)
     limits = ap (λ (x : Held). x.limits) n.4 ∙ w.1.limits;
     written = w.1.written;
   }
+
+  -- a reply stands at the head of what the stream holds
+  stands_here : (len : ℕ) (a : Answer) → len ≤ length h.bytes → IsReply h.limits (take len h.bytes) a
+      → Stands old (seen None coming h piece unfed) len a
+  stands_here len a le r = record {
+    taken = w.0;
+    takes = w.1;
+    within = le;
+    whole = omega (arith, le, length-append h.bytes (take unfed piece));
+    reply = subst (λ l. IsReply l (take len (h.bytes ++ take unfed piece)) a) w.1.limits
+        (subst (λ t. IsReply h.limits t a) (sym (take-append-le len h.bytes (take unfed piece) le)) r);
+  }
+
+  pub reply_stands : (h' : Held) (len : ℕ) → h' ≡ h → LenIs h.limits h.bytes (Ok (Some len))
+      → IsInPlace old (seen None coming h' piece unfed) len
+  reply_stands h' len is r = subst (λ (x : Held). IsInPlace old (seen None coming x piece unfed) len) (sym is)
+      (r.1.0, stands_here len r.1.0 r.0 r.1.1)
 
   -- nothing of the piece was left, and more was read
   pub read_more : (coming' : Option (List ℕ)) (piece' : List ℕ) (len : ℕ) → unfed ≡ 0
@@ -109,6 +139,12 @@ faulty_next coming h h' piece unfed (wire_errors.Fault f) n =
       ),
     ))
 
+pub faulty_len : (coming : Option (List ℕ)) (h h' : Held) (piece : List ℕ) (unfed : ℕ) (e : WireError) → h' ≡ h
+    → LenIs h.limits h.bytes (Err e) → IsFaulty (seen None coming h' piece unfed).held (failure_of e)
+faulty_len coming h h' piece unfed wire_errors.Memory same r = tt
+faulty_len coming h h' piece unfed (wire_errors.Fault f) same r =
+    faulty_next coming h h' piece unfed (wire_errors.Fault f) (same, r.0, r.1)
+
 pub ended_never : (link : Link) (e : WireError) → IsEnded link (failure_of e)
 ended_never link wire_errors.Memory = tt
 ended_never link (wire_errors.Fault f) = tt
@@ -127,6 +163,52 @@ faulty_feed coming h h' piece unfed (wire_errors.Fault f) same (inr full) =
     subst (λ (x : Held). IsFaulty (seen None coming x piece unfed).held (errors.Fault f)) (sym same)
     (inr (is, omega (arith, full.1, length-append h.bytes (take unfed piece))))
 
+-- ---- bytes that are given out
+
+pub gives_out : (written coming : Option (List ℕ)) (h : Held) (piece : List ℕ) (unfed len : ℕ)
+    → GivesOut (seen written coming h piece unfed)
+    (seen written coming (record h { bytes = drop len h.bytes }) piece unfed) len
+gives_out written coming h piece unfed len =
+    let given = length h.bytes - length (drop len h.bytes) in
+    let le : given ≤ length h.bytes = omega arith in
+    let is : given ≡ length h.bytes - (length h.bytes - len) = ap (λ n. length h.bytes - n) (length-drop len h.bytes) in
+    let same : drop (length h.bytes - (length h.bytes - len)) h.bytes ≡ drop len h.bytes = grind (arith, common_steps) in
+    record {
+      in_place = length-drop len h.bytes;
+      bytes = ap (λ b. b ++ take unfed piece) (sym same ∙ ap (λ n. drop n h.bytes) (sym is))
+          ∙ sym (drop-append-le given h.bytes (take unfed piece) le);
+      limits = refl;
+      coming = refl;
+      written = refl;
+    }
+
+-- the reply that stood there in place was received
+given_received : (old new : Link) (len : ℕ) → GivesOut old new len → (before : Link) (a : Answer)
+    → Stands before old len a → Receives before new a
+given_received old new len g before a s =
+    let n : old.in_place - new.in_place ≡ len = omega (arith, g.in_place, s.within) in
+    record {
+      taken = s.taken;
+      text = take len old.held.bytes;
+      consumes = subst (λ c. Consumes before.coming c s.taken) (sym g.coming) s.takes.consumes;
+      bytes = sym s.takes.bytes ∙ sym (take-append-drop len old.held.bytes)
+          ∙ ap (λ b. take len old.held.bytes ++ b) (ap (λ k. drop k old.held.bytes) (sym n) ∙ sym g.bytes);
+      reply = s.reply;
+      limits = g.limits ∙ s.takes.limits;
+      written = g.written ∙ s.takes.written;
+    }
+
+pub reply_given_out : (written coming : Option (List ℕ)) (h h' : Held) (piece : List ℕ) (unfed len : ℕ) (old : Link)
+    → seen written coming h piece unfed ≡ old → h' ≡ record h { bytes = drop len h.bytes } → (before : Link) (a : Answer)
+    → Stands before old len a → Receives before (seen written coming h' piece unfed) a
+reply_given_out written coming h h' piece unfed len old is given before a s =
+    let new = seen written coming h' piece unfed in
+    let g : GivesOut old new len =
+    subst (λ l. GivesOut l new len) is
+    (subst (λ (x : Held). GivesOut (seen written coming h piece unfed) (seen written coming x piece unfed) len)
+    (sym given) (gives_out written coming h piece unfed len)) in
+    given_received old new len g before a s
+
 -- ---- a connection with a writer, of which nothing went out
 
 module _ (written : Option (List ℕ)) (coming coming' : Option (List ℕ)) (h h' : Held) (piece piece' : List ℕ)
@@ -143,6 +225,30 @@ module _ (written : Option (List ℕ)) (coming coming' : Option (List ℕ)) (h h
         limits = r.limits;
         written = refl;
       })
+
+  stood_one : (len : ℕ) → IsInPlace (seen None coming h piece unfed) (seen None coming' h' piece' unfed') len
+      → IsInPlace old (seen written coming' h' piece' unfed') len
+  stood_one len s = subst (λ (l : Link). IsInPlace l (seen written coming' h' piece' unfed') len) is (
+    s.0,
+    record {
+      taken = s.1.taken;
+      takes = record {
+        consumes = s.1.takes.consumes;
+        bytes = s.1.takes.bytes;
+        limits = s.1.takes.limits;
+        written = refl;
+      };
+      within = s.1.within;
+      whole = s.1.whole;
+      reply = s.1.reply;
+    },
+  )
+
+  pub stood : {E : Type 0} (r : Result ℕ E)
+      → IfOk r (IsInPlace (seen None coming h piece unfed) (seen None coming' h' piece' unfed'))
+      → IfOk r (IsInPlace old (seen written coming' h' piece' unfed'))
+  stood (Ok len) p = stood_one len p
+  stood (Err e) p = tt
 
   pub received : {E : Type 0} (r : Result Reply E)
       → IfOk r (λ reply. Receives (seen None coming h piece unfed) (seen None coming' h' piece' unfed') (answer reply))

@@ -1,5 +1,5 @@
 -- What goes over a connection.
-use Rattle.std.specs.Prelude.{◌≡◌, ◌<◌, ◌⊎◌, ℕ, List, ◌++◌, take, length, Option}
+use Rattle.std.specs.Prelude.{◌≡◌, ◌<◌, ◌≤◌, ◌-◌, ◌⊎◌, ℕ, List, ◌++◌, take, drop, length, Option}
 use Rattle.std.specs.Io.KnownBytes.{Appends, Consumes, IsAtEnd}
 use Rattle.redis_wire.specs.Decoded.{NoReply, IsFirstFault}
 use Rattle.redis_wire.specs.Grammar.{IsReply}
@@ -10,18 +10,20 @@ use Rattle.redis_wire.specs.declared.fault.WireError.TheVariants as wire_errors
 use Rattle.redis_connection.specs.declared.error.ConnectionError.{ConnectionError}
 use Rattle.redis_connection.specs.declared.error.ConnectionError.TheVariants as errors
 
--- a connection: what its writer holds and what its reader has left, each where that is known, and the
--- limits and the bytes that came in and were not given out
+-- a connection: what its writer holds and what its reader has left, each where that is known, the
+-- limits and the bytes that came in and were not given out, and how many of these may be read in place
 pub record Link : Type 0 where
   pub written : Option (List ℕ)
   pub coming : Option (List ℕ)
   pub held : Held
+  pub in_place : ℕ
 
 -- these bytes went out, and nothing else happened
 pub record Sends (old new : Link) (bytes : List ℕ) : Type 0 where
   pub appends : Appends old.written new.written bytes
   pub coming : new.coming ≡ old.coming
   pub held : new.held ≡ old.held
+  pub in_place : new.in_place ≡ old.in_place
 
 -- some front of these bytes went out, and nothing else happened
 abbrev pub SendsFront : Link → Link → List ℕ → Type 0
@@ -46,6 +48,27 @@ pub record Receives (old new : Link) (a : Answer) : Type 0 where
   pub bytes : old.held.bytes ++ taken ≡ text ++ new.held.bytes
   pub reply : IsReply old.held.limits text a
   pub limits : new.held.limits ≡ old.held.limits
+  pub written : new.written ≡ old.written
+
+-- bytes came in, and so many at the head of what is held then may be read in place and are the reply that
+-- says this; nothing was given out
+pub record Stands (old new : Link) (len : ℕ) (a : Answer) : Type 0 where
+  pub taken : List ℕ
+  pub takes : TakesIn old new taken
+  pub within : len ≤ new.in_place
+  pub whole : len ≤ length new.held.bytes
+  pub reply : IsReply old.held.limits (take len new.held.bytes) a
+
+-- bytes came in, and so many at the head of what is held then are a reply
+abbrev pub IsInPlace : Link → Link → ℕ → Type 0
+IsInPlace old new len = (a : Answer) × Stands old new len a
+
+-- so many bytes were given out, or as many as may be read in place, and nothing else happened
+pub record GivesOut (old new : Link) (len : ℕ) : Type 0 where
+  pub in_place : new.in_place ≡ old.in_place - len
+  pub bytes : new.held.bytes ≡ drop (old.in_place - new.in_place) old.held.bytes
+  pub limits : new.held.limits ≡ old.held.limits
+  pub coming : new.coming ≡ old.coming
   pub written : new.written ≡ old.written
 
 -- no reply will ever stand at the head of what is held, and this is the fault that reading some front

@@ -1,12 +1,14 @@
 -- A connection's fields, as a contract sees them.
-use Rattle.std.specs.Prelude.{ℕ, List, ◌++◌, take, Option}
+use Rattle.std.specs.Prelude.{ℕ, List, ◌++◌, take, length, Option}
 use Rattle.redis_wire.specs.Next.{Held}
 use Rattle.redis_connection.specs.Link.{Link}
 
--- the first `unfed` bytes of the piece came in, and stand behind those that the stream holds
+-- the first `unfed` bytes of the piece came in, and stand behind those that the stream holds, which may
+-- be read in place
 abbrev pub seen : Option (List ℕ) → Option (List ℕ) → Held → List ℕ → ℕ → Link
 seen written coming held piece unfed = record {
   written = written;
   coming = coming;
   held = record { limits = held.limits; bytes = held.bytes ++ take unfed piece };
+  in_place = length held.bytes;
 }

@@ -1,13 +1,13 @@
 //! A connection over a reader and a writer.
-ghost use Rattle.std.specs.Prelude.{◌≡◌, ◌≢◌, ◌↔◌, Err, [], ℕ, IfOk, OnOk, OnErr, IfErr};
+ghost use Rattle.std.specs.Prelude.{◌≡◌, ◌≢◌, ◌↔◌, ◌≤◌, Err, [], ℕ, take, IfOk, OnOk, OnErr, IfErr};
 ghost use Rattle.redis_wire.specs.Packed.{command_bytes};
 ghost use Rattle.redis_wire.specs.PackedArgs.{IsTooLarge};
-ghost use Rattle.redis_wire.specs.Reply.{answer};
+ghost use Rattle.redis_wire.specs.Reply.{Answer, answer};
 ghost use Rattle.redis_connection.specs.Ask.{Asks, HasNoAnswer};
-ghost use Rattle.redis_connection.specs.Link.{IsEnded, IsFaulty, Receives, Sends, SendsFront, Waits};
+ghost use Rattle.redis_connection.specs.Link.{Link, IsEnded, IsFaulty, IsInPlace, GivesOut, Receives, Sends, SendsFront, Stands, Waits};
 
 use crate::error::{AskError, ConnectionError};
-use crate::incoming::receive_from;
+use crate::incoming::{receive_from, receive_in_place_from};
 use crate::outgoing::write_out;
 use redis_resp::{FromRedisValue, ToRedisArgs};
 use redis_wire::{Limits, Reply, ReplyStream, from_reply, pack_command};
@@ -56,6 +56,7 @@ impl<R: Read + Drop, W: Write + Drop> Connection<R, W> {
           written = W.contents writer;
           coming = R.remaining reader;
           held = record { limits = limits; bytes = [] };
+          in_place = 0;
         }) }
     {
         Ok(Connection {
@@ -115,6 +116,44 @@ impl<R: Read + Drop, W: Write + Drop> Connection<R, W> {
         )
     }
 
+    /// Receives the next reply in place, without building it: how many bytes it has at the head of what
+    /// came in. `received` shows them, and `give_out` gives them out; before that the same reply is
+    /// received again. An `Err` is one that `receive` has.
+    pub fn receive_in_place(&mut self, alloc: Global) -> Result<usize, ConnectionError>
+        ensures ok { IfOk result (IsInPlace self.old self.new) }
+        ensures err { OnErr result (Waits self.old self.new) }
+        ensures ended { IfErr result (IsEnded self.new) }
+        ensures faulty { IfErr result (IsFaulty self.new.held) }
+    {
+        receive_in_place_from(
+            alloc,
+            &mut self.reader,
+            &mut self.replies,
+            self.piece.as_mut_slice(),
+            &mut self.unfed,
+        )
+    }
+
+    /// The first `len` bytes that came in, or as many of them as may be read in place. Those of a reply
+    /// that was received in place may.
+    pub fn received(&self, len: usize) -> &[u8]
+        ensures within { len ≤ self.now.in_place → result.now ≡ take len self.now.held.bytes }
+        ensures all { self.now.in_place ≤ len
+            → result.now ≡ take self.now.in_place self.now.held.bytes }
+    {
+        front_of(self.replies.bytes(), len)
+    }
+
+    /// Gives out the first `len` bytes that came in, or as many of them as may be read in place. Where
+    /// they are the reply that `receive_in_place` found, that reply was received.
+    pub fn give_out(&mut self, len: usize)
+        ensures gives { GivesOut self.old self.new len }
+        ensures receives { (before : Link) (a : Answer) → Stands before self.old len a
+            → Receives before self.new a }
+    {
+        self.replies.give_out(len);
+    }
+
     /// Sends a command, and reads its answer as an `M`. Where the command has no arguments, nothing
     /// is sent or received, and an `Err` says so: `ConnectionError::NoArguments`.
     pub fn ask_as<M: FromRedisValue, T: ToRedisArgs>(
@@ -132,5 +171,15 @@ impl<R: Read + Drop, W: Write + Drop> Connection<R, W> {
         self.send(alloc, command)?;
         let reply = self.receive(alloc)?;
         Ok(from_reply::<M>(alloc, reply)?)
+    }
+}
+
+/// The first `len` bytes, or all where there are fewer.
+fn front_of(bytes: &[u8], len: usize) -> &[u8]
+    ensures { result.now ≡ take len bytes.now }
+{
+    match bytes.split_at_checked(len) {
+        Some((front, _)) => front,
+        None => bytes,
     }
 }

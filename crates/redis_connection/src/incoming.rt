@@ -3,7 +3,8 @@ ghost use Rattle.std.specs.Prelude.{◌≡◌, ◌≤◌, ◌<◌, ℕ, None, So
 ghost use Rattle.std.specs.Io.{ReadsAtMost};
 ghost use Rattle.std.specs.Io.KnownBytes.{ReadConsumes};
 ghost use Rattle.redis_wire.specs.Reply.{answer};
-ghost use Rattle.redis_connection.specs.Link.{IsEnded, IsFaulty, Receives, Waits};
+ghost use Rattle.redis_wire.specs.Decoded.{NoReply};
+ghost use Rattle.redis_connection.specs.Link.{IsEnded, IsFaulty, IsInPlace, Receives, Waits};
 ghost use Rattle.redis_connection.specs.Seen.{seen};
 
 use crate::error::ConnectionError;
@@ -28,6 +29,39 @@ fn read_once<R: Read>(reader: &mut R, piece: &mut [u8]) -> io::Result<usize>
         }
     }
     Err(io::Error::from(ErrorKind::TimedOut))
+}
+
+/// Takes more in, where no reply is held: the bytes of `piece` that are left, or else what the reader
+/// gives.
+fn take_in<R: Read>(
+    reader: &mut R,
+    replies: &mut ReplyStream,
+    piece: &mut [u8],
+    unfed: &mut usize,
+) -> Result<(), ConnectionError>
+    requires room { 0 < length piece.old }
+    requires within { unfed.old ≤ length piece.old }
+    requires none { NoReply replies.old.limits replies.old.bytes }
+    ensures within { unfed.new ≤ length piece.new }
+    ensures room { 0 < length piece.new }
+    ensures waits { Waits
+        (seen None (R.remaining reader.old) replies.old piece.old unfed.old)
+        (seen None (R.remaining reader.new) replies.new piece.new unfed.new) }
+    ensures ended { IfErr result
+        (IsEnded (seen None (R.remaining reader.new) replies.new piece.new unfed.new)) }
+    ensures faulty { IfErr result
+        (IsFaulty (seen None (R.remaining reader.new) replies.new piece.new unfed.new).held) }
+{
+    if *unfed == 0 {
+        match read_once(reader, piece) {
+            Ok(0) => return Err(ConnectionError::Closed),
+            Ok(len) => *unfed = len,
+            Err(error) => return Err(ConnectionError::Read(error)),
+        }
+    }
+    replies.feed(&piece[..*unfed])?;
+    *unfed = 0;
+    Ok(())
 }
 
 /// The next reply. The first `unfed` bytes of `piece` came in and stand behind those of `replies`;
@@ -57,15 +91,38 @@ pub fn receive_from<R: Read>(
         if let Some(reply) = replies.next(alloc)? {
             return Ok(reply);
         }
-        if *unfed == 0 {
-            match read_once(reader, piece) {
-                Ok(0) => return Err(ConnectionError::Closed),
-                Ok(len) => *unfed = len,
-                Err(error) => return Err(ConnectionError::Read(error)),
-            }
+        take_in(reader, replies, piece, unfed)?;
+    }
+    Err(ConnectionError::Read(io::Error::from(ErrorKind::TimedOut)))
+}
+
+/// How many bytes the next reply has at the head of what `replies` holds.
+pub fn receive_in_place_from<R: Read>(
+    alloc: Global,
+    reader: &mut R,
+    replies: &mut ReplyStream,
+    piece: &mut [u8],
+    unfed: &mut usize,
+) -> Result<usize, ConnectionError>
+    requires room { 0 < length piece.old }
+    requires within { unfed.old ≤ length piece.old }
+    ensures within { unfed.new ≤ length piece.new }
+    ensures ok { IfOk result (IsInPlace
+        (seen None (R.remaining reader.old) replies.old piece.old unfed.old)
+        (seen None (R.remaining reader.new) replies.new piece.new unfed.new)) }
+    ensures err { OnErr result (Waits
+        (seen None (R.remaining reader.old) replies.old piece.old unfed.old)
+        (seen None (R.remaining reader.new) replies.new piece.new unfed.new)) }
+    ensures ended { IfErr result
+        (IsEnded (seen None (R.remaining reader.new) replies.new piece.new unfed.new)) }
+    ensures faulty { IfErr result
+        (IsFaulty (seen None (R.remaining reader.new) replies.new piece.new unfed.new).held) }
+{
+    for _turn in 0..u64::MAX {
+        if let Some(len) = replies.next_in_place(alloc)? {
+            return Ok(len);
         }
-        replies.feed(&piece[..*unfed])?;
-        *unfed = 0;
+        take_in(reader, replies, piece, unfed)?;
     }
     Err(ConnectionError::Read(io::Error::from(ErrorKind::TimedOut)))
 }

@@ -118,6 +118,45 @@ fn replies_come_in_any_pieces(rt: HostRuntime) -> Result<(), Fail> {
     Ok(())
 }
 
+// Replies in place and replies that are built take turns, in any pieces.
+#[test]
+fn replies_are_received_in_place(rt: HostRuntime) -> Result<(), Fail> {
+    let alloc = rt.alloc();
+    for most in [1usize, 2, 3, 7, 100] {
+        let turns = vec![in alloc; Turn::Moves(most); 60]?;
+        let input = source_of(alloc, REPLIES, turns.as_slice())?;
+        let mut sent = Vec::new(alloc);
+        let mut link = Connection::new(alloc, input, &mut sent, Limits::default())?;
+        link.send(alloc, &("GET", "k"))?;
+        for _again in 0..2u8 {
+            let len = link.receive_in_place(alloc)?;
+            assert_eq!(rt; link.received(len), b"$5\r\nhello\r\n".as_slice());
+        }
+        link.give_out(11);
+        let _number = link.receive(alloc)?;
+        let len = link.receive_in_place(alloc)?;
+        assert_eq!(rt;
+            link.received(len),
+            b"-NOGROUP no such group\r\n".as_slice()
+        );
+        link.give_out(len);
+        let len = link.receive_in_place(alloc)?;
+        assert_eq!(rt; len, 5);
+        assert_eq!(rt; link.received(100), b"+OK\r\n".as_slice());
+        link.give_out(100);
+        match link.receive_in_place(alloc) {
+            Err(ConnectionError::Closed) => {}
+            _ => return Err("not closed".into()),
+        }
+        drop(link);
+        assert_eq!(rt;
+            sent.as_slice(),
+            b"*2\r\n$3\r\nGET\r\n$1\r\nk\r\n".as_slice()
+        );
+    }
+    Ok(())
+}
+
 // A reader that fails in the middle of a reply loses nothing: the next call goes on there.
 #[test]
 fn a_reader_that_fails_loses_nothing(rt: HostRuntime) -> Result<(), Fail> {
@@ -187,6 +226,10 @@ fn other_bytes_than_replies_are_faults(rt: HostRuntime) -> Result<(), Fail> {
         match link.receive(alloc) {
             Err(ConnectionError::Fault(_fault)) => {}
             _ => return Err("no fault".into()),
+        }
+        match link.receive_in_place(alloc) {
+            Err(ConnectionError::Fault(_fault)) => {}
+            _ => return Err("no fault in place".into()),
         }
     }
     Ok(())

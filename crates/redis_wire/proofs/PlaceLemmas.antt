@@ -19,21 +19,21 @@ use Rattle.redis_wire.proofs.ItemLemmas.{fits_end}
 use Rattle.redis_wire.proofs.LevelLemmas.{bulk_is, one_level}
 
 -- the end of bytes is what stands behind as many as come before it
-end_is : (bytes left : List ℕ) → IsEnd left bytes → left ≡ drop (length bytes - length left) bytes
+pub end_is : (bytes left : List ℕ) → IsEnd left bytes → left ≡ drop (length bytes - length left) bytes
 end_is bytes left e =
     let n : length bytes - length left ≡ length e.done = omega (arith, ap length e.is, length-append e.done left) in
     rw n (sym (ap (drop (length e.done)) e.is ∙ drop_at e.done left (length e.done) refl))
 
-end_within : (bytes left : List ℕ) → IsEnd left bytes → length left ≤ length bytes
+pub end_within : (bytes left : List ℕ) → IsEnd left bytes → length left ≤ length bytes
 end_within bytes left e = omega (arith, ap length e.is, length-append e.done left)
 
-end_of_end : (bytes left more : List ℕ) → IsEnd left bytes → IsEnd more left → IsEnd more bytes
+pub end_of_end : (bytes left more : List ℕ) → IsEnd left bytes → IsEnd more left → IsEnd more bytes
 end_of_end bytes left more e f = record {
   done = e.done ++ f.done;
   is = e.is ∙ ap (λ (xs : List ℕ). e.done ++ xs) f.is ∙ sym (append_assoc e.done f.done more);
 }
 
-end_of_drop : (n : ℕ) (bytes : List ℕ) → IsEnd (drop n bytes) bytes
+pub end_of_drop : (n : ℕ) (bytes : List ℕ) → IsEnd (drop n bytes) bytes
 end_of_drop n bytes = record { done = take n bytes; is = sym (take-append-drop n bytes) }
 
 end_behind : (at b : ℕ) (bytes behind left : List ℕ) → drop at bytes ≡ b ∷ behind → IsEnd left behind → IsEnd left bytes

@@ -20,7 +20,12 @@ pub struct Span {
 /// The length on the line behind the first byte of a value, or None for -1, and how many bytes end
 /// with the line, where the value behind `at` bytes has that first byte.
 #[inline(always)]
-fn head_at(limits: Limits, bytes: &[u8], at: usize, first: u8) -> Option<(Option<u32>, usize)>
+pub(crate) fn head_at(
+    limits: Limits,
+    bytes: &[u8],
+    at: usize,
+    first: u8,
+) -> Option<(Option<u32>, usize)>
     requires { at ≤ length bytes.now }
     ensures { IfSome result (λ x. IsHeadAt limits bytes.now at first x.0 x.1) }
 {
@@ -37,7 +42,12 @@ fn head_at(limits: Limits, bytes: &[u8], at: usize, first: u8) -> Option<(Option
 
 /// The line behind the first byte of a value, and how many bytes end with it, where the value behind
 /// `at` bytes has that first byte.
-fn line_behind(limits: Limits, bytes: &[u8], at: usize, first: u8) -> Option<(&[u8], usize)>
+pub(crate) fn line_behind(
+    limits: Limits,
+    bytes: &[u8],
+    at: usize,
+    first: u8,
+) -> Option<(&[u8], usize)>
     requires { at ≤ length bytes.now }
     ensures { IfSome result (λ x. IsLineAt limits bytes.now at first x.0.now x.1) }
 {

@@ -8,9 +8,13 @@
 #[cfg(test)]
 mod depth;
 #[cfg(test)]
+mod in_place;
+#[cfg(test)]
 mod memory;
 #[cfg(test)]
 mod moved;
+#[cfg(test)]
+mod nodes;
 #[cfg(test)]
 mod notation;
 #[cfg(test)]

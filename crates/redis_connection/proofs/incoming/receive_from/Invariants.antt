@@ -1,4 +1,4 @@
-use Rattle.std.proofs.Common.{◌≤◌, length, None}
+use Rattle.std.proofs.Common.{◌≤◌, ◌<◌, length, None}
 use Rattle.redis_connection.specs.Link.{Waits}
 use Rattle.redis_connection.specs.Seen.{seen}
 use Rattle.redis_connection.proofs.incoming.receive_from.Given as goal
@@ -7,6 +7,7 @@ use Rattle.redis_connection.proofs.incoming.receive_from.Given as goal
 abbrev pub invariant-loop-turn : goal.invariant-loop-turn
 invariant-loop-turn g l = record {
   within : l.unfed ≤ length l.piece;
+  room : 0 < length l.piece;
   waits : Waits (seen None (g.R.Read.remaining l.fn.reader) l.fn.replies l.fn.piece l.fn.unfed)
       (seen None (g.R.Read.remaining l.reader) l.replies l.piece l.unfed);
 }

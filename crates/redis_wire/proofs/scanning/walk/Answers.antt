@@ -1,7 +1,8 @@
 use Rattle.std.proofs.Common.{rules, ◌≡◌, ◌≤◌, ◌+◌, ◌++◌, ◌∷◌, [], suc, length, arith}
 use Rattle.redis_wire.specs.Reading.{bad}
 use Rattle.redis_wire.proofs.BoundedLemmas.{item_shorter}
-use Rattle.redis_wire.proofs.ScanLemmas.{walk_out, walk_ends, walk_over, walk_deep, walk_stops}
+use Rattle.redis_wire.proofs.ItemLemmas.{end_le}
+use Rattle.redis_wire.proofs.ScanLemmas.{walk_out, walk_whole, walk_over, walk_deep, walk_stops}
 use Rattle.redis_wire.proofs.scanning.walk.Goals as goal
 
 pub loop-inner-preserved-then-inner-eq0 : goal.loop-inner-preserved-then-inner-eq0
@@ -13,7 +14,7 @@ loop-inner-preserved-then-inner-eq0 c =
 pub returns-in_default-clause-is : goal.returns-in_default-clause-is
 returns-in_default-clause-is c =
     let empty : length c.loop-inner.outer.items ≡ 0 = search rules in
-    walk_ends c.args.limits c.loop-inner.count c.loop-inner.inner c.loop-inner.outer.items c.args.bytes.now
+    walk_whole c.args.limits c.loop-inner.count c.loop-inner.inner c.loop-inner.outer.items c.args.bytes.now
     c.loop-inner.rest.now c.loop-inner.invariant c.if-inner-eq0.true empty
 
 pub returns-then-count-limits-clause-is : goal.returns-then-count-limits-clause-is
@@ -46,3 +47,6 @@ returns-in-Err-Fault-clause-is c =
     c.loop-inner.rest.now c.loop-inner.invariant (omega (arith, c.if-count-limits.false))
     (omega (arith, c.if-inner-eq0-2.false)) (omega (arith, c.if-inner-eq0.false)) (bad c.in-Err-Fault.field-0-0)
     (rw c.in-Err-Fault.field-0-is at c.in-Err-Fault.ensures)
+
+pub overflow_sub-result : goal.overflow_sub-result
+overflow_sub-result c = end_le c.loop-inner.rest.now c.args.bytes.now c.loop-inner.invariant.end

@@ -1,0 +1,13 @@
+use Rattle.std.proofs.Common.{◌≤◌, ◌<◌, length, None}
+use Rattle.redis_connection.specs.Link.{Waits}
+use Rattle.redis_connection.specs.Seen.{seen}
+use Rattle.redis_connection.proofs.incoming.receive_in_place_from.Given as goal
+
+-- what came in so far is held, and nothing was given out
+abbrev pub invariant-loop-turn : goal.invariant-loop-turn
+invariant-loop-turn g l = record {
+  within : l.unfed ≤ length l.piece;
+  room : 0 < length l.piece;
+  waits : Waits (seen None (g.R.Read.remaining l.fn.reader) l.fn.replies l.fn.piece l.fn.unfed)
+      (seen None (g.R.Read.remaining l.reader) l.replies l.piece l.unfed);
+}

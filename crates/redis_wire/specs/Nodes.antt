@@ -1,0 +1,105 @@
+-- Any reply in place, as a flat list of its values: each of them in front of its members.
+use Rattle.std.specs.Prelude.{◌≡◌, ◌≤◌, ◌+◌, ◌⊎◌, ℕ, zero, suc, List, [], ◌∷◌, length, take, drop, Option, Some, None}
+use Rattle.std.specs.Prelude.{Result, Ok, Err}
+use Rattle.redis_wire.specs.declared.limits.Limits.{Limits}
+use Rattle.redis_wire.specs.declared.kind.Kind.{Kind}
+use Rattle.redis_wire.specs.declared.kind.Kind.TheVariants as kinds
+use Rattle.redis_wire.specs.declared.kind.GroupKind.{GroupKind}
+use Rattle.redis_wire.specs.declared.fault.WireError.{WireError}
+use Rattle.redis_wire.specs.declared.nodes.Node.{Node}
+use Rattle.redis_wire.specs.declared.nodes.Found.{Found}
+use Rattle.redis_wire.specs.declared.nodes.Found.TheVariants.{Whole, NoRoom, Incomplete}
+use Rattle.redis_wire.specs.Kind.{kind_of}
+use Rattle.redis_wire.specs.Reading.{blob_at}
+use Rattle.redis_wire.specs.Group.{member_count}
+use Rattle.redis_wire.specs.Next.{LenIs}
+use Rattle.redis_wire.specs.Place.{IsHeadAt, IsLineAt, IsSpan, text_in}
+
+-- a null, whose length is -1
+abbrev pub IsNull : Node → Type 0
+IsNull node = (node.kind ≡ 95) × (node.text.len ≡ 0) × (node.members ≡ 0)
+
+module _ (limits : Limits) (bytes : List ℕ) (at first : ℕ) (node : Node) (after : ℕ) where
+  -- what a line says that ends with the first `after` bytes
+  pub record IsLineNode : Type 0 where
+    pub line : IsLineAt limits bytes at first (text_in bytes node.text) after
+    pub within : IsSpan bytes node.text
+    pub kind : node.kind ≡ first
+    pub members : node.members ≡ 0
+
+  -- what bulk bytes say
+  pub record IsBlobNode : Type 0 where
+    pub head : IsHeadAt limits bytes at first (Some node.text.len) node.text.start
+    pub blob : blob_at node.text.len (drop node.text.start bytes) ≡ Ok (text_in bytes node.text, drop after bytes)
+    pub within : IsSpan bytes node.text
+    pub end : after ≤ length bytes
+    pub kind : node.kind ≡ first
+    pub members : node.members ≡ 0
+
+  -- a group, of whose members none stands in the first `after` bytes
+  pub record IsGroupNode (k : GroupKind) : Type 0 where
+    pub count : ℕ
+    pub head : IsHeadAt limits bytes at first (Some count) after
+    pub kind : node.kind ≡ first
+    pub none : node.text.len ≡ 0
+    pub members : node.members ≡ member_count k count
+
+  -- what stands behind a first byte of this kind
+  abbrev pub IsNodeOf : Option Kind → Type 0
+  IsNodeOf None = ⊥
+  IsNodeOf (Some (kinds.Line k)) = IsLineNode
+  IsNodeOf (Some (kinds.Blob k)) = IsBlobNode ⊎ (IsHeadAt limits bytes at first None after × IsNull node)
+  IsNodeOf (Some (kinds.Group k)) = IsGroupNode k ⊎ (IsHeadAt limits bytes at first None after × IsNull node)
+
+-- the value behind `at` bytes, which ends with the first `after` bytes, but for its members
+pub record IsNodeAt (limits : Limits) (bytes : List ℕ) (at : ℕ) (node : Node) (after : ℕ) : Type 0 where
+  pub first : ℕ
+  pub is : IsNodeOf limits bytes at first node after (kind_of first)
+  pub end : after ≤ length bytes
+
+-- The values behind `at` bytes, where so many are asked for, up to the first `end` bytes, where so many are
+-- left. Each is one of those asked for, and asks for its members.
+abbrev pub Leads : Limits → List ℕ → ℕ → ℕ → List Node → ℕ → ℕ → Type 0
+Leads limits bytes at asked [] end left = (at ≡ end) × (asked ≡ left)
+Leads limits bytes at zero (n ∷ ns) end left = ⊥
+Leads limits bytes at (suc asked) (n ∷ ns) end left =
+    (after : ℕ) × IsNodeAt limits bytes at n after × Leads limits bytes after (n.members + asked) ns end left
+
+-- the message behind `>`, whose members are its kind and what is sent with it
+pub record IsPushNode (limits : Limits) (bytes : List ℕ) (node : Node) (after : ℕ) : Type 0 where
+  pub head : IsHeadAt limits bytes 0 62 (Some node.members) after
+  pub kind : node.kind ≡ 62
+  pub none : node.text.len ≡ 0
+
+-- how a reply begins
+abbrev pub Begins : Limits → List ℕ → Node → ℕ → Type 0
+Begins limits bytes node after = IsNodeAt limits bytes 0 node after ⊎ IsPushNode limits bytes node after
+
+-- a reply, up to the first `end` bytes, where so many of its values are left
+abbrev pub AreNodes : Limits → List ℕ → List Node → ℕ → ℕ → Type 0
+AreNodes limits bytes [] end left = ⊥
+AreNodes limits bytes (n ∷ ns) end left =
+    (after : ℕ) × Begins limits bytes n after × Leads limits bytes after n.members ns end left
+
+-- a node but for its end
+abbrev pub plain : Node → Node
+plain node = record node { end = 0 }
+
+-- how many of these nodes are so many values and all of their members
+abbrev pub taken : ℕ → List Node → ℕ
+taken zero ns = 0
+taken (suc k) [] = 0
+taken (suc k) (n ∷ ns) = suc (taken (n.members + k) ns)
+
+-- each one's end is the index of the node behind its members, where this is the first one's own
+abbrev pub AreEnds : ℕ → List Node → Type 0
+AreEnds i [] = Unit {0}
+AreEnds i (n ∷ ns) = (n.end ≡ i + 1 + taken n.members ns) × AreEnds (i + 1) ns
+
+-- what stands at the head of bytes; where it is a reply, these are its nodes
+abbrev pub Finds : Limits → List ℕ → List Node → Result Found WireError → Type 0
+Finds limits bytes nodes (Ok (Whole len count)) = LenIs limits bytes (Ok (Some len)) × (count ≤ length nodes)
+    × AreNodes limits (take len bytes) (take count nodes) len 0 × AreEnds 0 (take count nodes)
+Finds limits bytes nodes (Ok (NoRoom len)) = LenIs limits bytes (Ok (Some len))
+Finds limits bytes nodes (Ok Incomplete) = LenIs limits bytes (Ok None)
+Finds limits bytes nodes (Err e) = LenIs limits bytes (Err e)

@@ -1,0 +1,268 @@
+//! Any reply in place, as a flat list of its values.
+ghost use Rattle.std.specs.Prelude.{◌≡◌, ◌≤◌, ◌+◌, IfSome, Some, length, take, drop, map};
+ghost use Rattle.redis_wire.specs.Kind.{kind_of};
+ghost use Rattle.redis_wire.specs.Nodes.{AreEnds, AreNodes, Begins, Finds, IsLineNode, IsNodeAt, IsNodeOf, IsNull, plain, taken};
+ghost use Rattle.redis_wire.specs.declared.kind.Kind.TheVariants as kinds;
+
+use crate::fault::WireError;
+use crate::kind::{BlobKind, GroupKind, Kind, kind_of};
+use crate::limits::Limits;
+use crate::line::blob_at;
+use crate::place::{Span, head_at, line_behind};
+use crate::scanning::new_scan;
+use crate::stream::reply_len;
+use crate::value::member_count;
+use std::alloc::Global;
+
+/// A value of a reply, where it stands in the reply's bytes.
+#[repr(C)]
+#[derive(Clone, Copy, Debug, PartialEq, Eq)]
+pub struct Node {
+    /// The first byte of its type, and `_` where it is a null of any form.
+    pub kind: u8,
+    /// What its line or its bulk bytes say. A group and a null have no bytes.
+    pub text: Span,
+    /// How many values its members are: a key and its value are two, and what has attributes is one
+    /// more. The kind of a message is the first of its members.
+    pub members: u64,
+    /// The index of the node behind its last member.
+    pub end: usize,
+}
+
+/// What a line says, and how many bytes end with it.
+fn line_node(limits: Limits, bytes: &[u8], at: usize, first: u8) -> Option<(Node, usize)>
+    requires { at ≤ length bytes.now }
+    ensures { IfSome result (λ x. IsLineNode limits bytes.now at first x.0 x.1) }
+{
+    let (line, after) = line_behind(limits, bytes, at, first)?;
+    let node = Node {
+        kind: first,
+        text: Span {
+            start: at + 1,
+            len: line.len(),
+        },
+        members: 0,
+        end: 0,
+    };
+    Some((node, after))
+}
+
+/// A null.
+fn null_node() -> Node
+    ensures { IsNull result }
+{
+    Node {
+        kind: b'_',
+        text: Span { start: 0, len: 0 },
+        members: 0,
+        end: 0,
+    }
+}
+
+/// What bulk bytes say, and how many bytes end with them.
+fn blob_node(
+    limits: Limits,
+    bytes: &[u8],
+    at: usize,
+    first: u8,
+    kind: BlobKind,
+) -> Option<(Node, usize)>
+    requires { at ≤ length bytes.now }
+    ensures is { IfSome result (λ x. IsNodeOf limits bytes.now at first x.0 x.1 (Some (kinds.Blob kind))) }
+    ensures end { IfSome result (λ x. x.1 ≤ length bytes.now) }
+{
+    let (len, start) = head_at(limits, bytes, at, first)?;
+    let Some(len) = len else {
+        return Some((null_node(), start));
+    };
+    let (_, rest) = bytes.split_at(start);
+    match blob_at(len as usize, rest) {
+        Ok((_, left)) => {
+            let node = Node {
+                kind: first,
+                text: Span {
+                    start,
+                    len: len as usize,
+                },
+                members: 0,
+                end: 0,
+            };
+            Some((node, bytes.len() - left.len()))
+        }
+        Err(_) => None,
+    }
+}
+
+/// A group of this type with so many members.
+fn head_node(first: u8, members: u64) -> Node
+    ensures kind { result.kind ≡ first }
+    ensures none { result.text.len ≡ 0 }
+    ensures members { result.members ≡ members }
+{
+    Node {
+        kind: first,
+        text: Span { start: 0, len: 0 },
+        members,
+        end: 0,
+    }
+}
+
+/// A group, and how many bytes end with its head.
+fn group_node(
+    limits: Limits,
+    bytes: &[u8],
+    at: usize,
+    first: u8,
+    kind: GroupKind,
+) -> Option<(Node, usize)>
+    requires { at ≤ length bytes.now }
+    ensures is { IfSome result (λ x. IsNodeOf limits bytes.now at first x.0 x.1 (Some (kinds.Group kind))) }
+    ensures end { IfSome result (λ x. x.1 ≤ length bytes.now) }
+{
+    let (count, after) = head_at(limits, bytes, at, first)?;
+    match count {
+        None => Some((null_node(), after)),
+        Some(count) => Some((head_node(first, member_count(kind, count)), after)),
+    }
+}
+
+/// The value behind `at` bytes, and how many bytes end with it, but for its members.
+fn node_at(limits: Limits, bytes: &[u8], at: usize) -> Option<(Node, usize)>
+    requires { at ≤ length bytes.now }
+    ensures { IfSome result (λ x. IsNodeAt limits bytes.now at x.0 x.1) }
+{
+    let first = *bytes.get(at)?;
+    match kind_of(first)? {
+        Kind::Line(_) => line_node(limits, bytes, at, first),
+        Kind::Blob(kind) => blob_node(limits, bytes, at, first, kind),
+        Kind::Group(kind) => group_node(limits, bytes, at, first, kind),
+    }
+}
+
+/// The first node of a reply, and how many bytes end with it, but for its members.
+fn first_node(limits: Limits, bytes: &[u8]) -> Option<(Node, usize)>
+    ensures begins { IfSome result (λ x. Begins limits bytes.now x.0 x.1) }
+    ensures end { IfSome result (λ x. x.1 ≤ length bytes.now) }
+{
+    if *bytes.first()? != b'>' {
+        return node_at(limits, bytes, 0);
+    }
+    match head_at(limits, bytes, 0, b'>')? {
+        (None, _) => None,
+        (Some(count), after) => Some((head_node(b'>', count as u64), after)),
+    }
+}
+
+/// Fills the table behind its first node, which begins the reply, and says how many nodes there are.
+fn fill(
+    limits: Limits,
+    bytes: &[u8],
+    nodes: &mut [Node],
+    first: Node,
+    after: usize,
+) -> Option<usize>
+    requires begins { Begins limits bytes.now first after }
+    requires end { after ≤ length bytes.now }
+    ensures few { IfSome result (λ count. count ≤ length nodes.new) }
+    ensures are { IfSome result (λ count. AreNodes limits bytes.now (take count nodes.new) (length bytes.now) 0) }
+{
+    if nodes.is_empty() {
+        return None;
+    }
+    nodes[0] = first;
+    let mut count = 1usize;
+    let mut at = after;
+    let mut left = first.members;
+    while left > 0 {
+        if count >= nodes.len() {
+            return None;
+        }
+        let (node, behind) = node_at(limits, bytes, at)?;
+        left = node.members.checked_add(left - 1)?;
+        nodes[count] = node;
+        count += 1;
+        at = behind;
+    }
+    if at == bytes.len() { Some(count) } else { None }
+}
+
+/// The index of the node behind so many values, the first of which has the index `from`.
+fn end_of(nodes: &[Node], from: usize, members: u64) -> usize
+    requires within { from ≤ length nodes.now }
+    requires ends { AreEnds from (drop from nodes.now) }
+    ensures { result ≡ from + taken members (drop from nodes.now) }
+{
+    let mut end = from;
+    for _member in 0..members {
+        if end >= nodes.len() {
+            return end;
+        }
+        end = nodes[end].end;
+    }
+    end
+}
+
+/// Says of each node where its members end.
+fn set_ends(nodes: &mut [Node])
+    ensures same { map plain nodes.new ≡ map plain nodes.old }
+    ensures ends { AreEnds 0 nodes.new }
+{
+    let mut at = nodes.len();
+    while at > 0 {
+        let end = end_of(nodes, at, nodes[at - 1].members);
+        at -= 1;
+        nodes[at].end = end;
+    }
+}
+
+/// Fills the table with the values of the reply whose text this is, each in front of its members, and
+/// says how many they are. None where the table has too little room, or the text is no reply.
+///
+/// No memory is taken. No value has fewer than three bytes, so a table of a third of the text's length
+/// has room.
+pub fn nodes_in(limits: Limits, text: &[u8], nodes: &mut [Node]) -> Option<usize>
+    ensures few { IfSome result (λ count. count ≤ length nodes.new) }
+    ensures are { IfSome result (λ count. AreNodes limits text.now (take count nodes.new) (length text.now) 0) }
+    ensures ends { IfSome result (λ count. AreEnds 0 (take count nodes.new)) }
+{
+    let (first, after) = first_node(limits, text)?;
+    let count = fill(limits, text, nodes, first, after)?;
+    set_ends(&mut nodes[..count]);
+    Some(count)
+}
+
+/// What stands at the head of bytes.
+#[derive(Clone, Copy, Debug, PartialEq, Eq)]
+pub enum Found {
+    /// A reply of so many bytes, and so many nodes.
+    Whole { len: usize, count: usize },
+    /// A reply of so many bytes, for whose nodes the table has too little room.
+    NoRoom { len: usize },
+    /// The bytes may go on to be a reply.
+    Incomplete,
+}
+
+/// Finds the reply at the head of bytes, and fills the table with its values as `nodes_in` does. Other
+/// bytes may stand behind it.
+///
+/// A `Fault` is the one that `decode` says of the same bytes. No memory is taken but by the walk that
+/// finds where the reply ends.
+pub fn find_nodes(
+    alloc: Global,
+    limits: Limits,
+    bytes: &[u8],
+    nodes: &mut [Node],
+) -> Result<Found, WireError>
+    ensures { Finds limits bytes.now nodes.new result }
+{
+    match reply_len(alloc, limits, bytes, &mut new_scan(alloc))? {
+        None => Ok(Found::Incomplete),
+        Some(len) => {
+            let (text, _) = bytes.split_at(len);
+            match nodes_in(limits, text, nodes) {
+                Some(count) => Ok(Found::Whole { len, count }),
+                None => Ok(Found::NoRoom { len }),
+            }
+        }
+    }
+}
