@@ -204,20 +204,20 @@ module _ (limits : Limits) (bytes : List ℕ) (at after : ℕ) where
 
 -- ---- nil with which the bytes begin
 
-module _ (limits : Limits) (bytes rest : List ℕ) where
-  no_array_reads : BeginsWithHead limits bytes 42 None rest → value_at limits 1 bytes ≡ Ok (value nil, rest)
+module _ (limits : Limits) (d : ℕ) (bytes rest : List ℕ) where
+  no_array_reads : BeginsWithHead limits bytes 42 None rest → value_at limits (suc d) bytes ≡ Ok (value nil, rest)
   unfolding level by_kind group_value_at group_body_at no_group_answer
-  no_array_reads h = rw (h.is, one_level limits 1 (omega arith), h.len) refl
+  no_array_reads h = rw (h.is, one_level limits (suc d) (omega arith), h.len) refl
 
-  no_bulk_reads : BeginsWithHead limits bytes 36 None rest → value_at limits 1 bytes ≡ Ok (value nil, rest)
+  no_bulk_reads : BeginsWithHead limits bytes 36 None rest → value_at limits (suc d) bytes ≡ Ok (value nil, rest)
   unfolding level by_kind blob_value_at blob_body_at no_blob_answer
-  no_bulk_reads h = rw (h.is, one_level limits 1 (omega arith), h.len) refl
+  no_bulk_reads h = rw (h.is, one_level limits (suc d) (omega arith), h.len) refl
 
-  null_reads : BeginsWithLine limits bytes 95 [] rest → value_at limits 1 bytes ≡ Ok (value nil, rest)
+  null_reads : BeginsWithLine limits bytes 95 [] rest → value_at limits (suc d) bytes ≡ Ok (value nil, rest)
   unfolding level by_kind line_value_at line_answer
-  null_reads h = rw (h.is, one_level limits 1 (omega arith), h.reads) refl
+  null_reads h = rw (h.is, one_level limits (suc d) (omega arith), h.reads) refl
 
-  nil_reads : BeginsWithNil limits bytes rest → value_at limits 1 bytes ≡ Ok (value nil, rest)
+  pub nil_reads : BeginsWithNil limits bytes rest → value_at limits (suc d) bytes ≡ Ok (value nil, rest)
   nil_reads (inl h) = no_array_reads h
   nil_reads (inr (inl h)) = no_bulk_reads h
   nil_reads (inr (inr h)) = null_reads h
@@ -226,6 +226,6 @@ pub nil_same : (limits : Limits) (bytes : List ℕ) (at after : ℕ) → IsNilAt
     → BeginsWithNil limits (drop at bytes) rest → drop after bytes ≡ rest
 nil_same limits bytes at after h rest b =
     let e : Ok (value nil, drop after bytes) ≡ Ok (value nil, rest) =
-    sym (h.reads 0) ∙ nil_reads limits (drop at bytes) rest b in
+    sym (h.reads 0) ∙ nil_reads limits 0 (drop at bytes) rest b in
     let p : (value nil, drop after bytes) ≡ (value nil, rest) = cc in
     ap (λ (x : Answer × List ℕ). x.1) p
