@@ -1,19 +1,20 @@
 -- Where values stand in bytes.
 use Rattle.std.proofs.Common.{◌≡◌, ◌≤◌, ◌+◌, ◌-◌, ◌∙◌, ℕ, suc, List, [], ◌∷◌, ◌++◌, length, take, drop, pos, Option}
-use Rattle.std.proofs.Common.{Some, None, Ok, refl, sym, ap, arith, append_assoc}
+use Rattle.std.proofs.Common.{Some, None, Ok, inl, inr, refl, sym, ap, arith, append_assoc}
 use Rattle.std.proofs.lemmas.List.{length-append, length-drop, take-append-drop, drop_at, take_at}
-use Rattle.redis_resp.specs.Tree.{bulk}
+use Rattle.redis_resp.specs.Tree.{nil, bulk}
 use Rattle.redis_wire.specs.declared.limits.Limits.{Limits}
 use Rattle.redis_wire.specs.Reading.{blob_at, line_at}
-use Rattle.redis_wire.specs.Reply.{value}
+use Rattle.redis_wire.specs.Reply.{Answer, value}
 use Rattle.redis_wire.specs.Scalar.{number_of, line_answer, no_blob_answer}
 use Rattle.redis_wire.specs.Group.{no_group_answer}
 use Rattle.redis_wire.specs.Grammar.{IsLine, IsLength, IsBlob}
 use Rattle.redis_wire.specs.Level.{length_at, line_value_at, blob_body_at, blob_value_at, group_body_at, group_value_at}
-use Rattle.redis_wire.specs.Level.{by_kind, level}
+use Rattle.redis_wire.specs.Level.{by_kind, level, value_at}
 use Rattle.redis_wire.specs.Packed.{crlf}
 use Rattle.redis_wire.specs.Scan.{IsEnd}
 use Rattle.redis_wire.specs.Place.{IsHeadAt, IsLineAt, IsTextAt, IsArrayAt, IsMapAt, IsNilAt, IsIntAt}
+use Rattle.redis_wire.specs.Place.{BeginsWithHead, BeginsWithLine, BeginsWithText, BeginsWithNil}
 use Rattle.redis_wire.proofs.FitsLemmas.{line_fits, length_fits, blob_fits}
 use Rattle.redis_wire.proofs.ItemLemmas.{fits_end}
 use Rattle.redis_wire.proofs.LevelLemmas.{bulk_is, one_level}
@@ -79,6 +80,28 @@ module _ (limits : Limits) (bytes behind line left : List ℕ) (at first : ℕ) 
     end = omega arith;
   }
 
+-- the head with which the bytes begin is the one that stands there
+pub head_same : (limits : Limits) (bytes : List ℕ) (at first : ℕ) (n : Option ℕ) (after : ℕ)
+    → IsHeadAt limits bytes at first n after → (m : Option ℕ) (rest : List ℕ)
+    → BeginsWithHead limits (drop at bytes) first m rest → (n ≡ m) × (drop after bytes ≡ rest)
+head_same limits bytes at first n after h m rest b =
+    let both : first ∷ h.behind ≡ first ∷ b.behind = sym h.is ∙ b.is in
+    let behind : h.behind ≡ b.behind = cc in
+    let e : Ok (n, drop after bytes) ≡ Ok (m, rest) = sym h.len ∙ ap (length_at limits) behind ∙ b.len in
+    let p : (n, drop after bytes) ≡ (m, rest) = cc in
+    (ap (λ (x : Option ℕ × List ℕ). x.0) p, ap (λ (x : Option ℕ × List ℕ). x.1) p)
+
+pub line_same : (limits : Limits) (bytes : List ℕ) (at first : ℕ) (line : List ℕ) (after : ℕ)
+    → IsLineAt limits bytes at first line after → (other rest : List ℕ)
+    → BeginsWithLine limits (drop at bytes) first other rest → (line ≡ other) × (drop after bytes ≡ rest)
+line_same limits bytes at first line after h other rest b =
+    let both : first ∷ h.behind ≡ first ∷ b.behind = sym h.is ∙ b.is in
+    let behind : h.behind ≡ b.behind = cc in
+    let e : Ok (line, drop after bytes) ≡ Ok (other, rest) =
+    sym h.reads ∙ ap (line_at limits.line) behind ∙ b.reads in
+    let p : (line, drop after bytes) ≡ (other, rest) = cc in
+    (ap (λ (x : List ℕ × List ℕ). x.0) p, ap (λ (x : List ℕ × List ℕ). x.1) p)
+
 -- ---- texts
 
 module _ (limits : Limits) (bytes text left : List ℕ) (at n start : ℕ)
@@ -89,6 +112,26 @@ module _ (limits : Limits) (bytes text left : List ℕ) (at n start : ℕ)
 
   pub text_le : length left ≤ length bytes
   text_le = end_within bytes left left_end
+
+  text_is : text ≡ take n (drop start bytes)
+  text_is =
+      let t = (blob_fits n).takes (drop start bytes) (text, left) blob in
+      sym (ap (take n) (t.is ∙ ap (λ (xs : List ℕ). xs ++ left) t.said.is ∙ append_assoc text crlf left)
+      ∙ take_at text (crlf ++ left) n t.said.len)
+
+  -- the bulk string with which the bytes begin is that one
+  pub text_found : (other rest : List ℕ) → BeginsWithText limits (drop at bytes) other rest
+      → (take n (drop start bytes) ≡ other) × (drop (length bytes - length left) bytes ≡ rest)
+  text_found other rest b =
+      let same = head_same limits bytes at 36 (Some n) start head (Some b.len) b.body b.head in
+      let len : n ≡ b.len = cc (same.0) in
+      let e : Ok (text, left) ≡ Ok (other, rest) =
+      sym blob ∙ ap (λ (k : ℕ). blob_at k (drop start bytes)) len ∙ ap (blob_at b.len) same.1 ∙ b.reads in
+      let p : (text, left) ≡ (other, rest) = cc in
+      (
+        sym text_is ∙ ap (λ (x : List ℕ × List ℕ). x.0) p,
+        sym (end_is bytes left left_end) ∙ ap (λ (x : List ℕ × List ℕ). x.1) p,
+      )
 
   pub text_place : IsTextAt limits bytes at (record { start = start; len = n }) (length bytes - length left)
   text_place =
@@ -158,3 +201,31 @@ module _ (limits : Limits) (bytes : List ℕ) (at after : ℕ) where
   unfolding level by_kind line_value_at line_answer
   int_place line n h number =
       record { end = h.end; reads = λ d. rw (h.is, one_level limits (suc d) (omega arith), h.reads, number) refl }
+
+-- ---- nil with which the bytes begin
+
+module _ (limits : Limits) (d : ℕ) (bytes rest : List ℕ) where
+  no_array_reads : BeginsWithHead limits bytes 42 None rest → value_at limits (suc d) bytes ≡ Ok (value nil, rest)
+  unfolding level by_kind group_value_at group_body_at no_group_answer
+  no_array_reads h = rw (h.is, one_level limits (suc d) (omega arith), h.len) refl
+
+  no_bulk_reads : BeginsWithHead limits bytes 36 None rest → value_at limits (suc d) bytes ≡ Ok (value nil, rest)
+  unfolding level by_kind blob_value_at blob_body_at no_blob_answer
+  no_bulk_reads h = rw (h.is, one_level limits (suc d) (omega arith), h.len) refl
+
+  null_reads : BeginsWithLine limits bytes 95 [] rest → value_at limits (suc d) bytes ≡ Ok (value nil, rest)
+  unfolding level by_kind line_value_at line_answer
+  null_reads h = rw (h.is, one_level limits (suc d) (omega arith), h.reads) refl
+
+  pub nil_reads : BeginsWithNil limits bytes rest → value_at limits (suc d) bytes ≡ Ok (value nil, rest)
+  nil_reads (inl h) = no_array_reads h
+  nil_reads (inr (inl h)) = no_bulk_reads h
+  nil_reads (inr (inr h)) = null_reads h
+
+pub nil_same : (limits : Limits) (bytes : List ℕ) (at after : ℕ) → IsNilAt limits bytes at after → (rest : List ℕ)
+    → BeginsWithNil limits (drop at bytes) rest → drop after bytes ≡ rest
+nil_same limits bytes at after h rest b =
+    let e : Ok (value nil, drop after bytes) ≡ Ok (value nil, rest) =
+    sym (h.reads 0) ∙ nil_reads limits 0 (drop at bytes) rest b in
+    let p : (value nil, drop after bytes) ≡ (value nil, rest) = cc in
+    ap (λ (x : Answer × List ℕ). x.1) p

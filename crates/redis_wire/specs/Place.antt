@@ -1,10 +1,12 @@
 -- Where values stand in bytes.
-use Rattle.std.specs.Prelude.{◌≡◌, ◌≤◌, ◌+◌, ℕ, suc, List, ◌∷◌, length, take, drop, pos, Option, Some, Ok}
+use Rattle.std.specs.Prelude.{◌≡◌, ◌≤◌, ◌+◌, ◌⊎◌, ℕ, suc, List, [], ◌∷◌, length, take, drop, pos, Option, Some, None}
+use Rattle.std.specs.Prelude.{Ok, IsSomeAnd}
 use Rattle.redis_resp.specs.Tree.{nil, int, bulk}
 use Rattle.redis_wire.specs.declared.limits.Limits.{Limits}
 use Rattle.redis_wire.specs.declared.kind.GroupKind.TheVariants.{Array, Map}
 use Rattle.redis_wire.specs.declared.place.Span.{Span}
-use Rattle.redis_wire.specs.Reading.{line_at}
+use Rattle.redis_wire.specs.Reading.{line_at, blob_at}
+use Rattle.redis_wire.specs.Scalar.{number_of}
 use Rattle.redis_wire.specs.Reply.{value}
 use Rattle.redis_wire.specs.Level.{length_at, group_body_at, value_at}
 
@@ -61,3 +63,47 @@ pub record IsNilAt (limits : Limits) (bytes : List ℕ) (at after : ℕ) : Type 
 pub record IsIntAt (limits : Limits) (bytes : List ℕ) (at number after : ℕ) : Type 0 where
   pub end : after ≤ length bytes
   pub reads : (d : ℕ) → value_at limits (suc d) (drop at bytes) ≡ Ok (value (int (pos number)), drop after bytes)
+
+-- ---- what bytes begin with, so that it has to be found
+
+-- that first byte, behind it a line with a length, or with the -1 that stands for none, and then the rest
+pub record BeginsWithHead (limits : Limits) (bytes : List ℕ) (first : ℕ) (n : Option ℕ) (rest : List ℕ) : Type 0 where
+  pub behind : List ℕ
+  pub is : bytes ≡ first ∷ behind
+  pub len : length_at limits behind ≡ Ok (n, rest)
+
+-- the same of a line
+pub record BeginsWithLine (limits : Limits) (bytes : List ℕ) (first : ℕ) (line rest : List ℕ) : Type 0 where
+  pub behind : List ℕ
+  pub is : bytes ≡ first ∷ behind
+  pub reads : line_at limits.line behind ≡ Ok (line, rest)
+
+-- a bulk string of that text
+pub record BeginsWithText (limits : Limits) (bytes text rest : List ℕ) : Type 0 where
+  pub len : ℕ
+  pub body : List ℕ
+  pub head : BeginsWithHead limits bytes 36 (Some len) body
+  pub reads : blob_at len body ≡ Ok (text, rest)
+
+-- the head of an array of so many members
+abbrev pub BeginsWithArray : Limits → List ℕ → ℕ → List ℕ → Type 0
+BeginsWithArray limits bytes count rest = BeginsWithHead limits bytes 42 (Some count) rest
+
+-- the head of a map of so many pairs
+abbrev pub BeginsWithMap : Limits → List ℕ → ℕ → List ℕ → Type 0
+BeginsWithMap limits bytes count rest = BeginsWithHead limits bytes 37 (Some count) rest
+
+-- nil: an array or a bulk string of length -1, or a null
+abbrev pub BeginsWithNil : Limits → List ℕ → List ℕ → Type 0
+BeginsWithNil limits bytes rest = BeginsWithHead limits bytes 42 None rest
+    ⊎ (BeginsWithHead limits bytes 36 None rest ⊎ BeginsWithLine limits bytes 95 [] rest)
+
+-- a number that is not negative
+pub record BeginsWithInt (limits : Limits) (bytes : List ℕ) (number : ℕ) (rest : List ℕ) : Type 0 where
+  pub line : List ℕ
+  pub at : BeginsWithLine limits bytes 58 line rest
+  pub says : number_of line ≡ Some (pos number)
+
+-- what was found ends where the rest begins
+abbrev pub EndsBefore : List ℕ → List ℕ → ℕ → Type 0
+EndsBefore bytes rest after = drop after bytes ≡ rest

@@ -1,7 +1,9 @@
 //! Where values stand in bytes, found with no copy.
-ghost use Rattle.std.specs.Prelude.{◌≡◌, ◌≤◌, pos, IfSome, Some, length};
+ghost use Rattle.std.specs.Prelude.{◌≡◌, ◌≤◌, ℕ, List, [], drop, pos, IfSome, IsSomeAnd, Option, Some, None, length};
 ghost use Rattle.redis_wire.specs.Scalar.{number_of};
 ghost use Rattle.redis_wire.specs.Place.{IsHeadAt, IsLineAt, IsTextAt, IsArrayAt, IsMapAt, IsNilAt, IsIntAt};
+ghost use Rattle.redis_wire.specs.Place.{BeginsWithHead, BeginsWithLine, BeginsWithText, BeginsWithArray, BeginsWithMap};
+ghost use Rattle.redis_wire.specs.Place.{BeginsWithNil, BeginsWithInt, EndsBefore, text_in};
 
 use crate::limits::Limits;
 use crate::line::{blob_at, line_at};
@@ -27,7 +29,9 @@ pub(crate) fn head_at(
     first: u8,
 ) -> Option<(Option<u32>, usize)>
     requires { at ≤ length bytes.now }
-    ensures { IfSome result (λ x. IsHeadAt limits bytes.now at first x.0 x.1) }
+    ensures is { IfSome result (λ x. IsHeadAt limits bytes.now at first x.0 x.1) }
+    ensures found { (n : Option ℕ) (rest : List ℕ) → BeginsWithHead limits (drop at bytes.now) first n rest
+        → IsSomeAnd result (λ x. (x.0 ≡ n) × EndsBefore bytes.now rest x.1) }
 {
     let (_, rest) = bytes.split_at(at);
     let (byte, behind) = rest.split_first()?;
@@ -49,7 +53,9 @@ pub(crate) fn line_behind(
     first: u8,
 ) -> Option<(&[u8], usize)>
     requires { at ≤ length bytes.now }
-    ensures { IfSome result (λ x. IsLineAt limits bytes.now at first x.0.now x.1) }
+    ensures is { IfSome result (λ x. IsLineAt limits bytes.now at first x.0.now x.1) }
+    ensures found { (line rest : List ℕ) → BeginsWithLine limits (drop at bytes.now) first line rest
+        → IsSomeAnd result (λ x. (x.0.now ≡ line) × EndsBefore bytes.now rest x.1) }
 {
     let (_, rest) = bytes.split_at(at);
     let (byte, behind) = rest.split_first()?;
@@ -67,7 +73,9 @@ pub(crate) fn line_behind(
 #[inline(always)]
 pub fn text_at(limits: Limits, bytes: &[u8], at: usize) -> Option<(Span, usize)>
     requires { at ≤ length bytes.now }
-    ensures { IfSome result (λ x. IsTextAt limits bytes.now at x.0 x.1) }
+    ensures is { IfSome result (λ x. IsTextAt limits bytes.now at x.0 x.1) }
+    ensures found { (text rest : List ℕ) → BeginsWithText limits (drop at bytes.now) text rest
+        → IsSomeAnd result (λ x. (text_in bytes.now x.0 ≡ text) × EndsBefore bytes.now rest x.1) }
 {
     let (Some(len), start) = head_at(limits, bytes, at, b'$')? else {
         return None;
@@ -89,7 +97,9 @@ pub fn text_at(limits: Limits, bytes: &[u8], at: usize) -> Option<(Span, usize)>
 /// the head.
 pub fn array_at(limits: Limits, bytes: &[u8], at: usize) -> Option<(u32, usize)>
     requires { at ≤ length bytes.now }
-    ensures { IfSome result (λ x. IsArrayAt limits bytes.now at x.0 x.1) }
+    ensures is { IfSome result (λ x. IsArrayAt limits bytes.now at x.0 x.1) }
+    ensures found { (count : ℕ) (rest : List ℕ) → BeginsWithArray limits (drop at bytes.now) count rest
+        → IsSomeAnd result (λ x. (x.0 ≡ count) × EndsBefore bytes.now rest x.1) }
 {
     match head_at(limits, bytes, at, b'*')? {
         (Some(count), after) => Some((count, after)),
@@ -101,7 +111,9 @@ pub fn array_at(limits: Limits, bytes: &[u8], at: usize) -> Option<(u32, usize)>
 /// head.
 pub fn map_at(limits: Limits, bytes: &[u8], at: usize) -> Option<(u32, usize)>
     requires { at ≤ length bytes.now }
-    ensures { IfSome result (λ x. IsMapAt limits bytes.now at x.0 x.1) }
+    ensures is { IfSome result (λ x. IsMapAt limits bytes.now at x.0 x.1) }
+    ensures found { (count : ℕ) (rest : List ℕ) → BeginsWithMap limits (drop at bytes.now) count rest
+        → IsSomeAnd result (λ x. (x.0 ≡ count) × EndsBefore bytes.now rest x.1) }
 {
     match head_at(limits, bytes, at, b'%')? {
         (Some(count), after) => Some((count, after)),
@@ -112,7 +124,9 @@ pub fn map_at(limits: Limits, bytes: &[u8], at: usize) -> Option<(u32, usize)>
 /// How many bytes end with the array of length -1 behind `at` bytes.
 fn no_array_at(limits: Limits, bytes: &[u8], at: usize) -> Option<usize>
     requires { at ≤ length bytes.now }
-    ensures { IfSome result (λ after. IsNilAt limits bytes.now at after) }
+    ensures is { IfSome result (λ after. IsNilAt limits bytes.now at after) }
+    ensures found { (rest : List ℕ) → BeginsWithHead limits (drop at bytes.now) 42 None rest
+        → IsSomeAnd result (EndsBefore bytes.now rest) }
 {
     match head_at(limits, bytes, at, b'*')? {
         (None, after) => Some(after),
@@ -123,7 +137,9 @@ fn no_array_at(limits: Limits, bytes: &[u8], at: usize) -> Option<usize>
 /// How many bytes end with the bulk string of length -1 behind `at` bytes.
 fn no_text_at(limits: Limits, bytes: &[u8], at: usize) -> Option<usize>
     requires { at ≤ length bytes.now }
-    ensures { IfSome result (λ after. IsNilAt limits bytes.now at after) }
+    ensures is { IfSome result (λ after. IsNilAt limits bytes.now at after) }
+    ensures found { (rest : List ℕ) → BeginsWithHead limits (drop at bytes.now) 36 None rest
+        → IsSomeAnd result (EndsBefore bytes.now rest) }
 {
     match head_at(limits, bytes, at, b'$')? {
         (None, after) => Some(after),
@@ -134,7 +150,9 @@ fn no_text_at(limits: Limits, bytes: &[u8], at: usize) -> Option<usize>
 /// How many bytes end with the null behind `at` bytes.
 fn null_at(limits: Limits, bytes: &[u8], at: usize) -> Option<usize>
     requires { at ≤ length bytes.now }
-    ensures { IfSome result (λ after. IsNilAt limits bytes.now at after) }
+    ensures is { IfSome result (λ after. IsNilAt limits bytes.now at after) }
+    ensures found { (rest : List ℕ) → BeginsWithLine limits (drop at bytes.now) 95 [] rest
+        → IsSomeAnd result (EndsBefore bytes.now rest) }
 {
     match line_behind(limits, bytes, at, b'_')? {
         ([], after) => Some(after),
@@ -145,7 +163,9 @@ fn null_at(limits: Limits, bytes: &[u8], at: usize) -> Option<usize>
 /// How many bytes end with the nil behind `at` bytes: an array or a bulk string of length -1, or a null.
 pub fn nil_at(limits: Limits, bytes: &[u8], at: usize) -> Option<usize>
     requires { at ≤ length bytes.now }
-    ensures { IfSome result (λ after. IsNilAt limits bytes.now at after) }
+    ensures is { IfSome result (λ after. IsNilAt limits bytes.now at after) }
+    ensures found { (rest : List ℕ) → BeginsWithNil limits (drop at bytes.now) rest
+        → IsSomeAnd result (EndsBefore bytes.now rest) }
 {
     if let Some(after) = no_array_at(limits, bytes, at) {
         return Some(after);
@@ -158,7 +178,8 @@ pub fn nil_at(limits: Limits, bytes: &[u8], at: usize) -> Option<usize>
 
 /// The number that a line writes, where it is not negative.
 fn unsigned_of(line: &[u8]) -> Option<u64>
-    ensures { IfSome result (λ n. number_of line.now ≡ Some (pos n)) }
+    ensures is { IfSome result (λ n. number_of line.now ≡ Some (pos n)) }
+    ensures found { (n : ℕ) → number_of line.now ≡ Some (pos n) → result ≡ Some n }
 {
     u64::try_from(number_of(line)?).ok()
 }
@@ -166,7 +187,9 @@ fn unsigned_of(line: &[u8]) -> Option<u64>
 /// The number behind `at` bytes, where it is one that is not negative, and how many bytes end with it.
 pub fn int_at(limits: Limits, bytes: &[u8], at: usize) -> Option<(u64, usize)>
     requires { at ≤ length bytes.now }
-    ensures { IfSome result (λ x. IsIntAt limits bytes.now at x.0 x.1) }
+    ensures is { IfSome result (λ x. IsIntAt limits bytes.now at x.0 x.1) }
+    ensures found { (number : ℕ) (rest : List ℕ) → BeginsWithInt limits (drop at bytes.now) number rest
+        → IsSomeAnd result (λ x. (x.0 ≡ number) × EndsBefore bytes.now rest x.1) }
 {
     let (line, after) = line_behind(limits, bytes, at, b':')?;
     Some((unsigned_of(line)?, after))

@@ -10,3 +10,4 @@ pub mod StreamLemmas
 pub mod ReadLemmas
 pub mod IdLemmas
 pub mod AutoClaimLemmas
+pub mod BeginLemmas

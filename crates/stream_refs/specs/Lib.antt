@@ -11,3 +11,4 @@ pub mod AutoClaim
 pub mod ClaimPlaced
 pub mod AddedIds
 pub mod ClaimOutcome
+pub mod Shapes

@@ -1,8 +1,13 @@
 //! Finds where rows stand: entries with their fields.
-ghost use Rattle.std.specs.Prelude.{◌≡◌, ◌≤◌, IfOk, IfSome, IsTrue, length, true};
+ghost use Rattle.std.specs.Prelude.{◌≡◌, ◌≤◌, ◌++◌, ℕ, Bool, List, Option, IfOk, IfSome, IsSomeAnd, IsTrue, drop};
+ghost use Rattle.std.specs.Prelude.{flat_map, length, true};
+ghost use Rattle.std.specs.List.{AllByRecursion};
 ghost use Rattle.std.specs.Str.{is_utf8};
-ghost use Rattle.redis_wire.specs.Place.{text_in, IsSpan, IsTextAt};
+ghost use Rattle.redis_wire.specs.Place.{text_in, IsSpan, IsTextAt, BeginsWithText, EndsBefore};
 ghost use Rattle.stream_refs.specs.Added.{row_count, FieldsAdded, OwnAdded, IsDeliveryAt, EntryAdded, EntriesAdded};
+ghost use Rattle.stream_refs.specs.Sent.{Pairs, SentEntry};
+ghost use Rattle.stream_refs.specs.Shapes.{NilForm, pair_bytes, fields_bytes, delivery_bytes, entry_bytes};
+ghost use Rattle.stream_refs.specs.Shapes.{AllowsRows, IsPair, ArePairs, IsOfForm, IsEntryOf};
 
 use crate::places::{EntryPlace, FieldPlace};
 use crate::room::Places;
@@ -36,6 +41,9 @@ pub fn name_at(limits: Limits, bytes: &[u8], at: usize) -> Option<(Span, usize)>
     requires { at ≤ length bytes.now }
     ensures is { IfSome result (λ x. IsTextAt limits bytes.now at x.0 x.1) }
     ensures text { IfSome result (λ x. is_utf8 (text_in bytes.now x.0) ≡ true) }
+    ensures found { (text rest : List ℕ) → BeginsWithText limits (drop at bytes.now) text rest
+        → is_utf8 text ≡ true
+        → IsSomeAnd result (λ x. (text_in bytes.now x.0 ≡ text) × EndsBefore bytes.now rest x.1) }
 {
     let (span, after) = text_at(limits, bytes, at)?;
     if is_text(text_in(bytes, span)) {
@@ -55,8 +63,11 @@ fn add_fields<P: Places>(
     places: &mut P,
 ) -> Result<Option<usize>, P::Refusal>
     requires { at ≤ length bytes.now }
-    ensures { IfOk result (λ o. IfSome o (λ after.
+    ensures is { IfOk result (λ o. IfSome o (λ after.
         FieldsAdded limits bytes.now at count after (P.held places.old) (P.held places.new))) }
+    ensures found { (ps : Pairs) (rest : List ℕ) → AllowsRows limits → AllByRecursion (IsPair limits) ps
+        → drop at bytes.now ≡ flat_map pair_bytes ps ++ rest → count ≡ length ps
+        → IfOk result (λ o. IsSomeAnd o (EndsBefore bytes.now rest)) }
 {
     let mut behind = at;
     for _ in 0..count {
@@ -81,8 +92,11 @@ fn add_own_fields<P: Places>(
     places: &mut P,
 ) -> Result<Option<(bool, usize)>, P::Refusal>
     requires { at ≤ length bytes.now }
-    ensures { IfOk result (λ o. IfSome o (λ x.
+    ensures is { IfOk result (λ o. IfSome o (λ x.
         OwnAdded limits bytes.now at x.0 x.1 (P.held places.old) (P.held places.new))) }
+    ensures found { (form : NilForm) (fs : Option Pairs) (rest : List ℕ) → AllowsRows limits → ArePairs limits fs
+        → drop at bytes.now ≡ fields_bytes form fs ++ rest
+        → IfOk result (λ o. IsSomeAnd o (λ x. EndsBefore bytes.now rest x.1)) }
 {
     let Some((members, behind)) = array_at(limits, bytes, at) else {
         return match nil_at(limits, bytes, at) {
@@ -102,7 +116,10 @@ fn add_own_fields<P: Places>(
 /// When and how often the entry was delivered, where the form says so, and how many bytes end with it.
 fn delivery_at(limits: Limits, bytes: &[u8], at: usize, claim: bool) -> Option<(u64, u64, usize)>
     requires { at ≤ length bytes.now }
-    ensures { IfSome result (λ x. IsDeliveryAt limits bytes.now at claim x.0 x.1 x.2) }
+    ensures is { IfSome result (λ x. IsDeliveryAt limits bytes.now at claim x.0 x.1 x.2) }
+    ensures found { (delivery : Option (ℕ × ℕ)) (rest : List ℕ) → AllowsRows limits → IsOfForm claim delivery
+        → drop at bytes.now ≡ delivery_bytes delivery ++ rest
+        → IsSomeAnd result (λ x. EndsBefore bytes.now rest x.2) }
 {
     if !claim {
         return Some((0, 0, at));
@@ -128,8 +145,11 @@ fn add_entry<P: Places>(
     places: &mut P,
 ) -> Result<Option<(EntryPlace, usize)>, P::Refusal>
     requires { at ≤ length bytes.now }
-    ensures { IfOk result (λ o. IfSome o (λ x.
+    ensures is { IfOk result (λ o. IfSome o (λ x.
         EntryAdded limits bytes.now at claim x.1 x.0 (P.held places.old) (P.held places.new))) }
+    ensures found { (form : NilForm) (e : SentEntry) (rest : List ℕ) → AllowsRows limits → IsEntryOf limits claim e
+        → drop at bytes.now ≡ entry_bytes form e ++ rest
+        → IfOk result (λ o. IsSomeAnd o (λ x. EndsBefore bytes.now rest x.1)) }
 {
     let Some((members, behind)) = array_at(limits, bytes, at) else {
         return Ok(None);
@@ -169,8 +189,12 @@ pub fn add_entries<P: Places>(
     places: &mut P,
 ) -> Result<Option<usize>, P::Refusal>
     requires { at ≤ length bytes.now }
-    ensures { IfOk result (λ o. IfSome o (λ after.
+    ensures is { IfOk result (λ o. IfSome o (λ after.
         EntriesAdded limits bytes.now at claim count after (P.held places.old) (P.held places.new))) }
+    ensures found { (form : NilForm) (es : List SentEntry) (rest : List ℕ) → AllowsRows limits
+        → AllByRecursion (IsEntryOf limits claim) es
+        → drop at bytes.now ≡ flat_map (entry_bytes form) es ++ rest → count ≡ length es
+        → IfOk result (λ o. IsSomeAnd o (EndsBefore bytes.now rest)) }
 {
     let mut behind = at;
     for _ in 0..count {

@@ -9,7 +9,7 @@ use Rattle.redis_wire.proofs.scanning.wanted_len.Goals as goal
 
 pub overflow_sub-result : goal.overflow_sub-result
 overflow_sub-result c =
-    let le = body_le c.args.limits _ c.in-Ok-Some-default.body.now _ c.in-Ok-Some-default.ensures in
+    let le = body_le c.args.limits _ c.in-Ok-Some-default.body.now _ c.in-Ok-Some-default.ensures.gives in
     let rest = rest_is c.args.left.now in
     let here : length c.in-Ok-Some-default.body.now ≤ length (drop 1 c.args.left.now) = rw (← rest) le in
     omega (arith, here, length-drop 1 c.args.left.now)
@@ -18,8 +18,8 @@ pub returns-in-Ok-Some-default-clause-few : goal.returns-in-Ok-Some-default-clau
 returns-in-Ok-Some-default-clause-few c = λ more lt.
     let left = c.args.left.now in
     let line = take (length left - 1) (drop 1 left) in
-    let le = body_le c.args.limits line c.in-Ok-Some-default.body.now _ c.in-Ok-Some-default.ensures in
-    let read = rw c.in-Ok-Some-default.field-0-0-is at c.in-Ok-Some-default.ensures in
+    let le = body_le c.args.limits line c.in-Ok-Some-default.body.now _ c.in-Ok-Some-default.ensures.gives in
+    let read = rw c.in-Ok-Some-default.field-0-0-is at c.in-Ok-Some-default.ensures.gives in
     let kind = rw c.in-Some-Blob.field-0-is at c.in-Some-Blob.ensures in
     let len : length line ≡ length left - 1 = rw (rest_is left) (length-drop 1 left) in
     let few : length (line ++ more) < length line - length c.in-Ok-Some-default.body.now + c.in-Ok-Some-default.len =

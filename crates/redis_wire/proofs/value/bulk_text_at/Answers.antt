@@ -13,4 +13,4 @@ returns-in-Ok c =
     bulk_is c.args.limits c.args.depth bytes
     (take (length bytes - 1)
     (drop 1 bytes)) c.in_ok-len-in-36.rest.now _ _ c.in_ok-len-in-36.len some split c.in_ok-len-in-36.ensures
-    c.in-Ok.ensures
+    c.in-Ok.ensures.gives

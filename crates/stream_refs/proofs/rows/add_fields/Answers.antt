@@ -1,18 +1,56 @@
-use Rattle.std.proofs.Common.{◌≡◌, arith}
+use Rattle.std.proofs.Common.{◌≡◌, ◌++◌, arith, drop}
+use Rattle.redis_wire.specs.Packed.{bulk_bytes}
+use Rattle.stream_refs.specs.Shapes.{pair_bytes, IsPair}
 use Rattle.stream_refs.proofs.FillLemmas.{fields_start, fields_more}
+use Rattle.stream_refs.proofs.BeginLemmas.{text_begins, pair_split, left_start, left_more, left_none, left_end}
 use Rattle.stream_refs.proofs.rows.add_fields.Goals as goal
 
 pub loop-init : goal.loop-init
-loop-init g c = fields_start c.args.limits c.args.bytes.now c.args.at (g.P.Places.held c.args.places.now) c.requires
+loop-init g c = record {
+  added = fields_start c.args.limits c.args.bytes.now c.args.at (g.P.Places.held c.args.places.now) c.requires;
+  left = left_start pair_bytes (IsPair c.args.limits) c.args.limits c.args.bytes.now c.args.at c.args.count;
+}
 
 pub loop-preserved : goal.loop-preserved
-loop-preserved g c =
-    fields_more c.args.limits c.args.bytes.now c.args.at
-    (g.P.Places.held c.args.places.now) c.loop.counter c.loop.behind c.in-Some.after c.in-Some-text_at.after _
-    (g.P.Places.held c.loop.places) (g.P.Places.held c.push_field.new.self)
-    c.loop.invariant c.in-Some.ensures.is c.in-Some.ensures.text c.in-Some-text_at.ensures c.in_ok-push_field.ensures
+loop-preserved g c = record {
+  added = fields_more c.args.limits c.args.bytes.now c.args.at
+      (g.P.Places.held c.args.places.now) c.loop.counter c.loop.behind c.in-Some.after c.in-Some-text_at.after _
+      (g.P.Places.held c.loop.places) (g.P.Places.held c.push_field.new.self)
+      c.loop.invariant.added c.in-Some.ensures.is c.in-Some.ensures.text c.in-Some-text_at.ensures.is
+      c.in_ok-push_field.ensures;
+  left = left_more pair_bytes (IsPair c.args.limits) c.args.limits c.args.bytes.now c.args.at c.args.count
+      c.loop.counter c.loop.behind c.loop.invariant.left c.in-Some-text_at.after (omega arith) (λ p rest a h is.
+      let name = c.in-Some.ensures.found p.0 (bulk_bytes p.1 ++ rest)
+      (text_begins c.args.limits a (drop c.loop.behind c.args.bytes.now) p.0 (bulk_bytes p.1 ++ rest) h.name.within
+      (pair_split p rest (drop c.loop.behind c.args.bytes.now) is)) h.name.is_text in
+      (c.in-Some-text_at.ensures.found p.1 rest
+      (text_begins c.args.limits a (drop c.in-Some.after c.args.bytes.now) p.1 rest h.value name.1)).1);
+}
 
-pub returns : goal.returns
-returns g c =
+pub returns-clause-is : goal.returns-clause-is
+returns-clause-is g c =
     let n : c.loop.counter ≡ c.args.count = omega arith in
-    rw n at c.loop.invariant
+    rw n at c.loop.invariant.added
+
+pub returns-clause-found : goal.returns-clause-found
+returns-clause-found g c =
+    left_end pair_bytes (IsPair c.args.limits) c.args.limits c.args.bytes.now c.args.at c.args.count
+    c.loop.counter c.loop.behind c.loop.invariant.left (omega arith)
+
+pub returns-in_default-clause-found : goal.returns-in_default-clause-found
+returns-in_default-clause-found g c =
+    left_none pair_bytes (IsPair c.args.limits) c.args.limits c.args.bytes.now c.args.at c.args.count
+    c.loop.counter c.loop.behind c.loop.invariant.left (omega arith) (λ p rest a h is.
+    c.in_default.ensures.found p.0 (bulk_bytes p.1 ++ rest)
+    (text_begins c.args.limits a (drop c.loop.behind c.args.bytes.now) p.0 (bulk_bytes p.1 ++ rest) h.name.within
+    (pair_split p rest (drop c.loop.behind c.args.bytes.now) is)) h.name.is_text)
+
+pub returns-in_default-text_at-clause-found : goal.returns-in_default-text_at-clause-found
+returns-in_default-text_at-clause-found g c =
+    left_none pair_bytes (IsPair c.args.limits) c.args.limits c.args.bytes.now c.args.at c.args.count
+    c.loop.counter c.loop.behind c.loop.invariant.left (omega arith) (λ p rest a h is.
+    let name = c.in-Some.ensures.found p.0 (bulk_bytes p.1 ++ rest)
+    (text_begins c.args.limits a (drop c.loop.behind c.args.bytes.now) p.0 (bulk_bytes p.1 ++ rest) h.name.within
+    (pair_split p rest (drop c.loop.behind c.args.bytes.now) is)) h.name.is_text in
+    c.in_default-text_at.ensures.found p.1 rest
+    (text_begins c.args.limits a (drop c.in-Some.after c.args.bytes.now) p.1 rest h.value name.1))

@@ -1,6 +1,11 @@
 use Rattle.stream_refs.specs.Added.{FieldsAdded}
+use Rattle.stream_refs.specs.Shapes.{pair_bytes, IsPair}
+use Rattle.stream_refs.proofs.BeginLemmas.{IsLeft}
 use Rattle.stream_refs.proofs.rows.add_fields.Given as goal
 
 abbrev pub invariant-loop : goal.invariant-loop
-invariant-loop g l = FieldsAdded l.limits l.bytes l.at l.counter l.behind (g.P.Places.held l.fn.places)
-    (g.P.Places.held l.places)
+invariant-loop g l = record {
+  added : FieldsAdded l.limits l.bytes l.at l.counter l.behind (g.P.Places.held l.fn.places)
+      (g.P.Places.held l.places);
+  left : IsLeft pair_bytes (IsPair l.limits) l.limits l.bytes l.at l.count l.counter l.behind;
+}

@@ -1,11 +1,40 @@
 use Rattle.std.proofs.Common.{◌≡◌, ◌%◌, arith}
+use Rattle.redis_wire.specs.Place.{EndsBefore}
 use Rattle.stream_refs.proofs.FillLemmas.{own_array}
+use Rattle.stream_refs.proofs.BeginLemmas.{own_without, own_with}
 use Rattle.stream_refs.proofs.rows.add_own_fields.Goals as goal
 
-pub returns-in-Some-2 : goal.returns-in-Some-2
-returns-in-Some-2 g c =
+pub returns-in-Some-2-clause-is : goal.returns-in-Some-2-clause-is
+returns-in-Some-2-clause-is g c =
     let even : c.in-Some.members % 2 ≡ 0 = omega arith in
     own_array c.args.limits c.args.bytes.now c.args.at
     (g.P.Places.held c.args.places.now) c.in-Some.members c.in-Some.behind c.in-Some-2.after
-    (g.P.Places.held c.add_fields.new.places) c.in-Some.ensures even
-    (rw c.in-Some-2.is at c.in_ok-add_fields.ensures)
+    (g.P.Places.held c.add_fields.new.places) c.in-Some.ensures.is even
+    (rw c.in-Some-2.is at c.in_ok-add_fields.ensures.is)
+
+pub returns-in-None-clause-found : goal.returns-in-None-clause-found
+returns-in-None-clause-found g c =
+    own_without c.args.limits c.args.bytes.now c.args.at (λ rest. ⊥) c.in_default.ensures.found c.in-None.ensures.found
+
+pub returns-in-Some-nil_at-clause-found : goal.returns-in-Some-nil_at-clause-found
+returns-in-Some-nil_at-clause-found g c =
+    own_without c.args.limits c.args.bytes.now c.args.at
+    (λ rest. EndsBefore c.args.bytes.now rest c.in-Some-nil_at.after)
+    c.in_default.ensures.found c.in-Some-nil_at.ensures.found
+
+pub returns-then-members-ne0-clause-found : goal.returns-then-members-ne0-clause-found
+returns-then-members-ne0-clause-found g c =
+    own_with c.args.limits c.args.bytes.now c.args.at (λ rest. ⊥) c.in-Some.members c.in-Some.behind
+    c.in-Some.ensures.is c.in-Some.ensures.found (λ ps rest a even h is. absurd (omega (arith, even)))
+
+pub returns-in-None-2-clause-found : goal.returns-in-None-2-clause-found
+returns-in-None-2-clause-found g c =
+    own_with c.args.limits c.args.bytes.now c.args.at (λ rest. ⊥) c.in-Some.members c.in-Some.behind
+    c.in-Some.ensures.is c.in-Some.ensures.found (λ ps rest a even h is.
+    rw c.in-None-2.is at (c.in_ok-add_fields.ensures.found ps rest a h is (omega (arith, even))))
+
+pub returns-in-Some-2-clause-found : goal.returns-in-Some-2-clause-found
+returns-in-Some-2-clause-found g c =
+    own_with c.args.limits c.args.bytes.now c.args.at (λ rest. EndsBefore c.args.bytes.now rest c.in-Some-2.after)
+    c.in-Some.members c.in-Some.behind c.in-Some.ensures.is c.in-Some.ensures.found (λ ps rest a even h is.
+    rw c.in-Some-2.is at (c.in_ok-add_fields.ensures.found ps rest a h is (omega (arith, even))))

@@ -1,0 +1,100 @@
+-- Replies with entries as servers write them, byte by byte, and which of these are within the limits.
+use Rattle.std.specs.Prelude.{◌≡◌, ◌≤◌, ◌<◌, ◌^◌, ◌*◌, ℕ, Bool, true, false, List, [], ◌++◌, flat_map, length, codes}
+use Rattle.std.specs.Prelude.{decimal, Option, Some, None}
+use Rattle.std.specs.List.{AllByRecursion}
+use Rattle.std.specs.Str.{is_utf8}
+use Rattle.redis_wire.specs.declared.limits.Limits.{Limits}
+use Rattle.redis_wire.specs.Packed.{bulk_bytes}
+use Rattle.redis_wire.specs.Written.{line_bytes, count_bytes}
+use Rattle.stream_refs.specs.Sent.{Pairs, SentEntry}
+
+-- the three ways to write that there is no value
+pub data NilForm : Type 0 where
+  no_array : NilForm
+  no_text : NilForm
+  null : NilForm
+
+-- an array or a bulk string of length -1, or in RESP3 a null
+unfoldable pub nil_bytes : NilForm → List ℕ
+nil_bytes no_array = line_bytes 42 (codes "-1")
+nil_bytes no_text = line_bytes 36 (codes "-1")
+nil_bytes null = line_bytes 95 []
+
+-- a name and a value
+unfoldable pub pair_bytes : List ℕ × List ℕ → List ℕ
+pair_bytes p = bulk_bytes p.0 ++ bulk_bytes p.1
+
+-- the fields of an entry: an array of names and values in turn, or nil where the entry was deleted
+unfoldable pub fields_bytes : NilForm → Option Pairs → List ℕ
+fields_bytes form None = nil_bytes form
+fields_bytes form (Some ps) = count_bytes 42 (2 * length ps) ++ flat_map pair_bytes ps
+
+-- the time and the count of the claim form
+unfoldable pub delivery_bytes : Option (ℕ × ℕ) → List ℕ
+delivery_bytes None = []
+delivery_bytes (Some d) = line_bytes 58 (decimal d.0) ++ line_bytes 58 (decimal d.1)
+
+-- how many values a row has
+abbrev pub row_len : Option (ℕ × ℕ) → ℕ
+row_len None = 2
+row_len (Some d) = 4
+
+-- the row of an entry
+unfoldable pub entry_bytes : NilForm → SentEntry → List ℕ
+entry_bytes form e = count_bytes 42 (row_len e.delivery)
+    ++ (bulk_bytes e.id ++ (fields_bytes form e.fields ++ delivery_bytes e.delivery))
+
+-- the rows of entries, as XRANGE answers them
+unfoldable pub rows_bytes : NilForm → List SentEntry → List ℕ
+rows_bytes form es = count_bytes 42 (length es) ++ flat_map (entry_bytes form) es
+
+-- ---- within the limits
+
+-- limits under which lines of 20 bytes and arrays of four are read
+pub record AllowsRows (limits : Limits) : Type 0 where
+  pub line : 20 ≤ limits.line
+  pub row : 4 ≤ limits.length
+  pub fits : limits.length < 2 ^ 32
+
+-- a text in UTF-8 that is no longer than the limit
+pub record IsName (limits : Limits) (text : List ℕ) : Type 0 where
+  pub within : length text ≤ limits.length
+  pub is_text : is_utf8 text ≡ true
+
+-- the same of a name, and a value of any bytes
+pub record IsPair (limits : Limits) (p : List ℕ × List ℕ) : Type 0 where
+  pub name : IsName limits p.0
+  pub value : length p.1 ≤ limits.length
+
+-- no more fields than the limit, each such a pair
+abbrev pub ArePairs : Limits → Option Pairs → Type 0
+ArePairs limits None = Unit {0}
+ArePairs limits (Some ps) = (2 * length ps ≤ limits.length) × AllByRecursion (IsPair limits) ps
+
+-- a time and a count that 63 bits hold, in the claim form alone
+abbrev pub IsOfForm : Bool → Option (ℕ × ℕ) → Type 0
+IsOfForm false None = Unit {0}
+IsOfForm false (Some d) = ⊥
+IsOfForm true None = ⊥
+IsOfForm true (Some d) = (d.0 < 2 ^ 63) × (d.1 < 2 ^ 63)
+
+-- an entry of that form within the limits
+pub record IsEntryOf (limits : Limits) (claim : Bool) (e : SentEntry) : Type 0 where
+  pub id : IsName limits e.id
+  pub pairs : ArePairs limits e.fields
+  pub form : IsOfForm claim e.delivery
+
+-- no more entries than the limit, each of that form
+pub record AreEntriesOf (limits : Limits) (claim : Bool) (es : List SentEntry) : Type 0 where
+  pub few : length es ≤ limits.length
+  pub each : AllByRecursion (IsEntryOf limits claim) es
+
+-- The bytes begin with the rows of these entries, which are so many bytes, and the limits allow them.
+pub record BeginsWithRange (limits : Limits) (bytes : List ℕ) (es : List SentEntry) (len : ℕ) : Type 0 where
+  pub form : NilForm
+  pub rest : List ℕ
+  pub is : bytes ≡ rows_bytes form es ++ rest
+  pub len_is : len ≡ length (rows_bytes form es)
+  pub deep : 4 ≤ limits.depth
+  pub allows : AllowsRows limits
+  pub within : AreEntriesOf limits false es
