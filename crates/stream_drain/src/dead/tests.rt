@@ -1,0 +1,1 @@
+//! Looks over a reader and a writer in memory.
