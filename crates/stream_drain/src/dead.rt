@@ -1,5 +1,10 @@
 //! Entries that were delivered too often, on their way to a stream of dead letters.
-ghost use Rattle.std.specs.Prelude.{◌≡◌};
+ghost use Rattle.std.specs.Prelude.{◌≡◌, ◌<◌, ◌≤◌, ◌%◌, ◌∷◌, [], IfOk, MatchOption, OnErr, OnOk, filter, length};
+ghost use Rattle.std.specs.Prelude.{map, nat_le, string_bytes};
+ghost use Rattle.std.specs.List.{flat_map};
+ghost use Rattle.redis_streams.specs.PendingMeaning.{pending_id_meaning, pending_ids_meaning};
+ghost use Rattle.stream_drain.specs.Dead.{Delivers, DeliversSome, IsBehind};
+ghost use Rattle.stream_worker.specs.Letters.{desk_of, names_of};
 
 #[cfg(test)]
 mod tests;
@@ -40,7 +45,7 @@ pub struct Dead {
     consumer: String,
     min_idle: usize,
     deliveries: usize,
-    desk: DeadLetters,
+    stream: String,
     /// It looks after so many reads of new entries, which is when the worker claims.
     every: usize,
     /// So many reads were made since.
@@ -53,16 +58,14 @@ pub struct Dead {
 
 impl Dead {
     /// For the group and the consumer of a worker.
-    pub fn new(alloc: Global, settings: &Settings, to: GiveUp) -> Result<Dead, AllocError> {
-        let key = settings.key.clone()?;
-        let group = settings.group.clone()?;
+    pub fn new(settings: &Settings, to: GiveUp) -> Result<Dead, AllocError> {
         Ok(Dead {
             key: settings.key.clone()?,
             group: settings.group.clone()?,
             consumer: settings.consumer.clone()?,
             min_idle: settings.min_idle,
             deliveries: to.deliveries,
-            desk: DeadLetters::new(alloc, key, group, to.stream),
+            stream: to.stream,
             every: settings.every.max(1),
             reads: 0,
             begun: false,
@@ -110,10 +113,8 @@ impl Dead {
         for _page in 0..PAGES {
             let page = self.page(alloc, connection, &start, own)?;
             let next = next_start(alloc, &page.ids)?;
-            for entry in &too_often(page, self.deliveries) {
-                self.take(alloc, connection, entry, min_idle)?;
-            }
-            deliver(alloc, connection, &mut self.desk, &mut self.letters)?;
+            let entries = too_often(page, self.deliveries);
+            self.give_up(alloc, connection, &entries, min_idle)?;
             match next {
                 Some(next) => start = next,
                 None => return Ok(()),
@@ -149,11 +150,29 @@ impl Dead {
         }
     }
 
-    // Claims an entry, and gives it up; nothing where another consumer has it, or it was deleted.
-    fn take<R: Read + Drop, W: Write + Drop>(
+    // Claims these entries, gives them up, and has their letters delivered.
+    fn give_up<R: Read + Drop, W: Write + Drop>(
         &mut self,
         alloc: Global,
         connection: &mut Connection<R, W>,
+        entries: &[StreamPendingId],
+        min_idle: usize,
+    ) -> Result<()> {
+        let key = self.key.clone()?;
+        let group = self.group.clone()?;
+        let mut desk = DeadLetters::new(alloc, key, group, self.stream.clone()?);
+        for entry in entries {
+            self.claim(alloc, connection, &mut desk, entry, min_idle)?;
+        }
+        deliver(alloc, connection, &mut desk, &mut self.letters)
+    }
+
+    // Claims an entry, and gives it up; nothing where another consumer has it, or it was deleted.
+    fn claim<R: Read + Drop, W: Write + Drop>(
+        &self,
+        alloc: Global,
+        connection: &mut Connection<R, W>,
+        desk: &mut DeadLetters,
         entry: &StreamPendingId,
         min_idle: usize,
     ) -> Result<()> {
@@ -179,7 +198,7 @@ impl Dead {
             bail!("an entry has a name of a field, and no value");
         };
         if let Some(fields) = AtLeastOne::new(&fields) {
-            let given = self.desk.give_up(alloc, id, entry.times_delivered, &fields);
+            let given = desk.give_up(alloc, id, entry.times_delivered, &fields);
             if let Err(error) = given {
                 return Err(not_written(error));
             }
@@ -202,7 +221,7 @@ fn too_often(page: StreamPendingCountReply, deliveries: usize) -> Vec<StreamPend
 /// full.
 fn next_start(alloc: Global, page: &[StreamPendingId]) -> Result<Option<String>, AllocError>
     ensures { IfOk result (λ next. MatchOption next (length page.now < PAGE)
-        (λ start. FollowsAll page.now (string_bytes start) × (PAGE ≤ length page.now))) }
+        (λ start. (PAGE ≤ length page.now) × IsBehind page.now (string_bytes start))) }
 {
     if page.len() < PAGE {
         return Ok(None);
@@ -223,6 +242,9 @@ fn pairs_of<'a>(
     alloc: Global,
     texts: &'a [RawBytes],
 ) -> Result<Option<Vec<(&'a [u8], &'a [u8])>>, AllocError>
+    ensures { IfOk result (λ pairs. MatchOption pairs (length texts.now % 2 ≡ 1)
+        (λ pairs. flat_map (λ pair. pair.0.now ∷ pair.1.now ∷ []) pairs.items
+            ≡ map (λ text. text.0.items) texts.now)) }
 {
     let mut pairs = Vec::with_capacity(alloc, texts.len() / 2)?;
     let mut rest = texts;
@@ -240,7 +262,12 @@ fn deliver<R: Read + Drop, W: Write + Drop>(
     connection: &mut Connection<R, W>,
     desk: &mut DeadLetters,
     letters: &mut u64,
-) -> Result<()> {
+) -> Result<()>
+    ensures ok { OnOk result (Delivers (names_of desk.old) connection.old (desk_of desk.old)
+        connection.new (desk_of desk.new)) }
+    ensures err { OnErr result (DeliversSome (names_of desk.old) connection.old (desk_of desk.old)
+        connection.new (desk_of desk.new)) }
+{
     for _ in 0..u64::MAX {
         let mut question = Vec::new(alloc);
         let asked = match desk.request(alloc, &mut question) {

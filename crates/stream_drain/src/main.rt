@@ -52,7 +52,7 @@ fn main(rt: HostRuntime) -> Result<()> {
     let log = LineLog::open(alloc, file).context(format_args!("cannot open {path}"))?;
     let connection = Connection::new(alloc, rt.reader(), io::writer(&rt), Limits::default())?;
     let mut dead = match dead {
-        Some(to) => Some(Dead::new(alloc, &settings, to)?),
+        Some(to) => Some(Dead::new(&settings, to)?),
         None => None,
     };
     let mut lines = Lines::new(alloc, log, json);

@@ -43,7 +43,7 @@ fn dead_of(alloc: Global) -> Result<Dead, Fail> {
         deliveries: 3,
         stream: String::from_str(alloc, "dead")?,
     };
-    Ok(Dead::new(alloc, &settings, to)?)
+    Ok(Dead::new(&settings, to)?)
 }
 
 // The words of commands, joined by blanks, each command with a semicolon; what is no text is shown
@@ -78,8 +78,7 @@ fn turns(
         coming.extend_from_slice(answer)?;
     }
     let mut sent = Vec::new(alloc);
-    let mut connection =
-        Connection::new(alloc, coming.as_slice(), &mut sent, Limits::default())?;
+    let mut connection = Connection::new(alloc, coming.as_slice(), &mut sent, Limits::default())?;
     let mut ended = Ok(());
     for (asked, in_hand) in questions {
         if let Err(error) = dead.turn(alloc, &mut connection, *asked, *in_hand) {
@@ -91,11 +90,7 @@ fn turns(
 }
 
 // The commands that were asked are these.
-fn are(
-    rt: &(impl AllocGlobal + Abort),
-    asked: String,
-    commands: &[&str],
-) -> Result<(), Fail> {
+fn are(rt: &(impl AllocGlobal + Abort), asked: String, commands: &[&str]) -> Result<(), Fail> {
     let mut wanted = String::new(rt.alloc());
     for command in commands {
         wanted.push_str(command)?;
@@ -151,7 +146,11 @@ fn nothing_is_acknowledged_that_has_no_letter(rt: HostRuntime) -> Result<(), Fai
 #[test]
 fn what_is_gone_has_no_letter(rt: HostRuntime) -> Result<(), Fail> {
     let alloc = rt.alloc();
-    for gone in [NONE, b"*1\r\n*-1\r\n".as_slice(), b"*1\r\n$-1\r\n".as_slice()] {
+    for gone in [
+        NONE,
+        b"*1\r\n*-1\r\n".as_slice(),
+        b"*1\r\n$-1\r\n".as_slice(),
+    ] {
         let mut dead = dead_of(alloc)?;
         let answers = [TWO, gone, NONE];
         let (asked, ended) = turns(alloc, &mut dead, &[(Asked::Nothing, false)], &answers)?;
