@@ -3,7 +3,8 @@ ghost use Rattle.std.specs.Prelude.{◌≡◌, ◌<◌, ◌≤◌, ◌%◌, ◌�
 ghost use Rattle.std.specs.Prelude.{map, nat_le, string_bytes};
 ghost use Rattle.std.specs.List.{flat_map};
 ghost use Rattle.redis_streams.specs.PendingMeaning.{pending_id_meaning, pending_ids_meaning};
-ghost use Rattle.stream_drain.specs.Dead.{Delivers, DeliversSome, IsBehind};
+ghost use Rattle.stream_drain.specs.Dead.{AsksOnly, AsksSome, Delivers, DeliversSome, IsBehind, IsLook, Looks};
+ghost use Rattle.stream_drain.specs.Dead.{LooksSome, dead_names};
 ghost use Rattle.stream_worker.specs.Letters.{desk_of, names_of};
 
 #[cfg(test)]
@@ -11,7 +12,7 @@ mod tests;
 
 use anyhow::{Error, Result, anyhow, bail};
 use redis_connection::{AskError, Connection, ConnectionError};
-use redis_resp::{RawBytes, WriteError};
+use redis_resp::{RawBytes, ToRedisArgs, WriteError};
 use redis_streams::{StreamPendingCountReply, StreamPendingId};
 use redis_wire::ServerError;
 use std::alloc::{AllocError, Global};
@@ -82,7 +83,10 @@ impl Dead {
         connection: &mut Connection<R, W>,
         asked: Asked,
         in_hand: bool,
-    ) -> Result<()> {
+    ) -> Result<()>
+        ensures ok { OnOk result (Looks (dead_names self.old) connection.old connection.new) }
+        ensures err { OnErr result (LooksSome (dead_names self.old) connection.old connection.new) }
+    {
         if asked == Asked::News {
             self.reads = self.reads.saturating_add(1);
         }
@@ -107,7 +111,11 @@ impl Dead {
         alloc: Global,
         connection: &mut Connection<R, W>,
         own: bool,
-    ) -> Result<()> {
+    ) -> Result<()>
+        ensures ok { OnOk result (Looks (dead_names self.old) connection.old connection.new) }
+        ensures err { OnErr result (LooksSome (dead_names self.old) connection.old connection.new) }
+        ensures names { dead_names self.new ≡ dead_names self.old }
+    {
         let min_idle = if own { 0 } else { self.min_idle };
         let mut start = String::from_str(alloc, "-")?;
         for _page in 0..PAGES {
@@ -130,23 +138,19 @@ impl Dead {
         connection: &mut Connection<R, W>,
         start: &str,
         own: bool,
-    ) -> Result<StreamPendingCountReply> {
+    ) -> Result<StreamPendingCountReply>
+        ensures ok { OnOk result (AsksOnly connection.old connection.new) }
+        ensures err { OnErr result (AsksSome connection.old connection.new) }
+    {
         let key = self.key.as_str();
         let group = self.group.as_str();
-        let answer = if own {
+        if own {
             let consumer = self.consumer.as_str();
             let command = xpending_consumer_count(key, group, start, "+", PAGE, consumer);
-            connection.ask_as(alloc, &command)
+            ask_page(alloc, connection, &command)
         } else {
             let command = xpending_idle_count(key, group, self.min_idle, start, "+", PAGE);
-            connection.ask_as(alloc, &command)
-        };
-        match answer {
-            Ok(page) => Ok(page),
-            Err(AskError::Server(error)) if error.code() == b"NOGROUP".as_slice() => {
-                Ok(StreamPendingCountReply::empty(alloc)?)
-            }
-            Err(error) => Err(not_answered(error)),
+            ask_page(alloc, connection, &command)
         }
     }
 
@@ -157,26 +161,32 @@ impl Dead {
         connection: &mut Connection<R, W>,
         entries: &[StreamPendingId],
         min_idle: usize,
-    ) -> Result<()> {
+    ) -> Result<()>
+        ensures ok { OnOk result (Looks (dead_names self.old) connection.old connection.new) }
+        ensures err { OnErr result (LooksSome (dead_names self.old) connection.old connection.new) }
+        ensures names { dead_names self.new ≡ dead_names self.old }
+    {
         let key = self.key.clone()?;
         let group = self.group.clone()?;
         let mut desk = DeadLetters::new(alloc, key, group, self.stream.clone()?);
         for entry in entries {
-            self.claim(alloc, connection, &mut desk, entry, min_idle)?;
+            let rows = self.claim(alloc, connection, entry.id.as_str(), min_idle)?;
+            post(alloc, &mut desk, entry, &rows)?;
         }
         deliver(alloc, connection, &mut desk, &mut self.letters)
     }
 
-    // Claims an entry, and gives it up; nothing where another consumer has it, or it was deleted.
+    // Claims an entry.
     fn claim<R: Read + Drop, W: Write + Drop>(
         &self,
         alloc: Global,
         connection: &mut Connection<R, W>,
-        desk: &mut DeadLetters,
-        entry: &StreamPendingId,
+        id: &str,
         min_idle: usize,
-    ) -> Result<()> {
-        let id = entry.id.as_str();
+    ) -> Result<Claimed>
+        ensures ok { OnOk result (AsksOnly connection.old connection.new) }
+        ensures err { OnErr result (AsksSome connection.old connection.new) }
+    {
         let command = xclaim(
             self.key.as_str(),
             self.group.as_str(),
@@ -184,26 +194,58 @@ impl Dead {
             min_idle,
             AtLeastOne::one(&id),
         );
-        let rows: Claimed = match connection.ask_as(alloc, &command) {
-            Ok(rows) => rows,
-            Err(error) => return Err(not_answered(error)),
-        };
-        let [Some((claimed, texts))] = rows.as_slice() else {
-            return Ok(());
-        };
-        if claimed.as_str() != id {
-            bail!("another entry was answered than the one that was claimed");
+        match connection.ask_as(alloc, &command) {
+            Ok(rows) => Ok(rows),
+            Err(error) => Err(not_answered(error)),
         }
-        let Some(fields) = pairs_of(alloc, texts)? else {
-            bail!("an entry has a name of a field, and no value");
-        };
-        if let Some(fields) = AtLeastOne::new(&fields) {
-            let given = desk.give_up(alloc, id, entry.times_delivered, &fields);
-            if let Err(error) = given {
-                return Err(not_written(error));
-            }
+    }
+}
+
+/// Asks for pending entries; there are none where there is no group.
+fn ask_page<T: ToRedisArgs, R: Read + Drop, W: Write + Drop>(
+    alloc: Global,
+    connection: &mut Connection<R, W>,
+    command: &T,
+) -> Result<StreamPendingCountReply>
+    requires { IsLook (T.args command.now) }
+    ensures ok { OnOk result (AsksOnly connection.old connection.new) }
+    ensures err { OnErr result (AsksSome connection.old connection.new) }
+{
+    match connection.ask_as(alloc, command) {
+        Ok(page) => Ok(page),
+        Err(AskError::Server(error)) if error.code() == b"NOGROUP".as_slice() => {
+            Ok(StreamPendingCountReply::empty(alloc)?)
         }
-        Ok(())
+        Err(error) => Err(not_answered(error)),
+    }
+}
+
+/// Gives an entry up, as it was claimed; not where another consumer has it, or it was deleted.
+fn post(
+    alloc: Global,
+    desk: &mut DeadLetters,
+    entry: &StreamPendingId,
+    rows: &[Option<(String, Vec<RawBytes>)>],
+) -> Result<()>
+    ensures names { names_of desk.new ≡ names_of desk.old }
+    ensures added { (desk_of desk.new).added ≡ (desk_of desk.old).added }
+{
+    let [Some((claimed, texts))] = rows else {
+        return Ok(());
+    };
+    let id = entry.id.as_str();
+    if claimed.as_str() != id {
+        bail!("another entry was answered than the one that was claimed");
+    }
+    let Some(fields) = pairs_of(alloc, texts)? else {
+        bail!("an entry has a name of a field, and no value");
+    };
+    let Some(fields) = AtLeastOne::new(&fields) else {
+        return Ok(());
+    };
+    match desk.give_up(alloc, id, entry.times_delivered, &fields) {
+        Ok(()) => Ok(()),
+        Err(error) => Err(not_written(error)),
     }
 }
 
@@ -244,7 +286,7 @@ fn pairs_of<'a>(
 ) -> Result<Option<Vec<(&'a [u8], &'a [u8])>>, AllocError>
     ensures { IfOk result (λ pairs. MatchOption pairs (length texts.now % 2 ≡ 1)
         (λ pairs. flat_map (λ pair. pair.0.now ∷ pair.1.now ∷ []) pairs.items
-            ≡ map (λ text. text.0.items) texts.now)) }
+        ≡ map (λ text. text.0.items) texts.now)) }
 {
     let mut pairs = Vec::with_capacity(alloc, texts.len() / 2)?;
     let mut rest = texts;
