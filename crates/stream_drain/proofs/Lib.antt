@@ -1,2 +1,3 @@
 -- Lemmas on lines of JSON.
+pub mod DeadLemmas
 pub mod JsonLemmas

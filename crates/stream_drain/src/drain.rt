@@ -1,6 +1,7 @@
 //! The loop of the program: it asks, and takes the answers.
 ghost use Rattle.std.specs.Prelude.{IfOk, IsTrue};
 
+use crate::dead::Dead;
 use crate::lines::{LineFault, Lines};
 use crate::report::Report;
 use anyhow::{Error, Result, anyhow, bail};
@@ -20,17 +21,23 @@ pub fn drain<R: Read + Drop, W: Write + Drop, D: LogFile + Drop, T: Clock + Epri
     mut worker: Worker,
     lines: &mut Lines<D>,
     report: &mut Report,
+    dead: &mut Option<Dead>,
     until_empty: bool,
 ) -> Result<()>
     ensures { IfOk result (λ _. IsTrue until_empty) }
 {
     let alloc = rt.alloc();
+    let mut asked = Asked::Nothing;
     for _ in 0..u64::MAX {
+        if let Some(dead) = dead {
+            let in_hand = lines.done > lines.committed;
+            dead.turn(alloc, &mut connection, asked, in_hand)?;
+        }
         let reply = match worker.ask(alloc, &mut connection, lines) {
             Ok(reply) => reply,
             Err(error) => return Err(not_heard(error, &lines.fault)),
         };
-        let asked = worker.asked();
+        asked = worker.asked();
         let nothing_new = if let Reply::Value(value) = &reply {
             lines.came(alloc, asked, value)?;
             asked == Asked::News && matches!(value, Value::Nil)

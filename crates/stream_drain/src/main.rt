@@ -16,12 +16,14 @@
 //! `--until-empty` is there and nothing new came, and else with 1 and the reason.
 #![tactic(auto)]
 
+mod dead;
 mod drain;
 mod json_lines;
 mod lines;
 mod options;
 mod report;
 
+use crate::dead::Dead;
 use crate::drain::drain;
 use crate::lines::Lines;
 use crate::options::{Options, options_of};
@@ -44,10 +46,15 @@ fn main(rt: HostRuntime) -> Result<()> {
         path,
         until_empty,
         json,
+        dead,
     } = options_of(alloc, &words)?;
     let file = SystemFile::open(&rt, &path).context(format_args!("cannot open {path}"))?;
     let log = LineLog::open(alloc, file).context(format_args!("cannot open {path}"))?;
     let connection = Connection::new(alloc, rt.reader(), io::writer(&rt), Limits::default())?;
+    let mut dead = match dead {
+        Some(to) => Some(Dead::new(&settings, to)?),
+        None => None,
+    };
     let mut lines = Lines::new(alloc, log, json);
     let mut report = Report::new(&rt)?;
     let ended = drain(
@@ -56,8 +63,10 @@ fn main(rt: HostRuntime) -> Result<()> {
         Worker::new(alloc, settings),
         &mut lines,
         &mut report,
+        &mut dead,
         until_empty,
     );
+    report.letters = dead.map(|dead| dead.letters);
     eprintln!(rt; "{report}")?;
     ended
 }

@@ -1,12 +1,16 @@
 //! The words that the program is called with.
 ghost use Rattle.std.specs.Prelude.{◌≤◌, length, IfOk};
 
+#[cfg(test)]
+mod tests;
+
+use crate::dead::GiveUp;
 use anyhow::{Result, bail};
 use std::alloc::Global;
 use stream_worker::{MakeGroup, Settings};
 
 const USAGE: &str = "wanted: KEY GROUP CONSUMER FILE [--from 0|$] [--count N] [--block MS] \
-                     [--idle MS] [--every N] [--json] [--until-empty]";
+                     [--idle MS] [--every N] [--dead N STREAM] [--json] [--until-empty]";
 
 /// What the program is to do.
 #[derive(Drop)]
@@ -17,6 +21,8 @@ pub struct Options {
     pub until_empty: bool,
     /// Each line is JSON.
     pub json: bool,
+    /// Entries that were delivered too often go to a stream of dead letters.
+    pub dead: Option<GiveUp>,
 }
 
 /// An option with a value.
@@ -32,6 +38,10 @@ enum Valued {
     Idle,
     /// It claims after so many reads.
     Every,
+    /// Entries that were delivered so often are given up, and their stream follows.
+    Dead,
+    /// Their stream, after how often that is.
+    DeadStream(usize),
 }
 
 /// The options of these words.
@@ -47,14 +57,12 @@ pub fn options_of(alloc: Global, words: &[String]) -> Result<Options>
         path: String::from_str(alloc, path)?,
         until_empty: false,
         json: false,
+        dead: None,
     };
     let mut valued = None;
     for word in rest {
         valued = match valued {
-            Some(option) => {
-                set(&mut options.settings, option, word)?;
-                None
-            }
+            Some(option) => set(alloc, &mut options, option, word)?,
             None if word.as_str() == "--until-empty" => {
                 options.until_empty = true;
                 None
@@ -79,11 +87,19 @@ fn valued_of(word: &str) -> Result<Valued> {
         "--block" => Valued::Block,
         "--idle" => Valued::Idle,
         "--every" => Valued::Every,
+        "--dead" => Valued::Dead,
         _ => bail!("{word}: {USAGE}"),
     })
 }
 
-fn set(settings: &mut Settings, option: Valued, value: &str) -> Result<()> {
+// Takes the value of an option; a second value may follow.
+fn set(
+    alloc: Global,
+    options: &mut Options,
+    option: Valued,
+    value: &str,
+) -> Result<Option<Valued>> {
+    let settings = &mut options.settings;
     match option {
         Valued::From => {
             settings.make_group = match value {
@@ -96,8 +112,16 @@ fn set(settings: &mut Settings, option: Valued, value: &str) -> Result<()> {
         Valued::Block => settings.block = number(value)?,
         Valued::Idle => settings.min_idle = number(value)?,
         Valued::Every => settings.every = number(value)?,
+        Valued::Dead => return Ok(Some(Valued::DeadStream(number(value)?))),
+        Valued::DeadStream(deliveries) => {
+            if deliveries == 0 || value == settings.key.as_str() {
+                bail!("--dead {deliveries} {value}: {USAGE}");
+            }
+            let stream = String::from_str(alloc, value)?;
+            options.dead = Some(GiveUp { deliveries, stream });
+        }
     }
-    Ok(())
+    Ok(None)
 }
 
 fn number(value: &str) -> Result<usize> {

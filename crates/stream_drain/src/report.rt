@@ -12,17 +12,20 @@ pub struct Report {
     shown: Instant,
     entries: u64,
     batches: u64,
+    /// So many dead letters were sent, where any may be.
+    pub letters: Option<u64>,
 }
 
 impl Report {
     /// Nothing was done yet.
     pub fn new<R: Clock>(rt: &R) -> Result<Report>
-        ensures { IfOk result (λ r. (r.entries ≡ 0) × (r.batches ≡ 0)) }
+        ensures { IfOk result (λ r. (r.entries ≡ 0) × (r.batches ≡ 0) × (r.letters ≡ None)) }
     {
         Ok(Report {
             shown: Instant::now(rt)?,
             entries: 0,
             batches: 0,
+            letters: None,
         })
     }
 
@@ -42,9 +45,14 @@ impl Report {
 }
 
 impl fmt::Display for Report {
-    ghost output = { λ r. Some (decimal r.entries ++ codes " entries in " ++ decimal r.batches ++ codes " batches") };
+    ghost output = { λ r. Some (decimal r.entries ++ codes " entries in " ++ decimal r.batches
+        ++ codes " batches" ++ letters_text r.letters) };
 
     fn fmt<W: fmt::Write>(&self, f: &mut fmt::Formatter<W>) -> fmt::Result {
-        write!(f, "{} entries in {} batches", self.entries, self.batches)
+        write!(f, "{} entries in {} batches", self.entries, self.batches)?;
+        match self.letters {
+            Some(letters) => write!(f, ", {letters} dead letters"),
+            None => Ok(()),
+        }
     }
 }

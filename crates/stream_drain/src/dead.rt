@@ -1,0 +1,356 @@
+//! Entries that were delivered too often, on their way to a stream of dead letters.
+ghost use Rattle.std.specs.Prelude.{◌≡◌, ◌<◌, ◌≤◌, ◌%◌, ◌∷◌, [], IfOk, MatchOption, OnErr, OnOk, filter, length};
+ghost use Rattle.std.specs.Prelude.{map, nat_le, string_bytes};
+ghost use Rattle.std.specs.List.{flat_map};
+ghost use Rattle.redis_streams.specs.PendingMeaning.{pending_id_meaning, pending_ids_meaning};
+ghost use Rattle.stream_drain.specs.Dead.{AsksOnly, AsksSome, Delivers, DeliversSome, IsBehind, IsLook, Looks};
+ghost use Rattle.stream_drain.specs.Dead.{LooksSome, dead_names};
+ghost use Rattle.stream_worker.specs.Letters.{desk_of, names_of};
+
+#[cfg(test)]
+mod tests;
+
+use anyhow::{Error, Result, anyhow, bail};
+use redis_connection::{AskError, Connection, ConnectionError};
+use redis_resp::{RawBytes, ToRedisArgs, WriteError};
+use redis_streams::{StreamPendingCountReply, StreamPendingId};
+use redis_wire::ServerError;
+use std::alloc::{AllocError, Global};
+use std::io::{Read, Write};
+use stream_commands::{AtLeastOne, xclaim, xpending_consumer_count, xpending_idle_count};
+use stream_worker::{Asked, DeadLetters, LetterAsked, LetterError, Settings};
+
+/// So many pending entries are asked for at once.
+const PAGE: usize = 100;
+
+/// So many times at most they are asked for in one look.
+const PAGES: usize = 1000;
+
+/// What XCLAIM answers: the ids, each with its fields in order; or nil for what was deleted.
+type Claimed = Vec<Option<(String, Vec<RawBytes>)>>;
+
+/// Which entries are given up, and where their letters go.
+#[derive(Drop)]
+pub struct GiveUp {
+    /// Those that were delivered so often or more.
+    pub deliveries: usize,
+    /// The stream of dead letters.
+    pub stream: String,
+}
+
+/// Looks for pending entries that were delivered too often, and gives them up.
+#[derive(Drop)]
+pub struct Dead {
+    key: String,
+    group: String,
+    consumer: String,
+    min_idle: usize,
+    deliveries: usize,
+    stream: String,
+    /// It looks after so many reads of new entries, which is when the worker claims.
+    every: usize,
+    /// So many reads were made since.
+    reads: usize,
+    /// It looked before the worker began.
+    begun: bool,
+    /// So many entries have a letter, and were acknowledged.
+    pub letters: u64,
+}
+
+impl Dead {
+    /// For the group and the consumer of a worker.
+    pub fn new(settings: &Settings, to: GiveUp) -> Result<Dead, AllocError> {
+        Ok(Dead {
+            key: settings.key.clone()?,
+            group: settings.group.clone()?,
+            consumer: settings.consumer.clone()?,
+            min_idle: settings.min_idle,
+            deliveries: to.deliveries,
+            stream: to.stream,
+            every: settings.every.max(1),
+            reads: 0,
+            begun: false,
+            letters: 0,
+        })
+    }
+
+    /// Before the next command of a worker, whose last one asked this: looks before the first one,
+    /// and before each claim. It waits while the worker has entries in hand, since these are
+    /// pending too.
+    pub fn turn<R: Read + Drop, W: Write + Drop>(
+        &mut self,
+        alloc: Global,
+        connection: &mut Connection<R, W>,
+        asked: Asked,
+        in_hand: bool,
+    ) -> Result<()>
+        ensures ok { OnOk result (Looks (dead_names self.old) connection.old connection.new) }
+        ensures err { OnErr result (LooksSome (dead_names self.old) connection.old connection.new) }
+    {
+        if asked == Asked::News {
+            self.reads = self.reads.saturating_add(1);
+        }
+        if in_hand {
+            return Ok(());
+        }
+        if !self.begun {
+            self.begun = true;
+            self.look(alloc, connection, true)?;
+            self.look(alloc, connection, false)?;
+        } else if self.reads >= self.every {
+            self.reads = 0;
+            self.look(alloc, connection, false)?;
+        }
+        Ok(())
+    }
+
+    // Looks at what is pending for the consumer itself, or at what anybody left for the idle time,
+    // page by page.
+    fn look<R: Read + Drop, W: Write + Drop>(
+        &mut self,
+        alloc: Global,
+        connection: &mut Connection<R, W>,
+        own: bool,
+    ) -> Result<()>
+        ensures ok { OnOk result (Looks (dead_names self.old) connection.old connection.new) }
+        ensures err { OnErr result (LooksSome (dead_names self.old) connection.old connection.new) }
+        ensures names { dead_names self.new ≡ dead_names self.old }
+    {
+        let min_idle = if own { 0 } else { self.min_idle };
+        let mut start = String::from_str(alloc, "-")?;
+        for _page in 0..PAGES {
+            let page = self.page(alloc, connection, &start, own)?;
+            let next = next_start(alloc, &page.ids)?;
+            let entries = too_often(page, self.deliveries);
+            self.give_up(alloc, connection, &entries, min_idle)?;
+            match next {
+                Some(next) => start = next,
+                None => return Ok(()),
+            }
+        }
+        Ok(())
+    }
+
+    // The pending entries from this id on; none where there is no group.
+    fn page<R: Read + Drop, W: Write + Drop>(
+        &self,
+        alloc: Global,
+        connection: &mut Connection<R, W>,
+        start: &str,
+        own: bool,
+    ) -> Result<StreamPendingCountReply>
+        ensures ok { OnOk result (AsksOnly connection.old connection.new) }
+        ensures err { OnErr result (AsksSome connection.old connection.new) }
+    {
+        let key = self.key.as_str();
+        let group = self.group.as_str();
+        if own {
+            let consumer = self.consumer.as_str();
+            let command = xpending_consumer_count(key, group, start, "+", PAGE, consumer);
+            ask_page(alloc, connection, &command)
+        } else {
+            let command = xpending_idle_count(key, group, self.min_idle, start, "+", PAGE);
+            ask_page(alloc, connection, &command)
+        }
+    }
+
+    // Claims these entries, gives them up, and has their letters delivered.
+    fn give_up<R: Read + Drop, W: Write + Drop>(
+        &mut self,
+        alloc: Global,
+        connection: &mut Connection<R, W>,
+        entries: &[StreamPendingId],
+        min_idle: usize,
+    ) -> Result<()>
+        ensures ok { OnOk result (Looks (dead_names self.old) connection.old connection.new) }
+        ensures err { OnErr result (LooksSome (dead_names self.old) connection.old connection.new) }
+        ensures names { dead_names self.new ≡ dead_names self.old }
+    {
+        let key = self.key.clone()?;
+        let group = self.group.clone()?;
+        let mut desk = DeadLetters::new(alloc, key, group, self.stream.clone()?);
+        for entry in entries {
+            let rows = self.claim(alloc, connection, entry.id.as_str(), min_idle)?;
+            post(alloc, &mut desk, entry, &rows)?;
+        }
+        deliver(alloc, connection, &mut desk, &mut self.letters)
+    }
+
+    // Claims an entry.
+    fn claim<R: Read + Drop, W: Write + Drop>(
+        &self,
+        alloc: Global,
+        connection: &mut Connection<R, W>,
+        id: &str,
+        min_idle: usize,
+    ) -> Result<Claimed>
+        ensures ok { OnOk result (AsksOnly connection.old connection.new) }
+        ensures err { OnErr result (AsksSome connection.old connection.new) }
+    {
+        let command = xclaim(
+            self.key.as_str(),
+            self.group.as_str(),
+            self.consumer.as_str(),
+            min_idle,
+            AtLeastOne::one(&id),
+        );
+        match connection.ask_as(alloc, &command) {
+            Ok(rows) => Ok(rows),
+            Err(error) => Err(not_answered(error)),
+        }
+    }
+}
+
+/// Asks for pending entries; there are none where there is no group.
+fn ask_page<T: ToRedisArgs, R: Read + Drop, W: Write + Drop>(
+    alloc: Global,
+    connection: &mut Connection<R, W>,
+    command: &T,
+) -> Result<StreamPendingCountReply>
+    requires { IsLook (T.args command.now) }
+    ensures ok { OnOk result (AsksOnly connection.old connection.new) }
+    ensures err { OnErr result (AsksSome connection.old connection.new) }
+{
+    match connection.ask_as(alloc, command) {
+        Ok(page) => Ok(page),
+        Err(AskError::Server(error)) if error.code() == b"NOGROUP".as_slice() => {
+            Ok(StreamPendingCountReply::empty(alloc)?)
+        }
+        Err(error) => Err(not_answered(error)),
+    }
+}
+
+/// Gives an entry up, as it was claimed; not where another consumer has it, or it was deleted.
+fn post(
+    alloc: Global,
+    desk: &mut DeadLetters,
+    entry: &StreamPendingId,
+    rows: &[Option<(String, Vec<RawBytes>)>],
+) -> Result<()>
+    ensures names { names_of desk.new ≡ names_of desk.old }
+    ensures added { (desk_of desk.new).added ≡ (desk_of desk.old).added }
+{
+    let [Some((claimed, texts))] = rows else {
+        return Ok(());
+    };
+    let id = entry.id.as_str();
+    if claimed.as_str() != id {
+        bail!("another entry was answered than the one that was claimed");
+    }
+    let Some(fields) = pairs_of(alloc, texts)? else {
+        bail!("an entry has a name of a field, and no value");
+    };
+    let Some(fields) = AtLeastOne::new(&fields) else {
+        return Ok(());
+    };
+    match desk.give_up(alloc, id, entry.times_delivered, &fields) {
+        Ok(()) => Ok(()),
+        Err(error) => Err(not_written(error)),
+    }
+}
+
+/// Those of these pending entries that were delivered so often or more, in order.
+fn too_often(page: StreamPendingCountReply, deliveries: usize) -> Vec<StreamPendingId>
+    ensures { map pending_id_meaning result.items
+        ≡ filter (λ p. nat_le deliveries p.times_delivered) (pending_ids_meaning page) }
+{
+    let mut ids = page.ids;
+    ids.retain(|entry| entry.times_delivered >= deliveries);
+    ids
+}
+
+/// Where the page behind this one starts, which is behind its last id; None where this one is not
+/// full.
+fn next_start(alloc: Global, page: &[StreamPendingId]) -> Result<Option<String>, AllocError>
+    ensures { IfOk result (λ next. MatchOption next (length page.now < PAGE)
+        (λ start. (PAGE ≤ length page.now) × IsBehind page.now (string_bytes start))) }
+{
+    if page.len() < PAGE {
+        return Ok(None);
+    }
+    match page {
+        [] => Ok(None),
+        [.., last] => {
+            let mut start = String::from_str(alloc, "(")?;
+            start.push_str(&last.id)?;
+            Ok(Some(start))
+        }
+    }
+}
+
+/// The names and values that these texts are by turns, in order; None where the last name has no
+/// value.
+fn pairs_of<'a>(
+    alloc: Global,
+    texts: &'a [RawBytes],
+) -> Result<Option<Vec<(&'a [u8], &'a [u8])>>, AllocError>
+    ensures { IfOk result (λ pairs. MatchOption pairs (length texts.now % 2 ≡ 1)
+        (λ pairs. flat_map (λ pair. pair.0.now ∷ pair.1.now ∷ []) pairs.items
+        ≡ map (λ text. text.0.items) texts.now)) }
+{
+    let mut pairs = Vec::with_capacity(alloc, texts.len() / 2)?;
+    let mut rest = texts;
+    while let [name, value, more @ ..] = rest {
+        pairs.push((name.0.as_slice(), value.0.as_slice()))?;
+        rest = more;
+    }
+    Ok(if rest.is_empty() { Some(pairs) } else { None })
+}
+
+/// Sends what the desk asks, and takes the answers, until nothing waits; counts the entries that
+/// were acknowledged.
+fn deliver<R: Read + Drop, W: Write + Drop>(
+    alloc: Global,
+    connection: &mut Connection<R, W>,
+    desk: &mut DeadLetters,
+    letters: &mut u64,
+) -> Result<()>
+    ensures ok { OnOk result (Delivers (names_of desk.old) connection.old (desk_of desk.old)
+        connection.new (desk_of desk.new)) }
+    ensures err { OnErr result (DeliversSome (names_of desk.old) connection.old (desk_of desk.old)
+        connection.new (desk_of desk.new)) }
+{
+    for _ in 0..u64::MAX {
+        let mut question = Vec::new(alloc);
+        let asked = match desk.request(alloc, &mut question) {
+            Ok(LetterAsked::Nothing) => return Ok(()),
+            Ok(asked) => asked,
+            Err(error) => return Err(not_written(error)),
+        };
+        connection.send_bytes(&question)?;
+        let reply = connection.receive(alloc)?;
+        if let Err(error) = desk.answered(reply) {
+            return Err(not_taken(error));
+        }
+        if asked == LetterAsked::Acknowledge {
+            *letters = letters.saturating_add(1);
+        }
+    }
+    bail!("the last letter came")
+}
+
+// Why a command was not written.
+fn not_written(error: WriteError) -> Error {
+    ConnectionError::from(error).into()
+}
+
+// Why a command has no answer.
+fn not_answered(error: AskError) -> Error {
+    match error {
+        AskError::Server(error) => said(&error),
+        error => error.into(),
+    }
+}
+
+// Why an answer was not taken.
+fn not_taken(error: LetterError) -> Error {
+    match error {
+        LetterError::Server(error) => said(&error),
+        error => error.into(),
+    }
+}
+
+// What the server says.
+fn said(error: &ServerError) -> Error {
+    anyhow!("the server answers {error}")
+}
