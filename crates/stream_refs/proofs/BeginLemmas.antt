@@ -1,7 +1,7 @@
 -- What bytes begin with that servers write.
-use Rattle.std.proofs.Common.{◌≡◌, ◌≤◌, ◌<◌, ◌^◌, ◌+◌, ◌*◌, ◌∙◌, ℕ, zero, suc, pos, List, [], ◌∷◌, ◌++◌, flat_map, length}
-use Rattle.std.proofs.Common.{drop, codes, decimal, Option, Some, None, Ok, inl, inr, refl, sym, ap, arith, append_assoc}
-use Rattle.std.proofs.Common.{append-nil, add-one, Bool, true, false, Err}
+use Rattle.std.proofs.Common.{◌≡◌, ◌≤◌, ◌<◌, ◌^◌, ◌+◌, ◌*◌, ◌∙◌, ℕ, zero, suc, pos, List, [], ◌∷◌, ◌++◌, length}
+use Rattle.std.proofs.Common.{drop, codes, decimal, Option, Some, None, Ok, inl, inr, refl, sym, ap, arith}
+use Rattle.std.proofs.Common.{flat_map, append_assoc, add-one, Bool, true, false, Err}
 use Rattle.std.specs.List.{AllByRecursion, list_all}
 use Rattle.std.proofs.lemmas.Fmt.{decimal_nonempty, length-decimal-le}
 use Rattle.redis_resp.specs.Tree.{nil, array, trees}
@@ -23,8 +23,8 @@ use Rattle.redis_wire.proofs.PlaceLemmas.{nil_reads}
 use Rattle.stream_refs.specs.Sent.{Pairs, SentEntry}
 use Rattle.stream_refs.specs.Added.{row_count}
 use Rattle.stream_refs.specs.Shapes.{NilForm, no_array, no_text, null, nil_bytes, pair_bytes, fields_bytes}
-use Rattle.stream_refs.specs.Shapes.{delivery_bytes, row_len, entry_bytes, AllowsRows, IsPair, ArePairs, IsOfForm}
-use Rattle.stream_refs.specs.Shapes.{IsEntryOf}
+use Rattle.stream_refs.specs.Shapes.{delivery_bytes, row_len, entry_bytes, rows_bytes, AllowsRows, IsPair, ArePairs}
+use Rattle.stream_refs.specs.Shapes.{IsOfForm, IsEntryOf}
 
 -- a line that CR LF ends
 line_again : (limits : Limits) (mark : ℕ) (line rest : List ℕ) → list_all is_inner line ≡ true
@@ -132,12 +132,12 @@ no_head limits bytes at count after head rest h =
     (sym (head.reads 0) ∙ nil_reads limits 0 (drop at bytes) rest h) in
     not_nil b.0.0 b.0.1 rest b.2
 
-array_split : (form : NilForm) (ps : Pairs) (rest left : List ℕ) → left ≡ fields_bytes form (Some ps) ++ rest
+pub array_split : (form : NilForm) (ps : Pairs) (rest left : List ℕ) → left ≡ fields_bytes form (Some ps) ++ rest
     → left ≡ count_bytes 42 (2 * length ps) ++ (flat_map pair_bytes ps ++ rest)
 unfolding fields_bytes
 array_split form ps rest left is = is ∙ append_assoc (count_bytes 42 (2 * length ps)) (flat_map pair_bytes ps) rest
 
-nil_split : (form : NilForm) (rest left : List ℕ) → left ≡ fields_bytes form None ++ rest
+pub nil_split : (form : NilForm) (rest left : List ℕ) → left ≡ fields_bytes form None ++ rest
     → left ≡ nil_bytes form ++ rest
 unfolding fields_bytes
 nil_split form rest left is = is
@@ -205,7 +205,7 @@ abbrev pub behind_head : NilForm → SentEntry → List ℕ → List ℕ
 behind_head form e rest =
     bulk_bytes e.id ++ (fields_bytes form e.fields ++ (delivery_bytes e.delivery ++ rest))
 
-row_split : (form : NilForm) (e : SentEntry) (rest left : List ℕ) → left ≡ entry_bytes form e ++ rest
+pub row_split : (form : NilForm) (e : SentEntry) (rest left : List ℕ) → left ≡ entry_bytes form e ++ rest
     → left ≡ count_bytes 42 (row_len e.delivery) ++ behind_head form e rest
 unfolding entry_bytes
 row_split form e rest left is =
@@ -216,6 +216,15 @@ row_split form e rest left is =
     is ∙ append_assoc head (id ++ (fields ++ last)) rest
     ∙ ap (λ (z : List ℕ). head ++ z) (append_assoc id (fields ++ last) rest)
     ∙ ap (λ (z : List ℕ). head ++ (id ++ z)) (append_assoc fields last rest)
+
+pub rows_split : (form : NilForm) (es : List SentEntry) (rest left : List ℕ) → left ≡ rows_bytes form es ++ rest
+    → left ≡ count_bytes 42 (length es) ++ (flat_map (entry_bytes form) es ++ rest)
+unfolding rows_bytes
+rows_split form es rest left is = is ∙ append_assoc (count_bytes 42 (length es)) (flat_map (entry_bytes form) es) rest
+
+pub form_small : (claim : Bool) (d : ℕ × ℕ) → IsOfForm claim (Some d) → (d.0 < 2 ^ 63) × (d.1 < 2 ^ 63)
+form_small false d h = absurd h
+form_small true d h = h
 
 row_len_is : (claim : Bool) (d : Option (ℕ × ℕ)) → IsOfForm claim d → row_len d ≡ row_count claim
 row_len_is false None h = refl

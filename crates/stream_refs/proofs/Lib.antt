@@ -11,3 +11,5 @@ pub mod ReadLemmas
 pub mod IdLemmas
 pub mod AutoClaimLemmas
 pub mod BeginLemmas
+pub mod ShapeLemmas
+pub mod ShapeStreamLemmas

@@ -78,7 +78,7 @@ rows_of bytes fields (e ∷ es) = ap (λ (ts : List Tree). row_tree (entry_in by
     (rows_of bytes fields es)
 
 -- a value is a whole reply: no value begins with the byte of a message that is pushed
-reads_reply : (limits : Limits) (d : ℕ) (bytes : List ℕ) (x : Answer × List ℕ) → d ≡ limits.depth
+pub reads_reply : (limits : Limits) (d : ℕ) (bytes : List ℕ) (x : Answer × List ℕ) → d ≡ limits.depth
     → value_at limits d bytes ≡ Ok x → reply_at limits bytes ≡ Ok x
 unfolding value_at level by_kind reply_at
 reads_reply limits zero bytes x is e = absurd cc

@@ -40,11 +40,11 @@ array_members : (ss : List SentStream) → flat_map (stream_members false) ss �
 array_members [] = refl
 array_members (s ∷ ss) = ap (λ (ts : List Tree). stream_tree s ∷ ts) (array_members ss)
 
-map_members : (ss : List SentStream) → two_by_two (flat_map (stream_members true) ss) ≡ Some (map stream_pair ss)
+pub map_members : (ss : List SentStream) → two_by_two (flat_map (stream_members true) ss) ≡ Some (map stream_pair ss)
 map_members [] = refl
 map_members (s ∷ ss) = rw (map_members ss) refl
 
-map_of : (inner : List ℕ → Read Answer) (n : ℕ) (bytes : List ℕ) (ts : List Tree) (ps : List (Tree × Tree))
+pub map_of : (inner : List ℕ → Read Answer) (n : ℕ) (bytes : List ℕ) (ts : List Tree) (ps : List (Tree × Tree))
     (after : List ℕ) → many inner (2 * n) bytes ≡ Ok (values ts, after)
     → two_by_two ts ≡ Some ps → group_body_at inner Map (Some n) bytes ≡ Ok (value (map_of_pairs (pairs ps)), after)
 unfolding group_body_at group_tree

@@ -1,5 +1,5 @@
 -- What reading a reply of any shape comes to.
-use Rattle.std.specs.Prelude.{◌≤◌, ℕ, List, ◌++◌, length, take, Result, Ok, Err}
+use Rattle.std.specs.Prelude.{◌≡◌, ◌≤◌, ℕ, List, ◌++◌, length, take, Result, Ok, Err}
 use Rattle.redis_wire.specs.declared.limits.Limits.{Limits}
 use Rattle.redis_wire.specs.declared.fault.WireError.{WireError}
 use Rattle.redis_wire.specs.declared.fault.WireError.TheVariants as errors
@@ -16,6 +16,7 @@ use Rattle.stream_refs.specs.declared.outcome.RangeOutcome.{RangeOutcome}
 use Rattle.stream_refs.specs.declared.outcome.RangeOutcome.TheVariants as ranges
 use Rattle.stream_refs.specs.declared.outcome.ReadOutcome.{ReadOutcome}
 use Rattle.stream_refs.specs.declared.outcome.ReadOutcome.TheVariants as reads
+use Rattle.stream_refs.specs.Sent.{SentEntry, SentStream}
 use Rattle.stream_refs.specs.Range.{IsRange, IsRead}
 
 -- in place; or the record of the reply at the head, its refusal or the server's error; or the bytes end too
@@ -40,3 +41,19 @@ IsReadOutcome limits bytes (Ok reads.Incomplete) = NoReply limits bytes × EndTo
 IsReadOutcome limits bytes (Err errors.Memory) = Unit {0}
 IsReadOutcome limits bytes (Err (errors.Fault fault)) =
     ((more : List ℕ) → NoReply limits (bytes ++ more)) × IsFirstFault limits bytes (errors.Fault fault)
+
+-- in place, and these are the entries and this the length; or memory ran out
+abbrev pub IsRangeInPlace : List SentEntry → ℕ → Result RangeOutcome WireError → Type 0
+IsRangeInPlace es len (Ok (ranges.InPlace r)) = (r.entries ≡ es) × (r.len ≡ len)
+IsRangeInPlace es len (Ok (ranges.Copied reply n)) = ⊥
+IsRangeInPlace es len (Ok ranges.Incomplete) = ⊥
+IsRangeInPlace es len (Err errors.Memory) = Unit {0}
+IsRangeInPlace es len (Err (errors.Fault fault)) = ⊥
+
+-- the same of a read
+abbrev pub IsReadInPlace : List SentStream → ℕ → Result ReadOutcome WireError → Type 0
+IsReadInPlace ss len (Ok (reads.InPlace r)) = (r.streams ≡ ss) × (r.len ≡ len)
+IsReadInPlace ss len (Ok (reads.Copied reply n)) = ⊥
+IsReadInPlace ss len (Ok reads.Incomplete) = ⊥
+IsReadInPlace ss len (Err errors.Memory) = Unit {0}
+IsReadInPlace ss len (Err (errors.Fault fault)) = ⊥

@@ -6,7 +6,7 @@ use Rattle.std.specs.Str.{is_utf8}
 use Rattle.redis_wire.specs.declared.limits.Limits.{Limits}
 use Rattle.redis_wire.specs.Packed.{bulk_bytes}
 use Rattle.redis_wire.specs.Written.{line_bytes, count_bytes}
-use Rattle.stream_refs.specs.Sent.{Pairs, SentEntry}
+use Rattle.stream_refs.specs.Sent.{Pairs, SentEntry, SentStream}
 
 -- the three ways to write that there is no value
 pub data NilForm : Type 0 where
@@ -47,6 +47,27 @@ entry_bytes form e = count_bytes 42 (row_len e.delivery)
 -- the rows of entries, as XRANGE answers them
 unfoldable pub rows_bytes : NilForm → List SentEntry → List ℕ
 rows_bytes form es = count_bytes 42 (length es) ++ flat_map (entry_bytes form) es
+
+-- what stands before the name of a stream: nothing in a map, and in an array the head of an array of two
+unfoldable pub stream_head : Bool → List ℕ
+stream_head true = []
+stream_head false = count_bytes 42 2
+
+-- a stream in a map or in an array: its name and its rows
+unfoldable pub stream_bytes : Bool → NilForm → SentStream → List ℕ
+stream_bytes in_map form s = stream_head in_map ++ (bulk_bytes s.name ++ rows_bytes form s.entries)
+
+-- the three ways to answer streams
+pub data ReadForm : Type 0 where
+  as_nil : ReadForm
+  as_array : ReadForm
+  as_map : ReadForm
+
+-- streams as XREAD and XREADGROUP answer them: nil where there is none, an array of them, in RESP3 a map
+unfoldable pub streams_bytes : ReadForm → NilForm → List SentStream → List ℕ
+streams_bytes as_nil form ss = nil_bytes form
+streams_bytes as_array form ss = count_bytes 42 (length ss) ++ flat_map (stream_bytes false form) ss
+streams_bytes as_map form ss = count_bytes 37 (length ss) ++ flat_map (stream_bytes true form) ss
 
 -- ---- within the limits
 
@@ -98,3 +119,33 @@ pub record BeginsWithRange (limits : Limits) (bytes : List ℕ) (es : List SentE
   pub deep : 4 ≤ limits.depth
   pub allows : AllowsRows limits
   pub within : AreEntriesOf limits false es
+
+-- a stream with a name and entries within the limits
+pub record IsStreamOf (limits : Limits) (claim : Bool) (s : SentStream) : Type 0 where
+  pub name : IsName limits s.name
+  pub entries : AreEntriesOf limits claim s.entries
+
+-- no more streams than the limit, each such a stream
+pub record AreStreamsOf (limits : Limits) (claim : Bool) (ss : List SentStream) : Type 0 where
+  pub few : length ss ≤ limits.length
+  pub each : AllByRecursion (IsStreamOf limits claim) ss
+
+-- nil says that there is none
+abbrev pub IsToldAs : ReadForm → List SentStream → Type 0
+IsToldAs as_nil ss = ss ≡ []
+IsToldAs as_array ss = Unit {0}
+IsToldAs as_map ss = Unit {0}
+
+-- The bytes begin with these streams, whose rows have that form, which are so many bytes, and the limits
+-- allow them.
+pub record BeginsWithStreams (limits : Limits) (claim : Bool) (bytes : List ℕ) (ss : List SentStream) (len : ℕ)
+    : Type 0 where
+  pub told : ReadForm
+  pub form : NilForm
+  pub rest : List ℕ
+  pub is : bytes ≡ streams_bytes told form ss ++ rest
+  pub len_is : len ≡ length (streams_bytes told form ss)
+  pub told_is : IsToldAs told ss
+  pub deep : 6 ≤ limits.depth
+  pub allows : AllowsRows limits
+  pub within : AreStreamsOf limits claim ss

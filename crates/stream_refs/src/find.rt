@@ -1,9 +1,11 @@
 //! Finds where the entries of a reply stand, in tables of any kind.
-ghost use Rattle.std.specs.Prelude.{◌≡◌, ◌≤◌, IfOk, IfSome, map};
+ghost use Rattle.std.specs.Prelude.{◌≡◌, ◌≤◌, ℕ, List, IfOk, IfSome, IsSomeAnd, map};
 ghost use Rattle.stream_refs.specs.Held.{none_held};
 ghost use Rattle.stream_refs.specs.Placed.{entry_in, stream_in};
 ghost use Rattle.stream_refs.specs.Added.{IsFilled};
 ghost use Rattle.stream_refs.specs.Range.{IsRange, IsRead};
+ghost use Rattle.stream_refs.specs.Sent.{SentEntry};
+ghost use Rattle.stream_refs.specs.Shapes.{BeginsWithRange};
 
 use crate::room::Places;
 use crate::rows::add_entries;
@@ -19,8 +21,11 @@ pub fn find_range<P: Places>(
     bytes: &[u8],
     places: &mut P,
 ) -> Result<Option<usize>, P::Refusal>
-    ensures { IfOk result (λ o. IfSome o (λ len. IsRange limits bytes.now
+    ensures is { IfOk result (λ o. IfSome o (λ len. IsRange limits bytes.now
         (map (entry_in bytes.now (P.held places.new).fields) (P.held places.new).entries) len)) }
+    ensures found { (es : List SentEntry) (len : ℕ) → BeginsWithRange limits bytes.now es len
+        → IfOk result (λ o. IsSomeAnd o (λ n. (map (entry_in bytes.now (P.held places.new).fields)
+        (P.held places.new).entries ≡ es) × (n ≡ len))) }
 {
     places.clear();
     if limits.depth < 4 {

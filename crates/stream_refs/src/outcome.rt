@@ -1,6 +1,8 @@
 //! Replies of any shape: where they stand, or by the copying path.
-ghost use Rattle.std.specs.Prelude.{◌≡◌, IfOk, IfSome};
-ghost use Rattle.stream_refs.specs.Outcome.{IsRangeOutcome, IsReadOutcome};
+ghost use Rattle.std.specs.Prelude.{◌≡◌, ℕ, List, IfOk, IfSome};
+ghost use Rattle.stream_refs.specs.Outcome.{IsRangeOutcome, IsReadOutcome, IsRangeInPlace};
+ghost use Rattle.stream_refs.specs.Sent.{SentEntry};
+ghost use Rattle.stream_refs.specs.Shapes.{BeginsWithRange};
 
 use crate::entry_list::RangeRef;
 use crate::stream_list::ReadRef;
@@ -48,7 +50,9 @@ pub fn read_any_range<'a>(
     bytes: &'a [u8],
     limits: Limits,
 ) -> Result<RangeOutcome<'a>, WireError>
-    ensures { IsRangeOutcome limits bytes.now result }
+    ensures is { IsRangeOutcome limits bytes.now result }
+    ensures found { (es : List SentEntry) (len : ℕ) → BeginsWithRange limits bytes.now es len
+        → IsRangeInPlace es len result }
 {
     match tape.read_range(bytes, limits) {
         Err(_) => Err(WireError::Memory),

@@ -1,8 +1,10 @@
 //! The tables of places of a reply.
-ghost use Rattle.std.specs.Prelude.{◌≡◌, IfOk, IfSome};
+ghost use Rattle.std.specs.Prelude.{◌≡◌, ℕ, List, IfOk, IfSome, IsSomeAnd};
 ghost use Rattle.stream_refs.specs.Held.{none_held};
 ghost use Rattle.stream_refs.specs.Range.{IsRange, IsRead};
 ghost use Rattle.stream_refs.specs.AutoClaim.{IsAutoClaim, IsJustId};
+ghost use Rattle.stream_refs.specs.Sent.{SentEntry};
+ghost use Rattle.stream_refs.specs.Shapes.{BeginsWithRange};
 
 use crate::autoclaim::{
     AutoClaimJustIdRef, AutoClaimRef, autoclaim_at, find_autoclaim, find_justid, justid_at,
@@ -68,7 +70,9 @@ impl EntryTape {
         bytes: &'a [u8],
         limits: Limits,
     ) -> Result<Option<RangeRef<'a>>, AllocError>
-        ensures { IfOk result (λ o. IfSome o (λ r. IsRange limits bytes.now r.entries r.len)) }
+        ensures is { IfOk result (λ o. IfSome o (λ r. IsRange limits bytes.now r.entries r.len)) }
+        ensures found { (es : List SentEntry) (len : ℕ) → BeginsWithRange limits bytes.now es len
+            → IfOk result (λ o. IsSomeAnd o (λ r. (r.entries ≡ es) × (r.len ≡ len))) }
     {
         self.clear();
         if limits.depth < 4 {
