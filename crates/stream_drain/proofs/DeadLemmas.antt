@@ -14,9 +14,9 @@ pub map_kept : {A B : Type 0} (f : A → B) (p : B → Bool) (xs : List A)
 map_kept f p [] = refl
 map_kept f p (x ∷ xs) = elim (p (f x)) as (λ b. map f (cond b (x ∷ filter (λ x. p (f x)) xs) (filter (λ x. p (f x)) xs))
     ≡ cond b (f x ∷ filter p (map f xs)) (filter p (map f xs))) [
-  | true ↦ ap (λ ys. f x ∷ ys) (map_kept f p xs)
-  | false ↦ map_kept f p xs
-]
+      | true ↦ ap (λ ys. f x ∷ ys) (map_kept f p xs)
+      | false ↦ map_kept f p xs
+    ]
 
 -- a list has its last item at its end
 pub last_split : {A : Type 0} (xs : List A) (x : A) → 0 < length xs → x ≡ get_or xs (length xs - 1) x
@@ -63,11 +63,16 @@ pub waits_on : (names names' : Names) (n : ℕ) (old m between new : Link) (desk
     → Goes names n old desk m d → names' ≡ names → bytes ≡ letter_bytes names' d → Sends m between bytes
     → Waits between new → d1 ≡ d → DeliversSome names old desk new d1
 waits_on names names' n old m between new desk d d1 bytes goes same are sends waits d1_is =
-    subst (λ x. DeliversSome names old desk new x) (sym d1_is) (n, m, goes, inr (inl (inr (
-      between,
-      subst (λ x. Sends m between x) (are ∙ ap (λ x. letter_bytes x d) same) sends,
-      waits,
-    ))))
+    subst (λ x. DeliversSome names old desk new x) (sym d1_is) (
+      n,
+      m,
+      goes,
+      inr (inl (inr (
+        between,
+        subst (λ x. Sends m between x) (are ∙ ap (λ x. letter_bytes x d) same) sends,
+        waits,
+      ))),
+    )
 
 pub on_err : {A E P : Type 0} (r : Result A E) → P → OnErr r P
 on_err (Ok x) p = tt

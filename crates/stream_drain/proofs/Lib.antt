@@ -1,3 +1,3 @@
--- Lemmas on lines of JSON.
+-- Lemmas on lines of JSON and on dead letters.
 pub mod DeadLemmas
 pub mod JsonLemmas

@@ -1,3 +1,4 @@
 -- What the program's contracts speak of.
 pub mod Dead
 pub mod Json
+pub mod Report

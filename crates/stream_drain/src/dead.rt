@@ -3,8 +3,7 @@ ghost use Rattle.std.specs.Prelude.{◌≡◌, ◌<◌, ◌≤◌, ◌%◌, ◌�
 ghost use Rattle.std.specs.Prelude.{map, nat_le, string_bytes};
 ghost use Rattle.std.specs.List.{flat_map};
 ghost use Rattle.redis_streams.specs.PendingMeaning.{pending_id_meaning, pending_ids_meaning};
-ghost use Rattle.stream_drain.specs.Dead.{AsksOnly, AsksSome, Delivers, DeliversSome, IsBehind, IsLook, Looks};
-ghost use Rattle.stream_drain.specs.Dead.{LooksSome, dead_names};
+ghost use Rattle.stream_drain.specs.Dead.{Delivers, DeliversSome, IsBehind};
 ghost use Rattle.stream_worker.specs.Letters.{desk_of, names_of};
 
 #[cfg(test)]
@@ -83,13 +82,12 @@ impl Dead {
         connection: &mut Connection<R, W>,
         asked: Asked,
         in_hand: bool,
-    ) -> Result<()>
-        ensures ok { OnOk result (Looks (dead_names self.old) connection.old connection.new) }
-        ensures err { OnErr result (LooksSome (dead_names self.old) connection.old connection.new) }
-    {
-        if asked == Asked::News {
-            self.reads = self.reads.saturating_add(1);
-        }
+    ) -> Result<()> {
+        self.reads = if asked == Asked::News {
+            self.reads.saturating_add(1)
+        } else {
+            self.reads
+        };
         if in_hand {
             return Ok(());
         }
@@ -111,14 +109,10 @@ impl Dead {
         alloc: Global,
         connection: &mut Connection<R, W>,
         own: bool,
-    ) -> Result<()>
-        ensures ok { OnOk result (Looks (dead_names self.old) connection.old connection.new) }
-        ensures err { OnErr result (LooksSome (dead_names self.old) connection.old connection.new) }
-        ensures names { dead_names self.new ≡ dead_names self.old }
-    {
+    ) -> Result<()> {
         let min_idle = if own { 0 } else { self.min_idle };
         let mut start = String::from_str(alloc, "-")?;
-        for _page in 0..PAGES {
+        for _ in 0..PAGES {
             let page = self.page(alloc, connection, &start, own)?;
             let next = next_start(alloc, &page.ids)?;
             let entries = too_often(page, self.deliveries);
@@ -138,10 +132,7 @@ impl Dead {
         connection: &mut Connection<R, W>,
         start: &str,
         own: bool,
-    ) -> Result<StreamPendingCountReply>
-        ensures ok { OnOk result (AsksOnly connection.old connection.new) }
-        ensures err { OnErr result (AsksSome connection.old connection.new) }
-    {
+    ) -> Result<StreamPendingCountReply> {
         let key = self.key.as_str();
         let group = self.group.as_str();
         if own {
@@ -161,11 +152,7 @@ impl Dead {
         connection: &mut Connection<R, W>,
         entries: &[StreamPendingId],
         min_idle: usize,
-    ) -> Result<()>
-        ensures ok { OnOk result (Looks (dead_names self.old) connection.old connection.new) }
-        ensures err { OnErr result (LooksSome (dead_names self.old) connection.old connection.new) }
-        ensures names { dead_names self.new ≡ dead_names self.old }
-    {
+    ) -> Result<()> {
         let key = self.key.clone()?;
         let group = self.group.clone()?;
         let mut desk = DeadLetters::new(alloc, key, group, self.stream.clone()?);
@@ -183,10 +170,7 @@ impl Dead {
         connection: &mut Connection<R, W>,
         id: &str,
         min_idle: usize,
-    ) -> Result<Claimed>
-        ensures ok { OnOk result (AsksOnly connection.old connection.new) }
-        ensures err { OnErr result (AsksSome connection.old connection.new) }
-    {
+    ) -> Result<Claimed> {
         let command = xclaim(
             self.key.as_str(),
             self.group.as_str(),
@@ -206,11 +190,7 @@ fn ask_page<T: ToRedisArgs, R: Read + Drop, W: Write + Drop>(
     alloc: Global,
     connection: &mut Connection<R, W>,
     command: &T,
-) -> Result<StreamPendingCountReply>
-    requires { IsLook (T.args command.now) }
-    ensures ok { OnOk result (AsksOnly connection.old connection.new) }
-    ensures err { OnErr result (AsksSome connection.old connection.new) }
-{
+) -> Result<StreamPendingCountReply> {
     match connection.ask_as(alloc, command) {
         Ok(page) => Ok(page),
         Err(AskError::Server(error)) if error.code() == b"NOGROUP".as_slice() => {

@@ -1,5 +1,6 @@
 //! What the program says of its progress, on standard error.
-ghost use Rattle.std.specs.Prelude.{◌≡◌, ◌++◌, IfOk, OnOk, Some, codes, decimal};
+ghost use Rattle.std.specs.Prelude.{◌≡◌, IfOk, None, OnOk, Some};
+ghost use Rattle.stream_drain.specs.Report.{report_text};
 
 use anyhow::Result;
 use std::fmt;
@@ -45,14 +46,19 @@ impl Report {
 }
 
 impl fmt::Display for Report {
-    ghost output = { λ r. Some (decimal r.entries ++ codes " entries in " ++ decimal r.batches
-        ++ codes " batches" ++ letters_text r.letters) };
+    ghost output = { λ r. Some (report_text r.entries r.batches r.letters) };
 
     fn fmt<W: fmt::Write>(&self, f: &mut fmt::Formatter<W>) -> fmt::Result {
-        write!(f, "{} entries in {} batches", self.entries, self.batches)?;
+        let entries = self.entries;
+        let batches = self.batches;
         match self.letters {
-            Some(letters) => write!(f, ", {letters} dead letters"),
-            None => Ok(()),
+            Some(letters) => {
+                write!(
+                    f,
+                    "{entries} entries in {batches} batches, {letters} dead letters"
+                )
+            }
+            None => write!(f, "{entries} entries in {batches} batches"),
         }
     }
 }

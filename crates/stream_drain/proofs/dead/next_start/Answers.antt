@@ -4,8 +4,7 @@ use Rattle.stream_drain.proofs.dead.next_start.Goals as goal
 
 pub returns-in_ok-push_str-in-len1-up : goal.returns-in_ok-push_str-in-len1-up
 returns-in_ok-push_str-in-len1-up c =
-    let split = last_split c.args.page.now c.last-item.result (omega arith) c.last-item.is in
-    (
+    let split = last_split c.args.page.now c.last-item.result (omega arith) c.last-item.is in (
       c.if-page-lt-PAGE.false,
       record {
         before = split.0;
