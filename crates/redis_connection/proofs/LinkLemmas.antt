@@ -1,5 +1,5 @@
 -- Lemmas on what comes in and is held.
-use Rattle.std.proofs.Common.{◌≡◌, ◌+◌, ◌-◌, ◌<◌, ◌≤◌, inl, inr, ℕ, List, [], ◌++◌, length, take, drop}
+use Rattle.std.proofs.Common.{◌≡◌, ◌-◌, ◌≤◌, inl, inr, ℕ, List, [], ◌++◌, length, take, drop}
 use Rattle.std.proofs.Common.{Option, Some, None, Result, Ok, Err, IfOk, OnErr, refl, sym, ◌∙◌, ap, subst, arith, append_assoc, append-nil}
 use Rattle.std.proofs.KnownBytes.{Consumes-nil, Consumes-trans, Consumes-kept}
 use Rattle.std.proofs.Math.Seq.{take-append_seam}
@@ -10,15 +10,13 @@ use Rattle.redis_wire.specs.Decoded.{NoReply, IsFirstFault}
 use Rattle.redis_wire.specs.Grammar.{IsReply}
 use Rattle.redis_wire.specs.Next.{Held, NextIs, LenIs, IsRefused}
 use Rattle.redis_wire.specs.Reply.{Answer, answer}
-use Rattle.redis_wire.specs.declared.fault.Fault.{Fault}
 use Rattle.redis_wire.specs.declared.fault.Fault.TheVariants.{Overfull}
 use Rattle.redis_wire.specs.declared.fault.WireError.{WireError}
 use Rattle.redis_wire.specs.declared.fault.WireError.TheVariants as wire_errors
 use Rattle.redis_wire.specs.declared.reply.Reply.{Reply}
 use Rattle.redis_connection.specs.Cause.{failure_of}
-use Rattle.redis_connection.specs.Link.{Link, TakesIn, Waits, Receives, Stands, IsInPlace, GivesOut, IsFaulty, IsEnded}
+use Rattle.redis_connection.specs.Link.{Link, Waits, Receives, Stands, IsInPlace, GivesOut, IsFaulty, IsEnded}
 use Rattle.redis_connection.specs.Seen.{seen}
-use Rattle.redis_connection.specs.declared.error.ConnectionError.{ConnectionError}
 use Rattle.redis_connection.specs.declared.error.ConnectionError.TheVariants as errors
 
 pub waits_start : (link : Link) → Waits link link
