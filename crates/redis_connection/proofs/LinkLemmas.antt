@@ -1,6 +1,6 @@
 -- Lemmas on what comes in and is held.
-use Rattle.std.proofs.Common.{◌≡◌, ◌+◌, ◌-◌, ◌<◌, ◌≤◌, inl, inr, ℕ, List, [], ◌++◌, length, take, drop, Option, Some, None}
-use Rattle.std.proofs.Common.{Result, Ok, Err, IfOk, OnErr, refl, sym, ◌∙◌, ap, subst, arith, append_assoc, append-nil}
+use Rattle.std.proofs.Common.{◌≡◌, ◌-◌, ◌≤◌, inl, inr, ℕ, List, [], ◌++◌, length, take, drop}
+use Rattle.std.proofs.Common.{Option, Some, None, Result, Ok, Err, IfOk, OnErr, refl, sym, ◌∙◌, ap, subst, arith, append_assoc, append-nil}
 use Rattle.std.proofs.KnownBytes.{Consumes-nil, Consumes-trans, Consumes-kept}
 use Rattle.std.proofs.Math.Seq.{take-append_seam}
 use Rattle.std.proofs.lemmas.List.{length-append, length-drop, take-append-drop, take-append-le, drop-append-le}
@@ -10,15 +10,13 @@ use Rattle.redis_wire.specs.Decoded.{NoReply, IsFirstFault}
 use Rattle.redis_wire.specs.Grammar.{IsReply}
 use Rattle.redis_wire.specs.Next.{Held, NextIs, LenIs, IsRefused}
 use Rattle.redis_wire.specs.Reply.{Answer, answer}
-use Rattle.redis_wire.specs.declared.fault.Fault.{Fault}
 use Rattle.redis_wire.specs.declared.fault.Fault.TheVariants.{Overfull}
 use Rattle.redis_wire.specs.declared.fault.WireError.{WireError}
 use Rattle.redis_wire.specs.declared.fault.WireError.TheVariants as wire_errors
 use Rattle.redis_wire.specs.declared.reply.Reply.{Reply}
 use Rattle.redis_connection.specs.Cause.{failure_of}
-use Rattle.redis_connection.specs.Link.{Link, TakesIn, Waits, Receives, Stands, IsInPlace, GivesOut, IsFaulty, IsEnded}
+use Rattle.redis_connection.specs.Link.{Link, Waits, Receives, Stands, IsInPlace, GivesOut, IsFaulty, IsEnded}
 use Rattle.redis_connection.specs.Seen.{seen}
-use Rattle.redis_connection.specs.declared.error.ConnectionError.{ConnectionError}
 use Rattle.redis_connection.specs.declared.error.ConnectionError.TheVariants as errors
 
 pub waits_start : (link : Link) → Waits link link
@@ -172,7 +170,8 @@ gives_out written coming h piece unfed len =
     let given = length h.bytes - length (drop len h.bytes) in
     let le : given ≤ length h.bytes = omega arith in
     let is : given ≡ length h.bytes - (length h.bytes - len) = ap (λ n. length h.bytes - n) (length-drop len h.bytes) in
-    let same : drop (length h.bytes - (length h.bytes - len)) h.bytes ≡ drop len h.bytes = grind (arith, common_steps) in
+    let same : drop (length h.bytes - (length h.bytes - len)) h.bytes ≡ drop len h.bytes =
+    grind (arith, common_steps) in
     record {
       in_place = length-drop len h.bytes;
       bytes = ap (λ b. b ++ take unfed piece) (sym same ∙ ap (λ n. drop n h.bytes) (sym is))
@@ -199,8 +198,8 @@ given_received old new len g before a s =
     }
 
 pub reply_given_out : (written coming : Option (List ℕ)) (h h' : Held) (piece : List ℕ) (unfed len : ℕ) (old : Link)
-    → seen written coming h piece unfed ≡ old → h' ≡ record h { bytes = drop len h.bytes } → (before : Link) (a : Answer)
-    → Stands before old len a → Receives before (seen written coming h' piece unfed) a
+    → seen written coming h piece unfed ≡ old → h' ≡ record h { bytes = drop len h.bytes }
+    → (before : Link) (a : Answer) → Stands before old len a → Receives before (seen written coming h' piece unfed) a
 reply_given_out written coming h h' piece unfed len old is given before a s =
     let new = seen written coming h' piece unfed in
     let g : GivesOut old new len =

@@ -1,7 +1,7 @@
 -- A list of nodes that grows, and where their members end.
-use Rattle.std.proofs.Common.{◌≡◌, ◌≤◌, ◌<◌, ◌+◌, ◌-◌, ◌∙◌, inl, inr, ℕ, zero, suc, List, [], ◌∷◌, ◌++◌, length, take, drop}
-use Rattle.std.proofs.Common.{Option, Some, None, Ok, refl, sym, ap, subst, arith, append_assoc}
-use Rattle.std.specs.Prelude.{map, set, get_or, ◌⊎◌}
+use Rattle.std.proofs.Common.{◌≡◌, ◌≤◌, ◌<◌, ◌+◌, ◌-◌, ◌∙◌, inl, inr, ℕ, zero, suc, List, [], ◌∷◌, ◌++◌, length}
+use Rattle.std.proofs.Common.{take, drop, Option, Some, None, Ok, refl, sym, ap, subst, arith, append_assoc}
+use Rattle.std.specs.Prelude.{map, set, get_or}
 use Rattle.std.proofs.lemmas.List.{length-append, length-drop, take_at, drop-drop, drop-set, take_more_set}
 use Rattle.std.proofs.lemmas.List.{length-set, length-map, length-take-le, nil_from_length}
 use Rattle.std.proofs.Math.Seq.{map-set_same}
@@ -9,7 +9,10 @@ use Rattle.redis_wire.specs.declared.limits.Limits.{Limits}
 use Rattle.redis_wire.specs.declared.kind.Kind.{Kind}
 use Rattle.redis_wire.specs.declared.kind.Kind.TheVariants as kinds
 use Rattle.redis_wire.specs.declared.nodes.Node.{Node}
-use Rattle.redis_wire.specs.Grammar.{IsBlob}
+use Rattle.redis_wire.specs.Grammar.{IsBlob, IsReply}
+use Rattle.redis_wire.specs.Next.{LenIs}
+use Rattle.redis_wire.specs.Reply.{Answer}
+use Rattle.redis_wire.specs.declared.nodes.Found.TheVariants.{Whole}
 use Rattle.redis_wire.specs.Packed.{crlf}
 use Rattle.redis_wire.specs.Reading.{blob_at}
 use Rattle.redis_wire.specs.Scan.{IsEnd}
@@ -18,6 +21,7 @@ use Rattle.redis_wire.proofs.FitsLemmas.{line_fits, blob_fits}
 use Rattle.redis_wire.proofs.ItemLemmas.{fits_end}
 use Rattle.redis_wire.proofs.PlaceLemmas.{end_is, end_within, end_of_end, end_of_drop}
 use Rattle.redis_wire.specs.Nodes.{IsLineNode, IsBlobNode, IsNodeOf, IsNodeAt, Leads, Begins, AreNodes, AreEnds, taken, plain}
+use Rattle.redis_wire.specs.Nodes.{Say, Finds}
 
 -- ---- lines and bulk bytes
 
@@ -236,7 +240,8 @@ ends_on nodes ms from k end m ends is here =
     let rest = drop from nodes in
     let behind : drop (taken k rest) rest ≡ m ∷ ms =
     drop-drop (taken k rest) from nodes ∙ ap (λ n. drop n nodes) (sym is) ∙ here in
-    let all : m.end ≡ from + taken k rest + 1 + taken m.members ms = ends_at rest ms from (taken k rest) m ends behind in
+    let all : m.end ≡ from + taken k rest + 1 + taken m.members ms =
+    ends_at rest ms from (taken k rest) m ends behind in
     let more : taken (k + 1) rest ≡ taken k rest + taken 1 (drop (taken k rest) rest) = taken_add rest k 1 in
     let one : taken 1 (drop (taken k rest) rest) ≡ suc (taken (m.members + 0) ms) = ap (taken 1) behind in
     let members : taken (m.members + 0) ms ≡ taken m.members ms = ap (λ n. taken n ms) (no_more m.members) in
@@ -304,14 +309,39 @@ pub filled : (limits : Limits) (bytes : List ℕ) (nodes ends : List Node) (coun
     → AreNodes limits bytes (take count (ends ++ drop count nodes)) end 0
 filled limits bytes nodes ends count end few same are =
     let len : length ends ≡ count =
-    omega (arith, ap length same, length-map ends plain, length-map (take count nodes) plain, length-take-le count nodes few) in
+    omega (
+      arith,
+      ap length same,
+      length-map ends plain,
+      length-map (take count nodes) plain,
+      length-take-le count nodes few,
+    ) in
     subst (λ ns. AreNodes limits bytes ns end 0) (sym (take_at ends (drop count nodes) count len))
     (nodes_same limits bytes (take count nodes) ends end 0 (sym same) are)
 
 -- the nodes of a text that is the first so many bytes
-pub of_front : (limits : Limits) (bytes text : List ℕ) (nodes : List Node) (len : ℕ) → text ≡ take len bytes
+of_front : (limits : Limits) (bytes text : List ℕ) (nodes : List Node) (len : ℕ) → text ≡ take len bytes
     → len ≤ length bytes → AreNodes limits text nodes (length text) 0 → AreNodes limits (take len bytes) nodes len 0
 of_front limits bytes text nodes len is le are =
     let size : length text ≡ len = ap length is ∙ length-take-le len bytes le in
     subst (λ n. AreNodes limits (take len bytes) nodes n 0) size
     (subst (λ t. AreNodes limits t nodes (length text) 0) is are)
+
+-- what was found
+pub found : (limits : Limits) (bytes text : List ℕ) (nodes : List Node) (len count : ℕ) → text ≡ take len bytes
+    → LenIs limits bytes (Ok (Some len)) → count ≤ length nodes
+    → AreNodes limits text (take count nodes) (length text) 0 → AreEnds 0 (take count nodes)
+    → ((a : Answer) → IsReply limits text a → Say limits text (take count nodes) a)
+    → Finds limits bytes nodes (Ok (Whole len count))
+found limits bytes text nodes len count is l few are ends say = (
+  l.0,
+  few,
+  of_front limits bytes text (take count nodes) len is l.0 are,
+  ends,
+  (
+    l.1.0,
+    l.1.1,
+    subst (λ t. Say limits t (take count nodes) l.1.0) is
+        (say l.1.0 (subst (λ t. IsReply limits t l.1.0) (sym is) l.1.1)),
+  ),
+)

@@ -10,8 +10,12 @@ use Rattle.redis_wire.specs.declared.nodes.Node.{Node}
 use Rattle.redis_wire.specs.declared.nodes.Found.{Found}
 use Rattle.redis_wire.specs.declared.nodes.Found.TheVariants.{Whole, NoRoom, Incomplete}
 use Rattle.redis_wire.specs.Kind.{kind_of}
-use Rattle.redis_wire.specs.Reading.{blob_at}
-use Rattle.redis_wire.specs.Group.{member_count}
+use Rattle.redis_wire.specs.declared.fault.Fault.TheVariants.{UnknownType, TooDeep}
+use Rattle.redis_wire.specs.Reading.{Halt, short, bad, ◌>>=◌, blob_at}
+use Rattle.redis_wire.specs.Reply.{Answer, Answers, values, join, one}
+use Rattle.redis_wire.specs.Scalar.{line_answer, blob_answer}
+use Rattle.redis_wire.specs.Group.{member_count, group_answer}
+use Rattle.redis_wire.specs.Grammar.{IsReply}
 use Rattle.redis_wire.specs.Next.{LenIs}
 use Rattle.redis_wire.specs.Place.{IsHeadAt, IsLineAt, IsSpan, text_in}
 
@@ -81,6 +85,40 @@ AreNodes limits bytes [] end left = ⊥
 AreNodes limits bytes (n ∷ ns) end left =
     (after : ℕ) × Begins limits bytes n after × Leads limits bytes after n.members ns end left
 
+-- what is read of nodes, and the nodes behind it
+abbrev pub Listed : Type 0 → Type 0
+Listed A = Result (A × List Node) Halt
+
+-- so many values, one after the other, where each is read by inner
+unfoldable pub each_said : (List Node → Listed Answer) → ℕ → List Node → Listed Answers
+each_said inner zero ns = Ok (values [], ns)
+each_said inner (suc n) ns = inner ns >>= λ x. each_said inner n x.1 >>= λ y. Ok (join (one x.0) y.0, y.1)
+
+-- what a node of this kind says, whose members are the nodes behind it, each read by inner
+unfoldable pub said_by : List ℕ → (List Node → Listed Answer) → Node → Option Kind → List Node → Listed Answer
+said_by bytes inner node None ns = Err (bad UnknownType)
+said_by bytes inner node (Some (kinds.Line k)) ns =
+    line_answer k (text_in bytes node.text) >>= λ a. Ok (a, ns)
+said_by bytes inner node (Some (kinds.Blob k)) ns =
+    blob_answer k (text_in bytes node.text) >>= λ a. Ok (a, ns)
+said_by bytes inner node (Some (kinds.Group k)) ns =
+    each_said inner node.members ns >>= λ x. group_answer k x.0 >>= λ a. Ok (a, x.1)
+
+-- what the first node says, whose members, if any, are read by inner
+unfoldable pub first_said : List ℕ → (List Node → Listed Answer) → List Node → Listed Answer
+first_said bytes inner [] = Err short
+first_said bytes inner (n ∷ ns) = said_by bytes inner n (kind_of n.kind) ns
+
+-- what the first node says with its members, where it has at most so many levels
+unfoldable pub said : List ℕ → ℕ → List Node → Listed Answer
+said bytes zero = λ ns. Err (bad TooDeep)
+said bytes (suc d) = first_said bytes (said bytes d)
+
+-- these nodes say this, and no node is left; or the first one is a message
+abbrev pub Say : Limits → List ℕ → List Node → Answer → Type 0
+Say limits bytes [] a = ⊥
+Say limits bytes (n ∷ ns) a = (n.kind ≡ 62) ⊎ (said bytes limits.depth (n ∷ ns) ≡ Ok (a, []))
+
 -- a node but for its end
 abbrev pub plain : Node → Node
 plain node = record node { end = 0 }
@@ -96,10 +134,11 @@ abbrev pub AreEnds : ℕ → List Node → Type 0
 AreEnds i [] = Unit {0}
 AreEnds i (n ∷ ns) = (n.end ≡ i + 1 + taken n.members ns) × AreEnds (i + 1) ns
 
--- what stands at the head of bytes; where it is a reply, these are its nodes
+-- what stands at the head of bytes; where it is a reply, these are its nodes, and they say it
 abbrev pub Finds : Limits → List ℕ → List Node → Result Found WireError → Type 0
-Finds limits bytes nodes (Ok (Whole len count)) = LenIs limits bytes (Ok (Some len)) × (count ≤ length nodes)
+Finds limits bytes nodes (Ok (Whole len count)) = (len ≤ length bytes) × (count ≤ length nodes)
     × AreNodes limits (take len bytes) (take count nodes) len 0 × AreEnds 0 (take count nodes)
+    × ((a : Answer) × IsReply limits (take len bytes) a × Say limits (take len bytes) (take count nodes) a)
 Finds limits bytes nodes (Ok (NoRoom len)) = LenIs limits bytes (Ok (Some len))
 Finds limits bytes nodes (Ok Incomplete) = LenIs limits bytes (Ok None)
 Finds limits bytes nodes (Err e) = LenIs limits bytes (Err e)

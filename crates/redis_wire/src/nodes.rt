@@ -1,7 +1,9 @@
 //! Any reply in place, as a flat list of its values.
 ghost use Rattle.std.specs.Prelude.{◌≡◌, ◌≤◌, ◌+◌, IfSome, Some, length, take, drop, map};
+ghost use Rattle.redis_wire.specs.Grammar.{IsReply};
 ghost use Rattle.redis_wire.specs.Kind.{kind_of};
-ghost use Rattle.redis_wire.specs.Nodes.{AreEnds, AreNodes, Begins, Finds, IsLineNode, IsNodeAt, IsNodeOf, IsNull, plain, taken};
+ghost use Rattle.redis_wire.specs.Nodes.{AreEnds, AreNodes, Begins, Finds, IsLineNode, IsNodeAt, IsNodeOf, IsNull, Say, plain, taken};
+ghost use Rattle.redis_wire.specs.Reply.{Answer};
 ghost use Rattle.redis_wire.specs.declared.kind.Kind.TheVariants as kinds;
 
 use crate::fault::WireError;
@@ -224,6 +226,8 @@ pub fn nodes_in(limits: Limits, text: &[u8], nodes: &mut [Node]) -> Option<usize
     ensures few { IfSome result (λ count. count ≤ length nodes.new) }
     ensures are { IfSome result (λ count. AreNodes limits text.now (take count nodes.new) (length text.now) 0) }
     ensures ends { IfSome result (λ count. AreEnds 0 (take count nodes.new)) }
+    ensures say { IfSome result (λ count. (a : Answer) → IsReply limits text.now a
+        → Say limits text.now (take count nodes.new) a) }
 {
     let (first, after) = first_node(limits, text)?;
     let count = fill(limits, text, nodes, first, after)?;

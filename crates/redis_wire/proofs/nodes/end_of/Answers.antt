@@ -1,4 +1,4 @@
-use Rattle.std.proofs.Common.{◌≤◌, arith}
+use Rattle.std.proofs.Common.{arith}
 use Rattle.std.proofs.Math.Seq.{drop-cons}
 use Rattle.redis_wire.proofs.NodeLemmas.{ends_on, ends_all}
 use Rattle.redis_wire.proofs.nodes.end_of.Goals as goal

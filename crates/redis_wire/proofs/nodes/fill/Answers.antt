@@ -1,4 +1,4 @@
-use Rattle.std.proofs.Common.{◌≡◌, ◌≤◌, ◌<◌, ◌+◌, ◌-◌, length, rules, arith}
+use Rattle.std.proofs.Common.{◌≡◌, ◌<◌, ◌+◌, ◌-◌, length, rules, arith}
 use Rattle.redis_wire.proofs.NodeLemmas.{fills_first, fills_more}
 use Rattle.redis_wire.proofs.nodes.fill.Goals as goal
 
@@ -8,7 +8,8 @@ loop-left-init c =
     record {
       within = search (rules, arith, some);
       end = c.requires.end;
-      are = fills_first c.args.limits c.args.bytes.now c.args.nodes.now c.args.first c.args.after c.requires.begins some;
+      are = fills_first c.args.limits c.args.bytes.now c.args.nodes.now c.args.first c.args.after c.requires.begins
+          some;
     }
 
 pub loop-left-preserved : goal.loop-left-preserved
@@ -18,7 +19,8 @@ loop-left-preserved c =
     record {
       within = search (rules, arith, lt);
       end = c.in_ok-node.ensures.end;
-      are = fills_more c.args.limits c.args.bytes.now c.loop-left.nodes c.loop-left.count c.loop-left.at c.loop-left.left
+      are = fills_more c.args.limits c.args.bytes.now c.loop-left.nodes c.loop-left.count c.loop-left.at
+          c.loop-left.left
           c.in_ok-node.behind c.in_ok-left.left c.in_ok-node.node c.loop-left.invariant.are c.loop-left-test.true lt
           c.in_ok-node.ensures more;
     }

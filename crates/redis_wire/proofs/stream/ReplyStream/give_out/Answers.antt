@@ -1,4 +1,4 @@
-use Rattle.std.proofs.Common.{drop, length, ◌+◌, ◌-◌, ◌≤◌, arith}
+use Rattle.std.proofs.Common.{drop, length, ◌+◌, ◌≤◌, arith}
 use Rattle.std.proofs.lemmas.List.{length-drop}
 use Rattle.redis_wire.proofs.NextLemmas.{given_fits}
 use Rattle.redis_wire.proofs.stream.ReplyStream.give_out.Goals as goal
