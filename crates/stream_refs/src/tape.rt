@@ -1,10 +1,10 @@
 //! The tables of places of a reply.
-ghost use Rattle.std.specs.Prelude.{◌≡◌, ℕ, List, IfOk, IfSome, IsSomeAnd};
+ghost use Rattle.std.specs.Prelude.{◌≡◌, ℕ, Bool, true, false, List, IfOk, IfSome, IsSomeAnd};
 ghost use Rattle.stream_refs.specs.Held.{none_held};
 ghost use Rattle.stream_refs.specs.Range.{IsRange, IsRead};
 ghost use Rattle.stream_refs.specs.AutoClaim.{IsAutoClaim, IsJustId};
-ghost use Rattle.stream_refs.specs.Sent.{SentEntry};
-ghost use Rattle.stream_refs.specs.Shapes.{BeginsWithRange};
+ghost use Rattle.stream_refs.specs.Sent.{SentEntry, SentStream};
+ghost use Rattle.stream_refs.specs.Shapes.{BeginsWithRange, BeginsWithStreams};
 
 use crate::autoclaim::{
     AutoClaimJustIdRef, AutoClaimRef, autoclaim_at, find_autoclaim, find_justid, justid_at,
@@ -98,7 +98,9 @@ impl EntryTape {
         bytes: &'a [u8],
         limits: Limits,
     ) -> Result<Option<ReadRef<'a>>, AllocError>
-        ensures { IfOk result (λ o. IfSome o (λ r. IsRead limits bytes.now r.streams r.len)) }
+        ensures is { IfOk result (λ o. IfSome o (λ r. IsRead limits bytes.now r.streams r.len)) }
+        ensures found { (ss : List SentStream) (len : ℕ) → BeginsWithStreams limits false bytes.now ss len
+            → IfOk result (λ o. IsSomeAnd o (λ r. (r.streams ≡ ss) × (r.len ≡ len))) }
     {
         if limits.depth < 6 {
             return Ok(None);
@@ -120,7 +122,9 @@ impl EntryTape {
         bytes: &'a [u8],
         limits: Limits,
     ) -> Result<Option<ReadRef<'a>>, AllocError>
-        ensures { IfOk result (λ o. IfSome o (λ r. IsRead limits bytes.now r.streams r.len)) }
+        ensures is { IfOk result (λ o. IfSome o (λ r. IsRead limits bytes.now r.streams r.len)) }
+        ensures found { (ss : List SentStream) (len : ℕ) → BeginsWithStreams limits true bytes.now ss len
+            → IfOk result (λ o. IsSomeAnd o (λ r. (r.streams ≡ ss) × (r.len ≡ len))) }
     {
         if limits.depth < 6 {
             return Ok(None);
@@ -141,7 +145,10 @@ impl EntryTape {
         bytes: &'a [u8],
         limits: Limits,
     ) -> Result<Option<ReadRef<'a>>, AllocError>
-        ensures { IfOk result (λ o. IfSome o (λ r. IsRead limits bytes.now r.streams r.len)) }
+        ensures is { IfOk result (λ o. IfSome o (λ r. IsRead limits bytes.now r.streams r.len)) }
+        ensures found { (claim : Bool) (ss : List SentStream) (len : ℕ)
+            → BeginsWithStreams limits claim bytes.now ss len
+            → IfOk result (λ o. IsSomeAnd o (λ r. (r.streams ≡ ss) × (r.len ≡ len))) }
     {
         if limits.depth < 6 {
             return Ok(None);

@@ -12,5 +12,5 @@ returns-in-Some-2 g c =
     let is : c.args.told ≡ true = search rules in
     rw is
     (deleted_told c.args.limits c.args.bytes.now c.args.at (g.P.Places.held c.args.places.now) c.in-Some.count
-    c.in-Some.behind c.in-Some-2.after (g.P.Places.held c.add_ids.new.places) c.in-Some.ensures
+    c.in-Some.behind c.in-Some-2.after (g.P.Places.held c.add_ids.new.places) c.in-Some.ensures.is
     (rw c.in-Some-2.is at c.in_ok-add_ids.ensures))
