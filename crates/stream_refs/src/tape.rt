@@ -2,9 +2,10 @@
 ghost use Rattle.std.specs.Prelude.{◌≡◌, ℕ, Bool, true, false, List, IfOk, IfSome, IsSomeAnd};
 ghost use Rattle.stream_refs.specs.Held.{none_held};
 ghost use Rattle.stream_refs.specs.Range.{IsRange, IsRead};
-ghost use Rattle.stream_refs.specs.AutoClaim.{IsAutoClaim, IsJustId};
+ghost use Rattle.stream_refs.specs.AutoClaim.{SentAutoClaim, IsAutoClaim, IsJustId};
+ghost use Rattle.stream_entries.specs.JustId.{JustId};
 ghost use Rattle.stream_refs.specs.Sent.{SentEntry, SentStream};
-ghost use Rattle.stream_refs.specs.Shapes.{BeginsWithRange, BeginsWithStreams};
+ghost use Rattle.stream_refs.specs.Shapes.{BeginsWithRange, BeginsWithStreams, BeginsWithAutoClaim, BeginsWithJustId};
 
 use crate::autoclaim::{
     AutoClaimJustIdRef, AutoClaimRef, autoclaim_at, find_autoclaim, find_justid, justid_at,
@@ -170,8 +171,14 @@ impl EntryTape {
         bytes: &'a [u8],
         limits: Limits,
     ) -> Result<Option<AutoClaimRef<'a>>, AllocError>
-        ensures { IfOk result (λ o. IfSome o (λ r. IsAutoClaim limits bytes.now
+        ensures is { IfOk result (λ o. IfSome o (λ r. IsAutoClaim limits bytes.now
             (record { next = r.next_stream_id.now; claimed = r.claimed; deleted = r.deleted_ids }) r.len)) }
+        ensures found { (sent : SentAutoClaim) (len : ℕ) → BeginsWithAutoClaim limits bytes.now sent len
+            → IfOk result (λ o. IsSomeAnd o (λ r. (record {
+              next = r.next_stream_id.now;
+              claimed = r.claimed;
+              deleted = r.deleted_ids;
+            } ≡ sent) × (r.len ≡ len))) }
     {
         match find_autoclaim(limits, bytes, self)? {
             None => Ok(None),
@@ -186,8 +193,14 @@ impl EntryTape {
         bytes: &'a [u8],
         limits: Limits,
     ) -> Result<Option<AutoClaimJustIdRef<'a>>, AllocError>
-        ensures { IfOk result (λ o. IfSome o (λ r. IsJustId limits bytes.now
+        ensures is { IfOk result (λ o. IfSome o (λ r. IsJustId limits bytes.now
             (record { next = r.next_stream_id.now; claimed = r.claimed; deleted = r.deleted_ids }) r.len)) }
+        ensures found { (sent : JustId) (len : ℕ) → BeginsWithJustId limits bytes.now sent len
+            → IfOk result (λ o. IsSomeAnd o (λ r. (record {
+              next = r.next_stream_id.now;
+              claimed = r.claimed;
+              deleted = r.deleted_ids;
+            } ≡ sent) × (r.len ≡ len))) }
     {
         match find_justid(limits, bytes, self)? {
             None => Ok(None),
