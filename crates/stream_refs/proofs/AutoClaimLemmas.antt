@@ -83,7 +83,7 @@ justid_parts : (c d : Option (List (List ℕ))) (t : Option (List ℕ)) (r : Jus
     → d ≡ Some r.deleted → t ≡ Some r.next → justid_made c d t ≡ Some r
 justid_parts c d t r p q s = rw (p, q, s) refl
 
-autoclaim_read : (told : Bool) (r : SentAutoClaim) → is_utf8 r.next ≡ true → AllByRecursion IsTextEntry r.claimed
+pub autoclaim_read : (told : Bool) (r : SentAutoClaim) → is_utf8 r.next ≡ true → AllByRecursion IsTextEntry r.claimed
     → AllByRecursion IsStandard r.claimed → AllByRecursion (λ i. is_utf8 i ≡ true) r.deleted
     → (told ≡ false → r.deleted ≡ []) → autoclaim_reading (autoclaim_tree told r) ≡ Some (copied_autoclaim r)
 autoclaim_read true r next h s deleted none =
@@ -93,7 +93,7 @@ autoclaim_read false r next h s deleted none =
     autoclaim_parts (claimed_reading (rows_tree r.claimed)) _ _ (map copied r.claimed) r.deleted r.next (claimed_read r.claimed h s)
     (ap (λ (ids : List (List ℕ)). Some ids) (sym (none refl))) (text_read r.next next)
 
-justid_read : (told : Bool) (r : JustId) → is_utf8 r.next ≡ true → AllByRecursion (λ i. is_utf8 i ≡ true) r.claimed
+pub justid_read : (told : Bool) (r : JustId) → is_utf8 r.next ≡ true → AllByRecursion (λ i. is_utf8 i ≡ true) r.claimed
     → AllByRecursion (λ i. is_utf8 i ≡ true) r.deleted → (told ≡ false → r.deleted ≡ [])
     → justid_reading (justid_tree told r) ≡ Some r
 justid_read true r next claimed deleted none =

@@ -13,3 +13,4 @@ pub mod AutoClaimLemmas
 pub mod BeginLemmas
 pub mod ShapeLemmas
 pub mod ShapeStreamLemmas
+pub mod ShapeClaimLemmas

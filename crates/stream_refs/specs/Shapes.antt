@@ -1,12 +1,15 @@
 -- Replies with entries as servers write them, byte by byte, and which of these are within the limits.
-use Rattle.std.specs.Prelude.{◌≡◌, ◌≤◌, ◌<◌, ◌^◌, ◌*◌, ℕ, Bool, true, false, List, [], ◌++◌, flat_map, length, codes}
-use Rattle.std.specs.Prelude.{decimal, Option, Some, None}
+use Rattle.std.specs.Prelude.{◌≡◌, ◌≤◌, ◌<◌, ◌^◌, ◌*◌, ℕ, suc, Bool, true, false, List, [], ◌++◌, flat_map, length}
+use Rattle.std.specs.Prelude.{codes, decimal, Option, Some, None}
 use Rattle.std.specs.List.{AllByRecursion}
 use Rattle.std.specs.Str.{is_utf8}
 use Rattle.redis_wire.specs.declared.limits.Limits.{Limits}
 use Rattle.redis_wire.specs.Packed.{bulk_bytes}
 use Rattle.redis_wire.specs.Written.{line_bytes, count_bytes}
+use Rattle.stream_entries.specs.JustId.{JustId}
 use Rattle.stream_refs.specs.Sent.{Pairs, SentEntry, SentStream}
+use Rattle.stream_refs.specs.AutoClaim.{SentAutoClaim}
+use Rattle.stream_refs.specs.AddedIds.{deleted_count}
 
 -- the three ways to write that there is no value
 pub data NilForm : Type 0 where
@@ -68,6 +71,27 @@ unfoldable pub streams_bytes : ReadForm → NilForm → List SentStream → List
 streams_bytes as_nil form ss = nil_bytes form
 streams_bytes as_array form ss = count_bytes 42 (length ss) ++ flat_map (stream_bytes false form) ss
 streams_bytes as_map form ss = count_bytes 37 (length ss) ++ flat_map (stream_bytes true form) ss
+
+-- an array of ids
+unfoldable pub ids_bytes : List (List ℕ) → List ℕ
+ids_bytes ids = count_bytes 42 (length ids) ++ flat_map bulk_bytes ids
+
+-- the deleted ids, which a server tells from 7.0 on
+unfoldable pub deleted_bytes : Bool → List (List ℕ) → List ℕ
+deleted_bytes true ids = ids_bytes ids
+deleted_bytes false ids = []
+
+-- the head of an array of two, or of three where deleted ids are told, and the id to go on with
+unfoldable pub claim_start : Bool → List ℕ → List ℕ
+claim_start told next = count_bytes 42 (suc (suc (deleted_count told))) ++ bulk_bytes next
+
+-- what XAUTOCLAIM answers
+unfoldable pub autoclaim_bytes : Bool → NilForm → SentAutoClaim → List ℕ
+autoclaim_bytes told form r = claim_start told r.next ++ (rows_bytes form r.claimed ++ deleted_bytes told r.deleted)
+
+-- the same where it is asked for ids alone
+unfoldable pub justid_bytes : Bool → JustId → List ℕ
+justid_bytes told r = claim_start told r.next ++ (ids_bytes r.claimed ++ deleted_bytes told r.deleted)
 
 -- ---- within the limits
 
@@ -149,3 +173,38 @@ pub record BeginsWithStreams (limits : Limits) (claim : Bool) (bytes : List ℕ)
   pub deep : 6 ≤ limits.depth
   pub allows : AllowsRows limits
   pub within : AreStreamsOf limits claim ss
+
+-- no more ids than the limit, each a text within the limits
+pub record AreIdsOf (limits : Limits) (ids : List (List ℕ)) : Type 0 where
+  pub few : length ids ≤ limits.length
+  pub each : AllByRecursion (IsName limits) ids
+
+-- such ids where deleted ids are told, and else none
+abbrev pub AreDeleted : Limits → Bool → List (List ℕ) → Type 0
+AreDeleted limits true ids = AreIdsOf limits ids
+AreDeleted limits false ids = ids ≡ []
+
+-- The bytes begin with that answer of XAUTOCLAIM, which is so many bytes, and the limits allow it.
+pub record BeginsWithAutoClaim (limits : Limits) (bytes : List ℕ) (r : SentAutoClaim) (len : ℕ) : Type 0 where
+  pub told : Bool
+  pub form : NilForm
+  pub rest : List ℕ
+  pub is : bytes ≡ autoclaim_bytes told form r ++ rest
+  pub len_is : len ≡ length (autoclaim_bytes told form r)
+  pub deep : 5 ≤ limits.depth
+  pub allows : AllowsRows limits
+  pub next : IsName limits r.next
+  pub claimed : AreEntriesOf limits false r.claimed
+  pub deleted : AreDeleted limits told r.deleted
+
+-- The same where the command asked for ids alone.
+pub record BeginsWithJustId (limits : Limits) (bytes : List ℕ) (r : JustId) (len : ℕ) : Type 0 where
+  pub told : Bool
+  pub rest : List ℕ
+  pub is : bytes ≡ justid_bytes told r ++ rest
+  pub len_is : len ≡ length (justid_bytes told r)
+  pub deep : 3 ≤ limits.depth
+  pub allows : AllowsRows limits
+  pub next : IsName limits r.next
+  pub claimed : AreIdsOf limits r.claimed
+  pub deleted : AreDeleted limits told r.deleted

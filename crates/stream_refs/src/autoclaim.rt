@@ -1,6 +1,11 @@
 //! The reply of XAUTOCLAIM, where it stands.
-ghost use Rattle.std.specs.Prelude.{◌≡◌, ◌≤◌, suc, IfOk, IfSome, length};
-ghost use Rattle.stream_refs.specs.AutoClaim.{copied_autoclaim, IsAutoClaim, IsJustId};
+ghost use Rattle.std.specs.Prelude.{◌≡◌, ◌≤◌, ◌++◌, ℕ, suc, Bool, List, Some, IfOk, IfSome, IsSomeAnd, drop, length};
+ghost use Rattle.redis_wire.specs.Written.{count_bytes};
+ghost use Rattle.redis_wire.specs.Place.{EndsBefore};
+ghost use Rattle.stream_entries.specs.JustId.{JustId};
+ghost use Rattle.stream_refs.specs.AutoClaim.{SentAutoClaim, copied_autoclaim, IsAutoClaim, IsJustId};
+ghost use Rattle.stream_refs.specs.Shapes.{deleted_bytes, claim_start, AllowsRows, IsName, AreDeleted};
+ghost use Rattle.stream_refs.specs.Shapes.{BeginsWithAutoClaim, BeginsWithJustId};
 ghost use Rattle.stream_entries.specs.AutoClaimMeaning.{autoclaim_meaning};
 ghost use Rattle.stream_entries.specs.JustIdMeaning.{justid_meaning};
 ghost use Rattle.stream_refs.specs.ClaimPlaced.{autoclaim_in, justid_in, AreClaimPlaces, AreJustIdPlaces};
@@ -94,7 +99,8 @@ struct ClaimHead {
 
 /// Whether an array of so many members tells deleted ids.
 fn tells_deleted(members: u32) -> Option<bool>
-    ensures { IfSome result (λ told. members ≡ suc (suc (deleted_count told))) }
+    ensures is { IfSome result (λ told. members ≡ suc (suc (deleted_count told))) }
+    ensures found { (told : Bool) → members ≡ suc (suc (deleted_count told)) → result ≡ Some told }
 {
     match members {
         2 => Some(false),
@@ -105,7 +111,11 @@ fn tells_deleted(members: u32) -> Option<bool>
 
 /// How the reply of XAUTOCLAIM at the head of bytes begins.
 fn claim_head(limits: Limits, bytes: &[u8]) -> Option<ClaimHead>
-    ensures { IfSome result (λ head. IsClaimHead limits bytes.now head.told head.next head.count head.at) }
+    ensures is { IfSome result (λ head. IsClaimHead limits bytes.now head.told head.next head.count head.at) }
+    ensures found { (told : Bool) (next : List ℕ) (count : ℕ) (rest : List ℕ) → AllowsRows limits
+        → IsName limits next → count ≤ limits.length
+        → bytes.now ≡ claim_start told next ++ (count_bytes 42 count ++ rest)
+        → IsSomeAnd result (λ head. (head.told ≡ told) × (head.count ≡ count) × EndsBefore bytes.now rest head.at) }
 {
     let (members, behind) = array_at(limits, bytes, 0)?;
     let told = tells_deleted(members)?;
@@ -129,8 +139,11 @@ fn add_deleted<P: Places>(
     places: &mut P,
 ) -> Result<Option<usize>, P::Refusal>
     requires { at ≤ length bytes.now }
-    ensures { IfOk result (λ o. IfSome o (λ after.
+    ensures is { IfOk result (λ o. IfSome o (λ after.
         DeletedAdded limits bytes.now at told after (P.held places.old) (P.held places.new))) }
+    ensures found { (ids : List (List ℕ)) (rest : List ℕ) → AllowsRows limits → AreDeleted limits told ids
+        → drop at bytes.now ≡ deleted_bytes told ids ++ rest
+        → IfOk result (λ o. IsSomeAnd o (EndsBefore bytes.now rest)) }
 {
     if !told {
         return Ok(Some(at));
@@ -157,6 +170,9 @@ pub fn find_autoclaim<P: Places>(
         (autoclaim_in bytes.now (P.held places.new).entries (P.held places.new).fields p) p.len)) }
     ensures within { IfOk result (λ o. IfSome o (λ p. AreClaimPlaces bytes.now
         (P.held places.new).entries (P.held places.new).fields p)) }
+    ensures found { (r : SentAutoClaim) (len : ℕ) → BeginsWithAutoClaim limits bytes.now r len
+        → IfOk result (λ o. IsSomeAnd o (λ p. (autoclaim_in bytes.now (P.held places.new).entries
+        (P.held places.new).fields p ≡ r) × (p.len ≡ len))) }
 {
     places.clear();
     if limits.depth < 5 {
@@ -187,6 +203,9 @@ pub fn find_justid<P: Places>(
         (justid_in bytes.now (P.held places.new).entries p) p.len)) }
     ensures within { IfOk result (λ o. IfSome o (λ p. AreJustIdPlaces bytes.now
         (P.held places.new).entries p)) }
+    ensures found { (r : JustId) (len : ℕ) → BeginsWithJustId limits bytes.now r len
+        → IfOk result (λ o. IsSomeAnd o (λ p. (justid_in bytes.now (P.held places.new).entries p ≡ r)
+        × (p.len ≡ len))) }
 {
     places.clear();
     if limits.depth < 3 {

@@ -1,5 +1,10 @@
 //! Replies of XAUTOCLAIM of any shape: where they stand, or by the copying path.
-ghost use Rattle.stream_refs.specs.ClaimOutcome.{IsAutoClaimOutcome, IsJustIdOutcome};
+ghost use Rattle.std.specs.Prelude.{ℕ};
+ghost use Rattle.stream_entries.specs.JustId.{JustId};
+ghost use Rattle.stream_refs.specs.AutoClaim.{SentAutoClaim};
+ghost use Rattle.stream_refs.specs.ClaimOutcome.{IsAutoClaimOutcome, IsJustIdOutcome, IsAutoClaimInPlace};
+ghost use Rattle.stream_refs.specs.ClaimOutcome.{IsJustIdInPlace};
+ghost use Rattle.stream_refs.specs.Shapes.{BeginsWithAutoClaim, BeginsWithJustId};
 
 use crate::autoclaim::{AutoClaimJustIdRef, AutoClaimRef};
 use crate::tape::EntryTape;
@@ -45,7 +50,9 @@ pub fn read_any_autoclaim<'a>(
     bytes: &'a [u8],
     limits: Limits,
 ) -> Result<AutoClaimOutcome<'a>, WireError>
-    ensures { IsAutoClaimOutcome limits bytes.now result }
+    ensures is { IsAutoClaimOutcome limits bytes.now result }
+    ensures found { (sent : SentAutoClaim) (len : ℕ) → BeginsWithAutoClaim limits bytes.now sent len
+        → IsAutoClaimInPlace sent len result }
 {
     match tape.read_autoclaim(bytes, limits) {
         Err(_) => Err(WireError::Memory),
@@ -80,7 +87,9 @@ pub fn read_any_justid<'a>(
     bytes: &'a [u8],
     limits: Limits,
 ) -> Result<JustIdOutcome<'a>, WireError>
-    ensures { IsJustIdOutcome limits bytes.now result }
+    ensures is { IsJustIdOutcome limits bytes.now result }
+    ensures found { (sent : JustId) (len : ℕ) → BeginsWithJustId limits bytes.now sent len
+        → IsJustIdInPlace sent len result }
 {
     match tape.read_justid(bytes, limits) {
         Err(_) => Err(WireError::Memory),

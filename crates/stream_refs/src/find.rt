@@ -1,11 +1,12 @@
 //! Finds where the entries of a reply stand, in tables of any kind.
-ghost use Rattle.std.specs.Prelude.{◌≡◌, ◌≤◌, ℕ, List, IfOk, IfSome, IsSomeAnd, map};
+ghost use Rattle.std.specs.Prelude.{◌≡◌, ◌≤◌, ◌++◌, ℕ, Bool, List, IfOk, IfSome, IsSome, IsSomeAnd, map, true, false};
 ghost use Rattle.stream_refs.specs.Held.{none_held};
 ghost use Rattle.stream_refs.specs.Placed.{entry_in, stream_in};
 ghost use Rattle.stream_refs.specs.Added.{IsFilled};
 ghost use Rattle.stream_refs.specs.Range.{IsRange, IsRead};
-ghost use Rattle.stream_refs.specs.Sent.{SentEntry};
-ghost use Rattle.stream_refs.specs.Shapes.{BeginsWithRange};
+ghost use Rattle.stream_refs.specs.Sent.{SentEntry, SentStream};
+ghost use Rattle.stream_refs.specs.Shapes.{NilForm, as_array, as_map, streams_bytes, AllowsRows, AreStreamsOf};
+ghost use Rattle.stream_refs.specs.Shapes.{BeginsWithRange, BeginsWithStreams};
 
 use crate::room::Places;
 use crate::rows::add_entries;
@@ -50,8 +51,11 @@ fn find_array<P: Places>(
 ) -> Result<Option<usize>, P::Refusal>
     requires deep { 6 ≤ limits.depth }
     requires none { P.held places.old ≡ none_held }
-    ensures { IfOk result (λ o. IfSome o (λ len.
+    ensures is { IfOk result (λ o. IfSome o (λ len.
         IsFilled limits bytes.now claim len (P.held places.new))) }
+    ensures found { (form : NilForm) (ss : List SentStream) (rest : List ℕ) → AllowsRows limits
+        → AreStreamsOf limits claim ss → bytes.now ≡ streams_bytes as_array form ss ++ rest
+        → IfOk result (λ o. IsSome o) }
 {
     let Some((count, at)) = array_at(limits, bytes, 0) else {
         return Ok(None);
@@ -72,8 +76,11 @@ fn find_map<P: Places>(
 ) -> Result<Option<usize>, P::Refusal>
     requires deep { 6 ≤ limits.depth }
     requires none { P.held places.old ≡ none_held }
-    ensures { IfOk result (λ o. IfSome o (λ len.
+    ensures is { IfOk result (λ o. IfSome o (λ len.
         IsFilled limits bytes.now claim len (P.held places.new))) }
+    ensures found { (form : NilForm) (ss : List SentStream) (rest : List ℕ) → AllowsRows limits
+        → AreStreamsOf limits claim ss → bytes.now ≡ streams_bytes as_map form ss ++ rest
+        → IfOk result (λ o. IsSome o) }
 {
     let Some((count, at)) = map_at(limits, bytes, 0) else {
         return Ok(None);
@@ -92,8 +99,10 @@ pub fn find_form<P: Places>(
     places: &mut P,
 ) -> Result<Option<usize>, P::Refusal>
     requires { 6 ≤ limits.depth }
-    ensures { IfOk result (λ o. IfSome o (λ len.
+    ensures is { IfOk result (λ o. IfSome o (λ len.
         IsFilled limits bytes.now claim len (P.held places.new))) }
+    ensures found { (ss : List SentStream) (len : ℕ) → BeginsWithStreams limits claim bytes.now ss len
+        → IfOk result (λ o. IsSome o) }
 {
     places.clear();
     if let Some(len) = nil_at(limits, bytes, 0) {
@@ -117,9 +126,12 @@ pub fn find_streams<P: Places>(
     bytes: &[u8],
     places: &mut P,
 ) -> Result<Option<usize>, P::Refusal>
-    ensures { IfOk result (λ o. IfSome o (λ len. IsRead limits bytes.now
+    ensures is { IfOk result (λ o. IfSome o (λ len. IsRead limits bytes.now
         (map (stream_in bytes.now (P.held places.new).entries (P.held places.new).fields)
         (P.held places.new).streams) len)) }
+    ensures found { (ss : List SentStream) (len : ℕ) → BeginsWithStreams limits false bytes.now ss len
+        → IfOk result (λ o. IsSomeAnd o (λ n. (map (stream_in bytes.now (P.held places.new).entries
+        (P.held places.new).fields) (P.held places.new).streams ≡ ss) × (n ≡ len))) }
 {
     if limits.depth < 6 {
         return Ok(None);
@@ -138,9 +150,12 @@ pub fn find_claimed_streams<P: Places>(
     bytes: &[u8],
     places: &mut P,
 ) -> Result<Option<usize>, P::Refusal>
-    ensures { IfOk result (λ o. IfSome o (λ len. IsRead limits bytes.now
+    ensures is { IfOk result (λ o. IfSome o (λ len. IsRead limits bytes.now
         (map (stream_in bytes.now (P.held places.new).entries (P.held places.new).fields)
         (P.held places.new).streams) len)) }
+    ensures found { (ss : List SentStream) (len : ℕ) → BeginsWithStreams limits true bytes.now ss len
+        → IfOk result (λ o. IsSomeAnd o (λ n. (map (stream_in bytes.now (P.held places.new).entries
+        (P.held places.new).fields) (P.held places.new).streams ≡ ss) × (n ≡ len))) }
 {
     if limits.depth < 6 {
         return Ok(None);
@@ -159,8 +174,10 @@ pub fn find_either_form<P: Places>(
     places: &mut P,
 ) -> Result<Option<(bool, usize)>, P::Refusal>
     requires { 6 ≤ limits.depth }
-    ensures { IfOk result (λ o. IfSome o (λ x.
+    ensures is { IfOk result (λ o. IfSome o (λ x.
         IsFilled limits bytes.now x.0 x.1 (P.held places.new))) }
+    ensures found { (claim : Bool) (ss : List SentStream) (len : ℕ)
+        → BeginsWithStreams limits claim bytes.now ss len → IfOk result (λ o. IsSome o) }
 {
     if let Some(len) = find_form(limits, bytes, false, places)? {
         return Ok(Some((false, len)));

@@ -1,9 +1,13 @@
 //! Ids alone, where they stand.
-ghost use Rattle.std.specs.Prelude.{◌≡◌, ◌≤◌, ◌∷◌, [], IfOk, IfSome, MatchOption, false, length, map, nat_eq};
+ghost use Rattle.std.specs.Prelude.{◌≡◌, ◌≤◌, ◌∷◌, ◌++◌, ℕ, List, [], IfOk, IfSome, IsSomeAnd, MatchOption};
+ghost use Rattle.std.specs.Prelude.{drop, flat_map, false, length, map, nat_eq};
 ghost use Rattle.std.specs.List.{AllByRecursion};
 ghost use Rattle.stream_entries.specs.AutoClaimMeaning.{text_bytes_of};
 ghost use Rattle.stream_refs.specs.ClaimPlaced.{id_at, IsId};
 ghost use Rattle.stream_refs.specs.AddedIds.{IdsAdded};
+ghost use Rattle.redis_wire.specs.Packed.{bulk_bytes};
+ghost use Rattle.redis_wire.specs.Place.{EndsBefore};
+ghost use Rattle.stream_refs.specs.Shapes.{AllowsRows, IsName};
 
 use crate::places::EntryPlace;
 use crate::room::Places;
@@ -155,8 +159,11 @@ pub fn add_ids<P: Places>(
     places: &mut P,
 ) -> Result<Option<usize>, P::Refusal>
     requires { at ≤ length bytes.now }
-    ensures { IfOk result (λ o. IfSome o (λ after.
+    ensures is { IfOk result (λ o. IfSome o (λ after.
         IdsAdded limits bytes.now at count after (P.held places.old) (P.held places.new))) }
+    ensures found { (ids : List (List ℕ)) (rest : List ℕ) → AllowsRows limits → AllByRecursion (IsName limits) ids
+        → drop at bytes.now ≡ flat_map bulk_bytes ids ++ rest → count ≡ length ids
+        → IfOk result (λ o. IsSomeAnd o (EndsBefore bytes.now rest)) }
 {
     let mut behind = at;
     for _ in 0..count {

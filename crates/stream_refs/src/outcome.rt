@@ -1,8 +1,8 @@
 //! Replies of any shape: where they stand, or by the copying path.
-ghost use Rattle.std.specs.Prelude.{◌≡◌, ℕ, List, IfOk, IfSome};
-ghost use Rattle.stream_refs.specs.Outcome.{IsRangeOutcome, IsReadOutcome, IsRangeInPlace};
-ghost use Rattle.stream_refs.specs.Sent.{SentEntry};
-ghost use Rattle.stream_refs.specs.Shapes.{BeginsWithRange};
+ghost use Rattle.std.specs.Prelude.{◌≡◌, ℕ, Bool, List, IfOk, IfSome};
+ghost use Rattle.stream_refs.specs.Outcome.{IsRangeOutcome, IsReadOutcome, IsRangeInPlace, IsReadInPlace};
+ghost use Rattle.stream_refs.specs.Sent.{SentEntry, SentStream};
+ghost use Rattle.stream_refs.specs.Shapes.{BeginsWithRange, BeginsWithStreams};
 
 use crate::entry_list::RangeRef;
 use crate::stream_list::ReadRef;
@@ -87,7 +87,9 @@ pub fn read_any_streams<'a>(
     bytes: &'a [u8],
     limits: Limits,
 ) -> Result<ReadOutcome<'a>, WireError>
-    ensures { IsReadOutcome limits bytes.now result }
+    ensures is { IsReadOutcome limits bytes.now result }
+    ensures found { (claim : Bool) (ss : List SentStream) (len : ℕ)
+        → BeginsWithStreams limits claim bytes.now ss len → IsReadInPlace ss len result }
 {
     match tape.read_either_form(bytes, limits) {
         Err(_) => Err(WireError::Memory),

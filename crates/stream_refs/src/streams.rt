@@ -1,7 +1,11 @@
 //! Finds where streams stand, with their entries.
-ghost use Rattle.std.specs.Prelude.{◌≡◌, ◌≤◌, IfOk, IfSome, length};
+ghost use Rattle.std.specs.Prelude.{◌≡◌, ◌≤◌, ◌++◌, ℕ, List, IfOk, IfSome, IsSomeAnd, drop, flat_map, length};
 ghost use Rattle.stream_refs.specs.Held.{none_held};
 ghost use Rattle.stream_refs.specs.Added.{IsStreamHead, StreamAdded, StreamsAdded};
+ghost use Rattle.std.specs.List.{AllByRecursion};
+ghost use Rattle.redis_wire.specs.Place.{EndsBefore};
+ghost use Rattle.stream_refs.specs.Sent.{SentStream};
+ghost use Rattle.stream_refs.specs.Shapes.{NilForm, stream_head, stream_bytes, AllowsRows, IsStreamOf};
 
 use crate::places::StreamPlace;
 use crate::room::Places;
@@ -13,7 +17,9 @@ use redis_wire::place::array_at;
 /// its name and its rows.
 fn head_end(limits: Limits, bytes: &[u8], at: usize, in_map: bool) -> Option<usize>
     requires { at ≤ length bytes.now }
-    ensures { IfSome result (λ behind. IsStreamHead limits bytes.now at in_map behind) }
+    ensures is { IfSome result (λ behind. IsStreamHead limits bytes.now at in_map behind) }
+    ensures found { (rest : List ℕ) → AllowsRows limits → drop at bytes.now ≡ stream_head in_map ++ rest
+        → IsSomeAnd result (EndsBefore bytes.now rest) }
 {
     if in_map {
         return Some(at);
@@ -34,8 +40,11 @@ fn add_stream<P: Places>(
     places: &mut P,
 ) -> Result<Option<(StreamPlace, usize)>, P::Refusal>
     requires { at ≤ length bytes.now }
-    ensures { IfOk result (λ o. IfSome o (λ x.
+    ensures is { IfOk result (λ o. IfSome o (λ x.
         StreamAdded limits bytes.now at in_map claim x.1 x.0 (P.held places.old) (P.held places.new))) }
+    ensures found { (form : NilForm) (s : SentStream) (rest : List ℕ) → AllowsRows limits
+        → IsStreamOf limits claim s → drop at bytes.now ≡ stream_bytes in_map form s ++ rest
+        → IfOk result (λ o. IsSomeAnd o (λ x. EndsBefore bytes.now rest x.1)) }
 {
     let Some(behind) = head_end(limits, bytes, at, in_map) else {
         return Ok(None);
@@ -67,8 +76,12 @@ pub fn add_streams<P: Places>(
 ) -> Result<Option<usize>, P::Refusal>
     requires at { at ≤ length bytes.now }
     requires none { P.held places.old ≡ none_held }
-    ensures { IfOk result (λ o. IfSome o (λ after.
+    ensures is { IfOk result (λ o. IfSome o (λ after.
         StreamsAdded limits bytes.now at in_map claim count after (P.held places.new))) }
+    ensures found { (form : NilForm) (ss : List SentStream) (rest : List ℕ) → AllowsRows limits
+        → AllByRecursion (IsStreamOf limits claim) ss
+        → drop at bytes.now ≡ flat_map (stream_bytes in_map form) ss ++ rest → count ≡ length ss
+        → IfOk result (λ o. IsSomeAnd o (EndsBefore bytes.now rest)) }
 {
     let mut behind = at;
     for _ in 0..count {

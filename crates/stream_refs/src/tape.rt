@@ -1,10 +1,11 @@
 //! The tables of places of a reply.
-ghost use Rattle.std.specs.Prelude.{◌≡◌, ℕ, List, IfOk, IfSome, IsSomeAnd};
+ghost use Rattle.std.specs.Prelude.{◌≡◌, ℕ, Bool, true, false, List, IfOk, IfSome, IsSomeAnd};
 ghost use Rattle.stream_refs.specs.Held.{none_held};
 ghost use Rattle.stream_refs.specs.Range.{IsRange, IsRead};
-ghost use Rattle.stream_refs.specs.AutoClaim.{IsAutoClaim, IsJustId};
-ghost use Rattle.stream_refs.specs.Sent.{SentEntry};
-ghost use Rattle.stream_refs.specs.Shapes.{BeginsWithRange};
+ghost use Rattle.stream_refs.specs.AutoClaim.{SentAutoClaim, IsAutoClaim, IsJustId};
+ghost use Rattle.stream_entries.specs.JustId.{JustId};
+ghost use Rattle.stream_refs.specs.Sent.{SentEntry, SentStream};
+ghost use Rattle.stream_refs.specs.Shapes.{BeginsWithRange, BeginsWithStreams, BeginsWithAutoClaim, BeginsWithJustId};
 
 use crate::autoclaim::{
     AutoClaimJustIdRef, AutoClaimRef, autoclaim_at, find_autoclaim, find_justid, justid_at,
@@ -98,7 +99,9 @@ impl EntryTape {
         bytes: &'a [u8],
         limits: Limits,
     ) -> Result<Option<ReadRef<'a>>, AllocError>
-        ensures { IfOk result (λ o. IfSome o (λ r. IsRead limits bytes.now r.streams r.len)) }
+        ensures is { IfOk result (λ o. IfSome o (λ r. IsRead limits bytes.now r.streams r.len)) }
+        ensures found { (ss : List SentStream) (len : ℕ) → BeginsWithStreams limits false bytes.now ss len
+            → IfOk result (λ o. IsSomeAnd o (λ r. (r.streams ≡ ss) × (r.len ≡ len))) }
     {
         if limits.depth < 6 {
             return Ok(None);
@@ -120,7 +123,9 @@ impl EntryTape {
         bytes: &'a [u8],
         limits: Limits,
     ) -> Result<Option<ReadRef<'a>>, AllocError>
-        ensures { IfOk result (λ o. IfSome o (λ r. IsRead limits bytes.now r.streams r.len)) }
+        ensures is { IfOk result (λ o. IfSome o (λ r. IsRead limits bytes.now r.streams r.len)) }
+        ensures found { (ss : List SentStream) (len : ℕ) → BeginsWithStreams limits true bytes.now ss len
+            → IfOk result (λ o. IsSomeAnd o (λ r. (r.streams ≡ ss) × (r.len ≡ len))) }
     {
         if limits.depth < 6 {
             return Ok(None);
@@ -141,7 +146,10 @@ impl EntryTape {
         bytes: &'a [u8],
         limits: Limits,
     ) -> Result<Option<ReadRef<'a>>, AllocError>
-        ensures { IfOk result (λ o. IfSome o (λ r. IsRead limits bytes.now r.streams r.len)) }
+        ensures is { IfOk result (λ o. IfSome o (λ r. IsRead limits bytes.now r.streams r.len)) }
+        ensures found { (claim : Bool) (ss : List SentStream) (len : ℕ)
+            → BeginsWithStreams limits claim bytes.now ss len
+            → IfOk result (λ o. IsSomeAnd o (λ r. (r.streams ≡ ss) × (r.len ≡ len))) }
     {
         if limits.depth < 6 {
             return Ok(None);
@@ -163,8 +171,14 @@ impl EntryTape {
         bytes: &'a [u8],
         limits: Limits,
     ) -> Result<Option<AutoClaimRef<'a>>, AllocError>
-        ensures { IfOk result (λ o. IfSome o (λ r. IsAutoClaim limits bytes.now
+        ensures is { IfOk result (λ o. IfSome o (λ r. IsAutoClaim limits bytes.now
             (record { next = r.next_stream_id.now; claimed = r.claimed; deleted = r.deleted_ids }) r.len)) }
+        ensures found { (sent : SentAutoClaim) (len : ℕ) → BeginsWithAutoClaim limits bytes.now sent len
+            → IfOk result (λ o. IsSomeAnd o (λ r. (record {
+              next = r.next_stream_id.now;
+              claimed = r.claimed;
+              deleted = r.deleted_ids;
+            } ≡ sent) × (r.len ≡ len))) }
     {
         match find_autoclaim(limits, bytes, self)? {
             None => Ok(None),
@@ -179,8 +193,14 @@ impl EntryTape {
         bytes: &'a [u8],
         limits: Limits,
     ) -> Result<Option<AutoClaimJustIdRef<'a>>, AllocError>
-        ensures { IfOk result (λ o. IfSome o (λ r. IsJustId limits bytes.now
+        ensures is { IfOk result (λ o. IfSome o (λ r. IsJustId limits bytes.now
             (record { next = r.next_stream_id.now; claimed = r.claimed; deleted = r.deleted_ids }) r.len)) }
+        ensures found { (sent : JustId) (len : ℕ) → BeginsWithJustId limits bytes.now sent len
+            → IfOk result (λ o. IsSomeAnd o (λ r. (record {
+              next = r.next_stream_id.now;
+              claimed = r.claimed;
+              deleted = r.deleted_ids;
+            } ≡ sent) × (r.len ≡ len))) }
     {
         match find_justid(limits, bytes, self)? {
             None => Ok(None),

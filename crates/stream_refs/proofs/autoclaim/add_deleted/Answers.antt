@@ -1,16 +1,57 @@
-use Rattle.std.proofs.Common.{rules, ◌≡◌, true, false}
+use Rattle.std.proofs.Common.{rules, ◌≡◌, ◌++◌, true, false, drop, flat_map, length}
 use Rattle.stream_refs.proofs.IdLemmas.{deleted_untold, deleted_told}
+use Rattle.redis_wire.specs.Packed.{bulk_bytes}
+use Rattle.stream_refs.specs.Shapes.{AreIdsOf}
+use Rattle.stream_refs.proofs.BeginLemmas.{head_begins}
+use Rattle.stream_refs.proofs.ShapeClaimLemmas.{told_split, untold_split}
 use Rattle.stream_refs.proofs.autoclaim.add_deleted.Goals as goal
 
-pub returns-then-not-told : goal.returns-then-not-told
-returns-then-not-told g c =
+pub returns-then-not-told-clause-is : goal.returns-then-not-told-clause-is
+returns-then-not-told-clause-is g c =
     let is : c.args.told ≡ false = search rules in
     rw is (deleted_untold c.args.limits c.args.bytes.now c.args.at (g.P.Places.held c.args.places.now) c.requires)
 
-pub returns-in-Some-2 : goal.returns-in-Some-2
-returns-in-Some-2 g c =
+pub returns-in-Some-2-clause-is : goal.returns-in-Some-2-clause-is
+returns-in-Some-2-clause-is g c =
     let is : c.args.told ≡ true = search rules in
     rw is
     (deleted_told c.args.limits c.args.bytes.now c.args.at (g.P.Places.held c.args.places.now) c.in-Some.count
-    c.in-Some.behind c.in-Some-2.after (g.P.Places.held c.add_ids.new.places) c.in-Some.ensures
-    (rw c.in-Some-2.is at c.in_ok-add_ids.ensures))
+    c.in-Some.behind c.in-Some-2.after (g.P.Places.held c.add_ids.new.places) c.in-Some.ensures.is
+    (rw c.in-Some-2.is at c.in_ok-add_ids.ensures.is))
+
+pub returns-then-not-told-clause-found : goal.returns-then-not-told-clause-found
+returns-then-not-told-clause-found g c = λ ids rest a h at.
+    let is : c.args.told ≡ false = search rules in
+    untold_split ids rest (drop c.args.at c.args.bytes.now) (rw is at at)
+
+pub returns-in_default-clause-found : goal.returns-in_default-clause-found
+returns-in_default-clause-found g c = λ ids rest a h at.
+    let is : c.args.told ≡ true = search rules in
+    let ids_are : AreIdsOf c.args.limits ids = rw is at h in
+    let left = drop c.args.at c.args.bytes.now in
+    let members = flat_map bulk_bytes ids ++ rest in
+    let top = head_begins c.args.limits a left 42 (length ids) members ids_are.few
+    (told_split ids rest left (rw is at at)) in
+    c.in_default.ensures.found (length ids) members top
+
+pub returns-in-None-clause-found : goal.returns-in-None-clause-found
+returns-in-None-clause-found g c = λ ids rest a h at.
+    let is : c.args.told ≡ true = search rules in
+    let ids_are : AreIdsOf c.args.limits ids = rw is at h in
+    let left = drop c.args.at c.args.bytes.now in
+    let members = flat_map bulk_bytes ids ++ rest in
+    let top = head_begins c.args.limits a left 42 (length ids) members ids_are.few
+    (told_split ids rest left (rw is at at)) in
+    let head = c.in-Some.ensures.found (length ids) members top in
+    rw c.in-None.is at (c.in_ok-add_ids.ensures.found ids rest a ids_are.each head.1 head.0)
+
+pub returns-in-Some-2-clause-found : goal.returns-in-Some-2-clause-found
+returns-in-Some-2-clause-found g c = λ ids rest a h at.
+    let is : c.args.told ≡ true = search rules in
+    let ids_are : AreIdsOf c.args.limits ids = rw is at h in
+    let left = drop c.args.at c.args.bytes.now in
+    let members = flat_map bulk_bytes ids ++ rest in
+    let top = head_begins c.args.limits a left 42 (length ids) members ids_are.few
+    (told_split ids rest left (rw is at at)) in
+    let head = c.in-Some.ensures.found (length ids) members top in
+    rw c.in-Some-2.is at (c.in_ok-add_ids.ensures.found ids rest a ids_are.each head.1 head.0)

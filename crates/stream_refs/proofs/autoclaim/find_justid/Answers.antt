@@ -1,7 +1,11 @@
-use Rattle.std.proofs.Common.{rules, ◌≡◌, ◌≤◌, arith, length}
+use Rattle.std.proofs.Common.{rules, ◌≡◌, ◌≤◌, ◌++◌, arith, flat_map, sym, length}
 use Rattle.stream_refs.specs.Held.{none_held}
 use Rattle.stream_refs.specs.AddedIds.{IdsAdded, DeletedAdded}
 use Rattle.stream_refs.proofs.AutoClaimLemmas.{justid_is, justid_places}
+use Rattle.redis_wire.specs.Packed.{bulk_bytes}
+use Rattle.stream_refs.specs.Shapes.{deleted_bytes}
+use Rattle.stream_refs.specs.ClaimPlaced.{justid_in}
+use Rattle.stream_refs.proofs.ShapeClaimLemmas.{justid_parts, justid_same}
 use Rattle.stream_refs.proofs.autoclaim.find_justid.Goals as goal
 
 pub returns-clause-is : goal.returns-clause-is
@@ -13,11 +17,11 @@ returns-clause-is g c =
     let deep : 3 ≤ c.args.limits.depth = omega arith in
     let n : c.count_entries-claimed.result ≡ length mid.entries = search rules in
     let added : IdsAdded c.args.limits bytes head.at head.count c.in-Some-2.at none_held mid =
-    rw (c.clear.ensures, c.in-Some-2.is) at c.in_ok-at.ensures in
+    rw (c.clear.ensures, c.in-Some-2.is) at c.in_ok-at.ensures.is in
     let deleted : DeletedAdded c.args.limits bytes c.in-Some-2.at head.told c.in-Some-3.len mid new =
-    rw c.in-Some-3.is at c.in_ok-len.ensures in
+    rw c.in-Some-3.is at c.in_ok-len.ensures.is in
     justid_is c.args.limits bytes head.told head.next head.count head.at c.in-Some-2.at c.in-Some-3.len
-    c.in-Some.ensures c.count_entries-claimed.result mid new n deleted added deep
+    c.in-Some.ensures.is c.count_entries-claimed.result mid new n deleted added deep
 
 pub returns-clause-within : goal.returns-clause-within
 returns-clause-within g c =
@@ -27,8 +31,52 @@ returns-clause-within g c =
     let head = c.in-Some.head in
     let n : c.count_entries-claimed.result ≡ length mid.entries = search rules in
     let added : IdsAdded c.args.limits bytes head.at head.count c.in-Some-2.at none_held mid =
-    rw (c.clear.ensures, c.in-Some-2.is) at c.in_ok-at.ensures in
+    rw (c.clear.ensures, c.in-Some-2.is) at c.in_ok-at.ensures.is in
     let deleted : DeletedAdded c.args.limits bytes c.in-Some-2.at head.told c.in-Some-3.len mid new =
-    rw c.in-Some-3.is at c.in_ok-len.ensures in
+    rw c.in-Some-3.is at c.in_ok-len.ensures.is in
     justid_places c.args.limits bytes head.told head.next head.count head.at c.in-Some-2.at c.in-Some-3.len
-    c.in-Some.ensures c.count_entries-claimed.result mid new n deleted added
+    c.in-Some.ensures.is c.count_entries-claimed.result mid new n deleted added
+
+pub returns-clause-found : goal.returns-clause-found
+returns-clause-found g c = λ r len b.
+    let bytes = c.args.bytes.now in
+    let new = g.P.Places.held c.add_deleted.new.places in
+    justid_same c.args.limits bytes
+    (justid_in bytes new.entries (record {
+      next = c.in-Some.head.next;
+      claimed = c.count_entries-claimed.result;
+      len = c.in-Some-3.len;
+    })) r c.in-Some-3.len len (returns-clause-is g c) b
+
+pub returns-in_default-clause-found : goal.returns-in_default-clause-found
+returns-in_default-clause-found g c = λ r len b.
+    let bytes = c.args.bytes.now in
+    let third = deleted_bytes b.told r.deleted ++ b.rest in
+    let behind = flat_map bulk_bytes r.claimed ++ third in
+    let split = justid_parts b.told r b.rest bytes b.is in
+    c.in_default.ensures.found b.told r.next (length r.claimed) behind b.allows b.next b.claimed.few split
+
+pub returns-in_default-2-clause-found : goal.returns-in_default-2-clause-found
+returns-in_default-2-clause-found g c = λ r len b.
+    let bytes = c.args.bytes.now in
+    let third = deleted_bytes b.told r.deleted ++ b.rest in
+    let behind = flat_map bulk_bytes r.claimed ++ third in
+    let split = justid_parts b.told r b.rest bytes b.is in
+    let head = c.in-Some.ensures.found b.told r.next (length r.claimed) behind b.allows b.next b.claimed.few split in
+    let all = c.in_ok-at.ensures.found r.claimed third b.allows b.claimed.each head.2 head.1 in
+    rw c.in_default-2.is at all
+
+pub returns-in_default-3-clause-found : goal.returns-in_default-3-clause-found
+returns-in_default-3-clause-found g c = λ r len b.
+    let bytes = c.args.bytes.now in
+    let third = deleted_bytes b.told r.deleted ++ b.rest in
+    let behind = flat_map bulk_bytes r.claimed ++ third in
+    let split = justid_parts b.told r b.rest bytes b.is in
+    let head = c.in-Some.ensures.found b.told r.next (length r.claimed) behind b.allows b.next b.claimed.few split in
+    let all = c.in_ok-at.ensures.found r.claimed third b.allows b.claimed.each head.2 head.1 in
+    let after = rw c.in-Some-2.is at all in
+    rw c.in_default-3.is at (c.in_ok-len.ensures.found r.deleted b.rest b.allows (rw (head.0) b.deleted)
+    (rw (head.0) after))
+
+pub returns-then-limits-lt3-clause-found : goal.returns-then-limits-lt3-clause-found
+returns-then-limits-lt3-clause-found g c = λ r len b. absurd (omega (arith, b.deep))

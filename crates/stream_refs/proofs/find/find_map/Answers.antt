@@ -1,13 +1,31 @@
-use Rattle.std.proofs.Common.{true}
+use Rattle.std.proofs.Common.{◌++◌, flat_map, length, true}
 use Rattle.stream_refs.specs.Added.{StreamsAdded}
 use Rattle.stream_refs.proofs.ReadLemmas.{map_filled}
+use Rattle.stream_refs.specs.Shapes.{stream_bytes}
+use Rattle.stream_refs.proofs.BeginLemmas.{head_begins}
+use Rattle.stream_refs.proofs.ShapeStreamLemmas.{map_is}
 use Rattle.stream_refs.proofs.find.find_map.Goals as goal
 
-pub returns-in-Some-2 : goal.returns-in-Some-2
-returns-in-Some-2 g c =
+pub returns-in-Some-2-clause-is : goal.returns-in-Some-2-clause-is
+returns-in-Some-2-clause-is g c =
     let held = g.P.Places.held c.add_streams.new.places in
     let added : StreamsAdded c.args.limits c.args.bytes.now c.in-Some.at true c.args.claim c.in-Some.count
     c.in-Some-2.len held =
-    rw c.in-Some-2.is at c.in_ok-add_streams.ensures in
+    rw c.in-Some-2.is at c.in_ok-add_streams.ensures.is in
     map_filled c.args.limits c.args.bytes.now c.args.claim c.requires.deep c.in-Some.at c.in-Some.count c.in-Some-2.len
-    held c.in-Some.ensures added
+    held c.in-Some.ensures.is added
+
+pub returns-in_default-clause-found : goal.returns-in_default-clause-found
+returns-in_default-clause-found g c = λ form ss rest a h is.
+    let behind = flat_map (stream_bytes true form) ss ++ rest in
+    let top = head_begins c.args.limits a c.args.bytes.now 37 (length ss) behind h.few
+    (map_is form ss rest c.args.bytes.now is) in
+    absurd (c.in_default.ensures.found (length ss) behind top)
+
+pub returns-in-None-clause-found : goal.returns-in-None-clause-found
+returns-in-None-clause-found g c = λ form ss rest a h is.
+    let behind = flat_map (stream_bytes true form) ss ++ rest in
+    let top = head_begins c.args.limits a c.args.bytes.now 37 (length ss) behind h.few
+    (map_is form ss rest c.args.bytes.now is) in
+    let head = c.in-Some.ensures.found (length ss) behind top in
+    absurd (rw c.in-None.is at (c.in_ok-add_streams.ensures.found form ss rest a h.each head.1 head.0))

@@ -1,6 +1,11 @@
+use Rattle.redis_wire.specs.Packed.{bulk_bytes}
 use Rattle.stream_refs.specs.AddedIds.{IdsAdded}
+use Rattle.stream_refs.specs.Shapes.{IsName}
+use Rattle.stream_refs.proofs.BeginLemmas.{IsLeft}
 use Rattle.stream_refs.proofs.ids.add_ids.Given as goal
 
 abbrev pub invariant-loop : goal.invariant-loop
-invariant-loop g l = IdsAdded l.limits l.bytes l.at l.counter l.behind (g.P.Places.held l.fn.places)
-    (g.P.Places.held l.places)
+invariant-loop g l = record {
+  added : IdsAdded l.limits l.bytes l.at l.counter l.behind (g.P.Places.held l.fn.places) (g.P.Places.held l.places);
+  left : IsLeft bulk_bytes (IsName l.limits) l.limits l.bytes l.at l.count l.counter l.behind;
+}

@@ -1,10 +1,13 @@
-use Rattle.std.proofs.Common.{rules, ◌≡◌, length}
+use Rattle.std.proofs.Common.{rules, ◌≡◌, ◌++◌, length, drop, flat_map}
 use Rattle.stream_refs.specs.Added.{EntriesAdded}
+use Rattle.stream_refs.specs.Shapes.{rows_bytes, entry_bytes}
 use Rattle.stream_refs.proofs.StreamLemmas.{stream_added}
+use Rattle.stream_refs.proofs.BeginLemmas.{head_begins, text_begins, rows_split}
+use Rattle.stream_refs.proofs.ShapeStreamLemmas.{behind_head, stream_split}
 use Rattle.stream_refs.proofs.streams.add_stream.Goals as goal
 
-pub returns : goal.returns
-returns g c =
+pub returns-clause-is : goal.returns-clause-is
+returns-clause-is g c =
     let bytes = c.args.bytes.now in
     let old = g.P.Places.held c.args.places.now in
     let new = g.P.Places.held c.add_entries.new.places in
@@ -12,8 +15,69 @@ returns g c =
     let to : c.count_entries-to.result ≡ length new.entries = search rules in
     let added : EntriesAdded c.args.limits bytes c.in-Some-array_at.behind c.args.claim c.in-Some-array_at.count
     c.in-Some-2.after old new =
-    rw c.in-Some-2.is at c.in_ok-after.ensures in
+    rw c.in-Some-2.is at c.in_ok-after.ensures.is in
     stream_added c.args.limits bytes c.args.at c.in-Some.behind c.in-Some-name_at.behind c.in-Some-array_at.behind
     c.in-Some-2.after c.in-Some-array_at.count c.args.in_map c.args.claim c.in-Some-name_at.name old new
-    c.count_entries-from.result c.count_entries-to.result from to c.in-Some.ensures c.in-Some-name_at.ensures.is
-    c.in-Some-name_at.ensures.text c.in-Some-array_at.ensures added
+    c.count_entries-from.result c.count_entries-to.result from to c.in-Some.ensures.is c.in-Some-name_at.ensures.is
+    c.in-Some-name_at.ensures.text c.in-Some-array_at.ensures.is added
+
+pub returns-in_default-clause-found : goal.returns-in_default-clause-found
+returns-in_default-clause-found g c = λ form s rest a h is.
+    let left = drop c.args.at c.args.bytes.now in
+    let top = stream_split c.args.in_map form s rest left is in
+    c.in_default.ensures.found (behind_head form s rest) a top
+
+pub returns-in_default-name_at-clause-found : goal.returns-in_default-name_at-clause-found
+returns-in_default-name_at-clause-found g c = λ form s rest a h is.
+    let left = drop c.args.at c.args.bytes.now in
+    let top = stream_split c.args.in_map form s rest left is in
+    let head = c.in-Some.ensures.found (behind_head form s rest) a top in
+    let behind = rows_bytes form s.entries ++ rest in
+    let name = text_begins c.args.limits a (drop c.in-Some.behind c.args.bytes.now) s.name behind h.name.within head in
+    c.in_default-name_at.ensures.found s.name behind name h.name.is_text
+
+pub returns-in_default-array_at-clause-found : goal.returns-in_default-array_at-clause-found
+returns-in_default-array_at-clause-found g c = λ form s rest a h is.
+    let left = drop c.args.at c.args.bytes.now in
+    let top = stream_split c.args.in_map form s rest left is in
+    let head = c.in-Some.ensures.found (behind_head form s rest) a top in
+    let behind = rows_bytes form s.entries ++ rest in
+    let name = text_begins c.args.limits a (drop c.in-Some.behind c.args.bytes.now) s.name behind h.name.within head in
+    let rows = (c.in-Some-name_at.ensures.found s.name behind name h.name.is_text).1 in
+    let members = flat_map (entry_bytes form) s.entries ++ rest in
+    let count = head_begins c.args.limits a (drop c.in-Some-name_at.behind c.args.bytes.now) 42 (length s.entries)
+    members h.entries.few
+    (rows_split form s.entries rest (drop c.in-Some-name_at.behind c.args.bytes.now) rows) in
+    c.in_default-array_at.ensures.found (length s.entries) members count
+
+pub returns-in_default-2-clause-found : goal.returns-in_default-2-clause-found
+returns-in_default-2-clause-found g c = λ form s rest a h is.
+    let left = drop c.args.at c.args.bytes.now in
+    let top = stream_split c.args.in_map form s rest left is in
+    let head = c.in-Some.ensures.found (behind_head form s rest) a top in
+    let behind = rows_bytes form s.entries ++ rest in
+    let name = text_begins c.args.limits a (drop c.in-Some.behind c.args.bytes.now) s.name behind h.name.within head in
+    let rows = (c.in-Some-name_at.ensures.found s.name behind name h.name.is_text).1 in
+    let members = flat_map (entry_bytes form) s.entries ++ rest in
+    let count = head_begins c.args.limits a (drop c.in-Some-name_at.behind c.args.bytes.now) 42 (length s.entries)
+    members h.entries.few
+    (rows_split form s.entries rest (drop c.in-Some-name_at.behind c.args.bytes.now) rows) in
+    let inner = c.in-Some-array_at.ensures.found (length s.entries) members count in
+    let all = c.in_ok-after.ensures.found form s.entries rest a h.entries.each inner.1 inner.0 in
+    rw c.in_default-2.is at all
+
+pub returns-clause-found : goal.returns-clause-found
+returns-clause-found g c = λ form s rest a h is.
+    let left = drop c.args.at c.args.bytes.now in
+    let top = stream_split c.args.in_map form s rest left is in
+    let head = c.in-Some.ensures.found (behind_head form s rest) a top in
+    let behind = rows_bytes form s.entries ++ rest in
+    let name = text_begins c.args.limits a (drop c.in-Some.behind c.args.bytes.now) s.name behind h.name.within head in
+    let rows = (c.in-Some-name_at.ensures.found s.name behind name h.name.is_text).1 in
+    let members = flat_map (entry_bytes form) s.entries ++ rest in
+    let count = head_begins c.args.limits a (drop c.in-Some-name_at.behind c.args.bytes.now) 42 (length s.entries)
+    members h.entries.few
+    (rows_split form s.entries rest (drop c.in-Some-name_at.behind c.args.bytes.now) rows) in
+    let inner = c.in-Some-array_at.ensures.found (length s.entries) members count in
+    let all = c.in_ok-after.ensures.found form s.entries rest a h.entries.each inner.1 inner.0 in
+    rw c.in-Some-2.is at all
