@@ -2,7 +2,8 @@
 
 usage: streams.py LIBRARY <REPLIES     LIBRARY: what `cc -shared` makes of libredis_c.a (tools/try-c does)
 
-Prints a line for each entry: the id, then each field as name=value.
+Prints a line for each entry: the stream, the id, then each field as name=value. At the end stands the XAUTOCLAIM that
+takes over the ids of at most a hundred entries that are pending for a minute.
 """
 import ctypes
 import sys
@@ -34,6 +35,10 @@ class Found(ctypes.Structure):
     ]
 
 
+class AutoClaimSettings(ctypes.Structure):
+    _fields_ = [("counts", ctypes.c_bool), ("justid", ctypes.c_bool), ("count", ctypes.c_size_t)]
+
+
 OK, ROOM = 0, 1
 
 
@@ -51,9 +56,26 @@ def find_streams(library, data):
             return told, found, tables
 
 
+def autoclaim(library, key, group, consumer, min_idle, start, settings):
+    """The bytes of the command."""
+    texts = [[text, ctypes.c_size_t(len(text))] for text in (key, group, consumer, start)]
+    texts = [word for pair in texts for word in pair]
+    size = ctypes.c_size_t(0)
+    while True:
+        out = (ctypes.c_uint8 * max(size.value, 1))()
+        room = ctypes.c_size_t(size.value)
+        told = library.redis_xautoclaim_options(*texts[:6], ctypes.c_size_t(min_idle), *texts[6:],
+                                                ctypes.byref(settings), out, room, ctypes.byref(size))
+        if told == OK:
+            return bytes(out[: size.value])
+        if told != ROOM:
+            raise ValueError(f"told {told}")
+
+
 def main():
     library = ctypes.CDLL(sys.argv[1])
     library.redis_find_streams.restype = ctypes.c_uint32
+    library.redis_xautoclaim_options.restype = ctypes.c_uint32
     data = sys.stdin.buffer.read()
     while data:
         told, found, (streams, entries, fields) = find_streams(library, data)
@@ -69,6 +91,8 @@ def main():
                 own = "".join(f" {text(field.name)}={text(field.value)}" for field in fields[entry.start : entry.end])
                 print(text(stream.name), text(entry.id) + own + (" deleted" if entry.deleted else ""))
         data = data[found.len :]
+    settings = AutoClaimSettings(counts=True, justid=True, count=100)
+    print(autoclaim(library, b"orders", b"g1", b"ann", 60000, b"0-0", settings).decode().replace("\r\n", " "))
 
 
 if __name__ == "__main__":

@@ -7,7 +7,8 @@
    - A pointer that is followed by a number points to that many bytes or items, which nothing else
      writes during the call. Two things that a call writes to do not overlap each other or what it
      reads. No pointer is null, also where the number is 0.
-   - Tables are zeroed before the first call (`= {0}` or calloc): a `bool` holds 0 or 1 at all times.
+   - Tables, and records that a call writes, are zeroed before the first call (`= {0}` or calloc): a `bool`
+     holds 0 or 1 at all times.
    - `malloc`, `realloc` and `free` are those of the C library.
 
    No call ends the process, unwinds or keeps anything: there is no state, so any thread may call at any
@@ -34,7 +35,10 @@ enum {
     REDIS_MEMORY = 5,       /* out of memory; it says nothing of the bytes */
     REDIS_TOO_LARGE = 6,    /* an argument of 2^32 bytes or more */
     REDIS_OUTSIDE = 7,      /* a place that was handed in is not within the bytes */
-    REDIS_NOTHING = 8,      /* no entry or field was handed in, and the server wants one */
+    REDIS_NOTHING = 8,      /* no entry, field or stream was handed in, and the server wants one */
+    REDIS_SETTINGS = 9,     /* settings that name nothing: a number is none of its choices, or a text that they
+                               place is not within the bytes or is not UTF-8 */
+    REDIS_NO_OPTIONS = 10,  /* the arguments do not begin with options, of which none is an option too */
 
     /* The bytes are no reply, however they go on: the first fault that reading from the left meets. */
     REDIS_FAULT = 16,
@@ -197,6 +201,157 @@ uint32_t redis_xpending(const uint8_t *key, size_t key_len, const uint8_t *group
 /* XTRIM key MAXLEN = n, and with ~ in place of = where `about` is true: about so many, or some more */
 uint32_t redis_xtrim(const uint8_t *key, size_t key_len, bool about, size_t maxlen, uint8_t *out, size_t room,
                      size_t *len);
+
+/* ---- Commands with their options
+
+   Settings are plain numbers, flags and places: a text of them stands in the `bytes` that are handed in with
+   them, is UTF-8, and is looked at only where a number or a flag asks for it. With REDIS_SETTINGS there is no
+   command, and `*len` is 0. All zero, settings ask for nothing. */
+
+/* What bounds a stream that is trimmed. */
+enum { REDIS_UNTRIMMED = 0, REDIS_MAXLEN = 1, REDIS_MINID = 2 };
+
+/* What becomes of the references of groups to entries that are deleted. */
+enum { REDIS_UNSAID = 0, REDIS_KEEPREF = 1, REDIS_DELREF = 2, REDIS_ACKED = 3 };
+
+/* How a duplicate entry is recognized. */
+enum { REDIS_DUPLICATES = 0, REDIS_IDMP = 1, REDIS_IDMPAUTO = 2 };
+
+/* MAXLEN|MINID =|~ bound [LIMIT n] and [KEEPREF|DELREF|ACKED] */
+typedef struct {
+    uint32_t bound;      /* REDIS_UNTRIMMED, REDIS_MAXLEN or REDIS_MINID */
+    uint32_t references; /* REDIS_UNSAID, REDIS_KEEPREF, REDIS_DELREF or REDIS_ACKED */
+    bool about;          /* ~ in place of =: about to the bound */
+    bool limits;         /* LIMIT: one call removes at most `limit` entries */
+    size_t maxlen;       /* of REDIS_MAXLEN: so many entries stay */
+    redis_span minid;    /* of REDIS_MINID: entries from this id on stay */
+    size_t limit;
+} redis_trim_settings;
+
+/* [NOMKSTREAM] [KEEPREF|DELREF|ACKED] [IDMP producer item | IDMPAUTO producer] [MAXLEN|MINID ..] */
+typedef struct {
+    bool nomkstream;     /* a stream that does not exist is not made */
+    uint32_t recognizes; /* REDIS_DUPLICATES, REDIS_IDMP or REDIS_IDMPAUTO */
+    redis_span producer; /* of REDIS_IDMP and REDIS_IDMPAUTO */
+    redis_span item;     /* of REDIS_IDMP: the id that the producer gives the entry */
+    redis_trim_settings trim;
+} redis_add_settings;
+
+/* [IDLE n] [TIME n] [RETRYCOUNT n] [FORCE] [JUSTID] [LASTID id] */
+typedef struct {
+    bool idles;   /* IDLE: the entries count as idle for `idle` milliseconds */
+    bool times;   /* TIME: they count as last delivered `time` milliseconds after the start of 1970 */
+    bool retries; /* RETRYCOUNT: they count as delivered `retry` times */
+    bool force;   /* an entry that is pending for nobody is claimed too */
+    bool justid;  /* the reply has the ids alone */
+    bool notes;   /* LASTID: `lastid` is noted as the id that the group was delivered last */
+    size_t idle;
+    size_t time;
+    size_t retry;
+    redis_span lastid;
+} redis_claim_settings;
+
+/* [COUNT n] [JUSTID] */
+typedef struct {
+    bool counts; /* at most `count` entries are claimed */
+    bool justid; /* the reply has the ids alone: redis_find_justid reads it */
+    size_t count;
+} redis_autoclaim_settings;
+
+/* [IDLE n] and [consumer] */
+typedef struct {
+    bool idles; /* those alone that are pending for `idle` milliseconds */
+    bool names; /* those alone that are pending for the consumer */
+    size_t idle;
+} redis_pending_settings;
+
+/* XADD key [NOMKSTREAM] [KEEPREF|DELREF|ACKED] [IDMP producer item | IDMPAUTO producer]
+        [MAXLEN|MINID =|~ bound [LIMIT n]] id name value ..
+   The fields, and the texts of the settings, stand in `bytes`. */
+uint32_t redis_xadd_options(const uint8_t *key, size_t key_len, const uint8_t *id, size_t id_len,
+                            const redis_add_settings *settings, const uint8_t *bytes, size_t bytes_len,
+                            const redis_field *fields, size_t field_count, uint8_t *out, size_t room, size_t *len);
+
+/* XTRIM key MAXLEN|MINID =|~ bound [LIMIT n] [KEEPREF|DELREF|ACKED]
+   REDIS_UNTRIMMED is no bound here, so that it is answered by REDIS_SETTINGS. */
+uint32_t redis_xtrim_options(const uint8_t *key, size_t key_len, const redis_trim_settings *settings,
+                             const uint8_t *bytes, size_t bytes_len, uint8_t *out, size_t room, size_t *len);
+
+/* XCLAIM key group consumer min-idle id .. [IDLE n] [TIME n] [RETRYCOUNT n] [FORCE] [JUSTID] [LASTID id]
+   The ids of these entries, and the text of the settings, stand in `bytes`. */
+uint32_t redis_xclaim_options(const uint8_t *key, size_t key_len, const uint8_t *group, size_t group_len,
+                              const uint8_t *consumer, size_t consumer_len, size_t min_idle,
+                              const redis_claim_settings *settings, const uint8_t *bytes, size_t bytes_len,
+                              const redis_entry *entries, size_t entry_count, uint8_t *out, size_t room,
+                              size_t *len);
+
+/* XAUTOCLAIM key group consumer min-idle start [COUNT n] [JUSTID] */
+uint32_t redis_xautoclaim_options(const uint8_t *key, size_t key_len, const uint8_t *group, size_t group_len,
+                                  const uint8_t *consumer, size_t consumer_len, size_t min_idle,
+                                  const uint8_t *start, size_t start_len,
+                                  const redis_autoclaim_settings *settings, uint8_t *out, size_t room, size_t *len);
+
+/* XREAD [BLOCK n] [COUNT n] STREAMS key .. id ..
+   Of each stream the key stands as a name, and its id as a value. `noack` and `claims` are for a group alone. */
+uint32_t redis_xread_streams(const redis_read_settings *settings, const uint8_t *bytes, size_t bytes_len,
+                             const redis_field *streams, size_t stream_count, uint8_t *out, size_t room,
+                             size_t *len);
+
+/* XREADGROUP GROUP group consumer [BLOCK n] [COUNT n] [NOACK] [CLAIM n] STREAMS key .. id ..
+   Of each stream the key stands as a name, and its id as a value. */
+uint32_t redis_xreadgroup_streams(const redis_read_settings *settings, const uint8_t *group, size_t group_len,
+                                  const uint8_t *consumer, size_t consumer_len, const uint8_t *bytes,
+                                  size_t bytes_len, const redis_field *streams, size_t stream_count, uint8_t *out,
+                                  size_t room, size_t *len);
+
+/* XPENDING key group [IDLE n] start end count [consumer] */
+uint32_t redis_xpending_options(const uint8_t *key, size_t key_len, const uint8_t *group, size_t group_len,
+                                const redis_pending_settings *settings, const uint8_t *start, size_t start_len,
+                                const uint8_t *end, size_t end_len, size_t count, const uint8_t *consumer,
+                                size_t consumer_len, uint8_t *out, size_t room, size_t *len);
+
+/* ---- The server's side
+
+   Each of the calls below reads the options that arguments begin with. The arguments are texts at places of
+   `bytes`, such as those of a command that was received. Of all option lists in front of the arguments it is the
+   only one behind which no further word of these options stands.
+
+   REDIS_OK: the first `*count` arguments are the options, `settings` is what they ask for, and the calls above
+   write them again from it. Places in it are those of the arguments. What an option does not ask for is 0.
+   REDIS_NO_OPTIONS: there is no such list. No arguments, or another word in front, are options that ask for
+   nothing, with 0 as `*count`, but for XTRIM, which wants a bound.
+   REDIS_OUTSIDE: one of the places is not within `bytes`.
+   REDIS_MEMORY: memory is taken for the arguments, and given back before the call ends.
+   But for REDIS_OK, `*count` is 0, and `settings` says nothing. Words are read in capitals, and numbers with no
+   sign and no leading zero, as clients of this library write them. */
+
+/* Where the names of a group and its consumer stand. */
+typedef struct {
+    bool names; /* there are names: it is an XREADGROUP */
+    redis_span group;
+    redis_span consumer;
+} redis_group_place;
+
+/* The options of XADD, from the arguments behind the key on: the id stands behind them. */
+uint32_t redis_read_add(const uint8_t *bytes, size_t len, const redis_span *arguments, size_t argument_count,
+                        redis_add_settings *settings, size_t *count);
+
+/* The options of XTRIM, from the arguments behind the key on. */
+uint32_t redis_read_trim(const uint8_t *bytes, size_t len, const redis_span *arguments, size_t argument_count,
+                         redis_trim_settings *settings, size_t *count);
+
+/* The options of XCLAIM, from the arguments behind the ids on. */
+uint32_t redis_read_claim(const uint8_t *bytes, size_t len, const redis_span *arguments, size_t argument_count,
+                          redis_claim_settings *settings, size_t *count);
+
+/* The options of XAUTOCLAIM, from the arguments behind the start on. */
+uint32_t redis_read_autoclaim(const uint8_t *bytes, size_t len, const redis_span *arguments, size_t argument_count,
+                              redis_autoclaim_settings *settings, size_t *count);
+
+/* The options of XREAD and XREADGROUP, from the arguments behind the name of the command on: STREAMS stands behind
+   them. */
+uint32_t redis_read_read(const uint8_t *bytes, size_t len, const redis_span *arguments, size_t argument_count,
+                         redis_read_settings *settings, redis_group_place *group, size_t *count);
 
 #ifdef __cplusplus
 }

@@ -1,3 +1,5 @@
 pub mod HandedLemmas
 pub mod PlacedLemmas
 pub mod PackingLemmas
+pub mod SettingsLemmas
+pub mod ServerLemmas

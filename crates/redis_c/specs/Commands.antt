@@ -1,15 +1,17 @@
 -- The arguments of commands by the parts that C hands in.
-use Rattle.std.specs.Prelude.{ℕ, Bool, List, [], ◌∷◌, codes, decimal, Option, Some, None, if◌then◌else◌}
+use Rattle.std.specs.Prelude.{ℕ, Bool, List, [], ◌∷◌, ◌++◌, codes, decimal, Option, Some, None, if◌then◌else◌}
 use Rattle.std.specs.List.{flat_map}
-use Rattle.stream_options.specs.Trim.{exact, approx}
+use Rattle.redis_args.specs.Clause.{clause, word_number}
+use Rattle.stream_options.specs.Add.{Add}
+use Rattle.stream_options.specs.Claim.{Claim}
+use Rattle.stream_options.specs.Trim.{exact, approx, Trim}
 use Rattle.stream_options.specs.Maxlen.{maxlen_sentence}
 use Rattle.stream_options.specs.Read.{Read, default_read, group_with}
-use Rattle.stream_commands.specs.WholeCommands.{ReadParts}
+use Rattle.stream_commands.specs.WholeCommands.{add_list, trim_list, read_list, claim_list, autoclaim_list, ReadParts}
 use Rattle.redis_c.specs.declared.commands.ReadSettings.{ReadSettings}
-
--- the number, where it is set
-abbrev pub if_set : Bool → ℕ → Option ℕ
-if_set is_set n = if is_set then Some n else None
+use Rattle.redis_c.specs.declared.settings.AutoClaimSettings.{AutoClaimSettings}
+use Rattle.redis_c.specs.declared.settings.PendingSettings.{PendingSettings}
+use Rattle.redis_c.specs.Settings.{if_set, autoclaim_of}
 
 -- how long a read waits and how much it reads
 abbrev pub reading_of : ReadSettings → Read
@@ -54,3 +56,57 @@ pending_args key group start end count = codes "XPENDING" ∷ key ∷ group ∷ 
 abbrev pub trim_args : List ℕ → Bool → ℕ → List (List ℕ)
 trim_args key about n =
     codes "XTRIM" ∷ key ∷ maxlen_sentence (record { mode = if about then approx else exact; count = n })
+
+-- ---- with options
+
+-- `XADD key [options] id name value ..`
+abbrev pub add_options_args : List ℕ → List ℕ → Add → List (List ℕ × List ℕ) → List (List ℕ)
+add_options_args key id options fields =
+    add_list
+    (record { key = key; options = options; id = id; fields = flat_map (λ field. field.0 ∷ field.1 ∷ []) fields })
+
+-- `XTRIM key options`
+abbrev pub trim_options_args : List ℕ → Trim → List (List ℕ)
+trim_options_args key options = trim_list (record { key = key; options = options })
+
+-- `XCLAIM key group consumer min-idle id .. [options]`
+abbrev pub claim_options_args : List ℕ → List ℕ → List ℕ → ℕ → Claim → List (List ℕ) → List (List ℕ)
+claim_options_args key group consumer min_idle options ids =
+    claim_list
+    (record {
+      key = key;
+      group = group;
+      consumer = consumer;
+      min_idle = min_idle;
+      ids = ids;
+      options = options;
+    })
+
+-- `XAUTOCLAIM key group consumer min-idle start [options]`
+abbrev pub autoclaim_options_args : List ℕ → List ℕ → List ℕ → ℕ → List ℕ → AutoClaimSettings → List (List ℕ)
+autoclaim_options_args key group consumer min_idle start settings =
+    autoclaim_list
+    (record {
+      key = key;
+      group = group;
+      consumer = consumer;
+      min_idle = min_idle;
+      start = start;
+      options = autoclaim_of settings;
+    })
+
+-- `XREAD [BLOCK n] [COUNT n] STREAMS key .. id ..`
+abbrev pub read_streams_args : ReadSettings → List (List ℕ × List ℕ) → List (List ℕ)
+read_streams_args s streams = read_list (record { options = reading_of s; streams = streams })
+
+-- `XREADGROUP GROUP group consumer [BLOCK n] [COUNT n] [NOACK] [CLAIM n] STREAMS key .. id ..`
+abbrev pub read_group_args : ReadSettings → List ℕ → List ℕ → List (List ℕ × List ℕ) → List (List ℕ)
+read_group_args s group consumer streams =
+    read_list (record { options = read_of s group consumer; streams = streams })
+
+-- `XPENDING key group [IDLE n] start end count [consumer]`
+abbrev pub pending_options_args : List ℕ → List ℕ → PendingSettings → List ℕ → List ℕ → ℕ → List ℕ → List (List ℕ)
+pending_options_args key group s start end count consumer =
+    codes "XPENDING" ∷ key ∷ group
+    ∷ (clause (word_number (codes "IDLE")) (if_set s.idles s.idle)
+    ++ start ∷ end ∷ decimal count ∷ (if s.names then consumer ∷ [] else []))

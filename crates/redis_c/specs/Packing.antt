@@ -13,6 +13,7 @@ number packings.Memory = 5
 number packings.TooLarge = 6
 number packings.Outside = 7
 number packings.Nothing = 8
+number packings.Refused = 9
 
 -- how many bytes were written, or are wanted
 abbrev pub len_of : Packing → ℕ
@@ -22,6 +23,7 @@ len_of packings.Memory = 0
 len_of packings.TooLarge = 0
 len_of packings.Outside = 0
 len_of packings.Nothing = 0
+len_of packings.Refused = 0
 
 -- the buffer begins with the bytes, and they are so many; or so many are wanted
 abbrev pub IsWritten : List ℕ → List ℕ → Packing → Type 0
@@ -44,6 +46,22 @@ IsPackingOf args texts out packings.Outside = texts ≡ None
 IsPackingOf args texts out packings.Nothing = texts ≡ Some []
 IsPackingOf args None out p = ⊥
 IsPackingOf args (Some ts) out p = IsPacking (args ts) out p
+
+-- Of settings: they name nothing, or the command of what they name is packed.
+abbrev pub IsPackingWith : {S : Type 0} → (S → List (List ℕ)) → Option S → List ℕ → Packing → Type 0
+IsPackingWith args settings out packings.Memory = Unit {0}
+IsPackingWith args settings out packings.Refused = settings ≡ None
+IsPackingWith args None out p = ⊥
+IsPackingWith args (Some s) out p = IsPacking (args s) out p
+
+-- Of settings and of texts at places: the settings name nothing, or the command of what they name and of the texts
+-- is packed.
+abbrev pub IsPackingBy : {S A : Type 0} → (S → List A → List (List ℕ)) → Option S → Option (List A) → List ℕ → Packing
+    → Type 0
+IsPackingBy args settings texts out packings.Memory = Unit {0}
+IsPackingBy args settings texts out packings.Refused = settings ≡ None
+IsPackingBy args None texts out p = ⊥
+IsPackingBy args (Some s) texts out p = IsPackingOf (args s) texts out p
 
 -- C is told by the number of what packing comes to, and how many bytes were written or are wanted.
 pub record IsPackedAs (P : Packing → Type 0) (n count : ℕ) : Type 0 where

@@ -10,6 +10,10 @@ use Rattle.stream_refs.specs.declared.places.EntryPlace.{EntryPlace}
 abbrev pub text_at : List ℕ → Span → Option (List ℕ)
 text_at bytes place = if leb (place.start + place.len) (length bytes) then Some (text_in bytes place) else None
 
+-- the texts at places; None where one is not within the bytes
+abbrev pub texts_at : List ℕ → List Span → Option (List (List ℕ))
+texts_at bytes = traverse (text_at bytes)
+
 -- the ids at the places of entries; None where one is not within the bytes
 abbrev pub ids_at : List ℕ → List EntryPlace → Option (List (List ℕ))
 ids_at bytes = traverse (λ entry. text_at bytes entry.id)

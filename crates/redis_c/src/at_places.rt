@@ -12,7 +12,7 @@ use stream_commands::{AtLeastOne, xack, xadd, xclaim};
 use stream_refs::{EntryPlace, FieldPlace};
 
 /// What is told where there are no arguments.
-fn of_unplaced(unplaced: Unplaced) -> Packing
+pub fn of_unplaced(unplaced: Unplaced) -> Packing
     ensures memory { unplaced ≡ Unplaced.Memory → result ≡ Packing.Memory }
     ensures outside { unplaced ≡ Unplaced.Outside → result ≡ Packing.Outside }
 {

@@ -1,5 +1,6 @@
 //! Commands of a worker, packed into a buffer of the caller.
 ghost use Rattle.std.specs.Prelude.{◌≡◌, ◌∷◌, [], IfOk};
+ghost use Rattle.stream_options.specs.Read.{ReadFits};
 ghost use Rattle.stream_commands.specs.WholeCommands.{read_list};
 ghost use Rattle.redis_c.specs.Packing.{IsPacking, IsPackedAs};
 ghost use Rattle.redis_c.specs.Commands.{reading_of, read_of, read_parts, ack_args, autoclaim_args};
@@ -32,8 +33,9 @@ pub struct ReadSettings {
 }
 
 /// The settings that say how long a read waits and how much it reads.
-fn reading_of(settings: &ReadSettings) -> StreamReadOptions
-    ensures { result ≡ reading_of settings.now }
+pub fn reading_of(settings: &ReadSettings) -> StreamReadOptions
+    ensures reading { result ≡ reading_of settings.now }
+    ensures fits { ReadFits result }
 {
     let mut options = StreamReadOptions::default();
     if settings.counts {
@@ -46,13 +48,14 @@ fn reading_of(settings: &ReadSettings) -> StreamReadOptions
 }
 
 /// The settings of a read for this consumer of this group.
-fn options_of(
+pub fn options_of(
     alloc: Global,
     settings: &ReadSettings,
     group: &[u8],
     consumer: &[u8],
 ) -> Result<StreamReadOptions, AllocError>
-    ensures { IfOk result (λ options. options ≡ read_of settings.now group.now consumer.now) }
+    ensures read { IfOk result (λ options. options ≡ read_of settings.now group.now consumer.now) }
+    ensures fits { IfOk result (λ options. ReadFits options) }
 {
     let mut options = reading_of(settings);
     if settings.noack {

@@ -4,15 +4,22 @@
 //! Each export calls what the crates below have, and says again what they promise.
 #![tactic(auto)]
 
+mod adding;
 mod argument;
 mod at_places;
+mod claiming;
 mod claims;
 mod commands;
+mod cursor;
 mod entries;
+mod option_commands;
 mod other;
 mod outcome;
 mod packing;
 mod placed;
+mod server;
+mod settings;
+mod trimming;
 
 pub use at_places::{redis_xack_entries, redis_xadd_fields, redis_xclaim_entries};
 pub use claims::{redis_find_autoclaim, redis_find_justid};
@@ -20,4 +27,15 @@ pub use commands::{
     ReadSettings, redis_xack, redis_xautoclaim, redis_xpending, redis_xreadgroup, redis_xtrim,
 };
 pub use entries::{redis_find_range, redis_find_streams};
+pub use option_commands::{
+    redis_xadd_options, redis_xautoclaim_options, redis_xclaim_options, redis_xpending_options,
+    redis_xread_streams, redis_xreadgroup_streams, redis_xtrim_options,
+};
 pub use outcome::Found;
+pub use server::{
+    GroupPlace, redis_read_add, redis_read_autoclaim, redis_read_claim, redis_read_read,
+    redis_read_trim,
+};
+pub use settings::{
+    AddSettings, AutoClaimSettings, ClaimSettings, PendingSettings, TrimSettings,
+};

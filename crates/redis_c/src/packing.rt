@@ -27,6 +27,8 @@ pub enum Packing {
     Outside,
     /// There is no entry or no field, and the server wants one.
     Nothing,
+    /// The settings name nothing.
+    Refused,
 }
 
 impl Packing {
@@ -41,6 +43,7 @@ impl Packing {
             Packing::TooLarge => 6,
             Packing::Outside => 7,
             Packing::Nothing => 8,
+            Packing::Refused => 9,
         }
     }
 
@@ -50,7 +53,11 @@ impl Packing {
     {
         match self {
             Packing::Written { len } | Packing::Room { len } => len,
-            Packing::Memory | Packing::TooLarge | Packing::Outside | Packing::Nothing => 0,
+            Packing::Memory
+            | Packing::TooLarge
+            | Packing::Outside
+            | Packing::Nothing
+            | Packing::Refused => 0,
         }
     }
 }

@@ -1,6 +1,6 @@
 //! Texts at places in bytes of the caller, as arguments.
 ghost use Rattle.std.specs.Prelude.{◌≡◌, ◌∷◌, [], None, Some, IfOk, IfErr, map, option_map};
-ghost use Rattle.redis_c.specs.Placed.{text_at, ids_at, fields_at};
+ghost use Rattle.redis_c.specs.Placed.{text_at, texts_at, ids_at, fields_at};
 
 use crate::argument::Argument;
 use redis_wire::place::Span;
@@ -17,12 +17,39 @@ pub enum Unplaced {
 }
 
 /// The text at a place, where it is within the bytes.
-fn text_at<'a>(bytes: &'a [u8], place: Span) -> Option<Argument<'a>>
+pub fn text_at<'a>(bytes: &'a [u8], place: Span) -> Option<Argument<'a>>
     ensures { option_map (λ text. text.0.now) result ≡ text_at bytes.now place }
 {
     let end = place.start.checked_add(place.len)?;
     let text = bytes.get(place.start..end)?;
     Some(Argument(text))
+}
+
+/// The texts at places.
+pub fn texts_at(
+    alloc: Global,
+    bytes: &[u8],
+    places: &[Span],
+) -> Result<Vec<Vec<u8>>, Unplaced>
+    ensures ok { IfOk result (λ texts. texts_at bytes.now places.now
+        ≡ Some (map (λ text. text.items) texts.items)) }
+    ensures err { IfErr result (λ e. e ≡ Unplaced.Outside → texts_at bytes.now places.now ≡ None) }
+{
+    let Ok(mut texts) = Vec::with_capacity(alloc, places.len()) else {
+        return Err(Unplaced::Memory);
+    };
+    for place in places {
+        let Some(text) = text_at(bytes, *place) else {
+            return Err(Unplaced::Outside);
+        };
+        let Ok(text) = Vec::from_slice(alloc, text.0) else {
+            return Err(Unplaced::Memory);
+        };
+        if texts.push(text).is_err() {
+            return Err(Unplaced::Memory);
+        }
+    }
+    Ok(texts)
 }
 
 /// The ids at the places of entries.

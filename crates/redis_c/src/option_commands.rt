@@ -1,0 +1,406 @@
+//! Commands with their options, packed into a buffer of the caller.
+ghost use Rattle.std.specs.Prelude.{◌≡◌, map};
+ghost use Rattle.stream_commands.specs.NonEmpty.{all};
+ghost use Rattle.stream_commands.specs.WholeCommands.{read_list};
+ghost use Rattle.redis_c.specs.Packing.{IsPacking, IsPackingOf, IsPackingWith, IsPackingBy, IsPackedAs};
+ghost use Rattle.redis_c.specs.Placed.{ids_at, fields_at};
+ghost use Rattle.redis_c.specs.Settings.{add_in, trim_in, claim_in};
+ghost use Rattle.redis_c.specs.Commands.{add_options_args, trim_options_args, claim_options_args};
+ghost use Rattle.redis_c.specs.Commands.{autoclaim_options_args, read_streams_args, read_group_args};
+ghost use Rattle.redis_c.specs.Commands.{pending_options_args};
+
+use crate::adding::add_in;
+use crate::argument::Argument;
+use crate::at_places::of_unplaced;
+use crate::claiming::{autoclaim_of, claim_in};
+use crate::commands::{ReadSettings, options_of, reading_of};
+use crate::packing::{Packing, packed};
+use crate::placed::{fields_at, ids_at};
+use crate::settings::{
+    AddSettings, AutoClaimSettings, ClaimSettings, PendingSettings, TrimSettings, Unset,
+};
+use crate::trimming::trim_in;
+use std::alloc::Global;
+use stream_commands::{
+    AtLeastOne, xadd_options, xautoclaim_justid, xautoclaim_options, xclaim_justid, xclaim_options,
+    xpending_consumer_count, xpending_count, xpending_idle_consumer_count, xpending_idle_count,
+    xread_options, xtrim_options,
+};
+use stream_options::{StreamAddOptions, StreamClaimOptions, StreamReadOptions};
+use stream_refs::{EntryPlace, FieldPlace};
+
+/// What is told where there are no options.
+fn of_unset(unset: Unset) -> Packing
+    ensures memory { unset ≡ Unset.Memory → result ≡ Packing.Memory }
+    ensures refused { unset ≡ Unset.Refused → result ≡ Packing.Refused }
+{
+    match unset {
+        Unset::Memory => Packing::Memory,
+        Unset::Refused => Packing::Refused,
+    }
+}
+
+/// Packs XADD of the fields at these places with these options.
+fn packed_fields(
+    alloc: Global,
+    key: &[u8],
+    id: &[u8],
+    options: &StreamAddOptions,
+    bytes: &[u8],
+    fields: &[FieldPlace],
+    out: &mut [u8],
+) -> Packing
+    ensures { IsPackingOf (add_options_args key.now id.now options.now) (fields_at bytes.now fields.now)
+        out.new result }
+{
+    let fields = match fields_at(alloc, bytes, fields) {
+        Ok(fields) => fields,
+        Err(unplaced) => return of_unplaced(unplaced),
+    };
+    match AtLeastOne::new(&fields) {
+        Some(fields) => packed(
+            alloc,
+            &xadd_options(Argument(key), Argument(id), fields, options),
+            out,
+        ),
+        None => Packing::Nothing,
+    }
+}
+
+/// Packs XADD with options.
+fn packed_add(
+    alloc: Global,
+    key: &[u8],
+    id: &[u8],
+    settings: &AddSettings,
+    bytes: &[u8],
+    fields: &[FieldPlace],
+    out: &mut [u8],
+) -> Packing
+    ensures { IsPackingBy (add_options_args key.now id.now) (add_in bytes.now settings.now)
+        (fields_at bytes.now fields.now) out.new result }
+{
+    match add_in(alloc, bytes, settings) {
+        Ok(options) => packed_fields(alloc, key, id, &options, bytes, fields, out),
+        Err(unset) => of_unset(unset),
+    }
+}
+
+/// Packs `XADD key [NOMKSTREAM] [KEEPREF|DELREF|ACKED] [IDMP p i|IDMPAUTO p] [MAXLEN|MINID ..] id name value ..` of
+/// the fields at these places of bytes, where the texts of the settings stand too.
+#[unsafe(no_mangle)]
+pub extern "C" fn redis_xadd_options(
+    alloc: Global,
+    key: &[u8],
+    id: &[u8],
+    settings: &AddSettings,
+    bytes: &[u8],
+    fields: &[FieldPlace],
+    out: &mut [u8],
+    len: &mut usize,
+) -> u32
+    ensures { IsPackedAs (IsPackingBy (add_options_args key.now id.now) (add_in bytes.now settings.now)
+        (fields_at bytes.now fields.now) out.new) result len.new }
+{
+    let packing = packed_add(alloc, key, id, settings, bytes, fields, out);
+    *len = packing.len();
+    packing.number()
+}
+
+/// Packs XTRIM with options.
+fn packed_trim(
+    alloc: Global,
+    key: &[u8],
+    settings: &TrimSettings,
+    bytes: &[u8],
+    out: &mut [u8],
+) -> Packing
+    ensures { IsPackingWith (trim_options_args key.now) (trim_in bytes.now settings.now) out.new result }
+{
+    match trim_in(alloc, bytes, settings) {
+        Ok(options) => packed(alloc, &xtrim_options(Argument(key), &options), out),
+        Err(unset) => of_unset(unset),
+    }
+}
+
+/// Packs `XTRIM key MAXLEN|MINID =|~ bound [LIMIT n] [KEEPREF|DELREF|ACKED]`; the id of `MINID` stands in these
+/// bytes.
+#[unsafe(no_mangle)]
+pub extern "C" fn redis_xtrim_options(
+    alloc: Global,
+    key: &[u8],
+    settings: &TrimSettings,
+    bytes: &[u8],
+    out: &mut [u8],
+    len: &mut usize,
+) -> u32
+    ensures { IsPackedAs (IsPackingWith (trim_options_args key.now) (trim_in bytes.now settings.now) out.new)
+        result len.new }
+{
+    let packing = packed_trim(alloc, key, settings, bytes, out);
+    *len = packing.len();
+    packing.number()
+}
+
+/// Packs XCLAIM of these ids with these options.
+fn packed_claim_of<'a>(
+    alloc: Global,
+    key: &[u8],
+    group: &[u8],
+    consumer: &[u8],
+    min_idle: usize,
+    options: StreamClaimOptions,
+    ids: AtLeastOne<'a, Argument<'a>>,
+    out: &mut [u8],
+) -> Packing
+    ensures { IsPacking (claim_options_args key.now group.now consumer.now min_idle options
+        (map (λ id. id.0.now) (all ids.entry))) out.new result }
+{
+    let (key, group, consumer) = (Argument(key), Argument(group), Argument(consumer));
+    if options.has_justid() {
+        let command = xclaim_justid(key, group, consumer, min_idle, ids, options);
+        return packed(alloc, &command, out);
+    }
+    match xclaim_options(key, group, consumer, min_idle, ids, &options) {
+        Ok(command) => packed(alloc, &command, out),
+        Err(_) => Packing::Memory,
+    }
+}
+
+/// Packs XCLAIM of the entries at these places with options.
+fn packed_claim(
+    alloc: Global,
+    key: &[u8],
+    group: &[u8],
+    consumer: &[u8],
+    min_idle: usize,
+    settings: &ClaimSettings,
+    bytes: &[u8],
+    entries: &[EntryPlace],
+    out: &mut [u8],
+) -> Packing
+    ensures { IsPackingBy (claim_options_args key.now group.now consumer.now min_idle)
+        (claim_in bytes.now settings.now) (ids_at bytes.now entries.now) out.new result }
+{
+    let options = match claim_in(alloc, bytes, settings) {
+        Ok(options) => options,
+        Err(unset) => return of_unset(unset),
+    };
+    let ids = match ids_at(alloc, bytes, entries) {
+        Ok(ids) => ids,
+        Err(unplaced) => return of_unplaced(unplaced),
+    };
+    match AtLeastOne::new(&ids) {
+        Some(ids) => packed_claim_of(alloc, key, group, consumer, min_idle, options, ids, out),
+        None => Packing::Nothing,
+    }
+}
+
+/// Packs `XCLAIM key group consumer min-idle id .. [IDLE n] [TIME n] [RETRYCOUNT n] [FORCE] [JUSTID] [LASTID id]` of
+/// the entries at these places of bytes, where the text of the settings stands too.
+#[unsafe(no_mangle)]
+pub extern "C" fn redis_xclaim_options(
+    alloc: Global,
+    key: &[u8],
+    group: &[u8],
+    consumer: &[u8],
+    min_idle: usize,
+    settings: &ClaimSettings,
+    bytes: &[u8],
+    entries: &[EntryPlace],
+    out: &mut [u8],
+    len: &mut usize,
+) -> u32
+    ensures { IsPackedAs (IsPackingBy (claim_options_args key.now group.now consumer.now min_idle)
+        (claim_in bytes.now settings.now) (ids_at bytes.now entries.now) out.new) result len.new }
+{
+    let packing = packed_claim(
+        alloc, key, group, consumer, min_idle, settings, bytes, entries, out,
+    );
+    *len = packing.len();
+    packing.number()
+}
+
+/// Packs XAUTOCLAIM with options.
+fn packed_autoclaim(
+    alloc: Global,
+    key: &[u8],
+    group: &[u8],
+    consumer: &[u8],
+    min_idle: usize,
+    start: &[u8],
+    settings: &AutoClaimSettings,
+    out: &mut [u8],
+) -> Packing
+    ensures { IsPacking (autoclaim_options_args key.now group.now consumer.now min_idle start.now settings.now)
+        out.new result }
+{
+    let options = autoclaim_of(settings);
+    let (key, group, consumer) = (Argument(key), Argument(group), Argument(consumer));
+    if options.has_justid() {
+        let command = xautoclaim_justid(key, group, consumer, min_idle, Argument(start), options);
+        return packed(alloc, &command, out);
+    }
+    match xautoclaim_options(key, group, consumer, min_idle, Argument(start), &options) {
+        Ok(command) => packed(alloc, &command, out),
+        Err(_) => Packing::Memory,
+    }
+}
+
+/// Packs `XAUTOCLAIM key group consumer min-idle start [COUNT n] [JUSTID]`.
+#[unsafe(no_mangle)]
+pub extern "C" fn redis_xautoclaim_options(
+    alloc: Global,
+    key: &[u8],
+    group: &[u8],
+    consumer: &[u8],
+    min_idle: usize,
+    start: &[u8],
+    settings: &AutoClaimSettings,
+    out: &mut [u8],
+    len: &mut usize,
+) -> u32
+    ensures { IsPackedAs (IsPacking
+        (autoclaim_options_args key.now group.now consumer.now min_idle start.now settings.now) out.new)
+        result len.new }
+{
+    let packing = packed_autoclaim(alloc, key, group, consumer, min_idle, start, settings, out);
+    *len = packing.len();
+    packing.number()
+}
+
+/// Packs a read of the streams at these places with these options.
+fn packed_streams(
+    alloc: Global,
+    options: &StreamReadOptions,
+    bytes: &[u8],
+    streams: &[FieldPlace],
+    out: &mut [u8],
+) -> Packing
+    ensures { IsPackingOf (λ streams. read_list (record { options = options.now; streams = streams }))
+        (fields_at bytes.now streams.now) out.new result }
+{
+    let streams = match fields_at(alloc, bytes, streams) {
+        Ok(streams) => streams,
+        Err(unplaced) => return of_unplaced(unplaced),
+    };
+    match AtLeastOne::new(&streams) {
+        Some(streams) => packed(alloc, &xread_options(streams, options), out),
+        None => Packing::Nothing,
+    }
+}
+
+/// Packs `XREAD [BLOCK n] [COUNT n] STREAMS key .. id ..` of the keys and ids at these places of bytes: each key as
+/// a name, and its id as a value. `NOACK` and `CLAIM` are for a group alone.
+#[unsafe(no_mangle)]
+pub extern "C" fn redis_xread_streams(
+    alloc: Global,
+    settings: &ReadSettings,
+    bytes: &[u8],
+    streams: &[FieldPlace],
+    out: &mut [u8],
+    len: &mut usize,
+) -> u32
+    ensures { IsPackedAs (IsPackingOf (read_streams_args settings.now) (fields_at bytes.now streams.now)
+        out.new) result len.new }
+{
+    let packing = packed_streams(alloc, &reading_of(settings), bytes, streams, out);
+    *len = packing.len();
+    packing.number()
+}
+
+/// Packs XREADGROUP of the streams at these places.
+fn packed_group(
+    alloc: Global,
+    settings: &ReadSettings,
+    group: &[u8],
+    consumer: &[u8],
+    bytes: &[u8],
+    streams: &[FieldPlace],
+    out: &mut [u8],
+) -> Packing
+    ensures { IsPackingOf (read_group_args settings.now group.now consumer.now)
+        (fields_at bytes.now streams.now) out.new result }
+{
+    match options_of(alloc, settings, group, consumer) {
+        Ok(options) => packed_streams(alloc, &options, bytes, streams, out),
+        Err(_) => Packing::Memory,
+    }
+}
+
+/// Packs `XREADGROUP GROUP group consumer [BLOCK n] [COUNT n] [NOACK] [CLAIM n] STREAMS key .. id ..` of the keys
+/// and ids at these places of bytes: each key as a name, and its id as a value.
+#[unsafe(no_mangle)]
+pub extern "C" fn redis_xreadgroup_streams(
+    alloc: Global,
+    settings: &ReadSettings,
+    group: &[u8],
+    consumer: &[u8],
+    bytes: &[u8],
+    streams: &[FieldPlace],
+    out: &mut [u8],
+    len: &mut usize,
+) -> u32
+    ensures { IsPackedAs (IsPackingOf (read_group_args settings.now group.now consumer.now)
+        (fields_at bytes.now streams.now) out.new) result len.new }
+{
+    let packing = packed_group(alloc, settings, group, consumer, bytes, streams, out);
+    *len = packing.len();
+    packing.number()
+}
+
+/// Packs XPENDING of a consumer or of all.
+fn packed_pending(
+    alloc: Global,
+    key: &[u8],
+    group: &[u8],
+    settings: &PendingSettings,
+    start: &[u8],
+    end: &[u8],
+    count: usize,
+    consumer: &[u8],
+    out: &mut [u8],
+) -> Packing
+    ensures { IsPacking (pending_options_args key.now group.now settings.now start.now end.now count consumer.now)
+        out.new result }
+{
+    let (key, group, consumer) = (Argument(key), Argument(group), Argument(consumer));
+    let (start, end, idle) = (Argument(start), Argument(end), settings.idle);
+    if settings.idles && settings.names {
+        let command = xpending_idle_consumer_count(key, group, idle, start, end, count, consumer);
+        packed(alloc, &command, out)
+    } else if settings.idles {
+        let command = xpending_idle_count(key, group, idle, start, end, count);
+        packed(alloc, &command, out)
+    } else if settings.names {
+        let command = xpending_consumer_count(key, group, start, end, count, consumer);
+        packed(alloc, &command, out)
+    } else {
+        packed(alloc, &xpending_count(key, group, start, end, count), out)
+    }
+}
+
+/// Packs `XPENDING key group [IDLE n] start end count [consumer]`.
+#[unsafe(no_mangle)]
+pub extern "C" fn redis_xpending_options(
+    alloc: Global,
+    key: &[u8],
+    group: &[u8],
+    settings: &PendingSettings,
+    start: &[u8],
+    end: &[u8],
+    count: usize,
+    consumer: &[u8],
+    out: &mut [u8],
+    len: &mut usize,
+) -> u32
+    ensures { IsPackedAs (IsPacking
+        (pending_options_args key.now group.now settings.now start.now end.now count consumer.now) out.new)
+        result len.new }
+{
+    let packing = packed_pending(
+        alloc, key, group, settings, start, end, count, consumer, out,
+    );
+    *len = packing.len();
+    packing.number()
+}

@@ -1,0 +1,98 @@
+//! What C asks of a command, as plain numbers, flags and places of texts.
+use redis_wire::place::Span;
+
+/// How a stream is trimmed. A text stands in the bytes that are handed in with the settings.
+#[repr(C)]
+#[derive(Clone, Copy, Debug, PartialEq, Eq)]
+pub struct TrimSettings {
+    /// 0 where nothing is trimmed, 1 for `MAXLEN` and 2 for `MINID`.
+    pub bound: u32,
+    /// What becomes of references to what is trimmed: 0 where nothing is said of them, 1 for `KEEPREF`, 2
+    /// for `DELREF` and 3 for `ACKED`.
+    pub references: u32,
+    /// Whether it is about the bound alone: `~` in place of `=`.
+    pub about: bool,
+    /// Whether one call removes at most `limit` entries.
+    pub limits: bool,
+    /// With `MAXLEN`, how many entries stay.
+    pub maxlen: usize,
+    /// With `MINID`, where the id stands from which on entries stay.
+    pub minid: Span,
+    /// At most so many entries.
+    pub limit: usize,
+}
+
+/// How an entry is added. Texts stand in the bytes that are handed in with the settings.
+#[repr(C)]
+#[derive(Clone, Copy, Debug, PartialEq, Eq)]
+pub struct AddSettings {
+    /// Whether a stream that does not exist is not made.
+    pub nomkstream: bool,
+    /// How a duplicate entry is recognized: 0 for not at all, 1 for `IDMP` and 2 for `IDMPAUTO`.
+    pub recognizes: u32,
+    /// Where the name of the producer stands.
+    pub producer: Span,
+    /// With `IDMP`, where the id stands that the producer gives the entry.
+    pub item: Span,
+    /// How the stream is trimmed.
+    pub trim: TrimSettings,
+}
+
+/// How entries are claimed by their ids. A text stands in the bytes that are handed in with the settings.
+#[repr(C)]
+#[derive(Clone, Copy, Debug, PartialEq, Eq)]
+pub struct ClaimSettings {
+    /// Whether the entries count as idle for `idle` milliseconds.
+    pub idles: bool,
+    /// Whether they count as last delivered `time` milliseconds after the start of 1970.
+    pub times: bool,
+    /// Whether they count as delivered `retry` times.
+    pub retries: bool,
+    /// Whether an entry that is pending for nobody is claimed too.
+    pub force: bool,
+    /// Whether the reply has the ids alone.
+    pub justid: bool,
+    /// Whether `lastid` is noted as the id of the entry that the group was delivered last.
+    pub notes: bool,
+    /// In milliseconds.
+    pub idle: usize,
+    /// In milliseconds.
+    pub time: usize,
+    /// How often they count as delivered.
+    pub retry: usize,
+    /// Where the id stands.
+    pub lastid: Span,
+}
+
+/// How idle entries are claimed, whichever they are.
+#[repr(C)]
+#[derive(Clone, Copy, Debug, PartialEq, Eq)]
+pub struct AutoClaimSettings {
+    /// Whether at most `count` entries are claimed.
+    pub counts: bool,
+    /// Whether the reply has the ids alone.
+    pub justid: bool,
+    /// At most so many entries.
+    pub count: usize,
+}
+
+/// Which pending entries are asked for.
+#[repr(C)]
+#[derive(Clone, Copy, Debug, PartialEq, Eq)]
+pub struct PendingSettings {
+    /// Whether only those that are pending for `idle` milliseconds.
+    pub idles: bool,
+    /// Whether only those that are pending for the consumer.
+    pub names: bool,
+    /// In milliseconds.
+    pub idle: usize,
+}
+
+/// Why settings are no options.
+#[derive(Clone, Copy)]
+pub enum Unset {
+    /// Out of memory.
+    Memory,
+    /// A number names none of its choices, or a text is not within the bytes or is not UTF-8.
+    Refused,
+}
