@@ -134,6 +134,13 @@ impl<R: Read + Drop, W: Write + Drop> Connection<R, W> {
         )
     }
 
+    /// The limits of replies that come.
+    pub fn limits(&self) -> Limits
+        ensures { result ≡ self.now.held.limits }
+    {
+        self.replies.limits()
+    }
+
     /// The first `len` bytes that came in, or as many of them as may be read in place. Those of a reply
     /// that was received in place may.
     pub fn received(&self, len: usize) -> &[u8]

@@ -6,12 +6,10 @@ use crate::report::Report;
 use anyhow::{Error, Result, anyhow, bail};
 use line_log::LogFile;
 use redis_connection::Connection;
-use redis_resp::Value;
-use redis_wire::Reply;
 use std::alloc::Global;
 use std::io::{Read, Write};
 use std::rt::Clock;
-use stream_worker::{Asked, Progress, RequestError, RunError, Worker, WorkerError};
+use stream_worker::{Asked, Progress, RequestError, Round, RunError, Worker, WorkerError};
 
 /// Drains until something fails, or until a read finds nothing new where that is asked for.
 pub fn drain<R: Read + Drop, W: Write + Drop, D: LogFile + Drop, T: Clock + Eprint + AllocGlobal>(
@@ -26,22 +24,16 @@ pub fn drain<R: Read + Drop, W: Write + Drop, D: LogFile + Drop, T: Clock + Epri
 {
     let alloc = rt.alloc();
     for _ in 0..u64::MAX {
-        let reply = match worker.ask(alloc, &mut connection, lines) {
-            Ok(reply) => reply,
+        let seen = lines.seen;
+        let Round { asked, progress } = match worker.round(alloc, &mut connection, lines) {
+            Ok(round) => round,
+            Err(RunError::Answer(error)) => return Err(not_taken(alloc, error)),
             Err(error) => return Err(not_heard(error, &lines.fault)),
         };
-        let asked = worker.asked();
-        let nothing_new = if let Reply::Value(value) = &reply {
-            lines.came(alloc, asked, value)?;
-            asked == Asked::News && matches!(value, Value::Nil)
-        } else {
-            false
-        };
-        match worker.answered(alloc, reply, lines) {
-            Ok(Progress::GoesOn) => {}
-            Ok(Progress::Stopped) => return Err(stopped(&lines.fault)),
-            Err(error) => return Err(not_taken(alloc, error)),
+        if progress == Progress::Stopped {
+            return Err(stopped(&lines.fault));
         }
+        let nothing_new = asked == Asked::News && lines.seen == seen;
         if asked == Asked::Acknowledgement {
             if report.count(rt, lines.committed)? {
                 eprintln!(rt; "{report}")?;

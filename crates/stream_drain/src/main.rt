@@ -21,6 +21,7 @@ mod json_lines;
 mod lines;
 mod options;
 mod report;
+mod texts;
 
 use crate::drain::drain;
 use crate::lines::Lines;
