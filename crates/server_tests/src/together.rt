@@ -10,13 +10,14 @@ mod schedules;
 
 use crate::bytes_told;
 use redis_resp::Value;
-use redis_wire::{Decoded, Limits, Reply, ReplyStream, append_answer, decode};
+use redis_wire::{Decoded, Limits, Reply, ReplyStream, WireError, append_answer, decode};
 use std::alloc::{AllocError, Global};
 use std::mem;
 use std::process::Abort;
 use stream_server::{Protocol, Server, Session, append_reply};
 use stream_worker::{
-    Entry, Handler, MakeGroup, NotCommitted, RequestError, Settings, Verdict, Worker, WorkerError,
+    Entry, Handler, InPlaceError, MakeGroup, NotCommitted, RequestError, Settings, Verdict, Worker,
+    WorkerError,
 };
 
 const ENTRIES: usize = 6;
@@ -54,12 +55,12 @@ impl Handler for Book {
 
     ghost history = { λ handler. tt };
 
-    fn handle(&mut self, alloc: Global, entry: &Entry) -> Verdict {
+    fn handle(&mut self, alloc: Global, entry: &Entry<'_>) -> Verdict {
         let Ok(field) = entry.get::<usize>(alloc, "n") else {
             return Verdict::Stop;
         };
         let verdict = mem::replace(&mut self.says, Verdict::Done);
-        let number = number_of(entry.id.as_str());
+        let number = number_of(entry.id());
         match self.loose.get_mut(number) {
             Some(place) if field == Some(number) => {
                 if verdict == Verdict::Done {
@@ -247,13 +248,13 @@ fn exchange(
     if line.answers.feed(coming).is_err() {
         return false;
     }
-    match line.answers.next(alloc) {
-        Ok(Some(reply)) => {
-            hear(rt, line, reply);
-            goes_on(line)
-        }
-        _ => false,
-    }
+    // Each way in turn, more or less.
+    let is_heard = if line.steps % 2 == 0 {
+        hear_in_place(rt, line)
+    } else {
+        hear(rt, line)
+    };
+    is_heard && goes_on(line)
 }
 
 // One step more; false where the worker crashes.
@@ -315,11 +316,38 @@ fn passed_on(alloc: Global, protocol: Protocol, bytes: &[u8]) -> Option<Vec<u8>>
     }
 }
 
-// The worker takes an answer.
-fn hear(rt: &(impl AllocGlobal + Abort), line: &mut Line, reply: Reply) {
+// The worker takes an answer, where one came whole.
+fn hear(rt: &(impl AllocGlobal + Abort), line: &mut Line) -> bool {
+    let Ok(Some(reply)) = line.answers.next(rt.alloc()) else {
+        return false;
+    };
     match line.worker.answered(rt.alloc(), reply, &mut line.book) {
-        Ok(_) | Err(WorkerError::Memory) => {}
-        Err(error) => assert!(rt; false, "{error}"),
+        Ok(_) | Err(WorkerError::Memory) => true,
+        Err(error) => {
+            assert!(rt; false, "{error}");
+            false
+        }
+    }
+}
+
+// The same where it stands.
+fn hear_in_place(rt: &(impl AllocGlobal + Abort), line: &mut Line) -> bool {
+    let alloc = rt.alloc();
+    let Ok(Some(len)) = line.answers.next_in_place(alloc) else {
+        return false;
+    };
+    let bytes = line.answers.bytes();
+    let heard = line.worker.answered_in_place(alloc, bytes, Limits::default(), &mut line.book);
+    match heard {
+        Ok(_) | Err(InPlaceError::Answer(WorkerError::Memory)) => {
+            line.answers.give_out(len);
+            true
+        }
+        Err(InPlaceError::Unread(WireError::Memory)) => false,
+        Err(error) => {
+            assert!(rt; false, "{error}");
+            false
+        }
     }
 }
 

@@ -2,3 +2,4 @@
 pub mod Dead
 pub mod Json
 pub mod Report
+pub mod Texts

@@ -7,8 +7,6 @@ use crate::report::Report;
 use anyhow::{Error, Result, anyhow, bail};
 use line_log::LogFile;
 use redis_connection::Connection;
-use redis_resp::Value;
-use redis_wire::Reply;
 use std::alloc::Global;
 use std::io::{Read, Write};
 use std::rt::Clock;
@@ -33,22 +31,17 @@ pub fn drain<R: Read + Drop, W: Write + Drop, D: LogFile + Drop, T: Clock + Epri
             let in_hand = lines.done > lines.committed;
             dead.turn(alloc, &mut connection, asked, in_hand)?;
         }
-        let reply = match worker.ask(alloc, &mut connection, lines) {
-            Ok(reply) => reply,
+        let seen = lines.seen;
+        let round = match worker.round(alloc, &mut connection, lines) {
+            Ok(round) => round,
+            Err(RunError::Answer(error)) => return Err(not_taken(alloc, error)),
             Err(error) => return Err(not_heard(error, &lines.fault)),
         };
-        asked = worker.asked();
-        let nothing_new = if let Reply::Value(value) = &reply {
-            lines.came(alloc, asked, value)?;
-            asked == Asked::News && matches!(value, Value::Nil)
-        } else {
-            false
-        };
-        match worker.answered(alloc, reply, lines) {
-            Ok(Progress::GoesOn) => {}
-            Ok(Progress::Stopped) => return Err(stopped(&lines.fault)),
-            Err(error) => return Err(not_taken(alloc, error)),
+        if round.progress == Progress::Stopped {
+            return Err(stopped(&lines.fault));
         }
+        asked = round.asked;
+        let nothing_new = asked == Asked::News && lines.seen == seen;
         if asked == Asked::Acknowledgement {
             if report.count(rt, lines.committed)? {
                 eprintln!(rt; "{report}")?;

@@ -22,6 +22,7 @@ mod json_lines;
 mod lines;
 mod options;
 mod report;
+mod texts;
 
 use crate::dead::Dead;
 use crate::drain::drain;

@@ -22,7 +22,7 @@ use std::alloc::{AllocError, Global};
 
 /// Where the entries of a reply stand: three tables of plain numbers. They keep their room for the next
 /// reply, so that replies no larger than those before ask for no memory.
-#[derive(Drop)]
+#[derive(Debug, Drop)]
 pub struct EntryTape {
     streams: Vec<StreamPlace>,
     entries: Vec<EntryPlace>,

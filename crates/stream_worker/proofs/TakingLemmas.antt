@@ -96,7 +96,7 @@ said_error (Ok b) h = let t : false ≡ true = h in cc
 said_error (Err e) h = refl
 
 module _ {T : Type 0} (f : T → Entry) where
-  mapped_more : (xs ys : List T) → all_delivered (map f (xs ++ ys)) ≡ all_delivered (map f xs)
+  pub mapped_more : (xs ys : List T) → all_delivered (map f (xs ++ ys)) ≡ all_delivered (map f xs)
       ++ all_delivered (map f ys)
   mapped_more [] ys = refl
   mapped_more (x ∷ xs) ys = ap (λ r. delivered_of (f x) ∷ r) (mapped_more xs ys)
@@ -213,34 +213,49 @@ module _ {R : Type 0} (with_verdict : R → List ℕ × Fields Tree → Verdict 
       subst P (sym (one_more f xs i x l e))
       (goes_further (all_delivered (map f (take i xs))) (delivered_of (f x)) old mid new r s t g o)
 
+  -- entries that end before this one, and those that it stands among
+  shape_of : {T : Type 0} (f : T → Entry) (xs done rest : List T) (x : T) → xs ≡ done ++ x ∷ rest
+      → all_delivered (map f xs) ≡ all_delivered (map f done) ++ delivered_of (f x) ∷ all_delivered (map f rest)
+  shape_of f xs done rest x is = ap (λ ys. all_delivered (map f ys)) is ∙ mapped_more f done (x ∷ rest)
+
+  pub next_step : {T : Type 0} (f : T → Entry) (done : List T) (x : T) (old mid new : List Id) (r s t : R)
+      → Going (all_delivered (map f done)) old mid r s → TookOne with_verdict (delivered_of (f x)) mid new s t true
+      → Going (all_delivered (map f (done ++ x ∷ []))) old new r t
+  next_step f done x old mid new r s t g o =
+      let P : List (Delivered (Fields Tree)) → Type 0 = λ es. Going es old new r t in
+      subst P (sym (mapped_more f done (x ∷ [])))
+      (goes_further (all_delivered (map f done)) (delivered_of (f x)) old mid new r s t g o)
+
+  pub next_cut : {T : Type 0} (f : T → Entry) (xs done rest : List T) (x : T) (old mid new : List Id) (r s t : R)
+      → xs ≡ done ++ x ∷ rest → Going (all_delivered (map f done)) old mid r s
+      → new ≡ mid → t ≡ s → Took with_verdict (all_delivered (map f xs)) old new r t cut_off
+  next_cut f xs done rest x old mid new r s t is g p q =
+      let d : List (Delivered (Fields Tree)) = all_delivered (map f done) in
+      let more : List (Delivered (Fields Tree)) = all_delivered (map f rest) in
+      let P : List (Delivered (Fields Tree)) → Type 0 = λ es. Took with_verdict es old new r t cut_off in
+      let A : List Id → Type 0 = λ l. Took with_verdict (d ++ delivered_of (f x) ∷ more) old l r s cut_off in
+      let B : R → Type 0 = λ y. Took with_verdict (d ++ delivered_of (f x) ∷ more) old new r y cut_off in
+      subst P (sym (shape_of f xs done rest x is))
+      (subst B (sym q) (subst A (sym p) (cut d (delivered_of (f x)) more old mid r s g)))
+
+  pub next_stops : {T : Type 0} (f : T → Entry) (xs done rest : List T) (x : T) (old mid new : List Id) (r s t : R)
+      → xs ≡ done ++ x ∷ rest → Going (all_delivered (map f done)) old mid r s
+      → TookOne with_verdict (delivered_of (f x)) mid new s t false
+      → Took with_verdict (all_delivered (map f xs)) old new r t stopped
+  next_stops f xs done rest x old mid new r s t is g o =
+      let P : List (Delivered (Fields Tree)) → Type 0 = λ es. Took with_verdict es old new r t stopped in
+      subst P (sym (shape_of f xs done rest x is)) (stops (all_delivered (map f done)) (delivered_of (f x))
+      (all_delivered (map f rest)) old mid new r s t g o)
+
   pub loop_cut : {T : Type 0} (f : T → Entry) (xs : List T) (i : ℕ) (x : T) (old mid new : List Id) (r s t : R)
       → i < length xs → x ≡ get_or xs i x → Going (all_delivered (map f (take i xs))) old mid r s
       → new ≡ mid → t ≡ s → Took with_verdict (all_delivered (map f xs)) old new r t cut_off
   loop_cut f xs i x old mid new r s t l e g p q =
-      let k = split xs i x l e in
-      let shape : all_delivered (map f xs) ≡ all_delivered (map f (take i xs)) ++ delivered_of (f x)
-      ∷ all_delivered (map f k.rest)
-      = ap (λ ys. all_delivered (map f ys)) k.is ∙ mapped_more f (take i xs) (x ∷ k.rest) in
-      let P : List (Delivered (Fields Tree)) → Type 0 = λ es. Took with_verdict es old new r t cut_off in
-      let A : List Id → Type 0 = λ l. Took with_verdict
-      (all_delivered (map f (take i xs)) ++ delivered_of (f x) ∷ all_delivered (map f k.rest)) old l r s cut_off in
-      let B : R → Type 0 = λ y. Took with_verdict
-      (all_delivered (map f (take i xs)) ++ delivered_of (f x)
-      ∷ all_delivered (map f k.rest)) old new r y cut_off in
-      subst P (sym shape)
-      (subst B (sym q)
-      (subst A (sym p)
-      (cut (all_delivered (map f (take i xs))) (delivered_of (f x)) (all_delivered (map f k.rest)) old mid r s g)))
+      let k = split xs i x l e in next_cut f xs (take i xs) k.rest x old mid new r s t k.is g p q
 
   pub loop_stops : {T : Type 0} (f : T → Entry) (xs : List T) (i : ℕ) (x : T) (old mid new : List Id) (r s t : R)
       → i < length xs → x ≡ get_or xs i x → Going (all_delivered (map f (take i xs))) old mid r s
       → TookOne with_verdict (delivered_of (f x)) mid new s t false
       → Took with_verdict (all_delivered (map f xs)) old new r t stopped
   loop_stops f xs i x old mid new r s t l e g o =
-      let k = split xs i x l e in
-      let shape : all_delivered (map f xs) ≡ all_delivered (map f (take i xs)) ++ delivered_of (f x)
-      ∷ all_delivered (map f k.rest)
-      = ap (λ ys. all_delivered (map f ys)) k.is ∙ mapped_more f (take i xs) (x ∷ k.rest) in
-      let P : List (Delivered (Fields Tree)) → Type 0 = λ es. Took with_verdict es old new r t stopped in
-      subst P (sym shape) (stops (all_delivered (map f (take i xs))) (delivered_of (f x))
-      (all_delivered (map f k.rest)) old mid new r s t g o)
+      let k = split xs i x l e in next_stops f xs (take i xs) k.rest x old mid new r s t k.is g o

@@ -1,4 +1,5 @@
 -- What a worker's contracts speak of.
+pub mod Handed
 pub mod Handling
 pub mod Taking
 pub mod Questions
@@ -12,4 +13,5 @@ pub mod Step
 pub mod Gathered
 pub mod Letters
 pub mod Session
+pub mod InPlace
 pub mod Life

@@ -1,13 +1,14 @@
 //! What a handler does with entries, and the ids to acknowledge then.
 ghost use Rattle.std.specs.Prelude.{map, string_bytes};
+ghost use Rattle.stream_refs.specs.Copied.{copied};
+ghost use Rattle.stream_worker.specs.Handed.{entry_of};
 ghost use Rattle.stream_worker.specs.Taking.{Took, TookOneOr, all_delivered, delivered_of, entry_meaning, said_ending};
 
+use crate::entry::Entry;
 use crate::handler::{Handler, Verdict};
 use redis_streams::StreamId;
 use std::alloc::{AllocError, Global};
-
-/// An entry as a handler is given it.
-pub type Entry = StreamId;
+use stream_refs::EntriesRef;
 
 /// Hands one entry to the handler. Its id is remembered before the handler sees it, and forgotten
 /// where it is not done, so that memory cannot run out between the two. False where the handler
@@ -15,15 +16,15 @@ pub type Entry = StreamId;
 fn take_entry<H: Handler>(
     alloc: Global,
     ids: &mut Vec<String>,
-    entry: &Entry,
+    entry: &Entry<'_>,
     handler: &mut H,
 ) -> Result<bool, AllocError>
-    ensures { TookOneOr H.with_verdict (delivered_of (entry_meaning entry.now))
+    ensures { TookOneOr H.with_verdict (delivered_of (entry_of entry.now))
         (map string_bytes ids.old.items) (map string_bytes ids.new.items)
         (H.history handler.old) (H.history handler.new) result }
 {
     let len = ids.len();
-    ids.push(entry.id.clone()?)?;
+    ids.push(String::from_str(alloc, entry.id())?)?;
     if entry.is_empty() {
         return Ok(true);
     }
@@ -44,7 +45,7 @@ fn take_entry<H: Handler>(
 pub fn take_entries<H: Handler>(
     alloc: Global,
     ids: &mut Vec<String>,
-    entries: &[Entry],
+    entries: &[StreamId],
     handler: &mut H,
 ) -> Result<bool, AllocError>
     ensures { Took H.with_verdict (all_delivered (map entry_meaning entries.now))
@@ -52,7 +53,26 @@ pub fn take_entries<H: Handler>(
         (H.history handler.old) (H.history handler.new) (said_ending result) }
 {
     for entry in entries {
-        if !take_entry(alloc, ids, entry, handler)? {
+        if !take_entry(alloc, ids, &Entry::Copied(entry), handler)? {
+            return Ok(false);
+        }
+    }
+    Ok(true)
+}
+
+/// Hands entries to the handler where they stand, in order. False where the handler says to stop.
+pub fn take_in_place<H: Handler>(
+    alloc: Global,
+    ids: &mut Vec<String>,
+    entries: EntriesRef<'_>,
+    handler: &mut H,
+) -> Result<bool, AllocError>
+    ensures { Took H.with_verdict (all_delivered (map copied entries.entry))
+        (map string_bytes ids.old.items) (map string_bytes ids.new.items)
+        (H.history handler.old) (H.history handler.new) (said_ending result) }
+{
+    for entry in entries {
+        if !take_entry(alloc, ids, &Entry::InPlace(entry), handler)? {
             return Ok(false);
         }
     }

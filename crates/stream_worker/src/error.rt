@@ -2,7 +2,7 @@
 use crate::handler::NotCommitted;
 use redis_connection::ConnectionError;
 use redis_resp::{ParsingError, WriteError};
-use redis_wire::ServerError;
+use redis_wire::{ServerError, WireError};
 use std::alloc::{AllocError, AllocFailed};
 use thiserror::Error;
 
@@ -93,6 +93,44 @@ impl From<ParsingError> for WorkerError {
             ParsingError::Memory => WorkerError::Memory,
             error => WorkerError::Parsing(error),
         }
+    }
+}
+
+/// Why the reply at the head of bytes does not bring a worker on.
+#[derive(Debug, Drop, Error)]
+pub enum InPlaceError {
+    /// The bytes end before the reply does. Nothing changed: the worker waits for the answer.
+    #[error("no whole reply")]
+    Incomplete,
+    /// Memory ran out before the reply was read, or the bytes are no reply. Nothing changed: the
+    /// worker waits for the answer.
+    #[error("{0}")]
+    Unread(WireError),
+    /// The reply does not bring it on.
+    #[error("{0}")]
+    Answer(WorkerError),
+}
+
+impl From<AllocError> for InPlaceError {
+    ghost use Rattle.std.specs.Prelude.{◌≡◌};
+    ghost use Rattle.redis_wire.specs.declared.fault.WireError.TheVariants as wire_errors;
+    ghost use Rattle.stream_worker.specs.declared.error.InPlaceError.TheVariants as causes;
+
+    ghost from_gives = { λ _ e. e ≡ causes.Unread wire_errors.Memory };
+
+    fn from(_error: AllocError) -> InPlaceError {
+        InPlaceError::Unread(WireError::Memory)
+    }
+}
+
+impl From<WorkerError> for InPlaceError {
+    ghost use Rattle.std.specs.Prelude.{◌≡◌};
+    ghost use Rattle.stream_worker.specs.declared.error.InPlaceError.TheVariants as causes;
+
+    ghost from_gives = { λ w e. e ≡ causes.Answer w };
+
+    fn from(error: WorkerError) -> InPlaceError {
+        InPlaceError::Answer(error)
     }
 }
 

@@ -3,10 +3,10 @@ ghost use Rattle.std.specs.Prelude.{◌≡◌, ℕ, List, OnErr, OnOk};
 ghost use Rattle.redis_resp.specs.Table.{Fields};
 ghost use Rattle.redis_resp.specs.Tree.{Tree};
 ghost use Rattle.stream_group.specs.Worker as machine;
+ghost use Rattle.stream_worker.specs.Handed.{entry_of};
 ghost use Rattle.stream_worker.specs.Handling.{pair_of, verdict_of};
-ghost use Rattle.stream_worker.specs.Taking.{entry_meaning};
 
-use crate::entries::Entry;
+use crate::entry::Entry;
 use std::alloc::Global;
 use thiserror::Error;
 
@@ -44,9 +44,9 @@ pub trait Handler {
     ghost history: { Self → History };
 
     /// Does what is to be done with an entry that has fields.
-    fn handle(&mut self, alloc: Global, entry: &Entry) -> Verdict
+    fn handle(&mut self, alloc: Global, entry: &Entry<'_>) -> Verdict
         ensures { history self.new ≡ with_verdict (history self.old)
-            (pair_of (entry_meaning entry.now)) (verdict_of result) };
+            (pair_of (entry_of entry.now)) (verdict_of result) };
 
     /// Makes everything that it did outlive a crash, also what an earlier commit failed to. It is
     /// called before each acknowledgement of entries, once for a batch of them; what is not

@@ -5,6 +5,7 @@
 
 mod commands;
 mod entries;
+mod entry;
 mod error;
 mod gathered;
 mod handler;
@@ -19,10 +20,11 @@ mod state;
 mod tests;
 mod worker;
 
-pub use entries::Entry;
-pub use error::{RequestError, RunError, WorkerError};
+pub use entry::Entry;
+pub use error::{InPlaceError, RequestError, RunError, WorkerError};
 pub use gathered::Gathered;
 pub use handler::{Handler, NotCommitted, Verdict};
 pub use letters::{DeadLetters, LetterAsked, LetterError};
+pub use session::Round;
 pub use state::{Asked, MakeGroup, Phase, Settings};
 pub use worker::{Progress, Worker};

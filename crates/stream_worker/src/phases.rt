@@ -1,22 +1,52 @@
 //! Where a worker goes on after an answer.
 ghost use Rattle.std.specs.Prelude.{◌≡◌, IfOk, map, string_bytes};
 ghost use Rattle.stream_group.specs.Worker.{after_claim, after_news, after_own};
+ghost use Rattle.stream_refs.specs.Copied.{copied};
+ghost use Rattle.stream_worker.specs.Handed.{entries_sent};
 ghost use Rattle.stream_worker.specs.Questions.{phase_of};
 ghost use Rattle.stream_worker.specs.Taking.{all_delivered, entry_meaning};
 
-use crate::entries::Entry;
 use crate::state::Phase;
-use std::alloc::AllocError;
+use redis_streams::StreamId;
+use std::alloc::{AllocError, Global};
+use stream_refs::EntriesRef;
 
 /// Its own pending entries are asked for until none is left.
 #[tactic(auto, using(crate::proofs::PhaseLemmas::after_last))]
-pub fn next_own(entries: &[Entry]) -> Result<Phase, AllocError>
+pub fn next_own(entries: &[StreamId]) -> Result<Phase, AllocError>
     ensures { IfOk result (λ p. phase_of p
         ≡ after_own (all_delivered (map entry_meaning entries.now))) }
 {
     match entries {
         [] => Ok(Phase::Stalled),
         [.., last] => Ok(Phase::Own(last.id.clone()?)),
+    }
+}
+
+/// The same of entries where they stand, where there are any.
+pub fn next_own_in_place(
+    alloc: Global,
+    entries: &Option<EntriesRef<'_>>,
+) -> Result<Phase, AllocError>
+    ensures { IfOk result (λ p. phase_of p ≡ after_own (all_delivered (entries_sent entries.now))) }
+{
+    match entries {
+        None => Ok(Phase::Stalled),
+        Some(entries) => behind_last(alloc, entries.again()),
+    }
+}
+
+/// Behind the last of these entries.
+fn behind_last(alloc: Global, entries: EntriesRef<'_>) -> Result<Phase, AllocError>
+    ensures { IfOk result (λ p. phase_of p ≡ after_own (all_delivered (map copied entries.entry))) }
+{
+    let mut last = None;
+    for entry in entries {
+        last = Some(entry.id());
+    }
+    match last {
+        None => Ok(Phase::Stalled),
+        Some(id) => Ok(Phase::Own(String::from_str(alloc, id)?)),
     }
 }
 

@@ -1,14 +1,14 @@
 //! Sessions: what a worker asks, in order, and what its handler sees.
-use crate::entries::Entry;
-use crate::error::{RequestError, RunError, WorkerError};
+use crate::entry::Entry;
+use crate::error::{InPlaceError, RequestError, RunError, WorkerError};
 use crate::gathered::Gathered;
 use crate::handler::{Handler, NotCommitted, Verdict};
 use crate::letters::{DeadLetters, LetterAsked};
-use crate::state::{MakeGroup, Settings};
+use crate::state::{Asked, MakeGroup, Settings};
 use crate::worker::{Progress, Worker};
 use redis_connection::{Connection, ConnectionError};
-use redis_wire::{Decoded, Limits, Reply, decode};
-use std::alloc::Global;
+use redis_wire::{Decoded, Limits, Reply, WireError, decode};
+use std::alloc::{AllocError, Global};
 use std::process::Abort;
 use std::test::Fail;
 
@@ -57,7 +57,7 @@ impl Handler for Scripted {
 
     ghost history = { λ h. tt };
 
-    fn handle(&mut self, _alloc: Global, _entry: &Entry) -> Verdict {
+    fn handle(&mut self, _alloc: Global, _entry: &Entry<'_>) -> Verdict {
         self.verdicts.pop().unwrap_or(Verdict::Stop)
     }
 
@@ -443,4 +443,132 @@ fn a_session_ends_where_the_handler_stops_or_an_answer_is_refused(
     );
     assert_eq!(rt; handler.commits, 1);
     Ok(())
+}
+
+// Repeated fields, and an entry that was deleted.
+const REPEATED: &[u8] = b"*1\r\n*2\r\n$1\r\nk\r\n*2\r\n*2\r\n$3\r\n1-1\r\n*4\r\n$1\r\nb\r\n$1\r\nx\r\n\
+$1\r\nb\r\n$1\r\ny\r\n*2\r\n$3\r\n2-1\r\n*-1\r\n";
+
+// The same in RESP3, and in texts that no server writes.
+const IN_MAP: &[u8] = b"%1\r\n$1\r\nk\r\n*2\r\n*2\r\n$3\r\n1-1\r\n*4\r\n$1\r\nb\r\n$1\r\nx\r\n\
+$1\r\nb\r\n$1\r\ny\r\n*2\r\n$3\r\n2-1\r\n_\r\n";
+
+const SIMPLE: &[u8] = b"*1\r\n*2\r\n+k\r\n*2\r\n*2\r\n+1-1\r\n*4\r\n$1\r\nb\r\n$1\r\nx\r\n\
+$1\r\nb\r\n$1\r\ny\r\n*2\r\n+2-1\r\n*-1\r\n";
+
+const CLAIMED: &[u8] = b"*3\r\n$3\r\n5-1\r\n*1\r\n*2\r\n$3\r\n1-1\r\n*4\r\n$1\r\nb\r\n$1\r\nx\r\n\
+$1\r\nb\r\n$1\r\ny\r\n*1\r\n$3\r\n2-1\r\n";
+
+/// Keeps ids and fields as a text: in order where the entry stands in place, and the last `b` else.
+#[derive(Drop)]
+struct Written {
+    text: Vec<u8>,
+}
+
+impl Written {
+    fn write(&mut self, entry: &Entry<'_>) -> Result<(), AllocError> {
+        self.text.extend_from_slice(entry.id().as_bytes())?;
+        match entry.fields() {
+            Some(fields) => {
+                for (name, value) in fields {
+                    self.text.extend_from_slice(name)?;
+                    self.text.extend_from_slice(value)?;
+                }
+            }
+            None => {
+                let last = entry.get_bytes("b").unwrap_or(b"none");
+                self.text.extend_from_slice(last)?;
+            }
+        }
+        Ok(())
+    }
+}
+
+impl Handler for Written {
+    ghost History = { Unit {0} };
+
+    ghost with_verdict = { λ r e v. r };
+
+    ghost with_commit = { λ r. r };
+
+    ghost history = { λ h. tt };
+
+    fn handle(&mut self, alloc: Global, entry: &Entry<'_>) -> Verdict {
+        if self.write(entry).is_err() {
+            return Verdict::Stop;
+        }
+        match entry.get::<String>(alloc, "b") {
+            Ok(Some(last)) if last.as_str() == "y" => Verdict::Done,
+            _ => Verdict::Stop,
+        }
+    }
+
+    fn commit(&mut self, _alloc: Global) -> Result<(), NotCommitted> {
+        Ok(())
+    }
+}
+
+#[test]
+fn entries_are_handed_out_where_they_stand(rt: HostRuntime) -> Result<(), Fail> {
+    let alloc = rt.alloc();
+    // What is answered, and what the handler sees.
+    let cases: [(&[u8], &str); 3] = [
+        (REPEATED, "1-1bxby"),
+        (IN_MAP, "1-1bxby"),
+        (SIMPLE, "1-1y"),
+    ];
+    for (bytes, text) in &cases {
+        let mut worker = Worker::new(alloc, settings(alloc)?);
+        let mut handler = Written {
+            text: Vec::new(alloc),
+        };
+        assert_eq!(rt; asked(alloc, &mut worker, &mut handler)?.as_str(), OWN);
+        // What stands behind the reply plays no part.
+        let mut held = bytes.to_vec(alloc)?;
+        held.extend_from_slice(b":1\r\n")?;
+        let progress = worker.answered_in_place(alloc, &held, LIMITS, &mut handler)?;
+        assert_eq!(rt; progress, Progress::GoesOn);
+        assert_eq!(rt; handler.text.as_slice(), text.as_bytes());
+        let session: [(&str, &[u8]); 2] = [
+            ("XACK k g 1-1 2-1", b":2\r\n"),
+            ("XREADGROUP GROUP g c COUNT 100 STREAMS k 2-1", NONE),
+        ];
+        go(&rt, &mut worker, &mut handler, &session)?;
+        assert_eq!(rt; asked(alloc, &mut worker, &mut handler)?.as_str(), CLAIM);
+        let progress = worker.answered_in_place(alloc, CLAIMED, LIMITS, &mut handler)?;
+        assert_eq!(rt; progress, Progress::GoesOn);
+        let session: [(&str, &[u8]); 2] = [
+            ("XACK k g 1-1", b":1\r\n"),
+            ("XAUTOCLAIM k g c 60000 5-1 COUNT 100", NO_CLAIM),
+        ];
+        go(&rt, &mut worker, &mut handler, &session)?;
+        assert_eq!(rt; asked(alloc, &mut worker, &mut handler)?.as_str(), NEWS);
+    }
+    Ok(())
+}
+
+#[test]
+fn bytes_that_are_no_reply_change_nothing(rt: HostRuntime) -> Result<(), Fail> {
+    let alloc = rt.alloc();
+    let mut worker = Worker::new(alloc, settings(alloc)?);
+    let mut handler = Gathered::new(alloc);
+    assert_eq!(rt; asked(alloc, &mut worker, &mut handler)?.as_str(), OWN);
+    for end in 0..ONE.len() {
+        match worker.answered_in_place(alloc, &ONE[..end], LIMITS, &mut handler) {
+            Err(InPlaceError::Incomplete) => {}
+            _ => return Err(Fail::new("a whole reply")),
+        }
+        assert_eq!(rt; worker.asked(), Asked::Own);
+    }
+    match worker.answered_in_place(alloc, b"x", LIMITS, &mut handler) {
+        Err(InPlaceError::Unread(WireError::Fault(_))) => {}
+        _ => return Err(Fail::new("no fault")),
+    }
+    match worker.answered_in_place(alloc, OF_ANOTHER, LIMITS, &mut handler) {
+        Err(InPlaceError::Answer(WorkerError::OtherStream)) => {}
+        _ => return Err(Fail::new("the stream that was asked for")),
+    }
+    assert_eq!(rt; worker.asked(), Asked::Nothing);
+    assert_eq!(rt; handler.loose.len(), 0);
+    go(&rt, &mut worker, &mut handler, &[(OWN, ONE)])
 }

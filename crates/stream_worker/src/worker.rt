@@ -16,18 +16,21 @@ ghost use Rattle.stream_worker.specs.Questions.{asks, phase_of, sentence};
 ghost use Rattle.stream_worker.specs.Requested.{Unasked};
 ghost use Rattle.stream_worker.specs.Taking.{all_delivered, entry_meaning};
 
+mod in_place;
+
 use crate::commands::append_question;
-use crate::entries::{Entry, take_entries};
+use crate::entries::take_entries;
 use crate::error::{RequestError, WorkerError};
 use crate::handler::{Handler, NotCommitted};
 use crate::phases::{next_claim, next_own, next_round};
 use crate::reading::read_entries;
 use crate::state::{Asked, MakeGroup, Phase, Settings};
 use redis_resp::{Value, from_redis_value};
-use redis_streams::StreamAutoClaimReply;
+use redis_streams::{StreamAutoClaimReply, StreamId};
 use redis_wire::{Reply, ServerError};
 use std::alloc::{AllocError, Global};
 use std::mem;
+use stream_refs::EntryTape;
 
 /// Whether a worker's handler goes on.
 #[derive(Clone, Copy, Debug, PartialEq, Eq)]
@@ -39,7 +42,7 @@ pub enum Progress {
 }
 
 /// A worker of a consumer group, without input and output: `request` says the next command, and
-/// `answered` takes its answer.
+/// `answered_in_place` takes its answer out of the bytes that came, or `answered` where it is decoded.
 ///
 /// It acknowledges just what its handler has done and committed, and what came without fields,
 /// since it was deleted from the stream.
@@ -51,6 +54,7 @@ pub struct Worker {
     to_commit: Vec<String>,
     to_acknowledge: Vec<String>,
     asked: Asked,
+    tape: EntryTape,
 }
 
 impl Worker {
@@ -68,6 +72,7 @@ impl Worker {
             to_commit: Vec::new(alloc),
             to_acknowledge: Vec::new(alloc),
             asked: Asked::Nothing,
+            tape: EntryTape::new(alloc),
         }
     }
 
@@ -310,7 +315,7 @@ impl Worker {
     fn take<H: Handler>(
         &mut self,
         alloc: Global,
-        entries: &[Entry],
+        entries: &[StreamId],
         next: Phase,
         handler: &mut H,
     ) -> Result<Progress, AllocError>

@@ -22,7 +22,7 @@ impl Handler for Count {
 
     ghost history = { λ handler. tt };
 
-    fn handle(&mut self, _alloc: Global, _entry: &Entry) -> Verdict {
+    fn handle(&mut self, _alloc: Global, _entry: &Entry<'_>) -> Verdict {
         self.done = self.done.saturating_add(1);
         Verdict::Done
     }
@@ -59,7 +59,8 @@ fn my_worker_takes_each_entry(rt: HostRuntime) -> Result<(), Fail> {
         let reply = server.step(alloc, now, &mut session, command)?;
         let mut answer = Vec::new(alloc);
         append_reply(alloc, &mut answer, session.protocol, &reply)?;
-        let _progress = worker.answered(alloc, reply_of(alloc, &answer)?, &mut handler)?;
+        let limits = Limits::default();
+        let _progress = worker.answered_in_place(alloc, &answer, limits, &mut handler)?;
     }
     assert_eq!(rt; handler.done, 2);
     let pending = told(alloc, &mut server, &mut session, "XPENDING k g")?;

@@ -1,0 +1,34 @@
+use Rattle.std.proofs.Common.{string_bytes}
+use Rattle.stream_entries.specs.AutoClaim.{autoclaim_reading}
+use Rattle.stream_group.specs.Worker.{own_pending, taken_over, news}
+use Rattle.stream_worker.specs.Answers.{entries_read}
+use Rattle.stream_worker.specs.Taking.{all_delivered}
+use Rattle.stream_refs.specs.AutoClaim.{autoclaim_tree}
+use Rattle.stream_worker.proofs.InPlaceLemmas.{answer_taken, still_missing, value_failed, value_went}
+use Rattle.stream_worker.proofs.worker.Worker.claim_in_place.Goals as goal
+
+pub returns-in_err-claim_found-in-Some-clause-taken : goal.returns-in_err-claim_found-in-Some-clause-taken
+returns-in_err-claim_found-in-Some-clause-taken g c =
+    let r = c.in-Some.ensures in
+    let t = autoclaim_tree r.told (record {
+      next = c.in-Some.found.next_stream_id.now;
+      claimed = c.in-Some.found.claimed;
+      deleted = c.in-Some.found.deleted_ids;
+    }) in
+    answer_taken g.H.Handler.with_verdict _ _ _ _ _ c.from_residual-in_err-claim_found.result
+    c.in_err-claim_found.field-0.0 c.from_residual-in_err-claim_found.ensures.1
+    (value_failed g.H.Handler.with_verdict _ _ _ _ _ _ c.in-Some.found.len t c.in_err-claim_found.field-0.0 c.requires
+    r.reply (c.in_err-claim_found.ensures.taken t r.reading) c.claim_found.ensures.group c.claim_found.ensures.asked)
+
+pub returns-in_ok-claim_found-in-Some-clause-taken : goal.returns-in_ok-claim_found-in-Some-clause-taken
+returns-in_ok-claim_found-in-Some-clause-taken g c =
+    let r = c.in-Some.ensures in
+    let t = autoclaim_tree r.told (record {
+      next = c.in-Some.found.next_stream_id.now;
+      claimed = c.in-Some.found.claimed;
+      deleted = c.in-Some.found.deleted_ids;
+    }) in
+    value_went g.H.Handler.with_verdict _ _ _ _ _ _ c.in-Some.found.len t c.in_ok-claim_found.field-0 c.requires r.reply
+    (c.in_ok-claim_found.ensures.taken t r.reading)
+    (still_missing (λ x. taken_over x.next (all_delivered x.claimed)) (autoclaim_reading t) c.args.self.now.group_missing)
+    c.claim_found.ensures.group c.claim_found.ensures.asked

@@ -1,0 +1,58 @@
+-- What the reply at the head of bytes does to a worker.
+use Rattle.std.specs.Prelude.{◌≡◌, ℕ, List, ◌++◌, Result, Ok, Err}
+use Rattle.redis_resp.specs.Table.{Fields}
+use Rattle.redis_resp.specs.Tree.{Tree}
+use Rattle.redis_wire.specs.Decoded.{NoReply, EndTooEarly, IsFirstFault}
+use Rattle.redis_wire.specs.Grammar.{IsAnyReply}
+use Rattle.redis_wire.specs.Reply as wire
+use Rattle.redis_wire.specs.declared.fault.WireError.TheVariants as wire_errors
+use Rattle.redis_wire.specs.declared.limits.Limits.{Limits}
+use Rattle.stream_group.specs.Worker.{Machine, Verdict}
+use Rattle.stream_worker.specs.Answered.{Failed, Went}
+use Rattle.stream_worker.specs.Answers.{group_after, hears}
+use Rattle.stream_worker.specs.Session.{Standing}
+use Rattle.stream_worker.specs.declared.error.InPlaceError.{InPlaceError}
+use Rattle.stream_worker.specs.declared.error.InPlaceError.TheVariants as causes
+use Rattle.stream_worker.specs.declared.error.WorkerError.{WorkerError}
+use Rattle.stream_worker.specs.declared.state.Asked.{Asked}
+use Rattle.stream_worker.specs.declared.state.Asked.TheVariants.{Nothing}
+use Rattle.stream_worker.specs.declared.state.Settings.{Settings}
+use Rattle.stream_worker.specs.declared.worker.Progress.{Progress}
+
+-- the reply at the head of the bytes says this, however many values it has
+pub record Heads (limits : Limits) (bytes : List ℕ) (a : wire.Answer) : Type 0 where
+  pub text : List ℕ
+  pub rest : List ℕ
+  pub is : bytes ≡ text ++ rest
+  pub reply : IsAnyReply limits text a
+
+module _ {R : Type 0} (with_verdict : R → List ℕ × Fields Tree → Verdict → R) (settings : Settings) (limits : Limits)
+    (bytes : List ℕ) where
+  -- the worker went on by the reply at the head of the bytes
+  abbrev pub WentInPlace : Standing R → Standing R → Progress → Type 0
+  WentInPlace w x p = (a : wire.Answer) × Heads limits bytes a
+      × Went with_verdict settings w.asked a w.machine x.machine w.history x.history p
+      × (x.missing ≡ group_after w.missing (hears settings w.asked a)) × (x.asked ≡ Nothing)
+
+  -- no reply was read, and nothing changed; or that at the head of the bytes does not bring the worker on
+  abbrev pub FailedInPlace : Standing R → Standing R → InPlaceError → Type 0
+  FailedInPlace w x causes.Incomplete = (x ≡ w) × NoReply limits bytes × EndTooEarly limits bytes
+  FailedInPlace w x (causes.Unread wire_errors.Memory) = x ≡ w
+  FailedInPlace w x (causes.Unread (wire_errors.Fault fault)) =
+      (x ≡ w) × ((more : List ℕ) → NoReply limits (bytes ++ more))
+      × IsFirstFault limits bytes (wire_errors.Fault fault)
+  FailedInPlace w x (causes.Answer e) = (a : wire.Answer) × Heads limits bytes a
+      × Failed with_verdict settings w.asked a w.machine x.machine w.history x.history e
+      × (x.missing ≡ w.missing) × (x.asked ≡ Nothing)
+
+  -- one or the other, by what is returned
+  abbrev pub TakenInPlace : Standing R → Standing R → Result Progress InPlaceError → Type 0
+  TakenInPlace w x (Ok p) = WentInPlace w x p
+  TakenInPlace w x (Err e) = FailedInPlace w x e
+
+-- the same of a value
+abbrev pub TakenByValue : {R : Type 0} → (R → List ℕ × Fields Tree → Verdict → R) → Settings → Asked → Tree → Machine
+    → Machine → R → R → Result Progress WorkerError → Type 0
+TakenByValue with_verdict settings question t m n r s (Ok p) = Went with_verdict settings question (wire.value t) m n r s p
+TakenByValue with_verdict settings question t m n r s (Err e) =
+    Failed with_verdict settings question (wire.value t) m n r s e

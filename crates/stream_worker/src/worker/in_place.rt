@@ -1,0 +1,255 @@
+//! Answers out of the bytes that came, with their entries where they stand.
+ghost use Rattle.std.specs.Prelude.{◌≡◌, IfErr, IfOk, Some};
+ghost use Rattle.redis_resp.specs.Tree.{Tree};
+ghost use Rattle.stream_entries.specs.AutoClaim.{autoclaim_reading};
+ghost use Rattle.stream_entries.specs.Read.{read_reading};
+ghost use Rattle.stream_refs.specs.AutoClaim.{copied_autoclaim};
+ghost use Rattle.stream_refs.specs.Copied.{copied_streams};
+ghost use Rattle.stream_worker.specs.Handed.{entries_sent};
+ghost use Rattle.stream_worker.specs.InPlace.{FailedInPlace, TakenByValue, TakenInPlace, WentInPlace};
+ghost use Rattle.stream_worker.specs.Machine.{Moved, ending_said, machine_of};
+ghost use Rattle.stream_worker.specs.Questions.{phase_of};
+ghost use Rattle.stream_worker.specs.Session.{standing_of};
+ghost use Rattle.stream_worker.specs.Taking.{all_delivered};
+
+use crate::entries::take_in_place;
+use crate::error::{InPlaceError, WorkerError};
+use crate::handler::Handler;
+use crate::phases::{next_claim, next_own_in_place, next_round};
+use crate::reading::only_in_place;
+use crate::state::{Asked, Phase};
+use crate::worker::{Progress, Worker};
+use redis_wire::{Decoded, Limits, decode};
+use std::alloc::{AllocError, Global};
+use std::mem;
+use stream_refs::{AutoClaimRef, EntriesRef, EntryTape, StreamsRef};
+
+impl Worker {
+    /// Takes the answer to the command that was requested last, which is the reply at the head of
+    /// bytes. Its entries are handed to the handler where they stand: of an answer in a shape in which
+    /// servers write, nothing is copied but ids to acknowledge and the one to go on from. An answer in
+    /// another shape is decoded, and taken as `answered` takes it.
+    pub fn answered_in_place<H: Handler>(
+        &mut self,
+        alloc: Global,
+        bytes: &[u8],
+        limits: Limits,
+        handler: &mut H,
+    ) -> Result<Progress, InPlaceError>
+        ensures ok { IfOk result (WentInPlace H.with_verdict self.old.settings limits bytes.now
+            (standing_of self.old (H.history handler.old))
+            (standing_of self.new (H.history handler.new))) }
+        ensures err { IfErr result (FailedInPlace H.with_verdict self.old.settings limits bytes.now
+            (standing_of self.old (H.history handler.old))
+            (standing_of self.new (H.history handler.new))) }
+        ensures settings { self.new.settings ≡ self.old.settings }
+    {
+        let mut tape = mem::replace(&mut self.tape, EntryTape::new(alloc));
+        let result = self.taken(alloc, &mut tape, bytes, limits, handler);
+        self.tape = tape;
+        result
+    }
+
+    /// The same with these tables.
+    fn taken<H: Handler>(
+        &mut self,
+        alloc: Global,
+        tape: &mut EntryTape,
+        bytes: &[u8],
+        limits: Limits,
+        handler: &mut H,
+    ) -> Result<Progress, InPlaceError>
+        ensures taken { TakenInPlace H.with_verdict self.old.settings limits bytes.now
+            (standing_of self.old (H.history handler.old))
+            (standing_of self.new (H.history handler.new)) result }
+        ensures settings { self.new.settings ≡ self.old.settings }
+    {
+        match self.asked {
+            Asked::Own => self.own_in_place(alloc, tape, bytes, limits, handler),
+            Asked::Claim => self.claim_in_place(alloc, tape, bytes, limits, handler),
+            Asked::News => self.news_in_place(alloc, tape, bytes, limits, handler),
+            Asked::Nothing | Asked::Acknowledgement | Asked::Group => {
+                self.decoded(alloc, bytes, limits, handler)
+            }
+        }
+    }
+
+    /// Takes the reply at the head of bytes decoded.
+    fn decoded<H: Handler>(
+        &mut self,
+        alloc: Global,
+        bytes: &[u8],
+        limits: Limits,
+        handler: &mut H,
+    ) -> Result<Progress, InPlaceError>
+        ensures taken { TakenInPlace H.with_verdict self.old.settings limits bytes.now
+            (standing_of self.old (H.history handler.old))
+            (standing_of self.new (H.history handler.new)) result }
+        ensures settings { self.new.settings ≡ self.old.settings }
+    {
+        match decode(alloc, bytes, limits) {
+            Ok(Decoded::Complete { reply, .. }) => Ok(self.answered(alloc, reply, handler)?),
+            Ok(Decoded::Incomplete) => Err(InPlaceError::Incomplete),
+            Err(error) => Err(InPlaceError::Unread(error)),
+        }
+    }
+
+    /// Takes its own pending entries.
+    fn own_in_place<H: Handler>(
+        &mut self,
+        alloc: Global,
+        tape: &mut EntryTape,
+        bytes: &[u8],
+        limits: Limits,
+        handler: &mut H,
+    ) -> Result<Progress, InPlaceError>
+        requires { self.old.asked ≡ Asked.Own }
+        ensures taken { TakenInPlace H.with_verdict self.old.settings limits bytes.now
+            (standing_of self.old (H.history handler.old))
+            (standing_of self.new (H.history handler.new)) result }
+        ensures settings { self.new.settings ≡ self.old.settings }
+    {
+        match tape.read_either_form(bytes, limits)? {
+            Some(found) => Ok(self.own_found(alloc, found.streams, handler)?),
+            None => self.decoded(alloc, bytes, limits, handler),
+        }
+    }
+
+    /// Takes what was claimed.
+    fn claim_in_place<H: Handler>(
+        &mut self,
+        alloc: Global,
+        tape: &mut EntryTape,
+        bytes: &[u8],
+        limits: Limits,
+        handler: &mut H,
+    ) -> Result<Progress, InPlaceError>
+        requires { self.old.asked ≡ Asked.Claim }
+        ensures taken { TakenInPlace H.with_verdict self.old.settings limits bytes.now
+            (standing_of self.old (H.history handler.old))
+            (standing_of self.new (H.history handler.new)) result }
+        ensures settings { self.new.settings ≡ self.old.settings }
+    {
+        match tape.read_autoclaim(bytes, limits)? {
+            Some(found) => Ok(self.claim_found(alloc, found, handler)?),
+            None => self.decoded(alloc, bytes, limits, handler),
+        }
+    }
+
+    /// Takes new entries.
+    fn news_in_place<H: Handler>(
+        &mut self,
+        alloc: Global,
+        tape: &mut EntryTape,
+        bytes: &[u8],
+        limits: Limits,
+        handler: &mut H,
+    ) -> Result<Progress, InPlaceError>
+        requires { self.old.asked ≡ Asked.News }
+        ensures taken { TakenInPlace H.with_verdict self.old.settings limits bytes.now
+            (standing_of self.old (H.history handler.old))
+            (standing_of self.new (H.history handler.new)) result }
+        ensures settings { self.new.settings ≡ self.old.settings }
+    {
+        match tape.read_either_form(bytes, limits)? {
+            Some(found) => Ok(self.news_found(alloc, found.streams, handler)?),
+            None => self.decoded(alloc, bytes, limits, handler),
+        }
+    }
+
+    /// Takes its own pending entries where they stand.
+    fn own_found<H: Handler>(
+        &mut self,
+        alloc: Global,
+        streams: StreamsRef<'_>,
+        handler: &mut H,
+    ) -> Result<Progress, WorkerError>
+        ensures taken { (t : Tree) → read_reading t ≡ Some (copied_streams streams.entry)
+            → TakenByValue H.with_verdict self.old.settings Asked.Own t (machine_of self.old)
+            (machine_of self.new) (H.history handler.old) (H.history handler.new) result }
+        ensures group { self.new.group_missing ≡ self.old.group_missing }
+        ensures settings { self.new.settings ≡ self.old.settings }
+        ensures asked { self.new.asked ≡ Asked.Nothing }
+    {
+        self.asked = Asked::Nothing;
+        self.phase = Phase::Start;
+        let Some(entries) = only_in_place(&self.settings.key, streams) else {
+            return Err(WorkerError::OtherStream);
+        };
+        let next = next_own_in_place(alloc, &entries)?;
+        Ok(self.take_in_place(alloc, entries, next, handler)?)
+    }
+
+    /// Takes what was claimed where it stands.
+    fn claim_found<H: Handler>(
+        &mut self,
+        alloc: Global,
+        found: AutoClaimRef<'_>,
+        handler: &mut H,
+    ) -> Result<Progress, WorkerError>
+        ensures taken { (t : Tree) → autoclaim_reading t ≡ Some (copied_autoclaim (record {
+              next = found.entry.next_stream_id.now;
+              claimed = found.entry.claimed;
+              deleted = found.entry.deleted_ids;
+            }))
+            → TakenByValue H.with_verdict self.old.settings Asked.Claim t (machine_of self.old)
+            (machine_of self.new) (H.history handler.old) (H.history handler.new) result }
+        ensures group { self.new.group_missing ≡ self.old.group_missing }
+        ensures settings { self.new.settings ≡ self.old.settings }
+        ensures asked { self.new.asked ≡ Asked.Nothing }
+    {
+        self.asked = Asked::Nothing;
+        self.phase = Phase::Start;
+        let next = next_claim(String::from_str(alloc, found.next_stream_id)?);
+        Ok(self.take_in_place(alloc, Some(found.claimed), next, handler)?)
+    }
+
+    /// Takes new entries where they stand.
+    fn news_found<H: Handler>(
+        &mut self,
+        alloc: Global,
+        streams: StreamsRef<'_>,
+        handler: &mut H,
+    ) -> Result<Progress, WorkerError>
+        ensures taken { (t : Tree) → read_reading t ≡ Some (copied_streams streams.entry)
+            → TakenByValue H.with_verdict self.old.settings Asked.News t (machine_of self.old)
+            (machine_of self.new) (H.history handler.old) (H.history handler.new) result }
+        ensures group { self.new.group_missing ≡ self.old.group_missing }
+        ensures settings { self.new.settings ≡ self.old.settings }
+        ensures asked { self.new.asked ≡ Asked.Nothing }
+    {
+        self.asked = Asked::Nothing;
+        let phase = mem::replace(&mut self.phase, Phase::Start);
+        let Some(entries) = only_in_place(&self.settings.key, streams) else {
+            return Err(WorkerError::OtherStream);
+        };
+        let next = next_round(self.settings.every, phase);
+        Ok(self.take_in_place(alloc, entries, next, handler)?)
+    }
+
+    /// Hands entries to the handler where they stand, and goes on in this phase; where it does not get
+    /// through them it begins again.
+    fn take_in_place<H: Handler>(
+        &mut self,
+        alloc: Global,
+        entries: Option<EntriesRef<'_>>,
+        next: Phase,
+        handler: &mut H,
+    ) -> Result<Progress, AllocError>
+        ensures moved { Moved H.with_verdict (all_delivered (entries_sent entries.entry))
+            (phase_of next) (machine_of self.old) (machine_of self.new)
+            (H.history handler.old) (H.history handler.new) (ending_said result) }
+        ensures group { self.new.group_missing ≡ self.old.group_missing }
+        ensures settings { self.new.settings ≡ self.old.settings }
+        ensures asked { self.new.asked ≡ self.old.asked }
+    {
+        self.phase = Phase::Start;
+        if let Some(entries) = entries {
+            if !take_in_place(alloc, &mut self.to_commit, entries, handler)? {
+                return Ok(Progress::Stopped);
+            }
+        }
+        self.phase = next;
+        Ok(Progress::GoesOn)
+    }
+}
