@@ -1,16 +1,16 @@
 -- What bytes begin with that servers write.
-use Rattle.std.proofs.Common.{◌≡◌, ◌≤◌, ◌<◌, ◌^◌, ◌+◌, ◌*◌, ◌∙◌, ℕ, zero, suc, pos, List, [], ◌∷◌, ◌++◌, length}
+use Rattle.std.proofs.Common.{◌≡◌, ◌≤◌, ◌<◌, ◌^◌, ◌+◌, ◌*◌, ◌∙◌, ℕ, zero, suc, List, [], ◌∷◌, ◌++◌, length}
 use Rattle.std.proofs.Common.{drop, codes, decimal, Option, Some, None, Ok, inl, inr, refl, sym, ap, arith}
-use Rattle.std.proofs.Common.{flat_map, append_assoc, add-one, Bool, true, false, Err}
+use Rattle.std.proofs.Common.{flat_map, append_assoc, add-one, Bool, true, false}
 use Rattle.std.specs.List.{AllByRecursion, list_all}
 use Rattle.std.proofs.lemmas.Fmt.{decimal_nonempty, length-decimal-le}
 use Rattle.redis_resp.specs.Tree.{nil, array, trees}
 use Rattle.redis_wire.specs.declared.limits.Limits.{Limits}
 use Rattle.redis_wire.specs.declared.kind.GroupKind.TheVariants.{Array}
-use Rattle.redis_wire.specs.Reading.{Read, ◌>>=◌, line_at, blob_at, is_inner}
+use Rattle.redis_wire.specs.Reading.{Read, ◌>>=◌, is_inner}
 use Rattle.redis_wire.specs.Reply.{Answer, value, group, answer_list, Answers, values, mixed}
 use Rattle.redis_wire.specs.Group.{many, group_tree, group_answer}
-use Rattle.redis_wire.specs.Scalar.{number_of, length_of}
+use Rattle.redis_wire.specs.Scalar.{length_of}
 use Rattle.redis_wire.specs.Level.{length_at, value_at, group_body_at}
 use Rattle.redis_wire.specs.Packed.{crlf, bulk_bytes}
 use Rattle.redis_wire.specs.Written.{line_bytes, count_bytes}

@@ -1,5 +1,5 @@
 -- Answers of XAUTOCLAIM as servers write them are found, and read as the trees that tell them.
-use Rattle.std.proofs.Common.{◌≡◌, ◌≤◌, ◌+◌, ◌-◌, ◌∙◌, ℕ, suc, List, [], ◌∷◌, ◌++◌, map, flat_map, length, drop}
+use Rattle.std.proofs.Common.{◌≡◌, ◌≤◌, ◌-◌, ◌∙◌, ℕ, suc, List, [], ◌∷◌, ◌++◌, map, flat_map, length}
 use Rattle.std.proofs.Common.{Bool, true, false, Option, Some, None, Ok, refl, sym, ap, arith, append_assoc}
 use Rattle.std.specs.List.{AllByRecursion}
 use Rattle.std.specs.Str.{is_utf8}
@@ -223,8 +223,7 @@ autoclaim_same limits bytes r s n len h b =
     (deleted_none limits b.told s.deleted b.deleted) in
     let both : Some (copied_autoclaim r) ≡ Some (copied_autoclaim s) =
     sym h.reading ∙ ap autoclaim_reading same ∙ told in
-    let record_is : copied_autoclaim r ≡ copied_autoclaim s = cc in
-    (
+    let record_is : copied_autoclaim r ≡ copied_autoclaim s = cc in (
       same_claim r s record_is (same_rows_tree r.claimed s.claimed rows),
       len_same bytes (autoclaim_bytes b.told b.form s) b.rest n len h.within b.is one.1 b.len_is,
     )
@@ -246,8 +245,7 @@ justid_same limits bytes r s n len h b =
     let told = justid_read b.told s b.next.is_text (ids_told limits s.claimed b.claimed.each)
     (deleted_told limits b.told s.deleted b.deleted) (deleted_none limits b.told s.deleted b.deleted) in
     let both : Some r ≡ Some s = sym h.reading ∙ ap justid_reading same ∙ told in
-    let record_is : r ≡ s = cc in
-    (
+    let record_is : r ≡ s = cc in (
       record_is,
       len_same bytes (justid_bytes b.told s) b.rest n len h.within b.is one.1 b.len_is,
     )

@@ -1,14 +1,13 @@
 -- Replies as servers write them are read as the trees of their entries, and these trees tell the entries.
-use Rattle.std.proofs.Common.{◌≡◌, ◌≤◌, ◌<◌, ◌^◌, ◌+◌, ◌-◌, ◌*◌, ◌∙◌, ℕ, suc, pos, List, [], ◌∷◌, ◌++◌, map, flat_map}
-use Rattle.std.proofs.Common.{length, take, drop, decimal, Bool, true, false, Option, Some, None, Ok, refl, sym, ap, arith}
+use Rattle.std.proofs.Common.{◌≡◌, ◌≤◌, ◌<◌, ◌^◌, ◌-◌, ◌*◌, ◌∙◌, ℕ, suc, pos, List, [], ◌∷◌, ◌++◌, map, flat_map}
+use Rattle.std.proofs.Common.{length, take, drop, decimal, Bool, false, Option, Some, None, Ok, refl, sym, ap, arith}
 use Rattle.std.proofs.Common.{append_assoc}
 use Rattle.std.specs.List.{AllByRecursion}
 use Rattle.std.proofs.lemmas.List.{length-append, length-drop, take-append-drop}
-use Rattle.redis_resp.specs.Tree.{Tree, nil, int, bulk, array, trees, list_of_trees}
+use Rattle.redis_resp.specs.Tree.{Tree, int, bulk, array, trees, list_of_trees}
 use Rattle.redis_resp.proofs.TreeLemmas.{listed_trees}
 use Rattle.redis_wire.specs.declared.limits.Limits.{Limits}
 use Rattle.redis_wire.specs.declared.kind.GroupKind.TheVariants.{Array}
-use Rattle.redis_wire.specs.Reading.{Read}
 use Rattle.redis_wire.specs.Reply.{Answer, value, values}
 use Rattle.redis_wire.specs.Scalar.{line_answer}
 use Rattle.redis_wire.specs.Group.{many}
@@ -238,8 +237,7 @@ range_same limits bytes es fs n len r b =
     let read = rows_read limits b.allows (limits.depth - 4) false b.form fs b.rest bytes b.within b.is in
     let one = one_reply limits (suc (suc (suc (suc (limits.depth - 4))))) bytes b.rest (value (rows_tree fs))
     (value (rows_tree es)) n d r.within read r.reply in
-    let same : rows_tree es ≡ rows_tree fs = cc (one.0) in
-    (
+    let same : rows_tree es ≡ rows_tree fs = cc (one.0) in (
       same_rows_tree es fs same,
       len_same bytes (rows_bytes b.form fs) b.rest n len r.within b.is one.1 b.len_is,
     )

@@ -1,12 +1,12 @@
 -- Streams as servers write them are found, and read as the trees that tell them.
-use Rattle.std.proofs.Common.{◌≡◌, ◌≤◌, ◌+◌, ◌-◌, ◌*◌, ◌∙◌, ℕ, suc, List, [], ◌∷◌, ◌++◌, map, flat_map, length, drop}
-use Rattle.std.proofs.Common.{Bool, true, false, Option, Some, Ok, IsSome, refl, sym, ap, subst, arith, append_assoc}
+use Rattle.std.proofs.Common.{◌≡◌, ◌-◌, ◌*◌, ◌∙◌, ℕ, suc, List, [], ◌∷◌, ◌++◌, map, flat_map, length}
+use Rattle.std.proofs.Common.{Bool, true, false, Some, Ok, refl, sym, ap, subst, arith, append_assoc}
 use Rattle.std.specs.List.{AllByRecursion}
 use Rattle.redis_resp.specs.Tree.{Tree, nil, bulk, array, map_of_pairs, trees, pairs, list_of_pairs}
 use Rattle.redis_resp.proofs.TreeLemmas.{listed_pairs}
 use Rattle.redis_wire.specs.declared.limits.Limits.{Limits}
 use Rattle.redis_wire.specs.declared.kind.GroupKind.TheVariants.{Map}
-use Rattle.redis_wire.specs.Reply.{Answer, value, values}
+use Rattle.redis_wire.specs.Reply.{value, values}
 use Rattle.redis_wire.specs.Group.{many}
 use Rattle.redis_wire.specs.Level.{value_at, level, by_kind, group_value_at, group_body_at}
 use Rattle.redis_wire.specs.Packed.{bulk_bytes}
@@ -221,8 +221,7 @@ streams_same limits claim bytes ss us n len r b =
     let read = streams_read limits b.allows claim b.form (limits.depth - 6) b.told us b.rest bytes b.within b.is in
     let one = one_reply limits (suc (suc (suc (suc (suc (suc (limits.depth - 6))))))) bytes b.rest
     (value (read_tree b.told us)) (value r.tree) n d r.within read r.reply in
-    let same : r.tree ≡ read_tree b.told us = cc (one.0) in
-    (
+    let same : r.tree ≡ read_tree b.told us = cc (one.0) in (
       same_told b.told ss us b.told_is (subst (λ (t : Tree). IsReadTree ss t) same r.is),
       len_same bytes (streams_bytes b.told b.form us) b.rest n len r.within b.is one.1 b.len_is,
     )

@@ -1,4 +1,4 @@
-use Rattle.std.proofs.Common.{rules, ◌≡◌, ◌≤◌, ◌++◌, arith, flat_map, sym, length, false}
+use Rattle.std.proofs.Common.{rules, ◌≡◌, ◌≤◌, ◌++◌, arith, flat_map, length, false}
 use Rattle.stream_refs.specs.Held.{none_held}
 use Rattle.stream_refs.specs.Added.{EntriesAdded}
 use Rattle.stream_refs.specs.AddedIds.{DeletedAdded}

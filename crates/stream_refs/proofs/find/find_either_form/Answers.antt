@@ -7,6 +7,6 @@ pub returns-in-None-clause-found : goal.returns-in-None-clause-found
 returns-in-None-clause-found g c = λ claim.
     elim claim as (λ v. (ss : List SentStream) (len : ℕ) → BeginsWithStreams c.args.limits v c.args.bytes.now ss len
     → false ≡ true) [
-      false ↦ λ ss len b. rw c.in_default.is at (c.in_ok-len.ensures.found ss len b)
+      | false ↦ λ ss len b. rw c.in_default.is at (c.in_ok-len.ensures.found ss len b)
       | true ↦ λ ss len b. rw c.in-None.is at (c.in_ok-find_form.ensures.found ss len b)
     ]
