@@ -1,5 +1,5 @@
 -- The arguments of commands by the parts that C hands in.
-use Rattle.std.specs.Prelude.{ℕ, Bool, List, [], ◌∷◌, ◌++◌, codes, decimal, Option, Some, None, if◌then◌else◌}
+use Rattle.std.specs.Prelude.{ℕ, Bool, List, [], ◌∷◌, ◌++◌, codes, decimal, Some, if◌then◌else◌}
 use Rattle.std.specs.List.{flat_map}
 use Rattle.redis_args.specs.Clause.{clause, word_number}
 use Rattle.stream_options.specs.Add.{Add}

@@ -1,4 +1,4 @@
-use Rattle.std.proofs.Common.{arith, refl, ◌≡◌, [], length}
+use Rattle.std.proofs.Common.{arith, refl, ◌≡◌, length}
 use Rattle.std.proofs.lemmas.List.{nil_from_length}
 use Rattle.redis_c.specs.Claimed.{JustIdIn}
 use Rattle.redis_c.proofs.HandedLemmas.{handed_is}
