@@ -1,5 +1,5 @@
 -- The fields of an entry where it stands, and those of its record.
-use Rattle.std.proofs.Common.{◌≡◌, ◌↔◌, ◌∙◌, refl, sym, ap, subst, ℕ, Bool, true, false, cond, List, [], ◌∷◌, length, arith}
+use Rattle.std.proofs.Common.{◌≡◌, ◌↔◌, ◌∙◌, refl, sym, ap, ℕ, Bool, true, false, cond, List, [], ◌∷◌, length, arith}
 use Rattle.std.proofs.Common.{Option, Some, None, option_map}
 use Rattle.std.specs.Cmp.Lexicographic.{slice_cmp, nat_list_cmp_total}
 use Rattle.std.specs.FinMap.{FinMap, empty, empty_of_len, from_entries, get, get-empty, get-from_entries, len, len-empty}
@@ -8,12 +8,12 @@ use Rattle.std.specs.Option.{option_or}
 use Rattle.redis_resp.specs.Table.{field_record}
 use Rattle.std.specs.Ordering.{nat_cmp}
 use Rattle.std.specs.Str.{bytes_eq}
+use Rattle.std.proofs.lemmas.Bool.Decides.{Decides-eqb}
 use Rattle.std.proofs.lemmas.Slice.Eq.{bytes_eq-Decides}
 use Rattle.redis_resp.specs.Table.{Fields, last_with, on_values, table_of}
 use Rattle.redis_resp.specs.Tree.{Tree, bulk}
 use Rattle.redis_resp.proofs.TableLemmas.{find_table, last_values}
 use Rattle.stream_refs.specs.Sent.{Pairs}
-use Rattle.stream_worker.specs.Handed.{bytes_in}
 
 -- the fields that a record of these has
 abbrev pub fields_sent : Pairs → Fields Tree
@@ -22,14 +22,6 @@ fields_sent ps = from_entries (table_of (on_values bulk ps))
 pub get_sent : (ps : Pairs) (name : List ℕ) → get (fields_sent ps) name ≡ option_map bulk (last_with name ps)
 get_sent ps name = get-from_entries nat_list_cmp_total (table_of (on_values bulk ps)) name
     ∙ find_table name (on_values bulk ps) ∙ last_values bulk name ps
-
-bytes_of_bulk : (o : Option (List ℕ)) → option_and_then bytes_in (option_map bulk o) ≡ o
-bytes_of_bulk None = refl
-bytes_of_bulk (Some x) = refl
-
-pub bytes_sent : (ps : Pairs) (name : List ℕ)
-    → option_and_then bytes_in (get (fields_sent ps) name) ≡ last_with name ps
-bytes_sent ps name = ap (option_and_then bytes_in) (get_sent ps name) ∙ bytes_of_bulk (last_with name ps)
 
 or_some : {A : Type 0} (o : Option A) (x : A) → option_or o (Some x) ≡ None → ⊥
 or_some None x h = absurd cc
@@ -58,9 +50,11 @@ none_in_place (p ∷ ps) h = absurd (some_is_there p ps
 
 pub none_there : (b : Bool) (ps qs : Pairs) → b ≡ nat_eq (length qs) 0 → qs ≡ ps
     → (IsTrue b → len (fields_sent ps) ≡ 0) × (len (fields_sent ps) ≡ 0 → IsTrue b)
-none_there b [] qs is same = (λ h. none_sent [] refl, λ h. rw (is, same) tt)
+none_there b [] qs is same = (λ h. none_sent [] refl, λ h. rw (is, same) refl)
 none_there b (p ∷ ps) qs is same = (
-  λ h. let no : IsTrue false = subst IsTrue (is ∙ ap (λ (xs : Pairs). nat_eq (length xs) 0) same) h in absurd no,
+  λ h. let e : nat_eq (length (p ∷ ps)) 0 ≡ true = sym (is ∙ ap (λ (xs : Pairs). nat_eq (length xs) 0) same) ∙ h in
+      let n : length (p ∷ ps) ≡ 0 = (Decides-eqb (length (p ∷ ps)) 0).0 e in
+      absurd (omega (arith, n)),
   λ h. let n : length (p ∷ ps) ≡ 0 = none_in_place (p ∷ ps) h in absurd (omega (arith, n)),
 )
 

@@ -1,6 +1,5 @@
 -- An entry as a handler is given it.
-use Rattle.std.specs.Prelude.{ℕ, List, [], map, Option, Some, None}
-use Rattle.redis_resp.specs.Tree.{Tree, bulk}
+use Rattle.std.specs.Prelude.{List, [], map, Option, Some, None}
 use Rattle.stream_entries.specs.Entry as mathematics
 use Rattle.stream_entries.specs.EntryMeaning as entries
 use Rattle.stream_refs.specs.Copied.{copied, pairs_or_none}
@@ -17,11 +16,6 @@ entry_of (Copied s) = entries.entry_meaning s.now
 abbrev pub fields_in_place : Entry → Option Pairs
 fields_in_place (InPlace e) = Some (pairs_or_none e.fields)
 fields_in_place (Copied s) = None
-
--- the bytes of a bulk string
-abbrev pub bytes_in : Tree → Option (List ℕ)
-bytes_in (bulk bytes) = Some bytes
-bytes_in _ = None
 
 -- the entries of a stream where they stand, and none where there is no stream
 abbrev pub entries_sent : Option (List SentEntry) → List mathematics.Entry

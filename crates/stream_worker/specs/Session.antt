@@ -9,11 +9,11 @@ use Rattle.redis_wire.specs.Packed.{command_bytes}
 use Rattle.redis_wire.specs.Reply as wire
 use Rattle.redis_wire.specs.declared.limits.Limits.{Limits}
 use Rattle.redis_connection.specs.Ask.{Exchanges}
-use Rattle.redis_connection.specs.Link.{Link, Sends, SendsFront, Waits, IsInPlace, IsEnded, IsFaulty}
+use Rattle.redis_connection.specs.Link.{Link, Sends, SendsFront, Waits, IsEnded, IsFaulty}
 use Rattle.redis_connection.specs.declared.error.ConnectionError.TheVariants.{TooLong}
 use Rattle.stream_group.specs.Worker.{Verdict, Machine, ending, entries_in, told_in, after}
-use Rattle.stream_worker.specs.Answers.{Heard, told, no_group, group_made, hears, group_after}
-use Rattle.stream_worker.specs.Answered.{Failed, Went}
+use Rattle.stream_worker.specs.Answers.{Heard, told, no_group, group_made, hears}
+use Rattle.stream_worker.specs.Answered.{Failed}
 use Rattle.stream_worker.specs.Handling.{with_all}
 use Rattle.stream_worker.specs.Machine.{machine_of, at_request, history_at_request, ending_of}
 use Rattle.stream_worker.specs.Questions.{asks, sentence}
@@ -95,15 +95,6 @@ module _ {R : Type 0} (with_commit : R → R) (settings : Settings) where
       × IsEnded new e × IsFaulty new.held e
   IsUnanswered old new w x (causes.Answer e) = ⊥
 
-  -- it asked, and its command went out
-  abbrev pub HasAsked : Link → Link → Standing R → Standing R → Type 0
-  HasAsked old new w x = (x ≡ asking w) × Sends old new (command_bytes (command settings w))
-
-  -- it asked, and the reply to it is held whole, in so many bytes
-  abbrev pub Waited : Link → Link → Standing R → Standing R → ℕ → Type 0
-  Waited old new w x len = (x ≡ asking w)
-      × ((between : Link) × Sends old between (command_bytes (command settings w)) × IsInPlace between new len)
-
 -- where a worker stands by what it heard, where its handler said this of the entries
 abbrev pub having_heard : {R : Type 0} → (R → List ℕ × Fields Tree → Verdict → R) → Standing R → Option Heard
     → List Verdict → Standing R
@@ -179,16 +170,6 @@ module _ {R : Type 0} (with_verdict : R → List ℕ × Fields Tree → Verdict 
       (asking with_commit settings w).history x.history e
       × (x.missing ≡ w.missing) × (x.asked ≡ Nothing)
   Fails old new w x e = IsUnanswered with_commit settings old new w x e
-
-  -- a round was made: it asked this, and went on by the answer that came
-  pub record Turned (old new : Link) (w x : Standing R) (question : Asked) (p : Progress) : Type 0 where
-    pub answer : wire.Answer
-    pub exchanges : Exchanges old new (command settings w) answer
-    pub asked : question ≡ (asking with_commit settings w).asked
-    pub went : Went with_verdict settings (asking with_commit settings w).asked answer (at_request w.machine) x.machine
-        (asking with_commit settings w).history x.history p
-    pub missing : x.missing ≡ group_after w.missing (hears settings (asking with_commit settings w).asked answer)
-    pub answered : x.asked ≡ Nothing
 
   -- the session broke off: some rounds were made, and the next one failed
   pub record Broke (old new : Link) (w x : Standing R) (rounds : ℕ) (e : RunError) : Type 0 where

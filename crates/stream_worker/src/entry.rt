@@ -5,7 +5,7 @@ ghost use Rattle.redis_resp.specs.Table.{field_record};
 ghost use Rattle.redis_resp.specs.Tree.{bulk};
 ghost use Rattle.stream_entries.specs.EntryMeaning.{entry_meaning};
 ghost use Rattle.stream_refs.specs.Copied.{copied};
-ghost use Rattle.stream_worker.specs.Handed.{bytes_in, entry_of, fields_in_place};
+ghost use Rattle.stream_worker.specs.Handed.{entry_of, fields_in_place};
 
 use redis_resp::{FromRedisValue, ParsingError, Value};
 use redis_streams::StreamId;
@@ -39,21 +39,6 @@ impl<'a> Entry<'a> {
         match self {
             Entry::InPlace(entry) => has_none(entry),
             Entry::Copied(entry) => entry.is_empty(),
-        }
-    }
-
-    /// The bytes of the last field of this name; None where there is no such field, or the answer has
-    /// something else than a bulk string there.
-    pub fn get_bytes(&self, name: &str) -> Option<&'a [u8]>
-        ensures { option_map (λ v. v.now) result
-            ≡ option_and_then bytes_in (fin.get (entry_of self.now).fields name.now) }
-    {
-        match self {
-            Entry::InPlace(entry) => entry.get(name.as_bytes()),
-            Entry::Copied(entry) => match entry.map.get(name) {
-                Some(Value::BulkString(bytes)) => Some(bytes.as_slice()),
-                _ => None,
-            },
         }
     }
 

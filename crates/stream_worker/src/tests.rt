@@ -466,7 +466,7 @@ struct Written {
 }
 
 impl Written {
-    fn write(&mut self, entry: &Entry<'_>) -> Result<(), AllocError> {
+    fn write(&mut self, alloc: Global, entry: &Entry<'_>) -> Result<(), AllocError> {
         self.text.extend_from_slice(entry.id().as_bytes())?;
         match entry.fields() {
             Some(fields) => {
@@ -476,8 +476,9 @@ impl Written {
                 }
             }
             None => {
-                let last = entry.get_bytes("b").unwrap_or(b"none");
-                self.text.extend_from_slice(last)?;
+                if let Some(last) = entry.get::<String>(alloc, "b")? {
+                    self.text.extend_from_slice(last.as_bytes())?;
+                }
             }
         }
         Ok(())
@@ -494,7 +495,7 @@ impl Handler for Written {
     ghost history = { λ h. tt };
 
     fn handle(&mut self, alloc: Global, entry: &Entry<'_>) -> Verdict {
-        if self.write(entry).is_err() {
+        if self.write(alloc, entry).is_err() {
             return Verdict::Stop;
         }
         match entry.get::<String>(alloc, "b") {

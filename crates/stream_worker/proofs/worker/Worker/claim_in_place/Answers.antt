@@ -9,26 +9,26 @@ use Rattle.stream_worker.proofs.worker.Worker.claim_in_place.Goals as goal
 
 pub returns-in_err-claim_found-in-Some-clause-taken : goal.returns-in_err-claim_found-in-Some-clause-taken
 returns-in_err-claim_found-in-Some-clause-taken g c =
-    let r = c.in-Some.ensures in
+    let r = rw c.in-Some.is at c.in_ok-found.ensures in
     let t = autoclaim_tree r.told (record {
       next = c.in-Some.found.next_stream_id.now;
       claimed = c.in-Some.found.claimed;
       deleted = c.in-Some.found.deleted_ids;
     }) in
-    answer_taken g.H.Handler.with_verdict _ _ _ _ _ c.from_residual-in_err-claim_found.result
-    c.in_err-claim_found.field-0.0 c.from_residual-in_err-claim_found.ensures.1
-    (value_failed g.H.Handler.with_verdict _ _ _ _ _ _ c.in-Some.found.len t c.in_err-claim_found.field-0.0 c.requires
-    r.reply (c.in_err-claim_found.ensures.taken t r.reading) c.claim_found.ensures.group c.claim_found.ensures.asked)
+    answer_taken g.H.Handler.with_verdict _ _ _ _ _ c.from_residual-in_err-claim_found-in-Some.result
+    c.in_err-claim_found-in-Some.field-0.0 c.from_residual-in_err-claim_found-in-Some.ensures.1
+    (value_failed g.H.Handler.with_verdict _ _ _ _ _ _ c.in-Some.found.len t c.in_err-claim_found-in-Some.field-0.0 c.requires
+    r.reply (c.in_err-claim_found-in-Some.ensures.taken t r.reading) c.claim_found.ensures.group c.claim_found.ensures.asked)
 
 pub returns-in_ok-claim_found-in-Some-clause-taken : goal.returns-in_ok-claim_found-in-Some-clause-taken
 returns-in_ok-claim_found-in-Some-clause-taken g c =
-    let r = c.in-Some.ensures in
+    let r = rw c.in-Some.is at c.in_ok-found.ensures in
     let t = autoclaim_tree r.told (record {
       next = c.in-Some.found.next_stream_id.now;
       claimed = c.in-Some.found.claimed;
       deleted = c.in-Some.found.deleted_ids;
     }) in
-    value_went g.H.Handler.with_verdict _ _ _ _ _ _ c.in-Some.found.len t c.in_ok-claim_found.field-0 c.requires r.reply
-    (c.in_ok-claim_found.ensures.taken t r.reading)
+    value_went g.H.Handler.with_verdict _ _ _ _ _ _ c.in-Some.found.len t c.in_ok-claim_found-in-Some.field-0 c.requires r.reply
+    (c.in_ok-claim_found-in-Some.ensures.taken t r.reading)
     (still_missing (λ x. taken_over x.next (all_delivered x.claimed)) (autoclaim_reading t) c.args.self.now.group_missing)
     c.claim_found.ensures.group c.claim_found.ensures.asked
