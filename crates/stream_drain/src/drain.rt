@@ -10,7 +10,7 @@ use redis_connection::Connection;
 use std::alloc::Global;
 use std::io::{Read, Write};
 use std::rt::Clock;
-use stream_worker::{Asked, Progress, RequestError, RunError, Worker, WorkerError};
+use stream_worker::{Asked, InPlaceError, Progress, RequestError, RunError, Worker, WorkerError};
 
 /// Drains until something fails, or until a read finds nothing new where that is asked for.
 pub fn drain<R: Read + Drop, W: Write + Drop, D: LogFile + Drop, T: Clock + Eprint + AllocGlobal>(
@@ -32,15 +32,20 @@ pub fn drain<R: Read + Drop, W: Write + Drop, D: LogFile + Drop, T: Clock + Epri
             dead.turn(alloc, &mut connection, asked, in_hand)?;
         }
         let seen = lines.seen;
-        let round = match worker.round(alloc, &mut connection, lines) {
-            Ok(round) => round,
-            Err(RunError::Answer(error)) => return Err(not_taken(alloc, error)),
+        let len = match heard(alloc, &mut worker, &mut connection, lines) {
+            Ok(len) => len,
             Err(error) => return Err(not_heard(error, &lines.fault)),
         };
-        if round.progress == Progress::Stopped {
-            return Err(stopped(&lines.fault));
+        asked = worker.asked();
+        let limits = connection.limits();
+        let taken = worker.answered_in_place(alloc, connection.received(len), limits, lines);
+        connection.give_out(len);
+        match taken {
+            Ok(Progress::GoesOn) => {}
+            Ok(Progress::Stopped) => return Err(stopped(&lines.fault)),
+            Err(InPlaceError::Answer(error)) => return Err(not_taken(alloc, error)),
+            Err(error) => return Err(error.into()),
         }
-        asked = round.asked;
         let nothing_new = asked == Asked::News && lines.seen == seen;
         if asked == Asked::Acknowledgement {
             if report.count(rt, lines.committed)? {
@@ -52,6 +57,24 @@ pub fn drain<R: Read + Drop, W: Write + Drop, D: LogFile + Drop, T: Clock + Epri
         }
     }
     bail!("the last turn came")
+}
+
+// Asks the next command, and waits until the reply to it is held whole: how many bytes it has.
+fn heard<R: Read + Drop, W: Write + Drop, D: LogFile + Drop>(
+    alloc: Global,
+    worker: &mut Worker,
+    connection: &mut Connection<R, W>,
+    lines: &mut Lines<D>,
+) -> std::result::Result<usize, RunError> {
+    let mut question = Vec::new(alloc);
+    worker.request(alloc, &mut question, lines)?;
+    if let Err(error) = connection.send_bytes(&question) {
+        return Err(RunError::Send(error));
+    }
+    match connection.receive_in_place(alloc) {
+        Ok(len) => Ok(len),
+        Err(error) => Err(RunError::Receive(error)),
+    }
 }
 
 // Why no reply came.
