@@ -11,7 +11,7 @@
 enum { ROOM = 4096, WORDS = 32 };
 
 static uint8_t bytes[ROOM], out[ROOM];
-static size_t held;
+static size_t held, len;
 
 static const uint8_t *text(const char *word) { return (const uint8_t *)word; }
 
@@ -29,13 +29,13 @@ static void expect(uint32_t told, uint32_t wanted) {
     exit(1);
 }
 
-static void put(uint32_t told, size_t len) {
+/* Puts out the command that a call wrote. */
+static void put(uint32_t told) {
     expect(told, REDIS_OK);
     fwrite(out, 1, len, stdout);
 }
 
 static void write_commands(void) {
-    size_t len;
     redis_field field = {place("item"), place("tea")};
     redis_add_settings add = {
         .nomkstream = true,
@@ -45,29 +45,29 @@ static void write_commands(void) {
         .trim = {.bound = REDIS_MAXLEN, .references = REDIS_ACKED, .about = true, .limits = true, .maxlen = 1000,
                  .limit = 50},
     };
-    put(redis_xadd_options(text("orders"), 6, text("*"), 1, &add, bytes, held, &field, 1, out, ROOM, &len), len);
+    put(redis_xadd_options(text("orders"), 6, text("*"), 1, &add, bytes, held, &field, 1, out, ROOM, &len));
 
     redis_trim_settings trim = {.bound = REDIS_MINID, .references = REDIS_DELREF, .minid = place("5-0")};
-    put(redis_xtrim_options(text("orders"), 6, &trim, bytes, held, out, ROOM, &len), len);
+    put(redis_xtrim_options(text("orders"), 6, &trim, bytes, held, out, ROOM, &len));
 
     redis_autoclaim_settings idle = {.counts = true, .justid = true, .count = 10};
     put(redis_xautoclaim_options(text("orders"), 6, text("g1"), 2, text("ann"), 3, 60000, text("0-0"), 3, &idle, out,
-                                 ROOM, &len), len);
+                                 ROOM, &len));
 
     redis_entry entry = {.id = place("1-0")};
     redis_claim_settings claim = {.idles = true, .retries = true, .force = true, .notes = true, .idle = 7, .retry = 3,
                                   .lastid = place("9-0")};
     put(redis_xclaim_options(text("orders"), 6, text("g1"), 2, text("ann"), 3, 0, &claim, bytes, held, &entry, 1, out,
-                             ROOM, &len), len);
+                             ROOM, &len));
 
     redis_field streams[] = {{place("orders"), place("1-1")}, {place("returns"), place("0-0")}};
     redis_read_settings read = {.counts = true, .blocks = true, .noack = true, .count = 2, .block = 0};
-    put(redis_xread_streams(&read, bytes, held, streams, 2, out, ROOM, &len), len);
-    put(redis_xreadgroup_streams(&read, text("g1"), 2, text("ann"), 3, bytes, held, streams, 2, out, ROOM, &len), len);
+    put(redis_xread_streams(&read, bytes, held, streams, 2, out, ROOM, &len));
+    put(redis_xreadgroup_streams(&read, text("g1"), 2, text("ann"), 3, bytes, held, streams, 2, out, ROOM, &len));
 
     redis_pending_settings pending = {.idles = true, .names = true, .idle = 500};
     put(redis_xpending_options(text("orders"), 6, text("g1"), 2, &pending, text("-"), 1, text("+"), 1, 10, text("ann"),
-                               3, out, ROOM, &len), len);
+                               3, out, ROOM, &len));
 
     /* What settings cannot mean is told by name: no such bound, a text past the end, a text that is not UTF-8. */
     trim.bound = 3;
@@ -90,20 +90,20 @@ static size_t split(const char *line, redis_span *spans) {
 /* Reads the options back, writes them again, and puts them beside what stands behind them. */
 static void read_options(void) {
     redis_span spans[WORDS];
-    size_t count, len, words;
+    size_t count, words;
     redis_add_settings add = {0};
     redis_field field = {place("item"), place("tea")};
     words = split("NOMKSTREAM KEEPREF IDMPAUTO MAXLEN MINID ~ 5-0 LIMIT 9 * item tea", spans);
     expect(redis_read_add(bytes, held, spans, words, &add, &count), REDIS_OK);
     printf("add %zu of %zu: ", count, words);
     put(redis_xadd_options(text("k"), 1, bytes + spans[count].start, spans[count].len, &add, bytes, held, &field, 1,
-                           out, ROOM, &len), len);
+                           out, ROOM, &len));
 
     redis_trim_settings trim = {0};
     words = split("MAXLEN = 12 ACKED", spans);
     expect(redis_read_trim(bytes, held, spans, words, &trim, &count), REDIS_OK);
     printf("trim %zu of %zu: ", count, words);
-    put(redis_xtrim_options(text("k"), 1, &trim, bytes, held, out, ROOM, &len), len);
+    put(redis_xtrim_options(text("k"), 1, &trim, bytes, held, out, ROOM, &len));
 
     redis_claim_settings claim = {0};
     redis_entry entry = {.id = place("1-0")};
@@ -111,7 +111,7 @@ static void read_options(void) {
     expect(redis_read_claim(bytes, held, spans, words, &claim, &count), REDIS_OK);
     printf("claim %zu of %zu: ", count, words);
     put(redis_xclaim_options(text("k"), 1, text("g"), 1, text("c"), 1, 0, &claim, bytes, held, &entry, 1, out, ROOM,
-                             &len), len);
+                             &len));
 
     redis_autoclaim_settings idle = {0};
     words = split("COUNT 18446744073709551615 JUSTID", spans);
@@ -125,7 +125,7 @@ static void read_options(void) {
     printf("read %zu of %zu: ", count, words);
     redis_field stream = {spans[count + 1], spans[count + 2]};
     put(redis_xreadgroup_streams(&read, bytes + group.group.start, group.group.len, bytes + group.consumer.start,
-                                 group.consumer.len, bytes, held, &stream, 1, out, ROOM, &len), len);
+                                 group.consumer.len, bytes, held, &stream, 1, out, ROOM, &len));
 
     /* A word of the options where none may stand, a number that is none, and a place past the end. */
     words = split("COUNT 1 JUSTID COUNT 2", spans);
