@@ -31,6 +31,7 @@ int main(int count, char **words) {
     static redis_stream streams[ROOM];
     static redis_entry entries[ROOM];
     static redis_field fields[ROOM];
+    static redis_node nodes[ROOM];
     FILE *file = count == 3 ? fopen(words[1], "rb") : NULL;
     size_t size = file == NULL ? 0 : fread(stored, 1, MOST, file);
     if (size == 0) return 2;
@@ -61,6 +62,14 @@ int main(int count, char **words) {
             for (size_t i = 0; i < found.fields; i++) {
                 within(fields[i].name, found.len);
                 within(fields[i].value, found.len);
+            }
+        }
+        size_t reply_len, values;
+        if (redis_find_nodes(bytes, len, nodes, ROOM, &reply_len, &values) == REDIS_OK) {
+            if (reply_len > len || values > ROOM) exit(1);
+            for (size_t i = 0; i < values; i++) {
+                within(nodes[i].text, reply_len);
+                if (nodes[i].end <= i || nodes[i].end > values) exit(1);
             }
         }
         free(bytes);

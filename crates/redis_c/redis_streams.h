@@ -310,6 +310,31 @@ uint32_t redis_xpending_options(const uint8_t *key, size_t key_len, const uint8_
                                 const uint8_t *end, size_t end_len, size_t count, const uint8_t *consumer,
                                 size_t consumer_len, uint8_t *out, size_t room, size_t *len);
 
+/* ---- Any reply
+
+   A reply as a flat list of its values, each in front of its members, for what is no reply of streams. */
+
+/* A value. */
+typedef struct {
+    uint8_t kind;     /* the first byte of its type, such as '$', ':' or '*'; '_' is a null of any form, and '-' or
+                         '!' an error of the server, which may stand among the members of another value */
+    redis_span text;  /* what its line or its bulk bytes say; a group and a null have no bytes */
+    uint64_t members; /* how many values its members are: a pair of a map ('%') is two, and attributes ('|') have
+                         one more, the value that they are of; the first member of a push ('>') is its kind */
+    size_t end;       /* the index of the node behind its last member: where a reader goes on that skips it */
+} redis_node;
+
+/* Finds the values of the reply at the head of `bytes`.
+
+   REDIS_OK: the first `*reply_len` bytes are the reply, and the table begins with its `*count` values, all of them, in
+   the order of their first bytes.
+   REDIS_ROOM: the first `*reply_len` bytes are a reply, for whose values the table is too small; `*count` nodes
+   are room enough, since no value has fewer than three bytes.
+   REDIS_INCOMPLETE, REDIS_MEMORY, REDIS_FAULT and above: as `redis_find_streams` says, and both are 0. Memory is
+   taken for the groups that are open while the end of the reply is looked for, and given back. */
+uint32_t redis_find_nodes(const uint8_t *bytes, size_t len, redis_node *nodes, size_t node_room, size_t *reply_len,
+                          size_t *count);
+
 /* ---- The server's side
 
    Each of the calls below reads the options that arguments begin with. The arguments are texts at places of

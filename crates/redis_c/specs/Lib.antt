@@ -1,6 +1,7 @@
 pub mod Outcome
 pub mod Told
 pub mod Claimed
+pub mod Nodes
 pub mod Packing
 pub mod Placed
 pub mod Settings

@@ -12,6 +12,7 @@ mod claims;
 mod commands;
 mod cursor;
 mod entries;
+mod nodes;
 mod option_commands;
 mod other;
 mod outcome;
@@ -27,6 +28,7 @@ pub use commands::{
     ReadSettings, redis_xack, redis_xautoclaim, redis_xpending, redis_xreadgroup, redis_xtrim,
 };
 pub use entries::{redis_find_range, redis_find_streams};
+pub use nodes::redis_find_nodes;
 pub use option_commands::{
     redis_xadd_options, redis_xautoclaim_options, redis_xclaim_options, redis_xpending_options,
     redis_xread_streams, redis_xreadgroup_streams, redis_xtrim_options,

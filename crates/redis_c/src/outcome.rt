@@ -123,7 +123,7 @@ fn found_of(len: usize, counts: Counts, error: Span) -> Found
 }
 
 /// The number of a fault.
-fn code_of_fault(fault: Fault) -> u32
+pub fn code_of_fault(fault: Fault) -> u32
     ensures { result ≡ code_of_fault fault }
 {
     match fault {
