@@ -7,6 +7,7 @@ mod cuts;
 mod example;
 mod memory;
 mod schedules;
+mod streams;
 
 use crate::bytes_told;
 use redis_resp::Value;
