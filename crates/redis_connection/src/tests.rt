@@ -135,7 +135,10 @@ fn replies_are_received_in_place(rt: HostRuntime) -> Result<(), Fail> {
         link.give_out(11);
         let _number = link.receive(alloc)?;
         let len = link.receive_in_place(alloc)?;
-        assert_eq!(rt; link.received(len), b"-NOGROUP no such group\r\n".as_slice());
+        assert_eq!(rt;
+            link.received(len),
+            b"-NOGROUP no such group\r\n".as_slice()
+        );
         link.give_out(len);
         let len = link.receive_in_place(alloc)?;
         assert_eq!(rt; len, 5);
@@ -146,7 +149,10 @@ fn replies_are_received_in_place(rt: HostRuntime) -> Result<(), Fail> {
             _ => return Err("not closed".into()),
         }
         drop(link);
-        assert_eq!(rt; sent.as_slice(), b"*2\r\n$3\r\nGET\r\n$1\r\nk\r\n".as_slice());
+        assert_eq!(rt;
+            sent.as_slice(),
+            b"*2\r\n$3\r\nGET\r\n$1\r\nk\r\n".as_slice()
+        );
     }
     Ok(())
 }

@@ -9,9 +9,7 @@ use redis_connection::Connection;
 use std::alloc::Global;
 use std::io::{Read, Write};
 use std::rt::Clock;
-use stream_worker::{
-    Asked, InPlaceError, Progress, RequestError, RunError, Worker, WorkerError,
-};
+use stream_worker::{Asked, InPlaceError, Progress, RequestError, RunError, Worker, WorkerError};
 
 /// Drains until something fails, or until a read finds nothing new where that is asked for.
 pub fn drain<R: Read + Drop, W: Write + Drop, D: LogFile + Drop, T: Clock + Eprint + AllocGlobal>(
