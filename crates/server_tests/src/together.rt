@@ -338,7 +338,9 @@ fn hear_in_place(rt: &(impl AllocGlobal + Abort), line: &mut Line) -> bool {
         return false;
     };
     let bytes = line.answers.bytes();
-    let heard = line.worker.answered_in_place(alloc, bytes, Limits::default(), &mut line.book);
+    let heard = line
+        .worker
+        .answered_in_place(alloc, bytes, Limits::default(), &mut line.book);
     match heard {
         Ok(_) | Err(InPlaceError::Answer(WorkerError::Memory)) => {
             line.answers.give_out(len);

@@ -446,7 +446,8 @@ fn a_session_ends_where_the_handler_stops_or_an_answer_is_refused(
 }
 
 // Repeated fields, and an entry that was deleted.
-const REPEATED: &[u8] = b"*1\r\n*2\r\n$1\r\nk\r\n*2\r\n*2\r\n$3\r\n1-1\r\n*4\r\n$1\r\nb\r\n$1\r\nx\r\n\
+const REPEATED: &[u8] =
+    b"*1\r\n*2\r\n$1\r\nk\r\n*2\r\n*2\r\n$3\r\n1-1\r\n*4\r\n$1\r\nb\r\n$1\r\nx\r\n\
 $1\r\nb\r\n$1\r\ny\r\n*2\r\n$3\r\n2-1\r\n*-1\r\n";
 
 // The same in RESP3, and in texts that no server writes.
@@ -513,11 +514,7 @@ impl Handler for Written {
 fn entries_are_handed_out_where_they_stand(rt: HostRuntime) -> Result<(), Fail> {
     let alloc = rt.alloc();
     // What is answered, and what the handler sees.
-    let cases: [(&[u8], &str); 3] = [
-        (REPEATED, "1-1bxby"),
-        (IN_MAP, "1-1bxby"),
-        (SIMPLE, "1-1y"),
-    ];
+    let cases: [(&[u8], &str); 3] = [(REPEATED, "1-1bxby"), (IN_MAP, "1-1bxby"), (SIMPLE, "1-1y")];
     for (bytes, text) in &cases {
         let mut worker = Worker::new(alloc, settings(alloc)?);
         let mut handler = Written {

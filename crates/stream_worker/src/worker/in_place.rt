@@ -188,10 +188,10 @@ impl Worker {
         handler: &mut H,
     ) -> Result<Progress, WorkerError>
         ensures taken { (t : Tree) → autoclaim_reading t ≡ Some (copied_autoclaim (record {
-              next = found.entry.next_stream_id.now;
-              claimed = found.entry.claimed;
-              deleted = found.entry.deleted_ids;
-            }))
+          next = found.entry.next_stream_id.now;
+          claimed = found.entry.claimed;
+          deleted = found.entry.deleted_ids;
+        }))
             → TakenByValue H.with_verdict self.old.settings Asked.Claim t (machine_of self.old)
             (machine_of self.new) (H.history handler.old) (H.history handler.new) result }
         ensures group { self.new.group_missing ≡ self.old.group_missing }
