@@ -9,7 +9,7 @@ use Rattle.stream_worker.proofs.worker.Worker.claim_in_place.Goals as goal
 
 pub returns-in_err-claim_found-in-Some-clause-taken : goal.returns-in_err-claim_found-in-Some-clause-taken
 returns-in_err-claim_found-in-Some-clause-taken g c =
-    let r = rw c.in-Some.is at c.in_ok-found.ensures in
+    let r = rw c.in-Some.is at c.in_ok-found.ensures.is in
     let t = autoclaim_tree r.told (record {
       next = c.in-Some.found.next_stream_id.now;
       claimed = c.in-Some.found.claimed;
@@ -22,7 +22,7 @@ returns-in_err-claim_found-in-Some-clause-taken g c =
 
 pub returns-in_ok-claim_found-in-Some-clause-taken : goal.returns-in_ok-claim_found-in-Some-clause-taken
 returns-in_ok-claim_found-in-Some-clause-taken g c =
-    let r = rw c.in-Some.is at c.in_ok-found.ensures in
+    let r = rw c.in-Some.is at c.in_ok-found.ensures.is in
     let t = autoclaim_tree r.told (record {
       next = c.in-Some.found.next_stream_id.now;
       claimed = c.in-Some.found.claimed;
