@@ -6,7 +6,8 @@ pub use Rattle.redis_args.specs.Room.{HasRoom, LacksRoom, MayRefuse}
 pub use Rattle.redis_args.specs.Writer.{Wrote}
 pub use Rattle.redis_connection.specs.Ask.{Asks, HasNoAnswer}
 pub use Rattle.redis_connection.specs.Cause.{failure_of, pack_failure_of, refusal_of, write_failure_of}
-pub use Rattle.redis_connection.specs.Link.{IsEnded, IsFaulty, Link, Receives, Sends, SendsFront, Waits}
+pub use Rattle.redis_connection.specs.Link.{GivesOut, IsEnded, IsFaulty, IsInPlace, Link, Receives, Sends, SendsFront}
+pub use Rattle.redis_connection.specs.Link.{Stands, Waits}
 pub use Rattle.redis_connection.specs.Seen.{seen}
 pub use Rattle.redis_resp.specs.Boolean.{truth_reading}
 pub use Rattle.redis_resp.specs.Bytes.{bytes_reading}
@@ -69,7 +70,8 @@ unfoldable pub use Rattle.redis_wire.specs.Grammar.{IsAnyReply}
 pub use Rattle.redis_wire.specs.Grammar.{IsReply}
 pub use Rattle.redis_wire.specs.Laws.{CommandsAreValues, FewBytesHaveFewValues, RepliesAreApart}
 pub use Rattle.redis_wire.specs.Limits.{default_limits}
-pub use Rattle.redis_wire.specs.Next.{Held, IsRefused, NextIs}
+pub use Rattle.redis_wire.specs.Next.{Held, IsRefused, LenIs, NextIs}
+pub use Rattle.redis_wire.specs.Nodes.{AreEnds, AreNodes, Finds, Say}
 unfoldable pub use Rattle.redis_wire.specs.Packed.{command_bytes}
 pub use Rattle.redis_wire.specs.PackedArgs.{IsPacked, IsTooLarge, MayRefuse as MayRefusePacked}
 unfoldable pub use Rattle.redis_wire.specs.PackedArgs.{args_in}
@@ -136,15 +138,16 @@ pub use Rattle.stream_options.specs.TrimCalls.{final_trim}
 pub use Rattle.stream_options.specs.View.{idempotency_of, maxlen_of, mode_of, nack_of, policy_of, strategy_of}
 pub use Rattle.stream_options.specs.Words.{IsFree, among}
 pub use Rattle.stream_refs.specs.AutoClaim.{copied_autoclaim, IsAutoClaim, IsJustId, SentAutoClaim}
-pub use Rattle.stream_refs.specs.ClaimOutcome.{IsAutoClaimOutcome, IsJustIdOutcome}
+pub use Rattle.stream_refs.specs.ClaimOutcome.{IsAutoClaimInPlace, IsAutoClaimOutcome, IsJustIdInPlace, IsJustIdOutcome}
 pub use Rattle.stream_refs.specs.ClaimPlaced.{AreClaimPlaces, AreJustIdPlaces, autoclaim_in, justid_in}
 pub use Rattle.stream_refs.specs.Copied.{copied, copied_stream, copied_streams, pairs_or_none}
 pub use Rattle.stream_refs.specs.FieldValue.{signed_value, text_value, unsigned_value}
 pub use Rattle.stream_refs.specs.Held.{Held as HeldPlaces, none_held}
 pub use Rattle.stream_refs.specs.IdParts.{behind_text, id_in, id_number, id_text}
-pub use Rattle.stream_refs.specs.Outcome.{IsRangeOutcome, IsReadOutcome}
+pub use Rattle.stream_refs.specs.Outcome.{IsRangeInPlace, IsRangeOutcome, IsReadInPlace, IsReadOutcome}
 pub use Rattle.stream_refs.specs.Placed.{IsEntry, IsField, IsStream, entry_in, field_in, fields_if, stream_in}
 pub use Rattle.stream_refs.specs.Range.{IsRange, IsRead}
 pub use Rattle.stream_refs.specs.Sent.{Pairs, SentEntry, SentStream, is_none}
+pub use Rattle.stream_refs.specs.Shapes.{BeginsWithAutoClaim, BeginsWithJustId, BeginsWithRange, BeginsWithStreams}
 pub use Rattle.stream_sentences.specs.Split.{HasNoSplit, IsOneSplit, IsSplit, arguments}
 pub use Rattle.stream_sentences.specs.Told.{WroteAnswer, WroteAnswerBeginning}
