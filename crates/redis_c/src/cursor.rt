@@ -98,14 +98,14 @@ impl<'a> Cursor<'a> {
     }
 
     /// How a stream is trimmed.
-    pub fn trim(&mut self) -> TrimSettings {
+    pub(crate) fn trim(&mut self) -> TrimSettings {
         let mut settings = self.strategy();
         settings.references = self.references();
         settings
     }
 
     /// How an entry is added.
-    pub fn add(&mut self) -> AddSettings {
+    pub(crate) fn add(&mut self) -> AddSettings {
         let nomkstream = self.takes(b"NOMKSTREAM");
         let references = self.references();
         let mut recognizes = 0;
@@ -131,7 +131,7 @@ impl<'a> Cursor<'a> {
     }
 
     /// How entries are claimed by their ids.
-    pub fn claim(&mut self) -> ClaimSettings {
+    pub(crate) fn claim(&mut self) -> ClaimSettings {
         let idles = self.takes(b"IDLE");
         let idle = self.number_if(idles);
         let times = self.takes(b"TIME");
@@ -157,7 +157,7 @@ impl<'a> Cursor<'a> {
     }
 
     /// How idle entries are claimed, whichever they are.
-    pub fn autoclaim(&mut self) -> AutoClaimSettings {
+    pub(crate) fn autoclaim(&mut self) -> AutoClaimSettings {
         let counts = self.takes(b"COUNT");
         let count = self.number_if(counts);
         let justid = self.takes(b"JUSTID");
@@ -169,7 +169,7 @@ impl<'a> Cursor<'a> {
     }
 
     /// The group and the consumer, where they are named.
-    pub fn group(&mut self) -> GroupPlace {
+    pub(crate) fn group(&mut self) -> GroupPlace {
         let names = self.takes(b"GROUP");
         let group = self.place_if(names);
         let consumer = self.place_if(names);
@@ -181,7 +181,7 @@ impl<'a> Cursor<'a> {
     }
 
     /// What a read asks for behind the group.
-    pub fn read(&mut self) -> ReadSettings {
+    pub(crate) fn read(&mut self) -> ReadSettings {
         let blocks = self.takes(b"BLOCK");
         let block = self.number_if(blocks);
         let counts = self.takes(b"COUNT");

@@ -21,7 +21,7 @@ fn copied<T: FromRedisValue>(alloc: Global, bytes: &[u8]) -> Result<Option<(T, u
 }
 
 /// Of a range.
-pub fn same_range(alloc: Global, found: &RangeRef<'_>, bytes: &[u8]) -> Result<bool> {
+pub(crate) fn same_range(alloc: Global, found: &RangeRef<'_>, bytes: &[u8]) -> Result<bool> {
     let Some((record, len)) = copied::<StreamRangeReply>(alloc, bytes)? else {
         return Ok(false);
     };
@@ -35,7 +35,7 @@ fn same_stream(one: &StreamKey, other: &StreamKey) -> bool {
 }
 
 /// Of a read.
-pub fn same_streams(alloc: Global, found: &ReadRef<'_>, bytes: &[u8]) -> Result<bool> {
+pub(crate) fn same_streams(alloc: Global, found: &ReadRef<'_>, bytes: &[u8]) -> Result<bool> {
     let Some((record, len)) = copied::<StreamReadReply>(alloc, bytes)? else {
         return Ok(false);
     };
@@ -52,7 +52,7 @@ pub fn same_streams(alloc: Global, found: &ReadRef<'_>, bytes: &[u8]) -> Result<
 }
 
 /// Of an automatic claim.
-pub fn same_claim(alloc: Global, found: &AutoClaimRef<'_>, bytes: &[u8]) -> Result<bool> {
+pub(crate) fn same_claim(alloc: Global, found: &AutoClaimRef<'_>, bytes: &[u8]) -> Result<bool> {
     let Some((record, len)) = copied::<StreamAutoClaimReply>(alloc, bytes)? else {
         return Ok(false);
     };
@@ -66,7 +66,7 @@ pub fn same_claim(alloc: Global, found: &AutoClaimRef<'_>, bytes: &[u8]) -> Resu
 }
 
 /// Of an automatic claim of ids alone.
-pub fn same_justid(alloc: Global, found: &AutoClaimJustIdRef<'_>, bytes: &[u8]) -> Result<bool> {
+pub(crate) fn same_justid(alloc: Global, found: &AutoClaimJustIdRef<'_>, bytes: &[u8]) -> Result<bool> {
     let Some((record, len)) = copied::<StreamAutoClaimJustIdReply>(alloc, bytes)? else {
         return Ok(false);
     };

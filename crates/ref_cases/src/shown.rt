@@ -47,14 +47,14 @@ fn push_ids(alloc: Global, text: &mut String, ids: IdsRef<'_>) -> Result<()> {
 }
 
 /// A range in place.
-pub fn range_text(alloc: Global, found: &RangeRef<'_>) -> Result<String> {
+pub(crate) fn range_text(alloc: Global, found: &RangeRef<'_>) -> Result<String> {
     let mut text = format!(in alloc; "{} in place", found.len)?;
     push_entries(alloc, &mut text, found.entries.again())?;
     Ok(text)
 }
 
 /// Streams in place, each with its name and a colon in front.
-pub fn streams_text(alloc: Global, found: &ReadRef<'_>) -> Result<String> {
+pub(crate) fn streams_text(alloc: Global, found: &ReadRef<'_>) -> Result<String> {
     let mut text = format!(in alloc; "{} in place", found.len)?;
     for stream in found.streams.again() {
         text.push(' ')?;
@@ -66,7 +66,7 @@ pub fn streams_text(alloc: Global, found: &ReadRef<'_>) -> Result<String> {
 }
 
 /// An automatic claim in place: the next id, the entries, and behind `deleted` the deleted ids.
-pub fn claim_text(alloc: Global, found: &AutoClaimRef<'_>) -> Result<String> {
+pub(crate) fn claim_text(alloc: Global, found: &AutoClaimRef<'_>) -> Result<String> {
     let mut text = format!(in alloc; "{} in place ", found.len)?;
     text.push_str(&hex::encode(alloc, found.next_stream_id)?)?;
     push_entries(alloc, &mut text, found.claimed.again())?;
@@ -76,7 +76,7 @@ pub fn claim_text(alloc: Global, found: &AutoClaimRef<'_>) -> Result<String> {
 }
 
 /// An automatic claim of ids in place.
-pub fn justid_text(alloc: Global, found: &AutoClaimJustIdRef<'_>) -> Result<String> {
+pub(crate) fn justid_text(alloc: Global, found: &AutoClaimJustIdRef<'_>) -> Result<String> {
     let mut text = format!(in alloc; "{} in place ", found.len)?;
     text.push_str(&hex::encode(alloc, found.next_stream_id)?)?;
     push_ids(alloc, &mut text, found.claimed.again())?;
@@ -86,7 +86,7 @@ pub fn justid_text(alloc: Global, found: &AutoClaimJustIdRef<'_>) -> Result<Stri
 }
 
 /// A reply of another shape: whether it has a record, was refused, or has an error in it.
-pub fn copied_text<T: Drop>(
+pub(crate) fn copied_text<T: Drop>(
     alloc: Global,
     len: usize,
     reply: Result<T, ReplyError>,
