@@ -26,11 +26,7 @@ pub fn autoclaim_of(settings: &AutoClaimSettings) -> StreamAutoClaimOptions
 }
 
 /// The id that is noted, if one is.
-fn lastid_in(
-    alloc: Global,
-    bytes: &[u8],
-    settings: &ClaimSettings,
-) -> Result<Option<String>, Unset>
+fn lastid_in(alloc: Global, bytes: &[u8], settings: &ClaimSettings) -> Result<Option<String>, Unset>
     ensures lastid { Makes (option_map string_bytes) result (lastid_in bytes.now settings.now) }
     ensures fits { IfOk result (λ lastid. IfSome (option_map string_bytes lastid) IsUtf8) }
 {

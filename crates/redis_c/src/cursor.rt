@@ -1,12 +1,15 @@
 //! Arguments one after the other, as settings. What is made of them here is compared with what they are by
 //! who asks.
+ghost use Rattle.std.specs.Prelude.{◌≤◌, length};
+
 use crate::commands::ReadSettings;
 use crate::placed::text_at;
 use crate::server::GroupPlace;
 use crate::settings::{AddSettings, AutoClaimSettings, ClaimSettings, TrimSettings};
 use redis_wire::place::Span;
 
-/// The arguments that are left.
+/// The arguments that are left. Each of its methods takes those that it says from the front, and no more
+/// are left behind it.
 #[derive(Drop)]
 pub struct Cursor<'a> {
     pub bytes: &'a [u8],
@@ -15,7 +18,9 @@ pub struct Cursor<'a> {
 
 impl<'a> Cursor<'a> {
     /// Takes the word, where it is the next argument.
-    fn takes(&mut self, word: &[u8]) -> bool {
+    fn takes(&mut self, word: &[u8]) -> bool
+        ensures { length self.new.places.now ≤ length self.old.places.now }
+    {
         let [first, rest @ ..] = self.places else {
             return false;
         };
@@ -29,7 +34,9 @@ impl<'a> Cursor<'a> {
     }
 
     /// Takes the next argument, whatever it is.
-    fn place(&mut self) -> Span {
+    fn place(&mut self) -> Span
+        ensures { length self.new.places.now ≤ length self.old.places.now }
+    {
         let [first, rest @ ..] = self.places else {
             return nowhere();
         };
@@ -38,7 +45,9 @@ impl<'a> Cursor<'a> {
     }
 
     /// Takes the next argument as a number.
-    fn number(&mut self) -> usize {
+    fn number(&mut self) -> usize
+        ensures { length self.new.places.now ≤ length self.old.places.now }
+    {
         let place = self.place();
         let Some(text) = text_at(self.bytes, place) else {
             return 0;
@@ -53,7 +62,9 @@ impl<'a> Cursor<'a> {
     }
 
     /// What becomes of references, as a number.
-    fn references(&mut self) -> u32 {
+    fn references(&mut self) -> u32
+        ensures { length self.new.places.now ≤ length self.old.places.now }
+    {
         if self.takes(b"KEEPREF") {
             1
         } else if self.takes(b"DELREF") {
@@ -66,7 +77,9 @@ impl<'a> Cursor<'a> {
     }
 
     /// How a stream is trimmed, but for the references.
-    fn strategy(&mut self) -> TrimSettings {
+    fn strategy(&mut self) -> TrimSettings
+        ensures { length self.new.places.now ≤ length self.old.places.now }
+    {
         let mut settings = TrimSettings {
             bound: 0,
             references: 0,
@@ -93,19 +106,25 @@ impl<'a> Cursor<'a> {
     }
 
     /// Takes `~` or `=`: whether it is `~`.
-    fn about(&mut self) -> bool {
+    fn about(&mut self) -> bool
+        ensures { length self.new.places.now ≤ length self.old.places.now }
+    {
         self.takes(b"~") || !self.takes(b"=")
     }
 
     /// How a stream is trimmed.
-    pub(crate) fn trim(&mut self) -> TrimSettings {
+    pub fn trim(&mut self) -> TrimSettings
+        ensures { length self.new.places.now ≤ length self.old.places.now }
+    {
         let mut settings = self.strategy();
         settings.references = self.references();
         settings
     }
 
     /// How an entry is added.
-    pub(crate) fn add(&mut self) -> AddSettings {
+    pub fn add(&mut self) -> AddSettings
+        ensures { length self.new.places.now ≤ length self.old.places.now }
+    {
         let nomkstream = self.takes(b"NOMKSTREAM");
         let references = self.references();
         let mut recognizes = 0;
@@ -131,7 +150,9 @@ impl<'a> Cursor<'a> {
     }
 
     /// How entries are claimed by their ids.
-    pub(crate) fn claim(&mut self) -> ClaimSettings {
+    pub fn claim(&mut self) -> ClaimSettings
+        ensures { length self.new.places.now ≤ length self.old.places.now }
+    {
         let idles = self.takes(b"IDLE");
         let idle = self.number_if(idles);
         let times = self.takes(b"TIME");
@@ -157,7 +178,9 @@ impl<'a> Cursor<'a> {
     }
 
     /// How idle entries are claimed, whichever they are.
-    pub(crate) fn autoclaim(&mut self) -> AutoClaimSettings {
+    pub fn autoclaim(&mut self) -> AutoClaimSettings
+        ensures { length self.new.places.now ≤ length self.old.places.now }
+    {
         let counts = self.takes(b"COUNT");
         let count = self.number_if(counts);
         let justid = self.takes(b"JUSTID");
@@ -169,7 +192,9 @@ impl<'a> Cursor<'a> {
     }
 
     /// The group and the consumer, where they are named.
-    pub(crate) fn group(&mut self) -> GroupPlace {
+    pub fn group(&mut self) -> GroupPlace
+        ensures { length self.new.places.now ≤ length self.old.places.now }
+    {
         let names = self.takes(b"GROUP");
         let group = self.place_if(names);
         let consumer = self.place_if(names);
@@ -181,7 +206,9 @@ impl<'a> Cursor<'a> {
     }
 
     /// What a read asks for behind the group.
-    pub(crate) fn read(&mut self) -> ReadSettings {
+    pub fn read(&mut self) -> ReadSettings
+        ensures { length self.new.places.now ≤ length self.old.places.now }
+    {
         let blocks = self.takes(b"BLOCK");
         let block = self.number_if(blocks);
         let counts = self.takes(b"COUNT");
@@ -201,12 +228,16 @@ impl<'a> Cursor<'a> {
     }
 
     /// Takes the next argument as a number, where one is wanted, and else 0.
-    fn number_if(&mut self, wanted: bool) -> usize {
+    fn number_if(&mut self, wanted: bool) -> usize
+        ensures { length self.new.places.now ≤ length self.old.places.now }
+    {
         if wanted { self.number() } else { 0 }
     }
 
     /// Takes the next argument, where it is wanted.
-    fn place_if(&mut self, wanted: bool) -> Span {
+    fn place_if(&mut self, wanted: bool) -> Span
+        ensures { length self.new.places.now ≤ length self.old.places.now }
+    {
         if wanted { self.place() } else { nowhere() }
     }
 }

@@ -38,6 +38,4 @@ pub use server::{
     GroupPlace, redis_read_add, redis_read_autoclaim, redis_read_claim, redis_read_read,
     redis_read_trim,
 };
-pub use settings::{
-    AddSettings, AutoClaimSettings, ClaimSettings, PendingSettings, TrimSettings,
-};
+pub use settings::{AddSettings, AutoClaimSettings, ClaimSettings, PendingSettings, TrimSettings};

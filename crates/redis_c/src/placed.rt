@@ -26,11 +26,7 @@ pub fn text_at<'a>(bytes: &'a [u8], place: Span) -> Option<Argument<'a>>
 }
 
 /// The texts at places.
-pub fn texts_at(
-    alloc: Global,
-    bytes: &[u8],
-    places: &[Span],
-) -> Result<Vec<Vec<u8>>, Unplaced>
+pub fn texts_at(alloc: Global, bytes: &[u8], places: &[Span]) -> Result<Vec<Vec<u8>>, Unplaced>
     ensures ok { IfOk result (λ texts. texts_at bytes.now places.now
         ≡ Some (map (λ text. text.items) texts.items)) }
     ensures err { IfErr result (λ e. e ≡ Unplaced.Outside → texts_at bytes.now places.now ≡ None) }

@@ -24,9 +24,7 @@ use redis_args::ToRedisArgs;
 use redis_wire::place::Span;
 use std::alloc::Global;
 use stream_options::StreamReadOptions;
-use stream_sentences::{
-    SentenceError, read_add, read_autoclaim, read_claim, read_read, read_trim,
-};
+use stream_sentences::{SentenceError, read_add, read_autoclaim, read_claim, read_read, read_trim};
 
 /// Where the names of a group and its consumer stand.
 #[repr(C)]
@@ -132,12 +130,7 @@ fn write_same<A: ToRedisArgs, B: ToRedisArgs>(alloc: Global, a: &A, b: &B) -> bo
 
 /// The options of XADD in front of the arguments at these places.
 #[tactic(auto, using(crate::proofs::ServerLemmas::same_add))]
-fn add_reading(
-    alloc: Global,
-    bytes: &[u8],
-    places: &[Span],
-    settings: &mut AddSettings,
-) -> Reading
+fn add_reading(alloc: Global, bytes: &[u8], places: &[Span], settings: &mut AddSettings) -> Reading
     ensures { IsReading AddFits add_sentence add_words Equal (texts_at bytes.now places.now)
         (add_in bytes.now settings.new) result }
 {

@@ -15,19 +15,19 @@
 //! output failed.
 #![tactic(auto)]
 
-mod same;
-mod shown;
-
-use crate::same::{same_claim, same_justid, same_range, same_streams};
-use crate::shown::{claim_text, copied_text, justid_text, range_text, streams_text};
 use anyhow::{Result, bail};
-use redis_wire::{Limits, WireError};
+use redis_resp::{FromRedisValue, ParsingError};
+use redis_wire::{Decoded, Limits, ReplyError, WireError, decode, from_reply};
 use std::alloc::Global;
 use std::io;
 use std::io::{BufRead, BufReader, BufWriter, Write};
 use std::process::ExitCode;
+use stream_entries::{
+    StreamAutoClaimJustIdReply, StreamAutoClaimReply, StreamKey, StreamRangeReply, StreamReadReply,
+};
 use stream_refs::{
-    AutoClaimOutcome, EntryTape, JustIdOutcome, RangeOutcome, ReadOutcome, read_any_autoclaim,
+    AutoClaimJustIdRef, AutoClaimOutcome, AutoClaimRef, EntriesRef, EntryRef, EntryTape, IdsRef,
+    JustIdOutcome, RangeOutcome, RangeRef, ReadOutcome, ReadRef, read_any_autoclaim,
     read_any_justid, read_any_range, read_any_streams,
 };
 
@@ -131,4 +131,170 @@ fn answer_justid(alloc: Global, tape: &mut EntryTape, bytes: &[u8]) -> Result<(S
         Ok(JustIdOutcome::Incomplete) => incomplete_text(alloc),
         Err(error) => fault_text(alloc, error),
     }
+}
+
+// Replies as text, one line each.
+
+/// An entry: its id, `!` where it was deleted and else its fields in brackets, and its delivery.
+fn push_entry(alloc: Global, text: &mut String, entry: &EntryRef<'_>) -> Result<()> {
+    text.push_str(&hex::encode(alloc, entry.id())?)?;
+    if entry.is_deleted() {
+        text.push('!')?;
+    } else {
+        text.push('(')?;
+        for (name, value) in entry.fields() {
+            text.push_str(&hex::encode(alloc, name)?)?;
+            text.push('=')?;
+            text.push_str(&hex::encode(alloc, value)?)?;
+            text.push(',')?;
+        }
+        text.push(')')?;
+    }
+    if let Some(delivery) = entry.delivery() {
+        text.push_str(&format!(in alloc; "@{}*{}", delivery.elapsed, delivery.count)?)?;
+    }
+    Ok(())
+}
+
+/// Entries, each behind a blank.
+fn push_entries(alloc: Global, text: &mut String, entries: EntriesRef<'_>) -> Result<()> {
+    for entry in entries {
+        text.push(' ')?;
+        push_entry(alloc, text, &entry)?;
+    }
+    Ok(())
+}
+
+/// Ids, each behind a blank.
+fn push_ids(alloc: Global, text: &mut String, ids: IdsRef<'_>) -> Result<()> {
+    for id in ids {
+        text.push(' ')?;
+        text.push_str(&hex::encode(alloc, id)?)?;
+    }
+    Ok(())
+}
+
+/// A range in place.
+fn range_text(alloc: Global, found: &RangeRef<'_>) -> Result<String> {
+    let mut text = format!(in alloc; "{} in place", found.len)?;
+    push_entries(alloc, &mut text, found.entries.again())?;
+    Ok(text)
+}
+
+/// Streams in place, each with its name and a colon in front.
+fn streams_text(alloc: Global, found: &ReadRef<'_>) -> Result<String> {
+    let mut text = format!(in alloc; "{} in place", found.len)?;
+    for stream in found.streams.again() {
+        text.push(' ')?;
+        text.push_str(&hex::encode(alloc, stream.name())?)?;
+        text.push(':')?;
+        push_entries(alloc, &mut text, stream.entries())?;
+    }
+    Ok(text)
+}
+
+/// An automatic claim in place: the next id, the entries, and behind `deleted` the deleted ids.
+fn claim_text(alloc: Global, found: &AutoClaimRef<'_>) -> Result<String> {
+    let mut text = format!(in alloc; "{} in place ", found.len)?;
+    text.push_str(&hex::encode(alloc, found.next_stream_id)?)?;
+    push_entries(alloc, &mut text, found.claimed.again())?;
+    text.push_str(" deleted")?;
+    push_ids(alloc, &mut text, found.deleted_ids.again())?;
+    Ok(text)
+}
+
+/// An automatic claim of ids in place.
+fn justid_text(alloc: Global, found: &AutoClaimJustIdRef<'_>) -> Result<String> {
+    let mut text = format!(in alloc; "{} in place ", found.len)?;
+    text.push_str(&hex::encode(alloc, found.next_stream_id)?)?;
+    push_ids(alloc, &mut text, found.claimed.again())?;
+    text.push_str(" deleted")?;
+    push_ids(alloc, &mut text, found.deleted_ids.again())?;
+    Ok(text)
+}
+
+/// A reply of another shape: whether it has a record, was refused, or has an error in it.
+fn copied_text<T: Drop>(alloc: Global, len: usize, reply: Result<T, ReplyError>) -> Result<String> {
+    let word = match reply {
+        Ok(_) => "copied",
+        Err(ReplyError::Parsing(ParsingError::Memory)) => {
+            return Err(ParsingError::Memory.into());
+        }
+        Err(ReplyError::Parsing(_)) => "refused",
+        Err(_) => "error",
+    };
+    Ok(format!(in alloc; "{len} {word}")?)
+}
+
+// Whether the records of what stands in place are those of the copying path.
+
+/// The record of the copying path, where there is one, and how many bytes the reply has.
+fn copied<T: FromRedisValue>(alloc: Global, bytes: &[u8]) -> Result<Option<(T, usize)>> {
+    match decode(alloc, bytes, Limits::default())? {
+        Decoded::Complete { reply, len } => match from_reply::<T>(alloc, reply) {
+            Ok(record) => Ok(Some((record, len))),
+            Err(ReplyError::Parsing(ParsingError::Memory)) => Err(ParsingError::Memory.into()),
+            Err(_) => Ok(None),
+        },
+        Decoded::Incomplete => Ok(None),
+    }
+}
+
+/// Whether the copying path has the same record of a range.
+fn same_range(alloc: Global, found: &RangeRef<'_>, bytes: &[u8]) -> Result<bool> {
+    let Some((record, len)) = copied::<StreamRangeReply>(alloc, bytes)? else {
+        return Ok(false);
+    };
+    let owned = found.to_owned(alloc)?;
+    Ok(len == found.len && owned.ids == record.ids)
+}
+
+/// Whether two streams are the same.
+fn same_stream(one: &StreamKey, other: &StreamKey) -> bool {
+    one.key == other.key && one.ids == other.ids
+}
+
+/// Whether the copying path has the same record of a read.
+fn same_streams(alloc: Global, found: &ReadRef<'_>, bytes: &[u8]) -> Result<bool> {
+    let Some((record, len)) = copied::<StreamReadReply>(alloc, bytes)? else {
+        return Ok(false);
+    };
+    let owned = found.to_owned(alloc)?;
+    if len != found.len || owned.keys.len() != record.keys.len() {
+        return Ok(false);
+    }
+    for (one, other) in owned.keys.iter().zip(&record.keys) {
+        if !same_stream(one, other) {
+            return Ok(false);
+        }
+    }
+    Ok(true)
+}
+
+/// Whether the copying path has the same record of an automatic claim.
+fn same_claim(alloc: Global, found: &AutoClaimRef<'_>, bytes: &[u8]) -> Result<bool> {
+    let Some((record, len)) = copied::<StreamAutoClaimReply>(alloc, bytes)? else {
+        return Ok(false);
+    };
+    let owned = found.to_owned(alloc)?;
+    Ok(
+        len == found.len
+            && owned.next_stream_id == record.next_stream_id
+            && owned.claimed == record.claimed
+            && owned.deleted_ids == record.deleted_ids,
+    )
+}
+
+/// Whether the copying path has the same record of an automatic claim of ids.
+fn same_justid(alloc: Global, found: &AutoClaimJustIdRef<'_>, bytes: &[u8]) -> Result<bool> {
+    let Some((record, len)) = copied::<StreamAutoClaimJustIdReply>(alloc, bytes)? else {
+        return Ok(false);
+    };
+    let owned = found.to_owned(alloc)?;
+    Ok(
+        len == found.len
+            && owned.next_stream_id == record.next_stream_id
+            && owned.claimed == record.claimed
+            && owned.deleted_ids == record.deleted_ids,
+    )
 }
