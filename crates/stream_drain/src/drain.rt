@@ -39,7 +39,9 @@ pub fn drain<R: Read + Drop, W: Write + Drop, D: LogFile + Drop, T: Clock + Epri
         asked = worker.asked();
         let limits = connection.limits();
         let taken = worker.answered_in_place(alloc, connection.received(len), limits, lines);
-        connection.give_out(len);
+        if let Ok(_) | Err(InPlaceError::Answer(_)) = &taken {
+            connection.give_out(len);
+        }
         match taken {
             Ok(Progress::GoesOn) => {}
             Ok(Progress::Stopped) => return Err(stopped(&lines.fault)),
