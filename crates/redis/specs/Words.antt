@@ -71,7 +71,7 @@ pub use Rattle.redis_wire.specs.Grammar.{IsReply}
 pub use Rattle.redis_wire.specs.Laws.{CommandsAreValues, FewBytesHaveFewValues, RepliesAreApart}
 pub use Rattle.redis_wire.specs.Limits.{default_limits}
 pub use Rattle.redis_wire.specs.Next.{Held, IsRefused, LenIs, NextIs}
-pub use Rattle.redis_wire.specs.Nodes.{AreEnds, AreNodes, Finds, Say}
+pub use Rattle.redis_wire.specs.Nodes.{AreEnds as AreNodeEnds, AreNodes, Finds, Say}
 unfoldable pub use Rattle.redis_wire.specs.Packed.{command_bytes}
 pub use Rattle.redis_wire.specs.PackedArgs.{IsPacked, IsTooLarge, MayRefuse as MayRefusePacked}
 unfoldable pub use Rattle.redis_wire.specs.PackedArgs.{args_in}
