@@ -127,8 +127,7 @@ module _ (limits : Limits) (bytes text left : List ℕ) (at n start : ℕ)
       let len : n ≡ b.len = cc (same.0) in
       let e : Ok (text, left) ≡ Ok (other, rest) =
       sym blob ∙ ap (λ (k : ℕ). blob_at k (drop start bytes)) len ∙ ap (blob_at b.len) same.1 ∙ b.reads in
-      let p : (text, left) ≡ (other, rest) = cc in
-      (
+      let p : (text, left) ≡ (other, rest) = cc in (
         sym text_is ∙ ap (λ (x : List ℕ × List ℕ). x.0) p,
         sym (end_is bytes left left_end) ∙ ap (λ (x : List ℕ × List ℕ). x.1) p,
       )

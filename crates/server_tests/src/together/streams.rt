@@ -80,7 +80,11 @@ fn each_entry_is_acknowledged_in_its_own_stream(rt: HostRuntime) -> Result<(), F
     let mut session = Session {
         protocol: Protocol::Resp3,
     };
-    for line in ["XADD orders 1-1 item tea", "XADD orders 2-1 item cup", "XADD bills 1-1 sum 3"] {
+    for line in [
+        "XADD orders 1-1 item tea",
+        "XADD orders 2-1 item cup",
+        "XADD bills 1-1 sum 3",
+    ] {
         let _id = told(alloc, &mut server, &mut session, line)?;
     }
     let mut workers = [worker_of(alloc, "orders")?, worker_of(alloc, "bills")?];
