@@ -2,8 +2,8 @@
 ghost use Rattle.std.specs.Prelude.{◌≡◌};
 
 use crate::json_lines::json_line;
-use crate::texts::push_line;
-use line_log::{LineLog, LogError, LogFile};
+use crate::texts::text_in;
+use line_log::{LineLog, LogError, LogFile, push_escaped};
 use std::alloc::{AllocError, Global};
 use stream_worker::{Entry, Handler, NotCommitted, Verdict};
 
@@ -114,4 +114,34 @@ impl<D: LogFile + Drop> Handler for Lines<D> {
             }
         }
     }
+}
+
+// Appends the line of an entry: its id and its fields, separated by tabs. False where a field is no
+// text.
+fn push_line(text: &mut Vec<u8>, entry: &Entry<'_>) -> Result<bool, AllocError> {
+    push_escaped(text, entry.id().as_bytes())?;
+    match entry {
+        Entry::InPlace(entry) => {
+            for (name, value) in entry.fields() {
+                push_field(text, name, value)?;
+            }
+        }
+        Entry::Copied(entry) => {
+            for (name, value) in &entry.map {
+                let Some(value) = text_in(value) else {
+                    return Ok(false);
+                };
+                push_field(text, name.as_bytes(), value)?;
+            }
+        }
+    }
+    Ok(true)
+}
+
+// A name and its value, each behind a tab.
+fn push_field(text: &mut Vec<u8>, name: &[u8], value: &[u8]) -> Result<(), AllocError> {
+    text.push(b'\t')?;
+    push_escaped(text, name)?;
+    text.push(b'\t')?;
+    push_escaped(text, value)
 }
