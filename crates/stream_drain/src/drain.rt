@@ -1,15 +1,18 @@
 //! The loop of the program: it asks, and takes the answers.
 ghost use Rattle.std.specs.Prelude.{IfOk, IsTrue};
 
+use crate::backlog::backlog_of;
 use crate::dead::Dead;
 use crate::lines::{LineFault, Lines};
 use crate::report::Report;
 use anyhow::{Error, Result, anyhow, bail};
 use line_log::LogFile;
 use redis_connection::Connection;
+use redis_streams::StreamInfoGroupsReply;
 use std::alloc::Global;
 use std::io::{Read, Write};
 use std::rt::Clock;
+use stream_commands::xinfo_groups;
 use stream_worker::{Asked, InPlaceError, Progress, RequestError, RunError, Worker, WorkerError};
 
 /// Drains until something fails, or until a read finds nothing new where that is asked for.
@@ -51,7 +54,7 @@ pub fn drain<R: Read + Drop, W: Write + Drop, D: LogFile + Drop, T: Clock + Epri
         let nothing_new = asked == Asked::News && lines.seen == seen;
         if asked == Asked::Acknowledgement {
             if report.count(rt, lines.committed)? {
-                eprintln!(rt; "{report}")?;
+                show(rt, &mut connection, report)?;
             }
         }
         if until_empty && nothing_new {
@@ -59,6 +62,27 @@ pub fn drain<R: Read + Drop, W: Write + Drop, D: LogFile + Drop, T: Clock + Epri
         }
     }
     bail!("the last turn came")
+}
+
+// Shows the counts, and behind them the backlog of the group, where it is watched.
+fn show<R: Read + Drop, W: Write + Drop, T: Eprint + AllocGlobal>(
+    rt: &T,
+    connection: &mut Connection<R, W>,
+    report: &Report,
+) -> Result<()> {
+    if let Some(watched) = &report.watched {
+        let asked = xinfo_groups(watched.key.as_str());
+        let reply: StreamInfoGroupsReply = connection.ask_as(rt.alloc(), &asked)?;
+        for group in &reply.groups {
+            if group.name == watched.group {
+                let backlog = backlog_of(group);
+                eprintln!(rt; "{report}{backlog}")?;
+                return Ok(());
+            }
+        }
+    }
+    eprintln!(rt; "{report}")?;
+    Ok(())
 }
 
 // Asks the next command, and waits until the reply to it is held whole: how many bytes it has.

@@ -16,6 +16,7 @@
 //! `--until-empty` is there and nothing new came, and else with 1 and the reason.
 #![tactic(auto)]
 
+mod backlog;
 mod dead;
 mod drain;
 mod json_lines;
@@ -24,6 +25,7 @@ mod options;
 mod report;
 mod texts;
 
+use crate::backlog::Watched;
 use crate::dead::Dead;
 use crate::drain::drain;
 use crate::lines::Lines;
@@ -47,6 +49,7 @@ fn main(rt: HostRuntime) -> Result<()> {
         path,
         until_empty,
         json,
+        lag,
         dead,
     } = options_of(alloc, &words)?;
     let file = SystemFile::open(&rt, &path).context(format_args!("cannot open {path}"))?;
@@ -58,6 +61,12 @@ fn main(rt: HostRuntime) -> Result<()> {
     };
     let mut lines = Lines::new(alloc, log, json);
     let mut report = Report::new(&rt)?;
+    if lag {
+        report.watched = Some(Watched {
+            key: settings.key.clone()?,
+            group: settings.group.clone()?,
+        });
+    }
     let ended = drain(
         &rt,
         connection,

@@ -10,7 +10,7 @@ use std::alloc::Global;
 use stream_worker::{MakeGroup, Settings};
 
 const USAGE: &str = "wanted: KEY GROUP CONSUMER FILE [--from 0|$] [--count N] [--block MS] \
-                     [--idle MS] [--every N] [--dead N STREAM] [--json] [--until-empty]";
+                     [--idle MS] [--every N] [--dead N STREAM] [--json] [--lag] [--until-empty]";
 
 /// What the program is to do.
 #[derive(Drop)]
@@ -21,6 +21,8 @@ pub struct Options {
     pub until_empty: bool,
     /// Each line is JSON.
     pub json: bool,
+    /// The backlog of the group is shown with the counts.
+    pub lag: bool,
     /// Entries that were delivered too often go to a stream of dead letters.
     pub dead: Option<GiveUp>,
 }
@@ -57,6 +59,7 @@ pub fn options_of(alloc: Global, words: &[String]) -> Result<Options>
         path: String::from_str(alloc, path)?,
         until_empty: false,
         json: false,
+        lag: false,
         dead: None,
     };
     let mut valued = None;
@@ -69,6 +72,10 @@ pub fn options_of(alloc: Global, words: &[String]) -> Result<Options>
             }
             None if word.as_str() == "--json" => {
                 options.json = true;
+                None
+            }
+            None if word.as_str() == "--lag" => {
+                options.lag = true;
                 None
             }
             None => Some(valued_of(word)?),

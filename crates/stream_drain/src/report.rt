@@ -2,6 +2,7 @@
 ghost use Rattle.std.specs.Prelude.{◌≡◌, IfOk, None, OnOk, Some};
 ghost use Rattle.stream_drain.specs.Report.{report_text};
 
+use crate::backlog::Watched;
 use anyhow::Result;
 use std::fmt;
 use std::rt::Clock;
@@ -15,6 +16,8 @@ pub struct Report {
     batches: u64,
     /// So many dead letters were sent, where any may be.
     pub letters: Option<u64>,
+    /// The group whose backlog is shown too, where that was asked for.
+    pub watched: Option<Watched>,
 }
 
 impl Report {
@@ -27,6 +30,7 @@ impl Report {
             entries: 0,
             batches: 0,
             letters: None,
+            watched: None,
         })
     }
 
