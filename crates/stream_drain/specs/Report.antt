@@ -6,9 +6,3 @@ abbrev pub report_text : ℕ → ℕ → Option ℕ → List ℕ
 report_text entries batches None = decimal entries ++ codes " entries in " ++ decimal batches ++ codes " batches"
 report_text entries batches (Some letters) = decimal entries ++ codes " entries in " ++ decimal batches
     ++ codes " batches, " ++ decimal letters ++ codes " dead letters"
-
--- so many entries to come, where that is known, and so many pending
-abbrev pub backlog_text : Option ℕ → ℕ → List ℕ
-backlog_text None pending = codes ", ? to come, " ++ decimal pending ++ codes " pending"
-backlog_text (Some lag) pending = codes ", " ++ decimal lag ++ codes " to come, " ++ decimal pending
-    ++ codes " pending"

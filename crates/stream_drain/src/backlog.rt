@@ -1,6 +1,5 @@
 //! What a group has still to do, as the server tells it.
-ghost use Rattle.std.specs.Prelude.{◌≡◌, Some};
-ghost use Rattle.stream_drain.specs.Report.{backlog_text};
+ghost use Rattle.std.specs.Prelude.{◌≡◌};
 
 use redis_streams::StreamInfoGroup;
 use std::fmt;
@@ -35,8 +34,6 @@ pub fn backlog_of(group: &StreamInfoGroup) -> Backlog
 }
 
 impl fmt::Display for Backlog {
-    ghost output = { λ b. Some (backlog_text b.lag b.pending) };
-
     fn fmt<W: fmt::Write>(&self, f: &mut fmt::Formatter<W>) -> fmt::Result {
         let pending = self.pending;
         match self.lag {
