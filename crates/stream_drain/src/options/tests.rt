@@ -16,14 +16,16 @@ fn words(alloc: Global, line: &str) -> Result<Vec<String>, Fail> {
 fn dead_letters_have_two_words(rt: HostRuntime) -> Result<(), Fail> {
     let alloc = rt.alloc();
     let options = options_of(alloc, &words(alloc, "k g c f --dead 3 dead --json")?)?;
-    let Some(to) = options.dead else {
+    let Some(to) = &options.dead else {
         return Err("no dead letters".into());
     };
     assert_eq!(rt; to.deliveries, 3);
     assert_eq!(rt; to.stream.as_str(), "dead");
     assert!(rt; options.json);
-    let options = options_of(alloc, &words(alloc, "k g c f --until-empty")?)?;
+    assert!(rt; !options.lag);
+    let options = options_of(alloc, &words(alloc, "k g c f --until-empty --lag")?)?;
     assert!(rt; options.dead.is_none());
+    assert!(rt; options.lag);
     Ok(())
 }
 
