@@ -10,8 +10,6 @@ mod connection;
 mod error;
 mod incoming;
 mod outgoing;
-#[cfg(test)]
-mod tests;
 
 pub use connection::Connection;
 pub use error::{AskError, ConnectionError};

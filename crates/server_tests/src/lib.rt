@@ -1,8 +1,13 @@
-//! Tests of the stream server in memory.
+//! Tests of connections, of workers in sessions that stand here, of the stream server in memory, and
+//! of workers over it.
 #![tactic(auto)]
 
 #[cfg(test)]
 mod answers;
+#[cfg(test)]
+mod connections;
+#[cfg(test)]
+mod sessions;
 #[cfg(test)]
 mod together;
 

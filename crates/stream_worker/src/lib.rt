@@ -16,8 +16,6 @@ mod phases;
 mod reading;
 mod session;
 mod state;
-#[cfg(test)]
-mod tests;
 mod worker;
 
 pub use entry::Entry;

@@ -1,16 +1,13 @@
 //! Sessions: what a worker asks, in order, and what its handler sees.
-use crate::entry::Entry;
-use crate::error::{InPlaceError, RequestError, RunError, WorkerError};
-use crate::gathered::Gathered;
-use crate::handler::{Handler, NotCommitted, Verdict};
-use crate::letters::{DeadLetters, LetterAsked};
-use crate::state::{Asked, MakeGroup, Settings};
-use crate::worker::{Progress, Worker};
 use redis_connection::{Connection, ConnectionError};
 use redis_wire::{Decoded, Limits, Reply, WireError, decode};
 use std::alloc::{AllocError, Global};
 use std::process::Abort;
 use std::test::Fail;
+use stream_worker::{
+    Asked, DeadLetters, Entry, Gathered, Handler, InPlaceError, LetterAsked, MakeGroup,
+    NotCommitted, Progress, RequestError, RunError, Settings, Verdict, Worker, WorkerError,
+};
 
 const LIMITS: Limits = Limits {
     depth: 8,

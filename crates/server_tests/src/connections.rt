@@ -1,6 +1,5 @@
 //! Connections over readers and writers in memory.
-use crate::connection::Connection;
-use crate::error::{AskError, ConnectionError};
+use redis_connection::{AskError, Connection, ConnectionError};
 use redis_wire::{Limits, Reply};
 use std::alloc::Global;
 use std::io;
