@@ -144,6 +144,7 @@ fn add_deleted<P: Places>(
     ensures found { (ids : List (List ℕ)) (rest : List ℕ) → AllowsRows limits → AreDeleted limits told ids
         → drop at bytes.now ≡ deleted_bytes told ids ++ rest
         → IfOk result (λ o. IsSomeAnd o (EndsBefore bytes.now rest)) }
+    ensures kept { P.lent places.new ≡ P.lent places.old }
 {
     if !told {
         return Ok(Some(at));
@@ -173,6 +174,7 @@ pub fn find_autoclaim<P: Places>(
     ensures found { (r : SentAutoClaim) (len : ℕ) → BeginsWithAutoClaim limits bytes.now r len
         → IfOk result (λ o. IsSomeAnd o (λ p. (autoclaim_in bytes.now (P.held places.new).entries
         (P.held places.new).fields p ≡ r) × (p.len ≡ len))) }
+    ensures kept { P.lent places.new ≡ P.lent places.old }
 {
     places.clear();
     if limits.depth < 5 {
@@ -206,6 +208,7 @@ pub fn find_justid<P: Places>(
     ensures found { (r : JustId) (len : ℕ) → BeginsWithJustId limits bytes.now r len
         → IfOk result (λ o. IsSomeAnd o (λ p. (justid_in bytes.now (P.held places.new).entries p ≡ r)
         × (p.len ≡ len))) }
+    ensures kept { P.lent places.new ≡ P.lent places.old }
 {
     places.clear();
     if limits.depth < 3 {

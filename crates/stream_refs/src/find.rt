@@ -27,6 +27,7 @@ pub fn find_range<P: Places>(
     ensures found { (es : List SentEntry) (len : ℕ) → BeginsWithRange limits bytes.now es len
         → IfOk result (λ o. IsSomeAnd o (λ n. (map (entry_in bytes.now (P.held places.new).fields)
         (P.held places.new).entries ≡ es) × (n ≡ len))) }
+    ensures kept { P.lent places.new ≡ P.lent places.old }
 {
     places.clear();
     if limits.depth < 4 {
@@ -56,6 +57,7 @@ fn find_array<P: Places>(
     ensures found { (form : NilForm) (ss : List SentStream) (rest : List ℕ) → AllowsRows limits
         → AreStreamsOf limits claim ss → bytes.now ≡ streams_bytes as_array form ss ++ rest
         → IfOk result (λ o. IsSome o) }
+    ensures kept { P.lent places.new ≡ P.lent places.old }
 {
     let Some((count, at)) = array_at(limits, bytes, 0) else {
         return Ok(None);
@@ -81,6 +83,7 @@ fn find_map<P: Places>(
     ensures found { (form : NilForm) (ss : List SentStream) (rest : List ℕ) → AllowsRows limits
         → AreStreamsOf limits claim ss → bytes.now ≡ streams_bytes as_map form ss ++ rest
         → IfOk result (λ o. IsSome o) }
+    ensures kept { P.lent places.new ≡ P.lent places.old }
 {
     let Some((count, at)) = map_at(limits, bytes, 0) else {
         return Ok(None);
@@ -103,6 +106,7 @@ pub fn find_form<P: Places>(
         IsFilled limits bytes.now claim len (P.held places.new))) }
     ensures found { (ss : List SentStream) (len : ℕ) → BeginsWithStreams limits claim bytes.now ss len
         → IfOk result (λ o. IsSome o) }
+    ensures kept { P.lent places.new ≡ P.lent places.old }
 {
     places.clear();
     if let Some(len) = nil_at(limits, bytes, 0) {
@@ -132,6 +136,7 @@ pub fn find_streams<P: Places>(
     ensures found { (ss : List SentStream) (len : ℕ) → BeginsWithStreams limits false bytes.now ss len
         → IfOk result (λ o. IsSomeAnd o (λ n. (map (stream_in bytes.now (P.held places.new).entries
         (P.held places.new).fields) (P.held places.new).streams ≡ ss) × (n ≡ len))) }
+    ensures kept { P.lent places.new ≡ P.lent places.old }
 {
     if limits.depth < 6 {
         return Ok(None);
@@ -156,6 +161,7 @@ pub fn find_claimed_streams<P: Places>(
     ensures found { (ss : List SentStream) (len : ℕ) → BeginsWithStreams limits true bytes.now ss len
         → IfOk result (λ o. IsSomeAnd o (λ n. (map (stream_in bytes.now (P.held places.new).entries
         (P.held places.new).fields) (P.held places.new).streams ≡ ss) × (n ≡ len))) }
+    ensures kept { P.lent places.new ≡ P.lent places.old }
 {
     if limits.depth < 6 {
         return Ok(None);
@@ -178,6 +184,7 @@ pub fn find_either_form<P: Places>(
         IsFilled limits bytes.now x.0 x.1 (P.held places.new))) }
     ensures found { (claim : Bool) (ss : List SentStream) (len : ℕ)
         → BeginsWithStreams limits claim bytes.now ss len → IfOk result (λ o. IsSome o) }
+    ensures kept { P.lent places.new ≡ P.lent places.old }
 {
     if let Some(len) = find_form(limits, bytes, false, places)? {
         return Ok(Some((false, len)));

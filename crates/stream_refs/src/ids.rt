@@ -164,6 +164,7 @@ pub fn add_ids<P: Places>(
     ensures found { (ids : List (List ℕ)) (rest : List ℕ) → AllowsRows limits → AllByRecursion (IsName limits) ids
         → drop at bytes.now ≡ flat_map bulk_bytes ids ++ rest → count ≡ length ids
         → IfOk result (λ o. IsSomeAnd o (EndsBefore bytes.now rest)) }
+    ensures kept { P.lent places.new ≡ P.lent places.old }
 {
     let mut behind = at;
     for _ in 0..count {

@@ -68,6 +68,7 @@ fn add_fields<P: Places>(
     ensures found { (ps : Pairs) (rest : List ℕ) → AllowsRows limits → AllByRecursion (IsPair limits) ps
         → drop at bytes.now ≡ flat_map pair_bytes ps ++ rest → count ≡ length ps
         → IfOk result (λ o. IsSomeAnd o (EndsBefore bytes.now rest)) }
+    ensures kept { P.lent places.new ≡ P.lent places.old }
 {
     let mut behind = at;
     for _ in 0..count {
@@ -97,6 +98,7 @@ fn add_own_fields<P: Places>(
     ensures found { (form : NilForm) (fs : Option Pairs) (rest : List ℕ) → AllowsRows limits → ArePairs limits fs
         → drop at bytes.now ≡ fields_bytes form fs ++ rest
         → IfOk result (λ o. IsSomeAnd o (λ x. EndsBefore bytes.now rest x.1)) }
+    ensures kept { P.lent places.new ≡ P.lent places.old }
 {
     let Some((members, behind)) = array_at(limits, bytes, at) else {
         return match nil_at(limits, bytes, at) {
@@ -150,6 +152,7 @@ fn add_entry<P: Places>(
     ensures found { (form : NilForm) (e : SentEntry) (rest : List ℕ) → AllowsRows limits → IsEntryOf limits claim e
         → drop at bytes.now ≡ entry_bytes form e ++ rest
         → IfOk result (λ o. IsSomeAnd o (λ x. EndsBefore bytes.now rest x.1)) }
+    ensures kept { P.lent places.new ≡ P.lent places.old }
 {
     let Some((members, behind)) = array_at(limits, bytes, at) else {
         return Ok(None);
@@ -195,6 +198,7 @@ pub fn add_entries<P: Places>(
         → AllByRecursion (IsEntryOf limits claim) es
         → drop at bytes.now ≡ flat_map (entry_bytes form) es ++ rest → count ≡ length es
         → IfOk result (λ o. IsSomeAnd o (EndsBefore bytes.now rest)) }
+    ensures kept { P.lent places.new ≡ P.lent places.old }
 {
     let mut behind = at;
     for _ in 0..count {

@@ -45,6 +45,7 @@ fn add_stream<P: Places>(
     ensures found { (form : NilForm) (s : SentStream) (rest : List ℕ) → AllowsRows limits
         → IsStreamOf limits claim s → drop at bytes.now ≡ stream_bytes in_map form s ++ rest
         → IfOk result (λ o. IsSomeAnd o (λ x. EndsBefore bytes.now rest x.1)) }
+    ensures kept { P.lent places.new ≡ P.lent places.old }
 {
     let Some(behind) = head_end(limits, bytes, at, in_map) else {
         return Ok(None);
@@ -82,6 +83,7 @@ pub fn add_streams<P: Places>(
         → AllByRecursion (IsStreamOf limits claim) ss
         → drop at bytes.now ≡ flat_map (stream_bytes in_map form) ss ++ rest → count ≡ length ss
         → IfOk result (λ o. IsSomeAnd o (EndsBefore bytes.now rest)) }
+    ensures kept { P.lent places.new ≡ P.lent places.old }
 {
     let mut behind = at;
     for _ in 0..count {

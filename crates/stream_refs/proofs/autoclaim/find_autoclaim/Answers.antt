@@ -17,7 +17,7 @@ returns-clause-is g c =
     let deep : 5 ≤ c.args.limits.depth = omega arith in
     let n : c.count_entries-claimed.result ≡ length mid.entries = search rules in
     let added : EntriesAdded c.args.limits bytes head.at false head.count c.in-Some-2.at none_held mid =
-    rw (c.clear.ensures, c.in-Some-2.is) at c.in_ok-at.ensures.is in
+    rw (c.clear.ensures.holds, c.in-Some-2.is) at c.in_ok-at.ensures.is in
     let deleted : DeletedAdded c.args.limits bytes c.in-Some-2.at head.told c.in-Some-3.len mid new =
     rw c.in-Some-3.is at c.in_ok-len.ensures.is in
     autoclaim_is c.args.limits bytes head.told head.next head.count head.at c.in-Some-2.at c.in-Some-3.len
@@ -31,7 +31,7 @@ returns-clause-within g c =
     let head = c.in-Some.head in
     let n : c.count_entries-claimed.result ≡ length mid.entries = search rules in
     let added : EntriesAdded c.args.limits bytes head.at false head.count c.in-Some-2.at none_held mid =
-    rw (c.clear.ensures, c.in-Some-2.is) at c.in_ok-at.ensures.is in
+    rw (c.clear.ensures.holds, c.in-Some-2.is) at c.in_ok-at.ensures.is in
     let deleted : DeletedAdded c.args.limits bytes c.in-Some-2.at head.told c.in-Some-3.len mid new =
     rw c.in-Some-3.is at c.in_ok-len.ensures.is in
     claim_places c.args.limits bytes head.told head.next head.count head.at c.in-Some-2.at c.in-Some-3.len

@@ -4,7 +4,7 @@ use Rattle.stream_refs.proofs.find.find_form.Goals as goal
 
 pub returns-in-Some-clause-is : goal.returns-in-Some-clause-is
 returns-in-Some-clause-is g c = nil_filled c.args.limits c.args.bytes.now c.args.claim c.requires c.in-Some.len
-    (g.P.Places.held c.clear.new.self) c.clear.ensures c.in-Some.ensures.is
+    (g.P.Places.held c.clear.new.self) c.clear.ensures.holds c.in-Some.ensures.is
 
 pub returns-in-None-clause-found : goal.returns-in-None-clause-found
 returns-in-None-clause-found g c = λ ss len b. absurd

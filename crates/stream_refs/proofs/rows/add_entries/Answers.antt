@@ -1,4 +1,4 @@
-use Rattle.std.proofs.Common.{◌≡◌, arith}
+use Rattle.std.proofs.Common.{rules, ◌≡◌, arith, refl}
 use Rattle.stream_refs.specs.Shapes.{entry_bytes, IsEntryOf}
 use Rattle.stream_refs.proofs.FillLemmas.{entries_start, entries_more}
 use Rattle.stream_refs.proofs.BeginLemmas.{left_start, left_more, left_none, left_end}
@@ -10,6 +10,7 @@ loop-init g c = record {
       (g.P.Places.held c.args.places.now) c.requires;
   left = λ form. left_start (entry_bytes form) (IsEntryOf c.args.limits c.args.claim) c.args.limits c.args.bytes.now
       c.args.at c.args.count;
+  kept = refl;
 }
 
 pub loop-preserved : goal.loop-preserved
@@ -17,10 +18,11 @@ loop-preserved g c = record {
   added = entries_more c.args.limits c.args.bytes.now c.args.at c.args.claim
       (g.P.Places.held c.args.places.now) c.loop.counter c.loop.behind c.in-Some.after c.in-Some.entry
       (g.P.Places.held c.loop.places) (g.P.Places.held c.add_entry.new.places) (g.P.Places.held c.push_entry.new.self)
-      c.loop.invariant.added (rw c.in-Some.is at c.in_ok-entry.ensures.is) c.in_ok-push_entry.ensures;
+      c.loop.invariant.added (rw c.in-Some.is at c.in_ok-entry.ensures.is) c.in_ok-push_entry.ensures.holds;
   left = λ form. left_more (entry_bytes form) (IsEntryOf c.args.limits c.args.claim) c.args.limits c.args.bytes.now
       c.args.at c.args.count c.loop.counter c.loop.behind (c.loop.invariant.left form) c.in-Some.after (omega arith)
       (λ e rest a h is. rw c.in-Some.is at (c.in_ok-entry.ensures.found form e rest a h is));
+  kept = search rules;
 }
 
 pub returns-clause-is : goal.returns-clause-is

@@ -1,3 +1,4 @@
+use Rattle.std.specs.Prelude.{◌≡◌}
 use Rattle.stream_refs.specs.Added.{EntriesAdded}
 use Rattle.stream_refs.specs.Shapes.{NilForm, entry_bytes, IsEntryOf}
 use Rattle.stream_refs.proofs.BeginLemmas.{IsLeft}
@@ -9,4 +10,5 @@ invariant-loop g l = record {
       (g.P.Places.held l.places);
   left : (form : NilForm) → IsLeft (entry_bytes form) (IsEntryOf l.limits l.claim) l.limits l.bytes l.at l.count
       l.counter l.behind;
+  kept : g.P.Places.lent l.places ≡ g.P.Places.lent l.fn.places;
 }

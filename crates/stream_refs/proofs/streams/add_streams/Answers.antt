@@ -1,4 +1,4 @@
-use Rattle.std.proofs.Common.{◌≡◌, arith}
+use Rattle.std.proofs.Common.{rules, ◌≡◌, arith, refl}
 use Rattle.stream_refs.specs.Shapes.{stream_bytes, IsStreamOf}
 use Rattle.stream_refs.proofs.StreamLemmas.{streams_start, streams_more}
 use Rattle.stream_refs.proofs.BeginLemmas.{left_start, left_more, left_none, left_end}
@@ -10,6 +10,7 @@ loop-init g c = record {
       (g.P.Places.held c.args.places.now) c.requires.none c.requires.at;
   left = λ form. left_start (stream_bytes c.args.in_map form) (IsStreamOf c.args.limits c.args.claim) c.args.limits
       c.args.bytes.now c.args.at c.args.count;
+  kept = refl;
 }
 
 pub loop-preserved : goal.loop-preserved
@@ -18,11 +19,12 @@ loop-preserved g c = record {
       c.loop.behind c.in-Some.after c.in-Some.stream
       (g.P.Places.held c.loop.places) (g.P.Places.held c.add_stream.new.places)
       (g.P.Places.held c.push_stream.new.self)
-      c.loop.invariant.added (rw c.in-Some.is at c.in_ok-stream.ensures.is) c.in_ok-push_stream.ensures;
+      c.loop.invariant.added (rw c.in-Some.is at c.in_ok-stream.ensures.is) c.in_ok-push_stream.ensures.holds;
   left = λ form. left_more (stream_bytes c.args.in_map form) (IsStreamOf c.args.limits c.args.claim) c.args.limits
       c.args.bytes.now c.args.at c.args.count c.loop.counter c.loop.behind (c.loop.invariant.left form)
       c.in-Some.after (omega arith)
       (λ s rest a h is. rw c.in-Some.is at (c.in_ok-stream.ensures.found form s rest a h is));
+  kept = search rules;
 }
 
 pub returns-clause-is : goal.returns-clause-is
