@@ -55,12 +55,11 @@ first_of counts streams entries fields = record {
   fields = take counts.fields fields;
 }
 
--- The tables begin with the places that are held, or there are so many and no room for them.
-abbrev pub IsHanded : ℕ → Held → List StreamPlace → List EntryPlace → List FieldPlace → Outcome → Type 0
-IsHanded len held streams entries fields (outcomes.InPlace n counts) =
-    (n ≡ len) × (first_of counts streams entries fields ≡ held)
-IsHanded len held streams entries fields (outcomes.Room n counts) = (n ≡ len) × HasCounts counts held
-IsHanded len held streams entries fields _ = ⊥
+-- What reading comes to where the tables have too little room: there are places, so many; or there are none.
+abbrev pub IsRoom : (List ℕ → ℕ → Held → Type 0) → List ℕ → Outcome → Type 0
+IsRoom In bytes (outcomes.InPlace len counts) = ⊥
+IsRoom In bytes (outcomes.Room len counts) = (held : Held) × In bytes len held × HasCounts counts held
+IsRoom In bytes o = IsOther bytes o
 
 module _ (In : List ℕ → ℕ → Held → Type 0) (bytes : List ℕ) (streams : List StreamPlace) (entries : List EntryPlace)
     (fields : List FieldPlace) where

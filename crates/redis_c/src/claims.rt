@@ -1,14 +1,52 @@
 //! Entries and ids that XAUTOCLAIM claimed, where they stand, in tables of the caller.
 ghost use Rattle.std.specs.Prelude.{[]};
-ghost use Rattle.redis_c.specs.Told.{IsOutcome, IsTold};
+ghost use Rattle.redis_c.specs.Told.{IsRoom, IsOutcome, IsTold};
 ghost use Rattle.redis_c.specs.Claimed.{AutoClaimIn, JustIdIn};
 
-use crate::entries::handed_out;
+use crate::entries::counts_of;
 use crate::other::other;
 use crate::outcome::{Found, Outcome};
 use redis_wire::Limits;
 use std::alloc::Global;
-use stream_refs::{AutoClaimPlace, EntryPlace, EntryTape, FieldPlace, find_autoclaim, find_justid};
+use stream_refs::{
+    AutoClaimPlace, EntryPlace, EntryTables, EntryTape, FieldPlace, find_autoclaim, find_justid,
+};
+
+/// How much room the entries of an automatic claim want.
+fn autoclaim_room(alloc: Global, bytes: &[u8], claim: &mut AutoClaimPlace) -> Outcome
+    ensures { IsRoom (AutoClaimIn claim.new) bytes.now result }
+{
+    let mut tape = EntryTape::new(alloc);
+    match find_autoclaim(Limits::default(), bytes, &mut tape) {
+        Err(_) => Outcome::Memory,
+        Ok(None) => other(alloc, bytes),
+        Ok(Some(place)) => {
+            *claim = place;
+            Outcome::Room {
+                len: place.len,
+                counts: counts_of(&tape),
+            }
+        }
+    }
+}
+
+/// How much room the ids of an automatic claim want.
+fn justid_room(alloc: Global, bytes: &[u8], claim: &mut AutoClaimPlace) -> Outcome
+    ensures { IsRoom (JustIdIn claim.new) bytes.now result }
+{
+    let mut tape = EntryTape::new(alloc);
+    match find_justid(Limits::default(), bytes, &mut tape) {
+        Err(_) => Outcome::Memory,
+        Ok(None) => other(alloc, bytes),
+        Ok(Some(place)) => {
+            *claim = place;
+            Outcome::Room {
+                len: place.len,
+                counts: counts_of(&tape),
+            }
+        }
+    }
+}
 
 /// Where the entries of an automatic claim stand.
 fn autoclaim_outcome(
@@ -20,13 +58,16 @@ fn autoclaim_outcome(
 ) -> Outcome
     ensures { IsOutcome (AutoClaimIn claim.new) bytes.now [] entries.new fields.new result }
 {
-    let mut tape = EntryTape::new(alloc);
-    match find_autoclaim(Limits::default(), bytes, &mut tape) {
-        Err(_) => Outcome::Memory,
+    let mut tables = EntryTables::new(&mut [], entries, fields);
+    match find_autoclaim(Limits::default(), bytes, &mut tables) {
+        Err(_) => autoclaim_room(alloc, bytes, claim),
         Ok(None) => other(alloc, bytes),
         Ok(Some(place)) => {
             *claim = place;
-            handed_out(place.len, &tape, &mut [], entries, fields)
+            Outcome::InPlace {
+                len: place.len,
+                counts: counts_of(&tables),
+            }
         }
     }
 }
@@ -40,13 +81,16 @@ fn justid_outcome(
 ) -> Outcome
     ensures { IsOutcome (JustIdIn claim.new) bytes.now [] entries.new [] result }
 {
-    let mut tape = EntryTape::new(alloc);
-    match find_justid(Limits::default(), bytes, &mut tape) {
-        Err(_) => Outcome::Memory,
+    let mut tables = EntryTables::new(&mut [], entries, &mut []);
+    match find_justid(Limits::default(), bytes, &mut tables) {
+        Err(_) => justid_room(alloc, bytes, claim),
         Ok(None) => other(alloc, bytes),
         Ok(Some(place)) => {
             *claim = place;
-            handed_out(place.len, &tape, &mut [], entries, &mut [])
+            Outcome::InPlace {
+                len: place.len,
+                counts: counts_of(&tables),
+            }
         }
     }
 }
