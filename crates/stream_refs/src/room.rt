@@ -1,7 +1,7 @@
 //! Room for the places of what is found in a reply.
-ghost use Rattle.std.specs.Prelude.{◌≡◌, ◌∷◌, ◌++◌, [], IfOk, Option, Some, length};
+ghost use Rattle.std.specs.Prelude.{◌≡◌, ◌∷◌, ◌++◌, [], suc, IfOk, IsOk, Option, Some, length};
 ghost use Rattle.stream_refs.specs.Held.{Held, none_held};
-ghost use Rattle.stream_refs.specs.Lent.{Lent};
+ghost use Rattle.stream_refs.specs.Lent.{Lent, StreamsFit, EntriesFit, FieldsFit};
 
 use crate::places::{EntryPlace, FieldPlace, StreamPlace};
 
@@ -42,21 +42,24 @@ pub trait Places {
         ensures holds { IfOk result (λ _. held self.new ≡ record (held self.old) {
           fields = (held self.old).fields ++ place ∷ [];
         }) }
-        ensures kept { lent self.new ≡ lent self.old };
+        ensures kept { lent self.new ≡ lent self.old }
+        ensures fits { FieldsFit (lent self.old) (suc (length (held self.old).fields)) → IsOk result };
 
     /// Holds one more entry.
     fn push_entry(&mut self, place: EntryPlace) -> Result<(), Self::Refusal>
         ensures holds { IfOk result (λ _. held self.new ≡ record (held self.old) {
           entries = (held self.old).entries ++ place ∷ [];
         }) }
-        ensures kept { lent self.new ≡ lent self.old };
+        ensures kept { lent self.new ≡ lent self.old }
+        ensures fits { EntriesFit (lent self.old) (suc (length (held self.old).entries)) → IsOk result };
 
     /// Holds one more stream.
     fn push_stream(&mut self, place: StreamPlace) -> Result<(), Self::Refusal>
         ensures holds { IfOk result (λ _. held self.new ≡ record (held self.old) {
           streams = (held self.old).streams ++ place ∷ [];
         }) }
-        ensures kept { lent self.new ≡ lent self.old };
+        ensures kept { lent self.new ≡ lent self.old }
+        ensures fits { StreamsFit (lent self.old) (suc (length (held self.old).streams)) → IsOk result };
 }
 
 /// Places in slices of the caller, for who has no allocator. What stands behind the counts is not
