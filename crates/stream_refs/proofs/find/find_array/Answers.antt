@@ -1,4 +1,4 @@
-use Rattle.std.proofs.Common.{◌++◌, flat_map, length, false, arith}
+use Rattle.std.proofs.Common.{◌++◌, flat_map, length, false}
 use Rattle.stream_refs.specs.Added.{StreamsAdded}
 use Rattle.stream_refs.proofs.ReadLemmas.{array_filled}
 use Rattle.stream_refs.specs.Shapes.{stream_bytes}

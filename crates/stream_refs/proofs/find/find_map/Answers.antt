@@ -1,4 +1,4 @@
-use Rattle.std.proofs.Common.{◌++◌, flat_map, length, true, arith}
+use Rattle.std.proofs.Common.{◌++◌, flat_map, length, true}
 use Rattle.stream_refs.specs.Added.{StreamsAdded}
 use Rattle.stream_refs.proofs.ReadLemmas.{map_filled}
 use Rattle.stream_refs.specs.Shapes.{stream_bytes}

@@ -4,7 +4,7 @@ use Rattle.stream_refs.specs.Shapes.{pair_bytes, IsPair}
 use Rattle.stream_refs.proofs.FillLemmas.{fields_start, fields_more}
 use Rattle.stream_refs.proofs.BeginLemmas.{text_begins, pair_split, left_start, left_more, left_none, left_end}
 use Rattle.stream_refs.specs.Held.{Held}
-use Rattle.stream_refs.proofs.CountLemmas.{one_more, fewer_fields}
+use Rattle.stream_refs.proofs.CountLemmas.{one_more}
 use Rattle.stream_refs.proofs.rows.add_fields.Goals as goal
 
 pub loop-init : goal.loop-init

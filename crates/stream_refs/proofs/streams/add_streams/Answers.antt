@@ -1,9 +1,9 @@
-use Rattle.std.proofs.Common.{rules, ◌≡◌, arith, refl, ap, length, ◌∙◌, ◌+◌, ◌++◌, drop, flat_map, sym}
+use Rattle.std.proofs.Common.{rules, ◌≡◌, arith, refl, ap, length, ◌∙◌, ◌+◌, ◌++◌, drop, flat_map}
 use Rattle.stream_refs.specs.Shapes.{stream_bytes, IsStreamOf}
 use Rattle.stream_refs.proofs.StreamLemmas.{streams_start, streams_more}
 use Rattle.stream_refs.proofs.BeginLemmas.{left_start, left_more, left_none, left_end}
-use Rattle.stream_refs.specs.Held.{Held, none_held}
-use Rattle.stream_refs.specs.Lent.{StreamsFit, EntriesFit, FieldsFit}
+use Rattle.stream_refs.specs.Held.{Held}
+use Rattle.stream_refs.specs.Lent.{EntriesFit, FieldsFit}
 use Rattle.stream_refs.specs.Added.{StreamAdded}
 use Rattle.stream_refs.specs.Sent.{SentStream, all_fields, all_entries, all_stream_fields}
 use Rattle.stream_refs.proofs.CountLemmas.{one_more, fewer_entries, fewer_fields, counted_start, counted_more}

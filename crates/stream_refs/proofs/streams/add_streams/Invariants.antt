@@ -1,4 +1,4 @@
-use Rattle.std.specs.Prelude.{◌≡◌, ◌+◌, length}
+use Rattle.std.specs.Prelude.{◌≡◌, length}
 use Rattle.stream_refs.specs.Added.{StreamsAdded}
 use Rattle.stream_refs.specs.Shapes.{NilForm, stream_bytes, IsStreamOf}
 use Rattle.stream_refs.specs.Sent.{SentStream, all_fields}
