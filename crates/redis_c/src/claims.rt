@@ -1,7 +1,8 @@
 //! Entries and ids that XAUTOCLAIM claimed, where they stand, in tables of the caller.
-ghost use Rattle.std.specs.Prelude.{[]};
+ghost use Rattle.std.specs.Prelude.{◌≡◌, [], length};
+ghost use Rattle.redis_c.specs.Outcome.{code};
 ghost use Rattle.redis_c.specs.Told.{IsRoom, IsOutcome, IsTold};
-ghost use Rattle.redis_c.specs.Claimed.{AutoClaimIn, JustIdIn};
+ghost use Rattle.redis_c.specs.Claimed.{AutoClaimIn, JustIdIn, AutoClaimFits, JustIdFits};
 
 use crate::entries::counts_of;
 use crate::other::other;
@@ -56,7 +57,8 @@ fn autoclaim_outcome(
     fields: &mut [FieldPlace],
     claim: &mut AutoClaimPlace,
 ) -> Outcome
-    ensures { IsOutcome (AutoClaimIn claim.new) bytes.now [] entries.new fields.new result }
+    ensures is { IsOutcome (AutoClaimIn claim.new) bytes.now [] entries.new fields.new result }
+    ensures in_place { AutoClaimFits bytes.now (length entries.old) (length fields.old) → code result ≡ 0 }
 {
     let mut tables = EntryTables::new(&mut [], entries, fields);
     match find_autoclaim(Limits::default(), bytes, &mut tables) {
@@ -79,7 +81,8 @@ fn justid_outcome(
     entries: &mut [EntryPlace],
     claim: &mut AutoClaimPlace,
 ) -> Outcome
-    ensures { IsOutcome (JustIdIn claim.new) bytes.now [] entries.new [] result }
+    ensures is { IsOutcome (JustIdIn claim.new) bytes.now [] entries.new [] result }
+    ensures in_place { JustIdFits bytes.now (length entries.old) → code result ≡ 0 }
 {
     let mut tables = EntryTables::new(&mut [], entries, &mut []);
     match find_justid(Limits::default(), bytes, &mut tables) {
@@ -106,7 +109,8 @@ pub extern "C" fn redis_find_autoclaim(
     claim: &mut AutoClaimPlace,
     found: &mut Found,
 ) -> u32
-    ensures { IsTold (AutoClaimIn claim.new) bytes.now [] entries.new fields.new result found.new }
+    ensures told { IsTold (AutoClaimIn claim.new) bytes.now [] entries.new fields.new result found.new }
+    ensures in_place { AutoClaimFits bytes.now (length entries.old) (length fields.old) → result ≡ 0 }
 {
     let outcome = autoclaim_outcome(alloc, bytes, entries, fields, claim);
     *found = outcome.found();
@@ -123,7 +127,8 @@ pub extern "C" fn redis_find_justid(
     claim: &mut AutoClaimPlace,
     found: &mut Found,
 ) -> u32
-    ensures { IsTold (JustIdIn claim.new) bytes.now [] entries.new [] result found.new }
+    ensures told { IsTold (JustIdIn claim.new) bytes.now [] entries.new [] result found.new }
+    ensures in_place { JustIdFits bytes.now (length entries.old) → result ≡ 0 }
 {
     let outcome = justid_outcome(alloc, bytes, entries, claim);
     *found = outcome.found();

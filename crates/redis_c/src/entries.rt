@@ -1,6 +1,7 @@
 //! Entries where they stand, in tables of the caller.
-ghost use Rattle.std.specs.Prelude.{[]};
-ghost use Rattle.redis_c.specs.Told.{RangeIn, StreamsIn, HasCounts, IsRoom, IsOutcome, IsTold};
+ghost use Rattle.std.specs.Prelude.{◌≡◌, [], length};
+ghost use Rattle.redis_c.specs.Outcome.{code};
+ghost use Rattle.redis_c.specs.Told.{RangeIn, StreamsIn, RangeFits, ReadFits, HasCounts, IsRoom, IsOutcome, IsTold};
 
 use crate::other::other;
 use crate::outcome::{Counts, Found, Outcome};
@@ -58,7 +59,8 @@ fn range_outcome(
     entries: &mut [EntryPlace],
     fields: &mut [FieldPlace],
 ) -> Outcome
-    ensures { IsOutcome RangeIn bytes.now [] entries.new fields.new result }
+    ensures is { IsOutcome RangeIn bytes.now [] entries.new fields.new result }
+    ensures in_place { RangeFits bytes.now (length entries.old) (length fields.old) → code result ≡ 0 }
 {
     let mut tables = EntryTables::new(&mut [], entries, fields);
     match find_range(Limits::default(), bytes, &mut tables) {
@@ -79,7 +81,9 @@ fn streams_outcome(
     entries: &mut [EntryPlace],
     fields: &mut [FieldPlace],
 ) -> Outcome
-    ensures { IsOutcome StreamsIn bytes.now streams.new entries.new fields.new result }
+    ensures is { IsOutcome StreamsIn bytes.now streams.new entries.new fields.new result }
+    ensures in_place { ReadFits bytes.now (length streams.old) (length entries.old) (length fields.old)
+        → code result ≡ 0 }
 {
     let mut tables = EntryTables::new(streams, entries, fields);
     match find_streams(Limits::default(), bytes, &mut tables) {
@@ -101,7 +105,8 @@ pub extern "C" fn redis_find_range(
     fields: &mut [FieldPlace],
     found: &mut Found,
 ) -> u32
-    ensures { IsTold RangeIn bytes.now [] entries.new fields.new result found.new }
+    ensures told { IsTold RangeIn bytes.now [] entries.new fields.new result found.new }
+    ensures in_place { RangeFits bytes.now (length entries.old) (length fields.old) → result ≡ 0 }
 {
     let outcome = range_outcome(alloc, bytes, entries, fields);
     *found = outcome.found();
@@ -119,7 +124,9 @@ pub extern "C" fn redis_find_streams(
     fields: &mut [FieldPlace],
     found: &mut Found,
 ) -> u32
-    ensures { IsTold StreamsIn bytes.now streams.new entries.new fields.new result found.new }
+    ensures told { IsTold StreamsIn bytes.now streams.new entries.new fields.new result found.new }
+    ensures in_place { ReadFits bytes.now (length streams.old) (length entries.old) (length fields.old)
+        → result ≡ 0 }
 {
     let outcome = streams_outcome(alloc, bytes, streams, entries, fields);
     *found = outcome.found();
