@@ -107,7 +107,11 @@ typedef struct {
    REDIS_INCOMPLETE: no beginning of `bytes` is a reply.
    REDIS_SERVER_ERROR: the first `found->len` bytes are an error, whose text stands at `found->error`.
    REDIS_OTHER: the first `found->len` bytes are another reply.
-   REDIS_FAULT and above: no beginning of `bytes` is a reply, whatever comes behind. */
+   REDIS_FAULT and above: no beginning of `bytes` is a reply, whatever comes behind.
+
+   The places are written into the tables as they are found, so behind another number than REDIS_OK the tables
+   say nothing. No memory is taken where the answer is REDIS_OK; else it is taken for the time of the call, to
+   count the places or to tell what stands there. */
 uint32_t redis_find_streams(const uint8_t *bytes, size_t len, redis_stream *streams, size_t stream_room,
                             redis_entry *entries, size_t entry_room, redis_field *fields, size_t field_room,
                             redis_found *found);

@@ -1,4 +1,3 @@
-pub mod HandedLemmas
 pub mod PlacedLemmas
 pub mod PackingLemmas
 pub mod SettingsLemmas

@@ -1,9 +1,12 @@
 -- Where what XAUTOCLAIM answers stands in the bytes.
-use Rattle.std.specs.Prelude.{◌≡◌, ℕ, List}
+use Rattle.std.specs.Prelude.{◌≡◌, ◌≤◌, ◌+◌, ℕ, List, length}
 use Rattle.redis_wire.specs.Limits.{default_limits}
 use Rattle.stream_refs.specs.declared.places.AutoClaimPlace.{AutoClaimPlace}
 use Rattle.stream_refs.specs.Held.{Held}
-use Rattle.stream_refs.specs.AutoClaim.{IsAutoClaim, IsJustId}
+use Rattle.stream_refs.specs.AutoClaim.{SentAutoClaim, IsAutoClaim, IsJustId}
+use Rattle.stream_refs.specs.Sent.{all_fields}
+use Rattle.stream_refs.specs.Shapes.{BeginsWithAutoClaim, BeginsWithJustId}
+use Rattle.stream_entries.specs.JustId.{JustId}
 use Rattle.stream_refs.specs.ClaimPlaced.{autoclaim_in, justid_in, AreClaimPlaces, AreJustIdPlaces}
 
 -- The first `len` bytes are a reply: its next id stands at that place, and so many of the entries are those that
@@ -18,3 +21,19 @@ pub record JustIdIn (place : AutoClaimPlace) (bytes : List ℕ) (len : ℕ) (hel
   pub all : place.len ≡ len
   pub is : IsJustId default_limits bytes (justid_in bytes held.entries place) len
   pub within : AreJustIdPlaces bytes held.entries place
+
+-- The bytes begin with an answer of XAUTOCLAIM in the form in which servers write it, and there is room for the
+-- entries that were claimed, for the deleted ids behind them, and for the fields.
+pub record AutoClaimFits (bytes : List ℕ) (entry_room field_room : ℕ) : Type 0 where
+  pub sent : SentAutoClaim
+  pub len : ℕ
+  pub begins : BeginsWithAutoClaim default_limits bytes sent len
+  pub entries : length sent.claimed + length sent.deleted ≤ entry_room
+  pub fields : length (all_fields sent.claimed) ≤ field_room
+
+-- The same of ids alone.
+pub record JustIdFits (bytes : List ℕ) (entry_room : ℕ) : Type 0 where
+  pub sent : JustId
+  pub len : ℕ
+  pub begins : BeginsWithJustId default_limits bytes sent len
+  pub entries : length sent.claimed + length sent.deleted ≤ entry_room

@@ -1,5 +1,5 @@
 -- What C is told of the bytes of a reply.
-use Rattle.std.specs.Prelude.{◌≡◌, ◌≤◌, ◌++◌, ℕ, List, length, take, map}
+use Rattle.std.specs.Prelude.{◌≡◌, ◌≤◌, ◌++◌, ℕ, List, length, take, map, false}
 use Rattle.redis_wire.specs.Limits.{default_limits}
 use Rattle.redis_wire.specs.Reply.{Answer, refused}
 use Rattle.redis_wire.specs.Grammar.{IsReply}
@@ -11,6 +11,8 @@ use Rattle.stream_refs.specs.declared.places.StreamPlace.{StreamPlace}
 use Rattle.stream_refs.specs.Held.{Held}
 use Rattle.stream_refs.specs.Placed.{entry_in, stream_in}
 use Rattle.stream_refs.specs.Range.{IsRange, IsRead}
+use Rattle.stream_refs.specs.Sent.{SentEntry, SentStream, all_fields, all_entries, all_stream_fields}
+use Rattle.stream_refs.specs.Shapes.{BeginsWithRange, BeginsWithStreams}
 use Rattle.redis_c.specs.declared.outcome.Counts.{Counts}
 use Rattle.redis_c.specs.declared.outcome.Found.{Found}
 use Rattle.redis_c.specs.declared.outcome.Outcome.{Outcome}
@@ -25,6 +27,24 @@ RangeIn bytes len held = IsRange default_limits bytes (map (entry_in bytes held.
 abbrev pub StreamsIn : List ℕ → ℕ → Held → Type 0
 StreamsIn bytes len held =
     IsRead default_limits bytes (map (stream_in bytes held.entries held.fields) held.streams) len
+
+-- The bytes begin with the rows of entries in the form in which servers write them, and there is room for these
+-- entries and for their fields.
+pub record RangeFits (bytes : List ℕ) (entry_room field_room : ℕ) : Type 0 where
+  pub es : List SentEntry
+  pub len : ℕ
+  pub begins : BeginsWithRange default_limits bytes es len
+  pub entries : length es ≤ entry_room
+  pub fields : length (all_fields es) ≤ field_room
+
+-- The same of streams, with their entries and the fields of all of these.
+pub record ReadFits (bytes : List ℕ) (stream_room entry_room field_room : ℕ) : Type 0 where
+  pub ss : List SentStream
+  pub len : ℕ
+  pub begins : BeginsWithStreams default_limits false bytes ss len
+  pub streams : length ss ≤ stream_room
+  pub entries : length (all_entries ss) ≤ entry_room
+  pub fields : length (all_stream_fields ss) ≤ field_room
 
 -- so many places
 pub record HasCounts (counts : Counts) (held : Held) : Type 0 where
@@ -55,12 +75,11 @@ first_of counts streams entries fields = record {
   fields = take counts.fields fields;
 }
 
--- The tables begin with the places that are held, or there are so many and no room for them.
-abbrev pub IsHanded : ℕ → Held → List StreamPlace → List EntryPlace → List FieldPlace → Outcome → Type 0
-IsHanded len held streams entries fields (outcomes.InPlace n counts) =
-    (n ≡ len) × (first_of counts streams entries fields ≡ held)
-IsHanded len held streams entries fields (outcomes.Room n counts) = (n ≡ len) × HasCounts counts held
-IsHanded len held streams entries fields _ = ⊥
+-- What reading comes to where the tables have too little room: there are places, so many; or there are none.
+abbrev pub IsRoom : (List ℕ → ℕ → Held → Type 0) → List ℕ → Outcome → Type 0
+IsRoom In bytes (outcomes.InPlace len counts) = ⊥
+IsRoom In bytes (outcomes.Room len counts) = (held : Held) × In bytes len held × HasCounts counts held
+IsRoom In bytes o = IsOther bytes o
 
 module _ (In : List ℕ → ℕ → Held → Type 0) (bytes : List ℕ) (streams : List StreamPlace) (entries : List EntryPlace)
     (fields : List FieldPlace) where

@@ -1,14 +1,53 @@
 //! Entries and ids that XAUTOCLAIM claimed, where they stand, in tables of the caller.
-ghost use Rattle.std.specs.Prelude.{[]};
-ghost use Rattle.redis_c.specs.Told.{IsOutcome, IsTold};
-ghost use Rattle.redis_c.specs.Claimed.{AutoClaimIn, JustIdIn};
+ghost use Rattle.std.specs.Prelude.{◌≡◌, [], length};
+ghost use Rattle.redis_c.specs.Outcome.{code};
+ghost use Rattle.redis_c.specs.Told.{IsRoom, IsOutcome, IsTold};
+ghost use Rattle.redis_c.specs.Claimed.{AutoClaimIn, JustIdIn, AutoClaimFits, JustIdFits};
 
-use crate::entries::handed_out;
+use crate::entries::counts_of;
 use crate::other::other;
 use crate::outcome::{Found, Outcome};
 use redis_wire::Limits;
 use std::alloc::Global;
-use stream_refs::{AutoClaimPlace, EntryPlace, EntryTape, FieldPlace, find_autoclaim, find_justid};
+use stream_refs::{
+    AutoClaimPlace, EntryPlace, EntryTables, EntryTape, FieldPlace, find_autoclaim, find_justid,
+};
+
+/// How much room the entries of an automatic claim want.
+fn autoclaim_room(alloc: Global, bytes: &[u8], claim: &mut AutoClaimPlace) -> Outcome
+    ensures { IsRoom (AutoClaimIn claim.new) bytes.now result }
+{
+    let mut tape = EntryTape::new(alloc);
+    match find_autoclaim(Limits::default(), bytes, &mut tape) {
+        Err(_) => Outcome::Memory,
+        Ok(None) => other(alloc, bytes),
+        Ok(Some(place)) => {
+            *claim = place;
+            Outcome::Room {
+                len: place.len,
+                counts: counts_of(&tape),
+            }
+        }
+    }
+}
+
+/// How much room the ids of an automatic claim want.
+fn justid_room(alloc: Global, bytes: &[u8], claim: &mut AutoClaimPlace) -> Outcome
+    ensures { IsRoom (JustIdIn claim.new) bytes.now result }
+{
+    let mut tape = EntryTape::new(alloc);
+    match find_justid(Limits::default(), bytes, &mut tape) {
+        Err(_) => Outcome::Memory,
+        Ok(None) => other(alloc, bytes),
+        Ok(Some(place)) => {
+            *claim = place;
+            Outcome::Room {
+                len: place.len,
+                counts: counts_of(&tape),
+            }
+        }
+    }
+}
 
 /// Where the entries of an automatic claim stand.
 fn autoclaim_outcome(
@@ -18,15 +57,19 @@ fn autoclaim_outcome(
     fields: &mut [FieldPlace],
     claim: &mut AutoClaimPlace,
 ) -> Outcome
-    ensures { IsOutcome (AutoClaimIn claim.new) bytes.now [] entries.new fields.new result }
+    ensures is { IsOutcome (AutoClaimIn claim.new) bytes.now [] entries.new fields.new result }
+    ensures in_place { AutoClaimFits bytes.now (length entries.old) (length fields.old) → code result ≡ 0 }
 {
-    let mut tape = EntryTape::new(alloc);
-    match find_autoclaim(Limits::default(), bytes, &mut tape) {
-        Err(_) => Outcome::Memory,
+    let mut tables = EntryTables::new(&mut [], entries, fields);
+    match find_autoclaim(Limits::default(), bytes, &mut tables) {
+        Err(_) => autoclaim_room(alloc, bytes, claim),
         Ok(None) => other(alloc, bytes),
         Ok(Some(place)) => {
             *claim = place;
-            handed_out(place.len, &tape, &mut [], entries, fields)
+            Outcome::InPlace {
+                len: place.len,
+                counts: counts_of(&tables),
+            }
         }
     }
 }
@@ -38,15 +81,19 @@ fn justid_outcome(
     entries: &mut [EntryPlace],
     claim: &mut AutoClaimPlace,
 ) -> Outcome
-    ensures { IsOutcome (JustIdIn claim.new) bytes.now [] entries.new [] result }
+    ensures is { IsOutcome (JustIdIn claim.new) bytes.now [] entries.new [] result }
+    ensures in_place { JustIdFits bytes.now (length entries.old) → code result ≡ 0 }
 {
-    let mut tape = EntryTape::new(alloc);
-    match find_justid(Limits::default(), bytes, &mut tape) {
-        Err(_) => Outcome::Memory,
+    let mut tables = EntryTables::new(&mut [], entries, &mut []);
+    match find_justid(Limits::default(), bytes, &mut tables) {
+        Err(_) => justid_room(alloc, bytes, claim),
         Ok(None) => other(alloc, bytes),
         Ok(Some(place)) => {
             *claim = place;
-            handed_out(place.len, &tape, &mut [], entries, &mut [])
+            Outcome::InPlace {
+                len: place.len,
+                counts: counts_of(&tables),
+            }
         }
     }
 }
@@ -62,7 +109,8 @@ pub extern "C" fn redis_find_autoclaim(
     claim: &mut AutoClaimPlace,
     found: &mut Found,
 ) -> u32
-    ensures { IsTold (AutoClaimIn claim.new) bytes.now [] entries.new fields.new result found.new }
+    ensures told { IsTold (AutoClaimIn claim.new) bytes.now [] entries.new fields.new result found.new }
+    ensures in_place { AutoClaimFits bytes.now (length entries.old) (length fields.old) → result ≡ 0 }
 {
     let outcome = autoclaim_outcome(alloc, bytes, entries, fields, claim);
     *found = outcome.found();
@@ -79,7 +127,8 @@ pub extern "C" fn redis_find_justid(
     claim: &mut AutoClaimPlace,
     found: &mut Found,
 ) -> u32
-    ensures { IsTold (JustIdIn claim.new) bytes.now [] entries.new [] result found.new }
+    ensures told { IsTold (JustIdIn claim.new) bytes.now [] entries.new [] result found.new }
+    ensures in_place { JustIdFits bytes.now (length entries.old) → result ≡ 0 }
 {
     let outcome = justid_outcome(alloc, bytes, entries, claim);
     *found = outcome.found();

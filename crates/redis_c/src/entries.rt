@@ -1,56 +1,55 @@
 //! Entries where they stand, in tables of the caller.
-ghost use Rattle.std.specs.Prelude.{◌≡◌, ◌≤◌, [], length, take};
-ghost use Rattle.redis_c.specs.Told.{RangeIn, StreamsIn, HasCounts, IsHanded, IsOutcome, IsTold};
+ghost use Rattle.std.specs.Prelude.{◌≡◌, [], length};
+ghost use Rattle.redis_c.specs.Outcome.{code};
+ghost use Rattle.redis_c.specs.Told.{RangeIn, StreamsIn, RangeFits, ReadFits, HasCounts, IsRoom, IsOutcome, IsTold};
 
 use crate::other::other;
 use crate::outcome::{Counts, Found, Outcome};
 use redis_wire::Limits;
 use std::alloc::Global;
 use stream_refs::{
-    EntryPlace, EntryTape, FieldPlace, Places, StreamPlace, find_range, find_streams,
+    EntryPlace, EntryTables, EntryTape, FieldPlace, Places, StreamPlace, find_range, find_streams,
 };
 
 /// How many places are held.
-fn counts_of(tape: &EntryTape) -> Counts
-    ensures { HasCounts result (⟦<EntryTape as Places>⟧.held tape.now) }
+pub fn counts_of<P: Places>(places: &P) -> Counts
+    ensures { HasCounts result (P.held places.now) }
 {
     Counts {
-        streams: tape.stream_places().len(),
-        entries: tape.entry_places().len(),
-        fields: tape.field_places().len(),
+        streams: places.count_streams(),
+        entries: places.count_entries(),
+        fields: places.count_fields(),
     }
 }
 
-/// Copies places to the front of a table.
-fn copy_to_front<T: Copy>(places: &[T], table: &mut [T])
-    requires { length places.now ≤ length table.old }
-    ensures { take (length places.now) table.new ≡ places.now }
+/// How much room the entries of a range want.
+fn range_room(alloc: Global, bytes: &[u8]) -> Outcome
+    ensures { IsRoom RangeIn bytes.now result }
 {
-    let (front, _) = table.split_at_mut(places.len());
-    front.copy_from_slice(places);
+    let mut tape = EntryTape::new(alloc);
+    match find_range(Limits::default(), bytes, &mut tape) {
+        Err(_) => Outcome::Memory,
+        Ok(None) => other(alloc, bytes),
+        Ok(Some(len)) => Outcome::Room {
+            len,
+            counts: counts_of(&tape),
+        },
+    }
 }
 
-/// Hands the places that are held out into tables of the caller, where they have room for all.
-pub fn handed_out(
-    len: usize,
-    tape: &EntryTape,
-    streams: &mut [StreamPlace],
-    entries: &mut [EntryPlace],
-    fields: &mut [FieldPlace],
-) -> Outcome
-    ensures { IsHanded len (⟦<EntryTape as Places>⟧.held tape.now) streams.new entries.new fields.new result }
+/// How much room the streams of a read want.
+fn streams_room(alloc: Global, bytes: &[u8]) -> Outcome
+    ensures { IsRoom StreamsIn bytes.now result }
 {
-    let counts = counts_of(tape);
-    if counts.streams > streams.len()
-        || counts.entries > entries.len()
-        || counts.fields > fields.len()
-    {
-        return Outcome::Room { len, counts };
+    let mut tape = EntryTape::new(alloc);
+    match find_streams(Limits::default(), bytes, &mut tape) {
+        Err(_) => Outcome::Memory,
+        Ok(None) => other(alloc, bytes),
+        Ok(Some(len)) => Outcome::Room {
+            len,
+            counts: counts_of(&tape),
+        },
     }
-    copy_to_front(tape.stream_places(), streams);
-    copy_to_front(tape.entry_places(), entries);
-    copy_to_front(tape.field_places(), fields);
-    Outcome::InPlace { len, counts }
 }
 
 /// Where the entries of a range stand.
@@ -60,13 +59,17 @@ fn range_outcome(
     entries: &mut [EntryPlace],
     fields: &mut [FieldPlace],
 ) -> Outcome
-    ensures { IsOutcome RangeIn bytes.now [] entries.new fields.new result }
+    ensures is { IsOutcome RangeIn bytes.now [] entries.new fields.new result }
+    ensures in_place { RangeFits bytes.now (length entries.old) (length fields.old) → code result ≡ 0 }
 {
-    let mut tape = EntryTape::new(alloc);
-    match find_range(Limits::default(), bytes, &mut tape) {
-        Err(_) => Outcome::Memory,
+    let mut tables = EntryTables::new(&mut [], entries, fields);
+    match find_range(Limits::default(), bytes, &mut tables) {
+        Err(_) => range_room(alloc, bytes),
         Ok(None) => other(alloc, bytes),
-        Ok(Some(len)) => handed_out(len, &tape, &mut [], entries, fields),
+        Ok(Some(len)) => Outcome::InPlace {
+            len,
+            counts: counts_of(&tables),
+        },
     }
 }
 
@@ -78,13 +81,18 @@ fn streams_outcome(
     entries: &mut [EntryPlace],
     fields: &mut [FieldPlace],
 ) -> Outcome
-    ensures { IsOutcome StreamsIn bytes.now streams.new entries.new fields.new result }
+    ensures is { IsOutcome StreamsIn bytes.now streams.new entries.new fields.new result }
+    ensures in_place { ReadFits bytes.now (length streams.old) (length entries.old) (length fields.old)
+        → code result ≡ 0 }
 {
-    let mut tape = EntryTape::new(alloc);
-    match find_streams(Limits::default(), bytes, &mut tape) {
-        Err(_) => Outcome::Memory,
+    let mut tables = EntryTables::new(streams, entries, fields);
+    match find_streams(Limits::default(), bytes, &mut tables) {
+        Err(_) => streams_room(alloc, bytes),
         Ok(None) => other(alloc, bytes),
-        Ok(Some(len)) => handed_out(len, &tape, streams, entries, fields),
+        Ok(Some(len)) => Outcome::InPlace {
+            len,
+            counts: counts_of(&tables),
+        },
     }
 }
 
@@ -97,7 +105,8 @@ pub extern "C" fn redis_find_range(
     fields: &mut [FieldPlace],
     found: &mut Found,
 ) -> u32
-    ensures { IsTold RangeIn bytes.now [] entries.new fields.new result found.new }
+    ensures told { IsTold RangeIn bytes.now [] entries.new fields.new result found.new }
+    ensures in_place { RangeFits bytes.now (length entries.old) (length fields.old) → result ≡ 0 }
 {
     let outcome = range_outcome(alloc, bytes, entries, fields);
     *found = outcome.found();
@@ -115,7 +124,9 @@ pub extern "C" fn redis_find_streams(
     fields: &mut [FieldPlace],
     found: &mut Found,
 ) -> u32
-    ensures { IsTold StreamsIn bytes.now streams.new entries.new fields.new result found.new }
+    ensures told { IsTold StreamsIn bytes.now streams.new entries.new fields.new result found.new }
+    ensures in_place { ReadFits bytes.now (length streams.old) (length entries.old) (length fields.old)
+        → result ≡ 0 }
 {
     let outcome = streams_outcome(alloc, bytes, streams, entries, fields);
     *found = outcome.found();

@@ -4,7 +4,7 @@ use Rattle.std.proofs.Common.{drop, codes, decimal, Option, Some, None, Ok, inl,
 use Rattle.std.proofs.Common.{flat_map, append_assoc, add-one, Bool, true, false}
 use Rattle.std.specs.List.{AllByRecursion, list_all}
 use Rattle.std.proofs.lemmas.Fmt.{decimal_nonempty, length-decimal-le}
-use Rattle.redis_resp.specs.Tree.{nil, array, trees}
+use Rattle.redis_resp.specs.Tree.{Tree, nil, array, trees}
 use Rattle.redis_wire.specs.declared.limits.Limits.{Limits}
 use Rattle.redis_wire.specs.declared.kind.GroupKind.TheVariants.{Array}
 use Rattle.redis_wire.specs.Reading.{Read, ◌>>=◌, is_inner}
@@ -112,25 +112,33 @@ pair_split p rest left is = is ∙ append_assoc (bulk_bytes p.0) (bulk_bytes p.1
 abbrev array_made : Answers × List ℕ → Read Answer
 array_made x = group_answer Array x.0 >>= λ a. Ok (a, x.1)
 
-not_nil : (ms : Answers) (after rest : List ℕ) → array_made (ms, after) ≡ Ok (value nil, rest) → ⊥
+not_other : (other : Tree) → ((ts : List Tree) → array (trees ts) ≡ other → ⊥) → (ms : Answers) (after rest : List ℕ)
+    → array_made (ms, after) ≡ Ok (value other, rest) → ⊥
 unfolding group_tree
-not_nil (values ts) after rest is =
-    let pair : (value (array (trees ts)), after) ≡ (value nil, rest) = cc in
-    let same : value (array (trees ts)) ≡ value nil = ap (λ (x : Answer × List ℕ). x.0) pair in
+not_other other apart (values ts) after rest is =
+    let pair : (value (array (trees ts)), after) ≡ (value other, rest) = cc in
+    let same : value (array (trees ts)) ≡ value other = ap (λ (x : Answer × List ℕ). x.0) pair in
+    apart ts cc
+not_other other apart (mixed xs) after rest is =
+    let pair : (group Array (answer_list xs), after) ≡ (value other, rest) = cc in
+    let same : group Array (answer_list xs) ≡ value other = ap (λ (x : Answer × List ℕ). x.0) pair in
     cc
-not_nil (mixed xs) after rest is =
-    let pair : (group Array (answer_list xs), after) ≡ (value nil, rest) = cc in
-    let same : group Array (answer_list xs) ≡ value nil = ap (λ (x : Answer × List ℕ). x.0) pair in
-    cc
+
+-- another value is no head of an array
+pub no_array_is : (limits : Limits) (bytes : List ℕ) (at count after : ℕ) → IsArrayAt limits bytes at count after
+    → (other : Tree) → ((ts : List Tree) → array (trees ts) ≡ other → ⊥) → (d : ℕ) (rest : List ℕ)
+    → value_at limits (suc d) (drop at bytes) ≡ Ok (value other, rest) → ⊥
+unfolding group_body_at
+no_array_is limits bytes at count after head other apart d rest read =
+    let b = bind_ok (many (value_at limits d) count (drop after bytes)) array_made (value other, rest)
+    (sym (head.reads d) ∙ read) in
+    not_other other apart b.0.0 b.0.1 rest b.2
 
 -- nil is no head of an array
 no_head : (limits : Limits) (bytes : List ℕ) (at count after : ℕ) → IsArrayAt limits bytes at count after
     → (rest : List ℕ) → BeginsWithNil limits (drop at bytes) rest → ⊥
-unfolding group_body_at
 no_head limits bytes at count after head rest h =
-    let b = bind_ok (many (value_at limits 0) count (drop after bytes)) array_made (value nil, rest)
-    (sym (head.reads 0) ∙ nil_reads limits 0 (drop at bytes) rest h) in
-    not_nil b.0.0 b.0.1 rest b.2
+    no_array_is limits bytes at count after head nil (λ ts e. cc) 0 rest (nil_reads limits 0 (drop at bytes) rest h)
 
 pub array_split : (form : NilForm) (ps : Pairs) (rest left : List ℕ) → left ≡ fields_bytes form (Some ps) ++ rest
     → left ≡ count_bytes 42 (2 * length ps) ++ (flat_map pair_bytes ps ++ rest)
@@ -142,12 +150,12 @@ pub nil_split : (form : NilForm) (rest left : List ℕ) → left ≡ fields_byte
 unfolding fields_bytes
 nil_split form rest left is = is
 
-module _ (limits : Limits) (bytes : List ℕ) (at : ℕ) (Q : List ℕ → Type 0) where
+module _ (limits : Limits) (bytes : List ℕ) (at : ℕ) (Q : Option Pairs → List ℕ → Type 0) where
   -- where no head of an array was found
   pub own_without : ((count : ℕ) (rest : List ℕ) → BeginsWithArray limits (drop at bytes) count rest → ⊥)
-      → ((rest : List ℕ) → BeginsWithNil limits (drop at bytes) rest → Q rest)
+      → ((rest : List ℕ) → BeginsWithNil limits (drop at bytes) rest → Q None rest)
       → (form : NilForm) (fs : Option Pairs) (rest : List ℕ) → AllowsRows limits → ArePairs limits fs
-      → drop at bytes ≡ fields_bytes form fs ++ rest → Q rest
+      → drop at bytes ≡ fields_bytes form fs ++ rest → Q fs rest
   own_without apart none form None rest a h is =
       none rest (nil_begins limits a (drop at bytes) form rest (nil_split form rest (drop at bytes) is))
   own_without apart none form (Some ps) rest a h is = absurd (apart (2 * length ps) (flat_map pair_bytes ps ++ rest)
@@ -159,9 +167,9 @@ module _ (limits : Limits) (bytes : List ℕ) (at : ℕ) (Q : List ℕ → Type 
       → ((count : ℕ) (rest : List ℕ) → BeginsWithArray limits (drop at bytes) count rest
       → (members ≡ count) × (drop behind bytes ≡ rest))
       → ((ps : Pairs) (rest : List ℕ) → AllowsRows limits → members ≡ 2 * length ps
-      → AllByRecursion (IsPair limits) ps → drop behind bytes ≡ flat_map pair_bytes ps ++ rest → Q rest)
+      → AllByRecursion (IsPair limits) ps → drop behind bytes ≡ flat_map pair_bytes ps ++ rest → Q (Some ps) rest)
       → (form : NilForm) (fs : Option Pairs) (rest : List ℕ) → AllowsRows limits → ArePairs limits fs
-      → drop at bytes ≡ fields_bytes form fs ++ rest → Q rest
+      → drop at bytes ≡ fields_bytes form fs ++ rest → Q fs rest
   own_with members behind head found step form None rest a h is = absurd (no_head limits bytes at members behind head
       rest (nil_begins limits a (drop at bytes) form rest (nil_split form rest (drop at bytes) is)))
   own_with members behind head found step form (Some ps) rest a h is =
@@ -250,12 +258,13 @@ row_begins limits claim left form e rest a h is =
 pub record IsNext {A : Type 0} (f : A → List ℕ) (P : A → Type 0) (xs : List A) (i : ℕ) (left rest : List ℕ)
     : Type 0 where
   pub item : A
+  pub tail : drop i xs ≡ item ∷ drop (i + 1) xs
   pub is : left ≡ f item ++ (flat_map f (drop (i + 1) xs) ++ rest)
   pub holds : P item
 
 module _ {A : Type 0} (f : A → List ℕ) (P : A → Type 0) where
   next_in : (xs : List A) (i : ℕ) → i < length xs → AllByRecursion P xs
-      → (x : A) × (flat_map f (drop i xs) ≡ f x ++ flat_map f (drop (suc i) xs)) × P x
+      → (x : A) × (drop i xs ≡ x ∷ drop (suc i) xs) × P x
   next_in [] i lt h = absurd (omega (arith, lt))
   next_in (x ∷ xs) zero lt h = (x, refl, h.0)
   next_in (x ∷ xs) (suc i) lt h = next_in xs i (omega arith) h.1
@@ -264,11 +273,12 @@ module _ {A : Type 0} (f : A → List ℕ) (P : A → Type 0) where
       → left ≡ flat_map f (drop i xs) ++ rest → IsNext f P xs i left rest
   next_is xs i left rest lt h is =
       let n = next_in xs i lt h in
+      let tail = n.1 ∙ ap (λ (k : ℕ). n.0 ∷ drop k xs) (sym (add-one i)) in
       record {
         item = n.0;
-        is = is ∙ ap (λ (z : List ℕ). z ++ rest) n.1
-            ∙ append_assoc (f n.0) (flat_map f (drop (suc i) xs)) rest
-            ∙ ap (λ (k : ℕ). f n.0 ++ (flat_map f (drop k xs) ++ rest)) (sym (add-one i));
+        tail = tail;
+        is = is ∙ ap (λ (ys : List A). flat_map f ys ++ rest) tail
+            ∙ append_assoc (f n.0) (flat_map f (drop (i + 1) xs)) rest;
         holds = n.2;
       }
 

@@ -11,6 +11,7 @@ pub mod ReadLemmas
 pub mod IdLemmas
 pub mod AutoClaimLemmas
 pub mod BeginLemmas
+pub mod CountLemmas
 pub mod ShapeLemmas
 pub mod ShapeStreamLemmas
 pub mod ShapeClaimLemmas

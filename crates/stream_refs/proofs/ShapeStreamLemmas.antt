@@ -11,7 +11,7 @@ use Rattle.redis_wire.specs.Group.{many}
 use Rattle.redis_wire.specs.Level.{value_at, level, by_kind, group_value_at, group_body_at}
 use Rattle.redis_wire.specs.Packed.{bulk_bytes}
 use Rattle.redis_wire.specs.Written.{count_bytes}
-use Rattle.redis_wire.specs.Place.{BeginsWithArray, BeginsWithMap, BeginsWithNil}
+use Rattle.redis_wire.specs.Place.{BeginsWithArray, BeginsWithMap, BeginsWithNil, IsArrayAt}
 use Rattle.redis_wire.proofs.LevelLemmas.{one_level}
 use Rattle.redis_wire.proofs.PlaceLemmas.{nil_reads}
 use Rattle.stream_refs.specs.Sent.{SentEntry, SentStream, rows_tree, stream_tree, stream_pair, IsReadTree}
@@ -22,7 +22,7 @@ use Rattle.stream_refs.specs.Shapes.{as_array, as_map, streams_bytes, AllowsRows
 use Rattle.stream_refs.specs.Shapes.{BeginsWithStreams}
 use Rattle.stream_refs.proofs.ManyLemmas.{no_more, many_first}
 use Rattle.stream_refs.proofs.ReadLemmas.{map_of, map_members}
-use Rattle.stream_refs.proofs.BeginLemmas.{head_begins, nil_begins}
+use Rattle.stream_refs.proofs.BeginLemmas.{head_begins, nil_begins, no_array_is}
 use Rattle.stream_refs.proofs.ShapeLemmas.{text_reads, array_reads, rows_read, same_trees, same_rows_tree, one_reply}
 use Rattle.stream_refs.proofs.ShapeLemmas.{len_same}
 
@@ -169,6 +169,14 @@ module _ (limits : Limits) (allows : AllowsRows limits) (claim : Bool) (form : N
       (head_begins limits allows left 37 (length ss) behind h.few (map_is form ss rest left is))
       ∙ map_of (value_at limits (suc (suc (suc (suc (suc d)))))) (length ss) behind
       (flat_map (stream_members true) ss) (map stream_pair ss) rest (pairs_in_turn d ss rest h.each) (map_members ss)
+
+-- a map of streams is no array
+pub map_is_no_array : (limits : Limits) (claim : Bool) (form : NilForm) (ss : List SentStream)
+    (rest bytes : List ℕ) (count after : ℕ) → AllowsRows limits → AreStreamsOf limits claim ss
+    → bytes ≡ streams_bytes as_map form ss ++ rest → IsArrayAt limits bytes 0 count after → ⊥
+map_is_no_array limits claim form ss rest bytes count after allows h is head =
+    no_array_is limits bytes 0 count after head (read_tree as_map ss) (λ ts e. cc) 5 rest
+    (streams_read limits allows claim form 0 as_map ss rest bytes h is)
 
 -- ---- what the trees tell
 

@@ -1,4 +1,5 @@
 pub mod Held
+pub mod Lent
 pub mod Sent
 pub mod Copied
 pub mod Range

@@ -1,5 +1,5 @@
 -- Entries as servers send them, and the values of a reply that they stand in.
-use Rattle.std.specs.Prelude.{◌≡◌, ◌<◌, ◌^◌, ℕ, pos, List, [], ◌∷◌, map, Bool, true, false, Option, Some, None}
+use Rattle.std.specs.Prelude.{◌≡◌, ◌<◌, ◌^◌, ℕ, pos, List, [], ◌∷◌, map, flat_map, Bool, true, false, Option, Some, None}
 use Rattle.std.specs.List.{AllByRecursion}
 use Rattle.std.specs.Str.{is_utf8}
 use Rattle.redis_resp.specs.Tree.{Tree, nil, int, bulk, array, map_of_pairs, trees, pairs}
@@ -19,6 +19,23 @@ pub record SentEntry : Type 0 where
 pub record SentStream : Type 0 where
   pub name : List ℕ
   pub entries : List SentEntry
+
+-- the fields of an entry, none where it was deleted
+abbrev pub fields_of : Option Pairs → Pairs
+fields_of None = []
+fields_of (Some ps) = ps
+
+-- the fields of all entries, in order
+abbrev pub all_fields : List SentEntry → Pairs
+all_fields es = flat_map (λ e. fields_of e.fields) es
+
+-- the entries of all streams, in order
+abbrev pub all_entries : List SentStream → List SentEntry
+all_entries ss = flat_map (λ s. s.entries) ss
+
+-- the fields of all these entries
+abbrev pub all_stream_fields : List SentStream → Pairs
+all_stream_fields ss = flat_map (λ s. all_fields s.entries) ss
 
 -- there is none
 abbrev pub is_none : {A : Type 0} → Option A → Bool

@@ -1,5 +1,6 @@
 //! The reply of XAUTOCLAIM, where it stands.
-ghost use Rattle.std.specs.Prelude.{◌≡◌, ◌≤◌, ◌++◌, ℕ, suc, Bool, List, Some, IfOk, IfSome, IsSomeAnd, drop, length};
+ghost use Rattle.std.specs.Prelude.{◌≡◌, ◌≤◌, ◌+◌, ◌++◌, ℕ, suc, Bool, List, Some, IfOk, IfSome, IsOk, IsSomeAnd};
+ghost use Rattle.std.specs.Prelude.{drop, length};
 ghost use Rattle.redis_wire.specs.Written.{count_bytes};
 ghost use Rattle.redis_wire.specs.Place.{EndsBefore};
 ghost use Rattle.stream_entries.specs.JustId.{JustId};
@@ -9,6 +10,8 @@ ghost use Rattle.stream_refs.specs.Shapes.{BeginsWithAutoClaim, BeginsWithJustId
 ghost use Rattle.stream_entries.specs.AutoClaimMeaning.{autoclaim_meaning};
 ghost use Rattle.stream_entries.specs.JustIdMeaning.{justid_meaning};
 ghost use Rattle.stream_refs.specs.ClaimPlaced.{autoclaim_in, justid_in, AreClaimPlaces, AreJustIdPlaces};
+ghost use Rattle.stream_refs.specs.Lent.{EntriesFit, FieldsFit};
+ghost use Rattle.stream_refs.specs.Sent.{all_fields};
 ghost use Rattle.stream_refs.specs.AddedIds.{deleted_count, IsClaimHead, DeletedAdded};
 
 use crate::entry_list::{EntriesRef, entries_at};
@@ -144,6 +147,10 @@ fn add_deleted<P: Places>(
     ensures found { (ids : List (List ℕ)) (rest : List ℕ) → AllowsRows limits → AreDeleted limits told ids
         → drop at bytes.now ≡ deleted_bytes told ids ++ rest
         → IfOk result (λ o. IsSomeAnd o (EndsBefore bytes.now rest)) }
+    ensures fits { (ids : List (List ℕ)) (rest : List ℕ) → AllowsRows limits → AreDeleted limits told ids
+        → drop at bytes.now ≡ deleted_bytes told ids ++ rest
+        → EntriesFit (P.lent places.old) (length (P.held places.old).entries + length ids) → IsOk result }
+    ensures kept { P.lent places.new ≡ P.lent places.old }
 {
     if !told {
         return Ok(Some(at));
@@ -173,6 +180,10 @@ pub fn find_autoclaim<P: Places>(
     ensures found { (r : SentAutoClaim) (len : ℕ) → BeginsWithAutoClaim limits bytes.now r len
         → IfOk result (λ o. IsSomeAnd o (λ p. (autoclaim_in bytes.now (P.held places.new).entries
         (P.held places.new).fields p ≡ r) × (p.len ≡ len))) }
+    ensures fits { (r : SentAutoClaim) (len : ℕ) → BeginsWithAutoClaim limits bytes.now r len
+        → EntriesFit (P.lent places.old) (length r.claimed + length r.deleted)
+        → FieldsFit (P.lent places.old) (length (all_fields r.claimed)) → IsOk result }
+    ensures kept { P.lent places.new ≡ P.lent places.old }
 {
     places.clear();
     if limits.depth < 5 {
@@ -206,6 +217,9 @@ pub fn find_justid<P: Places>(
     ensures found { (r : JustId) (len : ℕ) → BeginsWithJustId limits bytes.now r len
         → IfOk result (λ o. IsSomeAnd o (λ p. (justid_in bytes.now (P.held places.new).entries p ≡ r)
         × (p.len ≡ len))) }
+    ensures fits { (r : JustId) (len : ℕ) → BeginsWithJustId limits bytes.now r len
+        → EntriesFit (P.lent places.old) (length r.claimed + length r.deleted) → IsOk result }
+    ensures kept { P.lent places.new ≡ P.lent places.old }
 {
     places.clear();
     if limits.depth < 3 {

@@ -1,10 +1,12 @@
 //! Finds where the entries of a reply stand, in tables of any kind.
-ghost use Rattle.std.specs.Prelude.{◌≡◌, ◌≤◌, ◌++◌, ℕ, Bool, List, IfOk, IfSome, IsSome, IsSomeAnd, map, true, false};
+ghost use Rattle.std.specs.Prelude.{◌≡◌, ◌≤◌, ◌++◌, ℕ, Bool, List, IfOk, IfSome, IsOk, IsSome, IsSomeAnd, length, map};
+ghost use Rattle.std.specs.Prelude.{true, false};
 ghost use Rattle.stream_refs.specs.Held.{none_held};
+ghost use Rattle.stream_refs.specs.Lent.{StreamsFit, EntriesFit, FieldsFit};
 ghost use Rattle.stream_refs.specs.Placed.{entry_in, stream_in};
 ghost use Rattle.stream_refs.specs.Added.{IsFilled};
 ghost use Rattle.stream_refs.specs.Range.{IsRange, IsRead};
-ghost use Rattle.stream_refs.specs.Sent.{SentEntry, SentStream};
+ghost use Rattle.stream_refs.specs.Sent.{SentEntry, SentStream, all_fields, all_entries, all_stream_fields};
 ghost use Rattle.stream_refs.specs.Shapes.{NilForm, as_array, as_map, streams_bytes, AllowsRows, AreStreamsOf};
 ghost use Rattle.stream_refs.specs.Shapes.{BeginsWithRange, BeginsWithStreams};
 
@@ -27,6 +29,10 @@ pub fn find_range<P: Places>(
     ensures found { (es : List SentEntry) (len : ℕ) → BeginsWithRange limits bytes.now es len
         → IfOk result (λ o. IsSomeAnd o (λ n. (map (entry_in bytes.now (P.held places.new).fields)
         (P.held places.new).entries ≡ es) × (n ≡ len))) }
+    ensures fits { (es : List SentEntry) (len : ℕ) → BeginsWithRange limits bytes.now es len
+        → EntriesFit (P.lent places.old) (length es) → FieldsFit (P.lent places.old) (length (all_fields es))
+        → IsOk result }
+    ensures kept { P.lent places.new ≡ P.lent places.old }
 {
     places.clear();
     if limits.depth < 4 {
@@ -56,6 +62,13 @@ fn find_array<P: Places>(
     ensures found { (form : NilForm) (ss : List SentStream) (rest : List ℕ) → AllowsRows limits
         → AreStreamsOf limits claim ss → bytes.now ≡ streams_bytes as_array form ss ++ rest
         → IfOk result (λ o. IsSome o) }
+    ensures fits { (form : NilForm) (ss : List SentStream) (rest : List ℕ) → AllowsRows limits
+        → AreStreamsOf limits claim ss → bytes.now ≡ streams_bytes as_array form ss ++ rest
+        → StreamsFit (P.lent places.old) (length ss) → EntriesFit (P.lent places.old) (length (all_entries ss))
+        → FieldsFit (P.lent places.old) (length (all_stream_fields ss)) → IsOk result }
+    ensures fits_map { (form : NilForm) (ss : List SentStream) (rest : List ℕ) → AllowsRows limits
+        → AreStreamsOf limits claim ss → bytes.now ≡ streams_bytes as_map form ss ++ rest → IsOk result }
+    ensures kept { P.lent places.new ≡ P.lent places.old }
 {
     let Some((count, at)) = array_at(limits, bytes, 0) else {
         return Ok(None);
@@ -81,6 +94,11 @@ fn find_map<P: Places>(
     ensures found { (form : NilForm) (ss : List SentStream) (rest : List ℕ) → AllowsRows limits
         → AreStreamsOf limits claim ss → bytes.now ≡ streams_bytes as_map form ss ++ rest
         → IfOk result (λ o. IsSome o) }
+    ensures fits { (form : NilForm) (ss : List SentStream) (rest : List ℕ) → AllowsRows limits
+        → AreStreamsOf limits claim ss → bytes.now ≡ streams_bytes as_map form ss ++ rest
+        → StreamsFit (P.lent places.old) (length ss) → EntriesFit (P.lent places.old) (length (all_entries ss))
+        → FieldsFit (P.lent places.old) (length (all_stream_fields ss)) → IsOk result }
+    ensures kept { P.lent places.new ≡ P.lent places.old }
 {
     let Some((count, at)) = map_at(limits, bytes, 0) else {
         return Ok(None);
@@ -103,6 +121,10 @@ pub fn find_form<P: Places>(
         IsFilled limits bytes.now claim len (P.held places.new))) }
     ensures found { (ss : List SentStream) (len : ℕ) → BeginsWithStreams limits claim bytes.now ss len
         → IfOk result (λ o. IsSome o) }
+    ensures fits { (ss : List SentStream) (len : ℕ) → BeginsWithStreams limits claim bytes.now ss len
+        → StreamsFit (P.lent places.old) (length ss) → EntriesFit (P.lent places.old) (length (all_entries ss))
+        → FieldsFit (P.lent places.old) (length (all_stream_fields ss)) → IsOk result }
+    ensures kept { P.lent places.new ≡ P.lent places.old }
 {
     places.clear();
     if let Some(len) = nil_at(limits, bytes, 0) {
@@ -132,6 +154,10 @@ pub fn find_streams<P: Places>(
     ensures found { (ss : List SentStream) (len : ℕ) → BeginsWithStreams limits false bytes.now ss len
         → IfOk result (λ o. IsSomeAnd o (λ n. (map (stream_in bytes.now (P.held places.new).entries
         (P.held places.new).fields) (P.held places.new).streams ≡ ss) × (n ≡ len))) }
+    ensures fits { (ss : List SentStream) (len : ℕ) → BeginsWithStreams limits false bytes.now ss len
+        → StreamsFit (P.lent places.old) (length ss) → EntriesFit (P.lent places.old) (length (all_entries ss))
+        → FieldsFit (P.lent places.old) (length (all_stream_fields ss)) → IsOk result }
+    ensures kept { P.lent places.new ≡ P.lent places.old }
 {
     if limits.depth < 6 {
         return Ok(None);
@@ -156,6 +182,10 @@ pub fn find_claimed_streams<P: Places>(
     ensures found { (ss : List SentStream) (len : ℕ) → BeginsWithStreams limits true bytes.now ss len
         → IfOk result (λ o. IsSomeAnd o (λ n. (map (stream_in bytes.now (P.held places.new).entries
         (P.held places.new).fields) (P.held places.new).streams ≡ ss) × (n ≡ len))) }
+    ensures fits { (ss : List SentStream) (len : ℕ) → BeginsWithStreams limits true bytes.now ss len
+        → StreamsFit (P.lent places.old) (length ss) → EntriesFit (P.lent places.old) (length (all_entries ss))
+        → FieldsFit (P.lent places.old) (length (all_stream_fields ss)) → IsOk result }
+    ensures kept { P.lent places.new ≡ P.lent places.old }
 {
     if limits.depth < 6 {
         return Ok(None);
@@ -178,6 +208,7 @@ pub fn find_either_form<P: Places>(
         IsFilled limits bytes.now x.0 x.1 (P.held places.new))) }
     ensures found { (claim : Bool) (ss : List SentStream) (len : ℕ)
         → BeginsWithStreams limits claim bytes.now ss len → IfOk result (λ o. IsSome o) }
+    ensures kept { P.lent places.new ≡ P.lent places.old }
 {
     if let Some(len) = find_form(limits, bytes, false, places)? {
         return Ok(Some((false, len)));

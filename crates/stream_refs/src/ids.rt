@@ -1,10 +1,11 @@
 //! Ids alone, where they stand.
-ghost use Rattle.std.specs.Prelude.{◌≡◌, ◌≤◌, ◌∷◌, ◌++◌, ℕ, List, [], IfOk, IfSome, IsSomeAnd, MatchOption};
-ghost use Rattle.std.specs.Prelude.{drop, flat_map, false, length, map, nat_eq};
+ghost use Rattle.std.specs.Prelude.{◌≡◌, ◌≤◌, ◌+◌, ◌∷◌, ◌++◌, ℕ, List, [], IfOk, IfSome, IsOk, IsSomeAnd};
+ghost use Rattle.std.specs.Prelude.{MatchOption, drop, flat_map, false, length, map, nat_eq};
 ghost use Rattle.std.specs.List.{AllByRecursion};
 ghost use Rattle.stream_entries.specs.AutoClaimMeaning.{text_bytes_of};
 ghost use Rattle.stream_refs.specs.ClaimPlaced.{id_at, IsId};
 ghost use Rattle.stream_refs.specs.AddedIds.{IdsAdded};
+ghost use Rattle.stream_refs.specs.Lent.{EntriesFit};
 ghost use Rattle.redis_wire.specs.Packed.{bulk_bytes};
 ghost use Rattle.redis_wire.specs.Place.{EndsBefore};
 ghost use Rattle.stream_refs.specs.Shapes.{AllowsRows, IsName};
@@ -164,6 +165,10 @@ pub fn add_ids<P: Places>(
     ensures found { (ids : List (List ℕ)) (rest : List ℕ) → AllowsRows limits → AllByRecursion (IsName limits) ids
         → drop at bytes.now ≡ flat_map bulk_bytes ids ++ rest → count ≡ length ids
         → IfOk result (λ o. IsSomeAnd o (EndsBefore bytes.now rest)) }
+    ensures counts { IfOk result (λ o. IfSome o (λ _.
+        length (P.held places.new).entries ≡ length (P.held places.old).entries + count)) }
+    ensures fits { EntriesFit (P.lent places.old) (length (P.held places.old).entries + count) → IsOk result }
+    ensures kept { P.lent places.new ≡ P.lent places.old }
 {
     let mut behind = at;
     for _ in 0..count {

@@ -1,11 +1,12 @@
 //! Finds where rows stand: entries with their fields.
-ghost use Rattle.std.specs.Prelude.{◌≡◌, ◌≤◌, ◌++◌, ℕ, Bool, List, Option, IfOk, IfSome, IsSomeAnd, IsTrue, drop};
-ghost use Rattle.std.specs.Prelude.{flat_map, length, true};
+ghost use Rattle.std.specs.Prelude.{◌≡◌, ◌≤◌, ◌+◌, ◌++◌, ℕ, Bool, List, Option, IfOk, IfSome, IsOk, IsSomeAnd, IsTrue};
+ghost use Rattle.std.specs.Prelude.{drop, flat_map, length, true};
 ghost use Rattle.std.specs.List.{AllByRecursion};
 ghost use Rattle.std.specs.Str.{is_utf8};
 ghost use Rattle.redis_wire.specs.Place.{text_in, IsSpan, IsTextAt, BeginsWithText, EndsBefore};
 ghost use Rattle.stream_refs.specs.Added.{row_count, FieldsAdded, OwnAdded, IsDeliveryAt, EntryAdded, EntriesAdded};
-ghost use Rattle.stream_refs.specs.Sent.{Pairs, SentEntry};
+ghost use Rattle.stream_refs.specs.Lent.{EntriesFit, FieldsFit};
+ghost use Rattle.stream_refs.specs.Sent.{Pairs, SentEntry, fields_of, all_fields};
 ghost use Rattle.stream_refs.specs.Shapes.{NilForm, pair_bytes, fields_bytes, delivery_bytes, entry_bytes};
 ghost use Rattle.stream_refs.specs.Shapes.{AllowsRows, IsPair, ArePairs, IsOfForm, IsEntryOf};
 
@@ -68,6 +69,10 @@ fn add_fields<P: Places>(
     ensures found { (ps : Pairs) (rest : List ℕ) → AllowsRows limits → AllByRecursion (IsPair limits) ps
         → drop at bytes.now ≡ flat_map pair_bytes ps ++ rest → count ≡ length ps
         → IfOk result (λ o. IsSomeAnd o (EndsBefore bytes.now rest)) }
+    ensures counts { IfOk result (λ o. IfSome o (λ _.
+        length (P.held places.new).fields ≡ length (P.held places.old).fields + count)) }
+    ensures fits { FieldsFit (P.lent places.old) (length (P.held places.old).fields + count) → IsOk result }
+    ensures kept { P.lent places.new ≡ P.lent places.old }
 {
     let mut behind = at;
     for _ in 0..count {
@@ -97,6 +102,13 @@ fn add_own_fields<P: Places>(
     ensures found { (form : NilForm) (fs : Option Pairs) (rest : List ℕ) → AllowsRows limits → ArePairs limits fs
         → drop at bytes.now ≡ fields_bytes form fs ++ rest
         → IfOk result (λ o. IsSomeAnd o (λ x. EndsBefore bytes.now rest x.1)) }
+    ensures counts { (form : NilForm) (fs : Option Pairs) (rest : List ℕ) → AllowsRows limits → ArePairs limits fs
+        → drop at bytes.now ≡ fields_bytes form fs ++ rest → IfOk result (λ o. IfSome o (λ _.
+        length (P.held places.new).fields ≡ length (P.held places.old).fields + length (fields_of fs))) }
+    ensures fits { (form : NilForm) (fs : Option Pairs) (rest : List ℕ) → AllowsRows limits → ArePairs limits fs
+        → drop at bytes.now ≡ fields_bytes form fs ++ rest
+        → FieldsFit (P.lent places.old) (length (P.held places.old).fields + length (fields_of fs)) → IsOk result }
+    ensures kept { P.lent places.new ≡ P.lent places.old }
 {
     let Some((members, behind)) = array_at(limits, bytes, at) else {
         return match nil_at(limits, bytes, at) {
@@ -150,6 +162,14 @@ fn add_entry<P: Places>(
     ensures found { (form : NilForm) (e : SentEntry) (rest : List ℕ) → AllowsRows limits → IsEntryOf limits claim e
         → drop at bytes.now ≡ entry_bytes form e ++ rest
         → IfOk result (λ o. IsSomeAnd o (λ x. EndsBefore bytes.now rest x.1)) }
+    ensures counts { (form : NilForm) (e : SentEntry) (rest : List ℕ) → AllowsRows limits → IsEntryOf limits claim e
+        → drop at bytes.now ≡ entry_bytes form e ++ rest → IfOk result (λ o. IfSome o (λ _.
+        length (P.held places.new).fields ≡ length (P.held places.old).fields + length (fields_of e.fields))) }
+    ensures fits { (form : NilForm) (e : SentEntry) (rest : List ℕ) → AllowsRows limits → IsEntryOf limits claim e
+        → drop at bytes.now ≡ entry_bytes form e ++ rest
+        → FieldsFit (P.lent places.old) (length (P.held places.old).fields + length (fields_of e.fields))
+        → IsOk result }
+    ensures kept { P.lent places.new ≡ P.lent places.old }
 {
     let Some((members, behind)) = array_at(limits, bytes, at) else {
         return Ok(None);
@@ -195,6 +215,20 @@ pub fn add_entries<P: Places>(
         → AllByRecursion (IsEntryOf limits claim) es
         → drop at bytes.now ≡ flat_map (entry_bytes form) es ++ rest → count ≡ length es
         → IfOk result (λ o. IsSomeAnd o (EndsBefore bytes.now rest)) }
+    ensures counts { IfOk result (λ o. IfSome o (λ _.
+        length (P.held places.new).entries ≡ length (P.held places.old).entries + count)) }
+    ensures counts_fields { (form : NilForm) (es : List SentEntry) (rest : List ℕ) → AllowsRows limits
+        → AllByRecursion (IsEntryOf limits claim) es
+        → drop at bytes.now ≡ flat_map (entry_bytes form) es ++ rest → count ≡ length es
+        → IfOk result (λ o. IfSome o (λ _.
+        length (P.held places.new).fields ≡ length (P.held places.old).fields + length (all_fields es))) }
+    ensures fits { (form : NilForm) (es : List SentEntry) (rest : List ℕ) → AllowsRows limits
+        → AllByRecursion (IsEntryOf limits claim) es
+        → drop at bytes.now ≡ flat_map (entry_bytes form) es ++ rest → count ≡ length es
+        → EntriesFit (P.lent places.old) (length (P.held places.old).entries + count)
+        → FieldsFit (P.lent places.old) (length (P.held places.old).fields + length (all_fields es))
+        → IsOk result }
+    ensures kept { P.lent places.new ≡ P.lent places.old }
 {
     let mut behind = at;
     for _ in 0..count {

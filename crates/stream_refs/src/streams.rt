@@ -1,10 +1,12 @@
 //! Finds where streams stand, with their entries.
-ghost use Rattle.std.specs.Prelude.{◌≡◌, ◌≤◌, ◌++◌, ℕ, List, IfOk, IfSome, IsSomeAnd, drop, flat_map, length};
+ghost use Rattle.std.specs.Prelude.{◌≡◌, ◌≤◌, ◌+◌, ◌++◌, ℕ, List, IfOk, IfSome, IsOk, IsSomeAnd, drop, flat_map};
+ghost use Rattle.std.specs.Prelude.{length};
 ghost use Rattle.stream_refs.specs.Held.{none_held};
+ghost use Rattle.stream_refs.specs.Lent.{StreamsFit, EntriesFit, FieldsFit};
 ghost use Rattle.stream_refs.specs.Added.{IsStreamHead, StreamAdded, StreamsAdded};
 ghost use Rattle.std.specs.List.{AllByRecursion};
 ghost use Rattle.redis_wire.specs.Place.{EndsBefore};
-ghost use Rattle.stream_refs.specs.Sent.{SentStream};
+ghost use Rattle.stream_refs.specs.Sent.{SentStream, all_fields, all_entries, all_stream_fields};
 ghost use Rattle.stream_refs.specs.Shapes.{NilForm, stream_head, stream_bytes, AllowsRows, IsStreamOf};
 
 use crate::places::StreamPlace;
@@ -45,6 +47,17 @@ fn add_stream<P: Places>(
     ensures found { (form : NilForm) (s : SentStream) (rest : List ℕ) → AllowsRows limits
         → IsStreamOf limits claim s → drop at bytes.now ≡ stream_bytes in_map form s ++ rest
         → IfOk result (λ o. IsSomeAnd o (λ x. EndsBefore bytes.now rest x.1)) }
+    ensures counts { (form : NilForm) (s : SentStream) (rest : List ℕ) → AllowsRows limits
+        → IsStreamOf limits claim s → drop at bytes.now ≡ stream_bytes in_map form s ++ rest
+        → IfOk result (λ o. IfSome o (λ _.
+        (length (P.held places.new).entries ≡ length (P.held places.old).entries + length s.entries)
+        × (length (P.held places.new).fields ≡ length (P.held places.old).fields + length (all_fields s.entries)))) }
+    ensures fits { (form : NilForm) (s : SentStream) (rest : List ℕ) → AllowsRows limits
+        → IsStreamOf limits claim s → drop at bytes.now ≡ stream_bytes in_map form s ++ rest
+        → EntriesFit (P.lent places.old) (length (P.held places.old).entries + length s.entries)
+        → FieldsFit (P.lent places.old) (length (P.held places.old).fields + length (all_fields s.entries))
+        → IsOk result }
+    ensures kept { P.lent places.new ≡ P.lent places.old }
 {
     let Some(behind) = head_end(limits, bytes, at, in_map) else {
         return Ok(None);
@@ -82,6 +95,12 @@ pub fn add_streams<P: Places>(
         → AllByRecursion (IsStreamOf limits claim) ss
         → drop at bytes.now ≡ flat_map (stream_bytes in_map form) ss ++ rest → count ≡ length ss
         → IfOk result (λ o. IsSomeAnd o (EndsBefore bytes.now rest)) }
+    ensures fits { (form : NilForm) (ss : List SentStream) (rest : List ℕ) → AllowsRows limits
+        → AllByRecursion (IsStreamOf limits claim) ss
+        → drop at bytes.now ≡ flat_map (stream_bytes in_map form) ss ++ rest → count ≡ length ss
+        → StreamsFit (P.lent places.old) (length ss) → EntriesFit (P.lent places.old) (length (all_entries ss))
+        → FieldsFit (P.lent places.old) (length (all_stream_fields ss)) → IsOk result }
+    ensures kept { P.lent places.new ≡ P.lent places.old }
 {
     let mut behind = at;
     for _ in 0..count {

@@ -212,6 +212,7 @@ impl EntryTape {
 impl Places for EntryTape {
     type Refusal = AllocError;
 
+    ghost use Rattle.std.specs.Prelude.{None};
     ghost use Rattle.stream_refs.specs.Held.{Held};
 
     ghost held = { λ t. record {
@@ -220,10 +221,16 @@ impl Places for EntryTape {
       fields = t.fields.items;
     } };
 
+    ghost lent = { λ t. None };
+
     fn clear(&mut self) {
         self.streams.clear();
         self.entries.clear();
         self.fields.clear();
+    }
+
+    fn count_streams(&self) -> usize {
+        self.streams.len()
     }
 
     fn count_entries(&self) -> usize {

@@ -1,9 +1,10 @@
-use Rattle.std.proofs.Common.{rules, ◌≡◌, ◌++◌, true, false, drop, flat_map, length}
+use Rattle.std.proofs.Common.{rules, arith, ◌≡◌, ◌+◌, ◌++◌, true, false, drop, flat_map, length}
 use Rattle.stream_refs.proofs.IdLemmas.{deleted_untold, deleted_told}
 use Rattle.redis_wire.specs.Packed.{bulk_bytes}
 use Rattle.stream_refs.specs.Shapes.{AreIdsOf}
 use Rattle.stream_refs.proofs.BeginLemmas.{head_begins}
 use Rattle.stream_refs.proofs.ShapeClaimLemmas.{told_split, untold_split}
+use Rattle.stream_refs.proofs.CountLemmas.{fewer_entries}
 use Rattle.stream_refs.proofs.autoclaim.add_deleted.Goals as goal
 
 pub returns-then-not-told-clause-is : goal.returns-then-not-told-clause-is
@@ -55,3 +56,17 @@ returns-in-Some-2-clause-found g c = λ ids rest a h at.
     (told_split ids rest left (rw is at at)) in
     let head = c.in-Some.ensures.found (length ids) members top in
     rw c.in-Some-2.is at (c.in_ok-add_ids.ensures.found ids rest a ids_are.each head.1 head.0)
+
+pub returns-in_err-add_ids-clause-fits : goal.returns-in_err-add_ids-clause-fits
+returns-in_err-add_ids-clause-fits g c = λ ids rest a h at fit.
+    let is : c.args.told ≡ true = search rules in
+    let ids_are : AreIdsOf c.args.limits ids = rw is at h in
+    let lent = g.P.Places.lent c.args.places.now in
+    let old = length (g.P.Places.held c.args.places.now).entries in
+    let left = drop c.args.at c.args.bytes.now in
+    let members = flat_map bulk_bytes ids ++ rest in
+    let top = head_begins c.args.limits a left 42 (length ids) members ids_are.few
+    (told_split ids rest left (rw is at at)) in
+    let head = c.in-Some.ensures.found (length ids) members top in
+    absurd (cc (c.in_err-add_ids.ensures.fits
+    (fewer_entries lent (old + c.in-Some.count) (old + length ids) (omega (arith, head.0)) fit)))

@@ -1,11 +1,14 @@
-use Rattle.std.proofs.Common.{rules, ◌≡◌, ◌≤◌, ◌++◌, arith, flat_map, length, false}
-use Rattle.stream_refs.specs.Held.{none_held}
+use Rattle.std.proofs.Common.{rules, ◌≡◌, ◌≤◌, ◌++◌, arith, flat_map, length, false, ap, ◌+◌}
+use Rattle.stream_refs.specs.Held.{Held, none_held}
 use Rattle.stream_refs.specs.Added.{EntriesAdded}
 use Rattle.stream_refs.specs.AddedIds.{DeletedAdded}
 use Rattle.stream_refs.proofs.AutoClaimLemmas.{autoclaim_is, claim_places}
 use Rattle.stream_refs.specs.Shapes.{entry_bytes, deleted_bytes}
 use Rattle.stream_refs.specs.ClaimPlaced.{autoclaim_in}
 use Rattle.stream_refs.proofs.ShapeClaimLemmas.{autoclaim_parts, autoclaim_same}
+use Rattle.stream_refs.specs.Lent.{EntriesFit, FieldsFit}
+use Rattle.stream_refs.specs.Sent.{all_fields}
+use Rattle.stream_refs.proofs.CountLemmas.{fewer_entries, fewer_fields}
 use Rattle.stream_refs.proofs.autoclaim.find_autoclaim.Goals as goal
 
 pub returns-clause-is : goal.returns-clause-is
@@ -17,7 +20,7 @@ returns-clause-is g c =
     let deep : 5 ≤ c.args.limits.depth = omega arith in
     let n : c.count_entries-claimed.result ≡ length mid.entries = search rules in
     let added : EntriesAdded c.args.limits bytes head.at false head.count c.in-Some-2.at none_held mid =
-    rw (c.clear.ensures, c.in-Some-2.is) at c.in_ok-at.ensures.is in
+    rw (c.clear.ensures.holds, c.in-Some-2.is) at c.in_ok-at.ensures.is in
     let deleted : DeletedAdded c.args.limits bytes c.in-Some-2.at head.told c.in-Some-3.len mid new =
     rw c.in-Some-3.is at c.in_ok-len.ensures.is in
     autoclaim_is c.args.limits bytes head.told head.next head.count head.at c.in-Some-2.at c.in-Some-3.len
@@ -31,7 +34,7 @@ returns-clause-within g c =
     let head = c.in-Some.head in
     let n : c.count_entries-claimed.result ≡ length mid.entries = search rules in
     let added : EntriesAdded c.args.limits bytes head.at false head.count c.in-Some-2.at none_held mid =
-    rw (c.clear.ensures, c.in-Some-2.is) at c.in_ok-at.ensures.is in
+    rw (c.clear.ensures.holds, c.in-Some-2.is) at c.in_ok-at.ensures.is in
     let deleted : DeletedAdded c.args.limits bytes c.in-Some-2.at head.told c.in-Some-3.len mid new =
     rw c.in-Some-3.is at c.in_ok-len.ensures.is in
     claim_places c.args.limits bytes head.told head.next head.count head.at c.in-Some-2.at c.in-Some-3.len
@@ -80,3 +83,43 @@ returns-in_default-3-clause-found g c = λ r len b.
 
 pub returns-then-limits-lt5-clause-found : goal.returns-then-limits-lt5-clause-found
 returns-then-limits-lt5-clause-found g c = λ r len b. absurd (omega (arith, b.deep))
+
+pub returns-in_err-at-clause-fits : goal.returns-in_err-at-clause-fits
+returns-in_err-at-clause-fits g c = λ r len b entries fields.
+    let bytes = c.args.bytes.now in
+    let lent = g.P.Places.lent c.clear.new.self in
+    let held = g.P.Places.held c.clear.new.self in
+    let none = c.clear.ensures.holds in
+    let third = deleted_bytes b.told r.deleted ++ b.rest in
+    let behind = flat_map (entry_bytes b.form) r.claimed ++ third in
+    let split = autoclaim_parts b.told b.form r b.rest bytes b.is in
+    let head = c.in-Some.ensures.found b.told r.next (length r.claimed) behind b.allows b.next b.claimed.few split in
+    let room : EntriesFit lent (length r.claimed + length r.deleted) = rw c.clear.ensures.kept entries in
+    let field_room : FieldsFit lent (length (all_fields r.claimed)) = rw c.clear.ensures.kept fields in
+    absurd (cc (c.in_err-at.ensures.fits b.form r.claimed third b.allows b.claimed.each head.2 head.1
+    (fewer_entries lent (length held.entries + c.in-Some.head.count) (length r.claimed + length r.deleted)
+    (omega (arith, head.1, ap (λ (h : Held). length h.entries) none)) room)
+    (fewer_fields lent (length held.fields + length (all_fields r.claimed)) (length (all_fields r.claimed))
+    (omega (arith, ap (λ (h : Held). length h.fields) none)) field_room)))
+
+pub returns-in_err-len-clause-fits : goal.returns-in_err-len-clause-fits
+returns-in_err-len-clause-fits g c = λ r len b entries fields.
+    let bytes = c.args.bytes.now in
+    let lent = g.P.Places.lent c.clear.new.self in
+    let held = g.P.Places.held c.clear.new.self in
+    let none = c.clear.ensures.holds in
+    let third = deleted_bytes b.told r.deleted ++ b.rest in
+    let behind = flat_map (entry_bytes b.form) r.claimed ++ third in
+    let split = autoclaim_parts b.told b.form r b.rest bytes b.is in
+    let head = c.in-Some.ensures.found b.told r.next (length r.claimed) behind b.allows b.next b.claimed.few split in
+    let room : EntriesFit lent (length r.claimed + length r.deleted) = rw c.clear.ensures.kept entries in
+    let mid = g.P.Places.held c.add_entries.new.places in
+    let mid_lent = g.P.Places.lent c.add_entries.new.places in
+    let all = c.in_ok-at.ensures.found b.form r.claimed third b.allows b.claimed.each head.2 head.1 in
+    let after = rw c.in-Some-2.is at all in
+    let counted : length mid.entries ≡ length held.entries + c.in-Some.head.count =
+    rw c.in-Some-2.is at c.in_ok-at.ensures.counts in
+    let mid_room : EntriesFit mid_lent (length r.claimed + length r.deleted) = rw c.add_entries.ensures.kept room in
+    absurd (cc (c.in_err-len.ensures.fits r.deleted b.rest b.allows (rw (head.0) b.deleted) (rw (head.0) after)
+    (fewer_entries mid_lent (length mid.entries + length r.deleted) (length r.claimed + length r.deleted)
+    (omega (arith, counted, head.1, ap (λ (h : Held). length h.entries) none)) mid_room)))

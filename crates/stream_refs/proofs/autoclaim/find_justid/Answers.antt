@@ -1,11 +1,13 @@
-use Rattle.std.proofs.Common.{rules, ◌≡◌, ◌≤◌, ◌++◌, arith, flat_map, length}
-use Rattle.stream_refs.specs.Held.{none_held}
+use Rattle.std.proofs.Common.{rules, ◌≡◌, ◌≤◌, ◌++◌, arith, flat_map, length, ap, ◌+◌}
+use Rattle.stream_refs.specs.Held.{Held, none_held}
 use Rattle.stream_refs.specs.AddedIds.{IdsAdded, DeletedAdded}
 use Rattle.stream_refs.proofs.AutoClaimLemmas.{justid_is, justid_places}
 use Rattle.redis_wire.specs.Packed.{bulk_bytes}
 use Rattle.stream_refs.specs.Shapes.{deleted_bytes}
 use Rattle.stream_refs.specs.ClaimPlaced.{justid_in}
 use Rattle.stream_refs.proofs.ShapeClaimLemmas.{justid_parts, justid_same}
+use Rattle.stream_refs.specs.Lent.{EntriesFit}
+use Rattle.stream_refs.proofs.CountLemmas.{fewer_entries}
 use Rattle.stream_refs.proofs.autoclaim.find_justid.Goals as goal
 
 pub returns-clause-is : goal.returns-clause-is
@@ -17,7 +19,7 @@ returns-clause-is g c =
     let deep : 3 ≤ c.args.limits.depth = omega arith in
     let n : c.count_entries-claimed.result ≡ length mid.entries = search rules in
     let added : IdsAdded c.args.limits bytes head.at head.count c.in-Some-2.at none_held mid =
-    rw (c.clear.ensures, c.in-Some-2.is) at c.in_ok-at.ensures.is in
+    rw (c.clear.ensures.holds, c.in-Some-2.is) at c.in_ok-at.ensures.is in
     let deleted : DeletedAdded c.args.limits bytes c.in-Some-2.at head.told c.in-Some-3.len mid new =
     rw c.in-Some-3.is at c.in_ok-len.ensures.is in
     justid_is c.args.limits bytes head.told head.next head.count head.at c.in-Some-2.at c.in-Some-3.len
@@ -31,7 +33,7 @@ returns-clause-within g c =
     let head = c.in-Some.head in
     let n : c.count_entries-claimed.result ≡ length mid.entries = search rules in
     let added : IdsAdded c.args.limits bytes head.at head.count c.in-Some-2.at none_held mid =
-    rw (c.clear.ensures, c.in-Some-2.is) at c.in_ok-at.ensures.is in
+    rw (c.clear.ensures.holds, c.in-Some-2.is) at c.in_ok-at.ensures.is in
     let deleted : DeletedAdded c.args.limits bytes c.in-Some-2.at head.told c.in-Some-3.len mid new =
     rw c.in-Some-3.is at c.in_ok-len.ensures.is in
     justid_places c.args.limits bytes head.told head.next head.count head.at c.in-Some-2.at c.in-Some-3.len
@@ -80,3 +82,40 @@ returns-in_default-3-clause-found g c = λ r len b.
 
 pub returns-then-limits-lt3-clause-found : goal.returns-then-limits-lt3-clause-found
 returns-then-limits-lt3-clause-found g c = λ r len b. absurd (omega (arith, b.deep))
+
+pub returns-in_err-at-clause-fits : goal.returns-in_err-at-clause-fits
+returns-in_err-at-clause-fits g c = λ r len b entries.
+    let bytes = c.args.bytes.now in
+    let lent = g.P.Places.lent c.clear.new.self in
+    let held = g.P.Places.held c.clear.new.self in
+    let none = c.clear.ensures.holds in
+    let third = deleted_bytes b.told r.deleted ++ b.rest in
+    let behind = flat_map bulk_bytes r.claimed ++ third in
+    let split = justid_parts b.told r b.rest bytes b.is in
+    let head = c.in-Some.ensures.found b.told r.next (length r.claimed) behind b.allows b.next b.claimed.few split in
+    let room : EntriesFit lent (length r.claimed + length r.deleted) = rw c.clear.ensures.kept entries in
+    absurd (cc (c.in_err-at.ensures.fits
+    (fewer_entries lent (length held.entries + c.in-Some.head.count) (length r.claimed + length r.deleted)
+    (omega (arith, head.1, ap (λ (h : Held). length h.entries) none)) room)))
+
+pub returns-in_err-len-clause-fits : goal.returns-in_err-len-clause-fits
+returns-in_err-len-clause-fits g c = λ r len b entries.
+    let bytes = c.args.bytes.now in
+    let lent = g.P.Places.lent c.clear.new.self in
+    let held = g.P.Places.held c.clear.new.self in
+    let none = c.clear.ensures.holds in
+    let third = deleted_bytes b.told r.deleted ++ b.rest in
+    let behind = flat_map bulk_bytes r.claimed ++ third in
+    let split = justid_parts b.told r b.rest bytes b.is in
+    let head = c.in-Some.ensures.found b.told r.next (length r.claimed) behind b.allows b.next b.claimed.few split in
+    let room : EntriesFit lent (length r.claimed + length r.deleted) = rw c.clear.ensures.kept entries in
+    let mid = g.P.Places.held c.add_ids.new.places in
+    let mid_lent = g.P.Places.lent c.add_ids.new.places in
+    let all = c.in_ok-at.ensures.found r.claimed third b.allows b.claimed.each head.2 head.1 in
+    let after = rw c.in-Some-2.is at all in
+    let counted : length mid.entries ≡ length held.entries + c.in-Some.head.count =
+    rw c.in-Some-2.is at c.in_ok-at.ensures.counts in
+    let mid_room : EntriesFit mid_lent (length r.claimed + length r.deleted) = rw c.add_ids.ensures.kept room in
+    absurd (cc (c.in_err-len.ensures.fits r.deleted b.rest b.allows (rw (head.0) b.deleted) (rw (head.0) after)
+    (fewer_entries mid_lent (length mid.entries + length r.deleted) (length r.claimed + length r.deleted)
+    (omega (arith, counted, head.1, ap (λ (h : Held). length h.entries) none)) mid_room)))

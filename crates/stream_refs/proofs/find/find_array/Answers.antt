@@ -3,7 +3,7 @@ use Rattle.stream_refs.specs.Added.{StreamsAdded}
 use Rattle.stream_refs.proofs.ReadLemmas.{array_filled}
 use Rattle.stream_refs.specs.Shapes.{stream_bytes}
 use Rattle.stream_refs.proofs.BeginLemmas.{head_begins}
-use Rattle.stream_refs.proofs.ShapeStreamLemmas.{array_is}
+use Rattle.stream_refs.proofs.ShapeStreamLemmas.{array_is, map_is_no_array}
 use Rattle.stream_refs.proofs.find.find_array.Goals as goal
 
 pub returns-in-Some-2-clause-is : goal.returns-in-Some-2-clause-is
@@ -29,3 +29,16 @@ returns-in-None-clause-found g c = λ form ss rest a h is.
     (array_is form ss rest c.args.bytes.now is) in
     let head = c.in-Some.ensures.found (length ss) behind top in
     absurd (rw c.in-None.is at (c.in_ok-add_streams.ensures.found form ss rest a h.each head.1 head.0))
+
+pub returns-in_err-add_streams-clause-fits : goal.returns-in_err-add_streams-clause-fits
+returns-in_err-add_streams-clause-fits g c = λ form ss rest a h is streams entries fields.
+    let behind = flat_map (stream_bytes false form) ss ++ rest in
+    let top = head_begins c.args.limits a c.args.bytes.now 42 (length ss) behind h.few
+    (array_is form ss rest c.args.bytes.now is) in
+    let head = c.in-Some.ensures.found (length ss) behind top in
+    absurd (cc (c.in_err-add_streams.ensures.fits form ss rest a h.each head.1 head.0 streams entries fields))
+
+pub returns-in_err-add_streams-clause-fits_map : goal.returns-in_err-add_streams-clause-fits_map
+returns-in_err-add_streams-clause-fits_map g c = λ form ss rest a h is. absurd
+    (map_is_no_array c.args.limits c.args.claim form ss rest c.args.bytes.now c.in-Some.count c.in-Some.at a h is
+    c.in-Some.ensures.is)

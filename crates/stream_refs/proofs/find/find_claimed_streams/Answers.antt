@@ -26,3 +26,7 @@ returns-in-None-clause-found g c = λ ss len b.
 
 pub returns-then-limits-lt6-clause-found : goal.returns-then-limits-lt6-clause-found
 returns-then-limits-lt6-clause-found g c = λ ss len b. absurd (omega (arith, b.deep))
+
+pub returns-in_err-find_form-clause-fits : goal.returns-in_err-find_form-clause-fits
+returns-in_err-find_form-clause-fits g c = λ ss len b streams entries fields.
+    absurd (cc (c.in_err-find_form.ensures.fits ss len b streams entries fields))

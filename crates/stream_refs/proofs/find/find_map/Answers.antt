@@ -29,3 +29,11 @@ returns-in-None-clause-found g c = λ form ss rest a h is.
     (map_is form ss rest c.args.bytes.now is) in
     let head = c.in-Some.ensures.found (length ss) behind top in
     absurd (rw c.in-None.is at (c.in_ok-add_streams.ensures.found form ss rest a h.each head.1 head.0))
+
+pub returns-in_err-add_streams-clause-fits : goal.returns-in_err-add_streams-clause-fits
+returns-in_err-add_streams-clause-fits g c = λ form ss rest a h is streams entries fields.
+    let behind = flat_map (stream_bytes true form) ss ++ rest in
+    let top = head_begins c.args.limits a c.args.bytes.now 37 (length ss) behind h.few
+    (map_is form ss rest c.args.bytes.now is) in
+    let head = c.in-Some.ensures.found (length ss) behind top in
+    absurd (cc (c.in_err-add_streams.ensures.fits form ss rest a h.each head.1 head.0 streams entries fields))

@@ -1,6 +1,9 @@
+use Rattle.std.specs.Prelude.{◌≡◌, ◌+◌, length}
 use Rattle.stream_refs.specs.Added.{EntriesAdded}
 use Rattle.stream_refs.specs.Shapes.{NilForm, entry_bytes, IsEntryOf}
+use Rattle.stream_refs.specs.Sent.{SentEntry, fields_of}
 use Rattle.stream_refs.proofs.BeginLemmas.{IsLeft}
+use Rattle.stream_refs.proofs.CountLemmas.{IsCounted}
 use Rattle.stream_refs.proofs.rows.add_entries.Given as goal
 
 abbrev pub invariant-loop : goal.invariant-loop
@@ -9,4 +12,9 @@ invariant-loop g l = record {
       (g.P.Places.held l.places);
   left : (form : NilForm) → IsLeft (entry_bytes form) (IsEntryOf l.limits l.claim) l.limits l.bytes l.at l.count
       l.counter l.behind;
+  counted : length (g.P.Places.held l.places).entries ≡ length (g.P.Places.held l.fn.places).entries + l.counter;
+  fields : (form : NilForm) → IsCounted (entry_bytes form) (IsEntryOf l.limits l.claim)
+      (λ (e : SentEntry). fields_of e.fields) l.limits l.bytes l.at l.count l.counter
+      (length (g.P.Places.held l.fn.places).fields) (length (g.P.Places.held l.places).fields);
+  kept : g.P.Places.lent l.places ≡ g.P.Places.lent l.fn.places;
 }

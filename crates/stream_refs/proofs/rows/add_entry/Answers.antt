@@ -77,3 +77,25 @@ returns-clause-found g c = λ form e rest a h is.
     let name = c.in-Some-name_at.ensures.found e.id behind id h.id.is_text in
     let own = c.in_ok-deleted.ensures.found form e.fields (delivery_bytes e.delivery ++ rest) a h.pairs name.1 in
     c.in-Some-delivery_at.ensures.found e.delivery rest a h.form (rw c.in-Some-2.is at own)
+
+pub returns-clause-counts : goal.returns-clause-counts
+returns-clause-counts g c = λ form e rest a h is.
+    let left = drop c.args.at c.args.bytes.now in
+    let head = c.in-Some.ensures.found (row_count c.args.claim) (behind_head form e rest)
+    (row_begins c.args.limits c.args.claim left form e rest a h is) in
+    let behind = fields_bytes form e.fields ++ (delivery_bytes e.delivery ++ rest) in
+    let id = text_begins c.args.limits a (drop c.in-Some.behind c.args.bytes.now) e.id behind h.id.within head.1 in
+    let name = c.in-Some-name_at.ensures.found e.id behind id h.id.is_text in
+    let own = c.in_ok-deleted.ensures.counts form e.fields (delivery_bytes e.delivery ++ rest) a h.pairs name.1 in
+    rw c.in-Some-2.is at own
+
+pub returns-in_err-deleted-clause-fits : goal.returns-in_err-deleted-clause-fits
+returns-in_err-deleted-clause-fits g c = λ form e rest a h is fit.
+    let left = drop c.args.at c.args.bytes.now in
+    let head = c.in-Some.ensures.found (row_count c.args.claim) (behind_head form e rest)
+    (row_begins c.args.limits c.args.claim left form e rest a h is) in
+    let behind = fields_bytes form e.fields ++ (delivery_bytes e.delivery ++ rest) in
+    let id = text_begins c.args.limits a (drop c.in-Some.behind c.args.bytes.now) e.id behind h.id.within head.1 in
+    let name = c.in-Some-name_at.ensures.found e.id behind id h.id.is_text in
+    absurd
+    (cc (c.in_err-deleted.ensures.fits form e.fields (delivery_bytes e.delivery ++ rest) a h.pairs name.1 fit))

@@ -1,14 +1,18 @@
-use Rattle.std.proofs.Common.{◌≡◌, ◌++◌, arith, drop}
+use Rattle.std.proofs.Common.{rules, ◌≡◌, ◌++◌, arith, drop, refl, ap}
 use Rattle.redis_wire.specs.Packed.{bulk_bytes}
 use Rattle.stream_refs.specs.Shapes.{pair_bytes, IsPair}
 use Rattle.stream_refs.proofs.FillLemmas.{fields_start, fields_more}
 use Rattle.stream_refs.proofs.BeginLemmas.{text_begins, pair_split, left_start, left_more, left_none, left_end}
+use Rattle.stream_refs.specs.Held.{Held}
+use Rattle.stream_refs.proofs.CountLemmas.{one_more}
 use Rattle.stream_refs.proofs.rows.add_fields.Goals as goal
 
 pub loop-init : goal.loop-init
 loop-init g c = record {
   added = fields_start c.args.limits c.args.bytes.now c.args.at (g.P.Places.held c.args.places.now) c.requires;
   left = left_start pair_bytes (IsPair c.args.limits) c.args.limits c.args.bytes.now c.args.at c.args.count;
+  counted = omega arith;
+  kept = refl;
 }
 
 pub loop-preserved : goal.loop-preserved
@@ -17,7 +21,7 @@ loop-preserved g c = record {
       (g.P.Places.held c.args.places.now) c.loop.counter c.loop.behind c.in-Some.after c.in-Some-text_at.after _
       (g.P.Places.held c.loop.places) (g.P.Places.held c.push_field.new.self)
       c.loop.invariant.added c.in-Some.ensures.is c.in-Some.ensures.text c.in-Some-text_at.ensures.is
-      c.in_ok-push_field.ensures;
+      c.in_ok-push_field.ensures.holds;
   left = left_more pair_bytes (IsPair c.args.limits) c.args.limits c.args.bytes.now c.args.at c.args.count
       c.loop.counter c.loop.behind c.loop.invariant.left c.in-Some-text_at.after (omega arith) (λ p rest a h is.
       let name = c.in-Some.ensures.found p.0 (bulk_bytes p.1 ++ rest)
@@ -25,6 +29,13 @@ loop-preserved g c = record {
       (pair_split p rest (drop c.loop.behind c.args.bytes.now) is)) h.name.is_text in
       (c.in-Some-text_at.ensures.found p.1 rest
       (text_begins c.args.limits a (drop c.in-Some.after c.args.bytes.now) p.1 rest h.value name.1)).1);
+  counted = omega (
+    arith,
+    one_more (g.P.Places.held c.push_field.new.self).fields (g.P.Places.held c.loop.places).fields _
+        (ap (λ (h : Held). h.fields) c.in_ok-push_field.ensures.holds),
+    c.loop.invariant.counted,
+  );
+  kept = search rules;
 }
 
 pub returns-clause-is : goal.returns-clause-is
@@ -54,3 +65,6 @@ returns-in_default-text_at-clause-found g c =
     (pair_split p rest (drop c.loop.behind c.args.bytes.now) is)) h.name.is_text in
     c.in_default-text_at.ensures.found p.1 rest
     (text_begins c.args.limits a (drop c.in-Some.after c.args.bytes.now) p.1 rest h.value name.1))
+
+pub returns-clause-counts : goal.returns-clause-counts
+returns-clause-counts g c = omega (arith, c.loop.invariant.counted)

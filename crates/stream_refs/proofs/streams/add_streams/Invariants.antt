@@ -1,6 +1,9 @@
+use Rattle.std.specs.Prelude.{◌≡◌, length}
 use Rattle.stream_refs.specs.Added.{StreamsAdded}
 use Rattle.stream_refs.specs.Shapes.{NilForm, stream_bytes, IsStreamOf}
+use Rattle.stream_refs.specs.Sent.{SentStream, all_fields}
 use Rattle.stream_refs.proofs.BeginLemmas.{IsLeft}
+use Rattle.stream_refs.proofs.CountLemmas.{IsCounted}
 use Rattle.stream_refs.proofs.streams.add_streams.Given as goal
 
 abbrev pub invariant-loop : goal.invariant-loop
@@ -8,4 +11,12 @@ invariant-loop g l = record {
   added : StreamsAdded l.limits l.bytes l.at l.in_map l.claim l.counter l.behind (g.P.Places.held l.places);
   left : (form : NilForm) → IsLeft (stream_bytes l.in_map form) (IsStreamOf l.limits l.claim) l.limits l.bytes l.at
       l.count l.counter l.behind;
+  counted : length (g.P.Places.held l.places).streams ≡ l.counter;
+  entries : (form : NilForm) → IsCounted (stream_bytes l.in_map form) (IsStreamOf l.limits l.claim)
+      (λ (s : SentStream). s.entries) l.limits l.bytes l.at l.count l.counter 0
+      (length (g.P.Places.held l.places).entries);
+  fields : (form : NilForm) → IsCounted (stream_bytes l.in_map form) (IsStreamOf l.limits l.claim)
+      (λ (s : SentStream). all_fields s.entries) l.limits l.bytes l.at l.count l.counter 0
+      (length (g.P.Places.held l.places).fields);
+  kept : g.P.Places.lent l.places ≡ g.P.Places.lent l.fn.places;
 }

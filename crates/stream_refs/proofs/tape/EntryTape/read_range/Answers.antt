@@ -15,7 +15,7 @@ returns-in-Some-2-clause-is c =
     let es : c.entries_at.result ≡ map (entry_in c.args.bytes.now held.fields) held.entries = search rules in
     let added : EntriesAdded c.args.limits c.args.bytes.now c.in-Some.at false c.in-Some.count c.in-Some-2.len none_held
     held =
-    rw (c.clear.ensures, c.in-Some-2.is) at c.in_ok-add_entries.ensures.is in
+    rw (c.clear.ensures.holds, c.in-Some-2.is) at c.in_ok-add_entries.ensures.is in
     range_is c.args.limits c.args.bytes.now c.in-Some.at c.in-Some.count c.in-Some-2.len held c.entries_at.result deep
     c.in-Some.ensures.is added es
 
