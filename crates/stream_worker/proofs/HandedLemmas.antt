@@ -1,8 +1,8 @@
 -- The fields of an entry where it stands, and those of its record.
-use Rattle.std.proofs.Common.{◌≡◌, ◌↔◌, ◌∙◌, refl, sym, ap, ℕ, Bool, true, false, cond, List, [], ◌∷◌, length, arith}
+use Rattle.std.proofs.Common.{◌≡◌, ◌∙◌, refl, sym, ap, ℕ, Bool, true, cond, List, [], ◌∷◌, length, arith}
 use Rattle.std.proofs.Common.{Option, Some, None, option_map}
 use Rattle.std.specs.Cmp.Lexicographic.{slice_cmp, nat_list_cmp_total}
-use Rattle.std.specs.FinMap.{FinMap, empty, empty_of_len, from_entries, get, get-empty, get-from_entries, len, len-empty}
+use Rattle.std.specs.FinMap.{empty_of_len, from_entries, get, get-empty, get-from_entries, len, len-empty}
 use Rattle.std.specs.Prelude.{option_and_then, nat_eq, IsTrue}
 use Rattle.std.specs.Option.{option_or}
 use Rattle.redis_resp.specs.Table.{field_record}

@@ -1,5 +1,5 @@
 -- From what stands in bytes to what a worker did with it.
-use Rattle.std.proofs.Common.{◌≡◌, ◌≢◌, ◌≤◌, refl, sym, ap, ◌∙◌, ℕ, Bool, List, ◌++◌, length, take, drop, Option, Some, None}
+use Rattle.std.proofs.Common.{◌≡◌, ◌≢◌, refl, sym, ap, ◌∙◌, ℕ, Bool, List, take, drop, Option, Some, None}
 use Rattle.std.proofs.Common.{option_map, string_bytes, Result, Ok, Err, inl, subst}
 use Rattle.std.specs.Result.{IsErrAnd}
 use Rattle.std.proofs.lemmas.List.{take-append-drop}

@@ -14,13 +14,12 @@ use Rattle.redis_connection.specs.Ask.{Exchanges}
 use Rattle.redis_connection.specs.Link.{Link}
 use Rattle.stream_group.specs.Worker.{Verdict, Machine}
 use Rattle.stream_worker.specs.Answers.{Heard, told, no_group, group_made, hears, group_after}
-use Rattle.stream_worker.specs.Answered.{Went, GoesBy, Failed}
+use Rattle.stream_worker.specs.Answered.{Went, GoesBy}
 use Rattle.stream_worker.specs.Session.{Standing, Turn, answers_of, AreReplies, Converses, command, asking}
 use Rattle.stream_worker.specs.Session.{having_heard, EndsBy, ends_before, after_turn, after_turns, bytes_asked, Ends}
-use Rattle.stream_worker.specs.Session.{Rounds, Ran, IsAsked, IsUnanswered, Fails, Broke}
+use Rattle.stream_worker.specs.Session.{Rounds, Turned, Ran, IsUnanswered, Fails, Broke}
 use Rattle.stream_worker.specs.declared.error.RunError.{RunError}
 use Rattle.stream_worker.specs.declared.error.RunError.TheVariants as causes
-use Rattle.stream_worker.specs.declared.error.WorkerError.{WorkerError}
 use Rattle.stream_worker.specs.declared.state.Asked.{Asked}
 use Rattle.stream_worker.specs.declared.state.Asked.TheVariants.{Nothing}
 use Rattle.stream_worker.specs.declared.state.Settings.{Settings}
@@ -167,41 +166,34 @@ module _ {R : Type 0} (with_verdict : R → List ℕ × Fields Tree → Verdict 
   pub rounds_none : (link : Link) (w : Standing R) → Rounds with_verdict with_commit settings link link w w 0 GoesOn
   rounds_none link w = record { turns = []; count = refl; converses = converses_none link; stands = refl; ends = tt }
 
-  pub rounds_more : (old mid new : Link) (w y z x : Standing R) (n : ℕ) (a : wire.Answer) (p : Progress)
+  pub rounds_more : (old mid new : Link) (w y x : Standing R) (n : ℕ) (question : Asked) (p : Progress)
       → Rounds with_verdict with_commit settings old mid w y n GoesOn
-      → IsAsked with_commit settings mid new y z a
-      → Went with_verdict settings z.asked a z.machine x.machine z.history x.history p
-      → x.missing ≡ group_after z.missing (hears settings z.asked a) → x.asked ≡ Nothing
+      → Turned with_verdict with_commit settings mid new y x question p
       → Rounds with_verdict with_commit settings old new w x (n + 1) p
-  rounds_more old mid new w y z x n a p r q g missing asked =
-      let s = turn_of z x a p g missing asked in
-      let t : Turn = record { answer = a; verdicts = s.0 } in
-      let is : z ≡ asking with_commit settings (after_turns with_verdict with_commit settings w r.turns) =
-      q.0 ∙ ap (asking with_commit settings) r.stands in
-      let ends : EndsBy (hears settings
-      (asking with_commit settings (after_turns with_verdict with_commit settings w r.turns)).asked a) s.0 p =
-      subst (λ (v : Standing R). EndsBy (hears settings v.asked a) s.0 p) is s.2 in
-      let stands : x ≡ after_turn with_verdict with_commit settings
-      (after_turns with_verdict with_commit settings w r.turns) t =
-      subst (λ (v : Standing R). x ≡ having_heard with_verdict v (hears settings v.asked a) s.0) is s.1 in
-      let c = converses_more old mid new _ _ _ a r.converses q.1 in
+  rounds_more old mid new w y x n question p r t =
+      let turns = r.turns ++ t.turn ∷ [] in
+      let c = converses_more old mid new _ _ _ t.turn.answer r.converses t.exchanges in
       record {
-        turns = r.turns ++ t ∷ [];
-        count = count_more r.turns t ∙ ap (λ k. k + 1) r.count;
+        turns = turns;
+        count = count_more r.turns t.turn ∙ ap (λ k. k + 1) r.count;
         converses =
-            subst (λ (l : List wire.Answer). Converses old new
-            (bytes_asked with_verdict with_commit settings w (r.turns ++ t ∷ [])) l) (sym (answers_more r.turns t))
-            (subst (λ b. Converses old new b (answers_of r.turns ++ a ∷ [])) (sym (bytes_more w r.turns t))
+            subst (λ (l : List wire.Answer). Converses old new (bytes_asked with_verdict with_commit settings w turns) l)
+            (sym (answers_more r.turns t.turn))
+            (subst (λ b. Converses old new b (answers_of r.turns ++ t.turn.answer ∷ []))
+            (sym (bytes_more w r.turns t.turn))
             (subst (λ (v : Standing R). Converses old new
             (bytes_asked with_verdict with_commit settings w r.turns ++ command_bytes (command settings v))
-            (answers_of r.turns ++ a ∷ [])) r.stands c));
-        stands = stands ∙ sym (stands_more w r.turns t);
-        ends = ends_more w r.turns t p r.ends ends;
+            (answers_of r.turns ++ t.turn.answer ∷ [])) r.stands c));
+        stands = t.stands ∙ ap (λ (v : Standing R). after_turn with_verdict with_commit settings v t.turn) r.stands
+            ∙ sym (stands_more w r.turns t.turn);
+        ends = ends_more w r.turns t.turn p r.ends
+            (subst (λ (v : Standing R). EndsBy (hears settings (asking with_commit settings v).asked t.turn.answer)
+            t.turn.verdicts p) r.stands t.ends);
       }
 
   -- ---- how a session ends
 
-  failing : (old new : Link) (w x : Standing R) (e : RunError) → IsUnanswered with_commit settings old new w x e
+  pub failing : (old new : Link) (w x : Standing R) (e : RunError) → IsUnanswered with_commit settings old new w x e
       → Fails with_verdict with_commit settings old new w x e
   failing old new w x (causes.Request e) u = u
   failing old new w x (causes.Send e) u = u
@@ -219,59 +211,24 @@ module _ {R : Type 0} (with_verdict : R → List ℕ × Fields Tree → Verdict 
   ran_stopped old new w x rounds n fewer r = (n + 1, (omega arith, omega (arith, fewer)), r)
 
   module _ (s : Settings) (same : s ≡ settings) where
-    pub broke_unanswered : (old mid new : Link) (w y x : Standing R) (rounds n : ℕ) (e : RunError) → n < rounds
+    pub turns_on : (old mid new : Link) (w y x : Standing R) (n : ℕ) (question : Asked) (p : Progress)
         → Rounds with_verdict with_commit settings old mid w y n GoesOn
-        → IsUnanswered with_commit s mid new y x e
+        → Turned with_verdict with_commit s mid new y x question p
+        → Rounds with_verdict with_commit settings old new w x (n + 1) p
+    turns_on old mid new w y x n question p r t =
+        rounds_more old mid new w y x n question p r
+        (subst (λ (v : Settings). Turned with_verdict with_commit v mid new y x question p) same t)
+
+    pub breaks : (old mid new : Link) (w y x : Standing R) (rounds n : ℕ) (e : RunError) → n < rounds
+        → Rounds with_verdict with_commit settings old mid w y n GoesOn
+        → Fails with_verdict with_commit s mid new y x e
         → Broke with_verdict with_commit settings old new w x rounds e
-    broke_unanswered old mid new w y x rounds n e fewer r u =
+    breaks old mid new w y x rounds n e fewer r f =
         record {
           n = n;
           fewer = fewer;
           link = mid;
           before = y;
           made = r;
-          fails = failing mid new y x e (subst (λ (v : Settings). IsUnanswered with_commit v mid new y x e) same u);
+          fails = subst (λ (v : Settings). Fails with_verdict with_commit v mid new y x e) same f;
         }
-
-    -- the answer was taken by a worker of the same settings
-    module _ (t : Settings) (too : t ≡ s) where
-      pub rounds_step : (old mid new : Link) (w y z x : Standing R) (n : ℕ) (a : wire.Answer) (p : Progress)
-          → Rounds with_verdict with_commit settings old mid w y n GoesOn
-          → IsAsked with_commit s mid new y z a
-          → Went with_verdict t z.asked a z.machine x.machine z.history x.history p
-          → x.missing ≡ group_after z.missing (hears t z.asked a) → x.asked ≡ Nothing
-          → Rounds with_verdict with_commit settings old new w x (n + 1) p
-      rounds_step old mid new w y z x n a p r q g missing asked =
-          rounds_more old mid new w y z x n a p r
-          (subst (λ (v : Settings). IsAsked with_commit v mid new y z a) same q)
-          (subst (λ (v : Settings). Went with_verdict v z.asked a z.machine x.machine z.history x.history p)
-          (too ∙ same) g)
-          (subst (λ (v : Settings). x.missing ≡ group_after z.missing (hears v z.asked a)) (too ∙ same) missing) asked
-
-      pub broke_refused : (old mid new : Link) (w y z x : Standing R) (rounds n : ℕ) (a : wire.Answer)
-          (e : WorkerError) → n < rounds → Rounds with_verdict with_commit settings old mid w y n GoesOn
-          → IsAsked with_commit s mid new y z a
-          → Failed with_verdict t z.asked a z.machine x.machine z.history x.history e
-          → x.missing ≡ z.missing → x.asked ≡ Nothing
-          → Broke with_verdict with_commit settings old new w x rounds (causes.Answer e)
-      broke_refused old mid new w y z x rounds n a e fewer r i f missing asked =
-          let q : IsAsked with_commit settings mid new y z a =
-          subst (λ (v : Settings). IsAsked with_commit v mid new y z a) same i in
-          let g : Failed with_verdict settings z.asked a z.machine x.machine z.history x.history e =
-          subst (λ (v : Settings). Failed with_verdict v z.asked a z.machine x.machine z.history x.history e)
-          (too ∙ same) f in
-          record {
-            n = n;
-            fewer = fewer;
-            link = mid;
-            before = y;
-            made = r;
-            fails = (
-              a,
-              q.1,
-              subst (λ (v : Standing R). Failed with_verdict settings v.asked a v.machine x.machine v.history x.history
-                  e) q.0 g,
-              missing ∙ ap (λ (v : Standing R). v.missing) q.0,
-              asked,
-            );
-          }

@@ -9,7 +9,7 @@ use Rattle.redis_wire.specs.Packed.{command_bytes}
 use Rattle.redis_wire.specs.Reply as wire
 use Rattle.redis_wire.specs.declared.limits.Limits.{Limits}
 use Rattle.redis_connection.specs.Ask.{Exchanges}
-use Rattle.redis_connection.specs.Link.{Link, Sends, SendsFront, Waits, IsEnded, IsFaulty}
+use Rattle.redis_connection.specs.Link.{Link, Sends, SendsFront, Waits, IsInPlace, IsEnded, IsFaulty}
 use Rattle.redis_connection.specs.declared.error.ConnectionError.TheVariants.{TooLong}
 use Rattle.stream_group.specs.Worker.{Verdict, Machine, ending, entries_in, told_in, after}
 use Rattle.stream_worker.specs.Answers.{Heard, told, no_group, group_made, hears}
@@ -95,6 +95,14 @@ module _ {R : Type 0} (with_commit : R → R) (settings : Settings) where
       × IsEnded new e × IsFaulty new.held e
   IsUnanswered old new w x (causes.Answer e) = ⊥
 
+  -- it asked, and its command went out
+  abbrev pub HasAsked : Link → Link → Standing R → Standing R → Type 0
+  HasAsked old new w x = (x ≡ asking w) × Sends old new (command_bytes (command settings w))
+
+  -- it asked, and the reply to it is held whole, in so many bytes
+  abbrev pub Waited : Link → Link → Standing R → Standing R → ℕ → Type 0
+  Waited old new w x len = (between : Link) × HasAsked old between w x × IsInPlace between new len
+
 -- where a worker stands by what it heard, where its handler said this of the entries
 abbrev pub having_heard : {R : Type 0} → (R → List ℕ × Fields Tree → Verdict → R) → Standing R → Option Heard
     → List Verdict → Standing R
@@ -158,6 +166,14 @@ module _ {R : Type 0} (with_verdict : R → List ℕ × Fields Tree → Verdict 
     pub converses : Converses old new (bytes_asked w turns) (answers_of turns)
     pub stands : x ≡ after_turns w turns
     pub ends : Ends w turns p
+
+  -- one round was made: it asked this, and the answer that came brought it on
+  pub record Turned (old new : Link) (w x : Standing R) (question : Asked) (p : Progress) : Type 0 where
+    pub turn : Turn
+    pub asked : question ≡ (asking with_commit settings w).asked
+    pub exchanges : Exchanges old new (command settings w) turn.answer
+    pub stands : x ≡ after_turn w turn
+    pub ends : EndsBy (hears settings (asking with_commit settings w).asked turn.answer) turn.verdicts p
 
   -- the session came to its end
   abbrev pub Ran : Link → Link → Standing R → Standing R → ℕ → Progress → Type 0

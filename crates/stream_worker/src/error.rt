@@ -144,7 +144,8 @@ pub enum RunError {
     /// Some front of its command was sent.
     #[error("{0}")]
     Send(ConnectionError),
-    /// Its command was sent, and no whole reply came; what came of one is held.
+    /// Its command was sent, and no reply was given out: what came of one is held. It may be whole
+    /// where memory ran out.
     #[error("{0}")]
     Receive(ConnectionError),
     /// A reply came, which does not bring it on.

@@ -23,5 +23,6 @@ pub use error::{InPlaceError, RequestError, RunError, WorkerError};
 pub use gathered::Gathered;
 pub use handler::{Handler, NotCommitted, Verdict};
 pub use letters::{DeadLetters, LetterAsked, LetterError};
+pub use session::Round;
 pub use state::{Asked, MakeGroup, Phase, Settings};
 pub use worker::{Progress, Worker};

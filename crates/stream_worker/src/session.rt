@@ -1,17 +1,51 @@
 //! A worker over a connection.
-ghost use Rattle.std.specs.Prelude.{◌≡◌, IfErr, IfOk};
+ghost use Rattle.std.specs.Prelude.{◌≡◌, IfErr, IfOk, OnOk};
 ghost use Rattle.redis_wire.specs.Reply.{answer};
-ghost use Rattle.stream_worker.specs.Session.{Broke, IsAsked, IsUnanswered, Ran, standing_of};
+ghost use Rattle.stream_worker.specs.Session.{Broke, Fails, HasAsked, IsAsked, IsUnanswered, Ran};
+ghost use Rattle.stream_worker.specs.Session.{Turned, Waited, standing_of};
 
-use crate::error::RunError;
+use crate::error::{InPlaceError, RunError};
 use crate::handler::Handler;
+use crate::state::Asked;
 use crate::worker::{Progress, Worker};
-use redis_connection::Connection;
-use redis_wire::Reply;
+use redis_connection::{Connection, ConnectionError};
+use redis_wire::{Reply, WireError};
 use std::alloc::Global;
 use std::io::{Read, Write};
 
+/// What was asked in a round, and whether the handler goes on.
+#[derive(Clone, Copy, Debug, PartialEq, Eq)]
+pub struct Round {
+    /// What was asked.
+    pub asked: Asked,
+    /// Whether the handler goes on.
+    pub progress: Progress,
+}
+
 impl Worker {
+    /// Requests the next command, and sends it.
+    fn send_next<H: Handler, R: Read + Drop, W: Write + Drop>(
+        &mut self,
+        alloc: Global,
+        connection: &mut Connection<R, W>,
+        handler: &mut H,
+    ) -> Result<(), RunError>
+        ensures ok { OnOk result (HasAsked H.with_commit self.old.settings connection.old
+            connection.new (standing_of self.old (H.history handler.old))
+            (standing_of self.new (H.history handler.new))) }
+        ensures err { IfErr result (IsUnanswered H.with_commit self.old.settings connection.old
+            connection.new (standing_of self.old (H.history handler.old))
+            (standing_of self.new (H.history handler.new))) }
+        ensures settings { self.new.settings ≡ self.old.settings }
+    {
+        let mut question = Vec::new(alloc);
+        self.request(alloc, &mut question, handler)?;
+        if let Err(error) = connection.send_bytes(&question) {
+            return Err(RunError::Send(error));
+        }
+        Ok(())
+    }
+
     /// Requests the next command, sends it, and receives the reply to it, which `answered` takes.
     /// An `Err` is never `Answer`, and nothing is acknowledged then that was not committed.
     pub fn ask<H: Handler, R: Read + Drop, W: Write + Drop>(
@@ -28,20 +62,78 @@ impl Worker {
             (standing_of self.new (H.history handler.new))) }
         ensures settings { self.new.settings ≡ self.old.settings }
     {
-        let mut question = Vec::new(alloc);
-        self.request(alloc, &mut question, handler)?;
-        if let Err(error) = connection.send_bytes(&question) {
-            return Err(RunError::Send(error));
-        }
+        self.send_next(alloc, connection, handler)?;
         match connection.receive(alloc) {
             Ok(reply) => Ok(reply),
             Err(error) => Err(RunError::Receive(error)),
         }
     }
 
-    /// Runs for so many rounds, in each of which it asks, and takes the answer; `Stopped` where the
-    /// handler says so before. What goes out are the commands of these rounds, and what comes in
-    /// are their answers.
+    /// Requests the next command, sends it, and waits until the reply to it is held whole: how many
+    /// bytes it has.
+    fn ask_in_place<H: Handler, R: Read + Drop, W: Write + Drop>(
+        &mut self,
+        alloc: Global,
+        connection: &mut Connection<R, W>,
+        handler: &mut H,
+    ) -> Result<usize, RunError>
+        ensures ok { IfOk result (Waited H.with_commit self.old.settings connection.old
+            connection.new (standing_of self.old (H.history handler.old))
+            (standing_of self.new (H.history handler.new))) }
+        ensures err { IfErr result (IsUnanswered H.with_commit self.old.settings connection.old
+            connection.new (standing_of self.old (H.history handler.old))
+            (standing_of self.new (H.history handler.new))) }
+        ensures settings { self.new.settings ≡ self.old.settings }
+    {
+        self.send_next(alloc, connection, handler)?;
+        match connection.receive_in_place(alloc) {
+            Ok(len) => Ok(len),
+            Err(error) => Err(RunError::Receive(error)),
+        }
+    }
+
+    /// One round of `run`: it asks, and takes the answer where it stands in the bytes that came, which
+    /// are given out then.
+    ///
+    /// Where memory runs out before the answer is read, it is `Receive`: the answer is held, and
+    /// nothing was given out.
+    pub fn round<H: Handler, R: Read + Drop, W: Write + Drop>(
+        &mut self,
+        alloc: Global,
+        connection: &mut Connection<R, W>,
+        handler: &mut H,
+    ) -> Result<Round, RunError>
+        ensures ok { IfOk result (λ round. Turned H.with_verdict H.with_commit self.old.settings
+            connection.old connection.new (standing_of self.old (H.history handler.old))
+            (standing_of self.new (H.history handler.new)) round.asked round.progress) }
+        ensures err { IfErr result (Fails H.with_verdict H.with_commit self.old.settings
+            connection.old connection.new (standing_of self.old (H.history handler.old))
+            (standing_of self.new (H.history handler.new))) }
+        ensures settings { self.new.settings ≡ self.old.settings }
+    {
+        let len = self.ask_in_place(alloc, connection, handler)?;
+        let asked = self.asked();
+        let limits = connection.limits();
+        match self.answered_in_place(alloc, connection.received(len), limits, handler) {
+            Ok(progress) => {
+                connection.give_out(len);
+                Ok(Round { asked, progress })
+            }
+            Err(InPlaceError::Answer(error)) => {
+                connection.give_out(len);
+                Err(RunError::Answer(error))
+            }
+            Err(InPlaceError::Unread(WireError::Memory)) => {
+                Err(RunError::Receive(ConnectionError::Memory))
+            }
+            Err(InPlaceError::Unread(WireError::Fault(_))) => unreachable!(),
+            Err(InPlaceError::Incomplete) => unreachable!(),
+        }
+    }
+
+    /// Runs for so many rounds, in each of which it asks, and takes the answer where it stands;
+    /// `Stopped` where the handler says so before. What goes out are the commands of these rounds, and
+    /// what comes in are their answers.
     ///
     /// After an `Err` in place of an answer that answer may still come, so close the connection:
     /// over another one the worker goes on, and no entry is lost.
@@ -61,8 +153,8 @@ impl Worker {
         ensures settings { self.new.settings ≡ self.old.settings }
     {
         for _round in 0..rounds {
-            let reply = self.ask(alloc, connection, handler)?;
-            match self.answered(alloc, reply, handler)? {
+            let round = self.round(alloc, connection, handler)?;
+            match round.progress {
                 Progress::GoesOn => {}
                 Progress::Stopped => return Ok(Progress::Stopped),
             }

@@ -1,8 +1,5 @@
-use Rattle.std.proofs.Common.{Some, string_bytes}
-use Rattle.stream_refs.specs.Copied.{copied_streams}
-use Rattle.stream_worker.specs.Handed.{entries_sent}
 use Rattle.stream_worker.specs.Machine.{machine_of}
-use Rattle.stream_worker.proofs.InPlaceLemmas.{streams_say, memory_taken}
+use Rattle.stream_worker.proofs.InPlaceLemmas.{memory_taken}
 use Rattle.stream_worker.proofs.WorkerLemmas.{claim_went, claim_cut}
 use Rattle.stream_worker.proofs.worker.Worker.claim_found.Goals as goal
 

@@ -1,7 +1,5 @@
-use Rattle.std.proofs.Common.{string_bytes}
 use Rattle.stream_entries.specs.AutoClaim.{autoclaim_reading}
-use Rattle.stream_group.specs.Worker.{own_pending, taken_over, news}
-use Rattle.stream_worker.specs.Answers.{entries_read}
+use Rattle.stream_group.specs.Worker.{taken_over}
 use Rattle.stream_worker.specs.Taking.{all_delivered}
 use Rattle.stream_refs.specs.AutoClaim.{autoclaim_tree}
 use Rattle.stream_worker.proofs.InPlaceLemmas.{answer_taken, still_missing, value_failed, value_went}
