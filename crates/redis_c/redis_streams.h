@@ -109,9 +109,10 @@ typedef struct {
    REDIS_OTHER: the first `found->len` bytes are another reply.
    REDIS_FAULT and above: no beginning of `bytes` is a reply, whatever comes behind.
 
-   The places are written into the tables as they are found, so behind another number than REDIS_OK the tables
-   say nothing. No memory is taken where the answer is REDIS_OK; else it is taken for the time of the call, to
-   count the places or to tell what stands there. */
+   Where the bytes begin with such a reply as servers write it, and the tables have room for it, the answer is
+   REDIS_OK. Behind another number the tables say nothing, although places may have been written into them.
+   REDIS_OK takes no memory; the other answers take it for the time of the call, to count the places or to tell what
+   stands there. */
 uint32_t redis_find_streams(const uint8_t *bytes, size_t len, redis_stream *streams, size_t stream_room,
                             redis_entry *entries, size_t entry_room, redis_field *fields, size_t field_room,
                             redis_found *found);
