@@ -12,8 +12,9 @@
 //! before its entries are acknowledged, so whatever crash comes, an entry that was added is still to
 //! come, or pending, or in the file, or was deleted. A line may come again after a crash.
 //!
-//! What it does stands on standard error, once a second and at the end. It ends with 0 where
-//! `--until-empty` is there and nothing new came, and else with 1 and the reason.
+//! What it did, and what the group has still to do, stands on standard error once a second, and what it
+//! did also at the end; with `--quiet` at the end alone. It ends with 0 where `--until-empty` is there
+//! and nothing new came, and else with 1 and the reason.
 #![tactic(auto)]
 
 mod backlog;
@@ -49,7 +50,7 @@ fn main(rt: HostRuntime) -> Result<()> {
         path,
         until_empty,
         json,
-        lag,
+        quiet,
         dead,
     } = options_of(alloc, &words)?;
     let file = SystemFile::open(&rt, &path).context(format_args!("cannot open {path}"))?;
@@ -60,8 +61,8 @@ fn main(rt: HostRuntime) -> Result<()> {
         None => None,
     };
     let mut lines = Lines::new(alloc, log, json);
-    let mut report = Report::new(&rt)?;
-    if lag {
+    let mut report = Report::new(&rt, quiet)?;
+    if !quiet {
         report.watched = Some(Watched {
             key: settings.key.clone()?,
             group: settings.group.clone()?,

@@ -10,7 +10,7 @@ use std::alloc::Global;
 use stream_worker::{MakeGroup, Settings};
 
 const USAGE: &str = "wanted: KEY GROUP CONSUMER FILE [--from 0|$] [--count N] [--block MS] \
-                     [--idle MS] [--every N] [--dead N STREAM] [--json] [--lag] [--until-empty]";
+                     [--idle MS] [--every N] [--dead N STREAM] [--json] [--quiet] [--until-empty]";
 
 /// What the program is to do.
 #[derive(Drop)]
@@ -21,8 +21,8 @@ pub struct Options {
     pub until_empty: bool,
     /// Each line is JSON.
     pub json: bool,
-    /// The backlog of the group is shown with the counts.
-    pub lag: bool,
+    /// Nothing is shown but the counts at the end.
+    pub quiet: bool,
     /// Entries that were delivered too often go to a stream of dead letters.
     pub dead: Option<GiveUp>,
 }
@@ -59,7 +59,7 @@ pub fn options_of(alloc: Global, words: &[String]) -> Result<Options>
         path: String::from_str(alloc, path)?,
         until_empty: false,
         json: false,
-        lag: false,
+        quiet: false,
         dead: None,
     };
     let mut valued = None;
@@ -74,8 +74,8 @@ pub fn options_of(alloc: Global, words: &[String]) -> Result<Options>
                 options.json = true;
                 None
             }
-            None if word.as_str() == "--lag" => {
-                options.lag = true;
+            None if word.as_str() == "--quiet" => {
+                options.quiet = true;
                 None
             }
             None => Some(valued_of(word)?),

@@ -1,5 +1,5 @@
 //! What the program says of its progress, on standard error.
-ghost use Rattle.std.specs.Prelude.{◌≡◌, IfOk, None, OnOk, Some};
+ghost use Rattle.std.specs.Prelude.{◌≡◌, false, IfOk, IsTrue, None, Ok, OnOk, Some};
 ghost use Rattle.stream_drain.specs.Report.{report_text};
 
 use crate::backlog::Watched;
@@ -8,7 +8,7 @@ use std::fmt;
 use std::rt::Clock;
 use std::time::{Duration, Instant};
 
-/// Counts, which are shown once a second and at the end.
+/// Counts, which are shown at the end, and also once a second where it is not quiet.
 #[derive(Drop)]
 pub struct Report {
     shown: Instant,
@@ -16,32 +16,38 @@ pub struct Report {
     batches: u64,
     /// So many dead letters were sent, where any may be.
     pub letters: Option<u64>,
-    /// The group whose backlog is shown too, where that was asked for.
+    /// Nothing is shown before the end.
+    quiet: bool,
+    /// The group whose backlog is shown with the counts; none where it is quiet, and where the server
+    /// does not tell the backlog.
     pub watched: Option<Watched>,
 }
 
 impl Report {
     /// Nothing was done yet.
-    pub fn new<R: Clock>(rt: &R) -> Result<Report>
-        ensures { IfOk result (λ r. (r.entries ≡ 0) × (r.batches ≡ 0) × (r.letters ≡ None)) }
+    pub fn new<R: Clock>(rt: &R, quiet: bool) -> Result<Report>
+        ensures counts { IfOk result (λ r. (r.entries ≡ 0) × (r.batches ≡ 0) × (r.letters ≡ None)) }
+        ensures quiet { IfOk result (λ r. r.quiet ≡ quiet) }
     {
         Ok(Report {
             shown: Instant::now(rt)?,
             entries: 0,
             batches: 0,
             letters: None,
+            quiet,
             watched: None,
         })
     }
 
     /// So many entries are in the file; an acknowledgement was answered. Whether it is time to show
-    /// the counts.
+    /// the counts, which it never is where it is quiet.
     pub fn count<R: Clock>(&mut self, rt: &R, entries: u64) -> Result<bool>
-        ensures { OnOk result (self.new.entries ≡ entries) }
+        ensures counts { OnOk result (self.new.entries ≡ entries) }
+        ensures quiet { IsTrue self.old.quiet → result ≡ Ok false }
     {
         self.entries = entries;
         self.batches = self.batches.saturating_add(1);
-        if self.shown.elapsed(rt)? < Duration::from_secs(1) {
+        if self.quiet || self.shown.elapsed(rt)? < Duration::from_secs(1) {
             return Ok(false);
         }
         self.shown = Instant::now(rt)?;

@@ -13,7 +13,7 @@ use redis_wire::{Reply, WireError};
 use std::alloc::Global;
 use std::io::{Read, Write};
 
-/// What was asked in a round, and whether the handler goes on.
+/// What a round came to.
 #[derive(Clone, Copy, Debug, PartialEq, Eq)]
 pub struct Round {
     /// What was asked.
@@ -92,11 +92,9 @@ impl Worker {
         }
     }
 
-    /// One round of `run`: it asks, and takes the answer where it stands in the bytes that came, which
-    /// are given out then.
-    ///
-    /// Where memory runs out before the answer is read, it is `Receive`: the answer is held, and
-    /// nothing was given out.
+    /// Makes one round of `run`, in which it asks, and takes the answer where it stands in the bytes that
+    /// came, which are given out then. Where memory runs out before the answer is read, it is `Receive`,
+    /// and the answer is held.
     pub fn round<H: Handler, R: Read + Drop, W: Write + Drop>(
         &mut self,
         alloc: Global,

@@ -22,10 +22,10 @@ fn dead_letters_have_two_words(rt: HostRuntime) -> Result<(), Fail> {
     assert_eq!(rt; to.deliveries, 3);
     assert_eq!(rt; to.stream.as_str(), "dead");
     assert!(rt; options.json);
-    assert!(rt; !options.lag);
-    let options = options_of(alloc, &words(alloc, "k g c f --until-empty --lag")?)?;
+    assert!(rt; !options.quiet);
+    let options = options_of(alloc, &words(alloc, "k g c f --until-empty --quiet")?)?;
     assert!(rt; options.dead.is_none());
-    assert!(rt; options.lag);
+    assert!(rt; options.quiet);
     Ok(())
 }
 
@@ -39,6 +39,7 @@ fn other_words_are_refused(rt: HostRuntime) -> Result<(), Fail> {
         "k g c f --dead 0 dead",
         "k g c f --dead 3 k",
         "k g c f --dead 3 dead dead",
+        "k g c f --lag",
     ] {
         assert!(rt; options_of(alloc, &words(alloc, line)?).is_err(), "{line}");
     }
