@@ -9,8 +9,9 @@ use anyhow::{Result, bail};
 use std::alloc::Global;
 use stream_worker::{MakeGroup, Settings};
 
-const USAGE: &str = "wanted: KEY GROUP CONSUMER FILE [--from 0|$] [--count N] [--block MS] \
-                     [--idle MS] [--every N] [--dead N STREAM] [--json] [--quiet] [--until-empty]";
+// In less than 120 bytes, which are all that an error shows.
+const USAGE: &str = "wanted: KEY GROUP CONSUMER FILE [--from 0|$] [--count|block|idle|every N] \
+                     [--dead N KEY] [--json|quiet|until-empty]";
 
 /// What the program is to do.
 #[derive(Drop)]
