@@ -5,7 +5,7 @@ use std::process::Abort;
 use std::test::Fail;
 use stream_server::{Protocol, Server, Session};
 
-const OF_RESP2: [(&str, &str); 56] = [
+const OF_RESP2: [(&str, &str); 57] = [
     ("PING", "+PONG\r\n"),
     ("XADD s 1-1 a b", "$3\r\n1-1\r\n"),
     (
@@ -114,6 +114,12 @@ const OF_RESP2: [(&str, &str); 56] = [
     (
         "XSETID s 1-0",
         "-ERR The ID specified in XSETID is smaller than the target stream top item\r\n",
+    ),
+    // What was refused left the last id as it was.
+    (
+        "XADD s 2-0 a b",
+        "-ERR The ID specified in XADD is equal or smaller than the target stream top \
+        item\r\n",
     ),
     ("XSETID s 9-9", "+OK\r\n"),
     ("XTRIM s MAXLEN 1", ":1\r\n"),
