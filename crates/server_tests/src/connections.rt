@@ -7,7 +7,7 @@ use std::io::{ErrorKind, Read, Write};
 use std::test::Fail;
 
 /// What a call of a fake reader or writer does.
-#[derive(Clone, Copy, Debug, PartialEq, Eq)]
+#[derive(Clone, Copy)]
 enum Turn {
     /// It takes or gives so many bytes at most.
     Moves(usize),
@@ -83,6 +83,24 @@ fn source_of(alloc: Global, bytes: &[u8], turns: &[Turn]) -> Result<Source, Fail
     })
 }
 
+// Whether nothing more comes.
+fn is_closed<R: Read + Drop, W: Write + Drop>(alloc: Global, link: &mut Connection<R, W>) -> bool {
+    matches!(link.receive(alloc), Err(ConnectionError::Closed))
+}
+
+// Whether what comes is no reply.
+fn is_faulty<R: Read + Drop, W: Write + Drop>(alloc: Global, link: &mut Connection<R, W>) -> bool {
+    matches!(link.receive(alloc), Err(ConnectionError::Fault(_)))
+}
+
+// The same where it stands.
+fn is_faulty_in_place<R: Read + Drop, W: Write + Drop>(
+    alloc: Global,
+    link: &mut Connection<R, W>,
+) -> bool {
+    matches!(link.receive_in_place(alloc), Err(ConnectionError::Fault(_)))
+}
+
 // What stands in front of a connection's replies.
 const REPLIES: &[u8] = b"$5\r\nhello\r\n:7\r\n-NOGROUP no such group\r\n+OK\r\n";
 
@@ -104,10 +122,7 @@ fn replies_come_in_any_pieces(rt: HostRuntime) -> Result<(), Fail> {
             _ => return Err("no error of the server".into()),
         }
         let _reply = link.receive(alloc)?;
-        match link.receive(alloc) {
-            Err(ConnectionError::Closed) => {}
-            _ => return Err("not closed".into()),
-        }
+        assert!(rt; is_closed(alloc, &mut link));
         drop(link);
         assert_eq!(rt;
             sent.as_slice(),
@@ -177,10 +192,7 @@ fn a_reader_that_fails_loses_nothing(rt: HostRuntime) -> Result<(), Fail> {
         }
         _ => return Err("no error of the reader".into()),
     }
-    match link.receive(alloc) {
-        Err(ConnectionError::Closed) => {}
-        _ => return Err("not closed".into()),
-    }
+    assert!(rt; is_closed(alloc, &mut link));
     match link.receive(alloc)? {
         Reply::Value(_value) => Ok(()),
         _ => Err("no value".into()),
@@ -222,14 +234,8 @@ fn other_bytes_than_replies_are_faults(rt: HostRuntime) -> Result<(), Fail> {
     let input: &[u8] = b"HTTP/1.1 400 Bad Request\r\n\r\n";
     let mut link = Connection::new(alloc, input, &mut sent, Limits::default())?;
     for _again in 0..2u8 {
-        match link.receive(alloc) {
-            Err(ConnectionError::Fault(_fault)) => {}
-            _ => return Err("no fault".into()),
-        }
-        match link.receive_in_place(alloc) {
-            Err(ConnectionError::Fault(_fault)) => {}
-            _ => return Err("no fault in place".into()),
-        }
+        assert!(rt; is_faulty(alloc, &mut link));
+        assert!(rt; is_faulty_in_place(alloc, &mut link));
     }
     Ok(())
 }

@@ -2,6 +2,7 @@
 use redis_connection::{Connection, ConnectionError};
 use redis_wire::{Decoded, Limits, Reply, WireError, decode};
 use std::alloc::{AllocError, Global};
+use std::io::{Read, Write};
 use std::process::Abort;
 use std::test::Fail;
 use stream_worker::{
@@ -328,6 +329,17 @@ fn lines_of(alloc: Global, bytes: &[u8]) -> Result<String, Fail> {
     Ok(lines)
 }
 
+// So many rounds of a worker over a connection.
+fn ran<R: Read + Drop, W: Write + Drop, H: Handler>(
+    alloc: Global,
+    worker: &mut Worker,
+    connection: &mut Connection<R, W>,
+    handler: &mut H,
+    rounds: u64,
+) -> Result<Progress, RunError> {
+    worker.run(alloc, connection, handler, rounds)
+}
+
 const SESSION: [&[u8]; 7] = [ONE, b":1\r\n", NONE, NO_CLAIM, THREE, b":3\r\n", NIL];
 
 const COMMANDS: &str = "
@@ -349,7 +361,7 @@ fn a_session_runs_over_a_connection(rt: HostRuntime) -> Result<(), Fail> {
     let mut handler = Gathered::new(alloc);
     // In parts: no round, then some, then the others.
     for rounds in [0u64, 3, 4] {
-        let progress = worker.run(alloc, &mut connection, &mut handler, rounds)?;
+        let progress = ran(alloc, &mut worker, &mut connection, &mut handler, rounds)?;
         assert_eq!(rt; progress, Progress::GoesOn);
     }
     drop(connection);
@@ -369,7 +381,7 @@ fn an_end_in_a_reply_loses_nothing(rt: HostRuntime) -> Result<(), Fail> {
         let mut connection = Connection::new(alloc, &input[..end], &mut sent, LIMITS)?;
         let mut worker = Worker::new(alloc, settings(alloc)?);
         let mut handler = Gathered::new(alloc);
-        match worker.run(alloc, &mut connection, &mut handler, 7) {
+        match ran(alloc, &mut worker, &mut connection, &mut handler, 7) {
             Err(RunError::Receive(ConnectionError::Closed)) => {}
             _ => return Err(Fail::new("not closed")),
         }
@@ -396,7 +408,7 @@ fn a_write_that_is_refused_is_told(rt: HostRuntime) -> Result<(), Fail> {
     // It takes so much, and no more.
     let mut room = [0u8; 10];
     let mut connection = Connection::new(alloc, input.as_slice(), &mut room[..], LIMITS)?;
-    match worker.run(alloc, &mut connection, &mut handler, 7) {
+    match ran(alloc, &mut worker, &mut connection, &mut handler, 7) {
         Err(RunError::Send(ConnectionError::Write(_error))) => {}
         _ => return Err(Fail::new("it was sent")),
     }
@@ -420,16 +432,16 @@ fn a_session_ends_where_the_handler_stops_or_an_answer_is_refused(
         may_commit: true,
         commits: 0,
     };
-    let progress = worker.run(alloc, &mut connection, &mut handler, 7)?;
+    let progress = ran(alloc, &mut worker, &mut connection, &mut handler, 7)?;
     assert_eq!(rt; progress, Progress::Stopped);
-    match worker.run(alloc, &mut connection, &mut handler, 7) {
+    match ran(alloc, &mut worker, &mut connection, &mut handler, 7) {
         Err(RunError::Answer(WorkerError::Server(error))) => {
             assert_eq!(rt; error.code(), b"READONLY".as_slice());
         }
         _ => return Err(Fail::new("no error of the server")),
     }
     handler.may_commit = false;
-    worker.run(alloc, &mut connection, &mut handler, 0)?;
+    ran(alloc, &mut worker, &mut connection, &mut handler, 0)?;
     drop(connection);
     assert_eq!(rt;
         lines_of(alloc, &sent)?.as_str(),

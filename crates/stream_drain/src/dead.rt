@@ -6,9 +6,6 @@ ghost use Rattle.redis_streams.specs.PendingMeaning.{pending_id_meaning, pending
 ghost use Rattle.stream_drain.specs.Dead.{Delivers, DeliversSome, IsBehind};
 ghost use Rattle.stream_worker.specs.Letters.{desk_of, names_of};
 
-#[cfg(test)]
-mod tests;
-
 use anyhow::{Error, Result, anyhow, bail};
 use redis_connection::{AskError, Connection, ConnectionError};
 use redis_resp::{RawBytes, ToRedisArgs, WriteError};

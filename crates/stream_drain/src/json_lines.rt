@@ -3,9 +3,6 @@ ghost use Rattle.std.specs.Prelude.{◌≡◌, ◌≢◌, IfOk, IfSome, OnOk};
 ghost use Rattle.std.specs.List.{AllByRecursion};
 ghost use Rattle.stream_drain.specs.Json.{are_texts};
 
-#[cfg(test)]
-mod tests;
-
 use crate::texts::text_in;
 use base64::engine::general_purpose::STANDARD;
 use json::Writer;

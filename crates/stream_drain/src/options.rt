@@ -1,9 +1,6 @@
 //! The words that the program is called with.
 ghost use Rattle.std.specs.Prelude.{◌≤◌, length, IfOk};
 
-#[cfg(test)]
-mod tests;
-
 use crate::dead::GiveUp;
 use anyhow::{Result, bail};
 use std::alloc::Global;
