@@ -1,6 +1,6 @@
 //! Entries that were delivered too often, on their way to a stream of dead letters.
-ghost use Rattle.std.specs.Prelude.{◌≡◌, ◌<◌, ◌≤◌, ◌%◌, ◌∷◌, [], IfOk, MatchOption, OnErr, OnOk, filter, length};
-ghost use Rattle.std.specs.Prelude.{map, nat_le, string_bytes};
+ghost use Rattle.std.specs.Prelude.{◌≡◌, ◌<◌, ◌≤◌, ◌%◌, ◌∷◌, [], IfOk, IsTrue, MatchOption, Ok, OnErr, OnOk, false};
+ghost use Rattle.std.specs.Prelude.{filter, length, map, nat_le, string_bytes};
 ghost use Rattle.std.specs.List.{flat_map};
 ghost use Rattle.redis_streams.specs.PendingMeaning.{pending_id_meaning, pending_ids_meaning};
 ghost use Rattle.stream_drain.specs.Dead.{Delivers, DeliversSome, IsBehind};
@@ -54,8 +54,15 @@ pub struct Dead {
 }
 
 impl Dead {
-    /// For the group and the consumer of a worker.
-    pub fn new(settings: &Settings, to: GiveUp) -> Result<Dead, AllocError> {
+    /// For the group and the consumer of a worker. Nothing was looked at yet.
+    pub fn new(settings: &Settings, to: GiveUp) -> Result<Dead, AllocError>
+        ensures names { IfOk result (λ d. (string_bytes d.key ≡ string_bytes settings.now.key)
+            × (string_bytes d.group ≡ string_bytes settings.now.group)
+            × (string_bytes d.consumer ≡ string_bytes settings.now.consumer)) }
+        ensures given_up { IfOk result (λ d. (d.deliveries ≡ to.deliveries) × (d.stream ≡ to.stream)
+            × (d.min_idle ≡ settings.now.min_idle)) }
+        ensures begins { IfOk result (λ d. (d.begun ≡ false) × (d.reads ≡ 0) × (d.letters ≡ 0)) }
+    {
         Ok(Dead {
             key: settings.key.clone()?,
             group: settings.group.clone()?,
@@ -79,7 +86,9 @@ impl Dead {
         connection: &mut Connection<R, W>,
         asked: Asked,
         in_hand: bool,
-    ) -> Result<()> {
+    ) -> Result<()>
+        ensures waits { IsTrue in_hand → (result ≡ Ok tt) × (connection.new ≡ connection.old) }
+    {
         self.reads = if asked == Asked::News {
             self.reads.saturating_add(1)
         } else {
