@@ -9,6 +9,7 @@
 #![tactic(auto)]
 
 pub mod batch;
+pub mod caller;
 pub mod deletion;
 pub mod group_state;
 pub mod monitoring;
@@ -17,7 +18,5 @@ pub mod producer;
 pub mod readme;
 pub mod server;
 pub mod stalled;
-#[cfg(test)]
-mod tests;
 pub mod wire;
 pub mod worker;

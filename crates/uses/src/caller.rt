@@ -1,16 +1,11 @@
 //! A caller from outside, as in a repository of its own: it names the crate `redis` alone, in its
 //! code and in its clauses. An order is sent as bytes, and the answer to it is read from bytes.
-#![tactic(auto)]
-
 ghost use Rattle.std.specs.Prelude.{◌≡◌, ◌≢◌, [], ◌∷◌, codes, string_bytes, Some, None, IfOk, IfErr};
 ghost use Rattle.redis.specs.Words.{command_bytes, text_reading, tree};
 
 use redis::wire::{PackError, pack_command};
 use redis::{ParsingError, Value, from_redis_value};
 use std::alloc::Global;
-
-#[cfg(test)]
-mod tests;
 
 /// The bytes of `XADD orders * customer NAME`.
 pub fn order_bytes(alloc: Global, customer: &str) -> Result<Vec<u8>, PackError>
