@@ -1,8 +1,8 @@
 //! The answer that is read: one stream, whose entries have an id of 15 to 21 bytes and four fields.
 ghost use Rattle.std.specs.Prelude.{◌≡◌, ◌++◌, IfOk, string_bytes};
-ghost use Rattle.ref_bench.specs.Answer.{text_bytes, field_bytes, count_bytes, id_of, id_text, order_bytes};
-ghost use Rattle.ref_bench.specs.Answer.{goods_bytes, fields_bytes, entry_bytes, form_bytes, head_bytes};
-ghost use Rattle.ref_bench.specs.Answer.{answer_bytes};
+ghost use Rattle.reply_bench.specs.Answer.{text_bytes, field_bytes, count_bytes, id_of, id_text, order_bytes};
+ghost use Rattle.reply_bench.specs.Answer.{goods_bytes, fields_bytes, entry_bytes, form_bytes, head_bytes};
+ghost use Rattle.reply_bench.specs.Answer.{answer_bytes};
 
 use std::alloc::{AllocError, Global};
 

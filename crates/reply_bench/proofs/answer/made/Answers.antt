@@ -1,6 +1,6 @@
-use Rattle.ref_bench.proofs.AnswerLemmas.{one_more}
-use Rattle.ref_bench.specs.Answer.{entry_bytes, head_bytes}
-use Rattle.ref_bench.proofs.answer.made.Goals as goal
+use Rattle.reply_bench.proofs.AnswerLemmas.{one_more}
+use Rattle.reply_bench.specs.Answer.{entry_bytes, head_bytes}
+use Rattle.reply_bench.proofs.answer.made.Goals as goal
 
 pub loop-index-preserved : goal.loop-index-preserved
 loop-index-preserved c =

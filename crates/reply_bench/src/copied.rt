@@ -3,7 +3,7 @@ ghost use Rattle.std.specs.Prelude.{◌≤◌, IfOk, length, take};
 ghost use Rattle.redis_wire.specs.Limits.{default_limits};
 ghost use Rattle.redis_wire.specs.Reply.{answer};
 ghost use Rattle.redis_wire.specs.Grammar.{IsReply};
-ghost use Rattle.ref_bench.specs.Reading.{IsHead, HasRecord};
+ghost use Rattle.reply_bench.specs.Found.{IsHead, HasRecord};
 
 use anyhow::anyhow;
 use redis_resp::Value;

@@ -1,16 +1,7 @@
--- What there is of the numbers below a count, when the count goes up by one.
-use Rattle.std.proofs.Common.{◌≡◌, ◌+◌, ℕ, suc, List, [], ◌++◌, refl, sym, ap, ◌∙◌, append_assoc, append-nil, arith}
-use Rattle.ref_bench.specs.Answer.{below}
-
-pub below_none : (f : ℕ → List ℕ) → below f 0 ≡ []
-unfolding below
-below_none f = refl
-
-below_next : (f : ℕ → List ℕ) (n : ℕ) → below f (n + 1) ≡ below f n ++ f n
-unfolding below
-below_next f n =
-    let next : n + 1 ≡ suc n = omega arith in
-    ap (λ m. below f m) next
+-- The bytes of the entries below a count behind a head, when the count goes up by one.
+use Rattle.std.proofs.Common.{◌≡◌, ◌+◌, ℕ, List, ◌++◌, sym, ap, ◌∙◌, append_assoc, append-nil}
+use Rattle.reply_bench.proofs.BelowLemmas.{below_none, below_next}
+use Rattle.reply_bench.specs.Below.{below}
 
 -- one more is put behind those of the numbers so far
 pub one_more : (f : ℕ → List ℕ) (n : ℕ) (head old new : List ℕ) → old ≡ head ++ below f n → new ≡ old ++ f n

@@ -1,13 +1,9 @@
 -- The bytes of the answer that is read.
-use Rattle.std.specs.Prelude.{ℕ, zero, suc, ◌-◌, ◌^◌, ◌%◌, false, List, [], ◌++◌, codes, decimal, length}
+use Rattle.std.specs.Prelude.{ℕ, ◌-◌, ◌^◌, ◌%◌, false, List, [], ◌++◌, codes, decimal, length}
 use Rattle.std.specs.Fmt.{format_spec, padded_integral}
-use Rattle.ref_bench.specs.declared.answer.Form.{Form}
-use Rattle.ref_bench.specs.declared.answer.Form.TheVariants.{Array, Map}
-
--- what there is of each number below a count, one behind the other
-unfoldable pub below : (ℕ → List ℕ) → ℕ → List ℕ
-below bytes_of zero = []
-below bytes_of (suc n) = below bytes_of n ++ bytes_of n
+use Rattle.reply_bench.specs.Below.{below}
+use Rattle.reply_bench.specs.declared.answer.Form.{Form}
+use Rattle.reply_bench.specs.declared.answer.Form.TheVariants.{Array, Map}
 
 -- a bulk string
 unfoldable pub text_bytes : List ℕ → List ℕ

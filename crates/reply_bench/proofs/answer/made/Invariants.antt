@@ -1,6 +1,7 @@
 use Rattle.std.proofs.Common.{◌≡◌, ◌++◌}
-use Rattle.ref_bench.specs.Answer.{below, entry_bytes, head_bytes}
-use Rattle.ref_bench.proofs.answer.made.Given as goal
+use Rattle.reply_bench.specs.Answer.{entry_bytes, head_bytes}
+use Rattle.reply_bench.specs.Below.{below}
+use Rattle.reply_bench.proofs.answer.made.Given as goal
 
 -- the entries so far
 abbrev pub invariant-loop-index : goal.invariant-loop-index

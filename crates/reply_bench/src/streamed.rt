@@ -1,6 +1,6 @@
 //! Replies taken out of bytes that come in pieces.
 ghost use Rattle.std.specs.Prelude.{IfOk};
-ghost use Rattle.ref_bench.specs.Reading.{IsNext};
+ghost use Rattle.reply_bench.specs.Found.{IsNext};
 
 use redis_wire::ReplyStream;
 use std::alloc::Global;

@@ -1,6 +1,6 @@
 //! The answer, read where it stands.
 ghost use Rattle.std.specs.Prelude.{IfOk};
-ghost use Rattle.ref_bench.specs.Reading.{HasStreams, AreInPlace};
+ghost use Rattle.reply_bench.specs.Found.{HasStreams, AreInPlace};
 
 use anyhow::anyhow;
 use redis_wire::Limits;
