@@ -1,20 +1,21 @@
-//! Runs the callers of `uses` on cases from standard input, one a line, and prints each case with
-//! what came of it behind a tab.
+//! Runs the callers of `uses`, and the file of lines of `line_log`, on cases from standard input, one
+//! a line, and prints each case with what came of it after a tab.
 //!
 //! ```text
 //! customer Array[Array[1-0, Array[customer, bob]]]        gives        Some("bob")
 //! ```
 //!
-//! A case is a word for the caller and a value in the notation of `stream_text::notation`: what a
-//! server answered, bytes of a server, or what the caller is handed. Commands are printed as their
-//! arguments with a space between two, records as `Debug` shows them.
+//! A case is a word that says what is run, and a value in the notation of `stream_text::notation`:
+//! what a server answered, bytes of a server, or what the call is handed. Commands are printed as
+//! their arguments with a space between two, records as `Debug` shows them.
 //!
-//! It ends with 0, or with 2 where memory ran out, a line is no case, or standard input or output
+//! It ends with 0, or with 2 if memory ran out, a line is no case, or standard input or output
 //! failed.
 #![tactic(auto)]
 
 mod bytes;
 mod consumer;
+mod log;
 mod sender;
 mod shown;
 
@@ -79,6 +80,9 @@ fn answer_of(alloc: Global, word: &str, value: Value) -> Result<String> {
         "number-of-entry" => sender::number_of_entry(alloc, value),
         "readme" => sender::readme(alloc, value),
         "customer" => sender::customer(alloc, value),
+        "repairs" => log::repairs(alloc, value),
+        "commits" => log::commits(alloc, value),
+        "escapes" => log::escapes(alloc, value),
         "protocols" => bytes::protocols(alloc, value),
         "streams" => bytes::streams(alloc, value),
         "order-sent" => bytes::order_sent(alloc, value),
