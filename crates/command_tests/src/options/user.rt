@@ -3,11 +3,9 @@ ghost use Rattle.std.specs.Prelude.{◌≡◌, ◌⊎◌, [], ◌∷◌, codes, 
 ghost use Rattle.redis_args.specs.Room.{MayRefuse};
 ghost use Rattle.redis_args.specs.declared.writer.WriteError.TheVariants.{Full};
 
-use crate::assert_holds;
-use crate::options::{assert_words, text};
+use crate::check::{assert_holds, check, check_place, text};
 use redis_args::{FixedArgs, RedisWrite, ToRedisArgs, WriteError};
 use std::process::Abort;
-use std::test::Fail;
 use stream_options::{StreamDeletionPolicy, StreamTrimOptions, StreamTrimmingMode};
 
 /// `yes` or `no`.
@@ -47,10 +45,10 @@ impl RedisWrite for WithoutLimit {
 }
 
 #[test]
-fn values_of_a_users_own(rt: HostRuntime) -> Result<(), Fail> {
-    assert_words(&rt, &[Flag(true), Flag(false)], "yes no")?;
-    assert_words(&rt, &Some(Flag(false)), "no")?;
-    assert_words(&rt, &&Flag(true), "yes")
+fn values_of_a_users_own(rt: HostRuntime) {
+    check(&rt, &[Flag(true), Flag(false)], "yes no");
+    check(&rt, &Some(Flag(false)), "no");
+    check(&rt, &&Flag(true), "yes");
 }
 
 // The answer of writing these options without room for the word `LIMIT`, and what is then held.
@@ -68,38 +66,22 @@ fn check_without_limit(
 }
 
 #[test]
-fn a_writer_without_limit(rt: HostRuntime) -> Result<(), Fail> {
+fn a_writer_without_limit(rt: HostRuntime) {
     let full = Err(WriteError::Full);
-    let spelled = StreamTrimOptions::minid(StreamTrimmingMode::Exact, text(rt.alloc(), "LIMIT")?);
+    let spelled = StreamTrimOptions::minid(StreamTrimmingMode::Exact, text(&rt, "LIMIT"));
     let spelled = spelled.set_deletion_policy(StreamDeletionPolicy::Acked);
     check_without_limit(&rt, &spelled, full, &[b"MINID", b"="]);
     let about = StreamTrimOptions::maxlen(StreamTrimmingMode::Approx, 10);
     check_without_limit(&rt, &about, Ok(()), &[b"MAXLEN", b"~", b"10"]);
     check_without_limit(&rt, &about.limit(5), full, &[b"MAXLEN", b"~", b"10"]);
-    Ok(())
-}
-
-// The answer of writing `MAXLEN ~ 10` into this empty place, and what is then held.
-fn check_place<const N: usize, const B: usize>(
-    rt: &impl Abort,
-    mut place: FixedArgs<N, B>,
-    answer: Result<(), WriteError>,
-    held: &[&[u8]],
-) {
-    let options = StreamTrimOptions::maxlen(StreamTrimmingMode::Approx, 10);
-    assert_eq!(rt; options.write_redis_args(&mut place), answer);
-    assert_holds(rt, &place, held);
 }
 
 #[test]
 fn little_room(rt: HostRuntime) {
+    let options = StreamTrimOptions::maxlen(StreamTrimmingMode::Approx, 10);
+    let words: [&[u8]; 3] = [b"MAXLEN", b"~", b"10"];
     let full = Err(WriteError::Full);
-    check_place(&rt, FixedArgs::<2, 64>::new(), full, &[b"MAXLEN", b"~"]);
-    check_place(&rt, FixedArgs::<3, 8>::new(), full, &[b"MAXLEN", b"~"]);
-    check_place(
-        &rt,
-        FixedArgs::<3, 9>::new(),
-        Ok(()),
-        &[b"MAXLEN", b"~", b"10"],
-    );
+    check_place(&rt, FixedArgs::<2, 64>::new(), &options, full, &words[..2]);
+    check_place(&rt, FixedArgs::<3, 8>::new(), &options, full, &words[..2]);
+    check_place(&rt, FixedArgs::<3, 9>::new(), &options, Ok(()), &words);
 }

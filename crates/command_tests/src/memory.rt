@@ -45,8 +45,12 @@ fn check_written<T: ToRedisArgs>(
 }
 
 fn check_group(rt: &(impl AllocGlobal + Abort)) -> Result<(), AllocError> {
-    let options = StreamReadOptions::default().group(rt.alloc(), "g", 7u64)?;
-    check_written(rt, &options, &["held", "GROUP", "g", "7"])
+    let first = StreamReadOptions::default()
+        .noack()
+        .group(rt.alloc(), "g", 7u64)?;
+    let again = first.claim(1).group(rt.alloc(), "h", None::<u16>)?;
+    let words = ["held", "GROUP", "h", "COUNT", "2", "NOACK", "CLAIM", "1"];
+    check_written(rt, &again.count(2), &words)
 }
 
 fn check_parts_of_names(rt: &(impl AllocGlobal + Abort)) -> Result<(), AllocError> {

@@ -1,10 +1,10 @@
 //! Lines, and readers and writers that fail.
 ghost use Rattle.std.specs.Prelude.{◌≡◌, IfOk};
 
+use crate::sentences::rows::ROWS;
 use std::alloc::{AllocError, Global};
 use std::io::{self, ErrorKind, Read, Write};
 use std::process::Abort;
-use std::test::Fail;
 use stream_sentences::{RunError, run};
 
 // Each kind of line, the last one without LF.
@@ -135,8 +135,8 @@ fn check_lines(
     size: usize,
     answer: &str,
     full: Full,
-) -> Result<(), Fail> {
-    let mut page = page_of(rt.alloc(), answer.len(), full)?;
+) {
+    let mut page = page_of(rt.alloc(), answer.len(), full).expect(rt, "memory");
     let mut input = Chunks {
         bytes,
         size,
@@ -144,86 +144,81 @@ fn check_lines(
     };
     assert_eq!(rt; answer_on(rt.alloc(), &mut input, &mut page), Ok(()));
     assert_eq!(rt; page.written.as_slice(), answer.as_bytes());
-    Ok(())
+}
+
+// This line, which ends with the input, has this answer.
+fn check_line(rt: &(impl AllocGlobal + Abort), line: &str, wanted: &str) {
+    let mut page = page_of(rt.alloc(), 128, Full::Fails).expect(rt, "memory");
+    let mut input = chunks_of(line);
+    assert_eq!(rt; answer_on(rt.alloc(), &mut input, &mut page), Ok(()));
+    let answer = page.written.strip_suffix(b"\n");
+    assert!(rt; answer == Some(wanted.as_bytes()), "of {line}");
 }
 
 #[test]
-fn each_line_is_answered(rt: HostRuntime) -> Result<(), Fail> {
+fn each_line_is_answered(rt: HostRuntime) {
+    for (line, wanted) in &ROWS {
+        check_line(&rt, line, wanted);
+    }
+}
+
+#[test]
+fn lines_are_parted(rt: HostRuntime) {
     for (text, answer) in [
         (LINES, ANSWER),
         ("", ""),
         ("\n", "unknown\n"),
         (" ", "unknown\n"),
-        ("read GROUP  c x", "ok 3\n"),
-        ("nack  FAIL", "no\n"),
         ("claim \n", "ok 0\n"),
-        ("claim", "ok 0\n"),
         ("claim\r\n", "unknown\n"),
         ("claim\n\nclaim", "ok 0\nunknown\nok 0\n"),
     ] {
-        check_lines(&rt, text.as_bytes(), 7, answer, Full::Fails)?;
+        check_lines(&rt, text.as_bytes(), 7, answer, Full::Fails);
     }
-    Ok(())
-}
-
-#[test]
-fn any_bytes_are_arguments(rt: HostRuntime) -> Result<(), Fail> {
     let bytes = b"trim MINID = \xff\nread GROUP \xff \xfe\n\xff".as_slice();
-    check_lines(&rt, bytes, 1, "no\nok 3\nunknown\n", Full::Fails)
+    check_lines(&rt, bytes, 1, "no\nok 3\nunknown\n", Full::Fails);
 }
 
 // Where a read fails after so many, nothing is written.
-fn check_failing_read(rt: &(impl AllocGlobal + Abort), reads: usize) -> Result<(), Fail> {
-    let mut page = page_of(rt.alloc(), ANSWER.len(), Full::Fails)?;
+fn check_failing_read(rt: &(impl AllocGlobal + Abort), reads: usize) {
+    let mut page = page_of(rt.alloc(), ANSWER.len(), Full::Fails).expect(rt, "memory");
     let mut input = chunks_of(LINES);
     input.reads = reads;
-    assert_eq!(rt;
-        answer_on(rt.alloc(), &mut input, &mut page),
-        Err(RunError::Read)
-    );
+    let answer = answer_on(rt.alloc(), &mut input, &mut page);
+    assert_eq!(rt; answer, Err(RunError::Read));
     assert!(rt; page.written.is_empty(), "after {reads} reads");
-    Ok(())
 }
 
 #[test]
-fn nothing_is_written_where_a_read_fails(rt: HostRuntime) -> Result<(), Fail> {
+fn nothing_is_written_where_a_read_fails(rt: HostRuntime) {
     // the last of these would have found the end
     for reads in 0..LINES.len().div_ceil(7) + 1 {
-        check_failing_read(&rt, reads)?;
+        check_failing_read(&rt, reads);
     }
-    Ok(())
 }
 
 // Where a page has too little room, so much is written, also where it would take more at the next
 // try.
-fn check_little_room(rt: &(impl AllocGlobal + Abort), room: usize, full: Full) -> Result<(), Fail> {
-    let mut page = page_of(rt.alloc(), room, full)?;
+fn check_little_room(rt: &(impl AllocGlobal + Abort), room: usize, full: Full) {
+    let mut page = page_of(rt.alloc(), room, full).expect(rt, "memory");
     let answer = answer_on(rt.alloc(), &mut chunks_of(LINES), &mut page);
-    assert_eq!(rt;
-        answer,
-        Err(RunError::Write),
+    assert!(rt;
+        answer == Err(RunError::Write),
         "room for {room}, then {full:?}"
     );
-    assert_eq!(rt;
-        Some(page.written.as_slice()),
-        ANSWER.as_bytes().get(..room)
-    );
-    Ok(())
+    let begun = ANSWER.as_bytes().get(..room);
+    assert!(rt; begun == Some(page.written.as_slice()));
 }
 
 #[test]
-fn a_beginning_is_written_where_a_write_fails(rt: HostRuntime) -> Result<(), Fail> {
+fn a_beginning_is_written_where_a_write_fails(rt: HostRuntime) {
     for room in 0..ANSWER.len() {
-        for full in [
-            Full::Fails,
-            Full::TakesNone,
-            Full::FailsOnce,
-            Full::TakesNoneOnce,
-        ] {
-            check_little_room(&rt, room, full)?;
-        }
+        check_little_room(&rt, room, Full::Fails);
+        check_little_room(&rt, room, Full::TakesNone);
+        check_little_room(&rt, room, Full::FailsOnce);
+        check_little_room(&rt, room, Full::TakesNoneOnce);
     }
-    check_lines(&rt, LINES.as_bytes(), 7, ANSWER, Full::TakesNone)
+    check_lines(&rt, LINES.as_bytes(), 7, ANSWER, Full::TakesNone);
 }
 
 #[test]
