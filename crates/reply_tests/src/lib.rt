@@ -1,5 +1,6 @@
 //! Tests of what is read from a server's values: `redis_resp::value`, `redis_streams` and
-//! `stream_text`, as tables of the notation; and of bytes: `redis_wire`.
+//! `stream_text`, as tables of the notation; and of bytes: what no line of the program `cases` can say
+//! of `redis_wire` and `stream_refs`.
 //!
 //! They stand in a crate of their own, since a check of tests proves the functions of their crate
 //! a second time.
@@ -8,17 +9,15 @@
 #[cfg(test)]
 mod depth;
 #[cfg(test)]
-mod in_place;
-#[cfg(test)]
 mod memory;
 #[cfg(test)]
 mod moved;
 #[cfg(test)]
-mod nodes;
-#[cfg(test)]
 mod notation;
 #[cfg(test)]
 mod readings;
+#[cfg(test)]
+mod refs;
 #[cfg(test)]
 mod refusals;
 #[cfg(test)]
