@@ -16,8 +16,9 @@
 #![tactic(auto)]
 
 ghost use Rattle.std.specs.Prelude.{◌≡◌, ◌==◌};
-ghost use Rattle.std.specs.List.{before_first};
+ghost use Rattle.std.specs.List.{after_first, before_first};
 
+mod calls;
 mod escaped;
 mod nodes;
 mod notation;
@@ -62,7 +63,8 @@ fn print_outcomes<R: Input + Print + AllocGlobal>(rt: &R) -> Result<()> {
 
 /// What is before the first tab, and what is after it.
 fn split_at_tab(line: &str) -> (&str, &str)
-    ensures { result.0.now ≡ before_first (λ b. b == 9) line.now }
+    ensures before { result.0.now ≡ before_first (λ b. b == 9) line.now }
+    ensures after { result.1.now ≡ after_first (λ b. b == 9) line.now }
 {
     match line.split_once('\t') {
         Some(parts) => parts,
