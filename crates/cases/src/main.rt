@@ -19,6 +19,7 @@ ghost use Rattle.std.specs.Prelude.{◌≡◌, ◌==◌};
 ghost use Rattle.std.specs.List.{after_first, before_first};
 
 mod calls;
+mod escaped;
 mod nodes;
 mod notation;
 mod plain_line;
@@ -28,7 +29,7 @@ mod replies;
 mod wire;
 
 use anyhow::Result;
-use std::alloc::Global;
+use std::alloc::{AllocError, Global};
 use std::io;
 use std::io::{BufRead, BufReader, BufWriter, Write};
 use std::process::ExitCode;
@@ -88,13 +89,10 @@ fn outcome(alloc: Global, kind: &str, input: &str) -> Result<String> {
     }
 }
 
-/// The outcome of a case whose input is bytes in hex, if its kind is one of those.
-fn outcome_of_bytes(alloc: Global, kind: &str, input: &str) -> Result<Option<String>> {
-    if let Some(text) = wire::outcome(alloc, kind, input)? {
-        return Ok(Some(text));
+/// The outcome of a case whose input is bytes as text, if its kind is one of those.
+fn outcome_of_bytes(alloc: Global, kind: &str, input: &str) -> Result<Option<String>, AllocError> {
+    match wire::outcome(alloc, kind, input)? {
+        Some(text) => Ok(Some(text)),
+        None => refs::outcome(alloc, kind, input),
     }
-    if let Some(text) = nodes::outcome(alloc, kind, input)? {
-        return Ok(Some(text));
-    }
-    refs::outcome(alloc, kind, input)
 }

@@ -1,133 +1,73 @@
-//! Bytes of a server: what is at their head.
+//! Bytes of a server, read in every way that there is.
 //!
-//! | Kind | Input | Outcome |
-//! |---|---|---|
-//! | `wire` | bytes in hex | the reply after its length, `incomplete`, or why they are refused |
+//! | Kind | Input and outcome |
+//! |---|---|
+//! | `wire` | bytes: the reply at their head, after its length, `incomplete`, or the fault that refuses them |
+//! | `limited` | the same with small limits |
+//! | `pieces` | replies, one after the other: how many there are, and what is after them |
+//! | `nodes` | a reply: its nodes in place |
+//! | `reply-text`, `reply-texts`, `reply-number` | a reply: the record that it is read as, or the caller's error |
+//! | `pack` | words: the bytes of a command with these arguments |
 //!
-//! The bytes also go through a stream byte by byte, and a whole reply cut at each byte. If that says
-//! something else, the outcome says so.
-use redis_wire::{Decoded, Limits, Reply, ReplyStream, WireError, decode};
+//! Bytes are decoded whole, come through a stream byte by byte and cut in two at each place, where they
+//! are taken out as values and in place, and are listed as nodes. If one of these ways does not find what
+//! decoding them whole finds, the outcome says so.
+mod pack;
+mod pieces;
+mod record;
+mod ways;
+
+use crate::escaped::bytes_of;
+use crate::nodes;
+use redis_wire::Limits;
 use std::alloc::{AllocError, Global};
+pub(crate) use ways::{INCOMPLETE, fault_text};
+
+/// Limits that small replies meet.
+const SMALL: Limits = Limits {
+    depth: 4,
+    length: 1000,
+    line: 30,
+    values: 6,
+    bytes: 64,
+};
 
 /// The outcome of a case of this module, or `None` if its kind is another.
-pub fn outcome(alloc: Global, kind: &str, input: &str) -> Result<Option<String>, anyhow::Error> {
-    if kind != "wire" {
+pub fn outcome(alloc: Global, kind: &str, input: &str) -> Result<Option<String>, AllocError> {
+    if !is_kind(kind) {
         return Ok(None);
     }
-    let bytes = hex::decode(alloc, input)?;
-    let mut text = answer_of(alloc, &bytes)?;
-    let streamed = streamed_answer(alloc, &bytes)?;
-    let same = streamed.as_str() == text.as_str();
-    let cut = is_reply(&text) && differs_where_cut(alloc, &bytes, &text)?;
-    if !same {
-        text.push_str(", differs byte by byte")?;
-    }
-    if cut {
-        text.push_str(", differs where it is cut")?;
-    }
-    Ok(Some(text))
-}
-
-/// What stands at the head of bytes.
-fn answer_of(alloc: Global, bytes: &[u8]) -> Result<String, anyhow::Error> {
-    match decode(alloc, bytes, Limits::default()) {
-        Ok(Decoded::Complete { reply, len }) => Ok(reply_text(alloc, len, &reply)?),
-        Ok(Decoded::Incomplete) => Ok(String::from_str(alloc, "incomplete")?),
-        Err(WireError::Memory) => Err(WireError::Memory.into()),
-        Err(WireError::Fault(fault)) => Ok(format!(in alloc; "refused: {fault}")?),
+    match bytes_of(alloc, input)? {
+        Some(bytes) => Ok(Some(outcome_of(alloc, kind, &bytes)?)),
+        None => Ok(Some(String::from_str(alloc, "not the text of bytes")?)),
     }
 }
 
-/// Whether an answer is a reply, which has its length in front.
-fn is_reply(answer: &str) -> bool {
-    match answer.as_bytes() {
-        [first, ..] => first.is_ascii_digit(),
-        [] => false,
-    }
+/// Whether a kind is one of this module.
+fn is_kind(kind: &str) -> bool {
+    matches!(
+        kind,
+        "wire"
+            | "limited"
+            | "pieces"
+            | "nodes"
+            | "reply-text"
+            | "reply-texts"
+            | "reply-number"
+            | "pack"
+    )
 }
 
-/// What a stream says of the same bytes, which come one by one.
-fn streamed_answer(alloc: Global, bytes: &[u8]) -> Result<String, anyhow::Error> {
-    let mut stream = ReplyStream::new(alloc, Limits::default());
-    let mut len = 0usize;
-    for byte in bytes {
-        stream.feed(&[*byte])?;
-        len = len.saturating_add(1);
-        match stream.next(alloc) {
-            Ok(None) => {}
-            Ok(Some(reply)) => return Ok(reply_text(alloc, len, &reply)?),
-            Err(WireError::Memory) => return Err(WireError::Memory.into()),
-            Err(WireError::Fault(fault)) => return Ok(format!(in alloc; "refused: {fault}")?),
-        }
+/// The outcome of bytes.
+fn outcome_of(alloc: Global, kind: &str, bytes: &[u8]) -> Result<String, AllocError> {
+    match kind {
+        "wire" => ways::compared(alloc, Limits::default(), bytes),
+        "limited" => ways::compared(alloc, SMALL, bytes),
+        "pieces" => pieces::compared(alloc, bytes),
+        "nodes" => nodes::listed(alloc, bytes),
+        "reply-text" => record::read_as::<String>(alloc, bytes),
+        "reply-texts" => record::read_as::<Vec<String>>(alloc, bytes),
+        "reply-number" => record::read_as::<usize>(alloc, bytes),
+        _ => pack::compared(alloc, bytes),
     }
-    Ok(String::from_str(alloc, "incomplete")?)
-}
-
-/// A reply behind its length.
-fn reply_text(alloc: Global, len: usize, reply: &Reply) -> Result<String, AllocError> {
-    format!(in alloc; "{len} {reply:?}")
-}
-
-/// Whether this reply comes out otherwise where it is cut in two, or a beginning of it is taken
-/// for a reply or for none.
-fn differs_where_cut(alloc: Global, bytes: &[u8], text: &str) -> Result<bool, WireError> {
-    for len in 0..bytes.len() {
-        let (front, back) = bytes.split_at(len);
-        if !matches!(
-            decode(alloc, front, Limits::default())?,
-            Decoded::Incomplete
-        ) {
-            return Ok(true);
-        }
-        let mut stream = ReplyStream::new(alloc, Limits::default());
-        stream.feed(front)?;
-        if stream.next(alloc)?.is_some() {
-            return Ok(true);
-        }
-        stream.feed(back)?;
-        match stream.next(alloc)? {
-            Some(reply) => {
-                let Ok(other) = reply_text(alloc, bytes.len(), &reply) else {
-                    return Err(WireError::Memory);
-                };
-                if other.as_str() != text {
-                    return Ok(true);
-                }
-            }
-            None => return Ok(true),
-        }
-    }
-    Ok(false)
-}
-
-/// Whether these replies come out otherwise where their bytes come in pieces of this size.
-fn differs_in_pieces(
-    alloc: Global,
-    bytes: &[u8],
-    size: usize,
-    texts: &[String],
-) -> Result<bool, WireError> {
-    let mut stream = ReplyStream::new(alloc, Limits::default());
-    let mut wanted = texts.iter();
-    let mut rest = bytes;
-    for _ in 0..bytes.len() {
-        let (piece, behind) = rest.split_at(size.min(rest.len()));
-        rest = behind;
-        stream.feed(piece)?;
-        for _ in 0..bytes.len() {
-            let Some(reply) = stream.next(alloc)? else {
-                break;
-            };
-            let Some(text) = wanted.next() else {
-                return Ok(true);
-            };
-            let Ok(other) = format!(in alloc; " {reply:?}") else {
-                return Err(WireError::Memory);
-            };
-            if !text.as_str().ends_with(other.as_str()) {
-                return Ok(true);
-            }
-        }
-    }
-    Ok(wanted.next().is_some())
 }

@@ -1,6 +1,7 @@
 //! Tests of what is read from a server's values (`redis_resp::value`, `redis_streams` and
-//! `stream_text`) and from its bytes (`redis_wire`) that are no lines of the program `cases`: refused
-//! memory, values that are deep, large or moved, many rows, types of a user's own, and equality.
+//! `stream_text`) and from its bytes (`redis_wire` and `stream_refs`) that are no lines of the program
+//! `cases`: refused memory, values that are deep, large or moved, many rows, types of a user's own,
+//! and equality.
 //!
 //! They stand in a crate of their own, since a check of tests proves the functions of their crate
 //! a second time.
@@ -9,17 +10,15 @@
 #[cfg(test)]
 mod depth;
 #[cfg(test)]
-mod in_place;
-#[cfg(test)]
 mod memory;
 #[cfg(test)]
 mod moved;
 #[cfg(test)]
-mod nodes;
-#[cfg(test)]
 mod notation;
 #[cfg(test)]
 mod readings;
+#[cfg(test)]
+mod refs;
 #[cfg(test)]
 mod refusals;
 #[cfg(test)]
