@@ -2,8 +2,8 @@
 //!
 //! A kind is the name of a Rust type, as `u8` or `Vec<String>`. The outcome is the record as `Debug`
 //! prints it, or the refusal.
-use crate::notation::value_of;
 use crate::calls::{refusal_text, text_of_both};
+use crate::notation::value_of;
 use indexmap::IndexMap;
 use redis_resp::{
     FromRedisValue, PairList, ParsingError, RawBytes, Value, from_redis_value, from_redis_value_ref,

@@ -16,8 +16,8 @@
 //! The outcome is the text of the record (`record`), or the refusal.
 mod record;
 
-use crate::notation::value_of;
 use crate::calls::{refusal_text, text_of_both};
+use crate::notation::value_of;
 use record::Record;
 use redis_resp::{ParsingError, from_redis_value, from_redis_value_ref};
 use redis_streams::{
