@@ -37,7 +37,7 @@ const WAYS: [Way; 3] = [
 pub fn compared(alloc: Global, bytes: &[u8]) -> Result<String, AllocError> {
     let mut told = String::new(alloc);
     let mut outcome = all_replies(alloc, bytes, &mut told)?;
-    for number in 0..=MOST {
+    for number in 0..=MOST.min(bytes.len()) {
         let size = if number == 0 { PACKET } else { number };
         for way in &WAYS {
             let other = passed(alloc, bytes, size, *way)?;
