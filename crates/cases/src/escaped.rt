@@ -1,4 +1,6 @@
 //! Bytes as text that a person can read.
+ghost use Rattle.std.specs.Prelude.{◌<◌, IfSome};
+
 use std::alloc::{AllocError, Global};
 
 /// The bytes that a text spells: `\r`, `\n`, `\t`, `\\` and `\xNN` are one byte each, and every other
@@ -6,7 +8,10 @@ use std::alloc::{AllocError, Global};
 pub fn bytes_of(alloc: Global, text: &str) -> Result<Option<Vec<u8>>, AllocError> {
     let mut bytes = Vec::with_capacity(alloc, text.len())?;
     let mut rest = text.as_bytes();
-    while let Some((byte, after)) = byte_in(rest) {
+    for _ in 0..text.len() {
+        let Some((byte, after)) = byte_in(rest) else {
+            break;
+        };
         bytes.push(byte)?;
         rest = after;
     }

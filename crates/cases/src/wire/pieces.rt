@@ -37,7 +37,7 @@ const WAYS: [Way; 3] = [
 pub fn compared(alloc: Global, bytes: &[u8]) -> Result<String, AllocError> {
     let mut told = String::new(alloc);
     let mut outcome = all_replies(alloc, bytes, &mut told)?;
-    for number in 0..=MOST {
+    for number in 0..=MOST.min(bytes.len()) {
         let size = if number == 0 { PACKET } else { number };
         for way in &WAYS {
             let other = passed(alloc, bytes, size, *way)?;
@@ -53,13 +53,12 @@ pub fn compared(alloc: Global, bytes: &[u8]) -> Result<String, AllocError> {
 fn all_replies(alloc: Global, bytes: &[u8], told: &mut String) -> Result<String, AllocError> {
     let mut rest = bytes;
     let mut count = 0usize;
-    while let Some((text, len)) = first_reply(alloc, rest)? {
-        add_line(told, &text)?;
-        let (_, after) = rest.split_at(len.min(rest.len()));
-        if after.len() >= rest.len() {
+    for _ in 0..bytes.len() {
+        let Some((text, len)) = first_reply(alloc, rest)? else {
             break;
-        }
-        rest = after;
+        };
+        add_line(told, &text)?;
+        rest = rest.split_at(len.min(rest.len())).1;
         count = count.saturating_add(1);
     }
     let left = rest.len();
