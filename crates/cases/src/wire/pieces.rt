@@ -1,13 +1,13 @@
 //! Replies that come one after the other, in pieces of several sizes.
-use crate::wire::ways::{INCOMPLETE, fault_text, next_text, reply_text};
+use crate::wire::ways::{INCOMPLETE, decoded, fault_text, next_text, reply_text};
 use redis_wire::{Decoded, Limits, ReplyStream, WireError, decode};
 use std::alloc::{AllocError, Global};
 
-/// The size up to which pieces of each size are tried.
-const MOST: usize = 100;
+/// The sizes of pieces that are tried: single bytes, some, and a packet of a network.
+const SIZES: [usize; 3] = [1, 7, 1448];
 
-/// The size of pieces that a network makes, which is tried too.
-const PACKET: usize = 1448;
+/// Of so many bytes each size is tried.
+const FEW: usize = 100;
 
 /// How replies are taken out of a stream: in place or as values, and if the two alternate.
 #[derive(Clone, Copy)]
@@ -37,16 +37,32 @@ const WAYS: [Way; 3] = [
 pub fn compared(alloc: Global, bytes: &[u8]) -> Result<String, AllocError> {
     let mut told = String::new(alloc);
     let mut outcome = all_replies(alloc, bytes, &mut told)?;
-    for number in 0..=MOST.min(bytes.len()) {
-        let size = if number == 0 { PACKET } else { number };
-        for way in &WAYS {
-            let other = passed(alloc, bytes, size, *way)?;
-            if other.as_str() != told.as_str() {
-                write!(outcome, "; others in pieces of {size}")?;
-            }
+    for size in SIZES {
+        add_parting(alloc, bytes, size, &told, &mut outcome)?;
+    }
+    if bytes.len() <= FEW {
+        for size in 2..=bytes.len() {
+            add_parting(alloc, bytes, size, &told, &mut outcome)?;
         }
     }
     Ok(outcome)
+}
+
+/// Adds a size of pieces, if a stream finds other replies in one of the ways.
+fn add_parting(
+    alloc: Global,
+    bytes: &[u8],
+    size: usize,
+    told: &str,
+    outcome: &mut String,
+) -> Result<(), AllocError> {
+    for way in WAYS {
+        let other = passed(alloc, bytes, size, way)?;
+        if other.as_str() != told {
+            write!(outcome, "; others in pieces of {size}")?;
+        }
+    }
+    Ok(())
 }
 
 /// How many replies there are, and how many bytes are after them. Adds a line for each reply.
@@ -115,7 +131,7 @@ fn take_replies(
     let mut in_place = in_place;
     for _ in 0..stream.held() {
         let held = stream.held();
-        let text = next_text(alloc, stream, held, in_place)?;
+        let text = taken_text(alloc, stream, held, in_place)?;
         if text.as_str() == INCOMPLETE || stream.held() == held {
             break;
         }
@@ -123,4 +139,31 @@ fn take_replies(
         in_place = in_place != alternates;
     }
     Ok(in_place)
+}
+
+/// Takes the reply at the head of a stream out, as a value or in place.
+fn taken_text(
+    alloc: Global,
+    stream: &mut ReplyStream,
+    held: usize,
+    in_place: bool,
+) -> Result<String, AllocError> {
+    if in_place {
+        place_text(alloc, stream)
+    } else {
+        next_text(alloc, stream, held)
+    }
+}
+
+/// Takes the reply at the head of a stream out in place; its text is that of the bytes that it has there.
+fn place_text(alloc: Global, stream: &mut ReplyStream) -> Result<String, AllocError> {
+    match stream.next_in_place(alloc) {
+        Ok(Some(len)) => {
+            let text = decoded(alloc, stream.limits(), &stream.bytes()[..len])?;
+            stream.give_out(len);
+            Ok(text)
+        }
+        Ok(None) => String::from_str(alloc, INCOMPLETE),
+        Err(error) => fault_text(alloc, error),
+    }
 }
