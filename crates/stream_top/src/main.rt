@@ -157,8 +157,9 @@ const COLUMNS: [(&str, Side); 8] = [
     ("SEEN", Side::Left),
 ];
 
-// So many columns tell of a group, and the others of one of its consumers.
+// So many columns tell of a group, and so many of one of its consumers.
 const OF_GROUP: usize = 5;
+const OF_CONSUMER: usize = 3;
 
 // The page of a stream at a time of the server's clock, in milliseconds.
 fn page(
@@ -202,7 +203,7 @@ fn push_group(
     let state = group_state(alloc, group, now, TIMES, SILENT)?;
     push_state(alloc, cells, &group.name, &state)?;
     if group.consumers.is_empty() {
-        return push_empty(alloc, cells, COLUMNS.len() - OF_GROUP);
+        return push_empty(alloc, cells, OF_CONSUMER);
     }
     for (index, consumer) in group.consumers.iter().enumerate() {
         if index > 0 {
