@@ -79,6 +79,14 @@ struct Source {
     turns: Turns,
 }
 
+impl Source {
+    /// These bytes come too.
+    fn come(&mut self, alloc: Global, text: &str) -> Result<(), AllocError> {
+        let mut bytes = bytes_of(alloc, text)?;
+        self.bytes.append(&mut bytes)
+    }
+}
+
 impl Read for Source {
     fn read(&mut self, buf: &mut [u8]) -> io::Result<usize> {
         let most = self.turns.next()?;
@@ -141,15 +149,14 @@ impl Ends {
         }
     }
 
-    /// What a line says of the reader or the writer; whether it does.
-    fn say(&mut self, alloc: Global, line: &str) -> Result<bool, AllocError> {
+    /// What a line says of the reader or the writer.
+    fn say(&mut self, alloc: Global, line: &str) -> Result<(), AllocError> {
         match parted(line, ' ') {
-            ("comes", rest) => self.source.bytes.append(&mut bytes_of(alloc, rest)?)?,
-            ("reads", rest) => self.source.turns.say(rest)?,
-            ("writes", rest) => self.sink.turns.say(rest)?,
-            _ => return Ok(false),
+            ("comes", rest) => self.source.come(alloc, rest),
+            ("reads", rest) => self.source.turns.say(rest),
+            ("writes", rest) => self.sink.turns.say(rest),
+            _ => Ok(()),
         }
-        Ok(true)
     }
 }
 
@@ -264,6 +271,60 @@ fn rounds_of(word: &str) -> u64 {
     word.parse::<u64>().unwrap_or(0)
 }
 
+/// What a line speaks of.
+#[derive(Clone, Copy)]
+enum Subject {
+    /// The reader or the writer, of which all is said at the beginning.
+    Ends,
+    Question,
+    Reply,
+    Rounds,
+    Worker,
+}
+
+/// What a line with this word speaks of.
+fn subject_of(verb: &str) -> Subject {
+    match verb {
+        "comes" | "reads" | "writes" => Subject::Ends,
+        "send" | "text" | "number" => Subject::Question,
+        "receive" | "place" | "show" | "give" => Subject::Reply,
+        "run" => Subject::Rounds,
+        _ => Subject::Worker,
+    }
+}
+
+/// Sends a command, and has it answered.
+fn ask<R: Read + Drop, W: Write + Drop>(
+    alloc: Global,
+    link: &mut Connection<R, W>,
+    verb: &str,
+    rest: &str,
+) -> Result<String, AllocError> {
+    match verb {
+        "send" => sent(alloc, link, rest),
+        "text" => answered::<String, R, W>(alloc, link, rest),
+        _ => answered::<usize, R, W>(alloc, link, rest),
+    }
+}
+
+/// Receives a reply, shows it or gives it out.
+fn take<R: Read + Drop, W: Write + Drop>(
+    alloc: Global,
+    link: &mut Connection<R, W>,
+    verb: &str,
+    len: usize,
+) -> Result<String, AllocError> {
+    match verb {
+        "receive" => received(alloc, link),
+        "place" => placed(alloc, link),
+        "show" => text_of(alloc, link.received(len)),
+        _ => {
+            link.give_out(len);
+            Ok(String::new(alloc))
+        }
+    }
+}
+
 /// Does what a line says.
 fn do_line<R: Read + Drop, W: Write + Drop>(
     alloc: Global,
@@ -271,19 +332,13 @@ fn do_line<R: Read + Drop, W: Write + Drop>(
     side: &mut Side,
     line: &str,
 ) -> Result<String, AllocError> {
-    match parted(line, ' ') {
-        ("send", rest) => sent(alloc, link, rest),
-        ("text", rest) => answered::<String, R, W>(alloc, link, rest),
-        ("number", rest) => answered::<usize, R, W>(alloc, link, rest),
-        ("receive", _) => received(alloc, link),
-        ("place", _) => placed(alloc, link),
-        ("show", rest) => text_of(alloc, link.received(number_of(rest))),
-        ("give", rest) => {
-            link.give_out(number_of(rest));
-            Ok(String::new(alloc))
-        }
-        ("run", rest) => ran(alloc, link, side, rounds_of(rest)),
-        (verb, rest) => done(alloc, side, verb, rest),
+    let (verb, rest) = parted(line, ' ');
+    match subject_of(verb) {
+        Subject::Ends => Ok(String::new(alloc)),
+        Subject::Question => ask(alloc, link, verb, rest),
+        Subject::Reply => take(alloc, link, verb, number_of(rest)),
+        Subject::Rounds => ran(alloc, link, side, rounds_of(rest)),
+        Subject::Worker => done(alloc, side, verb, rest),
     }
 }
 
@@ -291,27 +346,31 @@ fn do_line<R: Read + Drop, W: Write + Drop>(
 fn transcript_of(alloc: Global, lines: &str, most: usize) -> Result<String, AllocError> {
     let mut ends = Ends::new(alloc, most);
     for line in lines.lines() {
-        let _is_said = ends.say(alloc, line)?;
+        ends.say(alloc, line)?;
     }
-    let mut out = String::new(alloc);
-    let mut side = Side::new(alloc, "", Way::InPlace)?;
     let Ends { source, mut sink } = ends;
+    let mut out = String::new(alloc);
     let mut link = Connection::new(alloc, source, &mut sink, LIMITS)?;
-    for line in lines.lines() {
-        if !is_of_ends(line) {
-            let text = do_line(alloc, &mut link, &mut side, line)?;
-            push_exchange(&mut out, line, text.as_str())?;
-        }
-    }
+    do_lines(alloc, &mut link, lines, &mut out)?;
     drop(link);
     out.push_str("sent: ")?;
     push_line(&mut out, commands_text(alloc, &sink.bytes)?.as_str())?;
     Ok(out)
 }
 
-/// Whether a line says something of the reader or the writer.
-fn is_of_ends(line: &str) -> bool {
-    matches!(parted(line, ' ').0, "comes" | "reads" | "writes")
+/// Does what the lines say.
+fn do_lines<R: Read + Drop, W: Write + Drop>(
+    alloc: Global,
+    link: &mut Connection<R, W>,
+    lines: &str,
+    out: &mut String,
+) -> Result<(), AllocError> {
+    let mut side = Side::new(alloc, "", Way::InPlace)?;
+    for line in lines.lines() {
+        let text = do_line(alloc, link, &mut side, line)?;
+        push_exchange(out, line, text.as_str())?;
+    }
+    Ok(())
 }
 
 /// Plays a connection, once for each size.
@@ -331,25 +390,48 @@ pub fn play(alloc: Global, words: &str, lines: &str, out: &mut String) -> Result
     Ok(())
 }
 
-/// What comes of a session of so many rounds over bytes, and the commands that were sent.
-fn ended(alloc: Global, bytes: &[u8], rounds: u64) -> Result<(String, Vec<u8>), AllocError> {
+/// What a session over bytes came to, and the commands that were sent.
+#[derive(Drop)]
+struct Ended {
+    text: String,
+    sent: Vec<u8>,
+}
+
+/// What comes of a session of so many rounds over bytes.
+fn ended(alloc: Global, bytes: &[u8], rounds: u64) -> Result<Ended, AllocError> {
     let mut sent = Vec::new(alloc);
     let mut side = Side::new(alloc, "", Way::InPlace)?;
     let mut link = Connection::new(alloc, bytes, &mut sent, LIMITS)?;
     let mut text = ran(alloc, &mut link, &mut side, rounds)?;
     drop(link);
-    let mut again = Vec::new(alloc);
-    if side
-        .worker
-        .request(alloc, &mut again, &mut side.doer)
-        .is_err()
-    {
-        return Err(AllocError);
-    }
-    if sent.ends_with(&again) {
+    if asks_again(alloc, &mut side, &sent) {
         text.push_str("; it asks the same again")?;
     }
-    Ok((text, sent))
+    Ok(Ended { text, sent })
+}
+
+/// Whether a worker asks again what was sent last.
+fn asks_again(alloc: Global, side: &mut Side, sent: &[u8]) -> bool {
+    let mut again = Vec::new(alloc);
+    let asked = side.worker.request(alloc, &mut again, &mut side.doer);
+    asked.is_ok() && sent.ends_with(&again)
+}
+
+/// What comes of a session whose bytes end too early, beside the commands of the whole one.
+fn front_text(
+    alloc: Global,
+    bytes: &[u8],
+    rounds: u64,
+    whole: &[u8],
+) -> Result<String, AllocError> {
+    let Ended { mut text, sent } = ended(alloc, bytes, rounds)?;
+    text.push_str(if whole.starts_with(&sent) {
+        "; sent a front: "
+    } else {
+        "; sent otherwise: "
+    })?;
+    text.push_str(commands_text(alloc, &sent)?.as_str())?;
+    Ok(text)
 }
 
 /// Plays a session over a connection that ends behind each byte of what comes.
@@ -359,24 +441,20 @@ pub fn play_ends(
     lines: &str,
     out: &mut String,
 ) -> Result<(), AllocError> {
-    let mut ends = Ends::new(alloc, 0);
+    let mut input = Vec::new(alloc);
     for line in lines.lines() {
-        ends.source.bytes.append(&mut bytes_of(alloc, line)?)?;
+        input.append(&mut bytes_of(alloc, line)?)?;
     }
-    let input = ends.source.bytes;
     let rounds = rounds_of(words);
-    let (text, whole) = ended(alloc, &input, rounds)?;
-    push_exchange(out, commands_text(alloc, &whole)?.as_str(), text.as_str())?;
+    let whole = ended(alloc, &input, rounds)?;
+    let commands = commands_text(alloc, &whole.sent)?;
+    push_exchange(out, commands.as_str(), whole.text.as_str())?;
     let mut spans = Spans::new(alloc);
     for end in 0..input.len() {
-        let (mut text, sent) = ended(alloc, &input[..end], rounds)?;
-        text.push_str(if whole.starts_with(&sent) {
-            "; sent a front: "
-        } else {
-            "; sent otherwise: "
-        })?;
-        text.push_str(commands_text(alloc, &sent)?.as_str())?;
-        spans.add(alloc, text)?;
+        spans.add(
+            alloc,
+            front_text(alloc, &input[..end], rounds, &whole.sent)?,
+        )?;
     }
     push_line(out, spans.finished(alloc)?.as_str())
 }

@@ -1,6 +1,7 @@
 //! A handler that says of each entry what a script says.
 use crate::texts::push_bytes;
 use std::alloc::{AllocError, Global};
+use stream_refs::FieldsRef;
 use stream_worker::{Entry, Gathered, Handler, NotCommitted, Verdict};
 
 /// The fields that are shown of an entry that is a record, which has no order.
@@ -110,17 +111,24 @@ fn push_entry(alloc: Global, out: &mut String, entry: &Entry<'_>) -> Result<(), 
     out.push_str("; ")?;
     out.push_str(entry.id())?;
     match entry.fields() {
-        Some(fields) => {
-            for (name, value) in fields {
-                push_field(out, name, value)?;
-            }
-        }
-        None => {
-            for name in &NAMES {
-                if let Some(last) = entry.get::<String>(alloc, name)? {
-                    push_field(out, name.as_bytes(), last.as_bytes())?;
-                }
-            }
+        Some(fields) => push_fields(out, fields),
+        None => push_named(alloc, out, entry),
+    }
+}
+
+/// Appends the fields of an entry in place.
+fn push_fields(out: &mut String, fields: FieldsRef<'_>) -> Result<(), AllocError> {
+    for (name, value) in fields {
+        push_field(out, name, value)?;
+    }
+    Ok(())
+}
+
+/// Appends the fields of a record that have one of the names.
+fn push_named(alloc: Global, out: &mut String, entry: &Entry<'_>) -> Result<(), AllocError> {
+    for name in &NAMES {
+        if let Some(last) = entry.get::<String>(alloc, name)? {
+            push_field(out, name.as_bytes(), last.as_bytes())?;
         }
     }
     Ok(())

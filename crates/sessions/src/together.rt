@@ -19,6 +19,7 @@ mod world;
 
 use crate::server::protocol_of;
 use crate::texts::{number_of, parted, push_line};
+use crate::together::line::is_any_down;
 use crate::together::schedules::played_moves;
 use crate::together::tally::{Played, Tally};
 use crate::together::world::{left_by_ann, round, settled, world_of};
@@ -52,7 +53,7 @@ fn gone(alloc: Global, protocol: Protocol, steps: usize) -> Result<Played, Alloc
         line.is_gone = true;
     }
     for _ in 0..10u8 {
-        if !world.lines.iter().any(|line| line.is_down) {
+        if !is_any_down(&world.lines) {
             round(alloc, &mut world);
         }
     }

@@ -162,8 +162,15 @@ fn told_side(alloc: Global, side: &mut Side, bytes: &[u8]) -> Result<String, All
     told(alloc, &mut side.worker, &mut side.doer, side.way, bytes)
 }
 
+/// Tells it the bytes that a text is.
+fn told_text(alloc: Global, side: &mut Side, text: &str) -> Result<String, AllocError> {
+    let bytes = bytes_of(alloc, text)?;
+    told_side(alloc, side, &bytes)
+}
+
 /// Tells a worker each front of bytes: what comes of it, and for how many of them.
-fn told_fronts(alloc: Global, side: &mut Side, bytes: &[u8]) -> Result<String, AllocError> {
+fn told_fronts(alloc: Global, side: &mut Side, text: &str) -> Result<String, AllocError> {
+    let bytes = bytes_of(alloc, text)?;
     let mut spans = Spans::new(alloc);
     for end in 0..bytes.len() {
         let text = told_side(alloc, side, &bytes[..end])?;
@@ -209,21 +216,28 @@ impl Spans {
     }
 }
 
+/// Instructs a handler.
+fn instructed(
+    alloc: Global,
+    doer: &mut Doer,
+    verb: &str,
+    rest: &str,
+) -> Result<String, AllocError> {
+    match verb {
+        "says" => doer.say(rest)?,
+        "refuses" => doer.refuses = rest == "yes",
+        _ => return String::from_str(alloc, "no line of a worker"),
+    }
+    Ok(String::new(alloc))
+}
+
 /// Does what a line says.
 pub fn done(alloc: Global, side: &mut Side, verb: &str, rest: &str) -> Result<String, AllocError> {
     match verb {
         "ask" => asked(alloc, &mut side.worker, &mut side.doer),
-        "tell" => told_side(alloc, side, &bytes_of(alloc, rest)?),
-        "fronts" => told_fronts(alloc, side, &bytes_of(alloc, rest)?),
-        "says" => {
-            side.doer.say(rest)?;
-            Ok(String::new(alloc))
-        }
-        "refuses" => {
-            side.doer.refuses = rest == "yes";
-            Ok(String::new(alloc))
-        }
-        _ => String::from_str(alloc, "no line of a worker"),
+        "tell" => told_text(alloc, side, rest),
+        "fronts" => told_fronts(alloc, side, rest),
+        _ => instructed(alloc, &mut side.doer, verb, rest),
     }
 }
 

@@ -98,11 +98,34 @@ pub struct Line {
     is_refused: bool,
 }
 
-impl Line {
-    /// Whether something went otherwise than it may.
-    pub fn is_wrong(&self) -> bool {
-        self.is_refused || self.book.is_foreign
+/// Whether something went otherwise than it may, with any of them.
+pub fn is_any_wrong(lines: &[Line]) -> bool {
+    for line in lines {
+        if line.is_refused || line.book.is_foreign {
+            return true;
+        }
     }
+    false
+}
+
+/// Whether any of them is down.
+pub fn is_any_down(lines: &[Line]) -> bool {
+    for line in lines {
+        if line.is_down {
+            return true;
+        }
+    }
+    false
+}
+
+/// Whether any worker committed the entry of this number.
+pub fn is_committed(lines: &[Line], number: usize) -> bool {
+    for line in lines {
+        if line.book.committed.get(number) == Some(&true) {
+            return true;
+        }
+    }
+    false
 }
 
 /// A worker that begins.

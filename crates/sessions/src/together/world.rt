@@ -1,6 +1,6 @@
 //! A server with some entries, and workers.
 use crate::server::told;
-use crate::together::line::{Line, line_of, turn};
+use crate::together::line::{Line, is_any_wrong, is_committed, line_of, turn};
 use crate::together::tally::Played;
 use std::alloc::{AllocError, Global};
 use stream_server::{Protocol, Server, Session};
@@ -88,19 +88,11 @@ pub fn round(alloc: Global, world: &mut World) {
     }
 }
 
-/// Whether a worker committed the entry of this number.
-fn is_committed(world: &World, number: usize) -> bool {
-    world
-        .lines
-        .iter()
-        .any(|line| line.book.committed.get(number) == Some(&true))
-}
-
 /// Whether each entry was committed by a worker or deleted, and nothing is pending.
 fn is_done(alloc: Global, world: &mut World) -> Result<bool, AllocError> {
     for number in 0..world.added {
         let is_deleted = world.deleted.get(number) == Some(&true);
-        if !is_deleted && !is_committed(world, number) {
+        if !is_deleted && !is_committed(&world.lines, number) {
             return Ok(false);
         }
     }
@@ -112,7 +104,7 @@ fn is_done(alloc: Global, world: &mut World) -> Result<bool, AllocError> {
 fn settles(alloc: Global, world: &mut World) -> Result<bool, AllocError> {
     for _ in 0..TURNS {
         if is_done(alloc, world)? {
-            return Ok(!world.lines.iter().any(|line| line.is_wrong()));
+            return Ok(!is_any_wrong(&world.lines));
         }
         round(alloc, world);
     }
