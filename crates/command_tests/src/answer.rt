@@ -1,7 +1,7 @@
 //! Answers, each read as the type of its command.
 use redis_resp::{ParsingError, Value};
 use redis_wire::{Reply, ReplyError, ServerError};
-use std::test::Fail;
+use std::process::Abort;
 use stream_commands::{AtLeastOne, xadd_options, xlen, xread};
 use stream_options::StreamAddOptions;
 
@@ -18,16 +18,15 @@ fn a_length_is_read(rt: HostRuntime) {
 }
 
 #[test]
-fn a_reply_is_read(rt: HostRuntime) -> Result<(), Fail> {
+fn a_reply_is_read(rt: HostRuntime) {
     let length = xlen("orders");
     let read = length.read_reply(rt.alloc(), Reply::Value(Value::Int(3)));
     assert!(rt; matches!(&read, Ok(3)), "{read:?}");
-    let text = Vec::from_slice(rt.alloc(), b"WRONGTYPE no stream")?;
+    let text = Vec::from_slice(rt.alloc(), b"WRONGTYPE no stream").expect(&rt, "memory");
     match length.read_reply(rt.alloc(), Reply::Error(ServerError { text })) {
         Err(ReplyError::Server(error)) => assert_eq!(rt; error.code(), b"WRONGTYPE".as_slice()),
-        other => return Err(format!(in rt.alloc(); "{other:?}")?.into()),
+        other => panic!(rt; "{other:?}"),
     }
-    Ok(())
 }
 
 #[test]

@@ -1,6 +1,5 @@
 //! Commands on groups and what is pending for them.
-use crate::check;
-use std::test::Fail;
+use crate::check::check;
 use stream_commands::{
     AtLeastOne, JustIdIsSet, xack, xack_del, xautoclaim, xautoclaim_count, xautoclaim_justid,
     xautoclaim_options, xclaim, xclaim_justid, xclaim_options, xgroup_create,
@@ -13,107 +12,72 @@ use stream_commands::{
 use stream_options::{StreamAutoClaimOptions, StreamClaimOptions, StreamDeletionPolicy};
 
 #[test]
-fn groups_are_kept(rt: HostRuntime) -> Result<(), Fail> {
-    check(
-        &rt,
-        &xgroup_create("orders", "g", "0"),
-        "XGROUP CREATE orders g 0",
-    )?;
-    check(
-        &rt,
-        &xgroup_create_mkstream("made", "g", "$"),
-        "XGROUP CREATE made g $ MKSTREAM",
-    )?;
-    check(
-        &rt,
-        &xgroup_createconsumer("orders", "g", "c"),
-        "XGROUP CREATECONSUMER orders g c",
-    )?;
-    check(
-        &rt,
-        &xgroup_setid("orders", "g", "0-0"),
-        "XGROUP SETID orders g 0-0",
-    )?;
-    check(
-        &rt,
-        &xgroup_delconsumer("orders", "g", "c"),
-        "XGROUP DELCONSUMER orders g c",
-    )?;
-    check(
-        &rt,
-        &xgroup_destroy("orders", "g"),
-        "XGROUP DESTROY orders g",
-    )
+fn groups_are_kept(rt: HostRuntime) {
+    let create = xgroup_create("orders", "g", "0");
+    check(&rt, &create, "XGROUP CREATE orders g 0");
+    let create = xgroup_create_mkstream("made", "g", "$");
+    check(&rt, &create, "XGROUP CREATE made g $ MKSTREAM");
+    let create = xgroup_create_entries_read("orders", "h", "2-0", 2);
+    check(&rt, &create, "XGROUP CREATE orders h 2-0 ENTRIESREAD 2");
+    let create = xgroup_createconsumer("orders", "g", "c");
+    check(&rt, &create, "XGROUP CREATECONSUMER orders g c");
+    let set = xgroup_setid("orders", "g", "0-0");
+    check(&rt, &set, "XGROUP SETID orders g 0-0");
+    let set = xgroup_setid_entries_read("orders", "h", "3-0", 3);
+    check(&rt, &set, "XGROUP SETID orders h 3-0 ENTRIESREAD 3");
+    let delete = xgroup_delconsumer("orders", "g", "c");
+    check(&rt, &delete, "XGROUP DELCONSUMER orders g c");
+    let destroy = xgroup_destroy("orders", "g");
+    check(&rt, &destroy, "XGROUP DESTROY orders g");
 }
 
 #[test]
-fn pending_entries_are_told(rt: HostRuntime) -> Result<(), Fail> {
-    check(&rt, &xpending("orders", "g"), "XPENDING orders g")?;
-    check(
-        &rt,
-        &xpending_count("orders", "g", "-", "+", 10),
-        "XPENDING orders g - + 10",
-    )?;
-    check(
-        &rt,
-        &xpending_consumer_count("orders", "g", "-", "+", 10, "c"),
-        "XPENDING orders g - + 10 c",
-    )?;
-    check(
-        &rt,
-        &xpending_idle_count("orders", "g", 60_000, "-", "+", 10),
-        "XPENDING orders g IDLE 60000 - + 10",
-    )?;
+fn pending_entries_are_told(rt: HostRuntime) {
+    check(&rt, &xpending("orders", "g"), "XPENDING orders g");
+    let told = xpending_count("orders", "g", "-", "+", 10);
+    check(&rt, &told, "XPENDING orders g - + 10");
+    let told = xpending_consumer_count("orders", "g", "-", "+", 10, "c");
+    check(&rt, &told, "XPENDING orders g - + 10 c");
+    let told = xpending_idle_count("orders", "g", 60_000, "-", "+", 10);
+    check(&rt, &told, "XPENDING orders g IDLE 60000 - + 10");
+    let told = xpending_idle_consumer_count("orders", "g", 60_000, "-", "+", 10, "d");
+    check(&rt, &told, "XPENDING orders g IDLE 60000 - + 10 d");
+    let told = xpending_idle_consumer_count("orders", "g", 0, "-", "+", 1, "d");
+    check(&rt, &told, "XPENDING orders g IDLE 0 - + 1 d");
+}
+
+#[test]
+fn pending_entries_are_acknowledged(rt: HostRuntime) {
     let ids = ["3-0", "4-0"];
-    let Some(both) = AtLeastOne::new(&ids) else {
-        return Err(Fail::new("no ids"));
-    };
-    check(&rt, &xack("orders", "g", both), "XACK orders g 3-0 4-0")?;
-    let Some(both) = AtLeastOne::new(&ids) else {
-        return Err(Fail::new("no ids"));
-    };
-    check(
-        &rt,
-        &xack_del("orders", "g", both, StreamDeletionPolicy::DelRef),
-        "XACKDEL orders g DELREF IDS 2 3-0 4-0",
-    )
+    let both = AtLeastOne::new(&ids).expect(&rt, "ids");
+    check(&rt, &xack("orders", "g", both), "XACK orders g 3-0 4-0");
+    let both = AtLeastOne::new(&ids).expect(&rt, "ids");
+    let delete = xack_del("orders", "g", both, StreamDeletionPolicy::DelRef);
+    check(&rt, &delete, "XACKDEL orders g DELREF IDS 2 3-0 4-0");
 }
 
 #[test]
-fn pending_entries_are_claimed(rt: HostRuntime) -> Result<(), Fail> {
-    let id = "3-0";
-    check(
-        &rt,
-        &xclaim("orders", "g", "d", 0, AtLeastOne::one(&id)),
-        "XCLAIM orders g d 0 3-0",
-    )?;
+fn pending_entries_are_claimed(rt: HostRuntime) {
+    let claim = xclaim("orders", "g", "d", 0, AtLeastOne::one(&"3-0"));
+    check(&rt, &claim, "XCLAIM orders g d 0 3-0");
     let options = StreamClaimOptions::default().retry(3).with_force();
-    check(
-        &rt,
-        &xclaim_options("orders", "g", "d", 0, AtLeastOne::one(&id), &options)?,
-        "XCLAIM orders g d 0 3-0 RETRYCOUNT 3 FORCE",
-    )?;
-    check(
-        &rt,
-        &xclaim_justid("orders", "g", "c", 0, AtLeastOne::one(&id), options),
-        "XCLAIM orders g c 0 3-0 RETRYCOUNT 3 FORCE JUSTID",
-    )?;
-    let options = || StreamAutoClaimOptions::default().count(10);
-    check(
-        &rt,
-        &xautoclaim_options("orders", "g", "d", 0, "0-0", &options())?,
-        "XAUTOCLAIM orders g d 0 0-0 COUNT 10",
-    )?;
-    check(
-        &rt,
-        &xautoclaim_justid("orders", "g", "d", 0, "3", options()),
-        "XAUTOCLAIM orders g d 0 3 COUNT 10 JUSTID",
-    )?;
-    check(
-        &rt,
-        &xautoclaim_justid("orders", "g", "d", 0, "0-0", options().with_justid()),
-        "XAUTOCLAIM orders g d 0 0-0 COUNT 10 JUSTID",
-    )
+    let claim = xclaim_justid("orders", "g", "c", 0, AtLeastOne::one(&"3-0"), options);
+    let line = "XCLAIM orders g c 0 3-0 RETRYCOUNT 3 FORCE JUSTID";
+    check(&rt, &claim, line);
+}
+
+#[test]
+fn idle_entries_are_claimed(rt: HostRuntime) {
+    let claim = xautoclaim("orders", "g", "d", 0, "4-0");
+    check(&rt, &claim, "XAUTOCLAIM orders g d 0 4-0");
+    let claim = xautoclaim_count("orders", "g", "d", 0, "0-0", 1);
+    check(&rt, &claim, "XAUTOCLAIM orders g d 0 0-0 COUNT 1");
+    let options = StreamAutoClaimOptions::default().count(10);
+    let claim = xautoclaim_justid("orders", "g", "d", 0, "3", options);
+    check(&rt, &claim, "XAUTOCLAIM orders g d 0 3 COUNT 10 JUSTID");
+    let options = StreamAutoClaimOptions::default().count(10).with_justid();
+    let claim = xautoclaim_justid("orders", "g", "d", 0, "0-0", options);
+    check(&rt, &claim, "XAUTOCLAIM orders g d 0 0-0 COUNT 10 JUSTID");
 }
 
 #[test]
@@ -127,79 +91,23 @@ fn entries_are_not_claimed_by_ids_alone(rt: HostRuntime) {
 }
 
 #[test]
-fn streams_are_described(rt: HostRuntime) -> Result<(), Fail> {
-    check(&rt, &xinfo_stream("orders"), "XINFO STREAM orders")?;
-    check(
-        &rt,
-        &xinfo_stream_with_idempotency("orders"),
-        "XINFO STREAM orders",
-    )?;
-    check(&rt, &xinfo_groups("orders"), "XINFO GROUPS orders")?;
-    check(
-        &rt,
-        &xinfo_consumers("orders", "g"),
-        "XINFO CONSUMERS orders g",
-    )
+fn streams_are_described(rt: HostRuntime) {
+    check(&rt, &xinfo_stream("orders"), "XINFO STREAM orders");
+    let described = xinfo_stream_with_idempotency("orders");
+    check(&rt, &described, "XINFO STREAM orders");
+    check(&rt, &xinfo_groups("orders"), "XINFO GROUPS orders");
+    let described = xinfo_consumers("orders", "g");
+    check(&rt, &described, "XINFO CONSUMERS orders g");
+    let described = xinfo_stream_full("orders");
+    check(&rt, &described, "XINFO STREAM orders FULL");
+    let described = xinfo_stream_full_count("orders", 1);
+    check(&rt, &described, "XINFO STREAM orders FULL COUNT 1");
 }
 
 #[test]
-fn counts_of_groups_and_streams_are_set(rt: HostRuntime) -> Result<(), Fail> {
-    check(
-        &rt,
-        &xgroup_create_entries_read("orders", "h", "2-0", 2),
-        "XGROUP CREATE orders h 2-0 ENTRIESREAD 2",
-    )?;
-    check(
-        &rt,
-        &xgroup_setid_entries_read("orders", "h", "3-0", 3),
-        "XGROUP SETID orders h 3-0 ENTRIESREAD 3",
-    )?;
-    check(&rt, &xsetid("orders", "9-0"), "XSETID orders 9-0")?;
-    check(
-        &rt,
-        &xsetid_entries_added("orders", "9-0", 9, "1-0"),
-        "XSETID orders 9-0 ENTRIESADDED 9 MAXDELETEDID 1-0",
-    )
-}
-
-#[test]
-fn idle_entries_of_a_consumer_are_told(rt: HostRuntime) -> Result<(), Fail> {
-    check(
-        &rt,
-        &xpending_idle_consumer_count("orders", "g", 60_000, "-", "+", 10, "d"),
-        "XPENDING orders g IDLE 60000 - + 10 d",
-    )?;
-    check(
-        &rt,
-        &xpending_idle_consumer_count("orders", "g", 0, "-", "+", 1, "d"),
-        "XPENDING orders g IDLE 0 - + 1 d",
-    )
-}
-
-#[test]
-fn idle_entries_are_claimed(rt: HostRuntime) -> Result<(), Fail> {
-    check(
-        &rt,
-        &xautoclaim("orders", "g", "d", 0, "4-0"),
-        "XAUTOCLAIM orders g d 0 4-0",
-    )?;
-    check(
-        &rt,
-        &xautoclaim_count("orders", "g", "d", 0, "0-0", 1),
-        "XAUTOCLAIM orders g d 0 0-0 COUNT 1",
-    )
-}
-
-#[test]
-fn streams_are_told_in_full(rt: HostRuntime) -> Result<(), Fail> {
-    check(
-        &rt,
-        &xinfo_stream_full("orders"),
-        "XINFO STREAM orders FULL",
-    )?;
-    check(
-        &rt,
-        &xinfo_stream_full_count("orders", 1),
-        "XINFO STREAM orders FULL COUNT 1",
-    )
+fn counts_of_streams_are_set(rt: HostRuntime) {
+    check(&rt, &xsetid("orders", "9-0"), "XSETID orders 9-0");
+    let set = xsetid_entries_added("orders", "9-0", 9, "1-0");
+    let line = "XSETID orders 9-0 ENTRIESADDED 9 MAXDELETEDID 1-0";
+    check(&rt, &set, line);
 }

@@ -2,7 +2,7 @@
 ghost use Rattle.std.specs.Prelude.{◌≡◌, [], ◌∷◌, map, IfOk};
 ghost use Rattle.stream_commands.specs.WholeCommands.{add_list, trim_list, read_list, claim_list, autoclaim_list};
 
-use crate::check;
+use crate::check::check;
 use redis_resp::ToRedisArgs;
 use std::alloc::{AllocError, Global};
 use std::test::Fail;
@@ -105,44 +105,45 @@ fn autoclaim_arguments(
 }
 
 #[test]
-fn added_entries_are_lists(rt: HostRuntime) -> Result<(), Fail> {
+fn added_entries_are_lists(rt: HostRuntime) {
     let strategy = StreamTrimStrategy::maxlen(StreamTrimmingMode::Exact, 10);
     let options = StreamAddOptions::default().nomkstream().trim(strategy);
-    let arguments = add_arguments(rt.alloc(), "orders", "4-0", "item", "tea", &options)?;
+    let arguments = add_arguments(rt.alloc(), "orders", "4-0", "item", "tea", &options);
     let line = "XADD orders NOMKSTREAM MAXLEN = 10 4-0 item tea";
-    check(&rt, &arguments, line)
+    check(&rt, &arguments.expect(&rt, "memory"), line);
 }
 
 #[test]
-fn trims_are_lists(rt: HostRuntime) -> Result<(), Fail> {
+fn trims_are_lists(rt: HostRuntime) {
     let options = StreamTrimOptions::maxlen(StreamTrimmingMode::Approx, 1).limit(50);
-    let arguments = trim_arguments(rt.alloc(), "orders", &options)?;
-    check(&rt, &arguments, "XTRIM orders MAXLEN ~ 1 LIMIT 50")
+    let arguments = trim_arguments(rt.alloc(), "orders", &options);
+    let line = "XTRIM orders MAXLEN ~ 1 LIMIT 50";
+    check(&rt, &arguments.expect(&rt, "memory"), line);
 }
 
 #[test]
-fn reads_are_lists(rt: HostRuntime) -> Result<(), Fail> {
+fn reads_are_lists(rt: HostRuntime) {
     let options = StreamReadOptions::default().block(5).count(2);
-    let options = options.group(rt.alloc(), "g", "c")?;
-    let arguments = read_arguments(rt.alloc(), "orders", ">", &options)?;
+    let options = options.group(rt.alloc(), "g", "c").expect(&rt, "memory");
+    let arguments = read_arguments(rt.alloc(), "orders", ">", &options);
     let line = "XREADGROUP GROUP g c BLOCK 5 COUNT 2 STREAMS orders >";
-    check(&rt, &arguments, line)
+    check(&rt, &arguments.expect(&rt, "memory"), line);
 }
 
 #[test]
 fn claims_are_lists(rt: HostRuntime) -> Result<(), Fail> {
     let options = StreamClaimOptions::default().with_force().retry(3);
     let arguments = claim_arguments(rt.alloc(), "orders", "g", "d", 0, "3-0", &options)?;
-    check(
-        &rt,
-        &arguments,
-        "XCLAIM orders g d 0 3-0 RETRYCOUNT 3 FORCE",
-    )
+    let line = "XCLAIM orders g d 0 3-0 RETRYCOUNT 3 FORCE";
+    check(&rt, &arguments, line);
+    Ok(())
 }
 
 #[test]
 fn automatic_claims_are_lists(rt: HostRuntime) -> Result<(), Fail> {
     let options = StreamAutoClaimOptions::default().count(10);
     let arguments = autoclaim_arguments(rt.alloc(), "orders", "g", "d", 0, "0-0", &options)?;
-    check(&rt, &arguments, "XAUTOCLAIM orders g d 0 0-0 COUNT 10")
+    let line = "XAUTOCLAIM orders g d 0 0-0 COUNT 10";
+    check(&rt, &arguments, line);
+    Ok(())
 }

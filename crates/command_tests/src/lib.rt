@@ -1,11 +1,17 @@
-//! Tests of whole commands: the line of each against outside words, and answers that are read.
+//! Tests of commands: their arguments and options, the readers of sentences, whole commands beside
+//! outside words, and answers that are read.
 //!
 //! They stand in a crate of their own, since a check of tests proves the functions of their crate
-//! a second time.
+//! a second time. A test ends its process where memory runs out, so that its calls stand one after
+//! the other; those of `memory` alone go on.
 #![tactic(auto)]
 
 #[cfg(test)]
 mod answer;
+#[cfg(test)]
+mod args;
+#[cfg(test)]
+mod check;
 #[cfg(test)]
 mod entry;
 #[cfg(test)]
@@ -14,28 +20,9 @@ mod group;
 mod justid;
 #[cfg(test)]
 mod law;
-
 #[cfg(test)]
-use redis_resp::ToRedisArgs;
+mod memory;
 #[cfg(test)]
-use std::process::Abort;
+mod options;
 #[cfg(test)]
-use std::test::Fail;
-
-// The command writes these words: its arguments, joined by spaces.
-#[cfg(test)]
-fn check<A: ToRedisArgs>(
-    rt: &(impl Abort + AllocGlobal),
-    command: &A,
-    line: &str,
-) -> Result<(), Fail> {
-    let mut words = Vec::new(rt.alloc());
-    for (index, arg) in command.to_redis_args(rt.alloc())?.iter().enumerate() {
-        if index > 0 {
-            words.push(b' ')?;
-        }
-        words.extend_from_slice(arg)?;
-    }
-    assert_eq!(rt; String::from_utf8(words)?.as_str(), line);
-    Ok(())
-}
+mod sentences;

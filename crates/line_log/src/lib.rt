@@ -17,8 +17,6 @@ mod log;
 mod memory;
 mod opening;
 mod system;
-#[cfg(test)]
-mod tests;
 
 pub use device::LogFile;
 pub use error::LogError;

@@ -4,14 +4,15 @@ use Rattle.std.proofs.lemmas.List.{map-append}
 use Rattle.redis_resp.specs.Tree.{Tree}
 use Rattle.redis_resp.specs.Value.{tree}
 use Rattle.redis_resp.specs.declared.value.Value.{Value}
-use Rattle.reply_bench.specs.Replies.{below, row_tree, row_trees}
+use Rattle.reply_bench.specs.Below.{below}
+use Rattle.reply_bench.specs.Replies.{row_tree, row_trees}
 use Rattle.reply_bench.specs.declared.replies.Row.{Row}
 
-pub below_none : (f : ℕ → List Tree) → below f 0 ≡ []
+pub below_none : {A : Type 0} (f : ℕ → List A) → below f 0 ≡ []
 unfolding below
 below_none f = refl
 
-below_next : (f : ℕ → List Tree) (n : ℕ) → below f (n + 1) ≡ below f n ++ f n
+pub below_next : {A : Type 0} (f : ℕ → List A) (n : ℕ) → below f (n + 1) ≡ below f n ++ f n
 unfolding below
 below_next f n =
     let next : n + 1 ≡ suc n = omega arith in

@@ -1,3 +1,6 @@
+pub mod Answer
+pub mod Below
+pub mod Found
 pub mod Job
 pub mod Reading
 pub mod Replies

@@ -1,17 +1,13 @@
 -- The replies that are read, as trees.
-use Rattle.std.specs.Prelude.{ℕ, zero, suc, ◌-◌, ◌^◌, pos, false, List, [], ◌∷◌, ◌++◌, codes, decimal}
+use Rattle.std.specs.Prelude.{ℕ, ◌-◌, ◌^◌, pos, false, List, [], ◌∷◌, ◌++◌, codes, decimal}
 use Rattle.std.specs.Fmt.{format_spec, padded_integral}
 use Rattle.redis_resp.specs.Tree.{Tree, nil, int, bulk, array, trees}
+use Rattle.reply_bench.specs.Below.{below}
 use Rattle.reply_bench.specs.declared.job.Operation.{Operation}
 use Rattle.reply_bench.specs.declared.job.Operation.TheVariants.{Range, RangeOfOneField, Read, ReadWithClaim, Autoclaim}
 use Rattle.reply_bench.specs.declared.job.Operation.TheVariants.{AutoclaimOfIds, Pending, Table, Add}
 use Rattle.reply_bench.specs.declared.replies.Row.{Row}
 use Rattle.reply_bench.specs.declared.replies.Row.TheVariants.{Entry, Claimed, Id, Waiting}
-
--- what there is of each number below a count, one behind the other
-unfoldable pub below : (ℕ → List Tree) → ℕ → List Tree
-below trees_of zero = []
-below trees_of (suc n) = below trees_of n ++ trees_of n
 
 -- a number in five digits, or more where it has more
 abbrev pub five_digits : ℕ → List ℕ

@@ -86,7 +86,7 @@ pub struct Job {
 /// Why words name no job.
 #[derive(Debug, PartialEq, Drop, Error)]
 pub enum JobError {
-    #[error("wanted: OPERATION WAY COUNT ROWS")]
+    #[error("wanted: OPERATION WAY COUNT ROWS, or READING COUNT ENTRIES array|map")]
     WrongArguments,
     #[error("no such operation")]
     UnknownOperation,

@@ -1,31 +1,52 @@
-//! Does one operation of the stream layer over and over, so that what it costs can be counted.
+//! Does a job over and over, so that what it costs can be counted: an operation of the stream layer
+//! on a value, or a reading of the bytes of an XREADGROUP's answer.
 //!
 //! ```text
 //! reply_bench range owned 100 1000      # reads a range of 1000 entries, a hundred times, by value
+//! reply_bench fields 100 1000 array     # all ids and fields of 1000 entries in place, a hundred times
+//! reply_bench print 1 1000 map          # writes the answer itself to standard output
 //! ```
 //!
-//! The arguments are the operation, the way in which it is done, how often, and the rows of the
-//! reply that is read; `job` lists their words. The reply is made once, before the first time:
-//! `tools/count-work` counts the work of a call as the difference of two runs.
+//! Four words are a job, and further fours are further jobs. The words of an operation are its name,
+//! the way in which it is done, how often, and the rows of the reply that is read; `job` lists them.
+//! The words of a reading are its name, how often, how many entries the answer has, each of four
+//! fields, and whether it is RESP2's array of streams or RESP3's map of them.
 //!
-//! It prints its arguments and ends with 0, or ends with 1 where the arguments name no work and
-//! standard error says why, or with 2 where memory ran out or standard output failed.
+//! The readings: `places` finds where all stands; `fields` also looks at each id, name and value, in
+//! place; `gets` takes two fields of each entry by name; `decoded` makes the value and no record;
+//! `copied` makes the record, and looks at what `fields` does; `fed` feeds ten answers to a stream of
+//! replies, each in one piece, and then takes them out, and `fed-bytes` feeds ten answers byte by byte
+//! and asks for a reply after each byte; `fed-one` and `fed-one-bytes` do so with one.
+//!
+//! The reply is made once, before the first time: `tools/count-work` counts the work of a call as the
+//! difference of two runs. A line is printed for each job: its words, and of a reading how many bytes
+//! the answer has and the sum of the lengths of what was looked at, or taken out.
+//!
+//! It ends with 0, or with 1 if the arguments name no work and standard error says why, or with 2 if
+//! memory ran out, standard output failed, or the answer was not read.
 #![tactic(auto)]
 
+mod answer;
+mod bytes;
+mod copied;
+mod in_place;
 mod job;
 mod operations;
 mod reading;
 mod replies;
+mod streamed;
 
+use bytes::{BytesJob, Reading};
 use job::{Job, JobError};
 use operations::perform;
-use std::env;
+use std::io::Write;
 use std::process::ExitCode;
+use std::{env, io};
 
 // The arguments name no work.
 const NO_WORK: u8 = 1;
 
-// Memory ran out, or standard output failed.
+// Memory ran out, standard output failed, or the answer was not read.
 const FAILED: u8 = 2;
 
 fn main(rt: HostRuntime) -> ExitCode {
@@ -36,30 +57,66 @@ fn main(rt: HostRuntime) -> ExitCode {
     }
 }
 
-// Does what the arguments ask for; false where they name no work.
+// Does what the arguments ask for; false if they name no work.
 fn work_of_arguments(rt: &HostRuntime) -> Result<bool, anyhow::Error> {
     let mut words = Vec::new(rt.alloc());
     for word in env::args(rt)?.skip(1) {
         words.push(word)?;
     }
-    match job_of(&words) {
-        Ok(job) => perform(rt.alloc(), job)?,
-        Err(error) => {
-            eprintln!(rt; "reply_bench: {error}")?;
+    if words.is_empty() {
+        return refuse(rt, JobError::WrongArguments);
+    }
+    for four in words.chunks(4) {
+        if !work_of_words(rt, four)? {
             return Ok(false);
         }
     }
-    for word in &words {
-        print!(rt; "{word} ")?;
+    Ok(true)
+}
+
+// Says on standard error why words name no work.
+fn refuse(rt: &HostRuntime, error: JobError) -> Result<bool, anyhow::Error> {
+    eprintln!(rt; "reply_bench: {error}")?;
+    Ok(false)
+}
+
+// Does the job that the words name; there have to be four.
+fn work_of_words(rt: &HostRuntime, words: &[String]) -> Result<bool, anyhow::Error> {
+    let [name, second, third, fourth] = words else {
+        return refuse(rt, JobError::WrongArguments);
+    };
+    if let Some(reading) = Reading::named(name) {
+        return match BytesJob::of_words(reading, second, third, fourth) {
+            Some(job) => read_bytes(rt, words, job),
+            None => refuse(rt, JobError::WrongArguments),
+        };
     }
+    match Job::of_words(name, second, third, fourth) {
+        Ok(job) => perform(rt.alloc(), job)?,
+        Err(error) => return refuse(rt, error),
+    }
+    print_words(rt, words)?;
     println!(rt; "done")?;
     Ok(true)
 }
 
-// The job that the words name; there have to be four.
-fn job_of(words: &[String]) -> Result<Job, JobError> {
-    let [operation, way, count, rows] = words else {
-        return Err(JobError::WrongArguments);
-    };
-    Job::of_words(operation, way, count, rows)
+// Reads the bytes of an answer, or prints them.
+fn read_bytes(rt: &HostRuntime, words: &[String], job: BytesJob) -> Result<bool, anyhow::Error> {
+    let bytes = job.answer(rt.alloc())?;
+    if matches!(job.reading, Reading::Print) {
+        io::writer(rt).write_all(&bytes)?;
+        return Ok(true);
+    }
+    let sum = bytes::read(rt.alloc(), &bytes, job)?;
+    print_words(rt, words)?;
+    println!(rt; "{} bytes, {sum}", bytes.len())?;
+    Ok(true)
+}
+
+// Prints the words of a job, with a space behind each.
+fn print_words(rt: &HostRuntime, words: &[String]) -> Result<(), anyhow::Error> {
+    for word in words {
+        print!(rt; "{word} ")?;
+    }
+    Ok(())
 }

@@ -2,7 +2,8 @@
 ghost use Rattle.std.specs.Prelude.{◌≡◌, [], ◌∷◌, IfOk, map, string_bytes};
 ghost use Rattle.redis_resp.specs.Tree.{bulk};
 ghost use Rattle.redis_resp.specs.Value.{tree};
-ghost use Rattle.reply_bench.specs.Replies.{below, field_trees, fields_tree, id_tree, pair_trees, reply_tree, row_tree, row_trees, stream_tree, claimed_tree};
+ghost use Rattle.reply_bench.specs.Below.{below};
+ghost use Rattle.reply_bench.specs.Replies.{field_trees, fields_tree, id_tree, pair_trees, reply_tree, row_tree, row_trees, stream_tree, claimed_tree};
 
 use crate::job::Operation;
 use redis_resp::Value;

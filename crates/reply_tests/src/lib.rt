@@ -1,5 +1,7 @@
-//! Tests of what is read from a server's values: `redis_resp::value`, `redis_streams` and
-//! `stream_text`, as tables of the notation; and of bytes: `redis_wire`.
+//! Tests of what is read from a server's values (`redis_resp::value`, `redis_streams` and
+//! `stream_text`) and from its bytes (`redis_wire` and `stream_refs`) that are no lines of the program
+//! `cases`: refused memory, values that are deep, large or moved, many rows, types of a user's own,
+//! and equality.
 //!
 //! They stand in a crate of their own, since a check of tests proves the functions of their crate
 //! a second time.
@@ -8,17 +10,15 @@
 #[cfg(test)]
 mod depth;
 #[cfg(test)]
-mod in_place;
-#[cfg(test)]
 mod memory;
 #[cfg(test)]
 mod moved;
 #[cfg(test)]
-mod nodes;
-#[cfg(test)]
 mod notation;
 #[cfg(test)]
 mod readings;
+#[cfg(test)]
+mod refs;
 #[cfg(test)]
 mod refusals;
 #[cfg(test)]
@@ -54,4 +54,14 @@ fn line_of(alloc: Global, line: Line<'_>, count: usize) -> Result<String, AllocE
     }
     text.push_str(behind)?;
     Ok(text)
+}
+
+/// The counts of items that are tried: 0 to 64, 1,000 and 10,000, each by its step from 0 to 66.
+#[cfg(test)]
+fn count_of(step: usize) -> usize {
+    match step {
+        65 => 1_000,
+        66 => 10_000,
+        count => count,
+    }
 }

@@ -1,51 +1,14 @@
-//! Readings of plain types, of values in the notation, by both calls.
-mod list;
-mod number;
-mod pair;
-mod text;
-mod truth;
-mod tuple;
+//! Readings of plain types, of long values, by both calls. The program `cases` has the short ones.
+mod user;
 mod value;
 
+use crate::line_of;
+use indexmap::IndexMap;
 use redis_resp::{FromRedisValue, from_redis_value, from_redis_value_ref};
 use std::fmt::Debug;
 use std::process::Abort;
 use std::test::Fail;
 use stream_text::read_value;
-
-/// A value that reads as no text, number or bytes, of each such kind.
-const COLLECTIONS: [&str; 7] = [
-    "Nil",
-    "Boolean(true)",
-    "Array[Int 1]",
-    "Set[Int 1]",
-    "Map[Int 1: Int 2]",
-    "Push(message)[Int 1]",
-    "Attr(Nil; Okay: Nil)",
-];
-
-/// Of each value of the table both calls answer what stands beside it.
-fn check<T: FromRedisValue + Debug>(
-    rt: &(impl AllocGlobal + Abort),
-    table: &[(&str, &str)],
-) -> Result<(), Fail> {
-    for (notation, shown) in table {
-        check_value::<T>(rt, notation, shown)?;
-    }
-    Ok(())
-}
-
-/// Both calls refuse each of the values so.
-fn check_refused<T: FromRedisValue + Debug>(
-    rt: &(impl AllocGlobal + Abort),
-    values: &[&str],
-    shown: &str,
-) -> Result<(), Fail> {
-    for notation in values {
-        check_value::<T>(rt, notation, shown)?;
-    }
-    Ok(())
-}
 
 /// Both calls answer this of the value, as `Debug` shows a record or a refusal, and the borrowed
 /// value stays as it was.
@@ -66,4 +29,25 @@ fn check_value<T: FromRedisValue + Debug>(
     let owned = format!(in alloc; "{:?}", from_redis_value::<T>(alloc, value))?;
     assert!(rt; owned.as_str() == shown, "owned: {owned}, not {shown}");
     Ok(())
+}
+
+#[test]
+fn a_long_list_is_read(rt: HostRuntime) -> Result<(), Fail> {
+    let notation = line_of(rt.alloc(), ("Array[", "Int $", ", ", "]"), 10_000)?;
+    let shown = line_of(rt.alloc(), ("Ok([", "$", ", ", "])"), 10_000)?;
+    check_value::<Vec<i64>>(&rt, notation.as_str(), shown.as_str())
+}
+
+#[test]
+fn a_large_table_is_read(rt: HostRuntime) -> Result<(), Fail> {
+    let notation = line_of(rt.alloc(), ("Map[", "n$: Int $", ", ", "]"), 10_000)?;
+    let shown = line_of(rt.alloc(), ("Ok({", "\"n$\": $", ", ", "})"), 10_000)?;
+    check_value::<IndexMap<String, u16>>(&rt, notation.as_str(), shown.as_str())
+}
+
+#[test]
+fn a_large_text_is_read(rt: HostRuntime) -> Result<(), Fail> {
+    let notation = line_of(rt.alloc(), ("", "x", "", ""), 65_536)?;
+    let shown = line_of(rt.alloc(), ("Ok(\"", "x", "", "\")"), 65_536)?;
+    check_value::<String>(&rt, notation.as_str(), shown.as_str())
 }

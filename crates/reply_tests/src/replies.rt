@@ -1,29 +1,15 @@
-//! Replies from the notation to their printed forms, by both calls.
+//! Replies of many items, from the notation to their printed forms, by both calls. The program
+//! `cases` has the short ones.
 mod answers;
 mod copies;
-mod forms;
-mod full;
-mod info;
+mod entry;
 mod many;
-mod pending;
-mod rows;
 mod status;
 
 use redis_resp::{FromRedisValue, ParsingError, Value, from_redis_value, from_redis_value_ref};
 use std::process::Abort;
 use std::test::Fail;
-use stream_text::{PrintedForm, read_value};
-
-/// Each value of the table has the printed form beside it.
-fn check<T: FromRedisValue + PrintedForm>(
-    rt: &(impl AllocGlobal + Abort),
-    table: &[(&str, &str)],
-) -> Result<(), Fail> {
-    for (notation, printed) in table {
-        check_value::<T>(rt, read_value(rt.alloc(), notation)?, printed)?;
-    }
-    Ok(())
-}
+use stream_text::PrintedForm;
 
 /// What both calls answer of the value has this printed form, and the borrowed value stays as it was.
 fn check_value<T: FromRedisValue + PrintedForm>(

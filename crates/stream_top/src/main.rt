@@ -11,9 +11,6 @@
 //! memory runs out.
 #![tactic(auto)]
 
-#[cfg(test)]
-mod tests;
-
 use anyhow::{Result, anyhow};
 use redis_resp::{FromRedisValue, ToRedisArgs, Value};
 use redis_streams::{StreamInfoFullConsumer, StreamInfoFullGroup, StreamInfoFullReply};
@@ -65,10 +62,7 @@ fn wait<R: Read, W: Write>(
 fn main(rt: HostRuntime) -> Result<()> {
     let alloc = rt.alloc();
     let mut words = env::args(&rt)?.skip(1);
-    let Some(key) = words.next() else {
-        return Err(anyhow!("wanted: KEY ROUNDS"));
-    };
-    let Some(rounds) = words.next() else {
+    let (Some(key), Some(rounds)) = (words.next(), words.next()) else {
         return Err(anyhow!("wanted: KEY ROUNDS"));
     };
     let rounds: u32 = rounds.parse()?;
@@ -163,6 +157,10 @@ const COLUMNS: [(&str, Side); 8] = [
     ("SEEN", Side::Left),
 ];
 
+// So many columns tell of a group, and so many of one of its consumers.
+const OF_GROUP: usize = 5;
+const OF_CONSUMER: usize = 3;
+
 // The page of a stream at a time of the server's clock, in milliseconds.
 fn page(
     alloc: Global,
@@ -170,6 +168,20 @@ fn page(
     stream: &StreamInfoFullReply,
     now: usize,
 ) -> Result<String, AllocError> {
+    let mut cells = Vec::new(alloc);
+    for (title, _side) in &COLUMNS {
+        cells.push(String::from_str(alloc, title)?)?;
+    }
+    for group in &stream.groups {
+        push_group(alloc, &mut cells, group, now)?;
+    }
+    let mut text = heading(alloc, key, stream)?;
+    push_table(&mut text, &cells)?;
+    Ok(text)
+}
+
+// What a page says of the whole stream.
+fn heading(alloc: Global, key: &str, stream: &StreamInfoFullReply) -> Result<String, AllocError> {
     let mut text = shown(alloc, key)?;
     write!(
         text,
@@ -178,85 +190,89 @@ fn page(
         stream.groups.len(),
         stream.last_generated_id
     )?;
-    let mut rows = Vec::new(alloc);
-    let mut titles = Vec::new(alloc);
-    let mut sides = Vec::new(alloc);
-    for (title, side) in &COLUMNS {
-        titles.push(String::from_str(alloc, title)?)?;
-        sides.push(*side)?;
-    }
-    rows.push(titles)?;
-    for group in &stream.groups {
-        push_group(alloc, &mut rows, group, now)?;
-    }
-    text.push_str(&table(alloc, &rows, &sides)?)?;
     Ok(text)
 }
 
 // Adds the rows of a group: one for each of its consumers, and one where it has none.
 fn push_group(
     alloc: Global,
-    rows: &mut Vec<Row>,
+    cells: &mut Vec<String>,
     group: &StreamInfoFullGroup,
     now: usize,
 ) -> Result<(), AllocError> {
     let state = group_state(alloc, group, now, TIMES, SILENT)?;
-    let mut cells = group_cells(alloc, group, &state)?;
-    for consumer in &group.consumers {
-        push_consumer(alloc, &mut cells, consumer, &state, now)?;
-        rows.push(cells)?;
-        cells = Vec::new(alloc);
-        for _ in 0..5u8 {
-            cells.push(String::new(alloc))?;
-        }
-    }
+    push_state(alloc, cells, &group.name, &state)?;
     if group.consumers.is_empty() {
-        rows.push(cells)?;
+        return push_empty(alloc, cells, OF_CONSUMER);
+    }
+    for (index, consumer) in group.consumers.iter().enumerate() {
+        if index > 0 {
+            push_empty(alloc, cells, OF_GROUP)?;
+        }
+        push_consumer(alloc, cells, consumer, &state, now)?;
     }
     Ok(())
 }
 
-// The cells of a group: its name, its lag, what is pending, for how long, and what too often.
-fn group_cells(
+// Adds so many cells without a text.
+fn push_empty(alloc: Global, cells: &mut Vec<String>, count: usize) -> Result<(), AllocError> {
+    for _ in 0..count {
+        cells.push(String::new(alloc))?;
+    }
+    Ok(())
+}
+
+// Adds the cells of a group: its name, its lag, what is pending, for how long, and what too often.
+fn push_state(
     alloc: Global,
-    group: &StreamInfoFullGroup,
+    cells: &mut Vec<String>,
+    name: &str,
     state: &GroupState,
-) -> Result<Row, AllocError> {
-    let mut cells = Vec::new(alloc);
-    cells.push(shown(alloc, &group.name)?)?;
+) -> Result<(), AllocError> {
+    cells.push(shown(alloc, name)?)?;
     cells.push(match state.lag {
-        Some(lag) => format!(in alloc; "{lag}")?,
+        Some(lag) => number(alloc, lag)?,
         None => String::from_str(alloc, "?")?,
     })?;
-    cells.push(format!(in alloc; "{}", state.pending)?)?;
+    cells.push(number(alloc, state.pending)?)?;
     cells.push(match state.oldest_idle {
         Some(idle) => age(alloc, idle)?,
         None => String::from_str(alloc, "-")?,
     })?;
-    cells.push(format!(in alloc; "{}", state.too_often.len())?)?;
-    Ok(cells)
+    cells.push(number(alloc, state.too_often.len())?)?;
+    Ok(())
 }
 
 // Adds the cells of a consumer: its name, what is pending for it, and how long ago it was seen.
 fn push_consumer(
     alloc: Global,
-    cells: &mut Row,
+    cells: &mut Vec<String>,
     consumer: &StreamInfoFullConsumer,
     state: &GroupState,
     now: usize,
 ) -> Result<(), AllocError> {
     cells.push(shown(alloc, &consumer.name)?)?;
-    cells.push(format!(in alloc; "{}", consumer.pending_count)?)?;
+    cells.push(number(alloc, consumer.pending_count)?)?;
     let mut seen = age(alloc, now.saturating_sub(consumer.seen_time))?;
     seen.push_str(" ago")?;
-    for name in &state.dead {
-        if name.as_str() == consumer.name.as_str() {
-            seen.push_str(", dead")?;
-            break;
-        }
+    if is_among(&consumer.name, &state.dead) {
+        seen.push_str(", dead")?;
     }
     cells.push(seen)?;
     Ok(())
+}
+
+fn is_among(name: &str, names: &[String]) -> bool {
+    for other in names {
+        if other.as_str() == name {
+            return true;
+        }
+    }
+    false
+}
+
+fn number(alloc: Global, number: usize) -> Result<String, AllocError> {
+    format!(in alloc; "{number}")
 }
 
 // So many milliseconds as people say them.
@@ -286,9 +302,6 @@ fn shown(alloc: Global, name: &str) -> Result<String, AllocError> {
     Ok(text)
 }
 
-// A row of a table: the texts of its cells.
-type Row = Vec<String>;
-
 // On which side of its column the text of a cell stands.
 #[derive(Clone, Copy, PartialEq, Eq)]
 enum Side {
@@ -296,22 +309,6 @@ enum Side {
     Left,
     // Numbers.
     Right,
-}
-
-// The width of each column.
-fn widths_of(alloc: Global, rows: &[Row]) -> Result<Vec<usize>, AllocError> {
-    let mut widths: Vec<usize> = Vec::new(alloc);
-    for row in rows {
-        for (index, cell) in row.iter().enumerate() {
-            let width = cell.as_str().width();
-            if index < widths.len() {
-                widths[index] = widths[index].max(width);
-            } else {
-                widths.push(width)?;
-            }
-        }
-    }
-    Ok(widths)
 }
 
 // Appends so many blanks.
@@ -323,36 +320,35 @@ fn push_blanks(line: &mut String, count: usize) -> Result<(), AllocError> {
 }
 
 // Appends a row: two blanks stand between each two columns, and none at its end.
-fn push_row(
-    line: &mut String,
-    row: &[String],
-    widths: &[usize],
-    sides: &[Side],
-) -> Result<(), AllocError> {
+fn push_row(line: &mut String, row: &[String], widths: &[usize]) -> Result<(), AllocError> {
     let mut blanks = 0usize;
-    for ((cell, width), side) in row.iter().zip(widths).zip(sides) {
+    for ((cell, width), (_title, side)) in row.iter().zip(widths).zip(&COLUMNS) {
         let left = width.saturating_sub(cell.as_str().width());
-        match side {
-            Side::Left => {
-                push_blanks(line, blanks)?;
-                blanks = left.saturating_add(2);
-            }
-            Side::Right => {
-                push_blanks(line, blanks.saturating_add(left))?;
-                blanks = 2;
-            }
+        if *side == Side::Right {
+            blanks = blanks.saturating_add(left);
         }
-        line.push_str(cell)?;
+        if !cell.is_empty() {
+            push_blanks(line, blanks)?;
+            line.push_str(cell)?;
+            blanks = 0;
+        }
+        if *side == Side::Left {
+            blanks = blanks.saturating_add(left);
+        }
+        blanks = blanks.saturating_add(2);
     }
     line.push('\n')
 }
 
-// The rows as lines.
-fn table(alloc: Global, rows: &[Row], sides: &[Side]) -> Result<String, AllocError> {
-    let widths = widths_of(alloc, rows)?;
-    let mut text = String::new(alloc);
-    for row in rows {
-        push_row(&mut text, row, &widths, sides)?;
+// Appends the cells as a table, row by row.
+fn push_table(text: &mut String, cells: &[String]) -> Result<(), AllocError> {
+    let mut widths = [0usize; 8];
+    for (index, cell) in cells.iter().enumerate() {
+        let column = index % 8;
+        widths[column] = widths[column].max(cell.as_str().width());
     }
-    Ok(text)
+    for row in cells.chunks(8) {
+        push_row(text, row, &widths)?;
+    }
+    Ok(())
 }

@@ -19,8 +19,6 @@ mod call_sequences;
 mod fixed_args;
 mod print;
 mod sentences;
-#[cfg(test)]
-mod tests;
 mod vectors;
 
 use print::{PrintError, print_rows};

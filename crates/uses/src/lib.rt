@@ -1,7 +1,7 @@
-//! Callers of the stream layer to copy from, each proved from the public contracts and run by a
-//! test.
+//! Callers of the stream layer to copy from, each proved from the public contracts and run on stored
+//! cases by the program `caller_cases`.
 //!
-//! `worker` and `batch` are the pure part of a consumer-group worker, `stalled` takes over what
+//! `caller` is a first file of a repository of one's own. `worker` and `batch` are the pure part of a consumer-group worker, `stalled` takes over what
 //! others left, `deletion` reads what XDELEX and XACKDEL say, `monitoring` reads XPENDING and XINFO,
 //! `group_state` says of a group what a tool shows, `producer` sends entries so that one that is sent
 //! twice is added once, `server` reads back what a client wrote, `wire` goes from a server's bytes to
@@ -9,6 +9,7 @@
 #![tactic(auto)]
 
 pub mod batch;
+pub mod caller;
 pub mod deletion;
 pub mod group_state;
 pub mod monitoring;
@@ -17,7 +18,5 @@ pub mod producer;
 pub mod readme;
 pub mod server;
 pub mod stalled;
-#[cfg(test)]
-mod tests;
 pub mod wire;
 pub mod worker;

@@ -1,6 +1,6 @@
 //! Replies of up to 10,000 items, with ample memory.
 use crate::replies::check_value;
-use crate::{Line, line_of};
+use crate::{Line, count_of, line_of};
 use redis_resp::FromRedisValue;
 use redis_streams::{
     StreamAutoClaimReply, StreamClaimReply, StreamInfoConsumersReply, StreamInfoGroupsReply,
@@ -22,11 +22,7 @@ fn check_many<T: FromRedisValue + PrintedForm>(
     let alloc = rt.alloc();
     check_value::<T>(rt, read_value(alloc, &line_of(alloc, notation, 0)?)?, empty)?;
     for step in 1..67 {
-        let count = match step {
-            65 => 1_000,
-            66 => 10_000,
-            count => count,
-        };
+        let count = count_of(step);
         let value = read_value(alloc, &line_of(alloc, notation, count)?)?;
         check_value::<T>(rt, value, &line_of(alloc, printed, count)?)?;
     }

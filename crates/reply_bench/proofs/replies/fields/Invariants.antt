@@ -1,6 +1,7 @@
 use Rattle.std.proofs.Common.{◌≡◌, map}
 use Rattle.redis_resp.specs.Value.{tree}
-use Rattle.reply_bench.specs.Replies.{below, field_trees}
+use Rattle.reply_bench.specs.Below.{below}
+use Rattle.reply_bench.specs.Replies.{field_trees}
 use Rattle.reply_bench.proofs.replies.fields.Given as goal
 
 -- the fields so far

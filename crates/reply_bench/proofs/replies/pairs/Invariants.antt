@@ -1,6 +1,7 @@
 use Rattle.std.proofs.Common.{◌≡◌, map}
 use Rattle.redis_resp.specs.Value.{tree}
-use Rattle.reply_bench.specs.Replies.{below, pair_trees}
+use Rattle.reply_bench.specs.Below.{below}
+use Rattle.reply_bench.specs.Replies.{pair_trees}
 use Rattle.reply_bench.proofs.replies.pairs.Given as goal
 
 -- the pairs so far

@@ -1,0 +1,92 @@
+//! Calls that write arguments and take memory, each request for which may be refused: each call
+//! gives its right answer or says that memory ran out, and nothing else; a list that was written
+//! into then holds a proper beginning of the arguments behind what it held.
+//!
+//! `tools/sweep-refused-memory` runs the test whose name says `refused_memory` with each request
+//! refused in turn.
+use redis_args::{RawBytes, ToRedisArgs, WriteError};
+use std::alloc::AllocError;
+use std::process::Abort;
+use stream_options::{StreamIdempotencyMode, StreamReadOptions};
+
+/// The arguments are words of these, from the first on.
+fn assert_begins(rt: &impl Abort, args: &[Vec<u8>], words: &[&str]) {
+    assert!(rt; args.len() <= words.len());
+    for (arg, word) in args.iter().zip(words) {
+        assert_eq!(rt; arg.as_slice(), word.as_bytes());
+    }
+}
+
+/// The value writes the words behind the first one as a list, and behind a list of the first one.
+fn check_written<T: ToRedisArgs>(
+    rt: &(impl AllocGlobal + Abort),
+    value: &T,
+    words: &[&str],
+) -> Result<(), AllocError> {
+    assert!(rt; words.len() > 1);
+    let args = value.to_redis_args(rt.alloc())?;
+    assert_eq!(rt; args.len(), words.len() - 1);
+    assert_begins(rt, &args, &words[1..]);
+    drop(args);
+    let mut behind = vec![in rt.alloc(); Vec::from_slice(rt.alloc(), words[0].as_bytes())?]?;
+    let answer = value.write_redis_args(&mut behind);
+    assert_begins(rt, &behind, words);
+    match answer {
+        Ok(()) => {
+            assert_eq!(rt; behind.len(), words.len());
+            Ok(())
+        }
+        Err(error) => {
+            assert_eq!(rt; error, WriteError::Memory);
+            assert!(rt; !behind.is_empty() && behind.len() < words.len());
+            Err(AllocError)
+        }
+    }
+}
+
+fn check_group(rt: &(impl AllocGlobal + Abort)) -> Result<(), AllocError> {
+    let first = StreamReadOptions::default()
+        .noack()
+        .group(rt.alloc(), "g", 7u64)?;
+    let again = first.claim(1).group(rt.alloc(), "h", None::<u16>)?;
+    let words = ["held", "GROUP", "h", "COUNT", "2", "NOACK", "CLAIM", "1"];
+    check_written(rt, &again.count(2), &words)
+}
+
+fn check_parts_of_names(rt: &(impl AllocGlobal + Abort)) -> Result<(), AllocError> {
+    let alloc = rt.alloc();
+    let nothing: Vec<RawBytes> = Vec::new(alloc);
+    let parts = vec![in alloc; RawBytes(Vec::from_slice(alloc, b"c")?)]?;
+    let options = StreamReadOptions::default()
+        .count(2)
+        .group(alloc, nothing, parts)?;
+    check_written(rt, &options, &["held", "GROUP", "c", "COUNT", "2"])
+}
+
+fn check_copied_mode(rt: &(impl AllocGlobal + Abort)) -> Result<(), AllocError> {
+    let mode = StreamIdempotencyMode::Manual {
+        producer_id: String::from_str(rt.alloc(), "p")?,
+        idempotent_id: String::from_str(rt.alloc(), "i")?,
+    };
+    let copy = mode.try_clone(rt.alloc())?;
+    check_written(rt, &copy, &["held", "IDMP", "p", "i"])
+}
+
+fn check_all(rt: &(impl AllocGlobal + Abort)) -> Result<(), AllocError> {
+    check_group(rt)?;
+    check_parts_of_names(rt)?;
+    check_copied_mode(rt)
+}
+
+#[test]
+fn ample_memory_gives_right_answers(rt: HostRuntime) {
+    assert_eq!(rt; check_all(&rt), Ok(()));
+}
+
+// A wrong answer ends the test in `check_written`; that memory ran out is a right one.
+#[test]
+fn refused_memory_changes_no_answer(rt: HostRuntime) {
+    match check_all(&rt) {
+        Ok(()) | Err(AllocError) => {}
+    }
+}

@@ -1,0 +1,87 @@
+//! A value and a writer of a user's own, and a writer with little room.
+ghost use Rattle.std.specs.Prelude.{◌≡◌, ◌⊎◌, [], ◌∷◌, codes, if◌then◌else◌};
+ghost use Rattle.redis_args.specs.Room.{MayRefuse};
+ghost use Rattle.redis_args.specs.declared.writer.WriteError.TheVariants.{Full};
+
+use crate::check::{assert_holds, check, check_place, text};
+use redis_args::{FixedArgs, RedisWrite, ToRedisArgs, WriteError};
+use std::process::Abort;
+use stream_options::{StreamDeletionPolicy, StreamTrimOptions, StreamTrimmingMode};
+
+/// `yes` or `no`.
+#[derive(Debug, Drop)]
+pub(crate) struct Flag(pub bool);
+
+impl ToRedisArgs for Flag {
+    ghost args = { λ flag. (if flag.0 then codes "yes" else codes "no") ∷ [] };
+
+    fn write_redis_args<W: RedisWrite>(&self, out: &mut W) -> Result<(), WriteError> {
+        if self.0 {
+            out.write_arg(b"yes")
+        } else {
+            out.write_arg(b"no")
+        }
+    }
+}
+
+// Room for eight arguments of 64 bytes in all, and none for the word `LIMIT`.
+#[derive(Drop)]
+struct WithoutLimit {
+    store: FixedArgs<8, 64>,
+}
+
+impl RedisWrite for WithoutLimit {
+    ghost written = { λ out. out.store };
+
+    ghost may_refuse = { λ out arg error.
+        ((arg ≡ codes "LIMIT") × (error ≡ Full)) ⊎ MayRefuse 8 64 out.store arg error };
+
+    fn write_arg(&mut self, arg: &[u8]) -> Result<(), WriteError> {
+        if arg == b"LIMIT".as_slice() {
+            return Err(WriteError::Full);
+        }
+        self.store.write_arg(arg)
+    }
+}
+
+#[test]
+fn values_of_a_users_own(rt: HostRuntime) {
+    check(&rt, &[Flag(true), Flag(false)], "yes no");
+    check(&rt, &Some(Flag(false)), "no");
+    check(&rt, &&Flag(true), "yes");
+}
+
+// The answer of writing these options without room for the word `LIMIT`, and what is then held.
+fn check_without_limit(
+    rt: &impl Abort,
+    options: &StreamTrimOptions,
+    answer: Result<(), WriteError>,
+    held: &[&[u8]],
+) {
+    let mut out = WithoutLimit {
+        store: FixedArgs::new(),
+    };
+    assert_eq!(rt; options.write_redis_args(&mut out), answer);
+    assert_holds(rt, &out.store, held);
+}
+
+#[test]
+fn a_writer_without_limit(rt: HostRuntime) {
+    let full = Err(WriteError::Full);
+    let spelled = StreamTrimOptions::minid(StreamTrimmingMode::Exact, text(&rt, "LIMIT"));
+    let spelled = spelled.set_deletion_policy(StreamDeletionPolicy::Acked);
+    check_without_limit(&rt, &spelled, full, &[b"MINID", b"="]);
+    let about = StreamTrimOptions::maxlen(StreamTrimmingMode::Approx, 10);
+    check_without_limit(&rt, &about, Ok(()), &[b"MAXLEN", b"~", b"10"]);
+    check_without_limit(&rt, &about.limit(5), full, &[b"MAXLEN", b"~", b"10"]);
+}
+
+#[test]
+fn little_room(rt: HostRuntime) {
+    let options = StreamTrimOptions::maxlen(StreamTrimmingMode::Approx, 10);
+    let words: [&[u8]; 3] = [b"MAXLEN", b"~", b"10"];
+    let full = Err(WriteError::Full);
+    check_place(&rt, FixedArgs::<2, 64>::new(), &options, full, &words[..2]);
+    check_place(&rt, FixedArgs::<3, 8>::new(), &options, full, &words[..2]);
+    check_place(&rt, FixedArgs::<3, 9>::new(), &options, Ok(()), &words);
+}
