@@ -18,11 +18,10 @@ pub fn json_line(alloc: Global, entry: &Entry<'_>) -> Result<Option<Vec<u8>>, Al
     ensures one_line { IfOk result (λ o. IfSome o (λ line. AllByRecursion (λ b. b ≢ 10) line.items)) }
 {
     let mut out = Writer::new(Vec::with_capacity(alloc, 128)?);
-    if push_entry(alloc, &mut out, entry)? {
-        Ok(Some(out.into_inner()))
-    } else {
-        Ok(None)
+    if !push_entry(alloc, &mut out, entry)? {
+        return Ok(None);
     }
+    Ok(Some(out.into_inner()))
 }
 
 /// An entry as an object. False where a field is no text; then the object is not ended.
