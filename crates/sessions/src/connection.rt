@@ -392,13 +392,13 @@ pub fn play(alloc: Global, words: &str, lines: &str, out: &mut String) -> Result
 
 /// What a session over bytes came to, and the commands that were sent.
 #[derive(Drop)]
-struct Ended {
+struct Outcome {
     text: String,
     sent: Vec<u8>,
 }
 
 /// What comes of a session of so many rounds over bytes.
-fn ended(alloc: Global, bytes: &[u8], rounds: u64) -> Result<Ended, AllocError> {
+fn ended(alloc: Global, bytes: &[u8], rounds: u64) -> Result<Outcome, AllocError> {
     let mut sent = Vec::new(alloc);
     let mut side = Side::new(alloc, "", Way::InPlace)?;
     let mut link = Connection::new(alloc, bytes, &mut sent, LIMITS)?;
@@ -407,7 +407,7 @@ fn ended(alloc: Global, bytes: &[u8], rounds: u64) -> Result<Ended, AllocError> 
     if asks_again(alloc, &mut side, &sent) {
         text.push_str("; it asks the same again")?;
     }
-    Ok(Ended { text, sent })
+    Ok(Outcome { text, sent })
 }
 
 /// Whether a worker asks again what was sent last.
@@ -424,7 +424,7 @@ fn front_text(
     rounds: u64,
     whole: &[u8],
 ) -> Result<String, AllocError> {
-    let Ended { mut text, sent } = ended(alloc, bytes, rounds)?;
+    let Outcome { mut text, sent } = ended(alloc, bytes, rounds)?;
     text.push_str(if whole.starts_with(&sent) {
         "; sent a front: "
     } else {
