@@ -4,14 +4,15 @@
 //! |---|---|
 //! | `wire` | bytes: the reply at their head, after its length, `incomplete`, or the fault that refuses them |
 //! | `limited` | the same with small limits |
+//! | `decoded` | the same as `wire`, of fewer ways: for tools, which try many |
 //! | `pieces` | replies, one after the other: how many there are, and what is after them |
 //! | `nodes` | a reply: its nodes in place |
 //! | `reply-text`, `reply-texts`, `reply-number` | a reply: the record that it is read as, or the caller's error |
 //! | `pack` | words: the bytes of a command with these arguments |
 //!
-//! Bytes are decoded whole, come through a stream byte by byte and cut in two at each place, where they
-//! are taken out as values and in place, and are listed as nodes. If one of these ways does not find what
-//! decoding them whole finds, the outcome says so.
+//! Bytes are decoded whole, come through a stream byte by byte (so far also for `decoded`) and cut in two
+//! at each place, where they are taken out as values and in place, and each front of them is listed as
+//! nodes. If one of these ways does not find what decoding finds, the outcome says so.
 mod pack;
 mod pieces;
 mod record;
@@ -49,6 +50,7 @@ fn is_kind(kind: &str) -> bool {
         kind,
         "wire"
             | "limited"
+            | "decoded"
             | "pieces"
             | "nodes"
             | "reply-text"
@@ -63,6 +65,7 @@ fn outcome_of(alloc: Global, kind: &str, bytes: &[u8]) -> Result<String, AllocEr
     match kind {
         "wire" => ways::compared(alloc, Limits::default(), bytes),
         "limited" => ways::compared(alloc, SMALL, bytes),
+        "decoded" => ways::one_by_one(alloc, Limits::default(), bytes),
         "pieces" => pieces::compared(alloc, bytes),
         "nodes" => nodes::listed(alloc, bytes),
         "reply-text" => record::read_as::<String>(alloc, bytes),

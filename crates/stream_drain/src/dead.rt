@@ -89,23 +89,28 @@ impl Dead {
     ) -> Result<()>
         ensures waits { IsTrue in_hand → (result ≡ Ok tt) × (connection.new ≡ connection.old) }
     {
-        self.reads = if asked == Asked::News {
-            self.reads.saturating_add(1)
-        } else {
-            self.reads
-        };
+        self.reads = reads_after(self.reads, asked);
         if in_hand {
             return Ok(());
         }
+        self.look_if_due(alloc, connection)
+    }
+
+    // Looks before the first command, and before each claim.
+    fn look_if_due<R: Read + Drop, W: Write + Drop>(
+        &mut self,
+        alloc: Global,
+        connection: &mut Connection<R, W>,
+    ) -> Result<()> {
         if !self.begun {
             self.begun = true;
             self.look(alloc, connection, true)?;
-            self.look(alloc, connection, false)?;
-        } else if self.reads >= self.every {
+        } else if self.reads < self.every {
+            return Ok(());
+        } else {
             self.reads = 0;
-            self.look(alloc, connection, false)?;
         }
-        Ok(())
+        self.look(alloc, connection, false)
     }
 
     // Looks at what is pending for the consumer itself, or at what anybody left for the idle time,
@@ -116,19 +121,30 @@ impl Dead {
         connection: &mut Connection<R, W>,
         own: bool,
     ) -> Result<()> {
-        let min_idle = if own { 0 } else { self.min_idle };
         let mut start = String::from_str(alloc, "-")?;
         for _ in 0..PAGES {
-            let page = self.page(alloc, connection, &start, own)?;
-            let next = next_start(alloc, &page.ids)?;
-            let entries = too_often(page, self.deliveries);
-            self.give_up(alloc, connection, &entries, min_idle)?;
-            match next {
+            match self.look_at_page(alloc, connection, &start, own)? {
                 Some(next) => start = next,
                 None => return Ok(()),
             }
         }
         Ok(())
+    }
+
+    // Gives up what was delivered too often of one page: where the next page starts.
+    fn look_at_page<R: Read + Drop, W: Write + Drop>(
+        &mut self,
+        alloc: Global,
+        connection: &mut Connection<R, W>,
+        start: &str,
+        own: bool,
+    ) -> Result<Option<String>> {
+        let page = self.page(alloc, connection, start, own)?;
+        let next = next_start(alloc, &page.ids)?;
+        let entries = too_often(page, self.deliveries);
+        let min_idle = if own { 0 } else { self.min_idle };
+        self.give_up(alloc, connection, &entries, min_idle)?;
+        Ok(next)
     }
 
     // The pending entries from this id on; none where there is no group.
@@ -159,14 +175,32 @@ impl Dead {
         entries: &[StreamPendingId],
         min_idle: usize,
     ) -> Result<()> {
+        let mut desk = self.desk(alloc)?;
+        self.post_all(alloc, connection, &mut desk, entries, min_idle)?;
+        deliver(alloc, connection, &mut desk, &mut self.letters)
+    }
+
+    // A desk for letters, at which nothing waits.
+    fn desk(&self, alloc: Global) -> Result<DeadLetters, AllocError> {
         let key = self.key.clone()?;
         let group = self.group.clone()?;
-        let mut desk = DeadLetters::new(alloc, key, group, self.stream.clone()?);
+        Ok(DeadLetters::new(alloc, key, group, self.stream.clone()?))
+    }
+
+    // Claims these entries, and gives them up.
+    fn post_all<R: Read + Drop, W: Write + Drop>(
+        &self,
+        alloc: Global,
+        connection: &mut Connection<R, W>,
+        desk: &mut DeadLetters,
+        entries: &[StreamPendingId],
+        min_idle: usize,
+    ) -> Result<()> {
         for entry in entries {
             let rows = self.claim(alloc, connection, entry.id.as_str(), min_idle)?;
-            post(alloc, &mut desk, entry, &rows)?;
+            post(alloc, desk, entry, &rows)?;
         }
-        deliver(alloc, connection, &mut desk, &mut self.letters)
+        Ok(())
     }
 
     // Claims an entry.
@@ -188,6 +222,15 @@ impl Dead {
             Ok(rows) => Ok(rows),
             Err(error) => Err(not_answered(error)),
         }
+    }
+}
+
+// So many reads were made, where this was asked last.
+fn reads_after(reads: usize, asked: Asked) -> usize {
+    if asked == Asked::News {
+        reads.saturating_add(1)
+    } else {
+        reads
     }
 }
 
@@ -219,17 +262,29 @@ fn post(
     let [Some((claimed, texts))] = rows else {
         return Ok(());
     };
-    let id = entry.id.as_str();
-    if claimed.as_str() != id {
+    if claimed.as_str() != entry.id.as_str() {
         bail!("another entry was answered than the one that was claimed");
     }
+    post_fields(alloc, desk, entry, texts)
+}
+
+/// Gives an entry up with these names and values, which are none where it was deleted.
+fn post_fields(
+    alloc: Global,
+    desk: &mut DeadLetters,
+    entry: &StreamPendingId,
+    texts: &[RawBytes],
+) -> Result<()>
+    ensures names { names_of desk.new ≡ names_of desk.old }
+    ensures added { (desk_of desk.new).added ≡ (desk_of desk.old).added }
+{
     let Some(fields) = pairs_of(alloc, texts)? else {
         bail!("an entry has a name of a field, and no value");
     };
     let Some(fields) = AtLeastOne::new(&fields) else {
         return Ok(());
     };
-    match desk.give_up(alloc, id, entry.times_delivered, &fields) {
+    match desk.give_up(alloc, entry.id.as_str(), entry.times_delivered, &fields) {
         Ok(()) => Ok(()),
         Err(error) => Err(not_written(error)),
     }

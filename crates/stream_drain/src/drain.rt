@@ -10,6 +10,7 @@ use line_log::LogFile;
 use redis_connection::{AskError, Connection};
 use redis_streams::StreamInfoGroupsReply;
 use std::alloc::Global;
+use std::fmt;
 use std::io::{Read, Write};
 use std::rt::Clock;
 use stream_commands::xinfo_groups;
@@ -18,8 +19,8 @@ use stream_worker::{Asked, Progress, RequestError, RunError, Worker, WorkerError
 /// Drains until something fails, or until a read finds nothing new where that is asked for.
 pub fn drain<R: Read + Drop, W: Write + Drop, D: LogFile + Drop, T: Clock + Eprint + AllocGlobal>(
     rt: &T,
-    mut connection: Connection<R, W>,
-    mut worker: Worker,
+    connection: &mut Connection<R, W>,
+    worker: &mut Worker,
     lines: &mut Lines<D>,
     report: &mut Report,
     dead: &mut Option<Dead>,
@@ -27,33 +28,63 @@ pub fn drain<R: Read + Drop, W: Write + Drop, D: LogFile + Drop, T: Clock + Epri
 ) -> Result<()>
     ensures { IfOk result (λ _. IsTrue until_empty) }
 {
-    let alloc = rt.alloc();
     let mut asked = Asked::Nothing;
     for _ in 0..u64::MAX {
-        if let Some(dead) = dead {
-            let in_hand = lines.done > lines.committed;
-            dead.turn(alloc, &mut connection, asked, in_hand)?;
-        }
+        look(rt.alloc(), connection, lines, dead, asked)?;
         let seen = lines.seen;
-        let round = match worker.round(alloc, &mut connection, lines) {
-            Ok(round) => round,
-            Err(error) => return Err(broken_off(alloc, error, &lines.fault)),
-        };
-        if round.progress == Progress::Stopped {
-            return Err(stopped(&lines.fault));
-        }
-        asked = round.asked;
-        let nothing_new = asked == Asked::News && lines.seen == seen;
+        asked = round(rt.alloc(), connection, worker, lines)?;
         if asked == Asked::Acknowledgement {
-            if report.count(rt, lines.committed)? {
-                show(rt, &mut connection, report)?;
-            }
+            count(rt, connection, report, lines.committed)?;
         }
-        if until_empty && nothing_new {
+        if until_empty && asked == Asked::News && lines.seen == seen {
             return Ok(());
         }
     }
     bail!("the last turn came")
+}
+
+// Looks for entries that were delivered too often, where they are given up.
+fn look<R: Read + Drop, W: Write + Drop, D: LogFile + Drop>(
+    alloc: Global,
+    connection: &mut Connection<R, W>,
+    lines: &Lines<D>,
+    dead: &mut Option<Dead>,
+    asked: Asked,
+) -> Result<()> {
+    match dead {
+        Some(dead) => dead.turn(alloc, connection, asked, lines.done > lines.committed),
+        None => Ok(()),
+    }
+}
+
+// Makes a round, after which the worker goes on: what was asked.
+fn round<R: Read + Drop, W: Write + Drop, D: LogFile + Drop>(
+    alloc: Global,
+    connection: &mut Connection<R, W>,
+    worker: &mut Worker,
+    lines: &mut Lines<D>,
+) -> Result<Asked> {
+    match worker.round(alloc, connection, lines) {
+        Ok(round) => match round.progress {
+            Progress::GoesOn => Ok(round.asked),
+            Progress::Stopped => Err(stopped(&lines.fault)),
+        },
+        Err(error) => Err(broken_off(alloc, error, &lines.fault)),
+    }
+}
+
+// So many entries are in the file, which is shown once a second.
+fn count<R: Read + Drop, W: Write + Drop, T: Clock + Eprint + AllocGlobal>(
+    rt: &T,
+    connection: &mut Connection<R, W>,
+    report: &mut Report,
+    entries: u64,
+) -> Result<()> {
+    if report.count(rt, entries)? {
+        show(rt, connection, report)
+    } else {
+        Ok(())
+    }
 }
 
 // Shows the counts, and behind them the backlog of the group, where it is watched. Where the server
@@ -63,55 +94,78 @@ fn show<R: Read + Drop, W: Write + Drop, T: Eprint + AllocGlobal>(
     connection: &mut Connection<R, W>,
     report: &mut Report,
 ) -> Result<()> {
-    let told = match &report.watched {
-        Some(watched) => backlog_told(rt.alloc(), connection, watched),
-        None => Ok(None),
-    };
-    match told {
-        Ok(Some(backlog)) => eprintln!(rt; "{report}{backlog}")?,
-        Ok(None) => eprintln!(rt; "{report}")?,
+    match backlog_told(rt.alloc(), connection, &report.watched) {
+        Ok(Some(backlog)) => say(rt, report, &backlog),
+        Ok(None) => say(rt, report, &""),
         Err(AskError::Server(error)) => {
             report.watched = None;
-            eprintln!(rt; "{report}, XINFO GROUPS: the server answers {error}")?;
+            say(
+                rt,
+                report,
+                &format_args!(", XINFO GROUPS: the server answers {error}"),
+            )
         }
         Err(AskError::Parsing(error)) => {
             report.watched = None;
-            eprintln!(rt; "{report}, XINFO GROUPS: {error}")?;
+            say(rt, report, &format_args!(", XINFO GROUPS: {error}"))
         }
-        Err(error) => return Err(error.into()),
+        Err(error) => Err(error.into()),
     }
+}
+
+// Shows the counts, and this behind them.
+fn say<T: Eprint, M: fmt::Display>(rt: &T, report: &Report, more: &M) -> Result<()> {
+    eprintln!(rt; "{report}{more}")?;
     Ok(())
 }
 
-// The backlog of the group that is watched, as the server tells it; none where it has no such group.
+// The backlog of the group that is watched, as the server tells it; none where none is watched, or the
+// server has no such group.
 fn backlog_told<R: Read + Drop, W: Write + Drop>(
     alloc: Global,
     connection: &mut Connection<R, W>,
-    watched: &Watched,
+    watched: &Option<Watched>,
 ) -> std::result::Result<Option<Backlog>, AskError> {
+    let Some(watched) = watched else {
+        return Ok(None);
+    };
     let asked = xinfo_groups(watched.key.as_str());
     let reply: StreamInfoGroupsReply = connection.ask_as(alloc, &asked)?;
+    Ok(backlog_in(&reply, &watched.group))
+}
+
+// The backlog of the group of this name.
+fn backlog_in(reply: &StreamInfoGroupsReply, name: &str) -> Option<Backlog> {
     for group in &reply.groups {
-        if group.name == watched.group {
-            return Ok(Some(backlog_of(group)));
+        if group.name.as_str() == name {
+            return Some(backlog_of(group));
         }
     }
-    Ok(None)
+    None
 }
 
 // Why a round failed.
 fn broken_off(alloc: Global, error: RunError, fault: &Option<LineFault>) -> Error {
-    match (error, fault) {
-        (RunError::Request(RequestError::NotCommitted), Some(LineFault::Log(reason))) => {
-            anyhow!("cannot write the file: {reason}")
-        }
-        (RunError::Answer(WorkerError::Server(error)), _) => {
-            match String::from_utf8_lossy(alloc, &error.text) {
-                Ok(text) => anyhow!("the server answers {text}"),
-                Err(error) => error.into(),
-            }
-        }
-        (error, _) => error.into(),
+    match error {
+        RunError::Request(RequestError::NotCommitted) => not_committed(fault),
+        RunError::Answer(WorkerError::Server(error)) => said(alloc, &error.text),
+        error => error.into(),
+    }
+}
+
+// Why what was done was not committed.
+fn not_committed(fault: &Option<LineFault>) -> Error {
+    match fault {
+        Some(LineFault::Log(reason)) => anyhow!("cannot write the file: {reason}"),
+        _ => RunError::Request(RequestError::NotCommitted).into(),
+    }
+}
+
+// What the server says.
+fn said(alloc: Global, text: &[u8]) -> Error {
+    match String::from_utf8_lossy(alloc, text) {
+        Ok(text) => anyhow!("the server answers {text}"),
+        Err(error) => error.into(),
     }
 }
 

@@ -18,21 +18,55 @@ pub fn json_line(alloc: Global, entry: &Entry<'_>) -> Result<Option<Vec<u8>>, Al
     ensures one_line { IfOk result (λ o. IfSome o (λ line. AllByRecursion (λ b. b ≢ 10) line.items)) }
 {
     let mut out = Writer::new(Vec::with_capacity(alloc, 128)?);
-    out.begin_object()?;
-    out.key("id")?;
-    out.string(entry.id())?;
-    out.key("fields")?;
-    out.begin_array()?;
-    let are_texts = match entry {
-        Entry::InPlace(entry) => push_fields(alloc, &mut out, entry.fields())?,
-        Entry::Copied(entry) => push_map(alloc, &mut out, &entry.map)?,
-    };
-    if !are_texts {
+    if !push_entry(alloc, &mut out, entry)? {
         return Ok(None);
     }
-    out.end_array()?;
-    out.end_object()?;
     Ok(Some(out.into_inner()))
+}
+
+/// An entry as an object. False where a field is no text; then the object is not ended.
+fn push_entry(alloc: Global, out: &mut Writer, entry: &Entry<'_>) -> Result<bool, AllocError>
+    ensures before { out.new.before ≡ out.old.before }
+    ensures texts { OnOk result (are_texts out.new.tokens ≡ are_texts out.old.tokens) }
+{
+    begin(out, entry.id())?;
+    if !push_all(alloc, out, entry)? {
+        return Ok(false);
+    }
+    end(out)?;
+    Ok(true)
+}
+
+/// The beginning of an entry, with its id, up to its fields.
+fn begin(out: &mut Writer, id: &str) -> Result<(), AllocError>
+    ensures before { out.new.before ≡ out.old.before }
+    ensures texts { OnOk result (are_texts out.new.tokens ≡ are_texts out.old.tokens) }
+{
+    out.begin_object()?;
+    out.key("id")?;
+    out.string(id)?;
+    out.key("fields")?;
+    out.begin_array()
+}
+
+/// The end of an entry, behind its fields.
+fn end(out: &mut Writer) -> Result<(), AllocError>
+    ensures before { out.new.before ≡ out.old.before }
+    ensures texts { OnOk result (are_texts out.new.tokens ≡ are_texts out.old.tokens) }
+{
+    out.end_array()?;
+    out.end_object()
+}
+
+/// The fields of an entry. False where one of them is no text.
+fn push_all(alloc: Global, out: &mut Writer, entry: &Entry<'_>) -> Result<bool, AllocError>
+    ensures before { out.new.before ≡ out.old.before }
+    ensures texts { OnOk result (are_texts out.new.tokens ≡ are_texts out.old.tokens) }
+{
+    match entry {
+        Entry::InPlace(entry) => push_fields(alloc, out, entry.fields()),
+        Entry::Copied(entry) => push_map(alloc, out, &entry.map),
+    }
 }
 
 /// Fields where they stand, in order: always texts.
@@ -82,12 +116,26 @@ fn push_text(alloc: Global, out: &mut Writer, bytes: &[u8]) -> Result<(), AllocE
 {
     match str::from_utf8(bytes) {
         Ok(text) => out.string(text),
-        Err(_) => {
-            let text = STANDARD.encode(alloc, bytes)?;
-            out.begin_object()?;
-            out.key("base64")?;
-            out.string(&text)?;
-            out.end_object()
-        }
+        Err(_) => push_base64(alloc, out, bytes),
     }
+}
+
+/// Bytes as an object of their Base64.
+fn push_base64(alloc: Global, out: &mut Writer, bytes: &[u8]) -> Result<(), AllocError>
+    ensures before { out.new.before ≡ out.old.before }
+    ensures texts { OnOk result (are_texts out.new.tokens ≡ are_texts out.old.tokens) }
+{
+    let text = STANDARD.encode(alloc, bytes)?;
+    push_object(out, "base64", &text)
+}
+
+/// An object of one name and its text.
+fn push_object(out: &mut Writer, name: &str, text: &str) -> Result<(), AllocError>
+    ensures before { out.new.before ≡ out.old.before }
+    ensures texts { OnOk result (are_texts out.new.tokens ≡ are_texts out.old.tokens) }
+{
+    out.begin_object()?;
+    out.key(name)?;
+    out.string(text)?;
+    out.end_object()
 }

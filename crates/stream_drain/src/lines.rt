@@ -4,7 +4,10 @@ ghost use Rattle.std.specs.Prelude.{◌≡◌};
 use crate::json_lines::json_line;
 use crate::texts::text_in;
 use line_log::{LineLog, LogError, LogFile, push_escaped};
+use redis_resp::Value;
 use std::alloc::{AllocError, Global};
+use std::collections::HashMap;
+use stream_refs::FieldsRef;
 use stream_worker::{Entry, Handler, NotCommitted, Verdict};
 
 /// Why a line is not in the file.
@@ -51,30 +54,13 @@ impl<D: LogFile + Drop> Lines<D> {
 
     // Adds the line of an entry to the log.
     fn add(&mut self, alloc: Global, entry: &Entry<'_>) -> Result<(), LineFault> {
-        self.text.clear();
-        let is_text = if self.json {
-            self.put_json(alloc, entry)
-        } else {
-            push_line(&mut self.text, entry)
-        };
-        match is_text {
+        match put(alloc, &mut self.text, entry, self.json) {
             Ok(true) => match self.log.add_line(&self.text) {
                 Ok(()) => Ok(()),
                 Err(error) => Err(LineFault::Log(error)),
             },
             Ok(false) => Err(LineFault::NoText),
             Err(_) => Err(LineFault::Log(LogError::Memory)),
-        }
-    }
-
-    // The line of an entry as JSON. False where a field is no text.
-    fn put_json(&mut self, alloc: Global, entry: &Entry<'_>) -> Result<bool, AllocError> {
-        match json_line(alloc, entry)? {
-            Some(line) => {
-                self.text = line;
-                Ok(true)
-            }
-            None => Ok(false),
         }
     }
 }
@@ -116,32 +102,69 @@ impl<D: LogFile + Drop> Handler for Lines<D> {
     }
 }
 
+// Puts the line of an entry in place of this text. False where a field is no text.
+fn put(
+    alloc: Global,
+    text: &mut Vec<u8>,
+    entry: &Entry<'_>,
+    json: bool,
+) -> Result<bool, AllocError> {
+    text.clear();
+    if json {
+        put_json(alloc, text, entry)
+    } else {
+        push_line(text, entry)
+    }
+}
+
+// The line of an entry as JSON. False where a field is no text.
+fn put_json(alloc: Global, text: &mut Vec<u8>, entry: &Entry<'_>) -> Result<bool, AllocError> {
+    match json_line(alloc, entry)? {
+        Some(line) => {
+            *text = line;
+            Ok(true)
+        }
+        None => Ok(false),
+    }
+}
+
 // Appends the line of an entry: its id and its fields, separated by tabs. False where a field is no
 // text.
 fn push_line(text: &mut Vec<u8>, entry: &Entry<'_>) -> Result<bool, AllocError> {
     push_escaped(text, entry.id().as_bytes())?;
     match entry {
-        Entry::InPlace(entry) => {
-            for (name, value) in entry.fields() {
-                push_field(text, name, value)?;
-            }
-        }
-        Entry::Copied(entry) => {
-            for (name, value) in &entry.map {
-                let Some(value) = text_in(value) else {
-                    return Ok(false);
-                };
-                push_field(text, name.as_bytes(), value)?;
-            }
-        }
+        Entry::InPlace(entry) => push_fields(text, entry.fields()),
+        Entry::Copied(entry) => push_map(text, &entry.map),
+    }
+}
+
+// Appends fields where they stand, in order: always texts.
+fn push_fields(text: &mut Vec<u8>, fields: FieldsRef<'_>) -> Result<bool, AllocError> {
+    for (name, value) in fields {
+        push_field(text, name, value)?;
+    }
+    Ok(true)
+}
+
+// Appends fields of a record. False where one of them is no text.
+fn push_map(text: &mut Vec<u8>, fields: &HashMap<String, Value>) -> Result<bool, AllocError> {
+    for (name, value) in fields {
+        let Some(value) = text_in(value) else {
+            return Ok(false);
+        };
+        push_field(text, name.as_bytes(), value)?;
     }
     Ok(true)
 }
 
 // A name and its value, each behind a tab.
 fn push_field(text: &mut Vec<u8>, name: &[u8], value: &[u8]) -> Result<(), AllocError> {
+    push_behind_tab(text, name)?;
+    push_behind_tab(text, value)
+}
+
+// A text behind a tab.
+fn push_behind_tab(text: &mut Vec<u8>, more: &[u8]) -> Result<(), AllocError> {
     text.push(b'\t')?;
-    push_escaped(text, name)?;
-    text.push(b'\t')?;
-    push_escaped(text, value)
+    push_escaped(text, more)
 }

@@ -27,7 +27,7 @@ mod report;
 mod texts;
 
 use crate::backlog::Watched;
-use crate::dead::Dead;
+use crate::dead::{Dead, GiveUp};
 use crate::drain::drain;
 use crate::lines::Lines;
 use crate::options::{Options, options_of};
@@ -36,48 +36,74 @@ use anyhow::{Context, Result};
 use line_log::{LineLog, SystemFile};
 use redis_connection::Connection;
 use redis_wire::Limits;
+use std::alloc::AllocError;
 use std::{env, io};
-use stream_worker::Worker;
+use stream_worker::{Settings, Worker};
 
 fn main(rt: HostRuntime) -> Result<()> {
-    let alloc = rt.alloc();
-    let mut words = Vec::new(alloc);
-    for word in env::args(&rt)?.skip(1) {
+    let words = words_of(&rt)?;
+    let options = options_of(rt.alloc(), &words)?;
+    drain_by(&rt, options)
+}
+
+// The words that the program is called with.
+fn words_of(rt: &HostRuntime) -> Result<Vec<String>> {
+    let mut words = Vec::new(rt.alloc());
+    for word in env::args(rt)?.skip(1) {
         words.push(word)?;
     }
-    let Options {
-        settings,
-        path,
-        until_empty,
-        json,
-        quiet,
-        dead,
-    } = options_of(alloc, &words)?;
-    let file = SystemFile::open(&rt, &path).context(format_args!("cannot open {path}"))?;
-    let log = LineLog::open(alloc, file).context(format_args!("cannot open {path}"))?;
-    let connection = Connection::new(alloc, rt.reader(), io::writer(&rt), Limits::default())?;
-    let mut dead = match dead {
-        Some(to) => Some(Dead::new(&settings, to)?),
-        None => None,
-    };
-    let mut lines = Lines::new(alloc, log, json);
-    let mut report = Report::new(&rt, quiet)?;
-    if !quiet {
-        report.watched = Some(Watched {
-            key: settings.key.clone()?,
-            group: settings.group.clone()?,
-        });
-    }
+    Ok(words)
+}
+
+// Drains as these options say, over standard input and output.
+fn drain_by(rt: &HostRuntime, options: Options) -> Result<()> {
+    let log = log_at(rt, &options.path)?;
+    let alloc = rt.alloc();
+    let mut connection = Connection::new(alloc, rt.reader(), io::writer(rt), Limits::default())?;
+    let mut lines = Lines::new(alloc, log, options.json);
+    let mut dead = dead_of(&options.settings, options.dead)?;
+    let mut report = report_of(rt, &options.settings, options.quiet)?;
+    let mut worker = Worker::new(alloc, options.settings);
     let ended = drain(
-        &rt,
-        connection,
-        Worker::new(alloc, settings),
+        rt,
+        &mut connection,
+        &mut worker,
         &mut lines,
         &mut report,
         &mut dead,
-        until_empty,
+        options.until_empty,
     );
     report.letters = dead.map(|dead| dead.letters);
     eprintln!(rt; "{report}")?;
     ended
+}
+
+// The log in the file of this path.
+fn log_at(rt: &HostRuntime, path: &str) -> Result<LineLog<SystemFile>> {
+    let file = SystemFile::open(rt, path).context(format_args!("cannot open {path}"))?;
+    LineLog::open(rt.alloc(), file).context(format_args!("cannot open {path}"))
+}
+
+// What looks for entries that were delivered too often, where they are given up.
+fn dead_of(settings: &Settings, to: Option<GiveUp>) -> Result<Option<Dead>, AllocError> {
+    match to {
+        Some(to) => Ok(Some(Dead::new(settings, to)?)),
+        None => Ok(None),
+    }
+}
+
+// What is shown, with the backlog of the group where it is not quiet.
+fn report_of(rt: &HostRuntime, settings: &Settings, quiet: bool) -> Result<Report> {
+    let mut report = Report::new(rt, quiet)?;
+    if !quiet {
+        report.watched = Some(watched(settings)?);
+    }
+    Ok(report)
+}
+
+// The group that is watched.
+fn watched(settings: &Settings) -> Result<Watched, AllocError> {
+    let key = settings.key.clone()?;
+    let group = settings.group.clone()?;
+    Ok(Watched { key, group })
 }

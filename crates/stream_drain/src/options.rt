@@ -3,7 +3,7 @@ ghost use Rattle.std.specs.Prelude.{◌≤◌, length, IfOk};
 
 use crate::dead::GiveUp;
 use anyhow::{Result, bail};
-use std::alloc::Global;
+use std::alloc::{AllocError, Global};
 use stream_worker::{MakeGroup, Settings};
 
 // In less than 120 bytes, which are all that an error shows.
@@ -51,7 +51,7 @@ pub fn options_of(alloc: Global, words: &[String]) -> Result<Options>
     let [key, group, consumer, path, rest @ ..] = words else {
         bail!("{USAGE}");
     };
-    let settings = Settings::new(key.clone()?, group.clone()?, consumer.clone()?);
+    let settings = settings_of(key, group, consumer)?;
     let mut options = Options {
         settings,
         path: String::from_str(alloc, path)?,
@@ -60,29 +60,49 @@ pub fn options_of(alloc: Global, words: &[String]) -> Result<Options>
         quiet: false,
         dead: None,
     };
+    take_all(alloc, &mut options, rest)?;
+    Ok(options)
+}
+
+// The settings of a worker for these names.
+fn settings_of(key: &String, group: &String, consumer: &String) -> Result<Settings, AllocError> {
+    Ok(Settings::new(key.clone()?, group.clone()?, consumer.clone()?))
+}
+
+// Takes options and their values, in order.
+fn take_all(alloc: Global, options: &mut Options, words: &[String]) -> Result<()> {
     let mut valued = None;
-    for word in rest {
-        valued = match valued {
-            Some(option) => set(alloc, &mut options, option, word)?,
-            None if word.as_str() == "--until-empty" => {
-                options.until_empty = true;
-                None
-            }
-            None if word.as_str() == "--json" => {
-                options.json = true;
-                None
-            }
-            None if word.as_str() == "--quiet" => {
-                options.quiet = true;
-                None
-            }
-            None => Some(valued_of(word)?),
-        };
+    for word in words {
+        valued = take(alloc, options, valued, word)?;
     }
     if valued.is_some() {
         bail!("{USAGE}");
     }
-    Ok(options)
+    Ok(())
+}
+
+// Takes a word: the value of this option, or an option.
+fn take(
+    alloc: Global,
+    options: &mut Options,
+    valued: Option<Valued>,
+    word: &str,
+) -> Result<Option<Valued>> {
+    match valued {
+        Some(option) => set(alloc, options, option, word),
+        None => begin(options, word),
+    }
+}
+
+// Takes an option; a value may follow.
+fn begin(options: &mut Options, word: &str) -> Result<Option<Valued>> {
+    match word {
+        "--until-empty" => options.until_empty = true,
+        "--json" => options.json = true,
+        "--quiet" => options.quiet = true,
+        _ => return Ok(Some(valued_of(word)?)),
+    }
+    Ok(None)
 }
 
 fn valued_of(word: &str) -> Result<Valued> {
@@ -104,29 +124,36 @@ fn set(
     option: Valued,
     value: &str,
 ) -> Result<Option<Valued>> {
-    let settings = &mut options.settings;
     match option {
-        Valued::From => {
-            settings.make_group = match value {
-                "0" => MakeGroup::FromTheFirst,
-                "$" => MakeGroup::FromNow,
-                _ => bail!("--from {value}: {USAGE}"),
-            };
-        }
-        Valued::Count => settings.count = number(value)?,
-        Valued::Block => settings.block = number(value)?,
-        Valued::Idle => settings.min_idle = number(value)?,
-        Valued::Every => settings.every = number(value)?,
+        Valued::From => options.settings.make_group = make_group(value)?,
+        Valued::Count => options.settings.count = number(value)?,
+        Valued::Block => options.settings.block = number(value)?,
+        Valued::Idle => options.settings.min_idle = number(value)?,
+        Valued::Every => options.settings.every = number(value)?,
         Valued::Dead => return Ok(Some(Valued::DeadStream(number(value)?))),
         Valued::DeadStream(deliveries) => {
-            if deliveries == 0 || value == settings.key.as_str() {
-                bail!("--dead {deliveries} {value}: {USAGE}");
-            }
-            let stream = String::from_str(alloc, value)?;
-            options.dead = Some(GiveUp { deliveries, stream });
+            options.dead = Some(give_up(alloc, &options.settings.key, deliveries, value)?);
         }
     }
     Ok(None)
+}
+
+// Where a group begins that is made.
+fn make_group(value: &str) -> Result<MakeGroup> {
+    match value {
+        "0" => Ok(MakeGroup::FromTheFirst),
+        "$" => Ok(MakeGroup::FromNow),
+        _ => bail!("--from {value}: {USAGE}"),
+    }
+}
+
+// Entries of the stream `key` that were delivered so often are given up, into another stream.
+fn give_up(alloc: Global, key: &str, deliveries: usize, stream: &str) -> Result<GiveUp> {
+    if deliveries == 0 || stream == key {
+        bail!("--dead {deliveries} {stream}: {USAGE}");
+    }
+    let stream = String::from_str(alloc, stream)?;
+    Ok(GiveUp { deliveries, stream })
 }
 
 fn number(value: &str) -> Result<usize> {

@@ -1,21 +1,28 @@
 -- From what an answer says to what a worker did with it.
-use Rattle.std.proofs.Common.{◌≡◌, ◌≢◌, inr, refl, sym, ap, subst, ◌∙◌, ℕ, List, [], ◌∷◌, ◌++◌, Option, Some, None}
+use Rattle.std.proofs.Common.{◌≡◌, ◌≢◌, inl, inr, refl, sym, ap, subst, ◌∙◌, ℕ, List, [], ◌∷◌, ◌++◌, Option, Some, None}
 use Rattle.std.proofs.Common.{option_map, string_bytes, Result, Ok, Err}
+use Rattle.std.specs.Prelude.{option_and_then, OnOk}
 use Rattle.std.specs.Result.{IfOk, IfErr, IsErrAnd}
 use Rattle.redis_resp.specs.Number.{unsigned_reading}
+use Rattle.redis_resp.specs.Refusal.{RefusesNumber}
 use Rattle.redis_resp.specs.Table.{Fields}
 use Rattle.redis_resp.specs.Tree.{Tree}
+use Rattle.redis_resp.specs.declared.value.error.ParsingError.{ParsingError}
+use Rattle.redis_resp.specs.declared.value.error.ParsingError.TheVariants as parsing
 use Rattle.redis_wire.specs.Reply as wire
 use Rattle.stream_entries.specs.AutoClaim.{AutoClaim, autoclaim_reading}
 use Rattle.stream_entries.specs.Entry.{Entry}
+use Rattle.stream_entries.specs.Read.{read_reading}
+use Rattle.stream_entries.specs.Refusal.{RefusesAutoClaim, RefusesRead}
 use Rattle.stream_group.specs.Worker as machine
 use Rattle.stream_group.specs.Worker.{Id, Delivered, Verdict, Answer, acknowledged, own_pending, taken_over, news}
 use Rattle.stream_group.specs.Worker.{Machine, Ending, cut_off, ending, after, after_own, after_claim, after_news}
 use Rattle.stream_group.specs.Worker.{phase_after, phase_at, still, entries_in, acks_in, begins_again}
 use Rattle.stream_worker.specs.Answered.{Took, Went, Failed}
-use Rattle.stream_worker.specs.Answers.{Heard, told, no_group, group_made, means, says, entries_read}
+use Rattle.stream_worker.specs.Answers.{Heard, told, no_group, group_made, means, says, entries_read, only_stream}
+use Rattle.stream_worker.specs.Errors.{read_error}
 use Rattle.stream_worker.specs.Machine.{Moved, ending_of}
-use Rattle.stream_worker.specs.Parts.{IsAcknowledged, IsOfGroup, IsRefused}
+use Rattle.stream_worker.specs.Parts.{IsAcknowledged, IsOfGroup, IsRefused, NotRead, Unread}
 use Rattle.stream_worker.specs.Taking.{all_delivered}
 use Rattle.stream_worker.specs.declared.error.WorkerError.{WorkerError}
 use Rattle.stream_worker.specs.declared.error.WorkerError.TheVariants as causes
@@ -156,6 +163,113 @@ pub memory_err : {T : Type 0} (r : Result T WorkerError) (P : WorkerError → Ty
     → IsErrAnd r (λ e. e ≡ causes.Memory) → P causes.Memory → IfErr r P
 memory_err (Ok x) P h p = tt
 memory_err (Err e) P h p = subst P (sym h) p
+
+-- an error of a reading is `Memory`, or tells what was not read
+pub read_failed : (P : WorkerError → Type 0) (p : ParsingError) → P causes.Memory
+    → (p ≢ parsing.Memory → P (causes.Parsing p)) → P (read_error p)
+read_failed P parsing.Memory m f = m
+read_failed P parsing.NotText m f = f (λ e. absurd cc)
+read_failed P parsing.NotNumber m f = f (λ e. absurd cc)
+read_failed P parsing.NotList m f = f (λ e. absurd cc)
+read_failed P parsing.NotPairs m f = f (λ e. absurd cc)
+read_failed P (parsing.NotTuple n) m f = f (λ e. absurd cc)
+read_failed P parsing.NotArray m f = f (λ e. absurd cc)
+read_failed P (parsing.WrongItemCount n) m f = f (λ e. absurd cc)
+read_failed P parsing.WrongClaimedType m f = f (λ e. absurd cc)
+read_failed P parsing.UnknownReadFormat m f = f (λ e. absurd cc)
+read_failed P parsing.PendingWithoutStart m f = f (λ e. absurd cc)
+read_failed P parsing.PendingWithoutEnd m f = f (λ e. absurd cc)
+read_failed P (parsing.NotPendingRow n) m f = f (λ e. absurd cc)
+read_failed P (parsing.UnknownXDelEx n) m f = f (λ e. absurd cc)
+read_failed P (parsing.UnknownXAckDel n) m f = f (λ e. absurd cc)
+read_failed P parsing.NotXDelEx m f = f (λ e. absurd cc)
+read_failed P parsing.NotXAckDel m f = f (λ e. absurd cc)
+read_failed P parsing.NotBytes m f = f (λ e. absurd cc)
+
+module _ {R : Type 0} (with_verdict : R → List ℕ × Fields Tree → Verdict → R) (settings : Settings) (t : Tree)
+    (m n : Machine) (r s : R) where
+  own_unread : (e : WorkerError) → Unread read_reading RefusesRead t e → n ≡ begins_again m → s ≡ r
+      → Failed with_verdict settings asked.Own (wire.value t) m n r s e
+  own_unread e u i j =
+      subst (λ (x : WorkerError). Failed with_verdict settings asked.Own (wire.value t) m n r s x) (sym u.1)
+      (read_failed (λ (x : WorkerError). Failed with_verdict settings asked.Own (wire.value t) m n r s x) u.0
+      (t, refl, inl (i, j))
+      (λ other. (
+        (t, refl, u.2),
+        ap (λ o. option_map (λ es. told (own_pending (all_delivered es)))
+            (option_and_then (only_stream (string_bytes settings.key)) o)) (u.2.1 other),
+        i,
+        j,
+      )))
+
+  -- a value that holds no entries of the stream
+  pub own_not_read : (e : WorkerError) → NotRead (string_bytes settings.key) t e → n ≡ begins_again m → s ≡ r
+      → Failed with_verdict settings asked.Own (wire.value t) m n r s e
+  own_not_read e (inl u) i j = own_unread e u i j
+  own_not_read e (inr o) i j =
+      subst (λ (x : WorkerError). Failed with_verdict settings asked.Own (wire.value t) m n r s x) (sym o.0) (
+        (t, refl, o.2),
+        ap (λ es. option_map (λ xs. told (own_pending (all_delivered xs))) es) o.1,
+        i,
+        j,
+      )
+
+  news_unread : (e : WorkerError) → Unread read_reading RefusesRead t e → n ≡ begins_again m → s ≡ r
+      → Failed with_verdict settings asked.News (wire.value t) m n r s e
+  news_unread e u i j =
+      subst (λ (x : WorkerError). Failed with_verdict settings asked.News (wire.value t) m n r s x) (sym u.1)
+      (read_failed (λ (x : WorkerError). Failed with_verdict settings asked.News (wire.value t) m n r s x) u.0
+      (t, refl, inl (i, j))
+      (λ other. (
+        (t, refl, u.2),
+        ap (λ o. option_map (λ es. told (news (all_delivered es)))
+            (option_and_then (only_stream (string_bytes settings.key)) o)) (u.2.1 other),
+        i,
+        j,
+      )))
+
+  pub news_not_read : (e : WorkerError) → NotRead (string_bytes settings.key) t e → n ≡ begins_again m → s ≡ r
+      → Failed with_verdict settings asked.News (wire.value t) m n r s e
+  news_not_read e (inl u) i j = news_unread e u i j
+  news_not_read e (inr o) i j =
+      subst (λ (x : WorkerError). Failed with_verdict settings asked.News (wire.value t) m n r s x) (sym o.0) (
+        (t, refl, o.2),
+        ap (λ es. option_map (λ xs. told (news (all_delivered xs))) es) o.1,
+        i,
+        j,
+      )
+
+  -- a value that is no answer to a claim
+  pub claim_unread : (e : WorkerError) → Unread autoclaim_reading RefusesAutoClaim t e → n ≡ begins_again m → s ≡ r
+      → Failed with_verdict settings asked.Claim (wire.value t) m n r s e
+  claim_unread e u i j =
+      subst (λ (x : WorkerError). Failed with_verdict settings asked.Claim (wire.value t) m n r s x) (sym u.1)
+      (read_failed (λ (x : WorkerError). Failed with_verdict settings asked.Claim (wire.value t) m n r s x) u.0
+      (t, refl, inl (i, j))
+      (λ other. (
+        (t, refl, u.2),
+        ap (λ o. option_map (λ (c : AutoClaim). told (taken_over c.next (all_delivered c.claimed))) o) (u.2.1 other),
+        i,
+        j,
+      )))
+
+  -- a value that is no count
+  pub ack_unread : (e : WorkerError) → Unread (unsigned_reading 64) RefusesNumber t e → n ≡ begins_again m → s ≡ r
+      → Failed with_verdict settings asked.Acknowledgement (wire.value t) m n r s e
+  ack_unread e u i j =
+      subst (λ (x : WorkerError). Failed with_verdict settings asked.Acknowledgement (wire.value t) m n r s x) (sym u.1)
+      (read_failed (λ (x : WorkerError). Failed with_verdict settings asked.Acknowledgement (wire.value t) m n r s x) u.0
+      (t, refl, inl (i, j))
+      (λ other. ((t, refl, u.2), ap (λ o. option_map (λ k. told acknowledged) o) (u.2.1 other), i, j)))
+
+pub err_is : {T : Type 0} (r : Result T WorkerError) (P : WorkerError → Type 0) (e : WorkerError)
+    → IsErrAnd r (λ x. x ≡ e) → P e → IfErr r P
+err_is (Ok x) P e h p = tt
+err_is (Err x) P e h p = subst P (sym h) p
+
+pub on_ok : {A E P : Type 0} (r : Result A E) → P → OnOk r P
+on_ok (Ok x) p = p
+on_ok (Err e) p = tt
 
 some_of : {A B : Type 0} (o : Option A) (b : B) → o ≢ None → option_map (λ a. b) o ≡ Some b
 some_of None b h = absurd (h refl)

@@ -6,7 +6,7 @@ ghost use Rattle.stream_worker.specs.Questions.{phase_asks, phase_of, phase_sent
 
 use crate::packing::append_command;
 use crate::state::{Asked, MakeGroup, Phase, Settings};
-use redis_resp::WriteError;
+use redis_resp::{ToRedisArgs, WriteError};
 use std::alloc::Global;
 use stream_commands::{
     AtLeastOne, xack, xautoclaim_options, xgroup_create_mkstream, xread_options,
@@ -29,11 +29,9 @@ pub fn append_question(
     ensures err { OnErr result (out.new.items ≡ out.old.items) }
 {
     if !ids.is_empty() {
-        append_acknowledgement(alloc, out, settings, ids)?;
-        Ok(Asked::Acknowledgement)
+        append_acknowledgement(alloc, out, settings, ids)
     } else if group_missing {
-        append_group(alloc, out, settings)?;
-        Ok(Asked::Group)
+        append_group(alloc, out, settings)
     } else {
         append_by_phase(alloc, out, settings, phase)
     }
@@ -45,23 +43,25 @@ fn append_acknowledgement(
     out: &mut Vec<u8>,
     settings: &Settings,
     ids: &[String],
-) -> Result<(), WriteError>
+) -> Result<Asked, WriteError>
     requires { ids.now ≢ [] }
     ensures ok { OnOk result (out.new.items ≡ out.old.items
         ++ command_bytes (ack_sentence settings.now (map string_bytes ids.now))) }
+    ensures asked { IfOk result (λ a. a ≡ Asked.Acknowledgement) }
     ensures err { OnErr result (out.new.items ≡ out.old.items) }
 {
     let Some(ids) = AtLeastOne::new(ids) else {
         unreachable!()
     };
     let command = xack(settings.key.as_str(), settings.group.as_str(), ids);
-    append_command(alloc, out, &command)
+    append_asking(alloc, out, &command, Asked::Acknowledgement)
 }
 
 /// `XGROUP CREATE` with `MKSTREAM`.
-fn append_group(alloc: Global, out: &mut Vec<u8>, settings: &Settings) -> Result<(), WriteError>
+fn append_group(alloc: Global, out: &mut Vec<u8>, settings: &Settings) -> Result<Asked, WriteError>
     ensures ok { OnOk result (out.new.items ≡ out.old.items
         ++ command_bytes (group_sentence settings.now)) }
+    ensures asked { IfOk result (λ a. a ≡ Asked.Group) }
     ensures err { OnErr result (out.new.items ≡ out.old.items) }
 {
     let start = match settings.make_group {
@@ -69,7 +69,7 @@ fn append_group(alloc: Global, out: &mut Vec<u8>, settings: &Settings) -> Result
         MakeGroup::FromNow | MakeGroup::Never => "$",
     };
     let command = xgroup_create_mkstream(settings.key.as_str(), settings.group.as_str(), start);
-    append_command(alloc, out, &command)
+    append_asking(alloc, out, &command, Asked::Group)
 }
 
 /// What the phase asks.
@@ -85,26 +85,11 @@ fn append_by_phase(
     ensures err { OnErr result (out.new.items ≡ out.old.items) }
 {
     match phase {
-        Phase::Start => {
-            append_own(alloc, out, settings, "0")?;
-            Ok(Asked::Own)
-        }
-        Phase::Own(id) => {
-            append_own(alloc, out, settings, id.as_str())?;
-            Ok(Asked::Own)
-        }
-        Phase::Stalled => {
-            append_claim(alloc, out, settings, "0-0")?;
-            Ok(Asked::Claim)
-        }
-        Phase::Claiming(id) => {
-            append_claim(alloc, out, settings, id.as_str())?;
-            Ok(Asked::Claim)
-        }
-        Phase::Reading(_) => {
-            append_news(alloc, out, settings)?;
-            Ok(Asked::News)
-        }
+        Phase::Start => append_own(alloc, out, settings, "0"),
+        Phase::Own(id) => append_own(alloc, out, settings, id.as_str()),
+        Phase::Stalled => append_claim(alloc, out, settings, "0-0"),
+        Phase::Claiming(id) => append_claim(alloc, out, settings, id.as_str()),
+        Phase::Reading(_) => append_news(alloc, out, settings),
     }
 }
 
@@ -114,9 +99,10 @@ fn append_own(
     out: &mut Vec<u8>,
     settings: &Settings,
     id: &str,
-) -> Result<(), WriteError>
+) -> Result<Asked, WriteError>
     ensures ok { OnOk result (out.new.items ≡ out.old.items
         ++ command_bytes (own_sentence settings.now id.now)) }
+    ensures asked { IfOk result (λ a. a ≡ Asked.Own) }
     ensures err { OnErr result (out.new.items ≡ out.old.items) }
 {
     let options = StreamReadOptions::default()
@@ -124,7 +110,7 @@ fn append_own(
         .group(alloc, settings.group.as_str(), settings.consumer.as_str())?;
     let stream = (settings.key.as_str(), id);
     let command = xread_options(AtLeastOne::one(&stream), &options);
-    append_command(alloc, out, &command)
+    append_asking(alloc, out, &command, Asked::Own)
 }
 
 /// `XAUTOCLAIM` from this id on.
@@ -133,9 +119,10 @@ fn append_claim(
     out: &mut Vec<u8>,
     settings: &Settings,
     id: &str,
-) -> Result<(), WriteError>
+) -> Result<Asked, WriteError>
     ensures ok { OnOk result (out.new.items ≡ out.old.items
         ++ command_bytes (claim_sentence settings.now id.now)) }
+    ensures asked { IfOk result (λ a. a ≡ Asked.Claim) }
     ensures err { OnErr result (out.new.items ≡ out.old.items) }
 {
     let options = StreamAutoClaimOptions::default().count(settings.count);
@@ -149,13 +136,14 @@ fn append_claim(
     ) else {
         unreachable!()
     };
-    append_command(alloc, out, &command)
+    append_asking(alloc, out, &command, Asked::Claim)
 }
 
 /// `XREADGROUP` of new entries.
-fn append_news(alloc: Global, out: &mut Vec<u8>, settings: &Settings) -> Result<(), WriteError>
+fn append_news(alloc: Global, out: &mut Vec<u8>, settings: &Settings) -> Result<Asked, WriteError>
     ensures ok { OnOk result (out.new.items ≡ out.old.items
         ++ command_bytes (news_sentence settings.now)) }
+    ensures asked { IfOk result (λ a. a ≡ Asked.News) }
     ensures err { OnErr result (out.new.items ≡ out.old.items) }
 {
     let options = StreamReadOptions::default()
@@ -164,5 +152,21 @@ fn append_news(alloc: Global, out: &mut Vec<u8>, settings: &Settings) -> Result<
         .group(alloc, settings.group.as_str(), settings.consumer.as_str())?;
     let stream = (settings.key.as_str(), ">");
     let command = xread_options(AtLeastOne::one(&stream), &options);
-    append_command(alloc, out, &command)
+    append_asking(alloc, out, &command, Asked::News)
+}
+
+/// Appends the bytes of a command that asks this. An `Err` changes nothing.
+fn append_asking<T: ToRedisArgs>(
+    alloc: Global,
+    out: &mut Vec<u8>,
+    command: &T,
+    asked: Asked,
+) -> Result<Asked, WriteError>
+    requires { T.args command.now ≢ [] }
+    ensures ok { OnOk result (out.new.items ≡ out.old.items ++ command_bytes (T.args command.now)) }
+    ensures asked { IfOk result (λ a. a ≡ asked) }
+    ensures err { OnErr result (out.new.items ≡ out.old.items) }
+{
+    append_command(alloc, out, command)?;
+    Ok(asked)
 }

@@ -13,12 +13,21 @@ struct Cut {
     next: usize,
 }
 
-/// What decoding says of bytes, and after it what another way says, if it says something else.
-pub fn compared(alloc: Global, limits: Limits, bytes: &[u8]) -> Result<String, AllocError> {
+/// What decoding says of bytes, and after it what a stream says of them byte by byte, if it is something
+/// else.
+pub fn one_by_one(alloc: Global, limits: Limits, bytes: &[u8]) -> Result<String, AllocError> {
     let told = decoded(alloc, limits, bytes)?;
     let mut outcome = told.clone()?;
-    let one_by_one = Cut { first: 1, next: 1 };
-    add_streams(alloc, limits, bytes, one_by_one, &told, &mut outcome)?;
+    let cut = Cut { first: 1, next: 1 };
+    add_streams(alloc, limits, bytes, cut, &told, &mut outcome)?;
+    Ok(outcome)
+}
+
+/// The same, and what each way says of the bytes cut in two and of each front of them, if it is something
+/// else.
+pub fn compared(alloc: Global, limits: Limits, bytes: &[u8]) -> Result<String, AllocError> {
+    let told = decoded(alloc, limits, bytes)?;
+    let mut outcome = one_by_one(alloc, limits, bytes)?;
     for first in 0..=bytes.len() {
         let cut = Cut {
             first,

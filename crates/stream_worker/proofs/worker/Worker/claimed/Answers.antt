@@ -1,7 +1,9 @@
+use Rattle.std.proofs.Common.{refl}
 use Rattle.redis_resp.specs.Value.{tree}
 use Rattle.stream_entries.specs.AutoClaimMeaning.{autoclaim_meaning}
+use Rattle.stream_worker.specs.Errors.{read_error}
 use Rattle.stream_worker.specs.Machine.{machine_of}
-use Rattle.stream_worker.proofs.WorkerLemmas.{memory_err, claim_went, claim_cut}
+use Rattle.stream_worker.proofs.WorkerLemmas.{claim_cut, claim_unread, claim_went, err_is, memory_err}
 use Rattle.stream_worker.proofs.worker.Worker.claimed.Goals as goal
 
 pub returns-in_err-take-clause-err : goal.returns-in_err-take-clause-err
@@ -17,3 +19,9 @@ returns-clause-ok g c =
     claim_went g.H.Handler.with_verdict c.args.self.now.settings (tree c.args.value) (machine_of c.args.self.now) _ _ _
     (autoclaim_meaning c.in_ok-claim.claim) _ c.in_ok-take.field-0 c.in_ok-claim.ensures.ok
     c.next_claim-next.ensures moved
+
+pub returns-in_err-claim-clause-err : goal.returns-in_err-claim-clause-err
+returns-in_err-claim-clause-err g c =
+    err_is c.from_residual.result _ (read_error c.in_err-claim.field-0.0) c.from_residual.ensures.1
+    (claim_unread g.H.Handler.with_verdict c.args.self.now.settings (tree c.args.value) (machine_of c.args.self.now) _ _ _
+    (read_error c.in_err-claim.field-0.0) (c.in_err-claim.field-0.0, refl, c.in_err-claim.ensures.err) refl refl)

@@ -1,6 +1,7 @@
+use Rattle.std.proofs.Common.{refl}
 use Rattle.redis_resp.specs.Value.{tree}
 use Rattle.stream_worker.specs.Machine.{machine_of}
-use Rattle.stream_worker.proofs.WorkerLemmas.{memory_err, news_went, news_cut}
+use Rattle.stream_worker.proofs.WorkerLemmas.{err_is, memory_err, news_cut, news_not_read, news_went}
 use Rattle.stream_worker.proofs.worker.Worker.news.Goals as goal
 
 pub returns-in_err-take-clause-err : goal.returns-in_err-take-clause-err
@@ -21,3 +22,10 @@ returns-clause-ok g c =
     let moved = rw c.replace-phase.ensures.after at taken in
     news_went g.H.Handler.with_verdict c.args.self.now.settings (tree c.args.value)
     (machine_of c.args.self.now) _ _ _ _ _ c.in_ok-take.field-0 said next moved
+
+pub returns-in_err-entries-clause-err : goal.returns-in_err-entries-clause-err
+returns-in_err-entries-clause-err g c =
+    let said = rw c.deref.ensures at c.in_err-entries.ensures.err in
+    err_is c.from_residual.result _ c.in_err-entries.field-0.0 c.from_residual.ensures.1
+    (news_not_read g.H.Handler.with_verdict c.args.self.now.settings (tree c.args.value)
+    (machine_of c.args.self.now) _ _ _ c.in_err-entries.field-0.0 said refl refl)

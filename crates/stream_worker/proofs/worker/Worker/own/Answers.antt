@@ -1,6 +1,7 @@
+use Rattle.std.proofs.Common.{refl}
 use Rattle.redis_resp.specs.Value.{tree}
 use Rattle.stream_worker.specs.Machine.{machine_of}
-use Rattle.stream_worker.proofs.WorkerLemmas.{memory_err, own_went, own_cut}
+use Rattle.stream_worker.proofs.WorkerLemmas.{err_is, memory_err, own_cut, own_not_read, own_went}
 use Rattle.stream_worker.proofs.worker.Worker.own.Goals as goal
 
 pub returns-in_err-take-clause-err : goal.returns-in_err-take-clause-err
@@ -19,3 +20,10 @@ returns-clause-ok g c =
     let moved = rw c.deref-3.ensures.value at c.in_ok-take.ensures.moved in
     own_went g.H.Handler.with_verdict c.args.self.now.settings (tree c.args.value)
     (machine_of c.args.self.now) _ _ _ _ _ c.in_ok-take.field-0 said next moved
+
+pub returns-in_err-entries-clause-err : goal.returns-in_err-entries-clause-err
+returns-in_err-entries-clause-err g c =
+    let said = rw c.deref.ensures at c.in_err-entries.ensures.err in
+    err_is c.from_residual.result _ c.in_err-entries.field-0.0 c.from_residual.ensures.1
+    (own_not_read g.H.Handler.with_verdict c.args.self.now.settings (tree c.args.value)
+    (machine_of c.args.self.now) _ _ _ c.in_err-entries.field-0.0 said refl refl)

@@ -1,11 +1,10 @@
 //! A worker of one's own, tried with no server and no connection: to copy from.
-use super::{words_of, worker_of};
-use crate::told;
+use redis_resp::Value;
 use redis_wire::{Decoded, Limits, Reply, decode};
-use std::alloc::Global;
+use std::alloc::{AllocError, Global};
 use std::test::Fail;
 use stream_server::{Protocol, Server, Session, append_reply};
-use stream_worker::{Entry, Handler, NotCommitted, Verdict};
+use stream_worker::{Entry, Handler, MakeGroup, NotCommitted, Settings, Verdict, Worker};
 
 /// Counts the entries that it is given.
 #[derive(Drop)]
@@ -32,12 +31,55 @@ impl Handler for Count {
     }
 }
 
+// A worker that begins.
+fn worker_of(alloc: Global, consumer: &str) -> Result<Worker, AllocError> {
+    let mut settings = Settings::new(
+        String::from_str(alloc, "k")?,
+        String::from_str(alloc, "g")?,
+        String::from_str(alloc, consumer)?,
+    );
+    settings.make_group = MakeGroup::FromTheFirst;
+    Ok(Worker::new(alloc, settings))
+}
+
 // The reply that bytes hold.
 fn reply_of(alloc: Global, bytes: &[u8]) -> Result<Reply, Fail> {
     match decode(alloc, bytes, Limits::default())? {
         Decoded::Complete { reply, .. } => Ok(reply),
         Decoded::Incomplete => Err("no whole reply".into()),
     }
+}
+
+// The words of a command, and none where it is no command.
+fn words_of(alloc: Global, command: Reply) -> Result<Vec<Vec<u8>>, AllocError> {
+    let mut words = Vec::new(alloc);
+    let Reply::Value(Value::Array(values)) = command else {
+        return Ok(words);
+    };
+    for value in values {
+        let Value::BulkString(word) = value else {
+            return Ok(words);
+        };
+        words.push(word)?;
+    }
+    Ok(words)
+}
+
+// What the command of this line is answered.
+fn told(
+    alloc: Global,
+    server: &mut Server,
+    session: &mut Session,
+    line: &str,
+) -> Result<String, Fail> {
+    let mut words = Vec::new(alloc);
+    for word in line.split(' ') {
+        words.push(Vec::from_slice(alloc, word.as_bytes())?)?;
+    }
+    let reply = server.step(alloc, 0, session, words)?;
+    let mut bytes = Vec::new(alloc);
+    append_reply(alloc, &mut bytes, session.protocol, &reply)?;
+    Ok(String::from_utf8(bytes)?)
 }
 
 #[test]

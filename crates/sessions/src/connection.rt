@@ -1,0 +1,460 @@
+//! Connections over readers and writers in memory, and a worker over one.
+//!
+//! The words of the head are sizes: for each of them all is played once, with reads of so many bytes
+//! at most. A line is one of these, or one of a worker:
+//!
+//! | Line | What it says |
+//! |---|---|
+//! | `comes` and bytes | what comes in |
+//! | `reads 3 interrupted 0` | what each read does: so many bytes at most, or an error; then no byte comes |
+//! | `writes 5 broken` | what each write does |
+//! | `send GET k` | a command is sent |
+//! | `text GET k`, `number GET k` | a command is sent, and its answer read as a text, as a number |
+//! | `receive`, `place` | a reply is received, is received in place |
+//! | `show 5`, `give 5` | so many bytes in place are shown, are given out |
+//! | `run 7` | the worker makes so many rounds |
+use crate::texts::{bytes_of, commands_text, number_of, parted, push_exchange, push_line, text_of};
+use crate::worker::{LIMITS, Side, Spans, Way, done, error_text};
+use redis_connection::{AskError, Connection, ConnectionError};
+use redis_resp::FromRedisValue;
+use redis_wire::{Protocol, Reply, append_answer};
+use std::alloc::{AllocError, Global};
+use std::fmt::Display;
+use std::io;
+use std::io::{ErrorKind, Read, Write};
+use stream_worker::{Progress, RequestError, RunError};
+
+/// What a call of a reader or writer does.
+#[derive(Clone, Copy)]
+enum Turn {
+    /// It takes or gives so many bytes at most.
+    Moves(usize),
+    Fails(ErrorKind),
+}
+
+/// What the calls of a reader or writer do, one after the other.
+#[derive(Drop)]
+struct Turns {
+    /// What each call does, the last one first.
+    turns: Vec<Turn>,
+    /// How many bytes a call moves where nothing is said of calls.
+    most: usize,
+}
+
+impl Turns {
+    /// The most that the next call moves.
+    fn next(&mut self) -> io::Result<usize> {
+        match self.turns.pop() {
+            Some(Turn::Moves(most)) => Ok(most),
+            Some(Turn::Fails(kind)) => Err(io::Error::from(kind)),
+            None => Ok(self.most),
+        }
+    }
+
+    /// Says what the next calls do; behind them nothing is moved.
+    fn say(&mut self, words: &str) -> Result<(), AllocError> {
+        self.most = 0;
+        for word in words.split(' ') {
+            self.turns.insert(0, turn_of(word))?;
+        }
+        Ok(())
+    }
+}
+
+/// The turn of this name.
+fn turn_of(word: &str) -> Turn {
+    match word {
+        "interrupted" => Turn::Fails(ErrorKind::Interrupted),
+        "reset" => Turn::Fails(ErrorKind::ConnectionReset),
+        "broken" => Turn::Fails(ErrorKind::BrokenPipe),
+        _ => Turn::Moves(number_of(word)),
+    }
+}
+
+/// Gives bytes in turns, one a call.
+#[derive(Drop)]
+struct Source {
+    bytes: Vec<u8>,
+    at: usize,
+    turns: Turns,
+}
+
+impl Source {
+    /// These bytes come too.
+    fn come(&mut self, alloc: Global, text: &str) -> Result<(), AllocError> {
+        let mut bytes = bytes_of(alloc, text)?;
+        self.bytes.append(&mut bytes)
+    }
+}
+
+impl Read for Source {
+    fn read(&mut self, buf: &mut [u8]) -> io::Result<usize> {
+        let most = self.turns.next()?;
+        let mut len = 0usize;
+        let from = self.at.min(self.bytes.len());
+        for (place, byte) in buf.iter_mut().take(most).zip(self.bytes[from..].iter()) {
+            *place = *byte;
+            len = len.saturating_add(1);
+        }
+        self.at = self.at.saturating_add(len);
+        Ok(len.min(buf.len()))
+    }
+}
+
+/// Takes bytes in turns, one a call.
+#[derive(Drop)]
+struct Sink {
+    bytes: Vec<u8>,
+    turns: Turns,
+}
+
+impl Write for Sink {
+    fn write(&mut self, buf: &[u8]) -> io::Result<usize> {
+        let len = self.turns.next()?.min(buf.len());
+        self.bytes.extend_from_slice(&buf[..len])?;
+        Ok(len)
+    }
+
+    fn flush(&mut self) -> io::Result<()> {
+        Ok(())
+    }
+}
+
+/// A reader and a writer.
+#[derive(Drop)]
+struct Ends {
+    source: Source,
+    sink: Sink,
+}
+
+impl Ends {
+    /// A reader of nothing that gives so many bytes at most, and a writer that takes all.
+    fn new(alloc: Global, most: usize) -> Ends {
+        Ends {
+            source: Source {
+                bytes: Vec::new(alloc),
+                at: 0,
+                turns: Turns {
+                    turns: Vec::new(alloc),
+                    most,
+                },
+            },
+            sink: Sink {
+                bytes: Vec::new(alloc),
+                turns: Turns {
+                    turns: Vec::new(alloc),
+                    most: usize::MAX,
+                },
+            },
+        }
+    }
+
+    /// What a line says of the reader or the writer.
+    fn say(&mut self, alloc: Global, line: &str) -> Result<(), AllocError> {
+        match parted(line, ' ') {
+            ("comes", rest) => self.source.come(alloc, rest),
+            ("reads", rest) => self.source.turns.say(rest),
+            ("writes", rest) => self.sink.turns.say(rest),
+            _ => Ok(()),
+        }
+    }
+}
+
+/// The name and the text of an error of a connection.
+fn failure_text(alloc: Global, error: &ConnectionError) -> Result<String, AllocError> {
+    match error {
+        ConnectionError::Memory => Err(AllocError),
+        error => format!(in alloc; "{error:?}: {error}"),
+    }
+}
+
+/// The name and the text of an error of a question.
+fn ask_text(alloc: Global, error: &AskError) -> Result<String, AllocError> {
+    match error {
+        AskError::Connection(error) => failure_text(alloc, error),
+        AskError::Server(server) => format!(in alloc; "Server: {error}: {server}"),
+        error => format!(in alloc; "{error:?}: {error}"),
+    }
+}
+
+/// Sends a command.
+fn sent<R: Read + Drop, W: Write + Drop>(
+    alloc: Global,
+    link: &mut Connection<R, W>,
+    rest: &str,
+) -> Result<String, AllocError> {
+    match link.send(alloc, &parted(rest, ' ')) {
+        Ok(()) => String::from_str(alloc, "Ok"),
+        Err(error) => failure_text(alloc, &error),
+    }
+}
+
+/// Sends a command, and reads its answer as a `T`.
+fn answered<T: FromRedisValue + Display, R: Read + Drop, W: Write + Drop>(
+    alloc: Global,
+    link: &mut Connection<R, W>,
+    rest: &str,
+) -> Result<String, AllocError> {
+    match link.ask_as::<T, (&str, &str)>(alloc, &parted(rest, ' ')) {
+        Ok(value) => format!(in alloc; "{value}"),
+        Err(error) => ask_text(alloc, &error),
+    }
+}
+
+/// A reply as bytes of RESP3.
+fn reply_text(alloc: Global, reply: &Reply) -> Result<String, AllocError> {
+    let mut bytes = Vec::new(alloc);
+    match append_answer(alloc, &mut bytes, Protocol::Resp3, reply) {
+        Ok(()) => text_of(alloc, &bytes),
+        Err(_error) => Err(AllocError),
+    }
+}
+
+/// Receives a reply.
+fn received<R: Read + Drop, W: Write + Drop>(
+    alloc: Global,
+    link: &mut Connection<R, W>,
+) -> Result<String, AllocError> {
+    match link.receive(alloc) {
+        Ok(reply) => reply_text(alloc, &reply),
+        Err(error) => failure_text(alloc, &error),
+    }
+}
+
+/// Receives a reply in place.
+fn placed<R: Read + Drop, W: Write + Drop>(
+    alloc: Global,
+    link: &mut Connection<R, W>,
+) -> Result<String, AllocError> {
+    match link.receive_in_place(alloc) {
+        Ok(len) => {
+            let reply = text_of(alloc, link.received(len))?;
+            format!(in alloc; "{len} bytes: {}", reply.as_str())
+        }
+        Err(error) => failure_text(alloc, &error),
+    }
+}
+
+/// What rounds came to.
+fn run_text(alloc: Global, outcome: &Result<Progress, RunError>) -> Result<String, AllocError> {
+    match outcome {
+        Ok(progress) => format!(in alloc; "{progress:?}"),
+        Err(RunError::Request(RequestError::Memory)) => Err(AllocError),
+        Err(RunError::Request(error)) => format!(in alloc; "Request: {error:?}: {error}"),
+        Err(RunError::Send(error)) => kind_text(alloc, "Send: ", error),
+        Err(RunError::Receive(error)) => kind_text(alloc, "Receive: ", error),
+        Err(RunError::Answer(error)) => error_text(alloc, error),
+    }
+}
+
+/// An error of a connection, and when it came.
+fn kind_text(alloc: Global, kind: &str, error: &ConnectionError) -> Result<String, AllocError> {
+    let text = failure_text(alloc, error)?;
+    format!(in alloc; "{kind}{}", text.as_str())
+}
+
+/// The worker makes so many rounds.
+fn ran<R: Read + Drop, W: Write + Drop>(
+    alloc: Global,
+    link: &mut Connection<R, W>,
+    side: &mut Side,
+    rounds: u64,
+) -> Result<String, AllocError> {
+    let result = side.worker.run(alloc, link, &mut side.doer, rounds);
+    let mut text = run_text(alloc, &result)?;
+    text.push_str(side.doer.standing(alloc)?.as_str())?;
+    Ok(text)
+}
+
+/// So many rounds as a word says.
+fn rounds_of(word: &str) -> u64 {
+    word.parse::<u64>().unwrap_or(0)
+}
+
+/// What a line speaks of.
+#[derive(Clone, Copy)]
+enum Subject {
+    /// The reader or the writer, of which all is said at the beginning.
+    Ends,
+    Question,
+    Reply,
+    Rounds,
+    Worker,
+}
+
+/// What a line with this word speaks of.
+fn subject_of(verb: &str) -> Subject {
+    match verb {
+        "comes" | "reads" | "writes" => Subject::Ends,
+        "send" | "text" | "number" => Subject::Question,
+        "receive" | "place" | "show" | "give" => Subject::Reply,
+        "run" => Subject::Rounds,
+        _ => Subject::Worker,
+    }
+}
+
+/// Sends a command, and has it answered.
+fn ask<R: Read + Drop, W: Write + Drop>(
+    alloc: Global,
+    link: &mut Connection<R, W>,
+    verb: &str,
+    rest: &str,
+) -> Result<String, AllocError> {
+    match verb {
+        "send" => sent(alloc, link, rest),
+        "text" => answered::<String, R, W>(alloc, link, rest),
+        _ => answered::<usize, R, W>(alloc, link, rest),
+    }
+}
+
+/// Receives a reply, shows it or gives it out.
+fn take<R: Read + Drop, W: Write + Drop>(
+    alloc: Global,
+    link: &mut Connection<R, W>,
+    verb: &str,
+    len: usize,
+) -> Result<String, AllocError> {
+    match verb {
+        "receive" => received(alloc, link),
+        "place" => placed(alloc, link),
+        "show" => text_of(alloc, link.received(len)),
+        _ => {
+            link.give_out(len);
+            Ok(String::new(alloc))
+        }
+    }
+}
+
+/// Does what a line says.
+fn do_line<R: Read + Drop, W: Write + Drop>(
+    alloc: Global,
+    link: &mut Connection<R, W>,
+    side: &mut Side,
+    line: &str,
+) -> Result<String, AllocError> {
+    let (verb, rest) = parted(line, ' ');
+    match subject_of(verb) {
+        Subject::Ends => Ok(String::new(alloc)),
+        Subject::Question => ask(alloc, link, verb, rest),
+        Subject::Reply => take(alloc, link, verb, number_of(rest)),
+        Subject::Rounds => ran(alloc, link, side, rounds_of(rest)),
+        Subject::Worker => done(alloc, side, verb, rest),
+    }
+}
+
+/// What comes of the lines, and what was sent, with reads of so many bytes at most.
+fn transcript_of(alloc: Global, lines: &str, most: usize) -> Result<String, AllocError> {
+    let mut ends = Ends::new(alloc, most);
+    for line in lines.lines() {
+        ends.say(alloc, line)?;
+    }
+    let Ends { source, mut sink } = ends;
+    let mut out = String::new(alloc);
+    let mut link = Connection::new(alloc, source, &mut sink, LIMITS)?;
+    do_lines(alloc, &mut link, lines, &mut out)?;
+    drop(link);
+    out.push_str("sent: ")?;
+    push_line(&mut out, commands_text(alloc, &sink.bytes)?.as_str())?;
+    Ok(out)
+}
+
+/// Does what the lines say.
+fn do_lines<R: Read + Drop, W: Write + Drop>(
+    alloc: Global,
+    link: &mut Connection<R, W>,
+    lines: &str,
+    out: &mut String,
+) -> Result<(), AllocError> {
+    let mut side = Side::new(alloc, "", Way::InPlace)?;
+    for line in lines.lines() {
+        let text = do_line(alloc, link, &mut side, line)?;
+        push_exchange(out, line, text.as_str())?;
+    }
+    Ok(())
+}
+
+/// Plays a connection, once for each size.
+pub fn play(alloc: Global, words: &str, lines: &str, out: &mut String) -> Result<(), AllocError> {
+    let mut last = String::new(alloc);
+    for word in words.split(' ') {
+        let most = word.parse::<usize>().unwrap_or(usize::MAX);
+        let text = transcript_of(alloc, lines, most)?;
+        if text.as_str() == last.as_str() {
+            out.push_str("the same with reads of ")?;
+            push_line(out, word)?;
+        } else {
+            out.push_str(text.as_str())?;
+            last = text;
+        }
+    }
+    Ok(())
+}
+
+/// What a session over bytes came to, and the commands that were sent.
+#[derive(Drop)]
+struct Ended {
+    text: String,
+    sent: Vec<u8>,
+}
+
+/// What comes of a session of so many rounds over bytes.
+fn ended(alloc: Global, bytes: &[u8], rounds: u64) -> Result<Ended, AllocError> {
+    let mut sent = Vec::new(alloc);
+    let mut side = Side::new(alloc, "", Way::InPlace)?;
+    let mut link = Connection::new(alloc, bytes, &mut sent, LIMITS)?;
+    let mut text = ran(alloc, &mut link, &mut side, rounds)?;
+    drop(link);
+    if asks_again(alloc, &mut side, &sent) {
+        text.push_str("; it asks the same again")?;
+    }
+    Ok(Ended { text, sent })
+}
+
+/// Whether a worker asks again what was sent last.
+fn asks_again(alloc: Global, side: &mut Side, sent: &[u8]) -> bool {
+    let mut again = Vec::new(alloc);
+    let asked = side.worker.request(alloc, &mut again, &mut side.doer);
+    asked.is_ok() && sent.ends_with(&again)
+}
+
+/// What comes of a session whose bytes end too early, beside the commands of the whole one.
+fn front_text(
+    alloc: Global,
+    bytes: &[u8],
+    rounds: u64,
+    whole: &[u8],
+) -> Result<String, AllocError> {
+    let Ended { mut text, sent } = ended(alloc, bytes, rounds)?;
+    text.push_str(if whole.starts_with(&sent) {
+        "; sent a front: "
+    } else {
+        "; sent otherwise: "
+    })?;
+    text.push_str(commands_text(alloc, &sent)?.as_str())?;
+    Ok(text)
+}
+
+/// Plays a session over a connection that ends behind each byte of what comes.
+pub fn play_ends(
+    alloc: Global,
+    words: &str,
+    lines: &str,
+    out: &mut String,
+) -> Result<(), AllocError> {
+    let mut input = Vec::new(alloc);
+    for line in lines.lines() {
+        input.append(&mut bytes_of(alloc, line)?)?;
+    }
+    let rounds = rounds_of(words);
+    let whole = ended(alloc, &input, rounds)?;
+    let commands = commands_text(alloc, &whole.sent)?;
+    push_exchange(out, commands.as_str(), whole.text.as_str())?;
+    let mut spans = Spans::new(alloc);
+    for end in 0..input.len() {
+        spans.add(
+            alloc,
+            front_text(alloc, &input[..end], rounds, &whole.sent)?,
+        )?;
+    }
+    push_line(out, spans.finished(alloc)?.as_str())
+}

@@ -1,0 +1,98 @@
+//! One consumer of several streams: a worker for each, over one connection and with one handler.
+//!
+//! The words of the head are the protocol, how many turns each worker has, and the streams.
+use crate::doer::Doer;
+use crate::server::{answered, protocol_of, tell_all};
+use crate::texts::{commands_text, number_of, parted, push_exchange, push_line, words_of};
+use crate::worker::{Way, told};
+use redis_wire::{Decoded, Limits, decode};
+use std::alloc::{AllocError, Global};
+use stream_server::{Server, Session};
+use stream_worker::{MakeGroup, Settings, Worker};
+
+/// A server and one connection to it.
+#[derive(Drop)]
+struct Peer {
+    server: Server,
+    session: Session,
+}
+
+/// A worker for each stream.
+fn workers_of(alloc: Global, keys: &str) -> Result<Vec<Worker>, AllocError> {
+    let mut workers = Vec::new(alloc);
+    for key in keys.split(' ') {
+        let mut settings = Settings::new(
+            String::from_str(alloc, key)?,
+            String::from_str(alloc, "g")?,
+            String::from_str(alloc, "ann")?,
+        );
+        settings.make_group = MakeGroup::FromTheFirst;
+        workers.push(Worker::new(alloc, settings))?;
+    }
+    Ok(workers)
+}
+
+/// The bytes that the command which bytes hold is answered, and none where they hold none.
+fn answer_to(alloc: Global, peer: &mut Peer, question: &[u8]) -> Result<Vec<u8>, AllocError> {
+    match decode(alloc, question, Limits::default()) {
+        Ok(Decoded::Complete { reply, len: _ }) => {
+            let words = words_of(alloc, reply)?;
+            answered(alloc, &mut peer.server, 0, &mut peer.session, words)
+        }
+        Ok(Decoded::Incomplete) => Ok(Vec::new(alloc)),
+        Err(_error) => Err(AllocError),
+    }
+}
+
+/// A worker asks once, and takes the answer.
+fn turn(
+    alloc: Global,
+    peer: &mut Peer,
+    worker: &mut Worker,
+    doer: &mut Doer,
+    out: &mut String,
+) -> Result<(), AllocError> {
+    let mut question = Vec::new(alloc);
+    if worker.request(alloc, &mut question, doer).is_err() {
+        return Err(AllocError);
+    }
+    let answer = answer_to(alloc, peer, &question)?;
+    let text = told(alloc, worker, doer, Way::ByValue, &answer)?;
+    push_exchange(
+        out,
+        commands_text(alloc, &question)?.as_str(),
+        text.as_str(),
+    )
+}
+
+/// Plays workers of streams, and says what is pending then.
+pub fn play(alloc: Global, words: &str, lines: &str, out: &mut String) -> Result<(), AllocError> {
+    let (protocol, rest) = parted(words, ' ');
+    let (turns, keys) = parted(rest, ' ');
+    let mut peer = Peer {
+        server: Server::new(alloc),
+        session: Session {
+            protocol: protocol_of(protocol),
+        },
+    };
+    tell_all(alloc, &mut peer.server, &mut peer.session, lines, out)?;
+    let mut workers = workers_of(alloc, keys)?;
+    let mut doer = Doer::new(alloc);
+    for _ in 0..number_of(turns) {
+        for worker in workers.iter_mut() {
+            turn(alloc, &mut peer, worker, &mut doer, out)?;
+        }
+    }
+    push_line(out, doer.standing(alloc)?.as_str())?;
+    for key in keys.split(' ') {
+        let line = format!(in alloc; "XPENDING {key} g")?;
+        tell_all(
+            alloc,
+            &mut peer.server,
+            &mut peer.session,
+            line.as_str(),
+            out,
+        )?;
+    }
+    Ok(())
+}
