@@ -25,7 +25,7 @@ fn a_reply_is_read(rt: HostRuntime) {
     let text = Vec::from_slice(rt.alloc(), b"WRONGTYPE no stream").expect(&rt, "memory");
     match length.read_reply(rt.alloc(), Reply::Error(ServerError { text })) {
         Err(ReplyError::Server(error)) => assert_eq!(rt; error.code(), b"WRONGTYPE".as_slice()),
-        other => panic!(rt; "{other:?}"),
+        other => assert!(rt; false, "{other:?}"),
     }
 }
 

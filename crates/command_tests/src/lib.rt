@@ -11,8 +11,6 @@ mod answer;
 #[cfg(test)]
 mod args;
 #[cfg(test)]
-mod check;
-#[cfg(test)]
 mod entry;
 #[cfg(test)]
 mod group;
@@ -26,3 +24,5 @@ mod memory;
 mod options;
 #[cfg(test)]
 mod sentences;
+#[cfg(test)]
+mod written;
