@@ -1,5 +1,5 @@
 //! Read options, with names of several types.
-use crate::check::{check, check_place};
+use crate::{check, check_place};
 use crate::options::user::Flag;
 use redis_args::{FixedArgs, RawBytes, ToRedisArgs, WriteError};
 use std::process::Abort;
