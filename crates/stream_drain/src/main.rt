@@ -57,13 +57,21 @@ fn words_of(rt: &HostRuntime) -> Result<Vec<String>> {
 
 // Drains as these options say, over standard input and output.
 fn drain_by(rt: &HostRuntime, options: Options) -> Result<()> {
-    let log = log_at(rt, &options.path)?;
+    let Options {
+        settings,
+        path,
+        until_empty,
+        json,
+        quiet,
+        dead,
+    } = options;
     let alloc = rt.alloc();
+    let log = log_at(rt, &path)?;
     let mut connection = Connection::new(alloc, rt.reader(), io::writer(rt), Limits::default())?;
-    let mut lines = Lines::new(alloc, log, options.json);
-    let mut dead = dead_of(&options.settings, options.dead)?;
-    let mut report = report_of(rt, &options.settings, options.quiet)?;
-    let mut worker = Worker::new(alloc, options.settings);
+    let mut lines = Lines::new(alloc, log, json);
+    let mut dead = dead_of(&settings, dead)?;
+    let mut report = report_of(rt, &settings, quiet)?;
+    let mut worker = Worker::new(alloc, settings);
     let ended = drain(
         rt,
         &mut connection,
@@ -71,7 +79,7 @@ fn drain_by(rt: &HostRuntime, options: Options) -> Result<()> {
         &mut lines,
         &mut report,
         &mut dead,
-        options.until_empty,
+        until_empty,
     );
     report.letters = dead.map(|dead| dead.letters);
     eprintln!(rt; "{report}")?;

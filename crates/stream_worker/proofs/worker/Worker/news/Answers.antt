@@ -26,6 +26,7 @@ returns-clause-ok g c =
 pub returns-in_err-entries-clause-err : goal.returns-in_err-entries-clause-err
 returns-in_err-entries-clause-err g c =
     let said = rw c.deref.ensures at c.in_err-entries.ensures.err in
-    err_is c.from_residual.result _ c.in_err-entries.field-0.0 c.from_residual.ensures.1
+    rw c.replace-phase.ensures.after
+    (err_is c.from_residual.result _ c.in_err-entries.field-0.0 c.from_residual.ensures.1
     (news_not_read g.H.Handler.with_verdict c.args.self.now.settings (tree c.args.value)
-    (machine_of c.args.self.now) _ _ _ c.in_err-entries.field-0.0 said refl refl)
+    (machine_of c.args.self.now) _ _ _ c.in_err-entries.field-0.0 said refl refl))
