@@ -13,19 +13,35 @@
 //! failed.
 #![tactic(auto)]
 
-mod bytes;
-mod consumer;
-mod log;
-mod sender;
-mod shown;
+ghost use Rattle.std.specs.Prelude.{ℕ, List, None};
 
 use anyhow::{Result, bail};
-use redis::Value;
-use std::alloc::Global;
+use line_log::{LineLog, LogError, LogFile, MemoryFile, push_escaped, repair};
+use redis::sentences::SentenceError;
+use redis::streams::{
+    StreamInfoFullReply, StreamInfoGroupsReply, StreamPendingCountReply, StreamRangeReply,
+    StreamReadOptions, StreamReadReply,
+};
+use redis::wire::{Decoded, Limits, Reply, decode};
+use redis::{ParsingError, RawBytes, ToRedisArgs, Value, from_redis_value};
+use std::alloc::{AllocError, Global};
+use std::fmt::Debug;
 use std::io;
-use std::io::{BufRead, BufReader, BufWriter, Write};
+use std::io::{BufRead, BufReader, BufWriter, ErrorKind, Write};
 use std::process::ExitCode;
 use stream_text::read_value;
+use uses::batch::sort_out;
+use uses::caller::{order_bytes, order_id};
+use uses::deletion::{acknowledgement_of, deletion_of, is_left, was_pending};
+use uses::group_state::group_state;
+use uses::monitoring::{delivered_too_often, lag_of};
+use uses::order::{Order, OrderId};
+use uses::producer::{Producer, ProducerError};
+use uses::server::add_request;
+use uses::stalled::{claim_arguments, stalled_in};
+use uses::wire::{AnswerError, streams_answered, streams_of_both};
+use uses::worker::{acknowledge_arguments, ids_answered, ids_to_acknowledge};
+use uses::{readme, worker};
 
 // Memory ran out, a line is no case, or standard input or output failed.
 const FAILED: u8 = 2;
@@ -60,33 +76,401 @@ fn answer(alloc: Global, case: &str) -> Result<String> {
 // What comes of the case of this word with this value.
 fn answer_of(alloc: Global, word: &str, value: Value) -> Result<String> {
     match word {
-        "worker-reads" => consumer::reads(alloc, value),
-        "ids" => consumer::ids(alloc, value),
-        "acknowledges" => consumer::acknowledges(alloc, value),
-        "batch" => consumer::batch(alloc, value),
-        "claims" => consumer::claims(alloc, value),
-        "stalled" => consumer::stalled(alloc, value),
-        "too-often" => consumer::too_often(alloc, value),
-        "lag" => consumer::lag(alloc, value),
-        "groups" => consumer::groups(alloc, value),
-        "deletion" => consumer::deletion(alloc, value),
-        "acknowledgement" => consumer::acknowledgement(alloc, value),
-        "sends" => sender::sends(alloc, value),
-        "serves" => sender::serves(alloc, value),
-        "group-of" => sender::group_of(alloc, value),
-        "orders" => sender::orders(alloc, value),
-        "order" => sender::order(alloc, value),
-        "number" => sender::number(alloc, value),
-        "number-of-entry" => sender::number_of_entry(alloc, value),
-        "readme" => sender::readme(alloc, value),
-        "customer" => sender::customer(alloc, value),
-        "repairs" => log::repairs(alloc, value),
-        "commits" => log::commits(alloc, value),
-        "escapes" => log::escapes(alloc, value),
-        "protocols" => bytes::protocols(alloc, value),
-        "streams" => bytes::streams(alloc, value),
-        "order-sent" => bytes::order_sent(alloc, value),
-        "order-answered" => bytes::order_answered(alloc, value),
+        "worker-reads" => reads(alloc, value),
+        "ids" => ids(alloc, value),
+        "acknowledges" => acknowledges(alloc, value),
+        "batch" => batch(alloc, value),
+        "claims" => claims(alloc, value),
+        "stalled" => stalled(alloc, value),
+        "too-often" => too_often(alloc, value),
+        "lag" => lag(alloc, value),
+        "groups" => groups(alloc, value),
+        "deletion" => deletion(alloc, value),
+        "acknowledgement" => acknowledgement(alloc, value),
+        "sends" => sends(alloc, value),
+        "serves" => serves(alloc, value),
+        "group-of" => group_of(alloc, value),
+        "orders" => orders(alloc, value),
+        "order" => order(alloc, value),
+        "number" => number(alloc, value),
+        "number-of-entry" => number_of_entry(alloc, value),
+        "readme" => readme(alloc, value),
+        "customer" => customer(alloc, value),
+        "repairs" => repairs(alloc, value),
+        "commits" => commits(alloc, value),
+        "escapes" => escapes(alloc, value),
+        "protocols" => protocols(alloc, value),
+        "streams" => streams(alloc, value),
+        "order-sent" => order_sent(alloc, value),
+        "order-answered" => order_answered(alloc, value),
         _ => bail!("no such word"),
+    }
+}
+
+// What a producer sends and a server takes in, and types of a user's own.
+
+// A producer that sends its ninth entry.
+fn ninth(alloc: Global) -> Result<Producer> {
+    let id = String::from_str(alloc, "p")?;
+    Ok(Producer { id, number: 9 })
+}
+
+/// What a producer sends until each of these answers came, and which of them it takes for an id.
+fn sends(alloc: Global, answers: Value) -> Result<String> {
+    let answers: Vec<Value> = from_redis_value(alloc, answers)?;
+    let mut producer = ninth(alloc)?;
+    let mut said = String::new(alloc);
+    for answer in answers {
+        said.push_str(&send(alloc, &mut producer, answer)?)?;
+    }
+    Ok(said)
+}
+
+// What the producer sends before this answer, and whether the answer is an id.
+fn send(alloc: Global, producer: &mut Producer, answer: Value) -> Result<String> {
+    let sent = producer.arguments(alloc, "jobs", 1000, &[("order", b"17".as_slice())])?;
+    let sent = line_of(alloc, &sent)?;
+    let is_id = match producer.answered(alloc, answer) {
+        Ok(_id) => true,
+        Err(ProducerError::Answer(ParsingError::Memory)) => return Err(AllocError.into()),
+        Err(_error) => false,
+    };
+    Ok(format!(in alloc; "{sent} ({is_id}) ")?)
+}
+
+/// What a server reads of that which a producer sends with a body of these bytes: of all that
+/// stands behind the key, from `~` on, and of the options alone.
+fn serves(alloc: Global, body: Value) -> Result<String> {
+    let body: RawBytes = from_redis_value(alloc, body)?;
+    let producer = ninth(alloc)?;
+    let fields = [("body", body.0.as_slice())];
+    let sent = producer.arguments(alloc, "jobs", 1000, &fields)?;
+    let mut said = String::new(alloc);
+    for (from, to) in [(2usize, 11usize), (6, 11), (2, 8)] {
+        match sent.get(from..to) {
+            Some(arguments) => said.push_str(&serve(alloc, arguments)?)?,
+            None => bail!("other arguments"),
+        }
+    }
+    Ok(said)
+}
+
+// What a server reads of arguments.
+fn serve(alloc: Global, arguments: &[Vec<u8>]) -> Result<String> {
+    match add_request(alloc, arguments) {
+        Ok(asked) => {
+            let options = line_of(alloc, &asked.options)?;
+            Ok(format!(in alloc; "{options}, {:?}, {:?}; ", asked.id, asked.fields)?)
+        }
+        Err(SentenceError::NotASentence) => Ok(String::from_str(alloc, "nothing; ")?),
+        Err(SentenceError::Memory) => Err(AllocError.into()),
+    }
+}
+
+/// The options of a read for the group of this number.
+fn group_of(alloc: Global, number: Value) -> Result<String> {
+    let number: OrderId = from_redis_value(alloc, number)?;
+    let options = StreamReadOptions::default().group(alloc, number, "worker")?;
+    line_of(alloc, &options)
+}
+
+/// The arguments of the orders of a list.
+fn orders(alloc: Global, list: Value) -> Result<String> {
+    let orders: Vec<Order> = from_redis_value(alloc, list)?;
+    line_of(alloc, &orders)
+}
+
+/// The order that a value is.
+fn order(alloc: Global, value: Value) -> Result<String> {
+    reading_text(alloc, from_redis_value::<Order>(alloc, value))
+}
+
+/// The number of an order that a value is, where it is not nil.
+fn number(alloc: Global, value: Value) -> Result<String> {
+    reading_text(alloc, from_redis_value::<Option<OrderId>>(alloc, value))
+}
+
+/// The number that each of three fields of the one entry of a range is.
+fn number_of_entry(alloc: Global, answer: Value) -> Result<String> {
+    let reply: StreamRangeReply = from_redis_value(alloc, answer)?;
+    let [entry] = reply.ids.as_slice() else {
+        bail!("not one entry");
+    };
+    let mut numbers = Vec::new(alloc);
+    for name in ["order", "customer", "quantity"] {
+        numbers.push(entry.get::<OrderId>(alloc, name)?)?;
+    }
+    Ok(format!(in alloc; "{numbers:?}")?)
+}
+
+/// The command of the README.
+fn readme(alloc: Global, _none: Value) -> Result<String> {
+    line_of(alloc, &readme::read_arguments(alloc)?)
+}
+
+/// The customer of the first entry of a range.
+fn customer(alloc: Global, answer: Value) -> Result<String> {
+    reading_text(alloc, readme::first_customer(alloc, answer))
+}
+
+// What a consumer of a group does.
+
+/// With what a worker reads the stream of this name.
+fn reads(alloc: Global, key: Value) -> Result<String> {
+    let key: String = from_redis_value(alloc, key)?;
+    line_of(
+        alloc,
+        &worker::read_arguments(alloc, "g", "c", 5000, 10, &key)?,
+    )
+}
+
+/// The ids that a worker acknowledges after this answer of XREADGROUP.
+fn ids(alloc: Global, answer: Value) -> Result<String> {
+    line_of(alloc, &ids_answered(alloc, answer)?)
+}
+
+/// With what it acknowledges the entries of the one stream of an answer.
+fn acknowledges(alloc: Global, answer: Value) -> Result<String> {
+    let reply: StreamReadReply = from_redis_value(alloc, answer)?;
+    match reply.keys.as_slice() {
+        [stream] => line_of(alloc, &acknowledge_arguments(alloc, "g", stream)?),
+        _ => bail!("not one stream"),
+    }
+}
+
+/// The orders of the one stream of an answer, and the entries that are none.
+fn batch(alloc: Global, answer: Value) -> Result<String> {
+    let reply: StreamReadReply = from_redis_value(alloc, answer)?;
+    match reply.keys.as_slice() {
+        [stream] => Ok(format!(in alloc; "{:?}", sort_out(alloc, &stream.ids)?)?),
+        _ => bail!("not one stream"),
+    }
+}
+
+/// With what entries of the stream of this name are claimed.
+fn claims(alloc: Global, key: Value) -> Result<String> {
+    let key: String = from_redis_value(alloc, key)?;
+    let claim = claim_arguments(alloc, &key, "g", "c", 60000, "0-0", 25)?;
+    line_of(alloc, &claim)
+}
+
+/// What an answer of XAUTOCLAIM says.
+fn stalled(alloc: Global, answer: Value) -> Result<String> {
+    reading_text(alloc, stalled_in(alloc, answer))
+}
+
+/// The ids of an answer of XPENDING that were delivered five times or more.
+fn too_often(alloc: Global, answer: Value) -> Result<String> {
+    let pending: StreamPendingCountReply = from_redis_value(alloc, answer)?;
+    line_of(alloc, &delivered_too_often(alloc, &pending, 5)?)
+}
+
+/// The lag of the groups `g` and `h` in an answer of XINFO GROUPS.
+fn lag(alloc: Global, answer: Value) -> Result<String> {
+    let groups: StreamInfoGroupsReply = from_redis_value(alloc, answer)?;
+    Ok(format!(in alloc; "{:?} {:?}", lag_of(&groups, "g"), lag_of(&groups, "h"))?)
+}
+
+/// The state of each group in an answer of XINFO STREAM FULL, ten seconds after the clock began.
+fn groups(alloc: Global, answer: Value) -> Result<String> {
+    let reply: StreamInfoFullReply = from_redis_value(alloc, answer)?;
+    let mut states = Vec::new(alloc);
+    for group in &reply.groups {
+        states.push(group_state(alloc, group, 10_000, 3, 6000)?)?;
+    }
+    Ok(format!(in alloc; "{states:?}")?)
+}
+
+/// Whether a code of XDELEX says that the entry is left.
+fn deletion(alloc: Global, code: Value) -> Result<String> {
+    let left = match deletion_of(alloc, code) {
+        Ok(status) => Ok(is_left(&status)),
+        Err(error) => Err(error),
+    };
+    reading_text(alloc, left)
+}
+
+/// Whether a code of XACKDEL says that the entry was pending.
+fn acknowledgement(alloc: Global, code: Value) -> Result<String> {
+    let pending = match acknowledgement_of(alloc, code) {
+        Ok(status) => Ok(was_pending(&status)),
+        Err(error) => Err(error),
+    };
+    reading_text(alloc, pending)
+}
+
+// Bytes of a server, and bytes for one.
+
+/// The ids of the entries of an answer of XREADGROUP in RESP2, and of one in RESP3.
+fn protocols(alloc: Global, both: Value) -> Result<String> {
+    let (resp2, resp3): (RawBytes, RawBytes) = from_redis_value(alloc, both)?;
+    let Ok((first, second)) = streams_of_both(alloc, &resp2.0, &resp3.0) else {
+        bail!("no streams");
+    };
+    let first = line_of(alloc, &ids_to_acknowledge(alloc, &first)?)?;
+    let second = line_of(alloc, &ids_to_acknowledge(alloc, &second)?)?;
+    Ok(format!(in alloc; "{first} = {second}")?)
+}
+
+/// Why bytes give no streams, of a server's error its code, or the streams.
+fn streams(alloc: Global, bytes: Value) -> Result<String> {
+    let bytes: RawBytes = from_redis_value(alloc, bytes)?;
+    match streams_answered(alloc, &bytes.0) {
+        Err(AnswerError::Memory | AnswerError::Parsing(ParsingError::Memory)) => {
+            Err(AllocError.into())
+        }
+        Err(AnswerError::Server(error)) => {
+            Ok(String::from_str(alloc, str::from_utf8(error.code())?)?)
+        }
+        answered => Ok(format!(in alloc; "{answered:?}")?),
+    }
+}
+
+/// The bytes of an order of this customer.
+fn order_sent(alloc: Global, customer: Value) -> Result<String> {
+    let customer: String = from_redis_value(alloc, customer)?;
+    let sent = String::from_utf8(order_bytes(alloc, &customer)?)?;
+    Ok(format!(in alloc; "{sent:?}")?)
+}
+
+/// The id of an order in the bytes that a server answered.
+fn order_answered(alloc: Global, bytes: Value) -> Result<String> {
+    let bytes: RawBytes = from_redis_value(alloc, bytes)?;
+    match decode(alloc, &bytes.0, Limits::default())? {
+        Decoded::Complete {
+            reply: Reply::Value(answer),
+            ..
+        } => Ok(order_id(alloc, answer)?),
+        _ => bail!("no plain answer"),
+    }
+}
+
+// A file of lines over files in memory, and over one that is too small.
+
+/// What a file of these bytes has after it was opened, with and without a last line that has no end.
+fn repairs(alloc: Global, before: Value) -> Result<String> {
+    let before: RawBytes = from_redis_value(alloc, before)?;
+    let mut file = MemoryFile::new(alloc, before.0);
+    repair(alloc, &mut file)?;
+    Ok(format!(in alloc; "{:?}", str::from_utf8(file.bytes())?)?)
+}
+
+/// A file that takes so many bytes, and then fails, as a full disk does.
+#[derive(Drop)]
+struct Small {
+    bytes: Vec<u8>,
+    room: usize,
+    syncs: usize,
+}
+
+impl LogFile for Small {
+    ghost seen = { λ _. None };
+
+    ghost may_leave = { λ _ _. ⊥ };
+
+    ghost moment = { λ _. 0 };
+
+    ghost left_since = { λ _ _ _. ⊥ };
+
+    ghost counts_now = { λ _ _ _ _ none. none };
+
+    ghost only_now = { λ _ _ none. none };
+
+    fn len(&self) -> Result<usize, LogError> {
+        Ok(self.bytes.len())
+    }
+
+    fn read_at(&self, alloc: Global, at: usize, len: usize) -> Result<Vec<u8>, LogError> {
+        Ok(
+            self.bytes
+                .iter()
+                .skip(at)
+                .take(len)
+                .copied()
+                .collect(alloc)?,
+        )
+    }
+
+    fn append(&mut self, bytes: &[u8]) -> Result<(), LogError> {
+        for byte in bytes {
+            if self.bytes.len() >= self.room {
+                return Err(LogError::File(io::Error::from(ErrorKind::StorageFull)));
+            }
+            self.bytes.push(*byte)?;
+        }
+        Ok(())
+    }
+
+    fn cut(&mut self, len: usize) -> Result<(), LogError> {
+        self.bytes.truncate(len);
+        Ok(())
+    }
+
+    fn sync(&mut self) -> Result<(), LogError> {
+        self.syncs = self.syncs.saturating_add(1);
+        Ok(())
+    }
+}
+
+/// What a log over a file with room for ten bytes says to each batch of lines; then the file, and how
+/// often it was synced. One write and one sync a batch; a log whose write failed takes no more.
+fn commits(alloc: Global, batches: Value) -> Result<String> {
+    let batches: Vec<Vec<RawBytes>> = from_redis_value(alloc, batches)?;
+    let file = Small {
+        bytes: b"old\nto".to_vec(alloc)?,
+        room: 10,
+        syncs: 0,
+    };
+    let mut log = LineLog::open(alloc, file)?;
+    let mut said = String::new(alloc);
+    for batch in &batches {
+        said.push_str(commit(&mut log, batch)?)?;
+    }
+    let file = log.into_file();
+    let bytes = str::from_utf8(&file.bytes)?;
+    Ok(format!(in alloc; "{said}{bytes:?} {}", file.syncs)?)
+}
+
+// Commits the lines of a batch; whether they were taken.
+fn commit(log: &mut LineLog<Small>, batch: &[RawBytes]) -> Result<&'static str> {
+    for line in batch {
+        log.add_line(&line.0)?;
+    }
+    match log.commit() {
+        Ok(()) => Ok("taken "),
+        Err(LogError::Memory) => Err(AllocError.into()),
+        Err(LogError::File(_)) => Ok("failed "),
+        Err(LogError::Broken) => Ok("broken "),
+    }
+}
+
+/// The bytes of a text as they stand in a line.
+fn escapes(alloc: Global, text: Value) -> Result<String> {
+    let text: RawBytes = from_redis_value(alloc, text)?;
+    let mut line = Vec::new(alloc);
+    push_escaped(&mut line, &text.0)?;
+    Ok(format!(in alloc; "{line:?}")?)
+}
+
+// How what came of a case is printed.
+
+/// The arguments that a value writes, with a space between two.
+fn line_of<T: ToRedisArgs>(alloc: Global, value: &T) -> Result<String> {
+    let mut line = String::new(alloc);
+    for argument in &value.to_redis_args(alloc)? {
+        if !line.is_empty() {
+            line.push(' ')?;
+        }
+        line.push_str(str::from_utf8(argument)?)?;
+    }
+    Ok(line)
+}
+
+/// A record as `Debug` shows it, or why there is none; memory that ran out is no such reason.
+fn reading_text<T: Debug + Drop>(alloc: Global, read: Result<T, ParsingError>) -> Result<String> {
+    match read {
+        Ok(record) => Ok(format!(in alloc; "{record:?}")?),
+        Err(ParsingError::Memory) => Err(AllocError.into()),
+        Err(error) => Ok(format!(in alloc; "{error:?}")?),
     }
 }

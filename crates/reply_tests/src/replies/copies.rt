@@ -10,6 +10,77 @@ use std::process::Abort;
 use std::test::Fail;
 use stream_text::{PrintedForm, read_value};
 
+#[test]
+fn ranges_are_copied(rt: HostRuntime) -> Result<(), Fail> {
+    let items = ("Array[", "Array[$-0, Array[f, Int $]]", ", ", "]");
+    check_copies::<StreamRangeReply>(&rt, items)
+}
+
+#[test]
+fn claims_are_copied(rt: HostRuntime) -> Result<(), Fail> {
+    let items = ("Array[", "Array[$-0, Array[f, Int $]]", ", ", "]");
+    check_copies::<StreamClaimReply>(&rt, items)
+}
+
+#[test]
+fn reads_are_copied(rt: HostRuntime) -> Result<(), Fail> {
+    let items = ("Map[s: Array[", "Array[$-0, Array[f, Int $]]", ", ", "]]");
+    check_copies::<StreamReadReply>(&rt, items)
+}
+
+#[test]
+fn reads_with_claim_are_copied(rt: HostRuntime) -> Result<(), Fail> {
+    let entry = "Array[$-0, Array[f, Int $], Int $, Int 2]";
+    check_copies::<StreamReadReply>(&rt, ("Map[s: Array[", entry, ", ", "]]"))
+}
+
+#[test]
+fn streams_are_copied(rt: HostRuntime) -> Result<(), Fail> {
+    let stream = "s$: Array[Array[$-0, Array[f, v]]]";
+    check_copies::<StreamReadReply>(&rt, ("Map[", stream, ", ", "]"))
+}
+
+#[test]
+fn deleted_ids_are_copied(rt: HostRuntime) -> Result<(), Fail> {
+    let items = ("Array[0-0, Array[], Array[", "$-0", ", ", "]]");
+    check_copies::<StreamAutoClaimReply>(&rt, items)
+}
+
+#[test]
+fn automatic_claims_are_copied(rt: HostRuntime) -> Result<(), Fail> {
+    let items = (
+        "Array[0-0, Array[",
+        "Array[$-0, Array[f, Int $]]",
+        ", ",
+        "]]",
+    );
+    check_copies::<StreamAutoClaimReply>(&rt, items)
+}
+
+#[test]
+fn pending_summaries_are_copied(rt: HostRuntime) -> Result<(), Fail> {
+    let items = ("Array[Int 5, 1-0, 2-0, Array[", "Array[c$, $]", ", ", "]]");
+    check_copies::<StreamPendingReply>(&rt, items)
+}
+
+#[test]
+fn pending_entries_are_copied(rt: HostRuntime) -> Result<(), Fail> {
+    let items = ("Array[", "Array[$-0, c, Int $, Int 2]", ", ", "]");
+    check_copies::<StreamPendingCountReply>(&rt, items)
+}
+
+#[test]
+fn consumers_are_copied(rt: HostRuntime) -> Result<(), Fail> {
+    let items = ("Array[", "Map[name: c$, idle: $]", ", ", "]");
+    check_copies::<StreamInfoConsumersReply>(&rt, items)
+}
+
+#[test]
+fn groups_are_copied(rt: HostRuntime) -> Result<(), Fail> {
+    let items = ("Array[", "Map[name: g$, pending: Int $]", ", ", "]");
+    check_copies::<StreamInfoGroupsReply>(&rt, items)
+}
+
 /// Both records have one printed form.
 fn check_same<T: PrintedForm>(
     rt: &(impl AllocGlobal + Abort),
@@ -95,75 +166,4 @@ fn check_copies<T: Copied>(rt: &(impl AllocGlobal + Abort), items: Line<'_>) -> 
         check_copy::<T>(rt, items, count_of(step))?;
     }
     Ok(())
-}
-
-#[test]
-fn ranges_are_copied(rt: HostRuntime) -> Result<(), Fail> {
-    let items = ("Array[", "Array[$-0, Array[f, Int $]]", ", ", "]");
-    check_copies::<StreamRangeReply>(&rt, items)
-}
-
-#[test]
-fn claims_are_copied(rt: HostRuntime) -> Result<(), Fail> {
-    let items = ("Array[", "Array[$-0, Array[f, Int $]]", ", ", "]");
-    check_copies::<StreamClaimReply>(&rt, items)
-}
-
-#[test]
-fn reads_are_copied(rt: HostRuntime) -> Result<(), Fail> {
-    let items = ("Map[s: Array[", "Array[$-0, Array[f, Int $]]", ", ", "]]");
-    check_copies::<StreamReadReply>(&rt, items)
-}
-
-#[test]
-fn reads_with_claim_are_copied(rt: HostRuntime) -> Result<(), Fail> {
-    let entry = "Array[$-0, Array[f, Int $], Int $, Int 2]";
-    check_copies::<StreamReadReply>(&rt, ("Map[s: Array[", entry, ", ", "]]"))
-}
-
-#[test]
-fn streams_are_copied(rt: HostRuntime) -> Result<(), Fail> {
-    let stream = "s$: Array[Array[$-0, Array[f, v]]]";
-    check_copies::<StreamReadReply>(&rt, ("Map[", stream, ", ", "]"))
-}
-
-#[test]
-fn deleted_ids_are_copied(rt: HostRuntime) -> Result<(), Fail> {
-    let items = ("Array[0-0, Array[], Array[", "$-0", ", ", "]]");
-    check_copies::<StreamAutoClaimReply>(&rt, items)
-}
-
-#[test]
-fn automatic_claims_are_copied(rt: HostRuntime) -> Result<(), Fail> {
-    let items = (
-        "Array[0-0, Array[",
-        "Array[$-0, Array[f, Int $]]",
-        ", ",
-        "]]",
-    );
-    check_copies::<StreamAutoClaimReply>(&rt, items)
-}
-
-#[test]
-fn pending_summaries_are_copied(rt: HostRuntime) -> Result<(), Fail> {
-    let items = ("Array[Int 5, 1-0, 2-0, Array[", "Array[c$, $]", ", ", "]]");
-    check_copies::<StreamPendingReply>(&rt, items)
-}
-
-#[test]
-fn pending_entries_are_copied(rt: HostRuntime) -> Result<(), Fail> {
-    let items = ("Array[", "Array[$-0, c, Int $, Int 2]", ", ", "]");
-    check_copies::<StreamPendingCountReply>(&rt, items)
-}
-
-#[test]
-fn consumers_are_copied(rt: HostRuntime) -> Result<(), Fail> {
-    let items = ("Array[", "Map[name: c$, idle: $]", ", ", "]");
-    check_copies::<StreamInfoConsumersReply>(&rt, items)
-}
-
-#[test]
-fn groups_are_copied(rt: HostRuntime) -> Result<(), Fail> {
-    let items = ("Array[", "Map[name: g$, pending: Int $]", ", ", "]");
-    check_copies::<StreamInfoGroupsReply>(&rt, items)
 }
