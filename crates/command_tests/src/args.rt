@@ -1,5 +1,5 @@
 //! Plain arguments, and the writers that they go into.
-use crate::written::{assert_holds, check, check_place, text};
+use crate::{assert_holds, check, check_place, text};
 use redis_args::{
     FixedArgs, RawBytes, RedisWrite, ToRedisArgs, WriteError, equal_bytes, equal_write_errors,
 };

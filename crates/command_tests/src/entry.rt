@@ -1,5 +1,5 @@
 //! Commands on the entries of a stream.
-use crate::written::{check, text};
+use crate::{check, text};
 use redis_resp::PairList;
 use stream_commands::{
     AtLeastOne, FieldsThen, pair_fields, xadd, xadd_maxlen, xadd_options, xcfgset, xdel, xdel_ex,

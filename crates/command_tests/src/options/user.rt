@@ -3,7 +3,7 @@ ghost use Rattle.std.specs.Prelude.{◌≡◌, ◌⊎◌, [], ◌∷◌, codes, 
 ghost use Rattle.redis_args.specs.Room.{MayRefuse};
 ghost use Rattle.redis_args.specs.declared.writer.WriteError.TheVariants.{Full};
 
-use crate::written::{assert_holds, check, check_place, text};
+use crate::{assert_holds, check, check_place, text};
 use redis_args::{FixedArgs, RedisWrite, ToRedisArgs, WriteError};
 use std::process::Abort;
 use stream_options::{StreamDeletionPolicy, StreamTrimOptions, StreamTrimmingMode};
