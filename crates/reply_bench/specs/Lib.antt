@@ -1,4 +1,5 @@
 pub mod Answer
+pub mod Bytes
 pub mod Below
 pub mod Found
 pub mod Job

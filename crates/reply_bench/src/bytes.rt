@@ -1,9 +1,8 @@
-//! The answer of an XREADGROUP, read over and over, where it stands or by the copying path.
-use crate::answer::{Form, made};
-use crate::{copied, in_place, streamed};
-use redis_wire::{Limits, ReplyStream};
-use std::alloc::{AllocError, Global};
-use stream_refs::EntryTape;
+//! What is read of the bytes of an XREADGROUP's reply, and in which form they are.
+ghost use Rattle.std.specs.Prelude.{◌≡◌};
+ghost use Rattle.reply_bench.specs.Bytes.{form_named, reading_named};
+
+use crate::answer::Form;
 
 /// In which way the answer is read.
 #[derive(Clone, Copy)]
@@ -39,7 +38,9 @@ pub struct BytesJob {
 
 impl Reading {
     /// The reading of this name.
-    pub fn named(name: &str) -> Option<Reading> {
+    pub fn named(name: &str) -> Option<Reading>
+        ensures { result ≡ reading_named name.now }
+    {
         match name {
             "print" => Some(Reading::Print),
             "places" => Some(Reading::Places),
@@ -56,95 +57,13 @@ impl Reading {
     }
 }
 
-fn form_named(name: &str) -> Option<Form> {
+/// The form of this name.
+pub fn form_of(name: &str) -> Option<Form>
+    ensures { result ≡ form_named name.now }
+{
     match name {
         "array" => Some(Form::Array),
         "map" => Some(Form::Map),
         _ => None,
-    }
-}
-
-impl BytesJob {
-    /// The job of this reading that the three words behind its name say.
-    pub fn of_words(reading: Reading, calls: &str, entries: &str, form: &str) -> Option<BytesJob> {
-        Some(BytesJob {
-            reading,
-            calls: calls.parse().ok()?,
-            entries: entries.parse().ok()?,
-            form: form_named(form)?,
-        })
-    }
-
-    /// The bytes of the answer that it reads.
-    pub fn answer(&self, alloc: Global) -> Result<Vec<u8>, AllocError> {
-        made(alloc, self.entries, self.form)
-    }
-}
-
-/// Reads the answer so often, and sums up what was looked at.
-pub fn read(alloc: Global, bytes: &[u8], job: BytesJob) -> Result<usize, anyhow::Error> {
-    let mut tape = EntryTape::new(alloc);
-    let mut stream = ReplyStream::new(alloc, Limits::default());
-    let mut sum = 0usize;
-    for _ in 0..job.calls {
-        let read = match job.reading {
-            Reading::Fed(answers) => fed(alloc, &mut stream, bytes, answers)?,
-            Reading::FedBytes(answers) => fed_bytes(alloc, &mut stream, bytes, answers)?,
-            _ => once(alloc, &mut tape, bytes, job.reading)?,
-        };
-        sum = sum.wrapping_add(read);
-    }
-    Ok(sum)
-}
-
-// Feeds so many answers, each in one piece, and then takes as many replies out; their bytes.
-fn fed(
-    alloc: Global,
-    stream: &mut ReplyStream,
-    bytes: &[u8],
-    answers: u32,
-) -> Result<usize, anyhow::Error> {
-    for _ in 0..answers {
-        stream.feed(bytes)?;
-    }
-    let mut sum = 0usize;
-    for _ in 0..answers {
-        let len = streamed::next_len(alloc, stream)?;
-        sum = sum.wrapping_add(len.unwrap_or(0));
-    }
-    Ok(sum)
-}
-
-// Feeds so many answers byte by byte, and asks for a reply behind each byte; the bytes of all replies.
-fn fed_bytes(
-    alloc: Global,
-    stream: &mut ReplyStream,
-    bytes: &[u8],
-    answers: u32,
-) -> Result<usize, anyhow::Error> {
-    let mut sum = 0usize;
-    for _ in 0..answers {
-        for byte in bytes {
-            stream.feed(&[*byte])?;
-            let len = streamed::next_len(alloc, stream)?;
-            sum = sum.wrapping_add(len.unwrap_or(0));
-        }
-    }
-    Ok(sum)
-}
-
-fn once(
-    alloc: Global,
-    tape: &mut EntryTape,
-    bytes: &[u8],
-    reading: Reading,
-) -> Result<usize, anyhow::Error> {
-    match reading {
-        Reading::Print | Reading::Fed(_) | Reading::FedBytes(_) => Ok(0),
-        Reading::Places => in_place::places(tape, bytes),
-        Reading::Fields => in_place::fields(tape, bytes),
-        Reading::Gets => in_place::gets(tape, bytes),
-        Reading::Decoded => copied::decoded(alloc, bytes),
-        Reading::Copied => copied::read(alloc, bytes),
     }
 }

@@ -36,12 +36,16 @@ mod reading;
 mod replies;
 mod streamed;
 
-use bytes::{BytesJob, Reading};
+use answer::made;
+use bytes::{BytesJob, Reading, form_of};
 use job::{Job, JobError};
 use operations::perform;
+use redis_wire::{Limits, ReplyStream};
+use std::alloc::Global;
 use std::io::Write;
 use std::process::ExitCode;
 use std::{env, io};
+use stream_refs::EntryTape;
 
 // The arguments name no work.
 const NO_WORK: u8 = 1;
@@ -86,7 +90,7 @@ fn work_of_words(rt: &HostRuntime, words: &[String]) -> Result<bool, anyhow::Err
         return refuse(rt, JobError::WrongArguments);
     };
     if let Some(reading) = Reading::named(name) {
-        return match BytesJob::of_words(reading, second, third, fourth) {
+        return match bytes_job(reading, second, third, fourth) {
             Some(job) => read_bytes(rt, words, job),
             None => refuse(rt, JobError::WrongArguments),
         };
@@ -100,14 +104,24 @@ fn work_of_words(rt: &HostRuntime, words: &[String]) -> Result<bool, anyhow::Err
     Ok(true)
 }
 
+// The job of this reading that the three words after its name say.
+fn bytes_job(reading: Reading, calls: &str, entries: &str, form: &str) -> Option<BytesJob> {
+    Some(BytesJob {
+        reading,
+        calls: calls.parse().ok()?,
+        entries: entries.parse().ok()?,
+        form: form_of(form)?,
+    })
+}
+
 // Reads the bytes of an answer, or prints them.
 fn read_bytes(rt: &HostRuntime, words: &[String], job: BytesJob) -> Result<bool, anyhow::Error> {
-    let bytes = job.answer(rt.alloc())?;
+    let bytes = made(rt.alloc(), job.entries, job.form)?;
     if matches!(job.reading, Reading::Print) {
         io::writer(rt).write_all(&bytes)?;
         return Ok(true);
     }
-    let sum = bytes::read(rt.alloc(), &bytes, job)?;
+    let sum = read(rt.alloc(), &bytes, job)?;
     print_words(rt, words)?;
     println!(rt; "{} bytes, {sum}", bytes.len())?;
     Ok(true)
@@ -119,4 +133,72 @@ fn print_words(rt: &HostRuntime, words: &[String]) -> Result<(), anyhow::Error> 
         print!(rt; "{word} ")?;
     }
     Ok(())
+}
+
+// Reads the answer so often, and sums up what was looked at.
+fn read(alloc: Global, bytes: &[u8], job: BytesJob) -> Result<usize, anyhow::Error> {
+    let mut tape = EntryTape::new(alloc);
+    let mut stream = ReplyStream::new(alloc, Limits::default());
+    let mut sum = 0usize;
+    for _ in 0..job.calls {
+        let read = match job.reading {
+            Reading::Fed(answers) => fed(alloc, &mut stream, bytes, answers)?,
+            Reading::FedBytes(answers) => fed_bytes(alloc, &mut stream, bytes, answers)?,
+            _ => once(alloc, &mut tape, bytes, job.reading)?,
+        };
+        sum = sum.wrapping_add(read);
+    }
+    Ok(sum)
+}
+
+// Feeds so many answers, each in one piece, and then takes as many replies out; their bytes.
+fn fed(
+    alloc: Global,
+    stream: &mut ReplyStream,
+    bytes: &[u8],
+    answers: u32,
+) -> Result<usize, anyhow::Error> {
+    for _ in 0..answers {
+        stream.feed(bytes)?;
+    }
+    let mut sum = 0usize;
+    for _ in 0..answers {
+        let len = streamed::next_len(alloc, stream)?;
+        sum = sum.wrapping_add(len.unwrap_or(0));
+    }
+    Ok(sum)
+}
+
+// Feeds so many answers byte by byte, and asks for a reply behind each byte; the bytes of all replies.
+fn fed_bytes(
+    alloc: Global,
+    stream: &mut ReplyStream,
+    bytes: &[u8],
+    answers: u32,
+) -> Result<usize, anyhow::Error> {
+    let mut sum = 0usize;
+    for _ in 0..answers {
+        for byte in bytes {
+            stream.feed(&[*byte])?;
+            let len = streamed::next_len(alloc, stream)?;
+            sum = sum.wrapping_add(len.unwrap_or(0));
+        }
+    }
+    Ok(sum)
+}
+
+fn once(
+    alloc: Global,
+    tape: &mut EntryTape,
+    bytes: &[u8],
+    reading: Reading,
+) -> Result<usize, anyhow::Error> {
+    match reading {
+        Reading::Print | Reading::Fed(_) | Reading::FedBytes(_) => Ok(0),
+        Reading::Places => in_place::places(tape, bytes),
+        Reading::Fields => in_place::fields(tape, bytes),
+        Reading::Gets => in_place::gets(tape, bytes),
+        Reading::Decoded => copied::decoded(alloc, bytes),
+        Reading::Copied => copied::read(alloc, bytes),
+    }
 }
