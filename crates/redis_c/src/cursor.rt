@@ -80,29 +80,32 @@ impl<'a> Cursor<'a> {
     fn strategy(&mut self) -> TrimSettings
         ensures { length self.new.places.now ≤ length self.old.places.now }
     {
-        let mut settings = TrimSettings {
-            bound: 0,
+        let (bound, about, maxlen, minid) = self.bound();
+        let (limits, limit) = self.number_behind(b"LIMIT");
+        TrimSettings {
+            bound,
             references: 0,
-            about: false,
-            limits: false,
-            maxlen: 0,
-            minid: nowhere(),
-            limit: 0,
-        };
+            about,
+            limits,
+            maxlen,
+            minid,
+            limit,
+        }
+    }
+
+    /// Which bound it is, whether it is about the bound alone, how many entries stay, and from which id on.
+    fn bound(&mut self) -> (u32, bool, usize, Span)
+        ensures { length self.new.places.now ≤ length self.old.places.now }
+    {
         if self.takes(b"MAXLEN") {
-            settings.bound = 1;
-            settings.about = self.about();
-            settings.maxlen = self.number();
+            let about = self.about();
+            (1, about, self.number(), nowhere())
         } else if self.takes(b"MINID") {
-            settings.bound = 2;
-            settings.about = self.about();
-            settings.minid = self.place();
+            let about = self.about();
+            (2, about, 0, self.place())
+        } else {
+            (0, false, 0, nowhere())
         }
-        if self.takes(b"LIMIT") {
-            settings.limits = true;
-            settings.limit = self.number();
-        }
-        settings
     }
 
     /// Takes `~` or `=`: whether it is `~`.
@@ -127,17 +130,7 @@ impl<'a> Cursor<'a> {
     {
         let nomkstream = self.takes(b"NOMKSTREAM");
         let references = self.references();
-        let mut recognizes = 0;
-        let mut producer = nowhere();
-        let mut item = nowhere();
-        if self.takes(b"IDMP") {
-            recognizes = 1;
-            producer = self.place();
-            item = self.place();
-        } else if self.takes(b"IDMPAUTO") {
-            recognizes = 2;
-            producer = self.place();
-        }
+        let (recognizes, producer, item) = self.idempotency();
         let mut trim = self.strategy();
         trim.references = references;
         AddSettings {
@@ -149,20 +142,30 @@ impl<'a> Cursor<'a> {
         }
     }
 
+    /// How a duplicate entry is recognized, and where its texts stand.
+    fn idempotency(&mut self) -> (u32, Span, Span)
+        ensures { length self.new.places.now ≤ length self.old.places.now }
+    {
+        if self.takes(b"IDMP") {
+            let producer = self.place();
+            (1, producer, self.place())
+        } else if self.takes(b"IDMPAUTO") {
+            (2, self.place(), nowhere())
+        } else {
+            (0, nowhere(), nowhere())
+        }
+    }
+
     /// How entries are claimed by their ids.
     pub fn claim(&mut self) -> ClaimSettings
         ensures { length self.new.places.now ≤ length self.old.places.now }
     {
-        let idles = self.takes(b"IDLE");
-        let idle = self.number_if(idles);
-        let times = self.takes(b"TIME");
-        let time = self.number_if(times);
-        let retries = self.takes(b"RETRYCOUNT");
-        let retry = self.number_if(retries);
+        let (idles, idle) = self.number_behind(b"IDLE");
+        let (times, time) = self.number_behind(b"TIME");
+        let (retries, retry) = self.number_behind(b"RETRYCOUNT");
         let force = self.takes(b"FORCE");
         let justid = self.takes(b"JUSTID");
-        let notes = self.takes(b"LASTID");
-        let lastid = self.place_if(notes);
+        let (notes, lastid) = self.place_behind(b"LASTID");
         ClaimSettings {
             idles,
             times,
@@ -181,8 +184,7 @@ impl<'a> Cursor<'a> {
     pub fn autoclaim(&mut self) -> AutoClaimSettings
         ensures { length self.new.places.now ≤ length self.old.places.now }
     {
-        let counts = self.takes(b"COUNT");
-        let count = self.number_if(counts);
+        let (counts, count) = self.number_behind(b"COUNT");
         let justid = self.takes(b"JUSTID");
         AutoClaimSettings {
             counts,
@@ -195,9 +197,8 @@ impl<'a> Cursor<'a> {
     pub fn group(&mut self) -> GroupPlace
         ensures { length self.new.places.now ≤ length self.old.places.now }
     {
-        let names = self.takes(b"GROUP");
-        let group = self.place_if(names);
-        let consumer = self.place_if(names);
+        let (names, group) = self.place_behind(b"GROUP");
+        let consumer = if names { self.place() } else { nowhere() };
         GroupPlace {
             names,
             group,
@@ -209,13 +210,10 @@ impl<'a> Cursor<'a> {
     pub fn read(&mut self) -> ReadSettings
         ensures { length self.new.places.now ≤ length self.old.places.now }
     {
-        let blocks = self.takes(b"BLOCK");
-        let block = self.number_if(blocks);
-        let counts = self.takes(b"COUNT");
-        let count = self.number_if(counts);
+        let (blocks, block) = self.number_behind(b"BLOCK");
+        let (counts, count) = self.number_behind(b"COUNT");
         let noack = self.takes(b"NOACK");
-        let claims = self.takes(b"CLAIM");
-        let claim = self.number_if(claims);
+        let (claims, claim) = self.number_behind(b"CLAIM");
         ReadSettings {
             counts,
             blocks,
@@ -227,18 +225,26 @@ impl<'a> Cursor<'a> {
         }
     }
 
-    /// Takes the next argument as a number, where one is wanted, and else 0.
-    fn number_if(&mut self, wanted: bool) -> usize
+    /// Takes the word and a number behind it, where the word is the next argument; else the number is 0.
+    fn number_behind(&mut self, word: &[u8]) -> (bool, usize)
         ensures { length self.new.places.now ≤ length self.old.places.now }
     {
-        if wanted { self.number() } else { 0 }
+        if self.takes(word) {
+            (true, self.number())
+        } else {
+            (false, 0)
+        }
     }
 
-    /// Takes the next argument, where it is wanted.
-    fn place_if(&mut self, wanted: bool) -> Span
+    /// Takes the word and the argument behind it, where the word is the next argument.
+    fn place_behind(&mut self, word: &[u8]) -> (bool, Span)
         ensures { length self.new.places.now ≤ length self.old.places.now }
     {
-        if wanted { self.place() } else { nowhere() }
+        if self.takes(word) {
+            (true, self.place())
+        } else {
+            (false, nowhere())
+        }
     }
 }
 

@@ -78,19 +78,24 @@ fn looked_up(
     arguments: &[Vec<u8>],
 ) -> Result<Answer, Refusal> {
     match name {
-        Name::Len => match arguments {
-            [key, ..] => match stream_of(streams, key) {
-                Some(stream) => Ok(length(stream.entries.len())),
-                None => Ok(Answer::Int(0)),
-            },
-            [] => Err(SYNTAX),
-        },
+        Name::Len => len_of(streams, arguments),
         Name::Range => range::range(alloc, streams, false, arguments),
         Name::ReverseRange => range::range(alloc, streams, true, arguments),
         Name::Read => read::read(alloc, streams, arguments),
         Name::Pending => pending::pending(alloc, streams, now, arguments),
         Name::Info => info::info(alloc, streams, now, word, arguments),
         _ => Err(SYNTAX),
+    }
+}
+
+/// `XLEN key`
+fn len_of(streams: &[Stream], arguments: &[Vec<u8>]) -> Result<Answer, Refusal> {
+    let [key, ..] = arguments else {
+        return Err(SYNTAX);
+    };
+    match stream_of(streams, key) {
+        Some(stream) => Ok(length(stream.entries.len())),
+        None => Ok(Answer::Int(0)),
     }
 }
 
@@ -126,6 +131,32 @@ fn group_of<'a>(stream: &'a Stream, name: &[u8]) -> Option<&'a Group> {
     }
 }
 
+/// The stream of this key, where a group of this name is asked for.
+fn stream_for<'a>(
+    alloc: Global,
+    streams: &'a [Stream],
+    key: &[u8],
+    name: &[u8],
+) -> Result<&'a Stream, Refusal> {
+    match stream_of(streams, key) {
+        Some(stream) => Ok(stream),
+        None => Err(no_group(alloc, key, name)),
+    }
+}
+
+/// The group of this name.
+fn group_for<'a>(
+    alloc: Global,
+    stream: &'a Stream,
+    key: &[u8],
+    name: &[u8],
+) -> Result<&'a Group, Refusal> {
+    match group_of(stream, name) {
+        Some(group) => Ok(group),
+        None => Err(no_group(alloc, key, name)),
+    }
+}
+
 /// The group takes the place of the one of its name.
 fn put_group(streams: &mut [Stream], key: &[u8], group: Group) {
     if let Ok(index) = place_of(streams, key) {
@@ -156,16 +187,49 @@ fn length(n: usize) -> Answer {
     Answer::Int(i64::try_from(n).unwrap_or(i64::MAX))
 }
 
+/// These answers as one array.
+fn array<const N: usize>(alloc: Global, items: [Answer; N]) -> Result<Answer, AllocError> {
+    match Vec::from_array(alloc, items) {
+        Ok(items) => Ok(Answer::Array(items)),
+        Err(_) => Err(AllocError),
+    }
+}
+
+/// One more answer.
+fn put(answers: &mut Vec<Answer>, answer: Answer) -> Result<(), AllocError> {
+    match answers.push(answer) {
+        Ok(()) => Ok(()),
+        Err(_) => Err(AllocError),
+    }
+}
+
+/// Bytes as an answer.
+fn bytes_answer(alloc: Global, bytes: &[u8]) -> Result<Answer, AllocError> {
+    Ok(Answer::Bytes(Vec::from_slice(alloc, bytes)?))
+}
+
 /// An entry as an answer: its id and its fields.
 fn entry_answer(alloc: Global, entry: &Entry) -> Result<Answer, AllocError> {
-    let mut fields = Vec::with_capacity(alloc, entry.fields.len())?;
-    for field in &entry.fields {
-        fields.push(Answer::Bytes(field.clone()?))?;
+    let fields = fields_answer(alloc, &entry.fields)?;
+    array(alloc, [Answer::Id(entry.id), fields])
+}
+
+/// An entry that was claimed, or its id where that alone is asked for.
+fn claimed_answer(alloc: Global, entry: &Entry, only_id: bool) -> Result<Answer, AllocError> {
+    if only_id {
+        Ok(Answer::Id(entry.id))
+    } else {
+        entry_answer(alloc, entry)
     }
-    let mut both = Vec::with_capacity(alloc, 2)?;
-    both.push(Answer::Id(entry.id))?;
-    both.push(Answer::Array(fields))?;
-    Ok(Answer::Array(both))
+}
+
+/// The names and values of an entry as an answer.
+fn fields_answer(alloc: Global, fields: &[Vec<u8>]) -> Result<Answer, AllocError> {
+    let mut answers = Vec::with_capacity(alloc, fields.len())?;
+    for field in fields {
+        put(&mut answers, bytes_answer(alloc, field)?)?;
+    }
+    Ok(Answer::Array(answers))
 }
 
 /// The first entries from this id on up to that one, `most` at most.
@@ -183,13 +247,13 @@ fn entries_up(
             break;
         }
         left -= 1;
-        answers.push(entry_answer(alloc, entry)?)?;
+        put(&mut answers, entry_answer(alloc, entry)?)?;
     }
     Ok(answers)
 }
 
 /// A command.
-#[derive(Clone, Copy, PartialEq, Eq)]
+#[derive(Clone, Copy)]
 enum Name {
     Ping,
     Hello,

@@ -2,7 +2,7 @@
 use std::alloc::{AllocError, AllocFailed, Global};
 
 /// Why a command is refused.
-#[derive(Debug, Drop)]
+#[derive(Drop)]
 pub(crate) enum Refusal {
     /// Memory was refused.
     Memory,

@@ -18,12 +18,17 @@ pub fn append_reply(
     ensures err { OnErr result (out.new.items ≡ out.old.items) }
 {
     let mut bytes = Vec::new(alloc);
-    match reply {
-        Reply::Done(answer) => push_answer(&mut bytes, protocol, answer)?,
-        Reply::Refused(text) => push_line(&mut bytes, b'-', text)?,
-    }
+    push_reply(&mut bytes, protocol, reply)?;
     out.extend_from_slice(&bytes)?;
     Ok(())
+}
+
+/// A reply.
+fn push_reply(out: &mut Vec<u8>, protocol: Protocol, reply: &Reply) -> Result<(), AllocError> {
+    match reply {
+        Reply::Done(answer) => push_answer(out, protocol, answer),
+        Reply::Refused(text) => push_line(out, b'-', text),
+    }
 }
 
 /// An answer.

@@ -1,9 +1,9 @@
 //! `XCLAIM`.
-ghost use Rattle.std.specs.Prelude.{◌≡◌, OnErr};
+ghost use Rattle.std.specs.Prelude.{◌≡◌, ◌≤◌, length, OnErr};
 
 use super::{
-    SYNTAX, entry_answer, group_of, id, integer_in, is_word, no_group, put_group, refusal_of,
-    stream_of, strict_id,
+    SYNTAX, claimed_answer, group_for, id, ids, integer_in, is_word, put, put_group, refusal_of,
+    stream_for, strict_id,
 };
 use crate::answer::Answer;
 use crate::refusal::Refusal;
@@ -51,26 +51,11 @@ fn claimed(
     let [key, name, consumer, least_idle, words @ ..] = arguments else {
         return Err(SYNTAX);
     };
-    let Some(stream) = stream_of(streams, key) else {
-        return Err(no_group(alloc, key, name));
-    };
-    let Some(group) = group_of(stream, name) else {
-        return Err(no_group(alloc, key, name));
-    };
-    let Some(least_idle) = integer_in(least_idle) else {
-        return Err(Refusal::Fixed("ERR Invalid min-idle-time argument for XCLAIM"));
-    };
-    let usual = ClaimOptions {
-        consumer,
-        now,
-        least_idle: u64::try_from(least_idle).unwrap_or(0),
-        given_at: now,
-        deliveries: None,
-        forces: false,
-        only_ids: false,
-        last_id: EntryId::ZERO,
-    };
-    let (wanted, rest) = ids_at(alloc, words)?;
+    let stream = stream_for(alloc, streams, key, name)?;
+    let group = group_for(alloc, stream, key, name)?;
+    let usual = usual_options(consumer, now, least_idle)?;
+    let (wanted, rest) = words.split_at(ids_len(words));
+    let wanted = ids(alloc, wanted)?;
     let options = options_in(alloc, usual, rest)?;
     let mut group = group.clone()?;
     if options.last_id > group.last_id {
@@ -80,21 +65,35 @@ fn claimed(
     Ok((group, answers))
 }
 
-/// The ids in front, and the words behind them.
-fn ids_at(alloc: Global, words: &[Vec<u8>]) -> Result<(Vec<EntryId>, &[Vec<u8>]), AllocError> {
-    let mut ids = Vec::new(alloc);
-    let mut rest = words;
-    for _ in 0..words.len() {
-        let [word, behind @ ..] = rest else {
-            break;
-        };
-        let Some(id) = strict_id(word, 0) else {
-            break;
-        };
-        ids.push(id)?;
-        rest = behind;
-    }
-    Ok((ids, rest))
+/// What a claim without options is.
+fn usual_options<'a>(
+    consumer: &'a [u8],
+    now: u64,
+    least_idle: &[u8],
+) -> Result<ClaimOptions<'a>, Refusal> {
+    let Some(least_idle) = integer_in(least_idle) else {
+        return Err(Refusal::Fixed("ERR Invalid min-idle-time argument for XCLAIM"));
+    };
+    Ok(ClaimOptions {
+        consumer,
+        now,
+        least_idle: u64::try_from(least_idle).unwrap_or(0),
+        given_at: now,
+        deliveries: None,
+        forces: false,
+        only_ids: false,
+        last_id: EntryId::ZERO,
+    })
+}
+
+/// How many ids stand in front.
+fn ids_len(words: &[Vec<u8>]) -> usize
+    ensures { result ≤ length words.now }
+{
+    words
+        .iter()
+        .take_while(|word| strict_id(word, 0).is_some())
+        .count()
 }
 
 /// Claims the entries one by one; what is no longer in the stream is no longer pending.
@@ -122,11 +121,10 @@ fn claim_all(
             given_at: options.given_at,
             deliveries,
         })?;
-        if options.only_ids {
-            answers.push(Answer::Id(*id))?;
-        } else {
-            answers.push(entry_answer(alloc, entry)?)?;
-        }
+        put(
+            &mut answers,
+            claimed_answer(alloc, entry, options.only_ids)?,
+        )?;
     }
     Ok(answers)
 }
@@ -160,62 +158,87 @@ fn options_in<'a>(
     let mut options = usual;
     let mut rest = words;
     for _ in 0..words.len() {
-        match rest {
-            [] => break,
-            [word, behind @ ..] if is_word(word, "FORCE") => {
-                options.forces = true;
-                rest = behind;
-            }
-            [word, behind @ ..] if is_word(word, "JUSTID") => {
-                options.only_ids = true;
-                rest = behind;
-            }
-            [word, text, behind @ ..] => {
-                options = with_option(alloc, options, word, text)?;
-                rest = behind;
-            }
-            [word] => return Err(unrecognized(alloc, word)),
+        if rest.is_empty() {
+            break;
         }
+        rest = option_at(alloc, &mut options, rest)?;
     }
     Ok(options)
 }
 
-/// The option of this name.
-fn with_option<'a>(
+/// Reads one option, and gives the words behind it.
+fn option_at<'w>(
     alloc: Global,
-    options: ClaimOptions<'a>,
+    options: &mut ClaimOptions<'_>,
+    words: &'w [Vec<u8>],
+) -> Result<&'w [Vec<u8>], Refusal> {
+    let [word, behind @ ..] = words else {
+        return Ok(words);
+    };
+    if is_word(word, "FORCE") {
+        options.forces = true;
+        return Ok(behind);
+    }
+    if is_word(word, "JUSTID") {
+        options.only_ids = true;
+        return Ok(behind);
+    }
+    let [text, behind @ ..] = behind else {
+        return Err(unrecognized(alloc, word));
+    };
+    put_option(alloc, options, word, text)?;
+    Ok(behind)
+}
+
+/// Reads the option of this name.
+fn put_option(
+    alloc: Global,
+    options: &mut ClaimOptions<'_>,
     word: &[u8],
     text: &[u8],
-) -> Result<ClaimOptions<'a>, Refusal> {
-    let mut options = options;
+) -> Result<(), Refusal> {
     if is_word(word, "IDLE") {
-        let Some(idle) = integer_in(text) else {
-            return Err(Refusal::Fixed("ERR Invalid IDLE option argument for XCLAIM"));
-        };
-        // A time in the future is none.
-        options.given_at = match u64::try_from(idle) {
-            Ok(idle) => options.now.checked_sub(idle).unwrap_or(options.now),
-            Err(_) => options.now,
-        };
+        options.given_at = idle_since(options.now, text)?;
     } else if is_word(word, "TIME") {
-        let Some(time) = integer_in(text) else {
-            return Err(Refusal::Fixed("ERR Invalid TIME option argument for XCLAIM"));
-        };
-        options.given_at = match u64::try_from(time) {
-            Ok(time) => time.min(options.now),
-            Err(_) => options.now,
-        };
+        options.given_at = time_in(options.now, text)?;
     } else if is_word(word, "RETRYCOUNT") {
-        let Some(n) = integer_in(text) else {
-            return Err(Refusal::Fixed("ERR Invalid RETRYCOUNT option argument for XCLAIM"));
-        };
-        options.deliveries = u64::try_from(n).ok();
+        options.deliveries = deliveries_in(text)?;
     } else if is_word(word, "LASTID") {
         options.last_id = id(text)?;
     } else {
         return Err(unrecognized(alloc, word));
     }
-    Ok(options)
+    Ok(())
+}
+
+/// The time so many milliseconds ago; one in the future is none.
+fn idle_since(now: u64, text: &[u8]) -> Result<u64, Refusal> {
+    match integer_in(text) {
+        Some(idle) => match u64::try_from(idle) {
+            Ok(idle) => Ok(now.checked_sub(idle).unwrap_or(now)),
+            Err(_) => Ok(now),
+        },
+        None => Err(Refusal::Fixed("ERR Invalid IDLE option argument for XCLAIM")),
+    }
+}
+
+/// The time; one in the future is none.
+fn time_in(now: u64, text: &[u8]) -> Result<u64, Refusal> {
+    match integer_in(text) {
+        Some(time) => match u64::try_from(time) {
+            Ok(time) => Ok(time.min(now)),
+            Err(_) => Ok(now),
+        },
+        None => Err(Refusal::Fixed("ERR Invalid TIME option argument for XCLAIM")),
+    }
+}
+
+/// How often an entry was given, where that is said.
+fn deliveries_in(text: &[u8]) -> Result<Option<u64>, Refusal> {
+    match integer_in(text) {
+        Some(n) => Ok(u64::try_from(n).ok()),
+        None => Err(Refusal::Fixed("ERR Invalid RETRYCOUNT option argument for XCLAIM")),
+    }
 }
 
 /// That there is no such option.

@@ -9,7 +9,7 @@ use super::{
 };
 use crate::answer::Answer;
 use crate::refusal::Refusal;
-use std::alloc::Global;
+use std::alloc::{AllocError, Global};
 use stream_store::{EntryId, Group, Stream};
 
 /// What XGROUP does.
@@ -82,24 +82,36 @@ fn action_in(alloc: Global, word: &[u8], arguments: &[Vec<u8>]) -> Result<Action
     let [subcommand, behind @ ..] = arguments else {
         return Err(SYNTAX);
     };
-    let n = behind.len();
-    let (action, is_right) = if is_word(subcommand, "CREATE") {
-        (Action::Create, n >= 3)
+    match action_named(subcommand) {
+        Some(action) if has_right_count(action, behind.len()) => Ok(action),
+        Some(_) => Err(wrong_subcount(alloc, word, subcommand)),
+        None => Err(unknown_subcommand(alloc, word, subcommand)),
+    }
+}
+
+/// The action of this name.
+fn action_named(subcommand: &[u8]) -> Option<Action> {
+    if is_word(subcommand, "CREATE") {
+        Some(Action::Create)
     } else if is_word(subcommand, "SETID") {
-        (Action::SetId, n >= 3)
+        Some(Action::SetId)
     } else if is_word(subcommand, "DESTROY") {
-        (Action::Destroy, n == 2)
+        Some(Action::Destroy)
     } else if is_word(subcommand, "CREATECONSUMER") {
-        (Action::CreateConsumer, n == 3)
+        Some(Action::CreateConsumer)
     } else if is_word(subcommand, "DELCONSUMER") {
-        (Action::DeleteConsumer, n == 3)
+        Some(Action::DeleteConsumer)
     } else {
-        return Err(unknown_subcommand(alloc, word, subcommand));
-    };
-    if is_right {
-        Ok(action)
-    } else {
-        Err(wrong_subcount(alloc, word, subcommand))
+        None
+    }
+}
+
+/// Whether the action may have so many arguments.
+fn has_right_count(action: Action, count: usize) -> bool {
+    match action {
+        Action::Create | Action::SetId => count >= 3,
+        Action::Destroy => count == 2,
+        Action::CreateConsumer | Action::DeleteConsumer => count == 3,
     }
 }
 
@@ -226,26 +238,42 @@ fn changed(
     };
     let mut group = group.clone()?;
     let answer = match action {
-        Action::SetId => {
-            group.last_id = if word.as_slice() == b"$".as_slice() {
-                stream.last_id
-            } else {
-                loose_id(word, 0).ok_or(INVALID_ID)?
-            };
-            group.entries_read = options.entries_read;
-            Answer::Okay
-        }
-        Action::CreateConsumer => {
-            if group.consumer(word).is_some() {
-                return Ok(Answer::Int(0));
-            }
-            let _number = group.see(alloc, word, now)?;
-            Answer::Int(1)
-        }
+        Action::SetId => move_group(&mut group, stream.last_id, word, options)?,
+        Action::CreateConsumer => make_consumer(alloc, &mut group, word, now)?,
         _ => super::number(group.remove_consumer(word)),
     };
     if place < stream.groups.len() {
         stream.groups[place] = group;
     }
     Ok(answer)
+}
+
+/// `SETID`, of a stream with this last id.
+fn move_group(
+    group: &mut Group,
+    last_id: EntryId,
+    word: &[u8],
+    options: GroupOptions,
+) -> Result<Answer, Refusal> {
+    group.last_id = if word == b"$".as_slice() {
+        last_id
+    } else {
+        loose_id(word, 0).ok_or(INVALID_ID)?
+    };
+    group.entries_read = options.entries_read;
+    Ok(Answer::Okay)
+}
+
+/// `CREATECONSUMER`
+fn make_consumer(
+    alloc: Global,
+    group: &mut Group,
+    name: &[u8],
+    now: u64,
+) -> Result<Answer, AllocError> {
+    if group.consumer(name).is_some() {
+        return Ok(Answer::Int(0));
+    }
+    let _number = group.see(alloc, name, now)?;
+    Ok(Answer::Int(1))
 }

@@ -1,7 +1,8 @@
 //! `HELLO`.
 ghost use Rattle.std.specs.Prelude.{◌≡◌, OnErr};
 
-use super::integer_in;
+use super::info::put_row;
+use super::{bytes_answer, integer_in};
 use crate::answer::{Answer, Protocol};
 use crate::refusal::Refusal;
 use crate::server::Session;
@@ -17,20 +18,21 @@ pub(super) fn hello(
 {
     let protocol = match arguments {
         [] => session.protocol,
-        [version, ..] => match integer_in(version) {
-            Some(2) => Protocol::Resp2,
-            Some(3) => Protocol::Resp3,
-            Some(_) => return Err(Refusal::Fixed("NOPROTO unsupported protocol version")),
-            None => {
-                return Err(Refusal::Fixed(
-                    "ERR Protocol version is not an integer or out of range",
-                ));
-            }
-        },
+        [version, ..] => protocol_in(version)?,
     };
     let answer = greeting(alloc, protocol)?;
     session.protocol = protocol;
     Ok(answer)
+}
+
+/// The protocol of this version.
+fn protocol_in(version: &[u8]) -> Result<Protocol, Refusal> {
+    match integer_in(version) {
+        Some(2) => Ok(Protocol::Resp2),
+        Some(3) => Ok(Protocol::Resp3),
+        Some(_) => Err(Refusal::Fixed("NOPROTO unsupported protocol version")),
+        None => Err(Refusal::Fixed("ERR Protocol version is not an integer or out of range")),
+    }
 }
 
 /// What the server says of itself.
@@ -39,23 +41,32 @@ fn greeting(alloc: Global, protocol: Protocol) -> Result<Answer, AllocError> {
         Protocol::Resp2 => 2,
         Protocol::Resp3 => 3,
     };
-    let rows = [
-        ("server", text(alloc, "redis")?),
-        ("version", text(alloc, "7.0.15")?),
-        ("proto", Answer::Int(version)),
-        ("id", Answer::Int(1)),
-        ("mode", text(alloc, "standalone")?),
-        ("role", text(alloc, "master")?),
-        ("modules", Answer::Array(Vec::new(alloc))),
-    ];
-    let mut answers = Vec::new(alloc);
-    for (name, answer) in rows {
-        answers.push((Vec::from_slice(alloc, name.as_bytes())?, answer))?;
-    }
-    Ok(Answer::Map(answers))
+    let mut rows = Vec::new(alloc);
+    put_texts(
+        alloc,
+        &mut rows,
+        [("server", "redis"), ("version", "7.0.15")],
+    )?;
+    put_row(alloc, &mut rows, "proto", Answer::Int(version))?;
+    put_row(alloc, &mut rows, "id", Answer::Int(1))?;
+    put_texts(
+        alloc,
+        &mut rows,
+        [("mode", "standalone"), ("role", "master")],
+    )?;
+    put_row(alloc, &mut rows, "modules", Answer::Array(Vec::new(alloc)))?;
+    Ok(Answer::Map(rows))
 }
 
-/// A text as an answer.
-fn text(alloc: Global, text: &str) -> Result<Answer, AllocError> {
-    Ok(Answer::Bytes(Vec::from_slice(alloc, text.as_bytes())?))
+/// More names with their texts.
+fn put_texts(
+    alloc: Global,
+    rows: &mut Vec<(Vec<u8>, Answer)>,
+    more: [(&str, &str); 2],
+) -> Result<(), AllocError> {
+    for (name, text) in more {
+        let text = bytes_answer(alloc, text.as_bytes())?;
+        put_row(alloc, rows, name, text)?;
+    }
+    Ok(())
 }

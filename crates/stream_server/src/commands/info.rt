@@ -5,13 +5,13 @@ ghost use Rattle.std.specs.Prelude.{IfOk};
 ghost use Rattle.stream_server.specs.Kinds.{IsInfo};
 
 use super::{
-    SYNTAX, entry_answer, group_of, integer, is_word, length, no_group_for, number, stream_of,
-    unknown_subcommand, wrong_options, wrong_subcount,
+    SYNTAX, bytes_answer, entry_answer, group_of, integer, is_word, length, no_group_for, number,
+    put, stream_of, unknown_subcommand, wrong_options, wrong_subcount,
 };
 use crate::answer::Answer;
 use crate::refusal::Refusal;
 use std::alloc::{AllocError, Global};
-use stream_store::{Group, Stream};
+use stream_store::{Consumer, Entry, Group, Stream};
 
 const NO_KEY: Refusal = Refusal::Fixed("ERR no such key");
 
@@ -39,20 +39,44 @@ pub(super) fn info(
     };
     let stream = stream_of(streams, key).ok_or(NO_KEY)?;
     match topic {
-        Topic::Stream => match full_in(alloc, word, subcommand, rest)? {
-            Some(most) => Ok(full::stream_in_full(alloc, stream, most)?),
-            None => Ok(stream_info(alloc, stream)?),
-        },
+        Topic::Stream => about_stream(alloc, stream, word, subcommand, rest),
         Topic::Groups => Ok(groups_info(alloc, stream)?),
-        Topic::Consumers => {
-            let [name, ..] = rest else {
-                return Err(SYNTAX);
-            };
-            match group_of(stream, name) {
-                Some(group) => Ok(consumers_info(alloc, group, now)?),
-                None => Err(no_group_for(alloc, key, name)),
-            }
-        }
+        Topic::Consumers => about_consumers(alloc, stream, now, key, rest),
+    }
+}
+
+/// `XINFO STREAM`, in one of its two forms.
+fn about_stream(
+    alloc: Global,
+    stream: &Stream,
+    word: &[u8],
+    subcommand: &[u8],
+    options: &[Vec<u8>],
+) -> Result<Answer, Refusal>
+    ensures { IfOk result IsInfo }
+{
+    match full_in(alloc, word, subcommand, options)? {
+        Some(most) => Ok(full::stream_in_full(alloc, stream, most)?),
+        None => Ok(stream_info(alloc, stream)?),
+    }
+}
+
+/// `XINFO CONSUMERS` of the stream of this key; the group is named behind it.
+fn about_consumers(
+    alloc: Global,
+    stream: &Stream,
+    now: u64,
+    key: &[u8],
+    words: &[Vec<u8>],
+) -> Result<Answer, Refusal>
+    ensures { IfOk result IsInfo }
+{
+    let [name, ..] = words else {
+        return Err(SYNTAX);
+    };
+    match group_of(stream, name) {
+        Some(group) => Ok(consumers_info(alloc, group, now)?),
+        None => Err(no_group_for(alloc, key, name)),
     }
 }
 
@@ -61,20 +85,32 @@ fn topic_in(alloc: Global, word: &[u8], arguments: &[Vec<u8>]) -> Result<Topic, 
     let [subcommand, behind @ ..] = arguments else {
         return Err(SYNTAX);
     };
-    let n = behind.len();
-    let (topic, is_right) = if is_word(subcommand, "STREAM") {
-        (Topic::Stream, n >= 1)
+    match topic_named(subcommand) {
+        Some(topic) if has_right_count(topic, behind.len()) => Ok(topic),
+        Some(_) => Err(wrong_subcount(alloc, word, subcommand)),
+        None => Err(unknown_subcommand(alloc, word, subcommand)),
+    }
+}
+
+/// The topic of this name.
+fn topic_named(subcommand: &[u8]) -> Option<Topic> {
+    if is_word(subcommand, "STREAM") {
+        Some(Topic::Stream)
     } else if is_word(subcommand, "GROUPS") {
-        (Topic::Groups, n == 1)
+        Some(Topic::Groups)
     } else if is_word(subcommand, "CONSUMERS") {
-        (Topic::Consumers, n == 2)
+        Some(Topic::Consumers)
     } else {
-        return Err(unknown_subcommand(alloc, word, subcommand));
-    };
-    if is_right {
-        Ok(topic)
-    } else {
-        Err(wrong_subcount(alloc, word, subcommand))
+        None
+    }
+}
+
+/// Whether so many arguments may stand behind the topic.
+fn has_right_count(topic: Topic, count: usize) -> bool {
+    match topic {
+        Topic::Stream => count >= 1,
+        Topic::Groups => count == 1,
+        Topic::Consumers => count == 2,
     }
 }
 
@@ -95,53 +131,46 @@ fn full_in(
     }
 }
 
+/// More names with their answers.
+fn put_rows(
+    alloc: Global,
+    rows: &mut Vec<(Vec<u8>, Answer)>,
+    more: Vec<(&str, Answer)>,
+) -> Result<(), AllocError> {
+    for (name, answer) in more {
+        put_row(alloc, rows, name, answer)?;
+    }
+    Ok(())
+}
+
 /// One more name with its answer.
-fn put(
+pub(super) fn put_row(
     alloc: Global,
     rows: &mut Vec<(Vec<u8>, Answer)>,
     name: &str,
     answer: Answer,
 ) -> Result<(), AllocError> {
-    rows.push((Vec::from_slice(alloc, name.as_bytes())?, answer))?;
-    Ok(())
+    let name = Vec::from_slice(alloc, name.as_bytes())?;
+    match rows.push((name, answer)) {
+        Ok(()) => Ok(()),
+        Err(_) => Err(AllocError),
+    }
 }
 
 /// What both forms of XINFO STREAM begin with.
 fn head_rows(alloc: Global, stream: &Stream) -> Result<Vec<(Vec<u8>, Answer)>, AllocError> {
     let mut rows = Vec::new(alloc);
     let nodes = stream.nodes.len();
-    put(alloc, &mut rows, "length", length(stream.entries.len()))?;
-    put(alloc, &mut rows, "radix-tree-keys", length(nodes))?;
-    put(
-        alloc,
-        &mut rows,
-        "radix-tree-nodes",
-        length(nodes.saturating_add(1)),
-    )?;
-    put(
-        alloc,
-        &mut rows,
-        "last-generated-id",
-        Answer::Id(stream.last_id),
-    )?;
-    put(
-        alloc,
-        &mut rows,
-        "max-deleted-entry-id",
-        Answer::Id(stream.max_deleted_id),
-    )?;
-    put(
-        alloc,
-        &mut rows,
-        "entries-added",
-        Answer::Int(stream.entries_added),
-    )?;
-    put(
-        alloc,
-        &mut rows,
-        "recorded-first-entry-id",
-        Answer::Id(stream.first_id()),
-    )?;
+    let head = vec![in alloc;
+        ("length", length(stream.entries.len())),
+        ("radix-tree-keys", length(nodes)),
+        ("radix-tree-nodes", length(nodes.saturating_add(1))),
+        ("last-generated-id", Answer::Id(stream.last_id)),
+        ("max-deleted-entry-id", Answer::Id(stream.max_deleted_id)),
+        ("entries-added", Answer::Int(stream.entries_added)),
+        ("recorded-first-entry-id", Answer::Id(stream.first_id())),
+    ]?;
+    put_rows(alloc, &mut rows, head)?;
     Ok(rows)
 }
 
@@ -150,18 +179,23 @@ fn stream_info(alloc: Global, stream: &Stream) -> Result<Answer, AllocError>
     ensures { IfOk result IsInfo }
 {
     let mut rows = head_rows(alloc, stream)?;
-    put(alloc, &mut rows, "groups", length(stream.groups.len()))?;
-    let first = match stream.entries.front() {
-        Some(entry) => entry_answer(alloc, entry)?,
-        None => Answer::Nil,
-    };
-    put(alloc, &mut rows, "first-entry", first)?;
-    let last = match stream.entries.back() {
-        Some(entry) => entry_answer(alloc, entry)?,
-        None => Answer::Nil,
-    };
-    put(alloc, &mut rows, "last-entry", last)?;
+    let first = maybe_entry(alloc, stream.entries.front())?;
+    let last = maybe_entry(alloc, stream.entries.back())?;
+    let rest = vec![in alloc;
+        ("groups", length(stream.groups.len())),
+        ("first-entry", first),
+        ("last-entry", last),
+    ]?;
+    put_rows(alloc, &mut rows, rest)?;
     Ok(Answer::Map(rows))
+}
+
+/// The entry, or nil where there is none.
+fn maybe_entry(alloc: Global, entry: Option<&Entry>) -> Result<Answer, AllocError> {
+    match entry {
+        Some(entry) => entry_answer(alloc, entry),
+        None => Ok(Answer::Nil),
+    }
 }
 
 /// `XINFO GROUPS key`
@@ -170,21 +204,25 @@ fn groups_info(alloc: Global, stream: &Stream) -> Result<Answer, AllocError>
 {
     let mut all = Vec::new(alloc);
     for group in &stream.groups {
-        let mut rows = Vec::new(alloc);
-        put(alloc, &mut rows, "name", Answer::Bytes(group.name.clone()?))?;
-        put(alloc, &mut rows, "consumers", length(group.consumers.len()))?;
-        put(alloc, &mut rows, "pending", length(group.pending.len()))?;
-        put(
-            alloc,
-            &mut rows,
-            "last-delivered-id",
-            Answer::Id(group.last_id),
-        )?;
-        put(alloc, &mut rows, "entries-read", maybe(group.entries_read))?;
-        put(alloc, &mut rows, "lag", maybe(lag(stream, group)))?;
-        all.push(Answer::Map(rows))?;
+        put(&mut all, group_info(alloc, stream, group)?)?;
     }
     Ok(Answer::Array(all))
+}
+
+/// What XINFO GROUPS tells of one group.
+fn group_info(alloc: Global, stream: &Stream, group: &Group) -> Result<Answer, AllocError> {
+    let name = bytes_answer(alloc, &group.name)?;
+    let told = vec![in alloc;
+        ("name", name),
+        ("consumers", length(group.consumers.len())),
+        ("pending", length(group.pending.len())),
+        ("last-delivered-id", Answer::Id(group.last_id)),
+        ("entries-read", maybe(group.entries_read)),
+        ("lag", maybe(lag(stream, group))),
+    ]?;
+    let mut rows = Vec::new(alloc);
+    put_rows(alloc, &mut rows, told)?;
+    Ok(Answer::Map(rows))
 }
 
 /// A number, or nil where it is not known.
@@ -215,17 +253,20 @@ fn consumers_info(alloc: Global, group: &Group, now: u64) -> Result<Answer, Allo
 {
     let mut all = Vec::new(alloc);
     for consumer in &group.consumers {
-        let mut rows = Vec::new(alloc);
-        let idle = now.saturating_sub(consumer.seen_at);
-        put(
-            alloc,
-            &mut rows,
-            "name",
-            Answer::Bytes(consumer.name.clone()?),
-        )?;
-        put(alloc, &mut rows, "pending", number(consumer.pending))?;
-        put(alloc, &mut rows, "idle", number(idle))?;
-        all.push(Answer::Map(rows))?;
+        put(&mut all, consumer_info(alloc, consumer, now)?)?;
     }
     Ok(Answer::Array(all))
+}
+
+/// What XINFO CONSUMERS tells of one consumer.
+fn consumer_info(alloc: Global, consumer: &Consumer, now: u64) -> Result<Answer, AllocError> {
+    let name = bytes_answer(alloc, &consumer.name)?;
+    let told = vec![in alloc;
+        ("name", name),
+        ("pending", number(consumer.pending)),
+        ("idle", number(now.saturating_sub(consumer.seen_at))),
+    ]?;
+    let mut rows = Vec::new(alloc);
+    put_rows(alloc, &mut rows, told)?;
+    Ok(Answer::Map(rows))
 }

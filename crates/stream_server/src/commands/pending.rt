@@ -3,14 +3,14 @@ ghost use Rattle.std.specs.Prelude.{IfOk};
 ghost use Rattle.stream_server.specs.Kinds.{IsArray};
 
 use super::{
-    SYNTAX, count, group_of, interval_end, interval_start, is_word, length, name_of, no_group,
-    number, stream_of,
+    SYNTAX, array, bytes_answer, count, group_for, interval_end, interval_start, is_word, length,
+    name_of, number, put, stream_for,
 };
 use crate::answer::Answer;
 use crate::refusal::Refusal;
 use itoa::Buffer;
 use std::alloc::{AllocError, Global};
-use stream_store::{EntryId, Group, Stream};
+use stream_store::{Consumer, EntryId, Group, Pending, Stream};
 
 /// Which pending entries are asked for.
 #[derive(Clone, Copy)]
@@ -35,13 +35,8 @@ pub(super) fn pending(
         return Err(SYNTAX);
     };
     let wanted = wanted_in(words)?;
-    let group = match stream_of(streams, key) {
-        Some(stream) => group_of(stream, name),
-        None => None,
-    };
-    let Some(group) = group else {
-        return Err(no_group(alloc, key, name));
-    };
+    let stream = stream_for(alloc, streams, key, name)?;
+    let group = group_for(alloc, stream, key, name)?;
     match wanted {
         Some(wanted) => Ok(Answer::Array(rows(alloc, group, now, wanted)?)),
         None => Ok(Answer::Array(summary(alloc, group)?)),
@@ -56,16 +51,13 @@ fn wanted_in(words: &[Vec<u8>]) -> Result<Option<Wanted<'_>>, Refusal> {
     if words.len() < 3 || words.len() > 6 {
         return Err(SYNTAX);
     }
-    let mut least_idle = 0;
-    let mut rest = words;
-    if let [word, text, behind @ ..] = words {
-        if is_word(word, "IDLE") {
-            least_idle = count(text)?;
-            rest = behind;
-        }
-    }
+    let (least_idle, rest) = least_idle_at(words)?;
     let [start, end, most, consumer @ ..] = rest else {
         return Err(SYNTAX);
+    };
+    let consumer = match consumer {
+        [name, ..] => Some(name.as_slice()),
+        [] => None,
     };
     let most = count(most)?;
     let start = interval_start(start)?;
@@ -75,8 +67,16 @@ fn wanted_in(words: &[Vec<u8>]) -> Result<Option<Wanted<'_>>, Refusal> {
         end,
         most,
         least_idle,
-        consumer: consumer.first().map(|name| name.as_slice()),
+        consumer,
     }))
+}
+
+/// `[IDLE ms]`, 0 where it is missing, and the words behind it.
+fn least_idle_at(words: &[Vec<u8>]) -> Result<(u64, &[Vec<u8>]), Refusal> {
+    match words {
+        [word, text, behind @ ..] if is_word(word, "IDLE") => Ok((count(text)?, behind)),
+        _ => Ok((0, words)),
+    }
 }
 
 /// A row for each of them.
@@ -106,35 +106,33 @@ fn rows(
         };
         if is_wanted && idle >= wanted.least_idle {
             left -= 1;
-            let mut row = Vec::with_capacity(alloc, 4)?;
-            row.push(Answer::Id(pending.id))?;
-            let name = Vec::from_slice(alloc, name_of(group, pending.consumer))?;
-            row.push(Answer::Bytes(name))?;
-            row.push(number(idle))?;
-            row.push(number(pending.deliveries))?;
-            rows.push(Answer::Array(row))?;
+            put(&mut rows, row(alloc, group, pending, idle)?)?;
         }
     }
     Ok(rows)
 }
 
+/// What is told of a pending entry that was given so long ago.
+fn row(alloc: Global, group: &Group, pending: &Pending, idle: u64) -> Result<Answer, AllocError> {
+    let id = Answer::Id(pending.id);
+    let name = bytes_answer(alloc, name_of(group, pending.consumer))?;
+    array(alloc, [id, name, number(idle), number(pending.deliveries)])
+}
+
 /// How many entries are pending, the first and the last one, and how many for which consumer.
 fn summary(alloc: Global, group: &Group) -> Result<Vec<Answer>, AllocError> {
-    let mut row = Vec::with_capacity(alloc, 4)?;
-    row.push(length(group.pending.len()))?;
-    match (group.pending.first(), group.pending.last()) {
+    let pending = length(group.pending.len());
+    let row = match (group.pending.first(), group.pending.last()) {
         (Some(first), Some(last)) => {
-            row.push(Answer::Id(first.id))?;
-            row.push(Answer::Id(last.id))?;
-            row.push(Answer::Array(counts(alloc, group)?))?;
+            let counts = Answer::Array(counts(alloc, group)?);
+            [pending, Answer::Id(first.id), Answer::Id(last.id), counts]
         }
-        _ => {
-            row.push(Answer::Nil)?;
-            row.push(Answer::Nil)?;
-            row.push(Answer::NilArray)?;
-        }
+        _ => [pending, Answer::Nil, Answer::Nil, Answer::NilArray],
+    };
+    match Vec::from_array(alloc, row) {
+        Ok(row) => Ok(row),
+        Err(_) => Err(AllocError),
     }
-    Ok(row)
 }
 
 /// How many entries are pending for which consumer, where there are any.
@@ -142,13 +140,17 @@ fn counts(alloc: Global, group: &Group) -> Result<Vec<Answer>, AllocError> {
     let mut counts = Vec::new(alloc);
     for consumer in &group.consumers {
         if consumer.pending != 0 {
-            let mut buffer = Buffer::new();
-            let digits = buffer.format::<u64>(consumer.pending).as_bytes();
-            let mut both = Vec::with_capacity(alloc, 2)?;
-            both.push(Answer::Bytes(consumer.name.clone()?))?;
-            both.push(Answer::Bytes(Vec::from_slice(alloc, digits)?))?;
-            counts.push(Answer::Array(both))?;
+            put(&mut counts, count_of(alloc, consumer)?)?;
         }
     }
     Ok(counts)
+}
+
+/// A consumer's name, and how many entries are pending for it.
+fn count_of(alloc: Global, consumer: &Consumer) -> Result<Answer, AllocError> {
+    let mut buffer = Buffer::new();
+    let digits = buffer.format::<u64>(consumer.pending).as_bytes();
+    let name = bytes_answer(alloc, &consumer.name)?;
+    let count = bytes_answer(alloc, digits)?;
+    array(alloc, [name, count])
 }

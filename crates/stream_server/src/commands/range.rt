@@ -3,7 +3,7 @@ ghost use Rattle.std.specs.Prelude.{IfOk};
 ghost use Rattle.stream_server.specs.Kinds.{IsArray};
 
 use super::{
-    SYNTAX, count, entries_up, entry_answer, interval_end, interval_start, is_word, stream_of,
+    SYNTAX, count, entries_up, entry_answer, interval_end, interval_start, is_word, put, stream_of,
 };
 use crate::answer::Answer;
 use crate::refusal::Refusal;
@@ -79,7 +79,7 @@ fn entries_down(
             break;
         }
         left -= 1;
-        answers.push(entry_answer(alloc, entry)?)?;
+        put(&mut answers, entry_answer(alloc, entry)?)?;
     }
     Ok(answers)
 }

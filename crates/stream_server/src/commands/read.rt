@@ -3,8 +3,8 @@ ghost use Rattle.std.specs.Prelude.{◌≡◌, IfOk, OnErr};
 ghost use Rattle.stream_server.specs.Kinds.{IsRows};
 
 use super::{
-    SYNTAX, count, entries_up, entry_answer, group_of, id, integer_in, is_word, put_group,
-    refusal_of, stream_of,
+    SYNTAX, array, count, entries_up, entry_answer, group_of, id, integer_in, is_word, put,
+    put_group, refusal_of, stream_of,
 };
 use crate::answer::Answer;
 use crate::refusal::Refusal;
@@ -59,19 +59,57 @@ pub(super) fn read(
     ensures { IfOk result IsRows }
 {
     let options = options_in(arguments, false)?;
+    let starts = starts_of(alloc, streams, &options)?;
+    let mut rows = Vec::new(alloc);
+    for (key, start) in options.keys.iter().zip(starts) {
+        let entries = entries_behind(alloc, streams, key, start, options.most)?;
+        put_stream(alloc, &mut rows, key, entries)?;
+    }
+    Ok(rows_answer(rows))
+}
+
+/// Behind which ids XREAD begins.
+fn starts_of(
+    alloc: Global,
+    streams: &[Stream],
+    options: &ReadOptions<'_>,
+) -> Result<Vec<EntryId>, Refusal> {
     let mut starts = Vec::new(alloc);
     for (key, text) in options.keys.iter().zip(options.ids) {
         starts.push(start_of(stream_of(streams, key), text)?)?;
     }
-    let mut rows = Vec::new(alloc);
-    for (key, start) in options.keys.iter().zip(starts) {
-        if let Some(stream) = stream_of(streams, key) {
-            if let Some(entries) = read_behind(alloc, stream, start, options.most)? {
-                rows.push((key.clone()?, Answer::Array(entries)))?;
-            }
-        }
+    Ok(starts)
+}
+
+/// The entries of the stream of this key behind the id, and `None` where there is none.
+fn entries_behind(
+    alloc: Global,
+    streams: &[Stream],
+    key: &[u8],
+    start: EntryId,
+    most: u64,
+) -> Result<Option<Vec<Answer>>, AllocError> {
+    match stream_of(streams, key) {
+        Some(stream) => read_behind(alloc, stream, start, most),
+        None => Ok(None),
     }
-    Ok(rows_answer(rows))
+}
+
+/// One more row, where there are entries.
+fn put_stream(
+    alloc: Global,
+    rows: &mut Vec<(Vec<u8>, Answer)>,
+    key: &[u8],
+    entries: Option<Vec<Answer>>,
+) -> Result<(), AllocError> {
+    let Some(entries) = entries else {
+        return Ok(());
+    };
+    let key = Vec::from_slice(alloc, key)?;
+    match rows.push((key, Answer::Array(entries))) {
+        Ok(()) => Ok(()),
+        Err(_) => Err(AllocError),
+    }
 }
 
 /// `XREADGROUP GROUP group consumer [COUNT n] [BLOCK ms] [NOACK] STREAMS key .. id ..`. It does not
@@ -102,34 +140,61 @@ fn given<'a>(
     changes: &mut Vec<Change<'a>>,
 ) -> Result<Vec<(Vec<u8>, Answer)>, Refusal> {
     let options = options_in(arguments, true)?;
-    let Some((group, consumer)) = options.names else {
-        return Err(Refusal::Fixed("ERR Missing GROUP option for XREADGROUP"));
-    };
-    let reader = Reader {
-        group,
-        consumer,
-        acknowledges: options.acknowledges,
-        now,
-        most: options.most,
-    };
+    let reader = reader_of(&options, now)?;
+    let starts = group_starts(alloc, streams, &options, reader.group)?;
+    let mut rows = Vec::new(alloc);
+    for (key, start) in options.keys.iter().zip(starts) {
+        let entries = read_stream(alloc, streams, key, reader, start, changes)?;
+        put_stream(alloc, &mut rows, key, entries)?;
+    }
+    Ok(rows)
+}
+
+/// The consumer that reads.
+fn reader_of<'a>(options: &ReadOptions<'a>, now: u64) -> Result<Reader<'a>, Refusal> {
+    match options.names {
+        Some((group, consumer)) => Ok(Reader {
+            group,
+            consumer,
+            acknowledges: options.acknowledges,
+            now,
+            most: options.most,
+        }),
+        None => Err(Refusal::Fixed("ERR Missing GROUP option for XREADGROUP")),
+    }
+}
+
+/// Where XREADGROUP begins in each stream.
+fn group_starts(
+    alloc: Global,
+    streams: &[Stream],
+    options: &ReadOptions<'_>,
+    group: &[u8],
+) -> Result<Vec<Start>, Refusal> {
     let mut starts = Vec::new(alloc);
     for (key, text) in options.keys.iter().zip(options.ids) {
         starts.push(group_start_of(alloc, streams, key, text, group)?)?;
     }
-    let mut rows = Vec::new(alloc);
-    for (key, start) in options.keys.iter().zip(starts) {
-        let Some(stream) = stream_of(streams, key) else {
-            continue;
-        };
-        let place = changed_group(alloc, stream, key, group, changes)?;
-        let Some(change) = changes.get_mut(place) else {
-            continue;
-        };
-        if let Some(entries) = read_as(alloc, stream, &mut change.group, reader, start)? {
-            rows.push((key.clone()?, Answer::Array(entries)))?;
-        }
+    Ok(starts)
+}
+
+/// What the consumer is given of the stream of this key.
+fn read_stream<'a>(
+    alloc: Global,
+    streams: &[Stream],
+    key: &'a [u8],
+    reader: Reader<'_>,
+    start: Start,
+    changes: &mut Vec<Change<'a>>,
+) -> Result<Option<Vec<Answer>>, Refusal> {
+    let Some(stream) = stream_of(streams, key) else {
+        return Ok(None);
+    };
+    let place = changed_group(alloc, stream, key, reader.group, changes)?;
+    match changes.get_mut(place) {
+        Some(change) => Ok(read_as(alloc, stream, &mut change.group, reader, start)?),
+        None => Ok(None),
     }
-    Ok(rows)
 }
 
 /// The index of the copy of the group that is changed.
@@ -206,13 +271,11 @@ fn option_at<'a>(
     is_group: bool,
 ) -> Result<&'a [Vec<u8>], Refusal> {
     match words {
-        [word, text, behind @ ..] if is_word(word, "BLOCK") => {
-            check_timeout(text)?;
-            Ok(behind)
-        }
-        [word, text, behind @ ..] if is_word(word, "COUNT") => {
-            let most = count(text)?;
-            options.most = if most == 0 { u64::MAX } else { most };
+        [word, behind @ ..] if is_word(word, "NOACK") => {
+            if !is_group {
+                return Err(Refusal::Fixed(NOACK_ALONE));
+            }
+            options.acknowledges = true;
             Ok(behind)
         }
         [word, group, consumer, behind @ ..] if is_word(word, "GROUP") => {
@@ -222,15 +285,25 @@ fn option_at<'a>(
             options.names = Some((group.as_slice(), consumer.as_slice()));
             Ok(behind)
         }
-        [word, behind @ ..] if is_word(word, "NOACK") => {
-            if !is_group {
-                return Err(Refusal::Fixed(NOACK_ALONE));
-            }
-            options.acknowledges = true;
+        [word, text, behind @ ..] => {
+            options.most = most_after(options.most, word, text)?;
             Ok(behind)
         }
         _ => Err(SYNTAX),
     }
+}
+
+/// Reads `BLOCK ms` or `COUNT n`, and gives how many entries are read at most.
+fn most_after(most: u64, word: &[u8], text: &[u8]) -> Result<u64, Refusal> {
+    if is_word(word, "BLOCK") {
+        check_timeout(text)?;
+        return Ok(most);
+    }
+    if !is_word(word, "COUNT") {
+        return Err(SYNTAX);
+    }
+    let most = count(text)?;
+    Ok(if most == 0 { u64::MAX } else { most })
 }
 
 /// Whether it is a time to wait.
@@ -360,22 +433,29 @@ fn reread(
         }
         if pending.consumer == number {
             left -= 1;
-            match stream.get(pending.id) {
-                Some(entry) => {
-                    answers.push(entry_answer(alloc, entry)?)?;
-                    pending.given_at = reader.now;
-                    pending.deliveries = pending.deliveries.saturating_add(1);
-                }
-                None => {
-                    let mut both = Vec::with_capacity(alloc, 2)?;
-                    both.push(Answer::Id(pending.id))?;
-                    both.push(Answer::NilArray)?;
-                    answers.push(Answer::Array(both))?;
-                }
-            }
+            put(
+                &mut answers,
+                given_again(alloc, stream, pending, reader.now)?,
+            )?;
         }
     }
     Ok(answers)
+}
+
+/// The entry, which is given once more, or its id and nil where it was deleted.
+fn given_again(
+    alloc: Global,
+    stream: &Stream,
+    pending: &mut Pending,
+    now: u64,
+) -> Result<Answer, AllocError> {
+    let Some(entry) = stream.get(pending.id) else {
+        return array(alloc, [Answer::Id(pending.id), Answer::NilArray]);
+    };
+    let answer = entry_answer(alloc, entry)?;
+    pending.given_at = now;
+    pending.deliveries = pending.deliveries.saturating_add(1);
+    Ok(answer)
 }
 
 /// New entries are the consumer's, and pending unless they are acknowledged at once.

@@ -6,7 +6,7 @@ use super::{SYNTAX, id, ids, integer, is_word, number, place_of, place_of_group}
 use crate::answer::Answer;
 use crate::refusal::Refusal;
 use std::alloc::Global;
-use stream_store::{EntryId, Stream};
+use stream_store::{EntryId, Group, Stream};
 
 /// `DEL key ..`: how many of the streams were there.
 pub(super) fn remove_keys(streams: &mut Vec<Stream>, keys: &[Vec<u8>]) -> usize
@@ -36,14 +36,18 @@ pub(super) fn delete(
         return Ok(Answer::Int(0));
     };
     let ids = ids(alloc, words)?;
-    let stream = &mut streams[index];
+    Ok(number(remove_all(&mut streams[index], &ids)))
+}
+
+/// Removes the entries, and counts those that were there.
+fn remove_all(stream: &mut Stream, ids: &[EntryId]) -> u64 {
     let mut count = 0u64;
     for id in ids {
-        if stream.remove(id) {
+        if stream.remove(*id) {
             count = count.saturating_add(1);
         }
     }
-    Ok(number(count))
+    count
 }
 
 /// `XTRIM key MAXLEN | MINID [= | ~] threshold [LIMIT count]`
@@ -82,14 +86,18 @@ pub(super) fn acknowledge(
         return Ok(Answer::Int(0));
     };
     let ids = ids(alloc, words)?;
-    let group = &mut streams[index].groups[place];
+    Ok(number(acknowledge_all(&mut streams[index].groups[place], &ids)))
+}
+
+/// Acknowledges the entries, and counts those that were pending.
+fn acknowledge_all(group: &mut Group, ids: &[EntryId]) -> u64 {
     let mut count = 0u64;
     for id in ids {
-        if group.acknowledge(id) {
+        if group.acknowledge(*id) {
             count = count.saturating_add(1);
         }
     }
-    Ok(number(count))
+    count
 }
 
 /// What XSETID sets.
@@ -147,33 +155,50 @@ fn state_in(last: &[u8], options: &[Vec<u8>]) -> Result<NewState, Refusal> {
     };
     let mut rest = options;
     for _ in 0..options.len() {
-        match rest {
-            [] => break,
-            [word, text, behind @ ..] if is_word(word, "ENTRIESADDED") => {
-                let added = integer(text)?;
-                if added < 0 {
-                    return Err(Refusal::Fixed("ERR entries_added must be positive"));
-                }
-                state.entries_added = Some(added);
-                rest = behind;
-            }
-            [word, text, behind @ ..] if is_word(word, "MAXDELETEDID") => {
-                let deleted = id(text)?;
-                if last_id < deleted {
-                    return Err(Refusal::Fixed(
-                        "ERR The ID specified in XSETID is smaller than the \
-                                provided max_deleted_entry_id",
-                    ));
-                }
-                state.max_deleted_id = if deleted == EntryId::ZERO {
-                    None
-                } else {
-                    Some(deleted)
-                };
-                rest = behind;
-            }
-            _ => return Err(SYNTAX),
+        if rest.is_empty() {
+            break;
         }
+        rest = option_at(&mut state, rest)?;
     }
     Ok(state)
+}
+
+/// Reads one option, and gives the words behind it.
+fn option_at<'w>(state: &mut NewState, words: &'w [Vec<u8>]) -> Result<&'w [Vec<u8>], Refusal> {
+    let [word, text, behind @ ..] = words else {
+        return Err(SYNTAX);
+    };
+    if is_word(word, "ENTRIESADDED") {
+        state.entries_added = Some(added_in(text)?);
+    } else if is_word(word, "MAXDELETEDID") {
+        state.max_deleted_id = deleted_in(state.last_id, text)?;
+    } else {
+        return Err(SYNTAX);
+    }
+    Ok(behind)
+}
+
+/// How many entries were added.
+fn added_in(text: &[u8]) -> Result<i64, Refusal> {
+    let added = integer(text)?;
+    if added < 0 {
+        return Err(Refusal::Fixed("ERR entries_added must be positive"));
+    }
+    Ok(added)
+}
+
+/// The largest id that was deleted, which is not above the last one; 0-0 says none.
+fn deleted_in(last_id: EntryId, text: &[u8]) -> Result<Option<EntryId>, Refusal> {
+    let deleted = id(text)?;
+    if last_id < deleted {
+        return Err(Refusal::Fixed(
+            "ERR The ID specified in XSETID is smaller than the \
+                    provided max_deleted_entry_id",
+        ));
+    }
+    if deleted == EntryId::ZERO {
+        Ok(None)
+    } else {
+        Ok(Some(deleted))
+    }
 }

@@ -40,19 +40,30 @@ pub(super) fn retention_in(words: &[Vec<u8>], is_add: bool) -> Result<Retention,
         limit: None,
         id: None,
     };
+    let rest = read_options(&mut draft, words, is_add)?;
+    let trim = trim_of(&draft, is_add)?;
+    Ok(Retention {
+        makes_stream: draft.makes_stream,
+        trim,
+        id: draft.id.unwrap_or(NewId::Automatic),
+        len: words.len().saturating_sub(rest.len()),
+    })
+}
+
+/// Reads the options, up to the id of XADD, and gives the words behind them.
+fn read_options<'a>(
+    draft: &mut Draft,
+    words: &'a [Vec<u8>],
+    is_add: bool,
+) -> Result<&'a [Vec<u8>], Refusal> {
     let mut rest = words;
     for _ in 0..words.len() {
         if draft.id.is_some() || rest.is_empty() {
             break;
         }
-        rest = option_at(&mut draft, rest, is_add)?;
+        rest = option_at(draft, rest, is_add)?;
     }
-    Ok(Retention {
-        makes_stream: draft.makes_stream,
-        trim: trim_of(&draft, is_add)?,
-        id: draft.id.unwrap_or(NewId::Automatic),
-        len: words.len().saturating_sub(rest.len()),
-    })
+    Ok(rest)
 }
 
 /// Reads one option, and gives the words behind it.
@@ -64,37 +75,53 @@ fn option_at<'a>(
     let [word, behind @ ..] = words else {
         return Ok(words);
     };
-    if is_add && word.as_slice() == b"*".as_slice() {
-        draft.id = Some(NewId::Automatic);
-        return Ok(behind);
-    }
-    if (is_word(word, "maxlen") || is_word(word, "minid")) && !behind.is_empty() {
-        if draft.bound.is_some() {
-            return Err(Refusal::Fixed(TWO_BOUNDS));
+    match behind {
+        [_, ..] if is_word(word, "maxlen") || is_word(word, "minid") => {
+            bound_at(draft, word, behind)
         }
-        let (mode, threshold, after) = threshold_at(behind)?;
-        draft.is_approximate = mode;
-        draft.bound = Some(bound_of(word, threshold)?);
-        return Ok(after);
-    }
-    if is_word(word, "limit") {
-        if let [text, after @ ..] = behind {
-            let Ok(limit) = u64::try_from(integer(text)?) else {
-                return Err(Refusal::Fixed("ERR The LIMIT argument must be >= 0."));
-            };
-            draft.limit = Some(limit);
-            return Ok(after);
+        [text, after @ ..] if is_word(word, "limit") => {
+            draft.limit = Some(limit_in(text)?);
+            Ok(after)
         }
+        _ if is_add => {
+            put_word(draft, word)?;
+            Ok(behind)
+        }
+        _ => Err(SYNTAX),
     }
-    if is_add && is_word(word, "nomkstream") {
+}
+
+/// Reads the bound of this name, and gives the words behind it.
+fn bound_at<'a>(
+    draft: &mut Draft,
+    word: &[u8],
+    words: &'a [Vec<u8>],
+) -> Result<&'a [Vec<u8>], Refusal> {
+    if draft.bound.is_some() {
+        return Err(Refusal::Fixed(TWO_BOUNDS));
+    }
+    let (mode, threshold, after) = threshold_at(words)?;
+    draft.is_approximate = mode;
+    draft.bound = Some(bound_of(word, threshold)?);
+    Ok(after)
+}
+
+/// The number of LIMIT.
+fn limit_in(text: &[u8]) -> Result<u64, Refusal> {
+    match u64::try_from(integer(text)?) {
+        Ok(limit) => Ok(limit),
+        Err(_) => Err(Refusal::Fixed("ERR The LIMIT argument must be >= 0.")),
+    }
+}
+
+/// Reads a word of XADD that stands alone: its flag or the id.
+fn put_word(draft: &mut Draft, word: &[u8]) -> Result<(), Refusal> {
+    if is_word(word, "nomkstream") {
         draft.makes_stream = false;
-        return Ok(behind);
-    }
-    if is_add {
+    } else {
         draft.id = Some(new_id(word).ok_or(INVALID_ID)?);
-        return Ok(behind);
     }
-    Err(SYNTAX)
+    Ok(())
 }
 
 const TWO_BOUNDS: &str = "ERR syntax error, MAXLEN and MINID options at the same time \

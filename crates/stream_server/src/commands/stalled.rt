@@ -2,8 +2,8 @@
 ghost use Rattle.std.specs.Prelude.{◌≡◌, OnErr};
 
 use super::{
-    SYNTAX, entry_answer, group_of, integer_in, interval_start, is_word, no_group, put_group,
-    stream_of,
+    SYNTAX, array, claimed_answer, group_for, integer_in, interval_start, is_word, put, put_group,
+    stream_for,
 };
 use crate::answer::Answer;
 use crate::refusal::Refusal;
@@ -44,9 +44,9 @@ pub(super) fn claim_stalled(
     let [key, ..] = arguments else {
         return Err(SYNTAX);
     };
-    let (group, row) = claimed(alloc, streams, now, arguments)?;
+    let (group, answer) = claimed(alloc, streams, now, arguments)?;
     put_group(streams, key, group);
-    Ok(Answer::Array(row))
+    Ok(answer)
 }
 
 /// The group as it is then, and what is answered.
@@ -55,31 +55,47 @@ fn claimed(
     streams: &[Stream],
     now: u64,
     arguments: &[Vec<u8>],
-) -> Result<(Group, Vec<Answer>), Refusal> {
+) -> Result<(Group, Answer), Refusal> {
     let [key, name, consumer, least_idle, start, words @ ..] = arguments else {
         return Err(SYNTAX);
     };
     let claim = claim_in(consumer, now, least_idle, start, words)?;
-    let Some(stream) = stream_of(streams, key) else {
-        return Err(no_group(alloc, key, name));
-    };
-    let Some(group) = group_of(stream, name) else {
-        return Err(no_group(alloc, key, name));
-    };
+    let stream = stream_for(alloc, streams, key, name)?;
+    let group = group_for(alloc, stream, key, name)?;
     let mut group = group.clone()?;
-    let stalled = stalled_in(alloc, stream, &group, &claim)?;
+    let answer = take_stalled(alloc, stream, &mut group, &claim)?;
+    Ok((group, answer))
+}
+
+/// Where the next claim goes on, what the consumer takes over, and the ids that are gone.
+fn take_stalled(
+    alloc: Global,
+    stream: &Stream,
+    group: &mut Group,
+    claim: &Claim<'_>,
+) -> Result<Answer, AllocError> {
+    let stalled = stalled_in(alloc, stream, group, claim)?;
     let next = stalled.next;
+    let gone = drop_gone(alloc, group, &stalled.gone)?;
+    let answers = take_over(alloc, stream, group, &stalled.claimed, claim)?;
+    array(
+        alloc,
+        [
+            Answer::Id(next),
+            Answer::Array(answers),
+            Answer::Array(gone),
+        ],
+    )
+}
+
+/// What is no longer in the stream is no longer pending.
+fn drop_gone(alloc: Global, group: &mut Group, ids: &[EntryId]) -> Result<Vec<Answer>, AllocError> {
     let mut gone = Vec::new(alloc);
-    for id in &stalled.gone {
+    for id in ids {
         let _was_pending = group.acknowledge(*id);
-        gone.push(Answer::Id(*id))?;
+        put(&mut gone, Answer::Id(*id))?;
     }
-    let answers = take_over(alloc, stream, &mut group, &stalled.claimed, &claim)?;
-    let mut row = Vec::with_capacity(alloc, 3)?;
-    row.push(Answer::Id(next))?;
-    row.push(Answer::Array(answers))?;
-    row.push(Answer::Array(gone))?;
-    Ok((group, row))
+    Ok(gone)
 }
 
 /// The arguments behind the names of the key and the group.
@@ -103,23 +119,35 @@ fn claim_in<'a>(
     };
     let mut rest = words;
     for _ in 0..words.len() {
-        match rest {
-            [] => break,
-            [word, text, behind @ ..] if is_word(word, "COUNT") => {
-                claim.most = match u64::try_from(integer_in(text).unwrap_or(0)) {
-                    Ok(n) if n > 0 && n <= 576_460_752_303_423_487 => n,
-                    _ => return Err(Refusal::Fixed("ERR COUNT must be > 0")),
-                };
-                rest = behind;
-            }
-            [word, behind @ ..] if is_word(word, "JUSTID") => {
-                claim.only_ids = true;
-                rest = behind;
-            }
-            _ => return Err(SYNTAX),
+        if rest.is_empty() {
+            break;
         }
+        rest = option_at(&mut claim, rest)?;
     }
     Ok(claim)
+}
+
+/// Reads one option, and gives the words behind it.
+fn option_at<'w>(claim: &mut Claim<'_>, words: &'w [Vec<u8>]) -> Result<&'w [Vec<u8>], Refusal> {
+    match words {
+        [word, text, behind @ ..] if is_word(word, "COUNT") => {
+            claim.most = most_in(text)?;
+            Ok(behind)
+        }
+        [word, behind @ ..] if is_word(word, "JUSTID") => {
+            claim.only_ids = true;
+            Ok(behind)
+        }
+        _ => Err(SYNTAX),
+    }
+}
+
+/// How many entries are claimed at most.
+fn most_in(text: &[u8]) -> Result<u64, Refusal> {
+    match u64::try_from(integer_in(text).unwrap_or(0)) {
+        Ok(n) if n > 0 && n <= 576_460_752_303_423_487 => Ok(n),
+        _ => Err(Refusal::Fixed("ERR COUNT must be > 0")),
+    }
 }
 
 /// What the claim finds; it looks at ten times as many entries as it may take.
@@ -176,10 +204,8 @@ fn take_over(
             given_at: claim.now,
             deliveries: pending.deliveries.saturating_add(more),
         })?;
-        if claim.only_ids {
-            answers.push(Answer::Id(pending.id))?;
-        } else if let Some(entry) = stream.get(pending.id) {
-            answers.push(entry_answer(alloc, entry)?)?;
+        if let Some(entry) = stream.get(pending.id) {
+            put(&mut answers, claimed_answer(alloc, entry, claim.only_ids)?)?;
         }
     }
     Ok(answers)

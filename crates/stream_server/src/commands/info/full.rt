@@ -2,11 +2,11 @@
 ghost use Rattle.std.specs.Prelude.{IfOk};
 ghost use Rattle.stream_server.specs.Kinds.{IsInfo};
 
-use super::{head_rows, lag, maybe, put};
+use super::{head_rows, lag, maybe, put_rows};
 use crate::answer::Answer;
-use crate::commands::{entries_up, length, name_of, number};
+use crate::commands::{array, bytes_answer, entries_up, length, name_of, number, put};
 use std::alloc::{AllocError, Global};
-use stream_store::{Consumer, EntryId, Group, Stream};
+use stream_store::{Consumer, EntryId, Group, Pending, Stream};
 
 /// The stream with its entries and groups, `most` of each kind at most.
 pub(super) fn stream_in_full(
@@ -19,13 +19,22 @@ pub(super) fn stream_in_full(
     let most = if most == 0 { u64::MAX } else { most };
     let mut rows = head_rows(alloc, stream)?;
     let entries = entries_up(alloc, stream, EntryId::ZERO, EntryId::LAST, most)?;
-    put(alloc, &mut rows, "entries", Answer::Array(entries))?;
+    let groups = groups_in_full(alloc, stream, most)?;
+    let rest = vec![in alloc;
+        ("entries", Answer::Array(entries)),
+        ("groups", Answer::Array(groups)),
+    ]?;
+    put_rows(alloc, &mut rows, rest)?;
+    Ok(Answer::Map(rows))
+}
+
+/// The groups of the stream.
+fn groups_in_full(alloc: Global, stream: &Stream, most: u64) -> Result<Vec<Answer>, AllocError> {
     let mut groups = Vec::new(alloc);
     for group in &stream.groups {
-        groups.push(group_in_full(alloc, stream, group, most)?)?;
+        put(&mut groups, group_in_full(alloc, stream, group, most)?)?;
     }
-    put(alloc, &mut rows, "groups", Answer::Array(groups))?;
-    Ok(Answer::Map(rows))
+    Ok(groups)
 }
 
 /// A group with what is pending, for all and for each of its consumers.
@@ -35,29 +44,33 @@ fn group_in_full(
     group: &Group,
     most: u64,
 ) -> Result<Answer, AllocError> {
+    let name = bytes_answer(alloc, &group.name)?;
+    let pending = pending_rows(alloc, group, None, most)?;
+    let consumers = consumers_in_full(alloc, group, most)?;
+    let told = vec![in alloc;
+        ("name", name),
+        ("last-delivered-id", Answer::Id(group.last_id)),
+        ("entries-read", maybe(group.entries_read)),
+        ("lag", maybe(lag(stream, group))),
+        ("pel-count", length(group.pending.len())),
+        ("pending", Answer::Array(pending)),
+        ("consumers", Answer::Array(consumers)),
+    ]?;
     let mut rows = Vec::new(alloc);
-    put(alloc, &mut rows, "name", Answer::Bytes(group.name.clone()?))?;
-    put(
-        alloc,
-        &mut rows,
-        "last-delivered-id",
-        Answer::Id(group.last_id),
-    )?;
-    put(alloc, &mut rows, "entries-read", maybe(group.entries_read))?;
-    put(alloc, &mut rows, "lag", maybe(lag(stream, group)))?;
-    put(alloc, &mut rows, "pel-count", length(group.pending.len()))?;
-    put(
-        alloc,
-        &mut rows,
-        "pending",
-        Answer::Array(pending_rows(alloc, group, None, most)?),
-    )?;
+    put_rows(alloc, &mut rows, told)?;
+    Ok(Answer::Map(rows))
+}
+
+/// The consumers of the group.
+fn consumers_in_full(alloc: Global, group: &Group, most: u64) -> Result<Vec<Answer>, AllocError> {
     let mut consumers = Vec::new(alloc);
     for consumer in &group.consumers {
-        consumers.push(consumer_in_full(alloc, group, consumer, most)?)?;
+        put(
+            &mut consumers,
+            consumer_in_full(alloc, group, consumer, most)?,
+        )?;
     }
-    put(alloc, &mut rows, "consumers", Answer::Array(consumers))?;
-    Ok(Answer::Map(rows))
+    Ok(consumers)
 }
 
 /// A consumer with what is pending for it.
@@ -67,21 +80,20 @@ fn consumer_in_full(
     consumer: &Consumer,
     most: u64,
 ) -> Result<Answer, AllocError> {
-    let mut rows = Vec::new(alloc);
+    let name = bytes_answer(alloc, &consumer.name)?;
     let pending = pending_rows(alloc, group, Some(consumer.number), most)?;
-    put(
-        alloc,
-        &mut rows,
-        "name",
-        Answer::Bytes(consumer.name.clone()?),
-    )?;
-    put(alloc, &mut rows, "seen-time", number(consumer.seen_at))?;
-    put(alloc, &mut rows, "pel-count", number(consumer.pending))?;
-    put(alloc, &mut rows, "pending", Answer::Array(pending))?;
+    let told = vec![in alloc;
+        ("name", name),
+        ("seen-time", number(consumer.seen_at)),
+        ("pel-count", number(consumer.pending)),
+        ("pending", Answer::Array(pending)),
+    ]?;
+    let mut rows = Vec::new(alloc);
+    put_rows(alloc, &mut rows, told)?;
     Ok(Answer::Map(rows))
 }
 
-/// The id, the consumer's name unless one is asked for, when it was given, and how often.
+/// What is pending for all, or for the one consumer that is asked for.
 fn pending_rows(
     alloc: Global,
     group: &Group,
@@ -100,16 +112,28 @@ fn pending_rows(
         };
         if is_wanted {
             left -= 1;
-            let mut row = Vec::with_capacity(alloc, 4)?;
-            row.push(Answer::Id(pending.id))?;
-            if only.is_none() {
-                let name = Vec::from_slice(alloc, name_of(group, pending.consumer))?;
-                row.push(Answer::Bytes(name))?;
-            }
-            row.push(number(pending.given_at))?;
-            row.push(number(pending.deliveries))?;
-            rows.push(Answer::Array(row))?;
+            put(
+                &mut rows,
+                pending_row(alloc, group, pending, only.is_some())?,
+            )?;
         }
     }
     Ok(rows)
+}
+
+/// The id, the consumer's name unless one is asked for, when it was given, and how often.
+fn pending_row(
+    alloc: Global,
+    group: &Group,
+    pending: &Pending,
+    is_asked_for: bool,
+) -> Result<Answer, AllocError> {
+    let id = Answer::Id(pending.id);
+    let given_at = number(pending.given_at);
+    let deliveries = number(pending.deliveries);
+    if is_asked_for {
+        return array(alloc, [id, given_at, deliveries]);
+    }
+    let name = bytes_answer(alloc, name_of(group, pending.consumer))?;
+    array(alloc, [id, name, given_at, deliveries])
 }
