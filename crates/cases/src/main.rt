@@ -9,18 +9,15 @@
 //! u8       256                                 refused NotNumber: not a number of this type
 //! ```
 //!
-//! The kinds are those of the modules `replies`, `readings`, `notation`, `wire`, `nodes` and `refs`.
+//! The kinds are those of the modules `replies`, `readings`, `notation`, `wire` and `refs`.
 //! Another implementation can be compared line by line.
 //!
 //! It ends with 0, or with 2 if memory ran out, or standard input or output failed.
 #![tactic(auto)]
 
-ghost use Rattle.std.specs.Prelude.{◌≡◌, ◌==◌};
+ghost use Rattle.std.specs.Prelude.{◌≡◌, ◌==◌, ◌<◌, IfSome};
 ghost use Rattle.std.specs.List.{after_first, before_first};
 
-mod calls;
-mod escaped;
-mod nodes;
 mod notation;
 mod plain_line;
 mod readings;
@@ -29,13 +26,19 @@ mod replies;
 mod wire;
 
 use anyhow::Result;
+use redis_resp::{ParsingError, Value};
+use redis_wire::WireError;
 use std::alloc::{AllocError, Global};
 use std::io;
 use std::io::{BufRead, BufReader, BufWriter, Write};
 use std::process::ExitCode;
+use stream_text::{NotationError, read_value};
 
 /// Memory ran out, or standard input or output failed.
 const FAILED: u8 = 2;
+
+/// What is said of bytes that end before their reply does.
+const INCOMPLETE: &str = "incomplete";
 
 fn main(rt: HostRuntime) -> ExitCode {
     match print_outcomes(&rt) {
@@ -94,5 +97,103 @@ fn outcome_of_bytes(alloc: Global, kind: &str, input: &str) -> Result<Option<Str
     match wire::outcome(alloc, kind, input)? {
         Some(text) => Ok(Some(text)),
         None => refs::outcome(alloc, kind, input),
+    }
+}
+
+// What several modules share: outcomes of values, of refusals, and of two calls on one value.
+
+/// The value that a text is, or the outcome of a text that is none.
+fn value_of(alloc: Global, input: &str) -> Result<Result<Value, String>, AllocError> {
+    match read_value(alloc, input) {
+        Ok(value) => Ok(Ok(value)),
+        Err(NotationError::Memory) => Err(AllocError),
+        Err(error) => Ok(Err(format!(in alloc; "no value: {error}")?)),
+    }
+}
+
+/// A refusal as `Debug` and as `Display` print it. That memory ran out is no outcome, and is passed on.
+fn refusal_text(alloc: Global, error: &ParsingError) -> Result<String, AllocError> {
+    match error {
+        ParsingError::Memory => Err(AllocError),
+        _ => format!(in alloc; "refused {error:?}: {error}"),
+    }
+}
+
+/// The text of both calls, or both texts if they differ, and whether the borrowed value was changed.
+fn text_of_both(
+    alloc: Global,
+    owned: String,
+    lent: &str,
+    changed: bool,
+) -> Result<String, AllocError> {
+    let mut text = owned;
+    if text.as_str() != lent {
+        text = format!(in alloc; "{text} owned, {lent} lent")?;
+    }
+    if changed {
+        text.push_str(", and the borrowed value was changed")?;
+    }
+    Ok(text)
+}
+
+/// The fault that refuses bytes. That memory ran out says nothing of them.
+fn fault_text(alloc: Global, error: WireError) -> Result<String, AllocError> {
+    match error {
+        WireError::Memory => Err(AllocError),
+        WireError::Fault(fault) => format!(in alloc; "refused {fault:?}: {fault}"),
+    }
+}
+
+// Bytes as text that a person can read.
+
+/// The bytes that a text spells: `\r`, `\n`, `\t`, `\\` and `\xNN` are one byte each, and every other
+/// byte is itself. `None` if a backslash begins none of these.
+fn bytes_of(alloc: Global, text: &str) -> Result<Option<Vec<u8>>, AllocError> {
+    let mut bytes = Vec::with_capacity(alloc, text.len())?;
+    let mut rest = text.as_bytes();
+    for _ in 0..text.len() {
+        let Some((byte, after)) = byte_in(rest) else {
+            break;
+        };
+        bytes.push(byte)?;
+        rest = after;
+    }
+    Ok(if rest.is_empty() { Some(bytes) } else { None })
+}
+
+/// The byte that a text begins with, and what is after it.
+fn byte_in(text: &[u8]) -> Option<(u8, &[u8])> {
+    match text {
+        [b'\\', rest @ ..] => escape_in(rest),
+        [byte, rest @ ..] => Some((*byte, rest)),
+        [] => None,
+    }
+}
+
+/// The byte that is spelled after a backslash, and what is after it.
+fn escape_in(text: &[u8]) -> Option<(u8, &[u8])> {
+    match text {
+        [b'r', rest @ ..] => Some((b'\r', rest)),
+        [b'n', rest @ ..] => Some((b'\n', rest)),
+        [b't', rest @ ..] => Some((b'\t', rest)),
+        [b'\\', rest @ ..] => Some((b'\\', rest)),
+        [b'x', high, low, rest @ ..] => Some((byte_of(*high, *low)?, rest)),
+        _ => None,
+    }
+}
+
+/// The byte of two hexadecimal digits.
+fn byte_of(high: u8, low: u8) -> Option<u8> {
+    Some(digit_of(high)? * 16 + digit_of(low)?)
+}
+
+/// The value of a hexadecimal digit.
+fn digit_of(digit: u8) -> Option<u8>
+    ensures { IfSome result (λ value. value < 16) }
+{
+    match digit {
+        b'0'..=b'9' => Some(digit - b'0'),
+        b'a'..=b'f' => Some(digit - b'a' + 10),
+        _ => None,
     }
 }

@@ -6,25 +6,21 @@
 //! | `reads_as` | whether the value is read as a text, as a `usize` and as fields, and whether it is nil |
 //!
 //! A text that is no value has the cause as its outcome, here and for each kind that reads a value.
-use redis_resp::{Value, is_fields, is_nil, is_text, is_usize};
+ghost use Rattle.cases.specs.Kinds.{is_notation};
+ghost use Rattle.std.specs.Prelude.{IfOk, IsSome, IsTrue};
+
+use crate::value_of;
+use redis_resp::{is_fields, is_nil, is_text, is_usize};
 use std::alloc::{AllocError, Global};
-use stream_text::{NotationError, read_value};
 
 /// The outcome of a case of this module, or `None` if its kind is another.
-pub fn outcome(alloc: Global, kind: &str, input: &str) -> Result<Option<String>, AllocError> {
+pub fn outcome(alloc: Global, kind: &str, input: &str) -> Result<Option<String>, AllocError>
+    ensures { IfOk result (λ o. IsSome o → IsTrue (is_notation kind.now)) }
+{
     match kind {
         "notation" => value_text(alloc, input),
         "reads_as" => told_text(alloc, input),
         _ => Ok(None),
-    }
-}
-
-/// The value that a text is, or the outcome of a text that is none.
-pub fn value_of(alloc: Global, input: &str) -> Result<Result<Value, String>, AllocError> {
-    match read_value(alloc, input) {
-        Ok(value) => Ok(Ok(value)),
-        Err(NotationError::Memory) => Err(AllocError),
-        Err(error) => Ok(Err(format!(in alloc; "no value: {error}")?)),
     }
 }
 

@@ -2,8 +2,18 @@
 //!
 //! A kind is the name of a Rust type, as `u8` or `Vec<String>`. The outcome is the record as `Debug`
 //! prints it, or the refusal.
-use crate::calls::{refusal_text, text_of_both};
-use crate::notation::value_of;
+ghost use Rattle.cases.specs.Kinds.{
+  is_collection,
+  is_number,
+  is_reading,
+  is_single,
+  is_table,
+  is_tuple,
+  is_tuple_of_four,
+};
+ghost use Rattle.std.specs.Prelude.{IfOk, IsSome, IsTrue};
+
+use crate::{refusal_text, text_of_both, value_of};
 use indexmap::IndexMap;
 use redis_resp::{
     FromRedisValue, PairList, ParsingError, RawBytes, Value, from_redis_value, from_redis_value_ref,
@@ -13,7 +23,9 @@ use std::collections::{BTreeMap, HashMap};
 use std::fmt::Debug;
 
 /// The outcome of a case of this module, or `None` if its kind is another.
-pub fn outcome(alloc: Global, kind: &str, input: &str) -> Result<Option<String>, AllocError> {
+pub fn outcome(alloc: Global, kind: &str, input: &str) -> Result<Option<String>, AllocError>
+    ensures { IfOk result (λ o. IsSome o → IsTrue (is_reading kind.now)) }
+{
     match kind {
         "u8" | "u16" | "u32" | "u64" | "usize" | "i32" | "i64" => number(alloc, kind, input),
         "String" | "RawBytes" | "bool" | "Value" => single(alloc, kind, input),
@@ -23,7 +35,9 @@ pub fn outcome(alloc: Global, kind: &str, input: &str) -> Result<Option<String>,
 }
 
 /// Numbers of each width.
-fn number(alloc: Global, kind: &str, input: &str) -> Result<Option<String>, AllocError> {
+fn number(alloc: Global, kind: &str, input: &str) -> Result<Option<String>, AllocError>
+    ensures { IfOk result (λ o. IsSome o → IsTrue (is_number kind.now)) }
+{
     match kind {
         "u8" => read_both::<u8>(alloc, input),
         "u16" => read_both::<u16>(alloc, input),
@@ -37,7 +51,9 @@ fn number(alloc: Global, kind: &str, input: &str) -> Result<Option<String>, Allo
 }
 
 /// Texts, bytes, truth values and values as they are.
-fn single(alloc: Global, kind: &str, input: &str) -> Result<Option<String>, AllocError> {
+fn single(alloc: Global, kind: &str, input: &str) -> Result<Option<String>, AllocError>
+    ensures { IfOk result (λ o. IsSome o → IsTrue (is_single kind.now)) }
+{
     match kind {
         "String" => read_both::<String>(alloc, input),
         "RawBytes" => read_both::<RawBytes>(alloc, input),
@@ -48,7 +64,9 @@ fn single(alloc: Global, kind: &str, input: &str) -> Result<Option<String>, Allo
 }
 
 /// Tuples.
-fn tuple(alloc: Global, kind: &str, input: &str) -> Result<Option<String>, AllocError> {
+fn tuple(alloc: Global, kind: &str, input: &str) -> Result<Option<String>, AllocError>
+    ensures { IfOk result (λ o. IsSome o → IsTrue (is_tuple kind.now)) }
+{
     match kind {
         "(String, u32)" => read_both::<(String, u32)>(alloc, input),
         "(u16, i64)" => read_both::<(u16, i64)>(alloc, input),
@@ -60,7 +78,9 @@ fn tuple(alloc: Global, kind: &str, input: &str) -> Result<Option<String>, Alloc
 }
 
 /// Tuples of four members.
-fn tuple_of_four(alloc: Global, kind: &str, input: &str) -> Result<Option<String>, AllocError> {
+fn tuple_of_four(alloc: Global, kind: &str, input: &str) -> Result<Option<String>, AllocError>
+    ensures { IfOk result (λ o. IsSome o → IsTrue (is_tuple_of_four kind.now)) }
+{
     match kind {
         "(u16, Option<u16>, i64, Option<usize>)" => {
             read_both::<(u16, Option<u16>, i64, Option<usize>)>(alloc, input)
@@ -73,7 +93,9 @@ fn tuple_of_four(alloc: Global, kind: &str, input: &str) -> Result<Option<String
 }
 
 /// Lists, options, lists of pairs and tables.
-fn collection(alloc: Global, kind: &str, input: &str) -> Result<Option<String>, AllocError> {
+fn collection(alloc: Global, kind: &str, input: &str) -> Result<Option<String>, AllocError>
+    ensures { IfOk result (λ o. IsSome o → IsTrue (is_collection kind.now)) }
+{
     match kind {
         "Vec<String>" => read_both::<Vec<String>>(alloc, input),
         "Vec<Value>" => read_both::<Vec<Value>>(alloc, input),
@@ -83,7 +105,9 @@ fn collection(alloc: Global, kind: &str, input: &str) -> Result<Option<String>, 
 }
 
 /// Lists of pairs and tables.
-fn table(alloc: Global, kind: &str, input: &str) -> Result<Option<String>, AllocError> {
+fn table(alloc: Global, kind: &str, input: &str) -> Result<Option<String>, AllocError>
+    ensures { IfOk result (λ o. IsSome o → IsTrue (is_table kind.now)) }
+{
     match kind {
         "PairList<u16>" => read_both::<PairList<u16>>(alloc, input),
         "IndexMap<String, u16>" => read_both::<IndexMap<String, u16>>(alloc, input),

@@ -13,17 +13,27 @@
 //! What is read in place is printed as `Debug` shows it. A reply of another shape is `copied`, `refused`
 //! or `error`, after its length; bytes that are none are `incomplete` or refused by a fault. If the record
 //! of what is read in place is not that of the copying path, the outcome says so.
-mod fields;
-mod ids;
-mod outcomes;
-mod same;
+ghost use Rattle.cases.specs.Kinds.{is_refs};
+ghost use Rattle.std.specs.Prelude.{◌≡◌, IfOk, IsSome, IsTrue};
 
-use crate::escaped::bytes_of;
+use crate::{INCOMPLETE, bytes_of, fault_text};
+use bstr::BStr;
+use redis_resp::{FromRedisValue, ParsingError};
+use redis_wire::{Decoded, Limits, ReplyError, WireError, decode, from_reply};
 use std::alloc::{AllocError, Global};
-use stream_refs::EntryTape;
+use std::fmt::Debug;
+use stream_entries::{
+    StreamAutoClaimJustIdReply, StreamAutoClaimReply, StreamKey, StreamRangeReply, StreamReadReply,
+};
+use stream_refs::{
+    AutoClaimOutcome, EntryRef, EntryTape, JustIdOutcome, RangeOutcome, ReadOutcome, StreamIdParts,
+    read_any_autoclaim, read_any_justid, read_any_range, read_any_streams,
+};
 
 /// The outcome of a case of this module, or `None` if its kind is another.
-pub fn outcome(alloc: Global, kind: &str, input: &str) -> Result<Option<String>, AllocError> {
+pub fn outcome(alloc: Global, kind: &str, input: &str) -> Result<Option<String>, AllocError>
+    ensures { IfOk result (λ o. IsSome o → IsTrue (is_refs kind.now)) }
+{
     if !is_kind(kind) {
         return Ok(None);
     }
@@ -34,20 +44,288 @@ pub fn outcome(alloc: Global, kind: &str, input: &str) -> Result<Option<String>,
 }
 
 /// Whether a kind is one of this module.
-fn is_kind(kind: &str) -> bool {
-    kind.starts_with("refs-") || matches!(kind, "id" | "ids")
+fn is_kind(kind: &str) -> bool
+    ensures { result ≡ is_refs kind.now }
+{
+    matches!(
+        kind,
+        "refs-range" | "refs-read" | "refs-claim" | "refs-justid" | "refs-fields" | "id" | "ids"
+    )
 }
 
 /// The outcome of bytes.
 fn outcome_of(alloc: Global, kind: &str, bytes: &[u8]) -> Result<String, AllocError> {
     let mut tape = EntryTape::new(alloc);
     match kind {
-        "refs-range" => outcomes::of_range(alloc, &mut tape, bytes),
-        "refs-read" => outcomes::of_streams(alloc, &mut tape, bytes),
-        "refs-claim" => outcomes::of_claim(alloc, &mut tape, bytes),
-        "refs-justid" => outcomes::of_justid(alloc, &mut tape, bytes),
-        "refs-fields" => fields::listed(alloc, &mut tape, bytes),
-        "id" => ids::parts(alloc, bytes),
-        _ => ids::compared(alloc, bytes),
+        "refs-range" => of_range(alloc, &mut tape, bytes),
+        "refs-read" => of_streams(alloc, &mut tape, bytes),
+        "refs-claim" => of_claim(alloc, &mut tape, bytes),
+        "refs-justid" => of_justid(alloc, &mut tape, bytes),
+        "refs-fields" => fields_text(alloc, &mut tape, bytes),
+        "id" => parts_text(alloc, bytes),
+        _ => marks_text(alloc, bytes),
+    }
+}
+
+// What reading a reply in place comes to.
+
+/// The outcome of a range.
+fn of_range(alloc: Global, tape: &mut EntryTape, bytes: &[u8]) -> Result<String, AllocError> {
+    match read_any_range(alloc, tape, bytes, Limits::default()) {
+        Ok(RangeOutcome::InPlace(found)) => {
+            let record = found.to_owned(alloc)?;
+            let same = match copied_record(alloc, bytes, found.len)? {
+                Some(copied) => is_same_range(&record, &copied),
+                None => false,
+            };
+            in_place(alloc, &found, same)
+        }
+        Ok(RangeOutcome::Copied { reply, len }) => copied_text(alloc, len, reply),
+        Ok(RangeOutcome::Incomplete) => String::from_str(alloc, INCOMPLETE),
+        Err(error) => fault_text(alloc, error),
+    }
+}
+
+/// The outcome of a read, and which form it has.
+fn of_streams(alloc: Global, tape: &mut EntryTape, bytes: &[u8]) -> Result<String, AllocError> {
+    let mut text = of_either_form(alloc, tape, bytes)?;
+    if tape.read_streams(bytes, Limits::default())?.is_some() {
+        text.push_str(", the standard form")?;
+    }
+    if tape
+        .read_claimed_streams(bytes, Limits::default())?
+        .is_some()
+    {
+        text.push_str(", the claim form")?;
+    }
+    Ok(text)
+}
+
+/// The outcome of a read in either form.
+fn of_either_form(alloc: Global, tape: &mut EntryTape, bytes: &[u8]) -> Result<String, AllocError> {
+    match read_any_streams(alloc, tape, bytes, Limits::default()) {
+        Ok(ReadOutcome::InPlace(found)) => {
+            let record = found.to_owned(alloc)?;
+            let same = match copied_record(alloc, bytes, found.len)? {
+                Some(copied) => is_same_read(&record, &copied),
+                None => false,
+            };
+            in_place(alloc, &found, same)
+        }
+        Ok(ReadOutcome::Copied { reply, len }) => copied_text(alloc, len, reply),
+        Ok(ReadOutcome::Incomplete) => String::from_str(alloc, INCOMPLETE),
+        Err(error) => fault_text(alloc, error),
+    }
+}
+
+/// The outcome of an automatic claim.
+fn of_claim(alloc: Global, tape: &mut EntryTape, bytes: &[u8]) -> Result<String, AllocError> {
+    match read_any_autoclaim(alloc, tape, bytes, Limits::default()) {
+        Ok(AutoClaimOutcome::InPlace(found)) => {
+            let record = found.to_owned(alloc)?;
+            let same = match copied_record(alloc, bytes, found.len)? {
+                Some(copied) => is_same_claim(&record, &copied),
+                None => false,
+            };
+            in_place(alloc, &found, same)
+        }
+        Ok(AutoClaimOutcome::Copied { reply, len }) => copied_text(alloc, len, reply),
+        Ok(AutoClaimOutcome::Incomplete) => String::from_str(alloc, INCOMPLETE),
+        Err(error) => fault_text(alloc, error),
+    }
+}
+
+/// The outcome of an automatic claim of ids alone.
+fn of_justid(alloc: Global, tape: &mut EntryTape, bytes: &[u8]) -> Result<String, AllocError> {
+    match read_any_justid(alloc, tape, bytes, Limits::default()) {
+        Ok(JustIdOutcome::InPlace(found)) => {
+            let record = found.to_owned(alloc)?;
+            let same = match copied_record(alloc, bytes, found.len)? {
+                Some(copied) => is_same_justid(&record, &copied),
+                None => false,
+            };
+            in_place(alloc, &found, same)
+        }
+        Ok(JustIdOutcome::Copied { reply, len }) => copied_text(alloc, len, reply),
+        Ok(JustIdOutcome::Incomplete) => String::from_str(alloc, INCOMPLETE),
+        Err(error) => fault_text(alloc, error),
+    }
+}
+
+/// What is read in place, and that the copying path has another record, if it has.
+fn in_place<F: Debug>(alloc: Global, found: &F, same: bool) -> Result<String, AllocError> {
+    let mut text = format!(in alloc; "in place {found:?}")?;
+    if !same {
+        text.push_str(", differs from the copying path")?;
+    }
+    Ok(text)
+}
+
+/// A reply of another shape: whether it has a record, was refused, or has an error in it. That memory ran
+/// out says nothing of it.
+fn copied_text<T: Drop>(
+    alloc: Global,
+    len: usize,
+    reply: Result<T, ReplyError>,
+) -> Result<String, AllocError> {
+    match reply {
+        Ok(_) => format!(in alloc; "{len} copied"),
+        Err(ReplyError::Parsing(ParsingError::Memory)) => Err(AllocError),
+        Err(ReplyError::Parsing(error)) => format!(in alloc; "{len} refused {error:?}: {error}"),
+        Err(error) => format!(in alloc; "{len} error {error}"),
+    }
+}
+
+// Whether what is read in place has the record of the copying path.
+
+/// Whether two ranges are the same.
+fn is_same_range(one: &StreamRangeReply, other: &StreamRangeReply) -> bool {
+    one.ids == other.ids
+}
+
+/// Whether two reads are the same.
+fn is_same_read(one: &StreamReadReply, other: &StreamReadReply) -> bool {
+    one.keys.len() == other.keys.len() && are_same(&one.keys, &other.keys)
+}
+
+/// Whether two automatic claims are the same.
+fn is_same_claim(one: &StreamAutoClaimReply, other: &StreamAutoClaimReply) -> bool {
+    one.next_stream_id == other.next_stream_id
+        && one.claimed == other.claimed
+        && one.deleted_ids == other.deleted_ids
+}
+
+/// Whether two automatic claims of ids alone are the same.
+fn is_same_justid(one: &StreamAutoClaimJustIdReply, other: &StreamAutoClaimJustIdReply) -> bool {
+    one.next_stream_id == other.next_stream_id
+        && one.claimed == other.claimed
+        && one.deleted_ids == other.deleted_ids
+}
+
+/// Whether streams are the same, each as the one at its place.
+fn are_same(some: &[StreamKey], others: &[StreamKey]) -> bool {
+    for (one, other) in some.iter().zip(others) {
+        if one.key != other.key || one.ids != other.ids {
+            return false;
+        }
+    }
+    true
+}
+
+/// The record that the copying path has of the reply at the head of bytes, if the reply has this length.
+fn copied_record<T: FromRedisValue>(
+    alloc: Global,
+    bytes: &[u8],
+    len: usize,
+) -> Result<Option<T>, AllocError> {
+    match decode(alloc, bytes, Limits::default()) {
+        Ok(Decoded::Complete { reply, len: other }) => match from_reply::<T>(alloc, reply) {
+            Ok(copied) => Ok(if len == other { Some(copied) } else { None }),
+            Err(ReplyError::Parsing(ParsingError::Memory)) => Err(AllocError),
+            Err(_) => Ok(None),
+        },
+        Err(WireError::Memory) => Err(AllocError),
+        Ok(Decoded::Incomplete) | Err(WireError::Fault(_)) => Ok(None),
+    }
+}
+
+// The fields of entries in place.
+
+/// The fields of each entry, or `none` if the reply has not the shape that servers send.
+fn fields_text(alloc: Global, tape: &mut EntryTape, bytes: &[u8]) -> Result<String, AllocError> {
+    let mut text = String::new(alloc);
+    match tape.read_range(bytes, Limits::default())? {
+        Some(found) => {
+            for entry in found.entries {
+                add_entry(alloc, &mut text, &entry)?;
+            }
+        }
+        None => text.push_str("none")?,
+    }
+    Ok(text)
+}
+
+/// Adds an entry: how many fields it has, their copies in order, and what each is read as; last what a
+/// field is read as that is not there.
+fn add_entry(alloc: Global, text: &mut String, entry: &EntryRef<'_>) -> Result<(), AllocError> {
+    let fields = entry.fields();
+    let count = fields.len();
+    let copies = fields.to_pairs(alloc)?;
+    write!(text, "{count} fields {copies:?}")?;
+    for (name, _) in entry.fields() {
+        add_field(text, entry, name)?;
+    }
+    add_field(text, entry, b"missing")?;
+    text.push(';')
+}
+
+/// Adds what the field of a name is read as: as a `u64`, as an `i64` and as text.
+fn add_field(text: &mut String, entry: &EntryRef<'_>, name: &[u8]) -> Result<(), AllocError> {
+    let shown = BStr::new(name);
+    let unsigned = entry.get_u64(name);
+    let signed = entry.get_i64(name);
+    let word = entry.get_str(name);
+    write!(text, ", {shown} {unsigned:?} {signed:?} {word:?}")?;
+    let fields = entry.fields();
+    let same = fields.get_u64(name) == unsigned && fields.get_i64(name) == signed;
+    if !same || fields.get_str(name) != word {
+        text.push_str(" otherwise in the fields")?;
+    }
+    Ok(())
+}
+
+// Ids in their parts.
+
+/// The parts of an id, the text that they write, and the text that leaves the id out; `none` if the bytes
+/// are no id.
+fn parts_text(alloc: Global, bytes: &[u8]) -> Result<String, AllocError> {
+    match StreamIdParts::parse(bytes) {
+        Some(id) => id_text(alloc, id),
+        None => String::from_str(alloc, "none"),
+    }
+}
+
+/// The parts of an id, and its texts.
+fn id_text(alloc: Global, id: StreamIdParts) -> Result<String, AllocError> {
+    let text = id.to_text(alloc)?;
+    let exclusive = id.to_exclusive_text(alloc)?;
+    let text = BStr::new(text.as_slice());
+    let exclusive = BStr::new(exclusive.as_slice());
+    format!(in alloc; "{id:?} {text} {exclusive}")
+}
+
+/// Of each id a mark for each one: `<` if it is before that one, and `-` if it is not.
+fn marks_text(alloc: Global, words: &[u8]) -> Result<String, AllocError> {
+    let mut ids = Vec::new(alloc);
+    for word in words.split(|byte| *byte == b' ') {
+        if let Some(id) = StreamIdParts::parse(word) {
+            ids.push(id)?;
+        }
+    }
+    let mut text = String::new(alloc);
+    for id in &ids {
+        add_marks(&mut text, *id, &ids)?;
+    }
+    Ok(text)
+}
+
+/// Adds the marks of an id.
+fn add_marks(
+    text: &mut String,
+    id: StreamIdParts,
+    ids: &[StreamIdParts],
+) -> Result<(), AllocError> {
+    for other in ids {
+        text.push(mark(id, *other))?;
+    }
+    text.push(' ')
+}
+
+/// The mark of two ids; a question mark if the order of the type is not that of a stream.
+fn mark(id: StreamIdParts, other: StreamIdParts) -> char {
+    match (id.is_before(other), id < other) {
+        (true, true) => '<',
+        (false, false) => '-',
+        _ => '?',
     }
 }
