@@ -195,6 +195,20 @@ fn array<const N: usize>(alloc: Global, items: [Answer; N]) -> Result<Answer, Al
     }
 }
 
+/// One more name with its answer.
+fn put_row(
+    alloc: Global,
+    rows: &mut Vec<(Vec<u8>, Answer)>,
+    name: &str,
+    answer: Answer,
+) -> Result<(), AllocError> {
+    let name = Vec::from_slice(alloc, name.as_bytes())?;
+    match rows.push((name, answer)) {
+        Ok(()) => Ok(()),
+        Err(_) => Err(AllocError),
+    }
+}
+
 /// One more answer.
 fn put(answers: &mut Vec<Answer>, answer: Answer) -> Result<(), AllocError> {
     match answers.push(answer) {

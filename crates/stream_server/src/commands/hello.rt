@@ -1,8 +1,7 @@
 //! `HELLO`.
 ghost use Rattle.std.specs.Prelude.{◌≡◌, OnErr};
 
-use super::info::put_row;
-use super::{bytes_answer, integer_in};
+use super::{bytes_answer, integer_in, put_row};
 use crate::answer::{Answer, Protocol};
 use crate::refusal::Refusal;
 use crate::server::Session;

@@ -6,7 +6,7 @@ ghost use Rattle.stream_server.specs.Kinds.{IsInfo};
 
 use super::{
     SYNTAX, bytes_answer, entry_answer, group_of, integer, is_word, length, no_group_for, number,
-    put, stream_of, unknown_subcommand, wrong_options, wrong_subcount,
+    put, put_row, stream_of, unknown_subcommand, wrong_options, wrong_subcount,
 };
 use crate::answer::Answer;
 use crate::refusal::Refusal;
@@ -141,20 +141,6 @@ fn put_rows(
         put_row(alloc, rows, name, answer)?;
     }
     Ok(())
-}
-
-/// One more name with its answer.
-pub(super) fn put_row(
-    alloc: Global,
-    rows: &mut Vec<(Vec<u8>, Answer)>,
-    name: &str,
-    answer: Answer,
-) -> Result<(), AllocError> {
-    let name = Vec::from_slice(alloc, name.as_bytes())?;
-    match rows.push((name, answer)) {
-        Ok(()) => Ok(()),
-        Err(_) => Err(AllocError),
-    }
 }
 
 /// What both forms of XINFO STREAM begin with.
