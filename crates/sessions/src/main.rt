@@ -19,19 +19,17 @@
 //! It ends with 0, or with 2 where memory ran out, or standard input or output failed.
 #![tactic(auto)]
 
-mod connection;
-mod doer;
-mod letters;
-mod server;
-mod streams;
-mod texts;
 mod together;
 mod worker;
 
+use crate::worker::{connection, letters, streams};
+use redis_resp::Value;
+use redis_wire::{Decoded, Limits, Reply, WireError, decode};
 use std::alloc::{AllocError, Global};
 use std::io;
 use std::io::{Read, Write};
 use std::process::ExitCode;
+use stream_server::{Protocol, Server, Session, append_reply};
 
 /// Memory ran out, or standard input or output failed.
 const FAILED: u8 = 2;
@@ -62,7 +60,7 @@ fn play_all(rt: &HostRuntime) -> io::Result<()> {
 fn play_titled(alloc: Global, script: &str, out: &mut String) -> Result<(), AllocError> {
     if let Some((title, rest)) = script.split_once('\n') {
         if title.starts_with('#') {
-            texts::push_line(out, title)?;
+            push_line(out, title)?;
             return play(alloc, rest, out);
         }
     }
@@ -71,15 +69,208 @@ fn play_titled(alloc: Global, script: &str, out: &mut String) -> Result<(), Allo
 
 /// Plays a script.
 fn play(alloc: Global, script: &str, out: &mut String) -> Result<(), AllocError> {
-    let (head, lines) = texts::parted(script, '\n');
-    let (name, words) = texts::parted(head, ' ');
-    match name {
-        "server" => server::play(alloc, words, lines, out),
-        "worker" => worker::play(alloc, words, lines, out),
-        "letters" => letters::play(alloc, lines, out),
-        "connection" => connection::play(alloc, words, lines, out),
-        "ends" => connection::play_ends(alloc, words, lines, out),
-        "streams" => streams::play(alloc, words, lines, out),
-        _ => together::play(alloc, name, words, out),
+    let (head, lines) = parted(script, '\n');
+    let (name, words) = parted(head, ' ');
+    if name == "server" {
+        return play_commands(alloc, words, lines, out);
     }
+    let is_played = worker::play(alloc, name, words, lines, out)?
+        || letters::play(alloc, name, words, lines, out)?
+        || connection::play(alloc, name, words, lines, out)?
+        || streams::play(alloc, name, words, lines, out)?
+        || together::play(alloc, name, words, lines, out)?;
+    if is_played {
+        return Ok(());
+    }
+    push_line(out, "no script has this name")
+}
+
+// The texts of scripts and of transcripts.
+
+/// What is before and behind the first mark; all and nothing where there is none.
+fn parted(text: &str, mark: char) -> (&str, &str) {
+    match text.split_once(mark) {
+        Some(parts) => parts,
+        None => (text, ""),
+    }
+}
+
+/// The number that a word is, or 0.
+fn number_of(word: &str) -> usize {
+    word.parse::<usize>().unwrap_or(0)
+}
+
+/// Appends a line.
+fn push_line(out: &mut String, line: &str) -> Result<(), AllocError> {
+    out.push_str(line)?;
+    out.push('\n')
+}
+
+/// Appends what was asked or done, and what came of it where something did.
+fn push_exchange(out: &mut String, asked: &str, answer: &str) -> Result<(), AllocError> {
+    out.push_str("> ")?;
+    push_line(out, asked)?;
+    if answer.is_empty() {
+        return Ok(());
+    }
+    push_line(out, answer)
+}
+
+/// The bytes that a text of a script is: `\r` and `\n` are ends of lines.
+fn bytes_of(alloc: Global, text: &str) -> Result<Vec<u8>, AllocError> {
+    let mut bytes = Vec::new(alloc);
+    let mut is_escaped = false;
+    for byte in text.as_bytes() {
+        if *byte == b'\\' && !is_escaped {
+            is_escaped = true;
+        } else {
+            bytes.push(if is_escaped { unescaped(*byte) } else { *byte })?;
+            is_escaped = false;
+        }
+    }
+    Ok(bytes)
+}
+
+/// The byte behind a backslash.
+fn unescaped(byte: u8) -> u8 {
+    match byte {
+        b'r' => b'\r',
+        b'n' => b'\n',
+        byte => byte,
+    }
+}
+
+/// Appends bytes as a script has them.
+fn push_bytes(out: &mut String, bytes: &[u8]) -> Result<(), AllocError> {
+    for byte in bytes {
+        match *byte {
+            b'\r' => out.push_str("\\r")?,
+            b'\n' => out.push_str("\\n")?,
+            byte => out.push(char::from(byte))?,
+        }
+    }
+    Ok(())
+}
+
+/// Bytes as a script has them.
+fn text_of(alloc: Global, bytes: &[u8]) -> Result<String, AllocError> {
+    let mut text = String::new(alloc);
+    push_bytes(&mut text, bytes)?;
+    Ok(text)
+}
+
+/// The words of a command, and none where it is no command.
+fn words_of(alloc: Global, command: Reply) -> Result<Vec<Vec<u8>>, AllocError> {
+    let mut words = Vec::new(alloc);
+    let Reply::Value(Value::Array(values)) = command else {
+        return Ok(words);
+    };
+    for value in values {
+        let Value::BulkString(word) = value else {
+            return Ok(words);
+        };
+        words.push(word)?;
+    }
+    Ok(words)
+}
+
+/// Appends the words of a command, with a blank before each but the first.
+fn push_command(alloc: Global, out: &mut String, command: Reply) -> Result<(), AllocError> {
+    for (index, word) in words_of(alloc, command)?.iter().enumerate() {
+        if index > 0 {
+            out.push(' ')?;
+        }
+        push_bytes(out, word)?;
+    }
+    Ok(())
+}
+
+/// Commands, with ` | ` behind each but the last; and what is no whole command, as it is.
+fn commands_text(alloc: Global, bytes: &[u8]) -> Result<String, AllocError> {
+    let mut text = String::new(alloc);
+    let mut rest = bytes;
+    for _ in 0..bytes.len() {
+        match decode(alloc, rest, Limits::default()) {
+            Ok(Decoded::Complete { reply, len }) => {
+                push_command(alloc, &mut text, reply)?;
+                rest = rest.get(len..).unwrap_or(&[]);
+            }
+            Ok(Decoded::Incomplete) | Err(WireError::Fault(_)) => break,
+            Err(WireError::Memory) => return Err(AllocError),
+        }
+        if rest.is_empty() {
+            break;
+        }
+        text.push_str(" | ")?;
+    }
+    push_bytes(&mut text, rest)?;
+    Ok(text)
+}
+
+// A server in memory.
+
+/// The protocol of this number.
+fn protocol_of(word: &str) -> Protocol {
+    if number_of(word) == 3 {
+        Protocol::Resp3
+    } else {
+        Protocol::Resp2
+    }
+}
+
+/// The bytes that a command is answered.
+fn answered(
+    alloc: Global,
+    server: &mut Server,
+    now: u64,
+    session: &mut Session,
+    words: Vec<Vec<u8>>,
+) -> Result<Vec<u8>, AllocError> {
+    let reply = server.step(alloc, now, session, words)?;
+    let mut bytes = Vec::new(alloc);
+    append_reply(alloc, &mut bytes, session.protocol, &reply)?;
+    Ok(bytes)
+}
+
+/// The bytes that the command of a line is answered.
+fn told(
+    alloc: Global,
+    server: &mut Server,
+    session: &mut Session,
+    line: &str,
+) -> Result<Vec<u8>, AllocError> {
+    let mut words = Vec::new(alloc);
+    for word in line.split(' ') {
+        words.push(bytes_of(alloc, word)?)?;
+    }
+    answered(alloc, server, 0, session, words)
+}
+
+/// Tells a server commands.
+fn tell_all(
+    alloc: Global,
+    server: &mut Server,
+    session: &mut Session,
+    lines: &str,
+    out: &mut String,
+) -> Result<(), AllocError> {
+    for line in lines.lines() {
+        let answer = told(alloc, server, session, line)?;
+        push_exchange(out, line, text_of(alloc, &answer)?.as_str())?;
+    }
+    Ok(())
+}
+
+/// Plays commands to a server of its own.
+fn play_commands(
+    alloc: Global,
+    words: &str,
+    lines: &str,
+    out: &mut String,
+) -> Result<(), AllocError> {
+    let mut server = Server::new(alloc);
+    let mut session = Session {
+        protocol: protocol_of(words),
+    };
+    tell_all(alloc, &mut server, &mut session, lines, out)
 }

@@ -14,16 +14,43 @@
 //!
 //! All is done twice: by a worker that is told replies by value, and by one that is told them in
 //! place. Where they differ, both are shown.
-use crate::doer::Doer;
-use crate::texts::{bytes_of, commands_text, number_of, parted, push_exchange, push_line};
+ghost use Rattle.std.specs.Prelude.{◌≡◌, IfOk, IsTrue};
+ghost use Rattle.sessions.specs.Scripts.{is_worker_script};
+
+pub mod connection;
+pub mod letters;
+pub mod streams;
+
+use crate::{bytes_of, commands_text, number_of, parted, push_bytes, push_exchange, push_line};
 use redis_wire::{Decoded, Limits, WireError, decode};
 use std::alloc::{AllocError, Global};
+use stream_refs::FieldsRef;
 use stream_worker::{
-    InPlaceError, MakeGroup, Progress, RequestError, Settings, Worker, WorkerError,
+    Entry, Gathered, Handler, InPlaceError, MakeGroup, NotCommitted, Progress, RequestError,
+    Settings, Verdict, Worker, WorkerError,
 };
 
+/// Plays a session of a worker; false if the script is another one.
+pub fn play(
+    alloc: Global,
+    name: &str,
+    words: &str,
+    lines: &str,
+    out: &mut String,
+) -> Result<bool, AllocError>
+    ensures { IfOk result (λ played. IsTrue played → IsTrue (is_worker_script name.now)) }
+{
+    match name {
+        "worker" => {
+            play_session(alloc, words, lines, out)?;
+            Ok(true)
+        }
+        _ => Ok(false),
+    }
+}
+
 /// The limits of what comes.
-pub const LIMITS: Limits = Limits {
+const LIMITS: Limits = Limits {
     depth: 8,
     length: 1000,
     line: 100,
@@ -33,22 +60,22 @@ pub const LIMITS: Limits = Limits {
 
 /// How a worker takes answers.
 #[derive(Clone, Copy, PartialEq, Eq)]
-pub enum Way {
+enum Way {
     ByValue,
     InPlace,
 }
 
 /// A worker, its handler, and how it takes answers.
 #[derive(Drop)]
-pub struct Side {
-    pub worker: Worker,
-    pub doer: Doer,
+struct Side {
+    worker: Worker,
+    doer: Doer,
     way: Way,
 }
 
 impl Side {
     /// A worker that begins.
-    pub fn new(alloc: Global, words: &str, way: Way) -> Result<Side, AllocError> {
+    fn new(alloc: Global, words: &str, way: Way) -> Result<Side, AllocError> {
         Ok(Side {
             worker: Worker::new(alloc, settings_of(alloc, words)?),
             doer: Doer::new(alloc),
@@ -121,7 +148,7 @@ fn taken(
 }
 
 /// The name and the text of an error of a worker.
-pub fn error_text(alloc: Global, error: &WorkerError) -> Result<String, AllocError> {
+fn error_text(alloc: Global, error: &WorkerError) -> Result<String, AllocError> {
     match error {
         WorkerError::Memory => Err(AllocError),
         WorkerError::Server(server) => format!(in alloc; "Server: {error}: {server}"),
@@ -143,7 +170,7 @@ fn progress_text(
 }
 
 /// Tells a worker bytes: what comes of it, and where the worker is then.
-pub fn told(
+fn told(
     alloc: Global,
     worker: &mut Worker,
     doer: &mut Doer,
@@ -181,7 +208,7 @@ fn told_fronts(alloc: Global, side: &mut Side, text: &str) -> Result<String, All
 
 /// The texts of the numbers from 0 on: each with the first of those in a row that have it.
 #[derive(Drop)]
-pub struct Spans {
+struct Spans {
     text: String,
     last: String,
     count: usize,
@@ -189,7 +216,7 @@ pub struct Spans {
 
 impl Spans {
     /// None yet.
-    pub fn new(alloc: Global) -> Spans {
+    fn new(alloc: Global) -> Spans {
         Spans {
             text: String::new(alloc),
             last: String::new(alloc),
@@ -198,7 +225,7 @@ impl Spans {
     }
 
     /// One more number, and its text.
-    pub fn add(&mut self, alloc: Global, text: String) -> Result<(), AllocError> {
+    fn add(&mut self, alloc: Global, text: String) -> Result<(), AllocError> {
         if self.last.as_str() != text.as_str() {
             let line = format!(in alloc; "{}: {}\n", self.count, text.as_str())?;
             self.text.push_str(line.as_str())?;
@@ -209,7 +236,7 @@ impl Spans {
     }
 
     /// The texts, and how many numbers there are.
-    pub fn finished(self, alloc: Global) -> Result<String, AllocError> {
+    fn finished(self, alloc: Global) -> Result<String, AllocError> {
         let mut text = self.text;
         text.push_str(format!(in alloc; "{} in all", self.count)?.as_str())?;
         Ok(text)
@@ -232,7 +259,7 @@ fn instructed(
 }
 
 /// Does what a line says.
-pub fn done(alloc: Global, side: &mut Side, verb: &str, rest: &str) -> Result<String, AllocError> {
+fn done(alloc: Global, side: &mut Side, verb: &str, rest: &str) -> Result<String, AllocError> {
     match verb {
         "ask" => asked(alloc, &mut side.worker, &mut side.doer),
         "tell" => told_text(alloc, side, rest),
@@ -276,7 +303,12 @@ fn is_reply(line: &str) -> bool {
 }
 
 /// Plays a session by value and in place.
-pub fn play(alloc: Global, words: &str, lines: &str, out: &mut String) -> Result<(), AllocError> {
+fn play_session(
+    alloc: Global,
+    words: &str,
+    lines: &str,
+    out: &mut String,
+) -> Result<(), AllocError> {
     let mut both = Both {
         by_value: Side::new(alloc, words, Way::ByValue)?,
         in_place: Side::new(alloc, words, Way::InPlace)?,
@@ -291,4 +323,168 @@ pub fn play(alloc: Global, words: &str, lines: &str, out: &mut String) -> Result
         }
     }
     Ok(())
+}
+
+// A handler that says of each entry what a script says.
+
+/// The fields that are shown of an entry that is a record, which has no order.
+const NAMES: [&str; 3] = ["a", "b", "n"];
+
+/// Keeps each entry that is done as `Gathered` does, and notes what it was given.
+#[derive(Drop)]
+struct Doer {
+    /// What is done, and what of it is committed.
+    kept: Gathered,
+    /// What it says of the next entries, the last one first; `Done` of those after them.
+    says: Vec<Verdict>,
+    /// Whether commits fail.
+    refuses: bool,
+    /// How often it committed.
+    commits: usize,
+    /// What it was given, and what it said.
+    seen: String,
+    /// Whether memory was refused to it.
+    is_short: bool,
+}
+
+impl Doer {
+    /// One that does everything.
+    fn new(alloc: Global) -> Doer {
+        Doer {
+            kept: Gathered::new(alloc),
+            says: Vec::new(alloc),
+            refuses: false,
+            commits: 0,
+            seen: String::new(alloc),
+            is_short: false,
+        }
+    }
+
+    /// It says this of the next entries.
+    fn say(&mut self, words: &str) -> Result<(), AllocError> {
+        for word in words.split(' ') {
+            self.says.insert(0, verdict_of(word))?;
+        }
+        Ok(())
+    }
+
+    /// Err where memory was refused to it.
+    fn check(&self) -> Result<(), AllocError> {
+        if self.is_short {
+            Err(AllocError)
+        } else {
+            Ok(())
+        }
+    }
+
+    /// What it kept, and what it was given since it was asked last.
+    fn standing(&mut self, alloc: Global) -> Result<String, AllocError> {
+        self.check()?;
+        let text = format!(in alloc;
+            "{}; loose {}, committed {} in {}",
+            self.seen.as_str(),
+            self.kept.loose.len(),
+            self.kept.committed.len(),
+            self.commits
+        )?;
+        self.seen.clear();
+        Ok(text)
+    }
+
+    /// Notes an entry, and keeps it where it is done.
+    fn note(&mut self, alloc: Global, entry: &Entry<'_>) -> Result<Verdict, AllocError> {
+        push_entry(alloc, &mut self.seen, entry)?;
+        let verdict = self.says.pop().unwrap_or(Verdict::Done);
+        self.seen.push_str(name_of(verdict))?;
+        if verdict == Verdict::Done && self.kept.handle(alloc, entry) != Verdict::Done {
+            return Err(AllocError);
+        }
+        Ok(verdict)
+    }
+}
+
+/// The verdict of this name.
+fn verdict_of(word: &str) -> Verdict {
+    match word {
+        "leave" => Verdict::LeavePending,
+        "stop" => Verdict::Stop,
+        _ => Verdict::Done,
+    }
+}
+
+/// The name of a verdict.
+fn name_of(verdict: Verdict) -> &'static str {
+    match verdict {
+        Verdict::Done => " done",
+        Verdict::LeavePending => " leave",
+        Verdict::Stop => " stop",
+    }
+}
+
+/// Appends a field.
+fn push_field(out: &mut String, name: &[u8], value: &[u8]) -> Result<(), AllocError> {
+    out.push(' ')?;
+    push_bytes(out, name)?;
+    out.push('=')?;
+    push_bytes(out, value)
+}
+
+/// Appends an entry's id and fields: in place in order and with repeated ones, else by name.
+fn push_entry(alloc: Global, out: &mut String, entry: &Entry<'_>) -> Result<(), AllocError> {
+    out.push_str("; ")?;
+    out.push_str(entry.id())?;
+    match entry.fields() {
+        Some(fields) => push_fields(out, fields),
+        None => push_named(alloc, out, entry),
+    }
+}
+
+/// Appends the fields of an entry in place.
+fn push_fields(out: &mut String, fields: FieldsRef<'_>) -> Result<(), AllocError> {
+    for (name, value) in fields {
+        push_field(out, name, value)?;
+    }
+    Ok(())
+}
+
+/// Appends the fields of a record that have one of the names.
+fn push_named(alloc: Global, out: &mut String, entry: &Entry<'_>) -> Result<(), AllocError> {
+    for name in &NAMES {
+        if let Some(last) = entry.get::<String>(alloc, name)? {
+            push_field(out, name.as_bytes(), last.as_bytes())?;
+        }
+    }
+    Ok(())
+}
+
+impl Handler for Doer {
+    ghost History = { Unit {0} };
+
+    ghost with_verdict = { λ history e verdict. history };
+
+    ghost with_commit = { λ history. history };
+
+    ghost history = { λ handler. tt };
+
+    fn handle(&mut self, alloc: Global, entry: &Entry<'_>) -> Verdict {
+        match self.note(alloc, entry) {
+            Ok(verdict) => verdict,
+            Err(AllocError) => {
+                self.is_short = true;
+                Verdict::Stop
+            }
+        }
+    }
+
+    fn commit(&mut self, alloc: Global) -> Result<(), NotCommitted> {
+        if self.refuses {
+            return Err(NotCommitted);
+        }
+        if self.kept.commit(alloc).is_err() {
+            self.is_short = true;
+            return Err(NotCommitted);
+        }
+        self.commits = self.commits.saturating_add(1);
+        Ok(())
+    }
 }

@@ -1,10 +1,32 @@
 //! Dead letters. A line is `give` with an id, deliveries and a field, or a reply's bytes, before
 //! which the letters ask.
-use crate::texts::{bytes_of, commands_text, number_of, parted, push_exchange};
+ghost use Rattle.std.specs.Prelude.{◌≡◌, IfOk, IsTrue};
+ghost use Rattle.sessions.specs.Scripts.{is_letters_script};
+
 use crate::worker::LIMITS;
+use crate::{bytes_of, commands_text, number_of, parted, push_exchange};
 use redis_wire::{Decoded, WireError, decode};
 use std::alloc::{AllocError, Global};
 use stream_worker::{DeadLetters, LetterError};
+
+/// Plays dead letters; false if the script is another one.
+pub fn play(
+    alloc: Global,
+    name: &str,
+    _words: &str,
+    lines: &str,
+    out: &mut String,
+) -> Result<bool, AllocError>
+    ensures { IfOk result (λ played. IsTrue played → IsTrue (is_letters_script name.now)) }
+{
+    match name {
+        "letters" => {
+            play_letters(alloc, lines, out)?;
+            Ok(true)
+        }
+        _ => Ok(false),
+    }
+}
 
 /// Gives an entry up.
 fn gave_up(alloc: Global, letters: &mut DeadLetters, rest: &str) -> Result<String, AllocError> {
@@ -48,7 +70,7 @@ fn told(alloc: Global, letters: &mut DeadLetters, line: &str) -> Result<String, 
 }
 
 /// Plays entries that are given up, and answers.
-pub fn play(alloc: Global, lines: &str, out: &mut String) -> Result<(), AllocError> {
+fn play_letters(alloc: Global, lines: &str, out: &mut String) -> Result<(), AllocError> {
     let mut letters = DeadLetters::new(
         alloc,
         String::from_str(alloc, "k")?,

@@ -13,8 +13,11 @@
 //! | `receive`, `place` | a reply is received, is received in place |
 //! | `show 5`, `give 5` | so many bytes in place are shown, are given out |
 //! | `run 7` | the worker makes so many rounds |
-use crate::texts::{bytes_of, commands_text, number_of, parted, push_exchange, push_line, text_of};
+ghost use Rattle.std.specs.Prelude.{◌≡◌, IfOk, IsTrue};
+ghost use Rattle.sessions.specs.Scripts.{is_connection_script};
+
 use crate::worker::{LIMITS, Side, Spans, Way, done, error_text};
+use crate::{bytes_of, commands_text, number_of, parted, push_exchange, push_line, text_of};
 use redis_connection::{AskError, Connection, ConnectionError};
 use redis_resp::FromRedisValue;
 use redis_wire::{Protocol, Reply, append_answer};
@@ -23,6 +26,29 @@ use std::fmt::Display;
 use std::io;
 use std::io::{ErrorKind, Read, Write};
 use stream_worker::{Progress, RequestError, RunError};
+
+/// Plays a connection; false if the script is another one.
+pub fn play(
+    alloc: Global,
+    name: &str,
+    words: &str,
+    lines: &str,
+    out: &mut String,
+) -> Result<bool, AllocError>
+    ensures { IfOk result (λ played. IsTrue played → IsTrue (is_connection_script name.now)) }
+{
+    match name {
+        "connection" => {
+            play_sizes(alloc, words, lines, out)?;
+            Ok(true)
+        }
+        "ends" => {
+            play_ends(alloc, words, lines, out)?;
+            Ok(true)
+        }
+        _ => Ok(false),
+    }
+}
 
 /// What a call of a reader or writer does.
 #[derive(Clone, Copy)]
@@ -374,7 +400,7 @@ fn do_lines<R: Read + Drop, W: Write + Drop>(
 }
 
 /// Plays a connection, once for each size.
-pub fn play(alloc: Global, words: &str, lines: &str, out: &mut String) -> Result<(), AllocError> {
+fn play_sizes(alloc: Global, words: &str, lines: &str, out: &mut String) -> Result<(), AllocError> {
     let mut last = String::new(alloc);
     for word in words.split(' ') {
         let most = word.parse::<usize>().unwrap_or(usize::MAX);
@@ -435,12 +461,7 @@ fn front_text(
 }
 
 /// Plays a session over a connection that ends behind each byte of what comes.
-pub fn play_ends(
-    alloc: Global,
-    words: &str,
-    lines: &str,
-    out: &mut String,
-) -> Result<(), AllocError> {
+fn play_ends(alloc: Global, words: &str, lines: &str, out: &mut String) -> Result<(), AllocError> {
     let mut input = Vec::new(alloc);
     for line in lines.lines() {
         input.append(&mut bytes_of(alloc, line)?)?;

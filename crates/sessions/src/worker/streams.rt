@@ -1,14 +1,37 @@
 //! One consumer of several streams: a worker for each, over one connection and with one handler.
 //!
 //! The words of the head are the protocol, how many turns each worker has, and the streams.
-use crate::doer::Doer;
-use crate::server::{answered, protocol_of, tell_all};
-use crate::texts::{commands_text, number_of, parted, push_exchange, push_line, words_of};
-use crate::worker::{Way, told};
+ghost use Rattle.std.specs.Prelude.{◌≡◌, IfOk, IsTrue};
+ghost use Rattle.sessions.specs.Scripts.{is_streams_script};
+
+use crate::worker::{Doer, Way, told};
+use crate::{
+    answered, commands_text, number_of, parted, protocol_of, push_exchange, push_line, tell_all,
+    words_of,
+};
 use redis_wire::{Decoded, Limits, decode};
 use std::alloc::{AllocError, Global};
 use stream_server::{Server, Session};
 use stream_worker::{MakeGroup, Settings, Worker};
+
+/// Plays workers of several streams; false if the script is another one.
+pub fn play(
+    alloc: Global,
+    name: &str,
+    words: &str,
+    lines: &str,
+    out: &mut String,
+) -> Result<bool, AllocError>
+    ensures { IfOk result (λ played. IsTrue played → IsTrue (is_streams_script name.now)) }
+{
+    match name {
+        "streams" => {
+            play_streams(alloc, words, lines, out)?;
+            Ok(true)
+        }
+        _ => Ok(false),
+    }
+}
 
 /// A server and one connection to it.
 #[derive(Drop)]
@@ -66,7 +89,12 @@ fn turn(
 }
 
 /// Plays workers of streams, and says what is pending then.
-pub fn play(alloc: Global, words: &str, lines: &str, out: &mut String) -> Result<(), AllocError> {
+fn play_streams(
+    alloc: Global,
+    words: &str,
+    lines: &str,
+    out: &mut String,
+) -> Result<(), AllocError> {
     let (protocol, rest) = parted(words, ' ');
     let (turns, keys) = parted(rest, ' ');
     let mut peer = Peer {

@@ -1,0 +1,33 @@
+-- The names of scripts: which module plays a script of which name.
+use Rattle.std.specs.Prelude.{ℕ, List, Bool, true, false, codes, if◌then◌else◌}
+use Rattle.std.specs.Str.{bytes_eq}
+
+-- whether `worker` plays a script of this name
+abbrev pub is_worker_script : List ℕ → Bool
+is_worker_script name = if bytes_eq name (codes "worker") then true
+    else false
+
+-- whether `worker::letters` plays a script of this name
+abbrev pub is_letters_script : List ℕ → Bool
+is_letters_script name = if bytes_eq name (codes "letters") then true
+    else false
+
+-- whether `worker::connection` plays a script of this name
+abbrev pub is_connection_script : List ℕ → Bool
+is_connection_script name = if bytes_eq name (codes "connection") then true
+    else if bytes_eq name (codes "ends") then true
+    else false
+
+-- whether `worker::streams` plays a script of this name
+abbrev pub is_streams_script : List ℕ → Bool
+is_streams_script name = if bytes_eq name (codes "streams") then true
+    else false
+
+-- whether `together` plays a script of this name
+abbrev pub is_together_script : List ℕ → Bool
+is_together_script name = if bytes_eq name (codes "cuts") then true
+    else if bytes_eq name (codes "crashes") then true
+    else if bytes_eq name (codes "gone") then true
+    else if bytes_eq name (codes "schedules") then true
+    else if bytes_eq name (codes "settles") then true
+    else false
