@@ -10,7 +10,7 @@
 //! | `server 2` | a command; 3 for RESP3 |
 //! | `worker` and settings | what a worker is asked or told, see `worker` |
 //! | `letters` | `give` and an entry, or bytes that answer what is asked |
-//! | `connection` and sizes | what a connection does, see `connection`; once for reads of each size |
+//! | `connection` and sizes | what a connection does, see `worker::connection`; once for reads of each size |
 //! | `ends 7` | bytes that come; a worker makes so many rounds, wherever they end |
 //! | `streams 3 8 a b` | a command; then a worker for each stream, so many turns each |
 //! | `cuts 2`, `crashes 2 60`, `gone 2 30`, `schedules 1000` | none, see `together` |
