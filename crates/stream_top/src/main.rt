@@ -159,6 +159,7 @@ const COLUMNS: [(&str, Side); 8] = [
 
 // So many columns tell of a group, and so many of one of its consumers.
 const OF_GROUP: usize = 5;
+
 const OF_CONSUMER: usize = 3;
 
 // The page of a stream at a time of the server's clock, in milliseconds.
