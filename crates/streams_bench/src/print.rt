@@ -4,6 +4,9 @@ ghost use Rattle.std.specs.Io.KnownBytes.{Appends};
 ghost use Rattle.std.specs.List.{flat_map};
 ghost use Rattle.streams_bench.specs.Line.{IsSame, line_of};
 
+#[cfg(test)]
+mod tests;
+
 use std::io::{self, Write};
 pub use stream_text::vectors::Row;
 
