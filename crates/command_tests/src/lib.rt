@@ -10,8 +10,10 @@
 mod answer;
 #[cfg(test)]
 mod args;
+mod call_sequences;
 #[cfg(test)]
 mod entry;
+mod fixed_args;
 #[cfg(test)]
 mod group;
 #[cfg(test)]

@@ -24,6 +24,8 @@ mod refusals;
 #[cfg(test)]
 mod replies;
 #[cfg(test)]
+mod row_lines;
+#[cfg(test)]
 mod wire;
 
 #[cfg(test)]

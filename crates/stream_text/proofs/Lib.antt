@@ -2,4 +2,5 @@ mod AnswerLemmas
 mod EntryLemmas
 mod FormLemmas
 pub mod OptionsLemmas
+mod PrintLemmas
 mod VectorsLemmas

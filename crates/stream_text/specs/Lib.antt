@@ -4,6 +4,7 @@ pub mod Entry
 pub mod Form
 pub mod Info
 pub mod InfoFull
+pub mod Line
 pub mod Options
 pub mod Pending
 pub mod Refusal

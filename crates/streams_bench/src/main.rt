@@ -15,17 +15,14 @@
 ghost use Rattle.std.specs.Prelude.{◌≡◌, Ok, OnErr, false, true};
 ghost use Rattle.std.specs.Process.{exit_status};
 
-mod call_sequences;
-mod fixed_args;
-mod print;
 mod sentences;
 mod vectors;
 
-use print::{PrintError, print_rows};
 use sentences::{RunError, run};
 use std::alloc::AllocError;
 use std::io;
 use std::process::ExitCode;
+use stream_text::row_lines::{PrintError, print_rows};
 use vectors::vector_rows;
 
 // A text differed.

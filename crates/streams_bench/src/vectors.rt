@@ -12,7 +12,6 @@ pub mod rows;
 pub mod status;
 pub mod trim;
 
-use crate::print::Row;
 use redis_streams::{
     StreamAutoClaimReply, StreamClaimReply, StreamInfoConsumersReply, StreamInfoGroupsReply,
     StreamInfoStreamReply, StreamInfoStreamReplyWithIdempotency, StreamPendingCountReply,
@@ -20,7 +19,7 @@ use redis_streams::{
 };
 use std::alloc::{AllocError, Global};
 use stream_text::vectors::config::push_config_rows;
-use stream_text::vectors::{push_options_rows, push_reply_rows};
+use stream_text::vectors::{Row, push_options_rows, push_reply_rows};
 
 /// A row for each vector, in ascending order. It fails only where memory runs out.
 pub fn vector_rows(alloc: Global) -> Result<Vec<Row>, AllocError>

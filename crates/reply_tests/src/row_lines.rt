@@ -1,8 +1,9 @@
-use crate::print::{PrintError, Row, print_rows};
 use std::alloc::{AllocError, Global};
 use std::io::{self, ErrorKind, Write};
 use std::process::Abort;
 use std::test::Fail;
+use stream_text::row_lines::{PrintError, print_rows};
+use stream_text::vectors::Row;
 
 // A row of the name `v01` for each text and the text that it has to be.
 fn rows_of(alloc: Global, texts: &[(&str, &str)]) -> Result<Vec<Row>, AllocError> {

@@ -2,9 +2,9 @@ use Rattle.std.proofs.Common.{rules, ◌≡◌, ◌∙◌, sym, ap, append_assoc
 use Rattle.std.specs.Vec.Iter.{into_iter_items}
 use Rattle.stream_options.specs.Add.{default_add}
 use Rattle.stream_options.specs.AddCalls.{after_add}
-use Rattle.streams_bench.specs.CallsMeaning.{add_call_of}
-use Rattle.streams_bench.proofs.PlayLemmas.{add_final_push}
-use Rattle.streams_bench.proofs.call_sequences.play_add.Goals as goal
+use Rattle.command_tests.specs.CallsMeaning.{add_call_of}
+use Rattle.command_tests.proofs.PlayLemmas.{add_final_push}
+use Rattle.command_tests.proofs.call_sequences.play_add.Goals as goal
 
 pub loop-call-preserved : goal.loop-call-preserved
 loop-call-preserved c =

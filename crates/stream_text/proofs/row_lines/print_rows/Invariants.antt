@@ -1,8 +1,8 @@
 use Rattle.std.proofs.Common.{◌↔◌, All, IsTrue, take}
 use Rattle.std.specs.Io.KnownBytes.{Appends}
 use Rattle.std.specs.List.{flat_map}
-use Rattle.streams_bench.specs.Line.{IsSame, line_of}
-use Rattle.streams_bench.proofs.print.print_rows.Given as goal
+use Rattle.stream_text.specs.Line.{IsSame, line_of}
+use Rattle.stream_text.proofs.row_lines.print_rows.Given as goal
 
 -- the lines so far were written, and no text so far differed exactly where `all_same` says so
 abbrev pub invariant-loop-row : goal.invariant-loop-row

@@ -2,13 +2,10 @@
 ghost use Rattle.std.specs.Prelude.{◌≡◌, ◌↔◌, All, IfOk, IsTrue, OnOk, string_bytes};
 ghost use Rattle.std.specs.Io.KnownBytes.{Appends};
 ghost use Rattle.std.specs.List.{flat_map};
-ghost use Rattle.streams_bench.specs.Line.{IsSame, line_of};
+ghost use Rattle.stream_text.specs.Line.{IsSame, line_of};
 
-#[cfg(test)]
-mod tests;
-
+use crate::vectors::Row;
 use std::io::{self, Write};
-pub use stream_text::vectors::Row;
 
 /// Why rows were not printed.
 #[derive(Clone, Copy, Debug, PartialEq, Eq)]

@@ -2,8 +2,8 @@ use Rattle.std.proofs.Common.{◌≡◌, map, length, ◌++◌}
 use Rattle.std.specs.Vec.Iter.{into_iter_items, into_iter_len}
 use Rattle.stream_options.specs.Read.{default_read}
 use Rattle.stream_options.specs.ReadCalls.{final_read}
-use Rattle.streams_bench.specs.CallsMeaning.{read_call_of}
-use Rattle.streams_bench.proofs.call_sequences.play_read.Given as goal
+use Rattle.command_tests.specs.CallsMeaning.{read_call_of}
+use Rattle.command_tests.proofs.call_sequences.play_read.Given as goal
 
 -- the settings that the calls so far leave
 abbrev pub invariant-loop-call : goal.invariant-loop-call

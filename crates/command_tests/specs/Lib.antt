@@ -1,2 +1,1 @@
 pub mod CallsMeaning
-pub mod Line

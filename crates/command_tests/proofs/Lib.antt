@@ -1,2 +1,1 @@
 pub mod PlayLemmas
-mod PrintLemmas

@@ -1,8 +1,8 @@
 use Rattle.std.proofs.Common.{inl, inr, ◌∙◌}
-use Rattle.streams_bench.specs.Line.{IsSame, line_of}
-use Rattle.streams_bench.proofs.PrintLemmas.{appends_more, passes_more}
-use Rattle.streams_bench.proofs.print.print_rows.Goals as goal
-use Rattle.streams_bench.proofs.print.print_rows.Goals.{then-branch, else-branch}
+use Rattle.stream_text.specs.Line.{IsSame, line_of}
+use Rattle.stream_text.proofs.PrintLemmas.{appends_more, passes_more}
+use Rattle.stream_text.proofs.row_lines.print_rows.Goals as goal
+use Rattle.stream_text.proofs.row_lines.print_rows.Goals.{then-branch, else-branch}
 
 pub loop-row-preserved : goal.loop-row-preserved
 loop-row-preserved g c =

@@ -2,9 +2,9 @@ use Rattle.std.proofs.Common.{rules, ◌≡◌, ◌∙◌, sym, ap, append_assoc
 use Rattle.std.specs.Vec.Iter.{into_iter_items}
 use Rattle.stream_options.specs.Read.{default_read}
 use Rattle.stream_options.specs.ReadCalls.{after_read}
-use Rattle.streams_bench.specs.CallsMeaning.{read_call_of}
-use Rattle.streams_bench.proofs.PlayLemmas.{read_final_push}
-use Rattle.streams_bench.proofs.call_sequences.play_read.Goals as goal
+use Rattle.command_tests.specs.CallsMeaning.{read_call_of}
+use Rattle.command_tests.proofs.PlayLemmas.{read_final_push}
+use Rattle.command_tests.proofs.call_sequences.play_read.Goals as goal
 
 pub loop-call-preserved : goal.loop-call-preserved
 loop-call-preserved c =
