@@ -2,12 +2,12 @@
 use Rattle.std.proofs.Common.{◌≡◌, ◌≢◌, ◌≤◌, ◌<◌, ◌+◌, ◌-◌, ◌⊎◌, inl, inr, ℕ, zero, suc, List, [], ◌∷◌, ◌++◌, length}
 use Rattle.std.proofs.Common.{take, drop, get_or, Option, Some, None, IfSome, refl, sym, ◌∙◌, ap, subst, arith}
 use Rattle.std.proofs.Common.{append_assoc}
-use Rattle.std.proofs.Math.Seq.{take-suc, take-add}
-use Rattle.std.proofs.lemmas.Bool.{cases_eq}
+use Rattle.std.proofs.Math.Seq.{take-suc, take-add, take-append-add}
+use Rattle.std.proofs.lemmas.Bool.{cases_eq, cases_lt}
 use Rattle.std.proofs.lemmas.Grind.{common_steps}
 use Rattle.std.proofs.lemmas.List.{take-append-drop, drop-append-le, take-append-le, length-append, drop_more}
 use Rattle.std.specs.List.{AllByRecursion}
-use Rattle.line_log.specs.Lines.{HasNoEnd, AreLines, EndsAt, IsLinesAnd, IsRepaired, HasTheLines}
+use Rattle.line_log.specs.Lines.{HasNoEnd, AreLines, EndsAt, IsLinesAnd, IsRepaired, HasTheLines, StartsWith}
 
 -- ---- no line ends
 
@@ -168,3 +168,34 @@ repaired (Some file) new end ends is = (
   record { split = sym (take-append-drop end file); whole = ends.1; torn_line = ends.2 },
   is,
 )
+
+-- ---- a front of whole lines
+
+none_after : (xs ys : List ℕ) → HasNoEnd (xs ++ ys) → HasNoEnd ys
+none_after [] ys p = p
+none_after (x ∷ xs) ys p = none_after xs ys p.1
+
+-- the last line feed of the front stands before the end of the whole lines
+pub front_ends_before : (front behind : List ℕ) (end : ℕ) → AreLines front → EndsAt (Some (front ++ behind)) end
+    → length front ≤ end
+front_ends_before front behind end (inl none) ends = omega (arith, ap length none)
+front_ends_before front behind end (inr ended) ends = elim (cases_lt (length ended.0) end) [
+  | inl before ↦ omega (arith, before, ap length ended.1, length-append ended.0 (10 ∷ []))
+  | inr behind_it ↦
+      let same : front ++ behind ≡ ended.0 ++ 10 ∷ behind =
+      ap (λ xs. xs ++ behind) ended.1 ∙ append_assoc ended.0 (10 ∷ []) behind in
+      let torn : HasNoEnd (drop end ended.0 ++ 10 ∷ behind) =
+      subst HasNoEnd (ap (λ xs. drop end xs) same ∙ drop-append-le end ended.0 (10 ∷ behind) behind_it) ends.2 in
+      absurd ((none_after (drop end ended.0) (10 ∷ behind) torn).0 refl)
+]
+
+-- a cut behind the front leaves the front
+pub front_stays : (front d c : List ℕ) (end len : ℕ) → length front ≤ end → end ≤ len → StartsWith front d
+    → c ≡ take len d → StartsWith front c
+front_stays front d c end len le cut starts is =
+    let more = len - length front in
+    let same : len ≡ length front + more = omega (arith, le, cut) in (
+      take more starts.0,
+      is ∙ ap (λ xs. take len xs) starts.1 ∙ ap (λ n. take n (front ++ starts.0)) same
+          ∙ take-append-add front starts.0 more,
+    )

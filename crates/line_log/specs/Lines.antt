@@ -10,6 +10,14 @@ HasNoEnd bytes = AllByRecursion (λ b. b ≢ 10) bytes
 abbrev pub AreLines : List ℕ → Type 0
 AreLines bytes = (bytes ≡ []) ⊎ ((front : List ℕ) × (bytes ≡ front ++ 10 ∷ []))
 
+-- the bytes begin with these
+abbrev pub StartsWith : List ℕ → List ℕ → Type 0
+StartsWith front bytes = (behind : List ℕ) × (bytes ≡ front ++ behind)
+
+-- whichever of these is left, it begins with these bytes
+abbrev pub EachStartsWith : List ℕ → (List ℕ → Type 0) → Type 0
+EachStartsWith front outcomes = (c : List ℕ) → outcomes c → StartsWith front c
+
 -- the file is these whole lines, and behind them a last line that has no end
 pub record IsLinesAnd (file lines torn : List ℕ) : Type 0 where
   pub split : file ≡ lines ++ torn

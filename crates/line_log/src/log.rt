@@ -1,8 +1,8 @@
 //! Lines that are gathered, and committed at once.
-ghost use Rattle.std.specs.Prelude.{◌≡◌, ◌++◌, [], ◌∷◌, true, false, IfOk, OnOk, OnErr};
+ghost use Rattle.std.specs.Prelude.{◌≡◌, ◌++◌, [], ◌∷◌, ℕ, List, Some, true, false, IfOk, OnOk, OnErr};
 ghost use Rattle.std.specs.Io.KnownBytes.{Appends};
 ghost use Rattle.line_log.specs.Device.{IsOnDisk, LeavesOnly};
-ghost use Rattle.line_log.specs.Lines.{IsRepaired};
+ghost use Rattle.line_log.specs.Lines.{AreLines, EachStartsWith, HasTheLines, IsRepaired, StartsWith};
 ghost use Rattle.line_log.specs.Log.{BeginsWith};
 
 use crate::device::LogFile;
@@ -22,11 +22,19 @@ pub struct LineLog<D: LogFile + Drop> {
 
 impl<D: LogFile + Drop> LineLog<D> {
     /// Repairs the end of the file, behind which lines are appended then.
+    ///
+    /// A crash at any moment of it leaves each whole line that is on the disk: so lines that were
+    /// committed stay, also where a process was killed and the end of its last batch is on no disk.
     pub fn open(alloc: Global, file: D) -> Result<LineLog<D>, LogError>
         ensures file { IfOk result (λ log. IsRepaired (D.seen file) (D.seen log.file)) }
         ensures on_disk { IfOk result (λ log. IsOnDisk D.seen D.may_leave log.file) }
         ensures batch { IfOk result (λ log. log.batch.items ≡ []) }
         ensures works { IfOk result (λ log. log.is_broken ≡ false) }
+        ensures any_moment { IfOk result (λ log. IsOnDisk D.seen D.may_leave file
+            → LeavesOnly D.moment D.left_since file log.file (HasTheLines (D.seen file))) }
+        ensures keeps { IfOk result (λ log. (front behind : List ℕ) → AreLines front
+            → D.seen file ≡ Some (front ++ behind) → EachStartsWith front (D.may_leave file)
+            → LeavesOnly D.moment D.left_since file log.file (StartsWith front)) }
     {
         let mut file = file;
         repair(alloc, &mut file)?;
@@ -62,6 +70,8 @@ impl<D: LogFile + Drop> LineLog<D> {
         ensures any_moment { IsOnDisk D.seen D.may_leave self.old.file
             → LeavesOnly D.moment D.left_since self.old.file self.new.file
             (BeginsWith (D.seen self.old.file) self.old.batch.items) }
+        ensures keeps { (front : List ℕ) → EachStartsWith front (D.may_leave self.old.file)
+            → LeavesOnly D.moment D.left_since self.old.file self.new.file (StartsWith front) }
         ensures kept { OnErr result (self.new.batch.items ≡ self.old.batch.items) }
         ensures works { OnOk result (self.new.is_broken ≡ false) }
         ensures broken { OnErr result (self.new.is_broken ≡ true) }

@@ -1,7 +1,7 @@
 //! The end of a file that a crash may have left.
-ghost use Rattle.std.specs.Prelude.{◌≤◌, IfOk, OnOk, length, take, drop};
+ghost use Rattle.std.specs.Prelude.{◌≡◌, ◌≤◌, ◌++◌, ℕ, List, Some, IfOk, OnOk, length, take, drop};
 ghost use Rattle.line_log.specs.Device.{IsOnDisk, LeavesOnly};
-ghost use Rattle.line_log.specs.Lines.{AreLines, EndsAt, HasNoEnd, HasTheLines, IsRepaired};
+ghost use Rattle.line_log.specs.Lines.{AreLines, EachStartsWith, EndsAt, HasNoEnd, HasTheLines, IsRepaired, StartsWith};
 
 use crate::device::LogFile;
 use crate::error::LogError;
@@ -43,12 +43,17 @@ fn len_of_lines<D: LogFile>(alloc: Global, file: &D) -> Result<usize, LogError>
 
 /// Cuts off a last line that has no end, and has the disk take in what is left.
 ///
-/// A crash at any moment of it leaves the whole lines that were there.
+/// A crash at any moment of it leaves the whole lines that were there, if all of the file is on the
+/// disk. After a process that was killed only its front is: then every crash leaves that front, if it
+/// is whole lines.
 pub fn repair<D: LogFile>(alloc: Global, file: &mut D) -> Result<(), LogError>
     ensures repaired { OnOk result (IsRepaired (D.seen file.old) (D.seen file.new)) }
     ensures on_disk { OnOk result (IsOnDisk D.seen D.may_leave file.new) }
     ensures any_moment { IsOnDisk D.seen D.may_leave file.old
         → LeavesOnly D.moment D.left_since file.old file.new (HasTheLines (D.seen file.old)) }
+    ensures keeps { (front behind : List ℕ) → AreLines front → D.seen file.old ≡ Some (front ++ behind)
+        → EachStartsWith front (D.may_leave file.old)
+        → LeavesOnly D.moment D.left_since file.old file.new (StartsWith front) }
 {
     let end = len_of_lines(alloc, &*file)?;
     file.cut(end)?;
