@@ -98,6 +98,7 @@ fn answer_of(alloc: Global, word: &str, value: Value) -> Result<String> {
         "customer" => customer(alloc, value),
         "repairs" => repairs(alloc, value),
         "commits" => commits(alloc, value),
+        "crashes" => crashes(alloc, value),
         "escapes" => escapes(alloc, value),
         "protocols" => protocols(alloc, value),
         "streams" => streams(alloc, value),
@@ -355,7 +356,7 @@ fn repairs(alloc: Global, before: Value) -> Result<String> {
     Ok(format!(in alloc; "{:?}", str::from_utf8(file.bytes())?)?)
 }
 
-/// A file that takes so many bytes, and then fails, as a full disk does.
+/// A file that takes so many bytes, and then fails, as a full disk does. Then it has room for ten more.
 #[derive(Drop)]
 struct Small {
     bytes: Vec<u8>,
@@ -367,6 +368,10 @@ impl LogFile for Small {
     ghost seen = { λ _. None };
 
     ghost may_leave = { λ _ _. ⊥ };
+
+    ghost is_sound = { λ _. Unit {0} };
+
+    ghost seen_is_left = { λ _. tt };
 
     ghost moment = { λ _. 0 };
 
@@ -394,6 +399,7 @@ impl LogFile for Small {
     fn append(&mut self, bytes: &[u8]) -> Result<(), LogError> {
         for byte in bytes {
             if self.bytes.len() >= self.room {
+                self.room = self.room.saturating_add(10);
                 return Err(LogError::File(io::Error::from(ErrorKind::StorageFull)));
             }
             self.bytes.push(*byte)?;
@@ -413,7 +419,7 @@ impl LogFile for Small {
 }
 
 /// What a log over a file with room for ten bytes says to each batch of lines; then the file, and how
-/// often it was synced. One write and one sync a batch; a log whose write failed takes no more.
+/// often it was synced. One write and one sync a batch; after a write that failed the file is cut back first.
 fn commits(alloc: Global, batches: Value) -> Result<String> {
     let batches: Vec<Vec<RawBytes>> = from_redis_value(alloc, batches)?;
     let file = Small {
@@ -440,8 +446,118 @@ fn commit(log: &mut LineLog<Small>, batch: &[RawBytes]) -> Result<&'static str> 
         Ok(()) => Ok("taken "),
         Err(LogError::Memory) => Err(AllocError.into()),
         Err(LogError::File(_)) => Ok("failed "),
-        Err(LogError::Broken) => Ok("broken "),
     }
+}
+
+/// A file that takes what is written into a buffer, which a sync writes onto the disk. It notes what a
+/// crash could have left at each moment: fronts of what is in the buffer; and, if its two halves are
+/// written in the other order, zeros in place of the first half.
+#[derive(Drop)]
+struct Buffered {
+    alloc: Global,
+    disk: Vec<u8>,
+    seen: Vec<u8>,
+    crashes: Vec<Crash>,
+}
+
+/// What was on the disk before a write, and what a crash left of it and of the write.
+#[derive(Drop)]
+struct Crash {
+    before: Vec<u8>,
+    left: Vec<u8>,
+}
+
+impl Buffered {
+    // Notes that a crash could leave these bytes behind what is on the disk.
+    fn note(&mut self, behind: &[u8]) -> Result<(), LogError> {
+        let before = self.disk.to_vec(self.alloc)?;
+        let mut left = self.disk.to_vec(self.alloc)?;
+        left.extend_from_slice(behind)?;
+        Ok(self.crashes.push(Crash { before, left })?)
+    }
+
+    // Notes each front of the bytes, and their second half behind zeros.
+    fn note_all(&mut self, bytes: &[u8]) -> Result<(), LogError> {
+        for len in 0..=bytes.len() {
+            self.note(bytes.get(..len).unwrap_or(bytes))?;
+        }
+        let half = bytes.len() / 2;
+        let mut torn = vec![in self.alloc; 0u8; half]?;
+        torn.extend_from_slice(bytes.get(half..).unwrap_or(bytes))?;
+        self.note(&torn)
+    }
+}
+
+impl LogFile for Buffered {
+    ghost seen = { λ _. None };
+
+    ghost may_leave = { λ _ _. ⊥ };
+
+    ghost is_sound = { λ _. Unit {0} };
+
+    ghost seen_is_left = { λ _. tt };
+
+    ghost moment = { λ _. 0 };
+
+    ghost left_since = { λ _ _ _. ⊥ };
+
+    ghost counts_now = { λ _ _ _ _ none. none };
+
+    ghost only_now = { λ _ _ none. none };
+
+    fn len(&self) -> Result<usize, LogError> {
+        Ok(self.seen.len())
+    }
+
+    fn read_at(&self, alloc: Global, at: usize, len: usize) -> Result<Vec<u8>, LogError> {
+        let rest = self.seen.get(at..).unwrap_or(&[]);
+        let read = rest.get(..len).unwrap_or(rest);
+        Ok(read.to_vec(alloc)?)
+    }
+
+    fn append(&mut self, bytes: &[u8]) -> Result<(), LogError> {
+        self.seen.extend_from_slice(bytes)?;
+        self.note_all(bytes)
+    }
+
+    fn cut(&mut self, len: usize) -> Result<(), LogError> {
+        self.seen.truncate(len);
+        Ok(())
+    }
+
+    fn sync(&mut self) -> Result<(), LogError> {
+        self.disk = self.seen.to_vec(self.alloc)?;
+        Ok(())
+    }
+}
+
+/// How many crashes could come while batches are committed, and of how many of them the file that is
+/// left, once it was opened again, has lost a line that was on the disk.
+fn crashes(alloc: Global, batches: Value) -> Result<String> {
+    let batches: Vec<Vec<RawBytes>> = from_redis_value(alloc, batches)?;
+    let file = Buffered {
+        alloc,
+        disk: Vec::new(alloc),
+        seen: Vec::new(alloc),
+        crashes: Vec::new(alloc),
+    };
+    let mut log = LineLog::open(alloc, file)?;
+    for batch in &batches {
+        for line in batch {
+            log.add_line(&line.0)?;
+        }
+        log.commit()?;
+    }
+    let file = log.into_file();
+    let mut lost = 0u64;
+    for crash in &file.crashes {
+        let mut left = MemoryFile::new(alloc, crash.left.to_vec(alloc)?);
+        repair(alloc, &mut left)?;
+        if !left.bytes().starts_with(&crash.before) {
+            lost = lost.saturating_add(1);
+        }
+    }
+    Ok(format!(in alloc; "{} crashes, {lost} lost a line", file.crashes.len())?)
 }
 
 /// The bytes of a text as they stand in a line.

@@ -1,6 +1,7 @@
 -- Lemmas on files that a crash leaves.
 pub mod EndLemmas
 pub mod EscapeLemmas
+mod HoldLemmas
 mod Kept
 mod Moments
 pub mod RepairLemmas

@@ -2,5 +2,6 @@
 pub mod Device
 pub mod Lines
 pub mod Escape
+pub mod Holds
 pub mod Log
 pub mod Past

@@ -1,6 +1,6 @@
 -- What a log's file has.
 use Rattle.line_log.specs.declared.error.LogError.{LogError}
-use Rattle.line_log.specs.declared.error.LogError.TheVariants.{Memory, File, Broken}
+use Rattle.line_log.specs.declared.error.LogError.TheVariants.{Memory, File}
 use Rattle.std.specs.Prelude.{◌≡◌, ◌≤◌, ℕ, List, ◌++◌, length, Option, IfSome}
 
 -- a crash left what the known file had, and behind it as many bytes as were written or fewer
@@ -11,4 +11,3 @@ BeginsWith old batch c = IfSome old (λ file. (behind : List ℕ) × (c ≡ file
 abbrev pub IsOfTheSystem : LogError → Type 0
 IsOfTheSystem Memory = ⊥
 IsOfTheSystem (File reason) = Unit {0}
-IsOfTheSystem Broken = ⊥

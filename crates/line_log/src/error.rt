@@ -15,9 +15,6 @@ pub enum LogError {
     /// The system refused.
     #[error("{0}")]
     File(io::Error),
-    /// A write or a sync failed before: what the file has is not known until it is opened again.
-    #[error("an earlier write failed")]
-    Broken,
 }
 
 impl From<AllocError> for LogError {

@@ -1,22 +1,28 @@
 //! Lines that are gathered, and committed at once.
-ghost use Rattle.std.specs.Prelude.{◌≡◌, ◌++◌, [], ◌∷◌, ℕ, List, Some, true, false, IfOk, OnOk, OnErr};
+ghost use Rattle.std.specs.Prelude.{◌≡◌, ◌≤◌, ◌++◌, [], ◌∷◌, ℕ, List, Some, length, take, true, false, IfOk, IfSome, IsSome, OnOk, OnErr};
 ghost use Rattle.std.specs.Io.KnownBytes.{Appends};
 ghost use Rattle.line_log.specs.Device.{IsOnDisk, LeavesOnly};
+ghost use Rattle.line_log.specs.Holds.{Holds, cut_back};
 ghost use Rattle.line_log.specs.Lines.{AreLines, EachStartsWith, HasTheLines, IsRepaired, StartsWith};
 ghost use Rattle.line_log.specs.Log.{BeginsWith};
 
 use crate::device::LogFile;
 use crate::error::LogError;
-use crate::opening::repair;
+use crate::opening::repaired_len;
 use std::alloc::Global;
+use std::io::{self, ErrorKind};
 
 /// A file of lines, and the lines that are not committed yet.
 ///
-/// After a commit that failed the log takes no more: open the file again.
+/// After a commit that failed the next one first cuts the file back to what is committed: what a system
+/// could not write it drops, and a later sync says nothing of it.
 #[derive(Drop)]
 pub struct LineLog<D: LogFile + Drop> {
     file: D,
     batch: Vec<u8>,
+    /// How many bytes of the file are committed.
+    len: usize,
+    /// Whether something of a commit that failed may stand behind them.
     is_broken: bool,
 }
 
@@ -27,7 +33,10 @@ impl<D: LogFile + Drop> LineLog<D> {
     /// committed stay, also where a process was killed and the end of its last batch is on no disk.
     pub fn open(alloc: Global, file: D) -> Result<LineLog<D>, LogError>
         ensures file { IfOk result (λ log. IsRepaired (D.seen file) (D.seen log.file)) }
-        ensures on_disk { IfOk result (λ log. IsOnDisk D.seen D.may_leave log.file) }
+        ensures on_disk { IfOk result (λ log. D.is_sound file → IsOnDisk D.seen D.may_leave log.file) }
+        ensures holds { IfOk result (λ log. D.is_sound file → IfSome (D.seen file)
+            (λ bytes. Holds D.seen D.may_leave D.is_sound (take log.len bytes)
+            log.file log.len log.is_broken)) }
         ensures batch { IfOk result (λ log. log.batch.items ≡ []) }
         ensures works { IfOk result (λ log. log.is_broken ≡ false) }
         ensures any_moment { IfOk result (λ log. IsOnDisk D.seen D.may_leave file
@@ -37,10 +46,11 @@ impl<D: LogFile + Drop> LineLog<D> {
             → LeavesOnly D.moment D.left_since file log.file (StartsWith front)) }
     {
         let mut file = file;
-        repair(alloc, &mut file)?;
+        let len = repaired_len(alloc, &mut file)?;
         Ok(LineLog {
             file,
             batch: Vec::new(alloc),
+            len,
             is_broken: false,
         })
     }
@@ -51,7 +61,7 @@ impl<D: LogFile + Drop> LineLog<D> {
         ensures ok { OnOk result
             (self.new.batch.items ≡ self.old.batch.items ++ (line.now ++ 10 ∷ [])) }
         ensures err { OnErr result (self.new.batch.items ≡ self.old.batch.items) }
-        ensures file { self.new.file ≡ self.old.file }
+        ensures file { (self.new.file ≡ self.old.file) × (self.new.len ≡ self.old.len) }
         ensures works { self.new.is_broken ≡ self.old.is_broken }
     {
         push_line(&mut self.batch, line)
@@ -61,29 +71,69 @@ impl<D: LogFile + Drop> LineLog<D> {
     ///
     /// After an Ok every crash leaves a file that begins with what it had before and these lines. A
     /// crash at any moment of the call leaves what the file had before, and behind it as many bytes
-    /// as these lines have or fewer.
+    /// as these lines have or fewer. After an `Err` what was committed before stays, and the next commit
+    /// writes these lines too.
     pub fn commit(&mut self) -> Result<(), LogError>
+        ensures holds { OnOk result ((lines : List ℕ)
+            → Holds D.seen D.may_leave D.is_sound lines self.old.file self.old.len self.old.is_broken
+            → Holds D.seen D.may_leave D.is_sound (lines ++ self.old.batch.items)
+            self.new.file self.new.len self.new.is_broken) }
+        ensures held { OnErr result ((lines : List ℕ)
+            → Holds D.seen D.may_leave D.is_sound lines self.old.file self.old.len self.old.is_broken
+            → Holds D.seen D.may_leave D.is_sound lines
+            self.new.file self.new.len self.new.is_broken) }
         ensures appended { OnOk result
-            (Appends (D.seen self.old.file) (D.seen self.new.file) self.old.batch.items) }
-        ensures on_disk { OnOk result (IsOnDisk D.seen D.may_leave self.new.file) }
+            (Appends (cut_back self.old.is_broken self.old.len (D.seen self.old.file))
+            (D.seen self.new.file) self.old.batch.items) }
+        ensures on_disk { OnOk result (self.old.is_broken ≡ false → D.is_sound self.old.file
+            → IsOnDisk D.seen D.may_leave self.new.file) }
         ensures batch { OnOk result (self.new.batch.items ≡ []) }
-        ensures any_moment { IsOnDisk D.seen D.may_leave self.old.file
+        ensures any_moment { self.old.is_broken ≡ false → IsOnDisk D.seen D.may_leave self.old.file
             → LeavesOnly D.moment D.left_since self.old.file self.new.file
             (BeginsWith (D.seen self.old.file) self.old.batch.items) }
         ensures keeps { (front : List ℕ) → EachStartsWith front (D.may_leave self.old.file)
+            → (self.old.is_broken ≡ true → length front ≤ self.old.len)
             → LeavesOnly D.moment D.left_since self.old.file self.new.file (StartsWith front) }
         ensures kept { OnErr result (self.new.batch.items ≡ self.old.batch.items) }
         ensures works { OnOk result (self.new.is_broken ≡ false) }
         ensures broken { OnErr result (self.new.is_broken ≡ true) }
     {
-        if self.is_broken {
-            return Err(LogError::Broken);
-        }
+        self.cut_back()?;
         self.is_broken = true;
-        self.file.append(&self.batch)?;
-        self.file.sync()?;
+        let Some(len) = self.len.checked_add(self.batch.len()) else {
+            return Err(LogError::File(io::Error::from(ErrorKind::FileTooLarge)));
+        };
+        write_through(&mut self.file, &self.batch)?;
+        self.len = len;
         self.batch.clear();
         self.is_broken = false;
+        Ok(())
+    }
+
+    /// Cuts off what a commit left that failed. A crash at any moment of it leaves what is committed.
+    fn cut_back(&mut self) -> Result<(), LogError>
+        ensures rest { (self.new.batch ≡ self.old.batch) × (self.new.len ≡ self.old.len)
+            × (self.new.is_broken ≡ self.old.is_broken) }
+        ensures intact { self.old.is_broken ≡ false → self.new.file ≡ self.old.file }
+        ensures cut { OnOk result (IfSome (D.seen self.old.file) (λ bytes. D.seen self.new.file
+            ≡ cut_back self.old.is_broken self.old.len (Some bytes))) }
+        ensures held { (lines : List ℕ)
+            → Holds D.seen D.may_leave D.is_sound lines self.old.file self.old.len self.old.is_broken
+            → Holds D.seen D.may_leave D.is_sound lines self.new.file self.new.len self.new.is_broken }
+        ensures fails { OnErr result (self.old.is_broken ≡ true) }
+        ensures ready { OnOk result ((lines : List ℕ)
+            → Holds D.seen D.may_leave D.is_sound lines self.old.file self.old.len self.old.is_broken
+            → (D.seen self.new.file ≡ Some lines) × D.is_sound self.new.file) }
+        ensures left { (front : List ℕ) → EachStartsWith front (D.may_leave self.old.file)
+            → (self.old.is_broken ≡ true → length front ≤ self.old.len)
+            → EachStartsWith front (D.may_leave self.new.file) }
+        ensures keeps { (front : List ℕ) → EachStartsWith front (D.may_leave self.old.file)
+            → (self.old.is_broken ≡ true → length front ≤ self.old.len)
+            → LeavesOnly D.moment D.left_since self.old.file self.new.file (StartsWith front) }
+    {
+        if self.is_broken {
+            self.file.cut(self.len)?;
+        }
         Ok(())
     }
 
@@ -107,4 +157,21 @@ fn push_line(batch: &mut Vec<u8>, line: &[u8]) -> Result<(), LogError>
         return Err(LogError::Memory);
     }
     Ok(())
+}
+
+/// Writes bytes behind what a file has, and has the disk take them in: one write and one sync.
+fn write_through<D: LogFile>(file: &mut D, bytes: &[u8]) -> Result<(), LogError>
+    ensures appended { OnOk result (Appends (D.seen file.old) (D.seen file.new) bytes.now) }
+    ensures on_disk { OnOk result (D.is_sound file.old → IsOnDisk D.seen D.may_leave file.new) }
+    ensures sound { OnOk result (D.is_sound file.old → D.is_sound file.new) }
+    ensures known { IsSome (D.seen file.old) → IsSome (D.seen file.new) }
+    ensures any_moment { IsOnDisk D.seen D.may_leave file.old
+        → LeavesOnly D.moment D.left_since file.old file.new (BeginsWith (D.seen file.old) bytes.now) }
+    ensures left { (front : List ℕ) → EachStartsWith front (D.may_leave file.old)
+        → EachStartsWith front (D.may_leave file.new) }
+    ensures keeps { (front : List ℕ) → EachStartsWith front (D.may_leave file.old)
+        → LeavesOnly D.moment D.left_since file.old file.new (StartsWith front) }
+{
+    file.append(bytes)?;
+    file.sync()
 }

@@ -1,6 +1,6 @@
 //! A file in memory.
 ghost use Rattle.std.specs.Prelude.{◌≡◌, ◌⊎◌, [], ◌∷◌, ◌++◌, Some, length, drop, OnOk, OnErr};
-ghost use Rattle.std.proofs.Common.{inl};
+ghost use Rattle.std.proofs.Common.{inl, refl};
 ghost use Rattle.line_log.specs.Past.{HadBeen, only_bytes};
 
 use crate::device::LogFile;
@@ -58,6 +58,10 @@ impl LogFile for MemoryFile {
     ghost seen = { λ m. Some m.bytes.items };
 
     ghost may_leave = { λ m c. c ≡ m.bytes.items };
+
+    ghost is_sound = { λ m. Unit {0} };
+
+    ghost seen_is_left = { λ m. refl };
 
     ghost moment = { λ m. length m.past.items };
 

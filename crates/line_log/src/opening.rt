@@ -1,5 +1,5 @@
 //! The end of a file that a crash may have left.
-ghost use Rattle.std.specs.Prelude.{◌≡◌, ◌≤◌, ◌++◌, ℕ, List, Some, IfOk, OnOk, length, take, drop};
+ghost use Rattle.std.specs.Prelude.{◌≡◌, ◌≤◌, ◌++◌, ℕ, List, Some, IfOk, IfSome, OnOk, length, take, drop};
 ghost use Rattle.line_log.specs.Device.{IsOnDisk, LeavesOnly};
 ghost use Rattle.line_log.specs.Lines.{AreLines, EachStartsWith, EndsAt, HasNoEnd, HasTheLines, IsRepaired, StartsWith};
 
@@ -41,14 +41,14 @@ fn len_of_lines<D: LogFile>(alloc: Global, file: &D) -> Result<usize, LogError>
     Ok(0)
 }
 
-/// Cuts off a last line that has no end, and has the disk take in what is left.
-///
-/// A crash at any moment of it leaves the whole lines that were there, if all of the file is on the
-/// disk. After a process that was killed only its front is: then every crash leaves that front, if it
-/// is whole lines.
-pub fn repair<D: LogFile>(alloc: Global, file: &mut D) -> Result<(), LogError>
-    ensures repaired { OnOk result (IsRepaired (D.seen file.old) (D.seen file.new)) }
-    ensures on_disk { OnOk result (IsOnDisk D.seen D.may_leave file.new) }
+/// Cuts off a last line that has no end, has the disk take in what is left, and returns how many bytes
+/// that are.
+pub fn repaired_len<D: LogFile>(alloc: Global, file: &mut D) -> Result<usize, LogError>
+    ensures end { IfOk result (EndsAt (D.seen file.old)) }
+    ensures cut { IfOk result (λ end. IfSome (D.seen file.old)
+        (λ bytes. D.seen file.new ≡ Some (take end bytes))) }
+    ensures on_disk { OnOk result (D.is_sound file.old → IsOnDisk D.seen D.may_leave file.new) }
+    ensures sound { OnOk result (D.is_sound file.old → D.is_sound file.new) }
     ensures any_moment { IsOnDisk D.seen D.may_leave file.old
         → LeavesOnly D.moment D.left_since file.old file.new (HasTheLines (D.seen file.old)) }
     ensures keeps { (front behind : List ℕ) → AreLines front → D.seen file.old ≡ Some (front ++ behind)
@@ -57,5 +57,24 @@ pub fn repair<D: LogFile>(alloc: Global, file: &mut D) -> Result<(), LogError>
 {
     let end = len_of_lines(alloc, &*file)?;
     file.cut(end)?;
-    file.sync()
+    file.sync()?;
+    Ok(end)
+}
+
+/// Cuts off a last line that has no end, and has the disk take in what is left.
+///
+/// A crash at any moment of it leaves the whole lines that were there, if all of the file is on the
+/// disk. After a process that was killed only its front is: then every crash leaves that front, if it
+/// is whole lines.
+pub fn repair<D: LogFile>(alloc: Global, file: &mut D) -> Result<(), LogError>
+    ensures repaired { OnOk result (IsRepaired (D.seen file.old) (D.seen file.new)) }
+    ensures on_disk { OnOk result (D.is_sound file.old → IsOnDisk D.seen D.may_leave file.new) }
+    ensures any_moment { IsOnDisk D.seen D.may_leave file.old
+        → LeavesOnly D.moment D.left_since file.old file.new (HasTheLines (D.seen file.old)) }
+    ensures keeps { (front behind : List ℕ) → AreLines front → D.seen file.old ≡ Some (front ++ behind)
+        → EachStartsWith front (D.may_leave file.old)
+        → LeavesOnly D.moment D.left_since file.old file.new (StartsWith front) }
+{
+    repaired_len(alloc, file)?;
+    Ok(())
 }

@@ -59,6 +59,10 @@ impl LogFile for SystemFile {
 
     ghost may_leave = { λ _ _. ⊥ };
 
+    ghost is_sound = { λ _. Unit {0} };
+
+    ghost seen_is_left = { λ _. tt };
+
     ghost moment = { λ _. 0 };
 
     ghost left_since = { λ _ _ _. ⊥ };

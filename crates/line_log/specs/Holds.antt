@@ -1,0 +1,23 @@
+-- What a log holds: the lines that are committed, whatever crash comes.
+use Rattle.std.specs.Prelude.{◌≡◌, ℕ, List, length, Bool, true, false, Option, Some, IsSome, option_map, take, if◌then◌else◌}
+use Rattle.line_log.specs.Device.{Only}
+use Rattle.line_log.specs.Lines.{EachStartsWith}
+
+module _ {D : Type 0} (seen : D → Option (List ℕ)) (may_leave : D → List ℕ → Type 0) (is_sound : D → Type 0) where
+  -- the file is these lines and nothing else, here and on the disk
+  pub record IsWhole (file : D) (lines : List ℕ) : Type 0 where
+    pub all : seen file ≡ Some lines
+    pub disk : Only lines (may_leave file)
+    pub sound : is_sound file
+
+  -- these lines are committed: whatever a crash leaves begins with them; and nothing stands behind them but where a
+  -- commit failed
+  pub record Holds (lines : List ℕ) (file : D) (len : ℕ) (is_broken : Bool) : Type 0 where
+    pub committed : len ≡ length lines
+    pub known : IsSome (seen file)
+    pub left : EachStartsWith lines (may_leave file)
+    pub whole : is_broken ≡ false → IsWhole file lines
+
+-- what a read returns once what a failed commit left is cut off
+abbrev pub cut_back : Bool → ℕ → Option (List ℕ) → Option (List ℕ)
+cut_back is_broken len known = if is_broken then option_map (λ bytes. take len bytes) known else known
