@@ -1,9 +1,7 @@
-//! Readings of plain types, of long values, by both calls. The program `cases` has the short ones.
+//! Readings of a user's own types, by both calls, and values. The program `cases` has those of plain types.
 mod user;
 mod value;
 
-use crate::line_of;
-use indexmap::IndexMap;
 use redis_resp::{FromRedisValue, from_redis_value, from_redis_value_ref};
 use std::fmt::Debug;
 use std::process::Abort;
@@ -29,25 +27,4 @@ fn check_value<T: FromRedisValue + Debug>(
     let owned = format!(in alloc; "{:?}", from_redis_value::<T>(alloc, value))?;
     assert!(rt; owned.as_str() == shown, "owned: {owned}, not {shown}");
     Ok(())
-}
-
-#[test]
-fn a_long_list_is_read(rt: HostRuntime) -> Result<(), Fail> {
-    let notation = line_of(rt.alloc(), ("Array[", "Int $", ", ", "]"), 10_000)?;
-    let shown = line_of(rt.alloc(), ("Ok([", "$", ", ", "])"), 10_000)?;
-    check_value::<Vec<i64>>(&rt, notation.as_str(), shown.as_str())
-}
-
-#[test]
-fn a_large_table_is_read(rt: HostRuntime) -> Result<(), Fail> {
-    let notation = line_of(rt.alloc(), ("Map[", "n$: Int $", ", ", "]"), 10_000)?;
-    let shown = line_of(rt.alloc(), ("Ok({", "\"n$\": $", ", ", "})"), 10_000)?;
-    check_value::<IndexMap<String, u16>>(&rt, notation.as_str(), shown.as_str())
-}
-
-#[test]
-fn a_large_text_is_read(rt: HostRuntime) -> Result<(), Fail> {
-    let notation = line_of(rt.alloc(), ("", "x", "", ""), 65_536)?;
-    let shown = line_of(rt.alloc(), ("Ok(\"", "x", "", "\")"), 65_536)?;
-    check_value::<String>(&rt, notation.as_str(), shown.as_str())
 }

@@ -1,5 +1,4 @@
-//! Values: which of them differ, the default value, and copies.
-use crate::{Line, line_of};
+//! Values: which of them differ, and the default value.
 use redis_resp::Value;
 use std::process::Abort;
 use std::test::Fail;
@@ -47,33 +46,4 @@ fn no_two_of_these_values_are_equal(rt: HostRuntime) -> Result<(), Fail> {
 #[test]
 fn the_default_value_is_nil(rt: HostRuntime) {
     assert!(rt; Value::default() == Value::Nil);
-}
-
-const KINDS: [Line<'static>; 8] = [
-    ("\"", "x", "", "\""),
-    ("Simple(\"", "x", "", "\")"),
-    ("Verbatim(txt, \"", "x", "", "\")"),
-    ("Array[", "Int $", ", ", "]"),
-    ("Set[", "Int $", ", ", "]"),
-    ("Map[", "Int $: Okay", ", ", "]"),
-    ("Push(p)[", "Int $", ", ", "]"),
-    ("Attr(Nil; ", "Int $: Okay", ", ", ")"),
-];
-
-/// A copy of the value is equal to it.
-fn check_copy(rt: &(impl AllocGlobal + Abort), notation: &str) -> Result<(), Fail> {
-    let value = read_value(rt.alloc(), notation)?;
-    let copy = value.try_clone(rt.alloc())?;
-    assert!(rt; copy == value, "{notation}");
-    Ok(())
-}
-
-#[test]
-fn values_of_each_length_are_copied(rt: HostRuntime) -> Result<(), Fail> {
-    for kind in &KINDS {
-        for length in 1..65 {
-            check_copy(&rt, line_of(rt.alloc(), *kind, length)?.as_str())?;
-        }
-    }
-    Ok(())
 }
