@@ -1,5 +1,6 @@
 -- Lemmas on files that a crash leaves.
 pub mod EndLemmas
+pub mod EntryLineLemmas
 pub mod EscapeLemmas
 mod HoldLemmas
 mod Kept

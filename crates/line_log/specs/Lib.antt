@@ -2,6 +2,7 @@
 pub mod Device
 pub mod Lines
 pub mod Escape
+pub mod EntryLine
 pub mod Holds
 pub mod Log
 pub mod Past

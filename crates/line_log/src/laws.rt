@@ -1,4 +1,5 @@
 //! Laws of lines, as clauses that are known behind a call.
+ghost use Rattle.line_log.specs.EntryLine.{LinesAreWhole, LinesTellEntries};
 ghost use Rattle.line_log.specs.Escape.{TextsArePlain, TextsComeBack};
 
 /// A text comes back out of its line, and no text has a tab or an end of a line in it once it is
@@ -6,4 +7,11 @@ ghost use Rattle.line_log.specs.Escape.{TextsArePlain, TextsComeBack};
 pub fn texts_come_back()
     ensures back { TextsComeBack }
     ensures plain { TextsArePlain }
+{}
+
+/// The line of an entry has no end in it, and tells the entry: its id, and its fields in order, with
+/// repeated ones.
+pub fn lines_tell_entries()
+    ensures whole { LinesAreWhole }
+    ensures tell { LinesTellEntries }
 {}

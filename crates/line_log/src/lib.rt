@@ -10,6 +10,7 @@
 #![tactic(auto)]
 
 mod device;
+mod entry_line;
 mod error;
 mod escape;
 pub mod laws;
@@ -19,6 +20,7 @@ mod opening;
 mod system;
 
 pub use device::LogFile;
+pub use entry_line::push_field;
 pub use error::LogError;
 pub use escape::push_escaped;
 pub use log::LineLog;

@@ -1,0 +1,24 @@
+-- An entry as a line of text.
+use Rattle.std.specs.Prelude.{◌≡◌, ℕ, List, [], ◌∷◌, ◌++◌, flat_map}
+use Rattle.line_log.specs.Escape.{escaped}
+use Rattle.line_log.specs.Lines.{HasNoEnd}
+
+-- an id, and names and values in order
+abbrev pub Entry : Type 0
+Entry = List ℕ × List (List ℕ × List ℕ)
+
+-- a tab, a name, a tab and a value
+abbrev pub field_text : List ℕ × List ℕ → List ℕ
+field_text p = 9 ∷ (escaped p.0 ++ (9 ∷ escaped p.1))
+
+-- the id, and then each field
+abbrev pub line_of : Entry → List ℕ
+line_of e = escaped e.0 ++ flat_map field_text e.1
+
+-- no line ends within the line of an entry
+abbrev pub LinesAreWhole : Type 0
+LinesAreWhole = (e : Entry) → HasNoEnd (line_of e)
+
+-- two entries with the same line are the same
+abbrev pub LinesTellEntries : Type 0
+LinesTellEntries = (a b : Entry) → line_of a ≡ line_of b → a ≡ b
