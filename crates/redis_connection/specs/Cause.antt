@@ -1,4 +1,6 @@
 -- Which error of a connection an error below it becomes.
+use Rattle.std.specs.Prelude.{ℕ, zero, suc, Result, Ok, Err}
+use Rattle.std.specs.declared.io.Error.{Error}
 use Rattle.redis_args.specs.declared.writer.WriteError.{WriteError}
 use Rattle.redis_args.specs.declared.writer.WriteError.TheVariants as write_errors
 use Rattle.redis_wire.specs.declared.fault.WireError.{WireError}
@@ -11,6 +13,12 @@ use Rattle.redis_connection.specs.declared.error.ConnectionError.{ConnectionErro
 use Rattle.redis_connection.specs.declared.error.ConnectionError.TheVariants as errors
 use Rattle.redis_connection.specs.declared.error.AskError.{AskError}
 use Rattle.redis_connection.specs.declared.error.AskError.TheVariants as ask_errors
+
+-- what a read came to: so many bytes; an end where there are none; or the reader's error
+abbrev pub read_failure_of : Result ℕ Error → Result ℕ ConnectionError
+read_failure_of (Ok zero) = Err errors.Closed
+read_failure_of (Ok (suc n)) = Ok (suc n)
+read_failure_of (Err e) = Err (errors.Read e)
 
 -- what a stream of replies met
 abbrev pub failure_of : WireError → ConnectionError

@@ -1,5 +1,7 @@
 -- What goes over a connection.
-use Rattle.std.specs.Prelude.{◌≡◌, ◌<◌, ◌≤◌, ◌-◌, ◌⊎◌, ℕ, List, ◌++◌, take, drop, length, Option}
+use Rattle.std.specs.Prelude.{◌≡◌, ◌≢◌, ◌<◌, ◌≤◌, ◌-◌, ◌⊎◌, ℕ, List, ◌++◌, take, drop, length, Option}
+use Rattle.std.specs.IoError.{error_kind}
+use Rattle.std.specs.declared.io.ErrorKind.TheVariants.{Interrupted}
 use Rattle.std.specs.Io.KnownBytes.{Appends, Consumes, IsAtEnd}
 use Rattle.redis_wire.specs.Decoded.{NoReply, IsFirstFault}
 use Rattle.redis_wire.specs.Grammar.{IsReply}
@@ -84,3 +86,8 @@ IsFaulty held e = Unit {0}
 abbrev pub IsEnded : Link → ConnectionError → Type 0
 IsEnded link errors.Closed = IsAtEnd link.coming × NoReply link.held.limits link.held.bytes
 IsEnded link e = Unit {0}
+
+-- a call of the reader or writer that a signal interrupted was made again, and is no error
+abbrev pub IsRetried : ConnectionError → Type 0
+IsRetried (errors.Read e) = error_kind e ≢ Interrupted
+IsRetried e = Unit {0}

@@ -4,7 +4,7 @@ ghost use Rattle.redis_wire.specs.Packed.{command_bytes};
 ghost use Rattle.redis_wire.specs.PackedArgs.{IsTooLarge};
 ghost use Rattle.redis_wire.specs.Reply.{Answer, answer};
 ghost use Rattle.redis_connection.specs.Ask.{Asks, HasNoAnswer};
-ghost use Rattle.redis_connection.specs.Link.{Link, IsEnded, IsFaulty, IsInPlace, GivesOut, Receives, Sends, SendsFront, Stands, Waits};
+ghost use Rattle.redis_connection.specs.Link.{Link, IsEnded, IsFaulty, IsInPlace, IsRetried, GivesOut, Receives, Sends, SendsFront, Stands, Waits};
 
 use crate::error::{AskError, ConnectionError};
 use crate::incoming::{receive_from, receive_in_place_from};
@@ -106,6 +106,7 @@ impl<R: Read + Drop, W: Write + Drop> Connection<R, W> {
         ensures err { OnErr result (Waits self.old self.new) }
         ensures ended { IfErr result (IsEnded self.new) }
         ensures faulty { IfErr result (IsFaulty self.new.held) }
+        ensures retried { IfErr result IsRetried }
     {
         receive_from(
             alloc,
@@ -124,6 +125,7 @@ impl<R: Read + Drop, W: Write + Drop> Connection<R, W> {
         ensures err { OnErr result (Waits self.old self.new) }
         ensures ended { IfErr result (IsEnded self.new) }
         ensures faulty { IfErr result (IsFaulty self.new.held) }
+        ensures retried { IfErr result IsRetried }
     {
         receive_in_place_from(
             alloc,

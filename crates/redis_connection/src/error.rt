@@ -92,7 +92,7 @@ pub enum AskError {
     #[error("{0}")]
     Connection(ConnectionError),
     /// The server answered this error.
-    #[error("the server answered an error")]
+    #[error("{0}")]
     Server(ServerError),
     /// The answer has no record of the type asked for, or memory was refused.
     #[error("{0}")]

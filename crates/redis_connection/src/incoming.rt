@@ -1,10 +1,12 @@
 //! Replies out of a reader.
-ghost use Rattle.std.specs.Prelude.{◌≡◌, ◌≤◌, ◌<◌, ℕ, None, Some, IfOk, IfErr, OnErr, length};
+ghost use Rattle.std.specs.Prelude.{◌≡◌, ◌≢◌, ◌≤◌, ◌<◌, ℕ, None, Some, IfOk, IfErr, OnErr, length};
 ghost use Rattle.std.specs.Io.{ReadsAtMost};
+ghost use Rattle.std.specs.IoError.{error_kind};
 ghost use Rattle.std.specs.Io.KnownBytes.{ReadConsumes};
 ghost use Rattle.redis_wire.specs.Reply.{answer};
 ghost use Rattle.redis_wire.specs.Decoded.{NoReply};
-ghost use Rattle.redis_connection.specs.Link.{IsEnded, IsFaulty, IsInPlace, Receives, Waits};
+ghost use Rattle.redis_connection.specs.Cause.{read_failure_of};
+ghost use Rattle.redis_connection.specs.Link.{IsEnded, IsFaulty, IsInPlace, IsRetried, Receives, Waits};
 ghost use Rattle.redis_connection.specs.Seen.{seen};
 
 use crate::error::ConnectionError;
@@ -17,6 +19,7 @@ use std::io::{ErrorKind, Read};
 fn read_once<R: Read>(reader: &mut R, piece: &mut [u8]) -> io::Result<usize>
     ensures bound { ReadsAtMost result piece.new }
     ensures bytes { ReadConsumes (R.remaining reader.old) (R.remaining reader.new) result piece.new }
+    ensures retried { IfErr result (λ e. error_kind e ≢ ErrorKind.Interrupted) }
 {
     for _turn in 0..u64::MAX {
         match reader.read(piece) {
@@ -29,6 +32,17 @@ fn read_once<R: Read>(reader: &mut R, piece: &mut [u8]) -> io::Result<usize>
         }
     }
     Err(io::Error::from(ErrorKind::TimedOut))
+}
+
+/// What a read came to: so many bytes; `Closed` where there are none; or the reader's error.
+fn read_len(read: io::Result<usize>) -> Result<usize, ConnectionError>
+    ensures { result ≡ read_failure_of read }
+{
+    match read {
+        Ok(0) => Err(ConnectionError::Closed),
+        Ok(len) => Ok(len),
+        Err(error) => Err(ConnectionError::Read(error)),
+    }
 }
 
 /// Takes more in, where no reply is held: the bytes of `piece` that are left, or else what the reader
@@ -51,13 +65,10 @@ fn take_in<R: Read>(
         (IsEnded (seen None (R.remaining reader.new) replies.new piece.new unfed.new)) }
     ensures faulty { IfErr result
         (IsFaulty (seen None (R.remaining reader.new) replies.new piece.new unfed.new).held) }
+    ensures retried { IfErr result IsRetried }
 {
     if *unfed == 0 {
-        match read_once(reader, piece) {
-            Ok(0) => return Err(ConnectionError::Closed),
-            Ok(len) => *unfed = len,
-            Err(error) => return Err(ConnectionError::Read(error)),
-        }
+        *unfed = read_len(read_once(reader, piece))?;
     }
     replies.feed(&piece[..*unfed])?;
     *unfed = 0;
@@ -86,6 +97,7 @@ pub fn receive_from<R: Read>(
         (IsEnded (seen None (R.remaining reader.new) replies.new piece.new unfed.new)) }
     ensures faulty { IfErr result
         (IsFaulty (seen None (R.remaining reader.new) replies.new piece.new unfed.new).held) }
+    ensures retried { IfErr result IsRetried }
 {
     for _turn in 0..u64::MAX {
         if let Some(reply) = replies.next(alloc)? {
@@ -117,6 +129,7 @@ pub fn receive_in_place_from<R: Read>(
         (IsEnded (seen None (R.remaining reader.new) replies.new piece.new unfed.new)) }
     ensures faulty { IfErr result
         (IsFaulty (seen None (R.remaining reader.new) replies.new piece.new unfed.new).held) }
+    ensures retried { IfErr result IsRetried }
 {
     for _turn in 0..u64::MAX {
         if let Some(len) = replies.next_in_place(alloc)? {
