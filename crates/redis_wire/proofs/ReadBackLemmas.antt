@@ -31,7 +31,7 @@ use Rattle.redis_wire.proofs.CommandLemmas.{decimal_digits, is_length, is_bulk}
 
 -- ---- lines
 
-line_value : (limits : Limits) (d mark : ℕ) (k : LineKind) (text : List ℕ) (a : Answer)
+pub line_value : (limits : Limits) (d mark : ℕ) (k : LineKind) (text : List ℕ) (a : Answer)
     → kind_of mark ≡ Some (kinds.Line k) → list_all is_inner text ≡ true → length text ≤ limits.line
     → line_answer k text ≡ Ok a → IsValue limits (suc d) (line_bytes mark text) a
 unfolding IsValue
@@ -94,13 +94,13 @@ okay_is limits d line =
     line_value limits d 43 lines.Status (codes "OK") _ refl refl
     (omega (arith, line)) refl
 
-nil3_is : (limits : Limits) (d : ℕ) → IsValue limits (suc d) (line_bytes 95 []) (value nil)
+pub nil3_is : (limits : Limits) (d : ℕ) → IsValue limits (suc d) (line_bytes 95 []) (value nil)
 unfolding line_answer
 nil3_is limits d =
     line_value limits d 95 lines.Null [] _ refl refl (omega arith)
     refl
 
-nil2_is : (limits : Limits) (d : ℕ) → 20 ≤ limits.line
+pub nil2_is : (limits : Limits) (d : ℕ) → 20 ≤ limits.line
     → IsValue limits (suc d) (line_bytes 36 (codes "-1")) (value nil)
 unfolding IsValue length_of number_of signed_of numeral signed_within no_blob_answer
 nil2_is limits d line = record {
@@ -121,25 +121,25 @@ nil2_is limits d line = record {
 
 -- ---- arrays and maps
 
-trees_again : (ts : Trees) → trees (list_of_trees ts) ≡ ts
+pub trees_again : (ts : Trees) → trees (list_of_trees ts) ≡ ts
 trees_again no_trees = refl
 trees_again (more_trees t ts) = ap (λ (z : Trees). more_trees t z) (trees_again ts)
 
-pairs_again : (ps : Pairs) → pairs (list_of_pairs ps) ≡ ps
+pub pairs_again : (ps : Pairs) → pairs (list_of_pairs ps) ≡ ps
 pairs_again no_pairs = refl
 pairs_again (more_pairs k x ps) = ap (λ (z : Pairs). more_pairs k x z) (pairs_again ps)
 
 -- keys and values in turn
-in_turn : Pairs → List Tree
+unfoldable pub in_turn : Pairs → List Tree
 in_turn no_pairs = []
 in_turn (more_pairs k x ps) = k ∷ x ∷ in_turn ps
 
-two_by_two_again : (ps : Pairs) → two_by_two (in_turn ps) ≡ Some (list_of_pairs ps)
+pub two_by_two_again : (ps : Pairs) → two_by_two (in_turn ps) ≡ Some (list_of_pairs ps)
 unfolding in_turn
 two_by_two_again no_pairs = refl
 two_by_two_again (more_pairs k x ps) = ap (option_map (λ (z : List (Tree × Tree)). (k, x) ∷ z)) (two_by_two_again ps)
 
-array_value : (limits : Limits) (d n : ℕ) (body : List ℕ) (ts : Trees) → n ≤ limits.length → limits.length < 2 ^ 32
+pub array_value : (limits : Limits) (d n : ℕ) (body : List ℕ) (ts : Trees) → n ≤ limits.length → limits.length < 2 ^ 32
     → 20 ≤ limits.line → AreMembers (IsValue limits d) n body (values (list_of_trees ts))
     → IsValue limits (suc d) (count_bytes 42 n ++ body) (value (array ts))
 unfolding IsValue group_tree
@@ -159,7 +159,7 @@ array_value limits d n body ts le small line members = record {
   };
 }
 
-map_value : (limits : Limits) (d n : ℕ) (body : List ℕ) (ps : Pairs) → n ≤ limits.length → limits.length < 2 ^ 32
+pub map_value : (limits : Limits) (d n : ℕ) (body : List ℕ) (ps : Pairs) → n ≤ limits.length → limits.length < 2 ^ 32
     → 20 ≤ limits.line → AreMembers (IsValue limits d) (2 * n) body (values (in_turn ps))
     → IsValue limits (suc d) (count_bytes 37 n ++ body) (value (map_of_pairs ps))
 unfolding IsValue group_tree
@@ -179,7 +179,7 @@ map_value limits d n body ps le small line members = record {
   };
 }
 
-one_more_member : (R : List ℕ → Answer → Type 0) (n : ℕ) (first rest : List ℕ) (t : Tree) (ts : List Tree)
+pub one_more_member : (R : List ℕ → Answer → Type 0) (n : ℕ) (first rest : List ℕ) (t : Tree) (ts : List Tree)
     → R first (value t) → AreMembers R n rest (values ts)
     → AreMembers R (suc n) (first ++ rest) (values (t ∷ ts))
 one_more_member R n first rest t ts at members = record {
@@ -202,7 +202,7 @@ module _ (limits : Limits) (small : limits.length < 2 ^ 32) (line : 20 ≤ limit
   mutual
     unfolding in_turn
 
-    tree_is : (p : Protocol) (t : Tree) (d : ℕ) → IsWritable p limits d t
+    pub tree_is : (p : Protocol) (t : Tree) (d : ℕ) → IsWritable p limits d t
         → IsValue limits d (tree_bytes p t) (value t)
     tree_is p t zero w = absurd w
     tree_is Resp2 nil (suc d) w = nil2_is limits d line
@@ -261,7 +261,7 @@ no_message limits zero b text a e s = s
 no_message limits (suc d) b text a e s =
     subst (λ (n : ℕ). IsOfKind limits (IsValue limits d) (kind_of n) text a) (eqb-true b 62 e) s
 
-reply_of_value : (limits : Limits) (text : List ℕ) (a : Answer) → IsValue limits limits.depth text a
+pub reply_of_value : (limits : Limits) (text : List ℕ) (a : Answer) → IsValue limits limits.depth text a
     → IsAnyReply limits text a
 unfolding IsAnyReply
 reply_of_value limits [] a s = absurd (no_value limits limits.depth a s)

@@ -59,7 +59,7 @@ pub fn is_one_line(text: &[u8]) -> bool
 
 /// Appends a short text, as bulk bytes where CR or LF stands in it.
 #[tactic(auto, unfolding(crate::specs::Written::text_bytes))]
-fn push_text(out: &mut Vec<u8>, text: &[u8]) -> Result<(), AllocError>
+pub fn push_text(out: &mut Vec<u8>, text: &[u8]) -> Result<(), AllocError>
     ensures { OnOk result (out.new.items ≡ out.old.items ++ text_bytes text.now) }
 {
     if is_one_line(text) {

@@ -81,7 +81,7 @@ fn push_replies(
 
 /// Appends an error.
 #[tactic(auto, unfolding(crate::specs::WrittenReply::error_bytes))]
-fn push_error(
+pub fn push_error(
     alloc: Global,
     out: &mut Vec<u8>,
     protocol: Protocol,

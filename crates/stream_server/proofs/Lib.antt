@@ -1,1 +1,3 @@
 pub mod StreamLemmas
+pub mod SentLemmas
+pub mod SentReadLemmas

@@ -1,12 +1,8 @@
 //! What the server answers.
-use stream_store::EntryId;
+ghost use Rattle.std.specs.Prelude.{◌≡◌};
+ghost use Rattle.stream_server.specs.Sent.{status_text};
 
-/// The version of RESP that a connection speaks.
-#[derive(Clone, Copy, Debug, PartialEq, Eq)]
-pub enum Protocol {
-    Resp2,
-    Resp3,
-}
+use stream_store::EntryId;
 
 /// What a command is answered.
 #[derive(Debug, Drop)]
@@ -15,6 +11,8 @@ pub enum Reply {
     Done(Answer),
     /// It was refused and nothing was changed: a code, a blank and a message.
     Refused(Vec<u8>),
+    /// Commands were done one after the other: of each its answer, or why it was refused.
+    Executed(Vec<Result<Answer, Vec<u8>>>),
 }
 
 /// The answer to a command that was done.
@@ -22,8 +20,8 @@ pub enum Reply {
 pub enum Answer {
     /// The status `OK`.
     Okay,
-    /// The status `PONG`.
-    Pong,
+    /// Another status.
+    Status(Status),
     Int(i64),
     Bytes(Vec<u8>),
     /// The text of an id.
@@ -37,4 +35,31 @@ pub enum Answer {
     Rows(Vec<(Vec<u8>, Answer)>),
     /// Each name with its answer: in RESP2 names and answers in turn, in RESP3 a map.
     Map(Vec<(Vec<u8>, Answer)>),
+}
+
+/// A status other than `OK`.
+#[derive(Clone, Copy, Debug, PartialEq, Eq)]
+pub enum Status {
+    /// `PONG`
+    Pong,
+    /// `QUEUED`: the command is done once EXEC comes.
+    Queued,
+    /// `stream`: a key that is there.
+    Stream,
+    /// `none`: a key that is not.
+    Missing,
+}
+
+impl Status {
+    /// The text of the status.
+    pub fn text(self) -> &'static [u8]
+        ensures { result.now ≡ status_text self }
+    {
+        match self {
+            Status::Pong => b"PONG",
+            Status::Queued => b"QUEUED",
+            Status::Stream => b"stream",
+            Status::Missing => b"none",
+        }
+    }
 }

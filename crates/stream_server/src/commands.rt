@@ -1,6 +1,8 @@
 //! The commands by their names, and what they share.
-ghost use Rattle.std.specs.Prelude.{◌≡◌, ◌≤◌, length as length_of, OnErr};
+ghost use Rattle.std.specs.Prelude.{◌≡◌, ◌≤◌, length as length_of, OnErr, take};
+ghost use Rattle.std.specs.List.{prefix_len};
 ghost use Rattle.std.specs.List.Sorted.{IsSearchInRange};
+ghost use Rattle.stream_server.specs.Shown.{is_not_nul, text_before_nul};
 ghost use Rattle.stream_server.specs.Streams.{seen_streams};
 
 mod add;
@@ -15,7 +17,7 @@ mod remove;
 mod retention;
 mod stalled;
 
-use crate::answer::Answer;
+use crate::answer::{Answer, Status};
 use crate::refusal::Refusal;
 use crate::server::Session;
 use std::alloc::{AllocError, Global};
@@ -24,6 +26,9 @@ use stream_store::{Entry, EntryId, Group, Stream};
 const SYNTAX: Refusal = Refusal::Fixed("ERR syntax error");
 
 const NOT_AN_INTEGER: Refusal = Refusal::Fixed("ERR value is not an integer or out of range");
+
+/// How many bytes of a word that is not known are shown.
+const MOST_SHOWN: usize = 128;
 
 const INVALID_ID: Refusal = Refusal::Fixed(
     "ERR Invalid stream ID specified as stream command argument",
@@ -45,7 +50,7 @@ pub(crate) fn done(
     let name = command_named(alloc, word, arguments)?;
     match name {
         Name::Ping => match arguments {
-            [] => Ok(Answer::Pong),
+            [] => Ok(Answer::Status(Status::Pong)),
             [text] => Ok(Answer::Bytes(text.clone()?)),
             _ => Err(wrong_count(alloc, word)),
         },
@@ -347,7 +352,7 @@ fn unknown(alloc: Global, word: &[u8], arguments: &[Vec<u8>]) -> Refusal {
             alloc,
             &[
                 b"ERR unknown command '",
-                word,
+                shown(word, MOST_SHOWN),
                 b"', with args beginning with: ",
                 &text,
             ],
@@ -356,17 +361,49 @@ fn unknown(alloc: Global, word: &[u8], arguments: &[Vec<u8>]) -> Refusal {
     }
 }
 
-/// The first arguments in quotes, each with a blank behind it.
+/// The first arguments in quotes, each with a blank behind it, as long as they are short.
 fn quoted(alloc: Global, arguments: &[Vec<u8>]) -> Result<Vec<u8>, AllocError> {
     let mut text = Vec::new(alloc);
     for argument in arguments {
-        if text.len() < 128 {
+        let most = MOST_SHOWN.saturating_sub(text.len());
+        if most > 0 {
             text.push(b'\'')?;
-            text.extend_from_slice(argument)?;
+            text.extend_from_slice(shown(argument, most))?;
             text.extend_from_slice(b"' ")?;
         }
     }
     Ok(text)
+}
+
+/// What is shown of a word: what stands before its first NUL, at most so many bytes.
+fn shown(word: &[u8], most: usize) -> &[u8]
+    ensures { result.now ≡ take most (text_before_nul word.now) }
+{
+    front(before_nul(word), most)
+}
+
+/// What stands before the first NUL.
+fn before_nul(word: &[u8]) -> &[u8]
+    ensures { result.now ≡ text_before_nul word.now }
+{
+    let (text, _) = word.split_at(text_len(word));
+    text
+}
+
+/// At most so many bytes from the front.
+fn front(text: &[u8], most: usize) -> &[u8]
+    ensures { result.now ≡ take most text.now }
+{
+    let (front, _) = text.split_at(most.min(text.len()));
+    front
+}
+
+/// How many bytes stand before the first NUL.
+fn text_len(word: &[u8]) -> usize
+    ensures len { result ≡ prefix_len is_not_nul word.now }
+    ensures within { result ≤ length_of word.now }
+{
+    word.iter().take_while(|byte| **byte != 0).count()
 }
 
 /// The word in lower case.
@@ -406,6 +443,7 @@ fn wrong_subcount(alloc: Global, word: &[u8], subcommand: &[u8]) -> Refusal {
 
 /// That there is no such subcommand.
 fn unknown_subcommand(alloc: Global, word: &[u8], subcommand: &[u8]) -> Refusal {
+    let subcommand = shown(subcommand, MOST_SHOWN);
     see_help(alloc, b"ERR unknown subcommand '", subcommand, word)
 }
 
@@ -441,9 +479,9 @@ fn no_group_for(alloc: Global, key: &[u8], group: &[u8]) -> Refusal {
         alloc,
         &[
             b"NOGROUP No such consumer group '",
-            group,
+            shown(group, usize::MAX),
             b"' for key name '",
-            key,
+            shown(key, usize::MAX),
             b"'",
         ],
     )
@@ -455,9 +493,9 @@ fn no_group(alloc: Global, key: &[u8], group: &[u8]) -> Refusal {
         alloc,
         &[
             b"NOGROUP No such key '",
-            key,
+            shown(key, usize::MAX),
             b"' or consumer group '",
-            group,
+            shown(group, usize::MAX),
             b"'",
         ],
     )

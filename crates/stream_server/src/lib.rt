@@ -6,10 +6,13 @@
 
 mod answer;
 mod commands;
+mod laws;
 mod refusal;
 mod server;
 mod writing;
 
-pub use answer::{Answer, Protocol, Reply};
+pub use answer::{Answer, Reply, Status};
+pub use laws::replies_are_read;
+pub use redis_wire::Protocol;
 pub use server::{Server, Session};
 pub use writing::append_reply;

@@ -2,9 +2,10 @@
 ghost use Rattle.std.specs.Prelude.{◌≡◌, [], IfOk, OnErr};
 ghost use Rattle.stream_server.specs.Server.{IsRefused};
 
-use crate::answer::{Protocol, Reply};
+use crate::answer::Reply;
 use crate::commands;
 use crate::refusal::Refusal;
+use redis_wire::Protocol;
 use std::alloc::{AllocError, Global};
 use std::marker::Model;
 use stream_store::Stream;

@@ -1,119 +1,235 @@
-//! Answers as bytes.
-ghost use Rattle.std.specs.Prelude.{◌≡◌, OnOk, OnErr};
-ghost use Rattle.stream_server.specs.Server.{IsStartOf};
+//! Replies as bytes.
+ghost use Rattle.std.specs.Prelude.{◌≡◌, ◌≤◌, ◌++◌, ◌*◌, OnOk, OnErr, map};
+ghost use Rattle.std.specs.List.{flat_map};
+ghost use Rattle.redis_wire.specs.Packed.{bulk_bytes};
+ghost use Rattle.redis_wire.specs.Written.{nil_bytes, map_head};
+ghost use Rattle.stream_store.specs.EntryId.{id_text};
+ghost use Rattle.stream_server.specs.Sent.{item_list, row_list, sent, sent_row, no_array_bytes};
+ghost use Rattle.stream_server.specs.Sent.{rows_head, row_head, sent_bytes, items_bytes, rows_bytes};
+ghost use Rattle.stream_server.specs.Sent.{turns_bytes, refused_bytes, outcome_bytes, reply_bytes};
 
-use crate::answer::{Answer, Protocol, Reply};
+use crate::answer::{Answer, Reply};
 use itoa::Buffer;
+use redis_wire::{Protocol, push_bulk, push_count, push_error, push_line, push_text};
 use std::alloc::{AllocError, Global};
 use stream_store::EntryId;
 
-/// Appends the bytes of a reply behind what is there. An `Err` changes nothing.
+/// Appends the bytes of a reply behind what is there: those of one answer of RESP, whatever stands
+/// in it. An `Err` changes nothing.
+///
+/// An error is one line, with a blank in place of each CR and LF.
 pub fn append_reply(
     alloc: Global,
     out: &mut Vec<u8>,
     protocol: Protocol,
     reply: &Reply,
 ) -> Result<(), AllocError>
-    ensures ok { OnOk result (IsStartOf out.old.items out.new.items) }
+    ensures ok { OnOk result (out.new.items ≡ out.old.items ++ reply_bytes protocol reply.now) }
     ensures err { OnErr result (out.new.items ≡ out.old.items) }
 {
     let mut bytes = Vec::new(alloc);
-    push_reply(&mut bytes, protocol, reply)?;
+    push_reply(alloc, &mut bytes, protocol, reply)?;
+    if out.is_empty() {
+        *out = bytes;
+        return Ok(());
+    }
     out.extend_from_slice(&bytes)?;
     Ok(())
 }
 
-/// A reply.
-fn push_reply(out: &mut Vec<u8>, protocol: Protocol, reply: &Reply) -> Result<(), AllocError> {
+/// Appends a reply.
+fn push_reply(
+    alloc: Global,
+    out: &mut Vec<u8>,
+    protocol: Protocol,
+    reply: &Reply,
+) -> Result<(), AllocError>
+    ensures { OnOk result (out.new.items ≡ out.old.items ++ reply_bytes protocol reply.now) }
+{
     match reply {
         Reply::Done(answer) => push_answer(out, protocol, answer),
-        Reply::Refused(text) => push_line(out, b'-', text),
+        Reply::Refused(text) => push_refusal(alloc, out, text),
+        Reply::Executed(outcomes) => {
+            push_count(out, b'*', outcomes.len())?;
+            push_outcomes(alloc, out, protocol, outcomes)
+        }
     }
 }
 
-/// An answer.
-fn push_answer(out: &mut Vec<u8>, protocol: Protocol, answer: &Answer) -> Result<(), AllocError> {
+/// Appends what commands came to, one behind the other.
+fn push_outcomes(
+    alloc: Global,
+    out: &mut Vec<u8>,
+    protocol: Protocol,
+    outcomes: &Vec<Result<Answer, Vec<u8>>>,
+) -> Result<(), AllocError>
+    ensures { OnOk result (out.new.items
+        ≡ out.old.items ++ flat_map (outcome_bytes protocol) outcomes.now.items) }
+{
+    for outcome in outcomes {
+        push_outcome(alloc, out, protocol, outcome)?;
+    }
+    Ok(())
+}
+
+/// Appends what a command came to.
+fn push_outcome(
+    alloc: Global,
+    out: &mut Vec<u8>,
+    protocol: Protocol,
+    outcome: &Result<Answer, Vec<u8>>,
+) -> Result<(), AllocError>
+    ensures { OnOk result (out.new.items ≡ out.old.items ++ outcome_bytes protocol outcome.now) }
+{
+    match outcome {
+        Ok(answer) => push_answer(out, protocol, answer),
+        Err(text) => push_refusal(alloc, out, text),
+    }
+}
+
+/// Appends an error as one line.
+#[tactic(auto, using(crate::proofs::SentLemmas::error_is_one_line))]
+fn push_refusal(alloc: Global, out: &mut Vec<u8>, text: &[u8]) -> Result<(), AllocError>
+    ensures { OnOk result (out.new.items ≡ out.old.items ++ refused_bytes text.now) }
+{
+    push_error(alloc, out, Protocol::Resp2, text)
+}
+
+/// Appends an answer.
+#[cycle(answers)]
+fn push_answer(out: &mut Vec<u8>, protocol: Protocol, answer: &Answer) -> Result<(), AllocError>
+    ensures { OnOk result (out.new.items ≡ out.old.items ++ sent_bytes protocol (sent answer.now)) }
+{
     match answer {
         Answer::Okay => push_line(out, b'+', b"OK"),
-        Answer::Pong => push_line(out, b'+', b"PONG"),
+        Answer::Status(status) => push_text(out, status.text()),
         Answer::Int(n) => push_line(out, b':', Buffer::new().format::<i64>(*n).as_bytes()),
         Answer::Bytes(bytes) => push_bulk(out, bytes),
         Answer::Id(id) => push_id(out, *id),
-        Answer::Nil => push_nil(out, protocol, b'$'),
-        Answer::NilArray => push_nil(out, protocol, b'*'),
-        Answer::Array(items) => {
-            push_count(out, b'*', items.len())?;
-            for item in items {
-                push_answer(out, protocol, item)?;
-            }
-            Ok(())
+        Answer::Nil => push_nil(out, protocol),
+        Answer::NilArray => push_no_array(out, protocol),
+        Answer::Array(answers) => {
+            push_count(out, b'*', answers.len())?;
+            push_answers(out, protocol, answers)
         }
         Answer::Rows(rows) => {
-            push_group_head(out, protocol, rows.len(), 1)?;
-            for (name, item) in rows {
-                if protocol == Protocol::Resp2 {
-                    push_count(out, b'*', 2)?;
-                }
-                push_bulk(out, name)?;
-                push_answer(out, protocol, item)?;
-            }
-            Ok(())
+            push_rows_head(out, protocol, rows.len())?;
+            push_rows(out, protocol, rows)
         }
         Answer::Map(rows) => {
-            push_group_head(out, protocol, rows.len(), 2)?;
-            for (name, item) in rows {
-                push_bulk(out, name)?;
-                push_answer(out, protocol, item)?;
-            }
-            Ok(())
+            push_map_head(out, protocol, rows.len())?;
+            push_in_turn(out, protocol, rows)
         }
     }
 }
 
-/// That there is none: of RESP2's two the one that begins so.
-fn push_nil(out: &mut Vec<u8>, protocol: Protocol, kind: u8) -> Result<(), AllocError> {
+/// Appends answers one behind the other.
+#[cycle(answers)]
+fn push_answers(
+    out: &mut Vec<u8>,
+    protocol: Protocol,
+    answers: &Vec<Answer>,
+) -> Result<(), AllocError>
+    ensures { OnOk result (out.new.items
+        ≡ out.old.items ++ items_bytes protocol (item_list (map sent answers.now.items))) }
+{
+    for answer in answers {
+        push_answer(out, protocol, answer)?;
+    }
+    Ok(())
+}
+
+/// Appends rows, each a name and its answer.
+#[cycle(answers)]
+fn push_rows(
+    out: &mut Vec<u8>,
+    protocol: Protocol,
+    rows: &Vec<(Vec<u8>, Answer)>,
+) -> Result<(), AllocError>
+    ensures { OnOk result (out.new.items
+        ≡ out.old.items ++ rows_bytes protocol (row_list (map sent_row rows.now.items))) }
+{
+    for (name, answer) in rows {
+        push_row_head(out, protocol)?;
+        push_bulk(out, name)?;
+        push_answer(out, protocol, answer)?;
+    }
+    Ok(())
+}
+
+/// Appends names and answers in turn.
+#[cycle(answers)]
+fn push_in_turn(
+    out: &mut Vec<u8>,
+    protocol: Protocol,
+    rows: &Vec<(Vec<u8>, Answer)>,
+) -> Result<(), AllocError>
+    ensures { OnOk result (out.new.items
+        ≡ out.old.items ++ turns_bytes protocol (row_list (map sent_row rows.now.items))) }
+{
+    for (name, answer) in rows {
+        push_bulk(out, name)?;
+        push_answer(out, protocol, answer)?;
+    }
+    Ok(())
+}
+
+/// Appends what stands for no value.
+fn push_nil(out: &mut Vec<u8>, protocol: Protocol) -> Result<(), AllocError>
+    ensures { OnOk result (out.new.items ≡ out.old.items ++ nil_bytes protocol) }
+{
     match protocol {
-        Protocol::Resp2 => push_line(out, kind, b"-1"),
+        Protocol::Resp2 => push_line(out, b'$', b"-1"),
         Protocol::Resp3 => push_line(out, b'_', b""),
     }
 }
 
-/// The head of so many rows, each of which is so many items of an array in RESP2.
-fn push_group_head(
-    out: &mut Vec<u8>,
-    protocol: Protocol,
-    rows: usize,
-    items: usize,
-) -> Result<(), AllocError> {
+/// Appends what stands for no array.
+fn push_no_array(out: &mut Vec<u8>, protocol: Protocol) -> Result<(), AllocError>
+    ensures { OnOk result (out.new.items ≡ out.old.items ++ no_array_bytes protocol) }
+{
     match protocol {
-        Protocol::Resp2 => push_count(out, b'*', rows.saturating_mul(items)),
-        Protocol::Resp3 => push_count(out, b'%', rows),
+        Protocol::Resp2 => push_line(out, b'*', b"-1"),
+        Protocol::Resp3 => push_line(out, b'_', b""),
     }
 }
 
-/// A first byte and a count.
-fn push_count(out: &mut Vec<u8>, kind: u8, count: usize) -> Result<(), AllocError> {
-    push_line(out, kind, Buffer::new().format::<usize>(count).as_bytes())
+/// Appends the head of so many rows.
+fn push_rows_head(out: &mut Vec<u8>, protocol: Protocol, count: usize) -> Result<(), AllocError>
+    ensures { OnOk result (out.new.items ≡ out.old.items ++ rows_head protocol count) }
+{
+    match protocol {
+        Protocol::Resp2 => push_count(out, b'*', count),
+        Protocol::Resp3 => push_count(out, b'%', count),
+    }
 }
 
-/// A first byte and the rest of its line.
-fn push_line(out: &mut Vec<u8>, kind: u8, line: &[u8]) -> Result<(), AllocError> {
-    out.push(kind)?;
-    out.extend_from_slice(line)?;
-    out.extend_from_slice(b"\r\n")?;
-    Ok(())
+/// Appends the head of one row.
+fn push_row_head(out: &mut Vec<u8>, protocol: Protocol) -> Result<(), AllocError>
+    ensures { OnOk result (out.new.items ≡ out.old.items ++ row_head protocol) }
+{
+    match protocol {
+        Protocol::Resp2 => push_count(out, b'*', 2),
+        Protocol::Resp3 => Ok(()),
+    }
 }
 
-/// Bulk bytes.
-fn push_bulk(out: &mut Vec<u8>, bytes: &[u8]) -> Result<(), AllocError> {
-    push_count(out, b'$', bytes.len())?;
-    out.extend_from_slice(bytes)?;
-    out.extend_from_slice(b"\r\n")?;
-    Ok(())
+/// Appends the head of a map.
+fn push_map_head(out: &mut Vec<u8>, protocol: Protocol, count: usize) -> Result<(), AllocError>
+    requires { 2 * count ≤ usize.MAX }
+    ensures { OnOk result (out.new.items ≡ out.old.items ++ map_head protocol count) }
+{
+    match protocol {
+        Protocol::Resp2 => push_count(out, b'*', 2 * count),
+        Protocol::Resp3 => push_count(out, b'%', count),
+    }
 }
 
-/// An id as bulk bytes.
-fn push_id(out: &mut Vec<u8>, id: EntryId) -> Result<(), AllocError> {
+/// Appends an id as bulk bytes.
+#[tactic(auto, unfolding(redis_wire::specs::Packed::bulk_bytes))]
+fn push_id(out: &mut Vec<u8>, id: EntryId) -> Result<(), AllocError>
+    ensures { OnOk result (out.new.items ≡ out.old.items ++ bulk_bytes (id_text id)) }
+{
     let mut first = Buffer::new();
     let mut second = Buffer::new();
     let milliseconds = first.format::<u64>(id.milliseconds).as_bytes();

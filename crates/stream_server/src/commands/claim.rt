@@ -3,7 +3,7 @@ ghost use Rattle.std.specs.Prelude.{◌≡◌, ◌≤◌, length, OnErr};
 
 use super::{
     SYNTAX, claimed_answer, group_for, id, ids, integer_in, is_word, put, put_group, refusal_of,
-    stream_for, strict_id,
+    shown, stream_for, strict_id,
 };
 use crate::answer::Answer;
 use crate::refusal::Refusal;
@@ -243,5 +243,6 @@ fn deliveries_in(text: &[u8]) -> Result<Option<u64>, Refusal> {
 
 /// That there is no such option.
 fn unrecognized(alloc: Global, word: &[u8]) -> Refusal {
+    let word = shown(word, usize::MAX);
     refusal_of(alloc, &[b"ERR Unrecognized XCLAIM option '", word, b"'"])
 }

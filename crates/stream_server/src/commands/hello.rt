@@ -2,9 +2,10 @@
 ghost use Rattle.std.specs.Prelude.{◌≡◌, OnErr};
 
 use super::{bytes_answer, integer_in, put_row};
-use crate::answer::{Answer, Protocol};
+use crate::answer::Answer;
 use crate::refusal::Refusal;
 use crate::server::Session;
+use redis_wire::Protocol;
 use std::alloc::{AllocError, Global};
 
 /// `HELLO [protover]`

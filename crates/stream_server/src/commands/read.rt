@@ -4,7 +4,7 @@ ghost use Rattle.stream_server.specs.Kinds.{IsRows};
 
 use super::{
     SYNTAX, array, count, entries_up, entry_answer, group_of, id, integer_in, is_word, put,
-    put_group, refusal_of, stream_of,
+    put_group, refusal_of, shown, stream_of,
 };
 use crate::answer::Answer;
 use crate::refusal::Refusal;
@@ -353,9 +353,9 @@ fn group_start_of(
             alloc,
             &[
                 b"NOGROUP No such key '",
-                key,
+                shown(key, usize::MAX),
                 b"' or consumer group '",
-                group,
+                shown(group, usize::MAX),
                 b"' in XREADGROUP with GROUP option",
             ],
         ));
