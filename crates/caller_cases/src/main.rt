@@ -16,7 +16,7 @@
 ghost use Rattle.std.specs.Prelude.{ℕ, List, None};
 
 use anyhow::{Result, bail};
-use line_log::{LineLog, LogError, LogFile, MemoryFile, push_escaped, repair};
+use line_log::{LineLog, LogError, LogFile, MemoryFile, entry_in, push_escaped, repair};
 use redis::sentences::SentenceError;
 use redis::streams::{
     StreamInfoFullReply, StreamInfoGroupsReply, StreamPendingCountReply, StreamRangeReply,
@@ -100,6 +100,7 @@ fn answer_of(alloc: Global, word: &str, value: Value) -> Result<String> {
         "commits" => commits(alloc, value),
         "crashes" => crashes(alloc, value),
         "escapes" => escapes(alloc, value),
+        "line" => line(alloc, value),
         "protocols" => protocols(alloc, value),
         "streams" => streams(alloc, value),
         "order-sent" => order_sent(alloc, value),
@@ -566,6 +567,20 @@ fn escapes(alloc: Global, text: Value) -> Result<String> {
     let mut line = Vec::new(alloc);
     push_escaped(&mut line, &text.0)?;
     Ok(format!(in alloc; "{line:?}")?)
+}
+
+/// The entry of a line: its id, and each name and value.
+fn line(alloc: Global, line: Value) -> Result<String> {
+    let line: RawBytes = from_redis_value(alloc, line)?;
+    let Some(entry) = entry_in(alloc, &line.0)? else {
+        return Ok(String::from_str(alloc, "none")?);
+    };
+    let mut shown = format!(in alloc; "{:?}", str::from_utf8(&entry.id)?)?;
+    for (name, value) in &entry.fields {
+        let (name, value) = (str::from_utf8(name)?, str::from_utf8(value)?);
+        write!(shown, " {name:?}={value:?}")?;
+    }
+    Ok(shown)
 }
 
 // How what came of a case is printed.

@@ -4,5 +4,6 @@ pub mod EntryLineLemmas
 pub mod EscapeLemmas
 mod HoldLemmas
 mod Kept
+pub mod LineTextsLemmas
 mod Moments
 pub mod RepairLemmas

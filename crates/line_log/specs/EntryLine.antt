@@ -1,5 +1,5 @@
 -- An entry as a line of text.
-use Rattle.std.specs.Prelude.{◌≡◌, ℕ, List, [], ◌∷◌, ◌++◌, flat_map}
+use Rattle.std.specs.Prelude.{◌≡◌, ◌≢◌, ℕ, List, [], ◌∷◌, ◌++◌, flat_map, Option, Some, None}
 use Rattle.line_log.specs.Escape.{escaped}
 use Rattle.line_log.specs.Lines.{HasNoEnd}
 
@@ -22,3 +22,8 @@ LinesAreWhole = (e : Entry) → HasNoEnd (line_of e)
 -- two entries with the same line are the same
 abbrev pub LinesTellEntries : Type 0
 LinesTellEntries = (a b : Entry) → line_of a ≡ line_of b → a ≡ b
+
+-- the entry of a line; and none exactly if the line is that of no entry
+abbrev pub IsEntryIn : List ℕ → Option Entry → Type 0
+IsEntryIn line (Some e) = line_of e ≡ line
+IsEntryIn line None = (e : Entry) → line_of e ≢ line

@@ -3,6 +3,8 @@ pub mod Device
 pub mod Lines
 pub mod Escape
 pub mod EntryLine
+pub mod EntryLineMeaning
+pub mod LineTexts
 pub mod Holds
 pub mod Log
 pub mod Past

@@ -20,7 +20,7 @@ mod opening;
 mod system;
 
 pub use device::LogFile;
-pub use entry_line::push_field;
+pub use entry_line::{LineEntry, entry_in, push_field};
 pub use error::LogError;
 pub use escape::push_escaped;
 pub use log::LineLog;
