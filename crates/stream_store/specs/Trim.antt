@@ -1,12 +1,32 @@
 -- How many entries a trim takes away.
-use Rattle.std.specs.Prelude.{◌≡◌, ◌-◌, ℕ, List, length}
-use Rattle.stream_store.specs.Order.{IsAscending, IsSplitBefore}
+use Rattle.std.specs.Prelude.{◌≡◌, ◌+◌, ◌-◌, ◌==◌, ◌||◌, ◌&&◌, ℕ, Bool, List, [], ◌∷◌, cond, length, nat_le, nat_lt}
+use Rattle.std.specs.Ordering.{is_lt}
+use Rattle.stream_store.specs.Order.{id_order, IsAscending, IsSplitBefore}
 use Rattle.stream_store.specs.declared.stream.Entry.{Entry}
+use Rattle.stream_store.specs.declared.stream.Node.{Node}
 use Rattle.stream_store.specs.declared.trim.Bound.{Bound}
 use Rattle.stream_store.specs.declared.trim.Bound.TheVariants.{Length, Below}
+use Rattle.stream_store.specs.declared.trim.Trim.{Trim}
 
 -- so many of the oldest go: all but the newest ones that may stay, or those with smaller ids
 abbrev pub IsExactCount : Bound → List Entry → ℕ → Type 0
 IsExactCount (Length most) entries count = count ≡ length entries - most
 IsExactCount (Below least) entries count =
     IsAscending (λ entry. entry.id) entries → IsSplitBefore (λ entry. entry.id) least entries count
+
+-- whether the bound lets a node go as a whole, of so many entries where so many went: more are there than may stay,
+-- and no fewer are left without it; or its last id is smaller
+abbrev pub lets_go : Bound → ℕ → ℕ → Node → Bool
+lets_go (Length most) len taken node = nat_lt taken (len - most) && nat_le (taken + node.live) (len - most)
+lets_go (Below least) len taken node = is_lt (id_order node.last least)
+
+-- the node goes: no more than there are, no more than the limit, and the bound lets it go
+abbrev pub goes : Trim → ℕ → ℕ → Node → Bool
+goes trim len taken node =
+    nat_le (taken + node.live) len && ((trim.limit == 0 || nat_le (taken + node.live) trim.limit) && lets_go trim.bound len taken node)
+
+-- how many entries are gone with the first whole nodes, where so many were gone before
+abbrev pub whole_from : Trim → ℕ → ℕ → List Node → ℕ
+whole_from trim len taken [] = taken
+whole_from trim len taken (node ∷ nodes) =
+    cond (goes trim len taken node) (whole_from trim len (taken + node.live) nodes) taken

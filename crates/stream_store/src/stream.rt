@@ -1,11 +1,11 @@
 //! A stream.
-ghost use Rattle.std.specs.Prelude.{◌≡◌, ◌≤◌, ◌++◌, ◌∷◌, [], false, Some, drop, length};
+ghost use Rattle.std.specs.Prelude.{◌≡◌, ◌≤◌, ◌+◌, ◌++◌, ◌∷◌, [], false, true, Some, drop, length};
 ghost use Rattle.std.specs.Prelude.{IfErr, IfNone, IfOk, IfSome, OnOk, OnErr};
 ghost use Rattle.std.specs.Bool.{OnTrue, OnFalse};
 ghost use Rattle.std.specs.List.{HoldsAt};
 ghost use Rattle.std.specs.List.Sorted.{IsSearchInRange};
 ghost use Rattle.stream_store.specs.Order.{IsAscending, IsGapFor, IsNowhere, IsSplitBefore};
-ghost use Rattle.stream_store.specs.Trim.{IsExactCount};
+ghost use Rattle.stream_store.specs.Trim.{IsExactCount, goes, lets_go, whole_from};
 ghost use Rattle.stream_store.specs.Stream.{seen_stream, first_id_of, IsWithoutOne, IsTombstoneFrom};
 
 use crate::entry_id::EntryId;
@@ -169,15 +169,16 @@ impl Stream {
         ensures entries { self.new.entries.items ≡ drop result self.old.entries.items }
         ensures exact { trim.is_approximate ≡ false
             → IsExactCount trim.bound self.old.entries.items result }
+        ensures whole { trim.is_approximate ≡ true
+            → result ≡ whole_from trim (length self.old.entries.items) 0 self.old.nodes.items }
         ensures others { self.new ≡ record self.old { entries = self.new.entries; nodes = self.new.nodes } }
     {
-        let (nodes, whole) = self.whole_nodes(trim);
+        let (nodes, whole) = whole_nodes(&self.nodes, self.entries.len(), trim);
         let count = if trim.is_approximate {
             whole
         } else {
             self.exact_count(trim.bound)
         };
-        let count = count.min(self.entries.len());
         drop(self.entries.drain(..count));
         drop(self.nodes.drain(..nodes));
         take_from_first(&mut self.nodes, count.saturating_sub(whole));
@@ -245,28 +246,47 @@ impl Stream {
             Bound::Below(least) => self.start(least),
         }
     }
+}
 
-    /// How many of the first nodes go as a whole, and how many entries these are.
-    fn whole_nodes(&self, trim: Trim) -> (usize, usize)
-        ensures { result.0 ≤ length self.now.nodes.items }
-    {
-        let most = self.exact_count(trim.bound);
-        let mut nodes = 0usize;
-        let mut whole = 0usize;
-        for node in self.nodes.iter() {
-            let behind = whole.saturating_add(usize::try_from(node.live).unwrap_or(usize::MAX));
-            let is_over = trim.limit != 0 && u64::try_from(behind).unwrap_or(u64::MAX) > trim.limit;
-            let goes = match trim.bound {
-                Bound::Length(_) => whole < most && behind <= most,
-                Bound::Below(least) => node.last < least,
-            };
-            if is_over || !goes {
-                break;
-            }
-            nodes = nodes.saturating_add(1);
-            whole = behind;
+/// How many of the first nodes go as a whole, and how many entries these are.
+fn whole_nodes(nodes: &VecDeque<Node>, len: usize, trim: Trim) -> (usize, usize)
+    ensures nodes { result.0 ≤ length nodes.now.items }
+    ensures count { result.1 ≡ whole_from trim len 0 nodes.now.items }
+    ensures bound { result.1 ≤ len }
+{
+    let mut whole = 0usize;
+    for place in 0..nodes.len() {
+        let node = nodes[place];
+        if !goes(trim, len, whole, node) {
+            return (place, whole);
         }
-        (nodes.min(self.nodes.len()), whole)
+        whole += node.live as usize;
+    }
+    (nodes.len(), whole)
+}
+
+/// Whether the node goes as a whole, where so many of the entries went before.
+fn goes(trim: Trim, len: usize, taken: usize, node: Node) -> bool
+    ensures { result ≡ goes trim len taken node }
+{
+    let Some(behind) = taken.checked_add(node.live as usize) else {
+        return false;
+    };
+    let is_within = trim.limit == 0 || behind as u64 <= trim.limit;
+    behind <= len && is_within && lets_go(trim.bound, len, taken, behind, node)
+}
+
+/// Whether the bound lets the node go, behind which so many entries will have gone.
+fn lets_go(bound: Bound, len: usize, taken: usize, behind: usize, node: Node) -> bool
+    requires { behind ≡ taken + node.live }
+    ensures { result ≡ lets_go bound len taken node }
+{
+    match bound {
+        Bound::Length(most) => {
+            let over = len.saturating_sub(most as usize);
+            taken < over && behind <= over
+        }
+        Bound::Below(least) => node.last < least,
     }
 }
 
