@@ -57,14 +57,15 @@ where_none make text = if makes_group make && bytes_eq (code_of text) (codes "NO
 abbrev pub where_made : List ℕ → Option Heard
 where_made text = if bytes_eq (code_of text) (codes "BUSYGROUP") then Some group_made else None
 
--- what an error in place of a value says
+-- what an error in place of a value says: where a claim or a read of new entries finds no group, the group that was
+-- there is gone, and none is made in its place
 abbrev pub means : MakeGroup → Asked → List ℕ → Option Heard
 means make asked.Nothing text = None
 means make asked.Acknowledgement text = None
 means make asked.Group text = where_made text
 means make asked.Own text = where_none make text
-means make asked.Claim text = where_none make text
-means make asked.News text = where_none make text
+means make asked.Claim text = None
+means make asked.News text = None
 
 -- what a worker of these settings hears, where the answer is one to its question
 abbrev pub hears : Settings → Asked → wire.Answer → Option Heard

@@ -338,11 +338,13 @@ impl Worker {
 
 /// What an error says of the group that is to be made: true where there is none, false where there
 /// is one now.
+/// A claim or a read of new entries that finds no group says nothing of it: the group that was there
+/// is gone, and made again it would begin at another place.
 fn group_told(make: MakeGroup, asked: Asked, error: &ServerError) -> Option<bool>
     ensures { result ≡ missing_by (means make asked error.now.text.items) }
 {
     match asked {
-        Asked::Nothing | Asked::Acknowledgement => None,
+        Asked::Nothing | Asked::Acknowledgement | Asked::Claim | Asked::News => None,
         Asked::Group => {
             if error.code() == b"BUSYGROUP".as_slice() {
                 Some(false)
@@ -350,7 +352,7 @@ fn group_told(make: MakeGroup, asked: Asked, error: &ServerError) -> Option<bool
                 None
             }
         }
-        Asked::Own | Asked::Claim | Asked::News => {
+        Asked::Own => {
             if make != MakeGroup::Never && error.code() == b"NOGROUP".as_slice() {
                 Some(true)
             } else {
