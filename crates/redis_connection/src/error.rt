@@ -92,7 +92,7 @@ pub enum AskError {
     #[error("{0}")]
     Connection(ConnectionError),
     /// The server answered this error.
-    #[error("{0}")]
+    #[error("the server answers {0}")]
     Server(ServerError),
     /// The answer has no record of the type asked for, or memory was refused.
     #[error("{0}")]

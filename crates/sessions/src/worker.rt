@@ -151,7 +151,7 @@ fn taken(
 fn error_text(alloc: Global, error: &WorkerError) -> Result<String, AllocError> {
     match error {
         WorkerError::Memory => Err(AllocError),
-        WorkerError::Server(server) => format!(in alloc; "Server: {error}: {server}"),
+        WorkerError::Server(_) => format!(in alloc; "Server: {error}"),
         error => format!(in alloc; "{error:?}: {error}"),
     }
 }

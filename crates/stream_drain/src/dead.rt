@@ -6,15 +6,14 @@ ghost use Rattle.redis_streams.specs.PendingMeaning.{pending_id_meaning, pending
 ghost use Rattle.stream_drain.specs.Dead.{Delivers, DeliversSome, IsBehind};
 ghost use Rattle.stream_worker.specs.Letters.{desk_of, names_of};
 
-use anyhow::{Error, Result, anyhow, bail};
+use anyhow::{Error, Result, bail};
 use redis_connection::{AskError, Connection, ConnectionError};
 use redis_resp::{RawBytes, ToRedisArgs, WriteError};
 use redis_streams::{StreamPendingCountReply, StreamPendingId};
-use redis_wire::ServerError;
 use std::alloc::{AllocError, Global};
 use std::io::{Read, Write};
 use stream_commands::{AtLeastOne, xclaim, xpending_consumer_count, xpending_idle_count};
-use stream_worker::{Asked, DeadLetters, LetterAsked, LetterError, Settings};
+use stream_worker::{Asked, DeadLetters, LetterAsked, Settings};
 
 /// So many pending entries are asked for at once.
 const PAGE: usize = 100;
@@ -218,10 +217,7 @@ impl Dead {
             min_idle,
             AtLeastOne::one(&id),
         );
-        match connection.ask_as(alloc, &command) {
-            Ok(rows) => Ok(rows),
-            Err(error) => Err(not_answered(error)),
-        }
+        Ok(connection.ask_as(alloc, &command)?)
     }
 }
 
@@ -245,7 +241,7 @@ fn ask_page<T: ToRedisArgs, R: Read + Drop, W: Write + Drop>(
         Err(AskError::Server(error)) if error.code() == b"NOGROUP".as_slice() => {
             Ok(StreamPendingCountReply::empty(alloc)?)
         }
-        Err(error) => Err(not_answered(error)),
+        Err(error) => Err(error.into()),
     }
 }
 
@@ -360,9 +356,7 @@ fn deliver<R: Read + Drop, W: Write + Drop>(
         };
         connection.send_bytes(&question)?;
         let reply = connection.receive(alloc)?;
-        if let Err(error) = desk.answered(reply) {
-            return Err(not_taken(error));
-        }
+        desk.answered(reply)?;
         if asked == LetterAsked::Acknowledge {
             *letters = letters.saturating_add(1);
         }
@@ -373,25 +367,4 @@ fn deliver<R: Read + Drop, W: Write + Drop>(
 // Why a command was not written.
 fn not_written(error: WriteError) -> Error {
     ConnectionError::from(error).into()
-}
-
-// Why a command has no answer.
-fn not_answered(error: AskError) -> Error {
-    match error {
-        AskError::Server(error) => said(&error),
-        error => error.into(),
-    }
-}
-
-// Why an answer was not taken.
-fn not_taken(error: LetterError) -> Error {
-    match error {
-        LetterError::Server(error) => said(&error),
-        error => error.into(),
-    }
-}
-
-// What the server says.
-fn said(error: &ServerError) -> Error {
-    anyhow!("the server answers {error}")
 }

@@ -14,7 +14,7 @@ use std::fmt;
 use std::io::{Read, Write};
 use std::rt::Clock;
 use stream_commands::xinfo_groups;
-use stream_worker::{Asked, Progress, RequestError, RunError, Worker, WorkerError};
+use stream_worker::{Asked, Progress, RequestError, RunError, Worker};
 
 /// Drains until something fails, or until a read finds nothing new where that is asked for.
 pub fn drain<R: Read + Drop, W: Write + Drop, D: LogFile + Drop, T: Clock + Eprint + AllocGlobal>(
@@ -69,7 +69,7 @@ fn round<R: Read + Drop, W: Write + Drop, D: LogFile + Drop>(
             Progress::GoesOn => Ok(round.asked),
             Progress::Stopped => Err(stopped(&lines.fault)),
         },
-        Err(error) => Err(broken_off(alloc, error, &lines.fault)),
+        Err(error) => Err(broken_off(error, &lines.fault)),
     }
 }
 
@@ -145,10 +145,9 @@ fn backlog_in(reply: &StreamInfoGroupsReply, name: &str) -> Option<Backlog> {
 }
 
 // Why a round failed.
-fn broken_off(alloc: Global, error: RunError, fault: &Option<LineFault>) -> Error {
+fn broken_off(error: RunError, fault: &Option<LineFault>) -> Error {
     match error {
         RunError::Request(RequestError::NotCommitted) => not_committed(fault),
-        RunError::Answer(WorkerError::Server(error)) => said(alloc, &error.text),
         error => error.into(),
     }
 }
@@ -158,14 +157,6 @@ fn not_committed(fault: &Option<LineFault>) -> Error {
     match fault {
         Some(LineFault::Log(reason)) => anyhow!("cannot write the file: {reason}"),
         _ => RunError::Request(RequestError::NotCommitted).into(),
-    }
-}
-
-// What the server says.
-fn said(alloc: Global, text: &[u8]) -> Error {
-    match String::from_utf8_lossy(alloc, text) {
-        Ok(text) => anyhow!("the server answers {text}"),
-        Err(error) => error.into(),
     }
 }
 

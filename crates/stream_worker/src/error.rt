@@ -54,7 +54,7 @@ pub enum WorkerError {
     NotAsked,
     /// The server answered an error, such as `NOGROUP`, `LOADING` or `READONLY`. The worker is
     /// where it was, and asks the same again.
-    #[error("an error of the server")]
+    #[error("the server answers {0}")]
     Server(ServerError),
     /// The reply answers no command: the server pushed it unasked, or it is a group with an error
     /// in it. The worker is where it was, and asks the same again.

@@ -32,7 +32,7 @@ pub enum LetterError {
     #[error("an answer to no question")]
     NotAsked,
     /// The server answered an error.
-    #[error("an error of the server")]
+    #[error("the server answers {0}")]
     Server(ServerError),
     /// The reply is no id where a letter was to be added, or no count where an entry was to be
     /// acknowledged.

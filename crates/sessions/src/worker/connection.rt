@@ -198,7 +198,7 @@ fn failure_text(alloc: Global, error: &ConnectionError) -> Result<String, AllocE
 fn ask_text(alloc: Global, error: &AskError) -> Result<String, AllocError> {
     match error {
         AskError::Connection(error) => failure_text(alloc, error),
-        AskError::Server(server) => format!(in alloc; "Server: {error}: {server}"),
+        AskError::Server(_) => format!(in alloc; "Server: {error}"),
         error => format!(in alloc; "{error:?}: {error}"),
     }
 }
