@@ -217,7 +217,10 @@ impl Dead {
             min_idle,
             AtLeastOne::one(&id),
         );
-        Ok(connection.ask_as(alloc, &command)?)
+        match connection.ask_as(alloc, &command) {
+            Ok(rows) => Ok(rows),
+            Err(error) => Err(error.into()),
+        }
     }
 }
 
@@ -356,7 +359,9 @@ fn deliver<R: Read + Drop, W: Write + Drop>(
         };
         connection.send_bytes(&question)?;
         let reply = connection.receive(alloc)?;
-        desk.answered(reply)?;
+        if let Err(error) = desk.answered(reply) {
+            return Err(error.into());
+        }
         if asked == LetterAsked::Acknowledge {
             *letters = letters.saturating_add(1);
         }
