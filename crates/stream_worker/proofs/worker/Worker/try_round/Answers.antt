@@ -1,6 +1,6 @@
 use Rattle.stream_worker.specs.Session.{standing_of}
 use Rattle.stream_worker.proofs.RoundLemmas.{no_fault, not_short, refused, turned}
-use Rattle.stream_worker.proofs.worker.Worker.round.Goals as goal
+use Rattle.stream_worker.proofs.worker.Worker.try_round.Goals as goal
 
 pub returns-in-Ok-clause-ok : goal.returns-in-Ok-clause-ok
 returns-in-Ok-clause-ok g c =
