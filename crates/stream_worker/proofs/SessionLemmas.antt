@@ -18,18 +18,19 @@ use Rattle.stream_group.specs.Worker.{Verdict, Machine, own, after_commit}
 use Rattle.stream_worker.specs.Answers.{Heard, told, no_group, group_made, hears, group_after}
 use Rattle.stream_worker.specs.Answered.{Went, GoesBy}
 use Rattle.stream_worker.specs.Gathered.{Doings}
-use Rattle.stream_worker.specs.Machine.{commits, at_request}
+use Rattle.stream_worker.specs.Machine.{commits, at_request, machine_of}
 use Rattle.stream_worker.specs.Questions.{sentence}
 use Rattle.stream_worker.specs.Session.{Standing, Turn, answers_of, AreMessages, IsAnswerText, AreReplies, Converses, command, asking}
 use Rattle.stream_worker.specs.Session.{having_heard, EndsBy, ends_before, after_turn, after_turns, bytes_asked, Ends}
 use Rattle.stream_worker.specs.Session.{Rounds, Turned, Ran, IsUnanswered, Breaks, Fails, Broke, FailuresBeginAgain}
-use Rattle.stream_worker.specs.Session.{IsUnsent, after_failure, machine_after}
+use Rattle.stream_worker.specs.Session.{IsUnsent, FailsUnanswered, after_failure, machine_after, standing_of}
 use Rattle.stream_worker.specs.declared.error.RunError.{RunError}
 use Rattle.stream_worker.specs.declared.error.RunError.TheVariants as causes
 use Rattle.stream_worker.specs.declared.state.Asked.{Asked}
 use Rattle.stream_worker.specs.declared.state.Asked.TheVariants.{Nothing}
 use Rattle.stream_worker.specs.declared.state.Settings.{Settings}
 use Rattle.stream_worker.specs.declared.worker.Progress.{Progress}
+use Rattle.stream_worker.specs.declared.worker.Worker.{Worker}
 use Rattle.stream_worker.specs.declared.worker.Progress.TheVariants.{GoesOn, Stopped}
 
 -- ---- what goes over the connection
@@ -295,7 +296,26 @@ module _ {R : Type 0} (with_verdict : R → List ℕ × Fields Tree → Verdict 
           fails = subst (λ (v : Settings). Fails with_verdict with_commit v mid new y x e) same f;
         }
 
--- ---- what it asks after a failure
+-- ---- after a failure
+
+-- a worker that begins again, if a command may have gone out
+pub stands_failed : {R : Type 0} (w w' : Worker) (r : R) (e : RunError)
+    → machine_of w' ≡ machine_after e (machine_of w) → w'.group_missing ≡ w.group_missing → w'.asked ≡ w.asked
+    → standing_of w' r ≡ after_failure e (standing_of w r)
+stands_failed w w' r e machine missing asked = standing_is (standing_of w' r) _ _ _ _ machine missing asked refl
+
+module _ {R : Type 0} (with_verdict : R → List ℕ × Fields Tree → Verdict → R) (with_commit : R → R)
+    (settings : Settings) (old new : Link) (w y x : Standing R) (e f : RunError) (same : f ≡ e)
+    (is : x ≡ after_failure e y) where
+  pub failed_unanswered : IsUnanswered with_commit settings old new w y e
+      → FailsUnanswered with_commit settings old new w x f
+  failed_unanswered u =
+      subst (λ (c : RunError). FailsUnanswered with_commit settings old new w x c) (sym same) (y, u, is)
+
+  pub failed_round : Breaks with_verdict with_commit settings old new w y e
+      → Fails with_verdict with_commit settings old new w x f
+  failed_round b =
+      subst (λ (c : RunError). Fails with_verdict with_commit settings old new w x c) (sym same) (y, b, is)
 
 phase_kept : (m : Machine) → (at_request m).phase ≡ m.phase
 phase_kept m = elim (commits m) as (λ b. (if b then after_commit m else m).phase ≡ m.phase) [
