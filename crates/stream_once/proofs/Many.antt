@@ -61,10 +61,10 @@ module _ {F : Type 0} (s : Setting F) (fit : Fit s) where
     };
   }
 
-  abbrev Goods : Many F → Type 0
+  abbrev pub Goods : Many F → Type 0
   Goods m = (name : Name) → Good (setting_of s name) fit (world_of m name)
 
-  distinct : (m : Many F) (name : Name) → Goods m → Distinct m.stream
+  pub distinct : (m : Many F) (name : Name) → Goods m → Distinct m.stream
   distinct m name g = log_once (setting_of s name) fit (world_of m name) (g name).0
 
   goods : (m : Many F) (name : Name) (e : Event F) → Goods m → Goods (happens_to s m name e)

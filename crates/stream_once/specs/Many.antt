@@ -9,7 +9,7 @@ use Rattle.stream_group.specs.Law.{Among}
 use Rattle.stream_once.specs.Producer.{Producer, new_producer}
 use Rattle.stream_once.specs.Consumer.{Consumer, new_consumer}
 use Rattle.stream_once.specs.World.{Setting, World, Event, Ask, Else, happens}
-use Rattle.stream_once.specs.Law.{Fit, Once}
+use Rattle.stream_once.specs.Law.{Fit, Once, NoOtherAcks}
 
 pub record Many (F : Type 0) : Type 0 where
   pub stream : group.World F
@@ -101,3 +101,19 @@ abbrev pub NoneInTwoFiles : Type 0 → Type 0
 NoneInTwoFiles F = (s : Setting F) → Fit s → (events : List (Name × Event F)) → AllFair s first_many events
     → (id : Id) (one other : Name) → Among id (ids_of (file_after s events one))
     → Among id (ids_of (file_after s events other)) → one ≡ other
+
+-- the entry stands in one of the files
+abbrev pub InSomeFile : {F : Type 0} → Many F → Entry F → Type 0
+InSomeFile m e = (name : Name) × Among e (m.consumers name).file
+
+-- the entry is still to come; or it is pending; or it stands in one of the files; or it was deleted from the stream
+abbrev pub IsKeptByOne : {F : Type 0} → Many F → Entry F → Type 0
+IsKeptByOne m e =
+    Among e m.stream.fresh
+    ⊎ (Among e.0 (pending_ids m.stream.pending) ⊎ (InSomeFile m e ⊎ Among e.0 m.stream.deleted))
+
+-- each entry that was added is, if nobody but these consumers acknowledges
+abbrev pub EachIsKeptByOne : Type 0 → Type 0
+EachIsKeptByOne F = (s : Setting F) → Fit s → (events : List (Name × Event F)) → NoOtherAcks (map (λ e. e.1) events)
+    → (e : Entry F) → Among e (log_of (run_many s events first_many).stream)
+    → IsKeptByOne (run_many s events first_many) e
