@@ -13,7 +13,7 @@ use Rattle.stream_group.specs.World as group
 use Rattle.stream_group.specs.Law.{Among}
 use Rattle.stream_group.proofs.Among.{among_left, among_right, among_split, among_of_map, among_item}
 use Rattle.stream_group.proofs.Steps.{acknowledged_keeps}
-use Rattle.stream_once.specs.Feed.{Numbered, Request, ask_last, batch}
+use Rattle.stream_once.specs.Feed.{Numbered, entries, Request, ask_last, batch}
 use Rattle.stream_once.specs.Producer.{add_all, filled_by}
 use Rattle.stream_once.specs.Consumer.{Consumer, is_empty, is_idle, after_asking, takes, syncs, last_added}
 use Rattle.stream_once.specs.Consumer.{restarts, reconnects}
@@ -22,11 +22,13 @@ use Rattle.stream_once.specs.World.{Acknowledge_now, Acknowledge_later, Reconnec
 use Rattle.stream_once.specs.World.{without_adding}
 use Rattle.stream_once.specs.Law.{NoOtherAck, NoOtherAcks}
 use Rattle.stream_once.specs.Many.{Many, first_many, world_of, happens_to, run_many, EachIsKeptByOne}
+use Rattle.stream_once.specs.Many.{setting_of, EachComesOutInOneFile}
+use Rattle.stream_once.proofs.Fill.{done_in}
 use Rattle.stream_once.proofs.Apart.{ids_both, id_among}
 use Rattle.stream_once.proofs.Lasts.{Done, Told, Step, done_more, told_more, settled, step_read, step_again, step_claim}
 use Rattle.stream_once.proofs.Lasts.{step_claim_ids, step_served, step_deleted, step_comes, serves_told, still_in}
 use Rattle.stream_once.proofs.Lasts.{into_file, onto_file, dropped_in, same_entry}
-use Rattle.stream_once.proofs.Many.{always, distinct, each_file_of_log}
+use Rattle.stream_once.proofs.Many.{always, distinct, each_file_of_log, none_in_two_files}
 
 module _ {F : Type 0} where
   -- the id stands in one of the files
@@ -322,6 +324,30 @@ each_is_kept_by_one {F} s fit es alone e h =
                     (each_file_of_log s fit es f.0 t.x t.within) h t.is) t.within,
               ))))
           | inr g ↦ inr (inr (inr g))
+        ]
+      ]
+    ]
+
+pub each_comes_out_in_one_file : {F : Type 0} → EachComesOutInOneFile F
+each_comes_out_in_one_file {F} s fit es alone fair all_in drained none e h =
+    let m : Many F = run_many s es first_many in
+    let all : log_of m.stream ≡ entries s.base s.records =
+    done_in (setting_of s s.name) fit (world_of m s.name) (always s fit es s.name).0 all_in in
+    let P : List (Entry F) → Type 0 = λ l. Among e l in
+    let Q : List Id → Type 0 = λ l. Among e.0 l in
+    elim (each_is_kept_by_one s fit es alone e (subst P (sym all) h)) [
+      | inl a ↦ absurd (subst P drained.1 a)
+      | inr b ↦ elim b [
+        | inl a ↦ absurd (let R : List Pending → Type 0 = λ l. Among e.0 (pending_ids l) in subst R drained.0 a)
+        | inr c ↦ elim c [
+          | inl f ↦ (
+            f.0,
+            (
+              f.1,
+              λ other k. none_in_two_files s fit es fair e.0 f.0 other (id_among e (m.consumers f.0).file f.1) k,
+            ),
+          )
+          | inr a ↦ absurd (subst Q none a)
         ]
       ]
     ]

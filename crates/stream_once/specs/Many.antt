@@ -9,7 +9,8 @@ use Rattle.stream_group.specs.Law.{Among}
 use Rattle.stream_once.specs.Producer.{Producer, new_producer}
 use Rattle.stream_once.specs.Consumer.{Consumer, new_consumer}
 use Rattle.stream_once.specs.World.{Setting, World, Event, Ask, Else, happens}
-use Rattle.stream_once.specs.Law.{Fit, Once, NoOtherAcks}
+use Rattle.stream_once.specs.Feed.{entries}
+use Rattle.stream_once.specs.Law.{Fit, Once, NoOtherAcks, IsDone, IsDrained}
 
 pub record Many (F : Type 0) : Type 0 where
   pub stream : group.World F
@@ -117,3 +118,18 @@ abbrev pub EachIsKeptByOne : Type 0 → Type 0
 EachIsKeptByOne F = (s : Setting F) → Fit s → (events : List (Name × Event F)) → NoOtherAcks (map (λ e. e.1) events)
     → (e : Entry F) → Among e (log_of (run_many s events first_many).stream)
     → IsKeptByOne (run_many s events first_many) e
+
+-- the entry stands in one of the files, and in no other
+abbrev pub InOneFile : {F : Type 0} → Many F → Entry F → Type 0
+InOneFile m e =
+    (name : Name)
+    × (Among e (m.consumers name).file × ((other : Name) → Among e.0 (ids_of (m.consumers other).file) → name ≡ other))
+
+-- if the producer is done, the stream drained, and nothing deleted, each record stands in one of the files, and in no
+-- other; if nobody else acknowledges, and no claim takes what another consumer has
+abbrev pub EachComesOutInOneFile : Type 0 → Type 0
+EachComesOutInOneFile F = (s : Setting F) → Fit s → (events : List (Name × Event F))
+    → NoOtherAcks (map (λ e. e.1) events) → AllFair s first_many events
+    → IsDone s (world_of (run_many s events first_many) s.name)
+    → IsDrained (world_of (run_many s events first_many) s.name) → (run_many s events first_many).stream.deleted ≡ []
+    → (e : Entry F) → Among e (entries s.base s.records) → InOneFile (run_many s events first_many) e
