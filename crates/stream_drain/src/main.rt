@@ -36,7 +36,7 @@ use anyhow::{Context, Error, Result, anyhow};
 use line_log::{LineLog, LogError, SystemFile};
 use redis_connection::Connection;
 use redis_wire::Limits;
-use std::alloc::AllocError;
+use std::alloc::{AllocError, Global};
 use std::io::ErrorKind;
 use std::{env, io};
 use stream_worker::{Settings, Worker};
@@ -44,7 +44,32 @@ use stream_worker::{Settings, Worker};
 fn main(rt: HostRuntime) -> Result<()> {
     let words = words_of(&rt)?;
     let options = options_of(rt.alloc(), &words)?;
-    drain_by(&rt, options)
+    match drain_by(&rt, options) {
+        Ok(()) => Ok(()),
+        Err(error) => Err(masked(rt.alloc(), error)),
+    }
+}
+
+// An error as it may be shown: a control character, which could steer a terminal, stands in its text
+// as `?`.
+fn masked(alloc: Global, error: Error) -> Error {
+    match masked_text(alloc, &error) {
+        Ok(Some(text)) => Error::msg(text),
+        Ok(None) | Err(_) => error,
+    }
+}
+
+// The text of an error that has a control character in it, masked.
+fn masked_text(alloc: Global, error: &Error) -> Result<Option<String>, AllocError> {
+    let text = format!(in alloc; "{error}")?;
+    if !text.chars().any(char::is_control) {
+        return Ok(None);
+    }
+    let mut shown = String::new(alloc);
+    for letter in text.chars() {
+        shown.push(if letter.is_control() { '?' } else { letter })?;
+    }
+    Ok(Some(shown))
 }
 
 // The words that the program is called with.
