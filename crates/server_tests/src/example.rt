@@ -86,9 +86,7 @@ fn told(
 fn my_worker_takes_each_entry(rt: HostRuntime) -> Result<(), Fail> {
     let alloc = rt.alloc();
     let mut server = Server::new(alloc);
-    let mut session = Session {
-        protocol: Protocol::Resp2,
-    };
+    let mut session = Session::new(alloc, Protocol::Resp2);
     for line in ["XADD k 1-1 item tea", "XADD k 2-1 item cup"] {
         let _id = told(alloc, &mut server, &mut session, line)?;
     }

@@ -269,8 +269,6 @@ fn play_commands(
     out: &mut String,
 ) -> Result<(), AllocError> {
     let mut server = Server::new(alloc);
-    let mut session = Session {
-        protocol: protocol_of(words),
-    };
+    let mut session = Session::new(alloc, protocol_of(words));
     tell_all(alloc, &mut server, &mut session, lines, out)
 }

@@ -226,11 +226,6 @@ const ENTRIES: usize = 6;
 /// So many turns after the last fault are enough for every entry.
 const TURNS: usize = 60;
 
-/// The session of commands that no worker asks.
-const RESP2: Session = Session {
-    protocol: Protocol::Resp2,
-};
-
 /// A server with some entries, and workers.
 #[derive(Drop)]
 struct World {
@@ -266,7 +261,8 @@ fn world_of(
 
 /// What the server answers to a command that no worker asks.
 fn command(alloc: Global, world: &mut World, line: &str) -> Result<Vec<u8>, AllocError> {
-    told(alloc, &mut world.server, &mut RESP2, line)
+    let mut session = Session::new(alloc, Protocol::Resp2);
+    told(alloc, &mut world.server, &mut session, line)
 }
 
 /// One more entry.
@@ -489,7 +485,7 @@ fn line_of(alloc: Global, consumer: &'static str, protocol: Protocol) -> Result<
             refuses: false,
         },
         worker: worker_of(alloc, consumer)?,
-        session: Session { protocol },
+        session: Session::new(alloc, protocol),
         commands: ReplyStream::new(alloc, Limits::default()),
         answers: ReplyStream::new(alloc, Limits::default()),
         bytes: usize::MAX,

@@ -88,9 +88,7 @@ fn serve<R: Read, W: Write, C: Clock>(
 ) -> Result<()> {
     let mut connection = Connection {
         server: Server::new(alloc),
-        session: Session {
-            protocol: Protocol::Resp2,
-        },
+        session: Session::new(alloc, Protocol::Resp2),
         commands: ReplyStream::new(alloc, Limits::default()),
         answers: Vec::new(alloc),
         has_ended: false,

@@ -36,6 +36,15 @@ pub struct Session {
     pub protocol: Protocol,
 }
 
+impl Session {
+    /// A connection that begins.
+    pub fn new(_alloc: Global, protocol: Protocol) -> Session
+        ensures { result.protocol ≡ protocol }
+    {
+        Session { protocol }
+    }
+}
+
 impl Server {
     /// A server without streams.
     pub fn new(alloc: Global) -> Server

@@ -99,9 +99,7 @@ fn play_streams(
     let (turns, keys) = parted(rest, ' ');
     let mut peer = Peer {
         server: Server::new(alloc),
-        session: Session {
-            protocol: protocol_of(protocol),
-        },
+        session: Session::new(alloc, protocol_of(protocol)),
     };
     tell_all(alloc, &mut peer.server, &mut peer.session, lines, out)?;
     let mut workers = workers_of(alloc, keys)?;
