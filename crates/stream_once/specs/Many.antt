@@ -12,6 +12,7 @@ use Rattle.stream_once.specs.World.{Setting, World, Event, Ask, Else, happens}
 use Rattle.stream_once.specs.Feed.{entries}
 use Rattle.stream_once.specs.Law.{Fit, Once, NoOtherAcks, IsDone, IsDrained}
 
+-- the server, the producer, and each consumer by its name
 pub record Many (F : Type 0) : Type 0 where
   pub stream : group.World F
   pub producer : Producer F
@@ -60,13 +61,13 @@ abbrev pub TakesNone : {F : Type 0} → Many F → Name → (Id → Bool) → Ty
 TakesNone m name pick = (id : Id) → pick id ≡ true → Among id (pending_ids m.stream.pending)
     → (other : Name) → Has (m.consumers other) id → other ≡ name
 
--- nor does one that a consumer asks for by its phase
+-- nor does what a consumer asks for in this phase
 abbrev pub FairAsk : {F : Type 0} → Many F → Name → (Id → Bool) → Phase → Type 0
 FairAsk m name pick (own behind) = Unit {0}
 FairAsk m name pick (claiming from) = TakesNone m name pick
 FairAsk m name pick (reading rounds) = Unit {0}
 
--- nor one that comes late, or is of a consumer that is not modelled
+-- nor does a claim that comes late, or one with JUSTID
 abbrev pub FairElse : {F : Type 0} → Many F → group.Event F → Type 0
 FairElse m (Claim name pick next) = TakesNone m name pick
 FairElse m (Claim_ids name pick) = TakesNone m name pick
@@ -78,7 +79,7 @@ IsFair m name (Ask n pick next) = FairAsk m name pick (m.consumers name).machine
 IsFair m name (Else event) = FairElse m event
 IsFair m name event = Unit {0}
 
--- so it is with each of these, from this world on
+-- so does each of these, from this world on
 abbrev pub AllFair : {F : Type 0} → Setting F → Many F → List (Name × Event F) → Type 0
 AllFair s m [] = Unit {0}
 AllFair s m (e ∷ es) = IsFair m e.0 e.1 × AllFair s (happens_to s m e.0 e.1) es
