@@ -11,7 +11,8 @@
 //! partition-name   3 orders                       orders:{3} slot 1584
 //! ```
 //!
-//! The slots of the stored lines are those that redis-server told.
+//! The stored slots of the first two kinds are those that redis-server told; partitions are those of
+//! another implementation of the checksum.
 //!
 //! It ends with 0, or with 2 if memory ran out, or standard input or output failed.
 #![tactic(auto)]
