@@ -11,16 +11,18 @@
 //! partition-name   3 orders                       orders:{3} slot 1584
 //! ```
 //!
-//! The slots of the stored lines are those that redis-server told.
+//! The stored slots of the first two kinds are those that redis-server told; partitions are those of
+//! another implementation of the checksum.
 //!
 //! It ends with 0, or with 2 if memory ran out, or standard input or output failed.
 #![tactic(auto)]
 
 use anyhow::Result;
+use hex::FromHexError;
 use redis_cluster::{
     ClusterError, NextStep, cluster_error, key_slot, partition_name, partition_of,
 };
-use std::alloc::Global;
+use std::alloc::{AllocError, Global};
 use std::io::{BufRead, BufReader, BufWriter, Write};
 use std::num::NonZeroU16;
 use std::process::ExitCode;
@@ -63,10 +65,7 @@ fn split_at_tab(line: &str) -> (&str, &str) {
 fn outcome(alloc: Global, kind: &str, input: &str) -> Result<String> {
     match kind {
         "slot" => slot_told(alloc, input.as_bytes()),
-        "slot-of-hex" => match hex::decode(alloc, input) {
-            Ok(key) => slot_told(alloc, &key),
-            Err(_error) => Ok(String::from_str(alloc, "no hex digits")?),
-        },
+        "slot-of-hex" => slot_of_hex_told(alloc, input),
         "error" => error_told(alloc, input),
         "partition" => partition_told(alloc, input),
         "partition-name" => partition_name_told(alloc, input),
@@ -77,6 +76,15 @@ fn outcome(alloc: Global, kind: &str, input: &str) -> Result<String> {
 fn slot_told(alloc: Global, key: &[u8]) -> Result<String> {
     let slot = key_slot(key);
     Ok(format!(in alloc; "{slot}")?)
+}
+
+/// The slot of a key in hex digits.
+fn slot_of_hex_told(alloc: Global, input: &str) -> Result<String> {
+    match hex::decode(alloc, input) {
+        Ok(key) => slot_told(alloc, &key),
+        Err(FromHexError::OutOfMemory) => Err(AllocError.into()),
+        Err(_error) => Ok(String::from_str(alloc, "no hex digits")?),
+    }
 }
 
 /// What an error says, and what it asks for.

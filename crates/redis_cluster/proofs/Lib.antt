@@ -1,4 +1,5 @@
 -- Lemmas on slots and errors.
+mod DivisionLemmas
 mod HeadLemmas
 mod PlaceLemmas
 mod SentenceLemmas

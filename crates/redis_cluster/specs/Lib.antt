@@ -1,5 +1,6 @@
 -- What a client of Redis Cluster computes by itself.
 pub mod Crc
+pub mod Division
 pub mod Split
 pub mod Slot
 pub mod Tag

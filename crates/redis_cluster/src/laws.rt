@@ -1,7 +1,14 @@
 //! Laws of slots and errors, as clauses that are known behind a call.
+ghost use Rattle.redis_cluster.specs.Division.{ChecksumIsRemainder};
 ghost use Rattle.redis_cluster.specs.Sentence.{SentencesTell};
 ghost use Rattle.redis_cluster.specs.Partition.{SlotsOfPartitions};
 ghost use Rattle.redis_cluster.specs.Tag.{TagsDecide, WholeKeysDecide};
+
+/// The checksum is what is left of the message, with 16 zeros behind it, when it is divided by
+/// x^16 + x^12 + x^5 + 1 over bits.
+pub fn checksum_is_remainder()
+    ensures { ChecksumIsRemainder }
+{}
 
 /// No text of an error says two things.
 pub fn sentences_tell()
