@@ -1,0 +1,5 @@
+pub mod KeptLemmas
+pub mod ReplyLemmas
+pub mod RequestLemmas
+pub mod TakenLemmas
+pub mod StepLemmas

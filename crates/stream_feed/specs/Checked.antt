@@ -1,0 +1,16 @@
+-- Settings that are made.
+use Rattle.std.specs.Prelude.{ℕ, ◌-◌, ◌^◌, nat_eq, nat_lt, length, Result, Ok, Err, String, string_bytes}
+use Rattle.std.specs.Prelude.{if◌then◌else◌}
+use Rattle.std.specs.declared.alloc.Global.{Global}
+use Rattle.stream_feed.specs.declared.settings.Settings.{Settings}
+use Rattle.stream_feed.specs.declared.settings.SettingsError.{SettingsError}
+use Rattle.stream_feed.specs.declared.settings.SettingsError.TheVariants.{NoKey, NoBatch, LargeBatch, LargeBase}
+
+-- settings, or the first cause to refuse them
+abbrev pub checked : String Global → ℕ → ℕ → Result Settings SettingsError
+checked key base batch =
+    if nat_eq (length (string_bytes key)) 0 then Err NoKey
+    else if nat_eq batch 0 then Err NoBatch
+    else if nat_lt 10000 batch then Err LargeBatch
+    else if nat_eq base (2 ^ 64 - 1) then Err LargeBase
+    else Ok (record { key = key; base = base; batch = batch })

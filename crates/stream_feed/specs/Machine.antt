@@ -1,0 +1,101 @@
+-- A producer as the machine that the laws speak of.
+use Rattle.std.specs.Prelude.{◌≡◌, ℕ, zero, suc, ◌+◌, ◌<◌, ◌≤◌, ◌^◌, List, [], ◌∷◌, ◌++◌, take, drop, length}
+use Rattle.std.specs.Prelude.{string_bytes}
+use Rattle.stream_once.specs.Feed as feed
+use Rattle.stream_once.specs.Feed.{Numbered, numbered, asking, knows, waits}
+use Rattle.stream_feed.specs.Records.{Fields}
+use Rattle.stream_feed.specs.Sentences.{ask_bytes, batch_bytes}
+use Rattle.stream_feed.specs.declared.error.RequestError.{RequestError}
+use Rattle.stream_feed.specs.declared.error.RequestError.TheVariants as causes
+use Rattle.stream_feed.specs.declared.producer.Producer.{Producer}
+use Rattle.stream_feed.specs.declared.settings.Settings.{Settings}
+use Rattle.stream_feed.specs.declared.stage.Asked.{Asked}
+use Rattle.stream_feed.specs.declared.stage.Asked.TheVariants as asked
+use Rattle.stream_feed.specs.declared.stage.Stage.{Stage}
+use Rattle.stream_feed.specs.declared.stage.Stage.TheVariants as stages
+
+-- what the producer knows
+abbrev pub stage_of : Stage → feed.Stage
+stage_of stages.Asking = asking
+stage_of (stages.Knows m) = knows m
+stage_of (stages.Waits w) = waits w.known w.sent
+
+-- where a producer stands: what it knows, and how many replies are still to come
+pub record Standing : Type 0 where
+  pub stage : feed.Stage
+  pub coming : ℕ
+
+-- where it knows nothing, and nothing is to come
+abbrev pub idle : Standing
+idle = record { stage = asking; coming = 0 }
+
+-- where it stands
+abbrev pub standing_of : Producer → Standing
+standing_of p = record { stage = stage_of p.stage; coming = p.coming }
+
+-- the records that it sends next, where it knows how many are in
+abbrev pub next_batch : Settings → List Fields → feed.Stage → List (Numbered Fields)
+next_batch s all asking = []
+next_batch s all (knows m) = take s.batch (drop m (numbered s.base all))
+next_batch s all (waits m n) = []
+
+-- the bytes that it sends
+abbrev pub bytes_of : List ℕ → feed.Stage → List (Numbered Fields) → List ℕ
+bytes_of key asking b = ask_bytes key
+bytes_of key (knows m) [] = []
+bytes_of key (knows m) (r ∷ rs) = batch_bytes key (r ∷ rs)
+bytes_of key (waits m n) b = []
+
+-- what it asks
+abbrev pub asks_of : feed.Stage → List (Numbered Fields) → Asked
+asks_of asking b = asked.LastId
+asks_of (knows m) [] = asked.Nothing
+asks_of (knows m) (r ∷ rs) = asked.Records
+asks_of (waits m n) b = asked.Nothing
+
+-- where it stands then: XINFO STREAM has one reply, and a batch has one for each command
+abbrev pub stands_at : feed.Stage → List (Numbered Fields) → Standing
+stands_at asking b = record { stage = asking; coming = 1 }
+stands_at (knows m) [] = record { stage = knows m; coming = 0 }
+stands_at (knows m) (r ∷ rs) = record { stage = waits m (length (r ∷ rs)); coming = length (r ∷ rs) + 2 }
+stands_at (waits m n) b = record { stage = waits m n; coming = 0 }
+
+-- the ids of what it sends are of 64 bits
+abbrev pub Fits : ℕ → feed.Stage → List (Numbered Fields) → Type 0
+Fits base asking b = Unit {0}
+Fits base (knows m) [] = Unit {0}
+Fits base (knows m) (r ∷ rs) = base + m + length (r ∷ rs) < 2 ^ 64
+Fits base (waits m n) b = Unit {0}
+
+-- it asked these records, where no reply was to come
+pub record Sent (s : Settings) (b : List (Numbered Fields)) (out more : List ℕ) (old : feed.Stage) (new : Standing)
+    (a : Asked) : Type 0 where
+  pub bytes : more ≡ out ++ bytes_of (string_bytes s.key) old b
+  pub asks : a ≡ asks_of old b
+  pub stands : new ≡ stands_at old b
+  pub fits : Fits s.base old b
+
+-- what it asks where so many replies are still to come: nothing, if there are any
+abbrev pub RequestedAt : ℕ → Settings → List Fields → List ℕ → List ℕ → Standing → Standing → Asked → Type 0
+RequestedAt zero s all out more old new a = Sent s (next_batch s all old.stage) out more old.stage new a
+RequestedAt (suc k) s all out more old new a = (more ≡ out) × (a ≡ asked.Nothing) × (new ≡ old)
+
+-- what it asks, of all records
+abbrev pub Requested : Settings → List Fields → List ℕ → List ℕ → Standing → Standing → Asked → Type 0
+Requested s all out more old new a = RequestedAt old.coming s all out more old new a
+
+-- why a batch is not sent, whose last id has this number
+abbrev pub Unsent : ℕ → RequestError → Type 0
+Unsent last causes.NotRead = ⊥
+Unsent last causes.NoIdLeft = 2 ^ 64 ≤ last
+Unsent last causes.TooLong = Unit {0}
+Unsent last causes.Memory = Unit {0}
+
+-- why it asks nothing
+abbrev pub Unrequested : Settings → List Fields → Standing → RequestError → Type 0
+Unrequested s all old causes.NotRead = (m : ℕ) × (old ≡ record { stage = knows m; coming = 0 })
+Unrequested s all old causes.NoIdLeft =
+    (m : ℕ) × (old ≡ record { stage = knows m; coming = 0 })
+    × (2 ^ 64 ≤ s.base + m + length (next_batch s all old.stage))
+Unrequested s all old causes.TooLong = old.coming ≡ 0
+Unrequested s all old causes.Memory = old.coming ≡ 0

@@ -1,0 +1,85 @@
+//! The reply to XINFO STREAM.
+ghost use Rattle.std.specs.Prelude.{◌≡◌, IfErr, IfOk, None, Some, codes, map, option_and_then, option_map, string_bytes};
+ghost use Rattle.redis_resp.specs.Number.{unsigned_of, within};
+ghost use Rattle.redis_resp.specs.Value.{tree};
+ghost use Rattle.redis_wire.specs.Reply.{answer, value};
+ghost use Rattle.stream_feed.specs.Replies.{last_in, last_of, last_text, no_stream, numbers_in};
+ghost use Rattle.stream_feed.specs.Unheard.{IsUnasked};
+ghost use Rattle.stream_feed.specs.declared.error.FeedError.TheVariants as causes;
+
+use crate::error::FeedError;
+use redis_resp::{ParsingError, Value, field_of, from_redis_value};
+use redis_wire::{Reply, ServerError};
+use std::alloc::{AllocError, Global};
+use std::collections::HashMap;
+
+/// What a server answers where there is no stream.
+const NO_STREAM: &[u8] = b"ERR no such key";
+
+/// The two numbers of the last id that the stream gave out; 0 and 0 where there is no stream.
+pub fn read_last_id(alloc: Global, reply: Reply) -> Result<(u64, u64), FeedError>
+    ensures ok { IfOk result (λ last. last_of (answer reply) ≡ Some last) }
+    ensures err { IfErr result (IsUnasked (answer reply)) }
+{
+    match reply {
+        Reply::Value(value) => read_told(alloc, value),
+        Reply::Error(error) => read_refused(error),
+        Reply::Group { .. } | Reply::Push { .. } => Err(FeedError::NotAnAnswer),
+    }
+}
+
+/// The same of a value.
+fn read_told(alloc: Global, told: Value) -> Result<(u64, u64), FeedError>
+    ensures ok { IfOk result (λ last. last_in (tree told) ≡ Some last) }
+    ensures err { IfErr result (IsUnasked (value (tree told))) }
+{
+    match read_text(alloc, told)? {
+        Some(text) => match numbers_of(text.as_str()) {
+            Some(last) => Ok(last),
+            None => Err(FeedError::NotAnAnswer),
+        },
+        None => Err(FeedError::NotAnAnswer),
+    }
+}
+
+/// The same of an error.
+fn read_refused(error: ServerError) -> Result<(u64, u64), FeedError>
+    ensures ok { IfOk result (λ last. no_stream error.text.items ≡ Some last) }
+    ensures err { IfErr result (λ e. (no_stream error.text.items ≡ None)
+        × (e ≡ causes.Server error)) }
+{
+    if error.text.as_slice() == NO_STREAM {
+        Ok((0, 0))
+    } else {
+        Err(FeedError::Server(error))
+    }
+}
+
+/// The last id that XINFO STREAM tells, as a text; None where it tells none.
+fn read_text(alloc: Global, told: Value) -> Result<Option<String>, AllocError>
+    ensures { IfOk result (λ text. option_map string_bytes text ≡ last_text (tree told)) }
+{
+    let fields: HashMap<String, Value> = match from_redis_value(alloc, told) {
+        Ok(fields) => fields,
+        Err(ParsingError::Memory) => return Err(AllocError),
+        Err(_) => return Ok(None),
+    };
+    field_of::<String>(alloc, &fields, "last-generated-id")
+}
+
+/// The two numbers of an id; None where the text is no id of 64 bits each.
+fn numbers_of(text: &str) -> Option<(u64, u64)>
+    ensures { result ≡ numbers_in text.now }
+{
+    let (first, second) = text.split_once('-')?;
+    let first = number_of(first)?;
+    let second = number_of(second)?;
+    Some((first, second))
+}
+
+/// The number that a text is, where it fits 64 bits.
+fn number_of(text: &str) -> Option<u64>
+    ensures { result ≡ option_and_then (within 64) (unsigned_of text.now) }
+{
+    text.parse().ok()
+}

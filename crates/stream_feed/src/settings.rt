@@ -1,0 +1,56 @@
+//! What a producer is asked to do.
+ghost use Rattle.std.specs.Prelude.{◌≡◌};
+ghost use Rattle.stream_feed.specs.Checked.{checked};
+
+use thiserror::Error;
+
+/// Why settings are none.
+#[derive(Clone, Copy, Debug, PartialEq, Eq, Error)]
+pub enum SettingsError {
+    /// The key is empty.
+    #[error("the key is empty")]
+    NoKey,
+    /// A batch has no record.
+    #[error("a batch has one record at least")]
+    NoBatch,
+    /// A batch has more than 10,000 records.
+    #[error("a batch has 10,000 records at most")]
+    LargeBatch,
+    /// No id of 64 bits is behind the base.
+    #[error("no id is behind the base")]
+    LargeBase,
+}
+
+/// What a producer is asked to do.
+#[derive(Debug, Drop)]
+pub struct Settings {
+    /// The stream.
+    pub(crate) key: String,
+    /// The first record has the id `(base + 1)-0`.
+    pub(crate) base: u64,
+    /// At most so many records are sent at once.
+    pub(crate) batch: usize,
+}
+
+impl Settings {
+    /// To the stream `key`, with the ids `(base + 1)-0`, `(base + 2)-0` and so on, at most `batch`
+    /// records at once, from 1 to 10,000. The base stays the same for all time that these records
+    /// are added to the stream. It is refused by the first cause that holds.
+    pub fn new(key: String, base: u64, batch: usize) -> Result<Settings, SettingsError>
+        ensures { result ≡ checked key base batch }
+    {
+        if key.is_empty() {
+            return Err(SettingsError::NoKey);
+        }
+        if batch == 0 {
+            return Err(SettingsError::NoBatch);
+        }
+        if batch > 10_000 {
+            return Err(SettingsError::LargeBatch);
+        }
+        if base == u64::MAX {
+            return Err(SettingsError::LargeBase);
+        }
+        Ok(Settings { key, base, batch })
+    }
+}
