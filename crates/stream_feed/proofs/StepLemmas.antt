@@ -1,13 +1,9 @@
 -- What a producer promises are steps of the model.
-use Rattle.std.proofs.Common.{◌≡◌, refl, sym, ap, subst, ◌∙◌, ℕ, List, [], ◌∷◌, length, take, drop, Option, Some, None}
-use Rattle.redis_wire.specs.Reply as wire
-use Rattle.stream_once.specs.Feed as feed
-use Rattle.stream_once.specs.Feed.{Feed, Numbered, Stage, numbered, asking, knows, waits, sends, asks, hears, learns}
+use Rattle.std.proofs.Common.{◌≡◌, refl, sym, ap, ◌∙◌, ℕ, List, [], ◌∷◌, length, take, drop, Some}
+use Rattle.stream_once.specs.Feed.{Numbered, Stage, numbered, asking, knows, waits, sends, asks, hears, learns}
 use Rattle.stream_once.specs.World.{Setting, World, Send, happens}
-use Rattle.stream_feed.specs.Learnt.{Learns}
 use Rattle.stream_feed.specs.Machine.{Sent, Standing, next_batch}
 use Rattle.stream_feed.specs.Records.{Fields}
-use Rattle.stream_feed.specs.Replies.{heard}
 use Rattle.stream_feed.specs.Step.{RequestsStayInStep, BatchesStayInStep, AnswersStayInStep, BreaksStayInStep, as_it_asks}
 use Rattle.stream_feed.specs.declared.settings.Settings.{Settings}
 use Rattle.stream_feed.specs.declared.stage.Asked.{Asked}

@@ -1,15 +1,15 @@
 -- What is asked and taken, by how many replies are still to come.
-use Rattle.std.proofs.Common.{◌≡◌, ℕ, zero, suc, ◌+◌, ◌<◌, List, refl, ap, sym, ◌∙◌, arith, subst, false, true, Bool}
-use Rattle.std.proofs.Common.{Option, Some, None, option_map, if◌then◌else◌}
-use Rattle.std.specs.Prelude.{Result, Ok, Err, OnOk, IfOk, IfErr}
+use Rattle.std.proofs.Common.{◌≡◌, ℕ, zero, suc, ◌+◌, ◌<◌, List, refl, ap, sym, ◌∙◌, arith, subst, true, Bool}
+use Rattle.std.proofs.Common.{Some, None, option_map, if◌then◌else◌}
+use Rattle.std.specs.Prelude.{Result, Ok, Err, OnOk, IfErr}
 use Rattle.redis_wire.specs.Reply as wire
 use Rattle.stream_group.specs.Group.{Numbers}
 use Rattle.stream_once.specs.Feed as feed
 use Rattle.stream_once.specs.Feed.{asking, waits, learns, last_is, executed}
 use Rattle.stream_feed.specs.Learnt.{Learns, TookAt, UntakenAt, Unlearnt, IsOwn}
-use Rattle.stream_feed.specs.Machine.{Requested, RequestedAt, Sent, Standing, idle, next_batch}
+use Rattle.stream_feed.specs.Machine.{RequestedAt, Sent, Standing, idle, next_batch}
 use Rattle.stream_feed.specs.Records.{Fields}
-use Rattle.stream_feed.specs.Replies.{heard, last_of, is_executed}
+use Rattle.stream_feed.specs.Replies.{last_of, is_executed}
 use Rattle.stream_feed.specs.Unheard.{IsCause, IsNoError}
 use Rattle.stream_feed.specs.declared.error.FeedError.{FeedError}
 use Rattle.stream_feed.specs.declared.error.FeedError.TheVariants as causes

@@ -9,7 +9,6 @@ use Rattle.stream_feed.specs.Replies.{heard, last_of, is_executed}
 use Rattle.stream_feed.specs.Unheard.{IsCause, IsNoError, IsUnasked, IsUnexecuted}
 use Rattle.stream_feed.specs.declared.error.FeedError.{FeedError}
 use Rattle.stream_feed.specs.declared.error.FeedError.TheVariants as causes
-use Rattle.stream_feed.specs.declared.settings.Settings.{Settings}
 
 -- the last id is that of a record, or below the first one's
 abbrev pub IsOwn : ℕ → ℕ → feed.Answer → Type 0

@@ -1,6 +1,5 @@
 -- What a producer sends.
 use Rattle.std.specs.Prelude.{ℕ, List, [], ◌∷◌, ◌++◌, codes}
-use Rattle.std.specs.List.{flat_map}
 use Rattle.redis_wire.specs.Packed.{command_bytes}
 use Rattle.stream_group.specs.Group.{id_text}
 use Rattle.stream_once.specs.Feed.{Numbered}

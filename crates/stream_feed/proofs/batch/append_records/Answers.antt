@@ -1,4 +1,4 @@
-use Rattle.std.proofs.Common.{◌≡◌, arith}
+use Rattle.std.proofs.Common.{arith}
 use Rattle.stream_feed.specs.Records.{arguments_of}
 use Rattle.stream_feed.proofs.RequestLemmas.{written}
 use Rattle.stream_feed.proofs.batch.append_records.Goals as goal

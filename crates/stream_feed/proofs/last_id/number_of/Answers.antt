@@ -1,4 +1,4 @@
-use Rattle.std.proofs.Common.{◌≡◌, ◌∙◌}
+use Rattle.std.proofs.Common.{◌∙◌}
 use Rattle.redis_resp.proofs.NumberLemmas.{unsigned_told}
 use Rattle.stream_feed.proofs.last_id.number_of.Goals as goal
 

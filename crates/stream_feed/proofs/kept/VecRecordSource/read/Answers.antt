@@ -1,4 +1,3 @@
-use Rattle.std.proofs.Common.{◌≡◌, ◌∙◌, ap, map}
 use Rattle.stream_feed.specs.Records.{arguments_of}
 use Rattle.stream_feed.proofs.KeptLemmas.{map_part}
 use Rattle.stream_feed.proofs.kept.VecRecordSource.read.Goals as goal
