@@ -1,5 +1,5 @@
 //! `XGROUP`.
-ghost use Rattle.std.specs.Prelude.{◌≡◌, OnErr};
+ghost use Rattle.std.specs.Prelude.{◌≡◌, ◌<◌, length, IfOk, OnErr};
 ghost use Rattle.stream_server.specs.Streams.{seen_streams};
 ghost use Rattle.stream_store.specs.Stream.{seen_stream};
 
@@ -77,8 +77,18 @@ fn done_on(
     }
 }
 
+/// Whether there is such an action, and it may have so many arguments.
+pub(super) fn check(alloc: Global, word: &[u8], arguments: &[Vec<u8>]) -> Result<(), Refusal>
+    ensures { IfOk result (λ _. 0 < length arguments.now) }
+{
+    let _action = action_in(alloc, word, arguments)?;
+    Ok(())
+}
+
 /// The action of this name, where it may have so many arguments.
-fn action_in(alloc: Global, word: &[u8], arguments: &[Vec<u8>]) -> Result<Action, Refusal> {
+fn action_in(alloc: Global, word: &[u8], arguments: &[Vec<u8>]) -> Result<Action, Refusal>
+    ensures { IfOk result (λ _. 0 < length arguments.now) }
+{
     let [subcommand, behind @ ..] = arguments else {
         return Err(SYNTAX);
     };

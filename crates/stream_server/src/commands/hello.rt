@@ -4,7 +4,7 @@ ghost use Rattle.std.specs.Prelude.{◌≡◌, OnErr};
 use super::{bytes_answer, integer_in, put_row};
 use crate::answer::Answer;
 use crate::refusal::Refusal;
-use crate::server::Session;
+use crate::session::Session;
 use redis_wire::Protocol;
 use std::alloc::{AllocError, Global};
 

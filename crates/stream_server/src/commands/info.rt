@@ -1,7 +1,7 @@
 //! `XINFO`.
 mod full;
 
-ghost use Rattle.std.specs.Prelude.{IfOk};
+ghost use Rattle.std.specs.Prelude.{◌<◌, length as length_of, IfOk};
 ghost use Rattle.stream_server.specs.Kinds.{IsInfo};
 
 use super::{
@@ -80,8 +80,18 @@ fn about_consumers(
     }
 }
 
+/// Whether there is such a topic, and it may have so many arguments.
+pub(super) fn check(alloc: Global, word: &[u8], arguments: &[Vec<u8>]) -> Result<(), Refusal>
+    ensures { IfOk result (λ _. 0 < length_of arguments.now) }
+{
+    let _topic = topic_in(alloc, word, arguments)?;
+    Ok(())
+}
+
 /// The topic of this name, where it may have so many arguments.
-fn topic_in(alloc: Global, word: &[u8], arguments: &[Vec<u8>]) -> Result<Topic, Refusal> {
+fn topic_in(alloc: Global, word: &[u8], arguments: &[Vec<u8>]) -> Result<Topic, Refusal>
+    ensures { IfOk result (λ _. 0 < length_of arguments.now) }
+{
     let [subcommand, behind @ ..] = arguments else {
         return Err(SYNTAX);
     };
