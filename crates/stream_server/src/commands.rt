@@ -7,25 +7,35 @@ ghost use Rattle.stream_server.specs.Streams.{seen_streams};
 
 mod add;
 mod claim;
+mod connection;
 mod group;
 mod hello;
+mod help;
 mod info;
+mod keys;
 mod pending;
 mod range;
 mod read;
 mod remove;
+mod report;
 mod retention;
 mod stalled;
 
 use crate::answer::{Answer, Status};
 use crate::refusal::Refusal;
 use crate::session::Session;
+use connection::Connection;
+use report::Report;
 use std::alloc::{AllocError, Global};
 use stream_store::{Entry, EntryId, Group, Stream};
 
 const SYNTAX: Refusal = Refusal::Fixed("ERR syntax error");
 
 const NOT_AN_INTEGER: Refusal = Refusal::Fixed("ERR value is not an integer or out of range");
+
+const WRONG_NAME: Refusal = Refusal::Fixed(
+    "ERR Client names cannot contain spaces, newlines or special characters.",
+);
 
 /// How many bytes of a word that is not known are shown.
 const MOST_SHOWN: usize = 128;
@@ -57,6 +67,7 @@ pub(crate) enum Step {
 pub(crate) enum Plain {
     Change(Change),
     LookUp(LookUp),
+    Report(Report),
     Connection(Connection),
 }
 
@@ -64,7 +75,7 @@ pub(crate) enum Plain {
 #[derive(Clone, Copy, Debug)]
 pub(crate) enum Change {
     Delete,
-    FlushAll,
+    DeleteAll,
     Add,
     ReadGroup,
     Group,
@@ -79,20 +90,14 @@ pub(crate) enum Change {
 /// What reads streams.
 #[derive(Clone, Copy, Debug)]
 pub(crate) enum LookUp {
+    Exists,
+    Type,
     Len,
     Range,
     ReverseRange,
     Read,
     Pending,
     Info,
-}
-
-/// What concerns the connection.
-#[derive(Clone, Copy, Debug)]
-pub(crate) enum Connection {
-    Ping,
-    Hello,
-    Unwatch,
 }
 
 /// Does a command, of these words. What is refused changes nothing.
@@ -110,7 +115,8 @@ pub(crate) fn done(
     match command {
         Plain::Change(change) => changed(alloc, streams, now, change, words),
         Plain::LookUp(look_up) => looked_up(alloc, streams, now, look_up, &words),
-        Plain::Connection(asked) => answered(alloc, session, asked, &words),
+        Plain::Report(report) => told(alloc, streams.len(), now, report, &words),
+        Plain::Connection(asked) => connection::answered(alloc, session, asked, &words),
     }
 }
 
@@ -129,10 +135,7 @@ fn changed(
     };
     match change {
         Change::Delete => Ok(length(remove::remove_keys(streams, arguments))),
-        Change::FlushAll => {
-            streams.clear();
-            Ok(Answer::Okay)
-        }
+        Change::DeleteAll => keys::remove_all(streams, arguments),
         Change::Add => add::add(alloc, streams, now, words),
         Change::ReadGroup => read::read_group(alloc, streams, now, arguments),
         Change::Group => group::group(alloc, streams, now, word, arguments),
@@ -157,6 +160,8 @@ fn looked_up(
         return Err(SYNTAX);
     };
     match look_up {
+        LookUp::Exists => Ok(exists(streams, arguments)),
+        LookUp::Type => type_of(streams, arguments),
         LookUp::Len => len_of(streams, arguments),
         LookUp::Range => range::range(alloc, streams, false, arguments),
         LookUp::ReverseRange => range::range(alloc, streams, true, arguments),
@@ -166,31 +171,41 @@ fn looked_up(
     }
 }
 
-/// Does a command that concerns the connection.
-fn answered(
+/// Tells of a server with so many keys.
+fn told(
     alloc: Global,
-    session: &mut Session,
-    asked: Connection,
+    keys: usize,
+    now: u64,
+    report: Report,
     words: &[Vec<u8>],
-) -> Result<Answer, Refusal>
-    ensures { OnErr result (session.new ≡ session.old) }
-{
-    let [word, arguments @ ..] = words else {
-        return Err(SYNTAX);
-    };
-    match asked {
-        Connection::Ping => ping(alloc, word, arguments),
-        Connection::Hello => hello::hello(alloc, session, arguments),
-        Connection::Unwatch => Ok(Answer::Okay),
+) -> Result<Answer, Refusal> {
+    match report {
+        Report::KeyCount => Ok(length(keys)),
+        Report::Time => Ok(report::time(alloc, now)?),
+        Report::Info => Ok(report::info(alloc, keys, words)?),
+        Report::Commands => Ok(Answer::Map(Vec::new(alloc))),
     }
 }
 
-/// `PING [text]`
-fn ping(alloc: Global, word: &[u8], arguments: &[Vec<u8>]) -> Result<Answer, Refusal> {
-    match arguments {
-        [] => Ok(Answer::Status(Status::Pong)),
-        [text] => Ok(Answer::Bytes(text.clone()?)),
-        _ => Err(wrong_count(alloc, word)),
+/// `EXISTS key ..`: how many of the keys are there, each as often as it is named.
+fn exists(streams: &[Stream], keys: &[Vec<u8>]) -> Answer {
+    let mut count = 0u64;
+    for key in keys {
+        if stream_of(streams, key).is_some() {
+            count = count.saturating_add(1);
+        }
+    }
+    number(count)
+}
+
+/// `TYPE key`
+fn type_of(streams: &[Stream], arguments: &[Vec<u8>]) -> Result<Answer, Refusal> {
+    let [key, ..] = arguments else {
+        return Err(SYNTAX);
+    };
+    match stream_of(streams, key) {
+        Some(_) => Ok(Answer::Status(Status::Stream)),
+        None => Ok(Answer::Status(Status::Missing)),
     }
 }
 
@@ -397,6 +412,9 @@ fn command_named(word: &[u8]) -> Option<Command> {
     if let Some(look_up) = look_up_named(word) {
         return Some(Command::Plain(Plain::LookUp(look_up)));
     }
+    if let Some(report) = report_named(word) {
+        return Some(Command::Plain(Plain::Report(report)));
+    }
     if let Some(asked) = connection_named(word) {
         return Some(Command::Plain(Plain::Connection(asked)));
     }
@@ -416,7 +434,8 @@ fn change_named(word: &[u8]) -> Option<Change> {
         ("XCLAIM", Change::Claim),
         ("XSETID", Change::SetId),
         ("DEL", Change::Delete),
-        ("FLUSHALL", Change::FlushAll),
+        ("FLUSHALL", Change::DeleteAll),
+        ("FLUSHDB", Change::DeleteAll),
     ];
     for (text, change) in names {
         if is_word(word, text) {
@@ -435,10 +454,28 @@ fn look_up_named(word: &[u8]) -> Option<LookUp> {
         ("XREVRANGE", LookUp::ReverseRange),
         ("XLEN", LookUp::Len),
         ("XINFO", LookUp::Info),
+        ("EXISTS", LookUp::Exists),
+        ("TYPE", LookUp::Type),
     ];
     for (text, look_up) in names {
         if is_word(word, text) {
             return Some(look_up);
+        }
+    }
+    None
+}
+
+/// The command of this name that asks of the server.
+fn report_named(word: &[u8]) -> Option<Report> {
+    let names = [
+        ("DBSIZE", Report::KeyCount),
+        ("TIME", Report::Time),
+        ("INFO", Report::Info),
+        ("COMMAND", Report::Commands),
+    ];
+    for (text, report) in names {
+        if is_word(word, text) {
+            return Some(report);
         }
     }
     None
@@ -450,6 +487,8 @@ fn connection_named(word: &[u8]) -> Option<Connection> {
         ("PING", Connection::Ping),
         ("HELLO", Connection::Hello),
         ("UNWATCH", Connection::Unwatch),
+        ("SELECT", Connection::Select),
+        ("CLIENT", Connection::Client),
     ];
     for (text, asked) in names {
         if is_word(word, text) {
@@ -480,6 +519,7 @@ fn has_right_count(command: Command, count: usize) -> bool {
     match command {
         Command::Plain(Plain::Change(change)) => change_takes(change, count),
         Command::Plain(Plain::LookUp(look_up)) => look_up_takes(look_up, count),
+        Command::Plain(Plain::Report(report)) => report_takes(report, count),
         Command::Plain(Plain::Connection(asked)) => connection_takes(asked, count),
         Command::Transaction(step) => step_takes(step, count),
     }
@@ -488,7 +528,7 @@ fn has_right_count(command: Command, count: usize) -> bool {
 /// Whether it may have so many arguments.
 fn change_takes(change: Change, count: usize) -> bool {
     match change {
-        Change::FlushAll => true,
+        Change::DeleteAll => true,
         Change::Delete | Change::Group => count >= 1,
         Change::DeleteEntries | Change::SetId => count >= 2,
         Change::Acknowledge | Change::Trim => count >= 3,
@@ -501,10 +541,19 @@ fn change_takes(change: Change, count: usize) -> bool {
 /// Whether it may have so many arguments.
 fn look_up_takes(look_up: LookUp, count: usize) -> bool {
     match look_up {
-        LookUp::Info => count >= 1,
-        LookUp::Len => count == 1,
+        LookUp::Info | LookUp::Exists => count >= 1,
+        LookUp::Len | LookUp::Type => count == 1,
         LookUp::Pending => count >= 2,
         LookUp::Range | LookUp::ReverseRange | LookUp::Read => count >= 3,
+    }
+}
+
+/// Whether it may have so many arguments.
+fn report_takes(report: Report, count: usize) -> bool {
+    match report {
+        Report::KeyCount | Report::Time => count == 0,
+        Report::Info => true,
+        Report::Commands => count >= 1,
     }
 }
 
@@ -513,6 +562,8 @@ fn connection_takes(asked: Connection, count: usize) -> bool {
     match asked {
         Connection::Ping | Connection::Hello => true,
         Connection::Unwatch => count == 0,
+        Connection::Select => count == 1,
+        Connection::Client => count >= 1,
     }
 }
 
@@ -535,8 +586,22 @@ fn check_subcommand(
     match command {
         Command::Plain(Plain::Change(Change::Group)) => group::check(alloc, word, arguments),
         Command::Plain(Plain::LookUp(LookUp::Info)) => info::check(alloc, word, arguments),
+        Command::Plain(Plain::Report(Report::Commands)) => report::check(alloc, word, arguments),
+        Command::Plain(Plain::Connection(Connection::Client)) => {
+            connection::check(alloc, word, arguments)
+        }
         _ => Ok(()),
     }
+}
+
+/// Whether a connection may have this name.
+fn check_name(name: &[u8]) -> Result<(), Refusal> {
+    for byte in name {
+        if !byte.is_ascii_graphic() {
+            return Err(WRONG_NAME);
+        }
+    }
+    Ok(())
 }
 
 /// That there is no such command.
@@ -747,8 +812,33 @@ enum Sequence {
     Given(u64),
 }
 
-/// The number of decimal digits.
+/// The number that a part of an id is: blanks may stand before it, and a sign. Behind a minus it
+/// counts down from 2 to the power of 64; but what `integer_in` reads as negative is none.
 fn number_in(text: &[u8]) -> Option<u64> {
+    if matches!(integer_in(text), Some(n) if n < 0) {
+        return None;
+    }
+    match without_blanks(text) {
+        [b'-', digits @ ..] => Some(0u64.wrapping_sub(digits_in(digits)?)),
+        [b'+', digits @ ..] => digits_in(digits),
+        digits => digits_in(digits),
+    }
+}
+
+/// What stands behind the blanks in front.
+fn without_blanks(text: &[u8]) -> &[u8] {
+    let mut rest = text;
+    for _ in 0..text.len() {
+        match rest {
+            [b' ' | b'\t'..=b'\r', behind @ ..] => rest = behind,
+            _ => break,
+        }
+    }
+    rest
+}
+
+/// The number of decimal digits.
+fn digits_in(text: &[u8]) -> Option<u64> {
     if text.is_empty() {
         return None;
     }
@@ -764,11 +854,12 @@ fn number_in(text: &[u8]) -> Option<u64> {
     Some(n)
 }
 
-/// The parts of an id.
+/// The parts of an id, which ends before its first NUL.
 fn parts_in(text: &[u8]) -> Option<(u64, Sequence)> {
     if text.len() > 127 {
         return None;
     }
+    let text = before_nul(text);
     let (front, behind) = text.split_at(front_len(text));
     let milliseconds = number_in(front)?;
     match behind {
@@ -801,7 +892,7 @@ fn strict_id(text: &[u8], missing: u64) -> Option<EntryId> {
 
 /// The same, or `-` for the smallest one and `+` for the largest one.
 fn loose_id(text: &[u8], missing: u64) -> Option<EntryId> {
-    match text {
+    match before_nul(text) {
         [b'-'] => Some(EntryId::ZERO),
         [b'+'] => Some(EntryId::LAST),
         _ => strict_id(text, missing),
@@ -810,7 +901,7 @@ fn loose_id(text: &[u8], missing: u64) -> Option<EntryId> {
 
 /// `*`, `ms-*`, `ms-seq` or `ms`.
 fn new_id(text: &[u8]) -> Option<NewId> {
-    if text == b"*".as_slice() {
+    if before_nul(text) == b"*".as_slice() {
         return Some(NewId::Automatic);
     }
     let (milliseconds, sequence) = parts_in(text)?;

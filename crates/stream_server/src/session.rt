@@ -14,6 +14,8 @@ use std::marker::Model;
 pub struct Session {
     /// HELLO changes it.
     pub protocol: Protocol,
+    /// What CLIENT SETNAME or HELLO sets; nothing at the beginning.
+    pub(crate) name: Vec<u8>,
     pub(crate) mode: Mode,
     /// What EXEC is to do.
     pub(crate) queue: Vec<Queued>,
@@ -24,7 +26,7 @@ impl Model for Session {
 
     ghost Value = { SeenSession };
 
-    ghost view = { λ s. seen_session s.protocol s.mode s.queue };
+    ghost view = { λ s. seen_session s.protocol s.name s.mode s.queue };
 }
 
 /// When commands are done.
@@ -53,6 +55,7 @@ impl Session {
     {
         Session {
             protocol,
+            name: Vec::new(alloc),
             mode: Mode::AtOnce,
             queue: Vec::new(alloc),
         }
