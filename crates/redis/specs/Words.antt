@@ -8,6 +8,8 @@ pub use Rattle.redis_connection.specs.Ask.{Asks, HasNoAnswer}
 pub use Rattle.redis_connection.specs.Cause.{failure_of, pack_failure_of, refusal_of, write_failure_of}
 pub use Rattle.redis_connection.specs.Link.{GivesOut, IsEnded, IsFaulty, IsInPlace, Link, Receives, Sends, SendsFront}
 pub use Rattle.redis_connection.specs.Link.{Stands, Waits}
+pub use Rattle.redis_connection.specs.Passing.{AnswerStands, AwaitsAnswer, BeginsAsMessage, IsAnswerInPlace, IsMessage}
+pub use Rattle.redis_connection.specs.Passing.{Passes, PassesOne, ReceivesAnswer, one_more}
 pub use Rattle.redis_connection.specs.Seen.{seen}
 pub use Rattle.redis_resp.specs.Boolean.{truth_reading}
 pub use Rattle.redis_resp.specs.Bytes.{bytes_reading}

@@ -9,7 +9,8 @@ use Rattle.redis_wire.specs.declared.reply.ReplyError.{ReplyError}
 use Rattle.redis_wire.specs.declared.reply.ReplyError.TheVariants.{Server, Parsing, NotAnAnswer}
 use Rattle.redis_connection.specs.Ask.{Exchanges, HasNoAnswer, IsNoAnswer}
 use Rattle.redis_connection.specs.Cause.{refusal_of}
-use Rattle.redis_connection.specs.Link.{Link, Sends, Receives}
+use Rattle.redis_connection.specs.Link.{Link, Sends}
+use Rattle.redis_connection.specs.Passing.{ReceivesAnswer}
 
 module _ {M R : Type 0} (reading : Tree → Option M) (may_refuse : Tree → ParsingError → Type 0) (meaning : R → M)
     (old new : Link) (args : List (List ℕ)) where
@@ -33,6 +34,6 @@ module _ {M R : Type 0} (reading : Tree → Option M) (may_refuse : Tree → Par
   answered (group k xs) e x is = error_in (first_error (group k xs)) (group k xs) e x refl (λ none. none) is
   answered (pushed k xs) e x is = error_in (first_error (pushed k xs)) (pushed k xs) e x refl (λ none. none) is
 
-  pub no_answer : (mid : Link) (a : Answer) (e : ReplyError) → Sends old mid (command_bytes args) → Receives mid new a
+  pub no_answer : (mid : Link) (a : Answer) (e : ReplyError) → Sends old mid (command_bytes args) → ReceivesAnswer mid new a
       → IsRecord reading may_refuse meaning a (Err e) → HasNoAnswer old new args reading may_refuse (refusal_of e)
   no_answer mid a e s r is = answered a e (record { between = mid; sends = s; receives = r }) is

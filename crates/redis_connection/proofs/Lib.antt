@@ -2,3 +2,4 @@
 pub mod WayLemmas
 pub mod LinkLemmas
 pub mod AskLemmas
+pub mod PassingLemmas

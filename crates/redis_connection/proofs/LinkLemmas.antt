@@ -27,6 +27,7 @@ waits_start link = (
     bytes = sym (append-nil link.held.bytes);
     limits = refl;
     written = refl;
+    passed = refl;
   },
 )
 
@@ -39,6 +40,7 @@ waits_on a b c p q = (
     bytes = q.1.bytes ∙ ap (λ bs. bs ++ q.0) p.1.bytes ∙ append_assoc a.held.bytes p.0 q.0;
     limits = q.1.limits ∙ p.1.limits;
     written = q.1.written ∙ p.1.written;
+    passed = q.1.passed ∙ p.1.passed;
   },
 )
 
@@ -47,16 +49,16 @@ next_err_same h h' wire_errors.Memory n = n
 next_err_same h h' (wire_errors.Fault f) n = n.0
 
 module _ (old : Link) (coming : Option (List ℕ)) (h : Held) (piece : List ℕ) (unfed : ℕ)
-    (w : Waits old (seen None coming h piece unfed)) where
+    (w : Waits old (seen 0 None coming h piece unfed)) where
   -- a stream that stays as it was
-  pub waits_same : (h' : Held) → h' ≡ h → Waits old (seen None coming h' piece unfed)
-  waits_same h' is = subst (λ (x : Held). Waits old (seen None coming x piece unfed)) (sym is) w
+  pub waits_same : (h' : Held) → h' ≡ h → Waits old (seen 0 None coming h' piece unfed)
+  waits_same h' is = subst (λ (x : Held). Waits old (seen 0 None coming x piece unfed)) (sym is) w
 
-  pub waits_err : (h' : Held) (e : WireError) → NextIs h (Err e) h' → Waits old (seen None coming h' piece unfed)
+  pub waits_err : (h' : Held) (e : WireError) → NextIs h (Err e) h' → Waits old (seen 0 None coming h' piece unfed)
   waits_err h' e n = waits_same h' (next_err_same h h' e n)
 
   pub reply_given : (h' : Held) (reply : Reply) → NextIs h (Ok (Some reply)) h'
-      → Receives old (seen None coming h' piece unfed) (answer reply)
+      → Receives old (seen 0 None coming h' piece unfed) (answer reply)
   reply_given h' reply n = record {
     taken = w.0;
     text = n.0;
@@ -66,11 +68,12 @@ module _ (old : Link) (coming : Option (List ℕ)) (h : Held) (piece : List ℕ)
     reply = subst (λ l. IsReply l n.0 (answer reply)) w.1.limits n.3;
     limits = ap (λ (x : Held). x.limits) n.4 ∙ w.1.limits;
     written = w.1.written;
+    passed = w.1.passed;
   }
 
   -- a reply stands at the head of what the stream holds
   stands_here : (len : ℕ) (a : Answer) → len ≤ length h.bytes → IsReply h.limits (take len h.bytes) a
-      → Stands old (seen None coming h piece unfed) len a
+      → Stands old (seen 0 None coming h piece unfed) len a
   stands_here len a le r = record {
     taken = w.0;
     takes = w.1;
@@ -81,13 +84,13 @@ module _ (old : Link) (coming : Option (List ℕ)) (h : Held) (piece : List ℕ)
   }
 
   pub reply_stands : (h' : Held) (len : ℕ) → h' ≡ h → LenIs h.limits h.bytes (Ok (Some len))
-      → IsInPlace old (seen None coming h' piece unfed) len
-  reply_stands h' len is r = subst (λ (x : Held). IsInPlace old (seen None coming x piece unfed) len) (sym is)
+      → IsInPlace old (seen 0 None coming h' piece unfed) len
+  reply_stands h' len is r = subst (λ (x : Held). IsInPlace old (seen 0 None coming x piece unfed) len) (sym is)
       (r.1.0, stands_here len r.1.0 r.0 r.1.1)
 
   -- nothing of the piece was left, and more was read
   pub read_more : (coming' : Option (List ℕ)) (piece' : List ℕ) (len : ℕ) → unfed ≡ 0
-      → Consumes coming coming' (take len piece') → Waits old (seen None coming' h piece' len)
+      → Consumes coming coming' (take len piece') → Waits old (seen 0 None coming' h piece' len)
   read_more coming' piece' len none more =
       let bytes : h.bytes ≡ old.held.bytes ++ w.0 =
       sym (append-nil h.bytes) ∙ ap (λ n. h.bytes ++ take n piece) (sym none) ∙ w.1.bytes in (
@@ -97,22 +100,23 @@ module _ (old : Link) (coming : Option (List ℕ)) (h : Held) (piece : List ℕ)
           bytes = ap (λ b. b ++ take len piece') bytes ∙ append_assoc old.held.bytes w.0 (take len piece');
           limits = w.1.limits;
           written = w.1.written;
+          passed = w.1.passed;
         },
       )
 
   pub read_none : (coming' : Option (List ℕ)) (piece' : List ℕ) → unfed ≡ 0 → Keeps coming coming'
-      → Waits old (seen None coming' h piece' unfed)
+      → Waits old (seen 0 None coming' h piece' unfed)
   read_none coming' piece' none kept =
-      subst (λ n. Waits old (seen None coming' h piece' n)) (sym none)
+      subst (λ n. Waits old (seen 0 None coming' h piece' n)) (sym none)
       (read_more coming' piece' 0 none (Consumes-kept coming coming coming' [] (Consumes-nil coming) kept))
 
   pub read_end : (coming' : Option (List ℕ)) (piece' : List ℕ) → unfed ≡ 0 → Consumes coming coming' []
-      → Waits old (seen None coming' h piece' unfed)
-  read_end coming' piece' none more = subst (λ n. Waits old (seen None coming' h piece' n)) (sym none)
+      → Waits old (seen 0 None coming' h piece' unfed)
+  read_end coming' piece' none more = subst (λ n. Waits old (seen 0 None coming' h piece' n)) (sym none)
       (read_more coming' piece' 0 none more)
 
   pub waits_fed : (h' : Held) → h' ≡ record h { bytes = h.bytes ++ take unfed piece }
-      → Waits old (seen None coming h' piece 0)
+      → Waits old (seen 0 None coming h' piece 0)
   waits_fed h' is = (
     w.0,
     record {
@@ -120,15 +124,16 @@ module _ (old : Link) (coming : Option (List ℕ)) (h : Held) (piece : List ℕ)
       bytes = append-nil h'.bytes ∙ ap (λ (x : Held). x.bytes) is ∙ w.1.bytes;
       limits = ap (λ (x : Held). x.limits) is ∙ w.1.limits;
       written = w.1.written;
+      passed = w.1.passed;
     },
   )
 
 pub faulty_next : (coming : Option (List ℕ)) (h h' : Held) (piece : List ℕ) (unfed : ℕ) (e : WireError)
-    → NextIs h (Err e) h' → IsFaulty (seen None coming h' piece unfed).held (failure_of e)
+    → NextIs h (Err e) h' → IsFaulty (seen 0 None coming h' piece unfed).held (failure_of e)
 faulty_next coming h h' piece unfed wire_errors.Memory n = tt
 faulty_next coming h h' piece unfed (wire_errors.Fault f) n =
     let u = take unfed piece in
-    subst (λ (x : Held). IsFaulty (seen None coming x piece unfed).held (errors.Fault f)) (sym n.0) (inl (
+    subst (λ (x : Held). IsFaulty (seen 0 None coming x piece unfed).held (errors.Fault f)) (sym n.0) (inl (
       λ more. subst (NoReply h.limits) (sym (append_assoc h.bytes u more)) (n.1 (u ++ more)),
       (
         length h.bytes,
@@ -138,7 +143,7 @@ faulty_next coming h h' piece unfed (wire_errors.Fault f) n =
     ))
 
 pub faulty_len : (coming : Option (List ℕ)) (h h' : Held) (piece : List ℕ) (unfed : ℕ) (e : WireError) → h' ≡ h
-    → LenIs h.limits h.bytes (Err e) → IsFaulty (seen None coming h' piece unfed).held (failure_of e)
+    → LenIs h.limits h.bytes (Err e) → IsFaulty (seen 0 None coming h' piece unfed).held (failure_of e)
 faulty_len coming h h' piece unfed wire_errors.Memory same r = tt
 faulty_len coming h h' piece unfed (wire_errors.Fault f) same r =
     faulty_next coming h h' piece unfed (wire_errors.Fault f) (same, r.0, r.1)
@@ -148,25 +153,25 @@ ended_never link wire_errors.Memory = tt
 ended_never link (wire_errors.Fault f) = tt
 
 pub ended_closed : (coming : Option (List ℕ)) (h : Held) (piece : List ℕ) (unfed : ℕ) → unfed ≡ 0 → IsAtEnd coming
-    → NoReply h.limits h.bytes → IsEnded (seen None coming h piece unfed) errors.Closed
+    → NoReply h.limits h.bytes → IsEnded (seen 0 None coming h piece unfed) errors.Closed
 ended_closed coming h piece unfed none end nothing =
     (end, subst (NoReply h.limits) (sym (append-nil h.bytes) ∙ ap (λ n. h.bytes ++ take n piece) (sym none)) nothing)
 
 pub faulty_feed : (coming : Option (List ℕ)) (h h' : Held) (piece : List ℕ) (unfed : ℕ) (e : WireError) → h' ≡ h
-    → IsRefused h (take unfed piece) e → IsFaulty (seen None coming h' piece unfed).held (failure_of e)
+    → IsRefused h (take unfed piece) e → IsFaulty (seen 0 None coming h' piece unfed).held (failure_of e)
 faulty_feed coming h h' piece unfed wire_errors.Memory same r = tt
 faulty_feed coming h h' piece unfed (wire_errors.Fault f) same (inl other) = absurd (cc other)
 faulty_feed coming h h' piece unfed (wire_errors.Fault f) same (inr full) =
     let is : f ≡ Overfull = cc in
-    subst (λ (x : Held). IsFaulty (seen None coming x piece unfed).held (errors.Fault f)) (sym same)
+    subst (λ (x : Held). IsFaulty (seen 0 None coming x piece unfed).held (errors.Fault f)) (sym same)
     (inr (is, omega (arith, full.1, length-append h.bytes (take unfed piece))))
 
 -- ---- bytes that are given out
 
-pub gives_out : (written coming : Option (List ℕ)) (h : Held) (piece : List ℕ) (unfed len : ℕ)
-    → GivesOut (seen written coming h piece unfed)
-    (seen written coming (record h { bytes = drop len h.bytes }) piece unfed) len
-gives_out written coming h piece unfed len =
+pub gives_out : (passed : ℕ) (written coming : Option (List ℕ)) (h : Held) (piece : List ℕ) (unfed len : ℕ)
+    → GivesOut (seen passed written coming h piece unfed)
+    (seen passed written coming (record h { bytes = drop len h.bytes }) piece unfed) len
+gives_out passed written coming h piece unfed len =
     let given = length h.bytes - length (drop len h.bytes) in
     let le : given ≤ length h.bytes = omega arith in
     let is : given ≡ length h.bytes - (length h.bytes - len) = ap (λ n. length h.bytes - n) (length-drop len h.bytes) in
@@ -179,6 +184,7 @@ gives_out written coming h piece unfed len =
       limits = refl;
       coming = refl;
       written = refl;
+      passed = refl;
     }
 
 -- the reply that stood there in place was received
@@ -195,26 +201,27 @@ given_received old new len g before a s =
       reply = s.reply;
       limits = g.limits ∙ s.takes.limits;
       written = g.written ∙ s.takes.written;
+      passed = g.passed ∙ s.takes.passed;
     }
 
-pub reply_given_out : (written coming : Option (List ℕ)) (h h' : Held) (piece : List ℕ) (unfed len : ℕ) (old : Link)
-    → seen written coming h piece unfed ≡ old → h' ≡ record h { bytes = drop len h.bytes }
-    → (before : Link) (a : Answer) → Stands before old len a → Receives before (seen written coming h' piece unfed) a
-reply_given_out written coming h h' piece unfed len old is given before a s =
-    let new = seen written coming h' piece unfed in
+pub reply_given_out : (passed : ℕ) (written coming : Option (List ℕ)) (h h' : Held) (piece : List ℕ) (unfed len : ℕ) (old : Link)
+    → seen passed written coming h piece unfed ≡ old → h' ≡ record h { bytes = drop len h.bytes }
+    → (before : Link) (a : Answer) → Stands before old len a → Receives before (seen passed written coming h' piece unfed) a
+reply_given_out passed written coming h h' piece unfed len old is given before a s =
+    let new = seen passed written coming h' piece unfed in
     let g : GivesOut old new len =
     subst (λ l. GivesOut l new len) is
-    (subst (λ (x : Held). GivesOut (seen written coming h piece unfed) (seen written coming x piece unfed) len)
-    (sym given) (gives_out written coming h piece unfed len)) in
+    (subst (λ (x : Held). GivesOut (seen passed written coming h piece unfed) (seen passed written coming x piece unfed) len)
+    (sym given) (gives_out passed written coming h piece unfed len)) in
     given_received old new len g before a s
 
 -- ---- a connection with a writer, of which nothing went out
 
-module _ (written : Option (List ℕ)) (coming coming' : Option (List ℕ)) (h h' : Held) (piece piece' : List ℕ)
-    (unfed unfed' : ℕ) (old : Link) (is : seen written coming h piece unfed ≡ old) where
-  received_one : (a : Answer) → Receives (seen None coming h piece unfed) (seen None coming' h' piece' unfed') a
-      → Receives old (seen written coming' h' piece' unfed') a
-  received_one a r = subst (λ (l : Link). Receives l (seen written coming' h' piece' unfed') a) is
+module _ (passed : ℕ) (written : Option (List ℕ)) (coming coming' : Option (List ℕ)) (h h' : Held) (piece piece' : List ℕ)
+    (unfed unfed' : ℕ) (old : Link) (is : seen passed written coming h piece unfed ≡ old) where
+  received_one : (a : Answer) → Receives (seen 0 None coming h piece unfed) (seen 0 None coming' h' piece' unfed') a
+      → Receives old (seen passed written coming' h' piece' unfed') a
+  received_one a r = subst (λ (l : Link). Receives l (seen passed written coming' h' piece' unfed') a) is
       (record {
         taken = r.taken;
         text = r.text;
@@ -223,11 +230,12 @@ module _ (written : Option (List ℕ)) (coming coming' : Option (List ℕ)) (h h
         reply = r.reply;
         limits = r.limits;
         written = refl;
+        passed = refl;
       })
 
-  stood_one : (len : ℕ) → IsInPlace (seen None coming h piece unfed) (seen None coming' h' piece' unfed') len
-      → IsInPlace old (seen written coming' h' piece' unfed') len
-  stood_one len s = subst (λ (l : Link). IsInPlace l (seen written coming' h' piece' unfed') len) is (
+  stood_one : (len : ℕ) → IsInPlace (seen 0 None coming h piece unfed) (seen 0 None coming' h' piece' unfed') len
+      → IsInPlace old (seen passed written coming' h' piece' unfed') len
+  stood_one len s = subst (λ (l : Link). IsInPlace l (seen passed written coming' h' piece' unfed') len) is (
     s.0,
     record {
       taken = s.1.taken;
@@ -236,6 +244,7 @@ module _ (written : Option (List ℕ)) (coming coming' : Option (List ℕ)) (h h
         bytes = s.1.takes.bytes;
         limits = s.1.takes.limits;
         written = refl;
+        passed = refl;
       };
       within = s.1.within;
       whole = s.1.whole;
@@ -244,20 +253,20 @@ module _ (written : Option (List ℕ)) (coming coming' : Option (List ℕ)) (h h
   )
 
   pub stood : {E : Type 0} (r : Result ℕ E)
-      → IfOk r (IsInPlace (seen None coming h piece unfed) (seen None coming' h' piece' unfed'))
-      → IfOk r (IsInPlace old (seen written coming' h' piece' unfed'))
+      → IfOk r (IsInPlace (seen 0 None coming h piece unfed) (seen 0 None coming' h' piece' unfed'))
+      → IfOk r (IsInPlace old (seen passed written coming' h' piece' unfed'))
   stood (Ok len) p = stood_one len p
   stood (Err e) p = tt
 
   pub received : {E : Type 0} (r : Result Reply E)
-      → IfOk r (λ reply. Receives (seen None coming h piece unfed) (seen None coming' h' piece' unfed') (answer reply))
-      → IfOk r (λ reply. Receives old (seen written coming' h' piece' unfed') (answer reply))
+      → IfOk r (λ reply. Receives (seen 0 None coming h piece unfed) (seen 0 None coming' h' piece' unfed') (answer reply))
+      → IfOk r (λ reply. Receives old (seen passed written coming' h' piece' unfed') (answer reply))
   received (Ok reply) p = received_one (answer reply) p
   received (Err e) p = tt
 
   pub waited : {A E : Type 0} (r : Result A E)
-      → OnErr r (Waits (seen None coming h piece unfed) (seen None coming' h' piece' unfed'))
-      → OnErr r (Waits old (seen written coming' h' piece' unfed'))
+      → OnErr r (Waits (seen 0 None coming h piece unfed) (seen 0 None coming' h' piece' unfed'))
+      → OnErr r (Waits old (seen passed written coming' h' piece' unfed'))
   waited (Ok x) p = tt
-  waited (Err e) p = subst (λ (l : Link). Waits l (seen written coming' h' piece' unfed')) is
-      (p.0, record { consumes = p.1.consumes; bytes = p.1.bytes; limits = p.1.limits; written = refl })
+  waited (Err e) p = subst (λ (l : Link). Waits l (seen passed written coming' h' piece' unfed')) is
+      (p.0, record { consumes = p.1.consumes; bytes = p.1.bytes; limits = p.1.limits; written = refl; passed = refl })

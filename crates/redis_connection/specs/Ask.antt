@@ -5,19 +5,20 @@ use Rattle.redis_resp.specs.Tree.{Tree}
 use Rattle.redis_resp.specs.declared.value.error.ParsingError.{ParsingError}
 use Rattle.redis_wire.specs.Packed.{command_bytes}
 use Rattle.redis_wire.specs.Reply.{Answer, value, first_error}
-use Rattle.redis_connection.specs.Link.{Link, Sends, SendsFront, Receives, Waits}
+use Rattle.redis_connection.specs.Link.{Link, Sends, SendsFront}
+use Rattle.redis_connection.specs.Passing.{ReceivesAnswer, AwaitsAnswer}
 use Rattle.redis_connection.specs.declared.error.AskError.{AskError}
 use Rattle.redis_connection.specs.declared.error.AskError.TheVariants as errors
 
--- the command went out whole, and then this answer came
+-- the command went out whole, and then this answer came, after messages that were passed over
 pub record Exchanges (old new : Link) (args : List (List ℕ)) (a : Answer) : Type 0 where
   pub between : Link
   pub sends : Sends old between (command_bytes args)
-  pub receives : Receives between new a
+  pub receives : ReceivesAnswer between new a
 
 -- a front of the command went out; or all of it, and no answer came
 abbrev pub Fails : Link → Link → List ℕ → Type 0
-Fails old new bytes = SendsFront old new bytes ⊎ ((between : Link) × Sends old between bytes × Waits between new)
+Fails old new bytes = SendsFront old new bytes ⊎ ((between : Link) × Sends old between bytes × AwaitsAnswer between new)
 
 -- no value, and no error is in it
 abbrev pub IsNoAnswer : Answer → Type 0

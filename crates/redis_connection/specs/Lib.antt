@@ -2,4 +2,5 @@
 pub mod Cause
 pub mod Link
 pub mod Seen
+pub mod Passing
 pub mod Ask

@@ -13,12 +13,14 @@ use Rattle.redis_connection.specs.declared.error.ConnectionError.{ConnectionErro
 use Rattle.redis_connection.specs.declared.error.ConnectionError.TheVariants as errors
 
 -- a connection: what its writer holds and what its reader has left, each where that is known, the
--- limits and the bytes that came in and were not given out, and how many of these may be read in place
+-- limits and the bytes that came in and were not given out, how many of these may be read in place, and
+-- how many messages of the server were passed over
 pub record Link : Type 0 where
   pub written : Option (List ℕ)
   pub coming : Option (List ℕ)
   pub held : Held
   pub in_place : ℕ
+  pub passed : ℕ
 
 -- these bytes went out, and nothing else happened
 pub record Sends (old new : Link) (bytes : List ℕ) : Type 0 where
@@ -26,6 +28,7 @@ pub record Sends (old new : Link) (bytes : List ℕ) : Type 0 where
   pub coming : new.coming ≡ old.coming
   pub held : new.held ≡ old.held
   pub in_place : new.in_place ≡ old.in_place
+  pub passed : new.passed ≡ old.passed
 
 -- some front of these bytes went out, and nothing else happened
 abbrev pub SendsFront : Link → Link → List ℕ → Type 0
@@ -37,6 +40,7 @@ pub record TakesIn (old new : Link) (taken : List ℕ) : Type 0 where
   pub bytes : new.held.bytes ≡ old.held.bytes ++ taken
   pub limits : new.held.limits ≡ old.held.limits
   pub written : new.written ≡ old.written
+  pub passed : new.passed ≡ old.passed
 
 -- some bytes came in and are held, and nothing was given out
 abbrev pub Waits : Link → Link → Type 0
@@ -51,6 +55,7 @@ pub record Receives (old new : Link) (a : Answer) : Type 0 where
   pub reply : IsReply old.held.limits text a
   pub limits : new.held.limits ≡ old.held.limits
   pub written : new.written ≡ old.written
+  pub passed : new.passed ≡ old.passed
 
 -- bytes came in, and so many at the head of what is held then may be read in place and are the reply that
 -- says this; nothing was given out
@@ -72,6 +77,7 @@ pub record GivesOut (old new : Link) (len : ℕ) : Type 0 where
   pub limits : new.held.limits ≡ old.held.limits
   pub coming : new.coming ≡ old.coming
   pub written : new.written ≡ old.written
+  pub passed : new.passed ≡ old.passed
 
 -- no reply will ever stand at the head of what is held, and this is the fault that reading some front
 -- of it from the left meets first; or more bytes came in than may be held

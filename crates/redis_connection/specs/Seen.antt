@@ -4,11 +4,12 @@ use Rattle.redis_wire.specs.Next.{Held}
 use Rattle.redis_connection.specs.Link.{Link}
 
 -- the first `unfed` bytes of the piece came in, and stand behind those that the stream holds, which may
--- be read in place
-abbrev pub seen : Option (List ℕ) → Option (List ℕ) → Held → List ℕ → ℕ → Link
-seen written coming held piece unfed = record {
+-- be read in place; so many messages were passed over
+abbrev pub seen : ℕ → Option (List ℕ) → Option (List ℕ) → Held → List ℕ → ℕ → Link
+seen passed written coming held piece unfed = record {
   written = written;
   coming = coming;
   held = record { limits = held.limits; bytes = held.bytes ++ take unfed piece };
   in_place = length held.bytes;
+  passed = passed;
 }

@@ -5,14 +5,17 @@ ghost use Rattle.redis_wire.specs.PackedArgs.{IsTooLarge};
 ghost use Rattle.redis_wire.specs.Reply.{Answer, answer};
 ghost use Rattle.redis_connection.specs.Ask.{Asks, HasNoAnswer};
 ghost use Rattle.redis_connection.specs.Link.{Link, IsEnded, IsFaulty, IsInPlace, IsRetried, GivesOut, Receives, Sends, SendsFront, Stands, Waits};
+ghost use Rattle.redis_connection.specs.Passing.{AwaitsAnswer, IsAnswerInPlace, ReceivesAnswer, one_more};
 
 use crate::error::{AskError, ConnectionError};
 use crate::incoming::{receive_from, receive_in_place_from};
 use crate::outgoing::write_out;
+use crate::passing::{begins_as_message, is_message};
 use redis_resp::{FromRedisValue, ToRedisArgs};
 use redis_wire::{Limits, Reply, ReplyStream, from_reply, pack_command};
 use std::alloc::{AllocError, Global};
-use std::io::{Read, Write};
+use std::io;
+use std::io::{ErrorKind, Read, Write};
 use std::marker::Model;
 
 /// How many bytes are read at once.
@@ -20,8 +23,11 @@ const PIECE: usize = 65_536;
 
 /// A connection to a server over a reader and a writer.
 ///
-/// A contract sees what its writer holds and what its reader has left, where these are known, and
-/// what came in and was not given out.
+/// A server that speaks RESP3 may push messages, which answer no command: of keys that changed, or of
+/// channels. They are passed over on the way to an answer and counted; `receive_any` gives them out.
+///
+/// A contract sees what its writer holds and what its reader has left, where these are known, what
+/// came in and was not given out, and how many messages were passed over.
 #[derive(Drop)]
 pub struct Connection<R: Read + Drop, W: Write + Drop> {
     reader: R,
@@ -29,6 +35,7 @@ pub struct Connection<R: Read + Drop, W: Write + Drop> {
     replies: ReplyStream,
     piece: Vec<u8>,
     unfed: usize,
+    passed: u64,
 }
 
 impl<R: Read + Drop, W: Write + Drop> Model for Connection<R, W> {
@@ -38,7 +45,7 @@ impl<R: Read + Drop, W: Write + Drop> Model for Connection<R, W> {
 
     ghost Value = { Link };
 
-    ghost view = { λ c. seen (W.contents c.writer) (R.remaining c.reader) c.replies
+    ghost view = { λ c. seen c.passed (W.contents c.writer) (R.remaining c.reader) c.replies
         c.piece.items c.unfed };
 
     ghost invariant = { λ c. (c.unfed ≤ length c.piece.items) × (0 < length c.piece.items) };
@@ -57,6 +64,7 @@ impl<R: Read + Drop, W: Write + Drop> Connection<R, W> {
           coming = R.remaining reader;
           held = record { limits = limits; bytes = [] };
           in_place = 0;
+          passed = 0;
         }) }
     {
         Ok(Connection {
@@ -65,6 +73,7 @@ impl<R: Read + Drop, W: Write + Drop> Connection<R, W> {
             replies: ReplyStream::new(alloc, limits),
             piece: vec![in alloc; 0; PIECE]?,
             unfed: 0,
+            passed: 0,
         })
     }
 
@@ -99,9 +108,9 @@ impl<R: Read + Drop, W: Write + Drop> Connection<R, W> {
         self.send_bytes(&bytes)
     }
 
-    /// Receives the next reply. An `Err` gives nothing out, and what came in is held: after
-    /// `Memory`, `Read` and `Closed` the call may be tried again.
-    pub fn receive(&mut self, alloc: Global) -> Result<Reply, ConnectionError>
+    /// Receives the next reply of any kind, a message that the server pushed too. An `Err` gives nothing
+    /// out, and what came in is held: after `Memory`, `Read` and `Closed` the call may be tried again.
+    pub fn receive_any(&mut self, alloc: Global) -> Result<Reply, ConnectionError>
         ensures ok { IfOk result (λ reply. Receives self.old self.new (answer reply)) }
         ensures err { OnErr result (Waits self.old self.new) }
         ensures ended { IfErr result (IsEnded self.new) }
@@ -117,10 +126,27 @@ impl<R: Read + Drop, W: Write + Drop> Connection<R, W> {
         )
     }
 
-    /// Receives the next reply in place, without building it: how many bytes it has at the head of what
-    /// came in. `received` shows them, and `give_out` gives them out; before that the same reply is
-    /// received again. An `Err` is one that `receive` has.
-    pub fn receive_in_place(&mut self, alloc: Global) -> Result<usize, ConnectionError>
+    /// Receives the next answer. Messages that the server pushed before it are passed over and counted.
+    /// An `Err` is one that `receive_any` has.
+    pub fn receive(&mut self, alloc: Global) -> Result<Reply, ConnectionError>
+        ensures ok { IfOk result (λ reply. ReceivesAnswer self.old self.new (answer reply)) }
+        ensures err { OnErr result (AwaitsAnswer self.old self.new) }
+        ensures ended { IfErr result (IsEnded self.new) }
+        ensures faulty { IfErr result (IsFaulty self.new.held) }
+        ensures retried { IfErr result IsRetried }
+    {
+        for _turn in 0..u64::MAX {
+            let reply = self.receive_any(alloc)?;
+            if !is_message(&reply) {
+                return Ok(reply);
+            }
+            self.count_message();
+        }
+        Err(ConnectionError::Read(io::Error::from(ErrorKind::TimedOut)))
+    }
+
+    /// How many bytes the next reply of any kind has at the head of what came in.
+    fn stand(&mut self, alloc: Global) -> Result<usize, ConnectionError>
         ensures ok { IfOk result (IsInPlace self.old self.new) }
         ensures err { OnErr result (Waits self.old self.new) }
         ensures ended { IfErr result (IsEnded self.new) }
@@ -134,6 +160,42 @@ impl<R: Read + Drop, W: Write + Drop> Connection<R, W> {
             self.piece.as_mut_slice(),
             &mut self.unfed,
         )
+    }
+
+    /// Receives the next answer in place, without building it: how many bytes it has at the head of what
+    /// came in. `received` shows them, and `give_out` gives them out; before that the same answer is
+    /// received again. Messages that the server pushed before it are passed over and counted. An `Err` is
+    /// one that `receive_any` has.
+    pub fn receive_in_place(&mut self, alloc: Global) -> Result<usize, ConnectionError>
+        ensures ok { IfOk result (IsAnswerInPlace self.old self.new) }
+        ensures err { OnErr result (AwaitsAnswer self.old self.new) }
+        ensures ended { IfErr result (IsEnded self.new) }
+        ensures faulty { IfErr result (IsFaulty self.new.held) }
+        ensures retried { IfErr result IsRetried }
+    {
+        for _turn in 0..u64::MAX {
+            let len = self.stand(alloc)?;
+            if !begins_as_message(self.received(len)) {
+                return Ok(len);
+            }
+            self.give_out(len);
+            self.count_message();
+        }
+        Err(ConnectionError::Read(io::Error::from(ErrorKind::TimedOut)))
+    }
+
+    /// Counts a message that was passed over.
+    fn count_message(&mut self)
+        ensures { self.new ≡ record self.old { passed = one_more self.old.passed } }
+    {
+        self.passed = self.passed.saturating_add(1);
+    }
+
+    /// How many messages of the server were passed over so far; from 2^64 - 1 on they are not counted.
+    pub fn passed(&self) -> u64
+        ensures { result ≡ self.now.passed }
+    {
+        self.passed
     }
 
     /// The limits of replies that come.

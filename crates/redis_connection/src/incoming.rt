@@ -59,12 +59,12 @@ fn take_in<R: Read>(
     ensures within { unfed.new ≤ length piece.new }
     ensures room { 0 < length piece.new }
     ensures waits { Waits
-        (seen None (R.remaining reader.old) replies.old piece.old unfed.old)
-        (seen None (R.remaining reader.new) replies.new piece.new unfed.new) }
+        (seen 0 None (R.remaining reader.old) replies.old piece.old unfed.old)
+        (seen 0 None (R.remaining reader.new) replies.new piece.new unfed.new) }
     ensures ended { IfErr result
-        (IsEnded (seen None (R.remaining reader.new) replies.new piece.new unfed.new)) }
+        (IsEnded (seen 0 None (R.remaining reader.new) replies.new piece.new unfed.new)) }
     ensures faulty { IfErr result
-        (IsFaulty (seen None (R.remaining reader.new) replies.new piece.new unfed.new).held) }
+        (IsFaulty (seen 0 None (R.remaining reader.new) replies.new piece.new unfed.new).held) }
     ensures retried { IfErr result IsRetried }
 {
     if *unfed == 0 {
@@ -88,15 +88,15 @@ pub fn receive_from<R: Read>(
     requires within { unfed.old ≤ length piece.old }
     ensures within { unfed.new ≤ length piece.new }
     ensures ok { IfOk result (λ reply. Receives
-        (seen None (R.remaining reader.old) replies.old piece.old unfed.old)
-        (seen None (R.remaining reader.new) replies.new piece.new unfed.new) (answer reply)) }
+        (seen 0 None (R.remaining reader.old) replies.old piece.old unfed.old)
+        (seen 0 None (R.remaining reader.new) replies.new piece.new unfed.new) (answer reply)) }
     ensures err { OnErr result (Waits
-        (seen None (R.remaining reader.old) replies.old piece.old unfed.old)
-        (seen None (R.remaining reader.new) replies.new piece.new unfed.new)) }
+        (seen 0 None (R.remaining reader.old) replies.old piece.old unfed.old)
+        (seen 0 None (R.remaining reader.new) replies.new piece.new unfed.new)) }
     ensures ended { IfErr result
-        (IsEnded (seen None (R.remaining reader.new) replies.new piece.new unfed.new)) }
+        (IsEnded (seen 0 None (R.remaining reader.new) replies.new piece.new unfed.new)) }
     ensures faulty { IfErr result
-        (IsFaulty (seen None (R.remaining reader.new) replies.new piece.new unfed.new).held) }
+        (IsFaulty (seen 0 None (R.remaining reader.new) replies.new piece.new unfed.new).held) }
     ensures retried { IfErr result IsRetried }
 {
     for _turn in 0..u64::MAX {
@@ -120,15 +120,15 @@ pub fn receive_in_place_from<R: Read>(
     requires within { unfed.old ≤ length piece.old }
     ensures within { unfed.new ≤ length piece.new }
     ensures ok { IfOk result (IsInPlace
-        (seen None (R.remaining reader.old) replies.old piece.old unfed.old)
-        (seen None (R.remaining reader.new) replies.new piece.new unfed.new)) }
+        (seen 0 None (R.remaining reader.old) replies.old piece.old unfed.old)
+        (seen 0 None (R.remaining reader.new) replies.new piece.new unfed.new)) }
     ensures err { OnErr result (Waits
-        (seen None (R.remaining reader.old) replies.old piece.old unfed.old)
-        (seen None (R.remaining reader.new) replies.new piece.new unfed.new)) }
+        (seen 0 None (R.remaining reader.old) replies.old piece.old unfed.old)
+        (seen 0 None (R.remaining reader.new) replies.new piece.new unfed.new)) }
     ensures ended { IfErr result
-        (IsEnded (seen None (R.remaining reader.new) replies.new piece.new unfed.new)) }
+        (IsEnded (seen 0 None (R.remaining reader.new) replies.new piece.new unfed.new)) }
     ensures faulty { IfErr result
-        (IsFaulty (seen None (R.remaining reader.new) replies.new piece.new unfed.new).held) }
+        (IsFaulty (seen 0 None (R.remaining reader.new) replies.new piece.new unfed.new).held) }
     ensures retried { IfErr result IsRetried }
 {
     for _turn in 0..u64::MAX {

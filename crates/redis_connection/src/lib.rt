@@ -10,6 +10,7 @@ mod connection;
 mod error;
 mod incoming;
 mod outgoing;
+mod passing;
 
 pub use connection::Connection;
 pub use error::{AskError, ConnectionError};

@@ -2,7 +2,8 @@
 use Rattle.std.proofs.Common.{◌≡◌, ◌<◌, ◌-◌, ◌∙◌, refl, sym, ap, subst, arith, inl, inr, Bool, true, false, cond, suc, ℕ, List, [], ◌∷◌, ◌++◌}
 use Rattle.std.proofs.Common.{map, length, get_or, Result, Ok, Err, OnErr}
 use Rattle.std.specs.Prelude.{filter}
-use Rattle.redis_connection.specs.Link.{Link, Sends, SendsFront, Receives, Waits}
+use Rattle.redis_connection.specs.Link.{Link, Sends, SendsFront}
+use Rattle.redis_connection.specs.Passing.{AwaitsAnswer, ReceivesAnswer}
 use Rattle.redis_wire.specs.Reply.{Answer}
 use Rattle.stream_drain.specs.Dead.{Names, Goes, DeliversSome}
 use Rattle.stream_worker.specs.Letters.{Desk, after_letter, letter_asks, letter_bytes, serves}
@@ -31,7 +32,7 @@ last_split (y ∷ z ∷ zs) x l e =
 -- once more it asked, and an answer that serves came
 pub goes_on : (names names' : Names) (n : ℕ) (old m between new : Link) (desk d d1 d' : Desk) (bytes : List ℕ) (a : Answer)
     (asked : LetterAsked) → Goes names n old desk m d → names' ≡ names → bytes ≡ letter_bytes names' d
-    → Sends m between bytes → Receives between new a → asked ≡ letter_asks d → serves asked a ≡ true → d1 ≡ d
+    → Sends m between bytes → ReceivesAnswer between new a → asked ≡ letter_asks d → serves asked a ≡ true → d1 ≡ d
     → d' ≡ after_letter asked d1 → (k : ℕ) × Goes names k old desk new d'
 goes_on names names' n old m between new desk d d1 d' bytes a asked goes same are sends receives asks serve d1_is d'_is = (
   suc n,
@@ -61,7 +62,7 @@ breaks_off names names' n old m new desk d d1 bytes goes same are sends d1_is =
 -- no reply came to it
 pub waits_on : (names names' : Names) (n : ℕ) (old m between new : Link) (desk d d1 : Desk) (bytes : List ℕ)
     → Goes names n old desk m d → names' ≡ names → bytes ≡ letter_bytes names' d → Sends m between bytes
-    → Waits between new → d1 ≡ d → DeliversSome names old desk new d1
+    → AwaitsAnswer between new → d1 ≡ d → DeliversSome names old desk new d1
 waits_on names names' n old m between new desk d d1 bytes goes same are sends waits d1_is =
     subst (λ x. DeliversSome names old desk new x) (sym d1_is) (
       n,

@@ -2,7 +2,8 @@
 use Rattle.std.specs.Prelude.{◌≡◌, ◌⊎◌, ℕ, zero, suc, Bool, true, false, List, [], ◌∷◌, ◌++◌, codes, string_bytes}
 use Rattle.redis_wire.specs.Reply.{Answer}
 use Rattle.redis_connection.specs.Ask.{Fails}
-use Rattle.redis_connection.specs.Link.{Link, Sends, Receives}
+use Rattle.redis_connection.specs.Link.{Link, Sends}
+use Rattle.redis_connection.specs.Passing.{ReceivesAnswer}
 use Rattle.redis_streams.specs.declared.pending.extended.StreamPendingId.{StreamPendingId}
 use Rattle.stream_worker.specs.Letters.{Desk, after_letter, letter_asks, letter_bytes, serves}
 
@@ -18,11 +19,11 @@ pub record IsBehind (page : List StreamPendingId) (start : List ℕ) : Type 0 wh
   pub start_is : start ≡ codes "(" ++ string_bytes last.id
 
 module _ (names : Names) where
-  -- what the desk asks went out whole, and then this answer came
+  -- what the desk asks went out whole, and then this answer came, after messages that were passed over
   pub record Hears (desk : Desk) (old new : Link) (a : Answer) : Type 0 where
     pub between : Link
     pub sends : Sends old between (letter_bytes names desk)
-    pub receives : Receives between new a
+    pub receives : ReceivesAnswer between new a
 
   -- so many times the desk asked, and the answer served, which brought it on
   abbrev pub Goes : ℕ → Link → Desk → Link → Desk → Type 0

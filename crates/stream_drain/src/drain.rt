@@ -7,14 +7,18 @@ use crate::lines::{LineFault, Lines};
 use crate::report::Report;
 use anyhow::{Error, Result, anyhow, bail};
 use line_log::LogFile;
-use redis_connection::{AskError, Connection};
+use redis_connection::{AskError, Connection, ConnectionError};
 use redis_streams::StreamInfoGroupsReply;
+use redis_wire::Fault;
 use std::alloc::Global;
 use std::fmt;
 use std::io::{Read, Write};
 use std::rt::Clock;
 use stream_commands::xinfo_groups;
 use stream_worker::{Asked, Progress, RequestError, RunError, Worker};
+
+/// The limit on what a connection holds, as `Limits::default` has it.
+const LARGEST: &str = "1 GiB";
 
 /// Drains until something fails, or until a read finds nothing new where that is asked for.
 pub fn drain<R: Read + Drop, W: Write + Drop, D: LogFile + Drop, T: Clock + Eprint + AllocGlobal>(
@@ -148,6 +152,12 @@ fn backlog_in(reply: &StreamInfoGroupsReply, name: &str) -> Option<Backlog> {
 fn broken_off(error: RunError, fault: &Option<LineFault>) -> Error {
     match error {
         RunError::Request(RequestError::NotCommitted) => not_committed(fault),
+        RunError::Receive(ConnectionError::Fault(Fault::Overfull)) => {
+            anyhow!("an answer is larger than {LARGEST}: take a smaller --count")
+        }
+        RunError::Receive(ConnectionError::Memory) => {
+            anyhow!("out of memory for an answer: take a smaller --count")
+        }
         error => error.into(),
     }
 }

@@ -32,11 +32,12 @@ use crate::drain::drain;
 use crate::lines::Lines;
 use crate::options::{Options, options_of};
 use crate::report::Report;
-use anyhow::{Context, Result};
-use line_log::{LineLog, SystemFile};
+use anyhow::{Context, Error, Result, anyhow};
+use line_log::{LineLog, LogError, SystemFile};
 use redis_connection::Connection;
 use redis_wire::Limits;
 use std::alloc::AllocError;
+use std::io::ErrorKind;
 use std::{env, io};
 use stream_worker::{Settings, Worker};
 
@@ -88,8 +89,25 @@ fn drain_by(rt: &HostRuntime, options: Options) -> Result<()> {
 
 // The log in the file of this path.
 fn log_at(rt: &HostRuntime, path: &str) -> Result<LineLog<SystemFile>> {
-    let file = SystemFile::open(rt, path).context(format_args!("cannot open {path}"))?;
+    let file = match SystemFile::open(rt, path) {
+        Ok(file) => file,
+        Err(error) => return Err(not_opened(path, error)),
+    };
     LineLog::open(rt.alloc(), file).context(format_args!("cannot open {path}"))
+}
+
+// Why a file was not opened.
+fn not_opened(path: &str, error: LogError) -> Error {
+    match error {
+        LogError::File(reason) => {
+            if reason.kind() == ErrorKind::WouldBlock {
+                anyhow!("another process has the file {path}")
+            } else {
+                Error::from(LogError::File(reason)).context(format_args!("cannot open {path}"))
+            }
+        }
+        error => Error::from(error).context(format_args!("cannot open {path}")),
+    }
 }
 
 // What looks for entries that were delivered too often, where they are given up.

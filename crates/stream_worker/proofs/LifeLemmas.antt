@@ -20,7 +20,7 @@ use Rattle.stream_worker.specs.Life.{goes_on, fails, OnlyCommittedIsAcknowledged
 use Rattle.stream_worker.specs.Machine.{commits, at_request, history_at_request}
 use Rattle.stream_worker.specs.Requested.{Unasked}
 use Rattle.stream_worker.specs.Session.{Standing, Turn, asking, having_heard, after_turn, after_turns}
-use Rattle.stream_worker.specs.Session.{Rounds, Fails, Broke}
+use Rattle.stream_worker.specs.Session.{Rounds, Breaks, Fails, Broke, after_failure}
 use Rattle.stream_worker.specs.declared.error.RequestError.{RequestError}
 use Rattle.stream_worker.specs.declared.error.RequestError.TheVariants.{NotCommitted, TooLong, Memory}
 use Rattle.stream_worker.specs.declared.error.RunError.{RunError}
@@ -221,15 +221,33 @@ module _ (settings : Settings) where
       | inr c ↦ was_cut f.0 f.1 c
     ]
 
+  -- after an error
+  stands_after : (e : RunError) (y x : Standing Doings) (deleted : List Id) → Stands y deleted → x ≡ after_failure e y
+      → Stands x deleted
+  stands_after e y x deleted s is =
+      subst (λ (v : Standing Doings). Stands v deleted) (sym is) (by e)
+    where
+      by : (e : RunError) → Stands (after_failure e y) deleted
+      by (causes.Request e) = s
+      by (causes.Send e) = sound_again y.machine y.history deleted s
+      by (causes.Receive e) = sound_again y.machine y.history deleted s
+      by (causes.Answer e) = sound_again y.machine y.history deleted s
+
+  broken_stands : (old new : Link) (w y : Standing Doings) (deleted : List Id) (e : RunError) → Stands w deleted
+      → (f : Breaks done_too committed_too settings old new w y e) (x : Standing Doings) (is : x ≡ after_failure e y)
+      → Stands y (deleted ++ deleted_at settings old new w x e (y, f, is))
+  broken_stands old new w y deleted (causes.Request e) s f x is = unasked_stands w y deleted e s f.1
+  broken_stands old new w y deleted (causes.Send e) s f x is = as_asking w y deleted s f.0
+  broken_stands old new w y deleted (causes.Receive e) s f x is = as_asking w y deleted s f.0
+  broken_stands old new w y deleted (causes.Answer e) s f x is =
+      failed_sound (asking committed_too settings w).asked f.0 (at_request w.machine) y.machine
+      (asking committed_too settings w).history y.history deleted (asking_stands w deleted s) e f.2
+
   failed_stands : (old new : Link) (w x : Standing Doings) (deleted : List Id) (e : RunError) → Stands w deleted
       → (f : Fails done_too committed_too settings old new w x e)
       → Stands x (deleted ++ deleted_at settings old new w x e f)
-  failed_stands old new w x deleted (causes.Request e) s f = unasked_stands w x deleted e s f.1
-  failed_stands old new w x deleted (causes.Send e) s f = as_asking w x deleted s f.0
-  failed_stands old new w x deleted (causes.Receive e) s f = as_asking w x deleted s f.0
-  failed_stands old new w x deleted (causes.Answer e) s f =
-      failed_sound (asking committed_too settings w).asked f.0 (at_request w.machine) x.machine
-      (asking committed_too settings w).history x.history deleted (asking_stands w deleted s) e f.2
+  failed_stands old new w x deleted e s f =
+      stands_after e f.0 x _ (broken_stands old new w f.0 deleted e s f.1 x f.2) f.2
 
   lives_stands : (w : Standing Doings) (deleted : List Id) → Lives settings w deleted → Stands w deleted
   lives_stands w deleted begins = record { held = λ id h. absurd h; loose = λ id h. absurd h }

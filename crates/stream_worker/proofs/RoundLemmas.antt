@@ -13,12 +13,13 @@ use Rattle.redis_wire.specs.declared.limits.Limits.{Limits}
 use Rattle.redis_wire.proofs.FitsLemmas.{reply_fits}
 use Rattle.redis_connection.specs.Ask.{Exchanges}
 use Rattle.redis_connection.specs.Link.{Link, Receives, Stands}
+use Rattle.redis_connection.specs.Passing.{ReceivesAnswer}
 use Rattle.redis_connection.specs.declared.error.ConnectionError.TheVariants.{Memory}
 use Rattle.stream_group.specs.Worker.{Verdict}
 use Rattle.stream_worker.specs.Answered.{Failed}
 use Rattle.stream_worker.specs.Answers.{hears}
 use Rattle.stream_worker.specs.InPlace.{Heads, WentInPlace, FailedInPlace}
-use Rattle.stream_worker.specs.Session.{Standing, Fails, Turned, Waited, EndsBy, command, having_heard}
+use Rattle.stream_worker.specs.Session.{Standing, Breaks, Turned, Waited, EndsBy, command, having_heard}
 use Rattle.stream_worker.specs.declared.error.InPlaceError.TheVariants as in_place
 use Rattle.stream_worker.specs.declared.error.RunError.TheVariants as causes
 use Rattle.stream_worker.specs.declared.error.WorkerError.{WorkerError}
@@ -49,13 +50,16 @@ module _ {R : Type 0} (with_verdict : R → List ℕ × Fields Tree → Verdict 
   abbrev answer : wire.Answer
   answer = waited.2.0
 
-  abbrev stands : Stands waited.0 here len answer
-  stands = waited.2.1
+  abbrev before_it : Link
+  before_it = waited.2.1.between
+
+  abbrev stands : Stands before_it here len answer
+  stands = waited.2.1.stands
 
   is_reply : IsReply limits text answer
   is_reply =
       subst (λ (l : Limits). IsReply l text answer) (sym (within ∙ stands.takes.limits))
-      (subst (λ (t : List ℕ). IsReply waited.0.held.limits t answer) (sym (received stands.within)) stands.reply)
+      (subst (λ (t : List ℕ). IsReply before_it.held.limits t answer) (sym (received stands.within)) stands.reply)
 
   pub no_fault : (((more : List ℕ) → NoReply limits (text ++ more))) → ⊥
   no_fault none = subst (NoReply limits) (append-nil text) (none []) (length text) answer
@@ -65,8 +69,18 @@ module _ {R : Type 0} (with_verdict : R → List ℕ × Fields Tree → Verdict 
   not_short none = none (length text) answer
       (subst (λ (t : List ℕ). IsReply limits t answer) (sym (take-length text)) is_reply)
 
-  pub held : x ≡ y → Fails with_verdict with_commit settings old here w x (causes.Receive Memory)
-  held same = (same ∙ waited.1.0, (waited.0, waited.1.1, (stands.taken, stands.takes)), tt, tt)
+  pub held : x ≡ y → Breaks with_verdict with_commit settings old here w x (causes.Receive Memory)
+  held same = (
+    same ∙ waited.1.0,
+    (waited.0, waited.1.1, record {
+      count = waited.2.1.count;
+      between = before_it;
+      passes = waited.2.1.passes;
+      waits = (stands.taken, stands.takes);
+    }),
+    tt,
+    tt,
+  )
 
   module _ (new : Link) (given : (before : Link) (a : wire.Answer) → Stands before here len a → Receives before new a)
     where
@@ -74,8 +88,14 @@ module _ {R : Type 0} (with_verdict : R → List ℕ × Fields Tree → Verdict 
       exchanged b h = record {
         between = waited.0;
         sends = waited.1.1;
-        receives = subst (λ (a : wire.Answer). Receives waited.0 new a) (sym (same_answer limits text answer b is_reply h))
-            (given waited.0 answer stands);
+        receives = subst (λ (a : wire.Answer). ReceivesAnswer waited.0 new a)
+            (sym (same_answer limits text answer b is_reply h)) (record {
+          count = waited.2.1.count;
+          between = before_it;
+          passes = waited.2.1.passes;
+          receives = given before_it answer stands;
+          is_answer = waited.2.1.is_answer;
+        });
       }
 
       pub turned : (s : Settings) → s ≡ settings → (q : Asked) (p : Progress) → q ≡ y.asked
@@ -94,7 +114,7 @@ module _ {R : Type 0} (with_verdict : R → List ℕ × Fields Tree → Verdict 
 
       pub refused : (s : Settings) → s ≡ settings → (e : WorkerError)
           → FailedInPlace with_verdict s limits text y x (in_place.Answer e)
-          → Fails with_verdict with_commit settings old new w x (causes.Answer e)
+          → Breaks with_verdict with_commit settings old new w x (causes.Answer e)
       refused s same e failed =
           let g = subst (λ (v : Settings). FailedInPlace with_verdict v limits text y x (in_place.Answer e)) same failed in (
             g.0,

@@ -1,6 +1,7 @@
 -- Lemmas on the rounds of a session.
-use Rattle.std.proofs.Common.{◌≡◌, ◌+◌, ◌<◌, ℕ, Bool, List, [], ◌∷◌, ◌++◌, length, Option, Some}
+use Rattle.std.proofs.Common.{◌≡◌, ◌+◌, ◌<◌, ℕ, zero, suc, Bool, true, false, List, [], ◌∷◌, ◌++◌, length, Option, Some}
 use Rattle.std.proofs.Common.{arith, refl, sym, ◌∙◌, ap, subst, append_assoc, append-nil}
+use Rattle.std.specs.Prelude.{codes, if◌then◌else◌}
 use Rattle.std.proofs.KnownBytes.{Appends-nil, Appends-trans, Consumes-nil, Consumes-trans}
 use Rattle.std.specs.Io.KnownBytes.{Appends, Consumes}
 use Rattle.redis_resp.specs.Table.{Fields}
@@ -12,24 +13,30 @@ use Rattle.redis_wire.specs.Reply as wire
 use Rattle.redis_wire.specs.declared.limits.Limits.{Limits}
 use Rattle.redis_connection.specs.Ask.{Exchanges}
 use Rattle.redis_connection.specs.Link.{Link}
-use Rattle.stream_group.specs.Worker.{Verdict, Machine}
+use Rattle.redis_connection.specs.Passing.{Passes}
+use Rattle.stream_group.specs.Worker.{Verdict, Machine, own, after_commit}
 use Rattle.stream_worker.specs.Answers.{Heard, told, no_group, group_made, hears, group_after}
 use Rattle.stream_worker.specs.Answered.{Went, GoesBy}
-use Rattle.stream_worker.specs.Session.{Standing, Turn, answers_of, AreReplies, Converses, command, asking}
+use Rattle.stream_worker.specs.Gathered.{Doings}
+use Rattle.stream_worker.specs.Machine.{commits, at_request, machine_of}
+use Rattle.stream_worker.specs.Questions.{sentence}
+use Rattle.stream_worker.specs.Session.{Standing, Turn, answers_of, AreMessages, IsAnswerText, AreReplies, Converses, command, asking}
 use Rattle.stream_worker.specs.Session.{having_heard, EndsBy, ends_before, after_turn, after_turns, bytes_asked, Ends}
-use Rattle.stream_worker.specs.Session.{Rounds, Turned, Ran, IsUnanswered, Fails, Broke}
+use Rattle.stream_worker.specs.Session.{Rounds, Turned, Ran, IsUnanswered, Breaks, Fails, Broke, FailuresBeginAgain}
+use Rattle.stream_worker.specs.Session.{IsUnsent, FailsUnanswered, after_failure, machine_after, standing_of}
 use Rattle.stream_worker.specs.declared.error.RunError.{RunError}
 use Rattle.stream_worker.specs.declared.error.RunError.TheVariants as causes
 use Rattle.stream_worker.specs.declared.state.Asked.{Asked}
 use Rattle.stream_worker.specs.declared.state.Asked.TheVariants.{Nothing}
 use Rattle.stream_worker.specs.declared.state.Settings.{Settings}
 use Rattle.stream_worker.specs.declared.worker.Progress.{Progress}
+use Rattle.stream_worker.specs.declared.worker.Worker.{Worker}
 use Rattle.stream_worker.specs.declared.worker.Progress.TheVariants.{GoesOn, Stopped}
 
 -- ---- what goes over the connection
 
 pub replies_more : (limits : Limits) (bytes text : List ℕ) (came : List wire.Answer) (a : wire.Answer)
-    → AreReplies limits bytes came → IsReply limits text a → AreReplies limits (bytes ++ text) (came ++ a ∷ [])
+    → AreReplies limits bytes came → IsAnswerText limits text a → AreReplies limits (bytes ++ text) (came ++ a ∷ [])
 replies_more limits bytes text [] a none reply =
     (text, [], ap (λ b. b ++ text) none ∙ sym (append-nil text), reply, refl)
 replies_more limits bytes text (b ∷ came) a h reply = (
@@ -51,32 +58,88 @@ converses_none link = record {
   limits = refl;
 }
 
+-- messages that were passed over, as the bytes that they were
+record Flat (old new : Link) (n : ℕ) : Type 0 where
+  taken : List ℕ
+  texts : List ℕ
+  consumes : Consumes old.coming new.coming taken
+  bytes : old.held.bytes ++ taken ≡ texts ++ new.held.bytes
+  messages : AreMessages old.held.limits n texts
+  limits : new.held.limits ≡ old.held.limits
+  written : new.written ≡ old.written
+
+-- bytes that came in behind, and were given out behind
+joined : (a b c taken more text texts : List ℕ) → a ++ taken ≡ texts ++ b → b ++ more ≡ text ++ c
+    → a ++ (taken ++ more) ≡ (texts ++ text) ++ c
+joined a b c taken more text texts p q = sym (append_assoc a taken more) ∙ ap (λ x. x ++ more) p
+    ∙ append_assoc texts b more ∙ ap (λ x. texts ++ x) q ∙ sym (append_assoc texts text c)
+
+flat : (n : ℕ) (old new : Link) → Passes n old new → Flat old new n
+flat zero old new p = subst (λ (l : Link). Flat old l 0) (sym p) (record {
+  taken = [];
+  texts = [];
+  consumes = Consumes-nil old.coming;
+  bytes = append-nil old.held.bytes;
+  messages = refl;
+  limits = refl;
+  written = refl;
+})
+flat (suc n) old new p =
+    let mid = p.0 in
+    let f = flat n old mid p.1 in
+    let r = p.2.receives in
+    subst (λ (l : Link). Flat old l (suc n)) (sym p.2.counted) (record {
+      taken = f.taken ++ r.taken;
+      texts = f.texts ++ r.text;
+      consumes = Consumes-trans old.coming mid.coming p.2.between.coming f.taken r.taken f.consumes r.consumes;
+      bytes = joined old.held.bytes mid.held.bytes p.2.between.held.bytes f.taken r.taken r.text f.texts f.bytes r.bytes;
+      messages = (
+        f.texts,
+        r.text,
+        p.2.message,
+        refl,
+        f.messages,
+        subst (λ l. IsReply l r.text p.2.message) f.limits r.reply,
+        p.2.is_message,
+      );
+      limits = r.limits ∙ f.limits;
+      written = r.written ∙ f.written;
+    })
+
 pub converses_more : (old mid new : Link) (out : List ℕ) (came : List wire.Answer) (args : List (List ℕ))
     (a : wire.Answer) → Converses old mid out came → Exchanges mid new args a
     → Converses old new (out ++ command_bytes args) (came ++ a ∷ [])
 converses_more old mid new out came args a c x =
     let s = x.sends in
-    let r = x.receives in
+    let p = x.receives in
+    let f = flat p.count x.between p.between p.passes in
+    let r = p.receives in
     let went : Appends mid.written new.written (command_bytes args) =
-    subst (λ w. Appends mid.written w (command_bytes args)) (sym r.written) s.appends in
-    let consumed : Consumes mid.coming new.coming r.taken =
-    subst (λ l. Consumes l new.coming r.taken) s.coming r.consumes in
-    let held : mid.held.bytes ++ r.taken ≡ r.text ++ new.held.bytes =
-    ap (λ (h : Held). h.bytes ++ r.taken) (sym s.held) ∙ r.bytes in
+    subst (λ w. Appends mid.written w (command_bytes args)) (sym (r.written ∙ f.written)) s.appends in
+    let consumed : Consumes mid.coming new.coming (f.taken ++ r.taken) =
+    subst (λ l. Consumes l new.coming (f.taken ++ r.taken)) s.coming
+    (Consumes-trans x.between.coming p.between.coming new.coming f.taken r.taken f.consumes r.consumes) in
+    let held : mid.held.bytes ++ (f.taken ++ r.taken) ≡ (f.texts ++ r.text) ++ new.held.bytes =
+    ap (λ (h : Held). h.bytes ++ (f.taken ++ r.taken)) (sym s.held)
+    ∙ joined x.between.held.bytes p.between.held.bytes new.held.bytes f.taken r.taken r.text f.texts f.bytes r.bytes in
     let first : x.between.held.limits ≡ old.held.limits = ap (λ (h : Held). h.limits) s.held ∙ c.limits in
     record {
       appends = Appends-trans old.written mid.written new.written out (command_bytes args) c.appends went;
-      taken = c.taken ++ r.taken;
-      texts = c.texts ++ r.text;
-      consumes = Consumes-trans old.coming mid.coming new.coming c.taken r.taken c.consumes consumed;
-      bytes = sym (append_assoc old.held.bytes c.taken r.taken)
-          ∙ ap (λ b. b ++ r.taken) c.bytes
-          ∙ append_assoc c.texts mid.held.bytes r.taken
-          ∙ ap (λ b. c.texts ++ b) held
-          ∙ sym (append_assoc c.texts r.text new.held.bytes);
-      replies = replies_more old.held.limits c.texts r.text came a c.replies
-          (subst (λ l. IsReply l r.text a) first r.reply);
-      limits = r.limits ∙ first;
+      taken = c.taken ++ (f.taken ++ r.taken);
+      texts = c.texts ++ (f.texts ++ r.text);
+      consumes = Consumes-trans old.coming mid.coming new.coming c.taken (f.taken ++ r.taken) c.consumes consumed;
+      bytes = joined old.held.bytes mid.held.bytes new.held.bytes c.taken (f.taken ++ r.taken) (f.texts ++ r.text) c.texts
+          c.bytes held;
+      replies = replies_more old.held.limits c.texts (f.texts ++ r.text) came a c.replies (record {
+        count = p.count;
+        messages = f.texts;
+        answer = r.text;
+        is = refl;
+        pushed = subst (λ l. AreMessages l p.count f.texts) first f.messages;
+        reply = subst (λ l. IsReply l r.text a) (f.limits ∙ first) r.reply;
+        is_answer = p.is_answer;
+      });
+      limits = r.limits ∙ f.limits ∙ first;
     }
 
 -- ---- turns, and one more
@@ -194,7 +257,7 @@ module _ {R : Type 0} (with_verdict : R → List ℕ × Fields Tree → Verdict 
   -- ---- how a session ends
 
   pub failing : (old new : Link) (w x : Standing R) (e : RunError) → IsUnanswered with_commit settings old new w x e
-      → Fails with_verdict with_commit settings old new w x e
+      → Breaks with_verdict with_commit settings old new w x e
   failing old new w x (causes.Request e) u = u
   failing old new w x (causes.Send e) u = u
   failing old new w x (causes.Receive e) u = u
@@ -232,3 +295,41 @@ module _ {R : Type 0} (with_verdict : R → List ℕ × Fields Tree → Verdict 
           made = r;
           fails = subst (λ (v : Settings). Fails with_verdict with_commit v mid new y x e) same f;
         }
+
+-- ---- after a failure
+
+-- a worker that begins again, if a command may have gone out
+pub stands_failed : {R : Type 0} (w w' : Worker) (r : R) (e : RunError)
+    → machine_of w' ≡ machine_after e (machine_of w) → w'.group_missing ≡ w.group_missing → w'.asked ≡ w.asked
+    → standing_of w' r ≡ after_failure e (standing_of w r)
+stands_failed w w' r e machine missing asked = standing_is (standing_of w' r) _ _ _ _ machine missing asked refl
+
+module _ {R : Type 0} (with_verdict : R → List ℕ × Fields Tree → Verdict → R) (with_commit : R → R)
+    (settings : Settings) (old new : Link) (w y x : Standing R) (e f : RunError) (same : f ≡ e)
+    (is : x ≡ after_failure e y) where
+  pub failed_unanswered : IsUnanswered with_commit settings old new w y e
+      → FailsUnanswered with_commit settings old new w x f
+  failed_unanswered u =
+      subst (λ (c : RunError). FailsUnanswered with_commit settings old new w x c) (sym same) (y, u, is)
+
+  pub failed_round : Breaks with_verdict with_commit settings old new w y e
+      → Fails with_verdict with_commit settings old new w x f
+  failed_round b =
+      subst (λ (c : RunError). Fails with_verdict with_commit settings old new w x c) (sym same) (y, b, is)
+
+phase_kept : (m : Machine) → (at_request m).phase ≡ m.phase
+phase_kept m = elim (commits m) as (λ b. (if b then after_commit m else m).phase ≡ m.phase) [
+    | true ↦ refl
+    | false ↦ refl
+  ]
+
+begun_again : (e : RunError) (m : Machine) → (IsUnsent e → ⊥) → (machine_after e m).phase ≡ own (codes "0")
+begun_again (causes.Request e) m sent = absurd (sent tt)
+begun_again (causes.Send e) m sent = refl
+begun_again (causes.Receive e) m sent = refl
+begun_again (causes.Answer e) m sent = refl
+
+pub failures_begin_again : FailuresBeginAgain
+failures_begin_again settings old new w x e f sent =
+    ap (λ p. sentence settings x.missing p (at_request x.machine).to_acknowledge)
+    (phase_kept x.machine ∙ ap (λ (v : Standing Doings). v.machine.phase) f.2 ∙ begun_again e f.0.machine sent)

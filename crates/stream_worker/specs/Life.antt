@@ -52,7 +52,7 @@ module _ (settings : Settings) where
   deleted_at old new w x (causes.Request e) f = []
   deleted_at old new w x (causes.Send e) f = []
   deleted_at old new w x (causes.Receive e) f = []
-  deleted_at old new w x (causes.Answer e) f = deleted_told w f.0
+  deleted_at old new w x (causes.Answer e) f = deleted_told w f.1.0
 
   -- where a worker may stand, and of which entries it was told that they were deleted: at first it is new; in each
   -- round an answer brings it on, or the round fails, and it goes on over this connection or another one

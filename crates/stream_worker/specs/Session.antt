@@ -1,6 +1,6 @@
 -- A session of a worker over a connection: the run of its machine over the answers that came.
-use Rattle.std.specs.Prelude.{◌≡◌, ◌≢◌, ◌≤◌, ◌<◌, ℕ, Bool, true, false, List, [], ◌∷◌, ◌++◌, map, length}
-use Rattle.std.specs.Prelude.{Option, Some, None}
+use Rattle.std.specs.Prelude.{◌≡◌, ◌≢◌, ◌≤◌, ◌<◌, ℕ, zero, suc, Bool, true, false, List, [], ◌∷◌, ◌++◌, map, length}
+use Rattle.std.specs.Prelude.{codes, Option, Some, None}
 use Rattle.std.specs.Io.KnownBytes.{Appends, Consumes}
 use Rattle.redis_resp.specs.Table.{Fields}
 use Rattle.redis_resp.specs.Tree.{Tree}
@@ -9,11 +9,13 @@ use Rattle.redis_wire.specs.Packed.{command_bytes}
 use Rattle.redis_wire.specs.Reply as wire
 use Rattle.redis_wire.specs.declared.limits.Limits.{Limits}
 use Rattle.redis_connection.specs.Ask.{Exchanges}
-use Rattle.redis_connection.specs.Link.{Link, Sends, SendsFront, Waits, IsInPlace, IsEnded, IsFaulty}
+use Rattle.redis_connection.specs.Link.{Link, Sends, SendsFront, IsEnded, IsFaulty}
+use Rattle.redis_connection.specs.Passing.{IsMessage, AwaitsAnswer, IsAnswerInPlace}
 use Rattle.redis_connection.specs.declared.error.ConnectionError.TheVariants.{TooLong}
-use Rattle.stream_group.specs.Worker.{Verdict, Machine, ending, entries_in, told_in, after}
+use Rattle.stream_group.specs.Worker.{Verdict, Machine, ending, entries_in, told_in, after, begins_again, own}
 use Rattle.stream_worker.specs.Answers.{Heard, told, no_group, group_made, hears}
 use Rattle.stream_worker.specs.Answered.{Failed}
+use Rattle.stream_worker.specs.Gathered.{Doings, done_too, committed_too}
 use Rattle.stream_worker.specs.Handling.{with_all}
 use Rattle.stream_worker.specs.Machine.{machine_of, at_request, history_at_request, ending_of}
 use Rattle.stream_worker.specs.Questions.{asks, sentence}
@@ -38,6 +40,15 @@ pub record Standing (R : Type 0) : Type 0 where
 abbrev pub standing_of : {R : Type 0} → Worker → R → Standing R
 standing_of w r = record { machine = machine_of w; missing = w.group_missing; asked = w.asked; history = r }
 
+-- the machine after an error: if a command may have gone out, it begins again with what is pending for it
+abbrev pub machine_after : RunError → Machine → Machine
+machine_after (causes.Request e) m = m
+machine_after e m = begins_again m
+
+-- where it stands then
+abbrev pub after_failure : {R : Type 0} → RunError → Standing R → Standing R
+after_failure e w = record w { machine = machine_after e w.machine }
+
 -- an answer that came, and what the handler said of its entries
 pub record Turn : Type 0 where
   pub answer : wire.Answer
@@ -47,14 +58,31 @@ pub record Turn : Type 0 where
 abbrev pub answers_of : List Turn → List wire.Answer
 answers_of turns = map (λ t. t.answer) turns
 
--- these bytes are these replies, one after the other
+-- these bytes are so many messages that the server pushed, one after the other
+abbrev pub AreMessages : Limits → ℕ → List ℕ → Type 0
+AreMessages limits zero bytes = bytes ≡ []
+AreMessages limits (suc n) bytes = (front : List ℕ) × (text : List ℕ) × (a : wire.Answer) × (bytes ≡ front ++ text)
+    × AreMessages limits n front × IsReply limits text a × IsMessage a
+
+-- these bytes are this answer, after messages that the server pushed
+pub record IsAnswerText (limits : Limits) (text : List ℕ) (a : wire.Answer) : Type 0 where
+  pub count : ℕ
+  pub messages : List ℕ
+  pub answer : List ℕ
+  pub is : text ≡ messages ++ answer
+  pub pushed : AreMessages limits count messages
+  pub reply : IsReply limits answer a
+  pub is_answer : IsMessage a → ⊥
+
+-- these bytes are these answers, one after the other
 abbrev pub AreReplies : Limits → List ℕ → List wire.Answer → Type 0
 AreReplies limits bytes [] = bytes ≡ []
 AreReplies limits bytes (a ∷ more) =
-    (text : List ℕ) × (rest : List ℕ) × (bytes ≡ text ++ rest) × IsReply limits text a × AreReplies limits rest more
+    (text : List ℕ) × (rest : List ℕ) × (bytes ≡ text ++ rest) × IsAnswerText limits text a
+    × AreReplies limits rest more
 
--- these bytes went out; bytes came in; and these answers stood at the head of what is held and were given out,
--- just their bytes
+-- these bytes went out; bytes came in; and these answers stood at the head of what is held, each after messages that
+-- the server pushed, and were given out with these, just their bytes
 pub record Converses (old new : Link) (out : List ℕ) (came : List wire.Answer) : Type 0 where
   pub appends : Appends old.written new.written out
   pub taken : List ℕ
@@ -68,6 +96,11 @@ pub record Converses (old new : Link) (out : List ℕ) (came : List wire.Answer)
 abbrev pub command : {R : Type 0} → Settings → Standing R → List (List ℕ)
 command settings w =
     sentence settings w.missing (at_request w.machine).phase (at_request w.machine).to_acknowledge
+
+-- the error is that a command did not go out, since it was not written
+abbrev pub IsUnsent : RunError → Type 0
+IsUnsent (causes.Request e) = Unit {0}
+IsUnsent e = ⊥
 
 module _ {R : Type 0} (with_commit : R → R) (settings : Settings) where
   -- where it stands as it asks
@@ -91,9 +124,13 @@ module _ {R : Type 0} (with_commit : R → R) (settings : Settings) where
   IsUnanswered old new w x (causes.Send e) =
       (x ≡ asking w) × SendsFront old new (command_bytes (command settings w)) × (e ≢ TooLong)
   IsUnanswered old new w x (causes.Receive e) =
-      (x ≡ asking w) × ((between : Link) × Sends old between (command_bytes (command settings w)) × Waits between new)
+      (x ≡ asking w) × ((between : Link) × Sends old between (command_bytes (command settings w)) × AwaitsAnswer between new)
       × IsEnded new e × IsFaulty new.held e
   IsUnanswered old new w x (causes.Answer e) = ⊥
+
+  -- the same, and if its command may have gone out, the worker begins again
+  abbrev pub FailsUnanswered : Link → Link → Standing R → Standing R → RunError → Type 0
+  FailsUnanswered old new w x e = (y : Standing R) × IsUnanswered old new w y e × (x ≡ after_failure e y)
 
   -- it asked, and its command went out
   abbrev pub HasAsked : Link → Link → Standing R → Standing R → Type 0
@@ -101,7 +138,7 @@ module _ {R : Type 0} (with_commit : R → R) (settings : Settings) where
 
   -- it asked, and the reply to it is held whole, in so many bytes
   abbrev pub Waited : Link → Link → Standing R → Standing R → ℕ → Type 0
-  Waited old new w x len = (between : Link) × HasAsked old between w x × IsInPlace between new len
+  Waited old new w x len = (between : Link) × HasAsked old between w x × IsAnswerInPlace between new len
 
 -- where a worker stands by what it heard, where its handler said this of the entries
 abbrev pub having_heard : {R : Type 0} → (R → List ℕ × Fields Tree → Verdict → R) → Standing R → Option Heard
@@ -179,13 +216,17 @@ module _ {R : Type 0} (with_verdict : R → List ℕ × Fields Tree → Verdict 
   abbrev pub Ran : Link → Link → Standing R → Standing R → ℕ → Progress → Type 0
   Ran old new w x rounds p = (n : ℕ) × IsCount rounds n p × Rounds old new w x n p
 
-  -- a round fails: it has no answer, or one that does not bring it on
-  abbrev pub Fails : Link → Link → Standing R → Standing R → RunError → Type 0
-  Fails old new w x (causes.Answer e) = (a : wire.Answer) × Exchanges old new (command settings w) a
+  -- a round breaks: it has no answer, or one that does not bring it on
+  abbrev pub Breaks : Link → Link → Standing R → Standing R → RunError → Type 0
+  Breaks old new w x (causes.Answer e) = (a : wire.Answer) × Exchanges old new (command settings w) a
       × Failed with_verdict settings (asking with_commit settings w).asked a (at_request w.machine) x.machine
       (asking with_commit settings w).history x.history e
       × (x.missing ≡ w.missing) × (x.asked ≡ Nothing)
-  Fails old new w x e = IsUnanswered with_commit settings old new w x e
+  Breaks old new w x e = IsUnanswered with_commit settings old new w x e
+
+  -- a round fails: it breaks, and if its command may have gone out, the worker begins again
+  abbrev pub Fails : Link → Link → Standing R → Standing R → RunError → Type 0
+  Fails old new w x e = (y : Standing R) × Breaks old new w y e × (x ≡ after_failure e y)
 
   -- the session broke off: some rounds were made, and the next one failed
   pub record Broke (old new : Link) (w x : Standing R) (rounds : ℕ) (e : RunError) : Type 0 where
@@ -195,3 +236,11 @@ module _ {R : Type 0} (with_verdict : R → List ℕ × Fields Tree → Verdict 
     pub before : Standing R
     pub made : Rounds old link w before n GoesOn
     pub fails : Fails link new before x e
+
+-- the law: after a round that failed once its command may have gone out, the worker makes the group that is missing,
+-- acknowledges what is committed, or asks for what is pending for it from the first entry on
+abbrev pub FailuresBeginAgain : Type 0
+FailuresBeginAgain = (settings : Settings) (old new : Link) (w x : Standing Doings) (e : RunError)
+    → Fails done_too committed_too settings old new w x e → (IsUnsent e → ⊥)
+    → command settings x
+    ≡ sentence settings x.missing (own (codes "0")) (at_request x.machine).to_acknowledge

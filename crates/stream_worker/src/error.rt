@@ -52,12 +52,12 @@ pub enum WorkerError {
     /// Nothing was asked.
     #[error("an answer to no question")]
     NotAsked,
-    /// The server answered an error, such as `NOGROUP`, `LOADING` or `READONLY`. The worker is
-    /// where it was, and asks the same again.
+    /// The server answered an error, such as `NOGROUP`, `LOADING` or `READONLY`. `answered` leaves the
+    /// worker where it was; `round` and `run` begin again.
     #[error("the server answers {0}")]
     Server(ServerError),
     /// The reply answers no command: the server pushed it unasked, or it is a group with an error
-    /// in it. The worker is where it was, and asks the same again.
+    /// in it. `answered` leaves the worker where it was; `round` and `run` begin again.
     #[error("no answer of a command")]
     NotAnAnswer,
     /// The answer is none to the question.

@@ -4,6 +4,7 @@ ghost use Rattle.redis_resp.specs.Tree.{Tree};
 ghost use Rattle.stream_group.specs.Law.{AcknowledgedIsSettled, EachEntryIsKept, HandledAsDelivered};
 ghost use Rattle.stream_group.specs.Law.{CommittedIsHandled, HandledIsOfTheLog};
 ghost use Rattle.stream_worker.specs.Life.{OnlyCommittedIsAcknowledged, SessionsAreLived};
+ghost use Rattle.stream_worker.specs.Session.{FailuresBeginAgain};
 ghost use Rattle.stream_worker.specs.Step.{AnswersStayInStep, CutsStayInStep, RequestsStayInStep};
 
 /// The laws of `stream_group`, of entries with the fields that a worker sees: each that was ever
@@ -31,4 +32,11 @@ pub fn stays_in_step()
 pub fn acknowledges_what_is_committed()
     ensures acknowledged { OnlyCommittedIsAcknowledged }
     ensures sessions { SessionsAreLived }
+{}
+
+/// After a round that failed once its command may have gone out, over whatever connection, a worker
+/// first makes the group that is missing, or acknowledges what is committed, or asks for what is
+/// pending for it, from the first entry on. So entries whose answer was lost come again at once.
+pub fn begins_again()
+    ensures { FailuresBeginAgain }
 {}

@@ -1,8 +1,9 @@
 //! A worker over a connection.
 ghost use Rattle.std.specs.Prelude.{◌≡◌, IfErr, IfOk, OnOk};
 ghost use Rattle.redis_wire.specs.Reply.{answer};
-ghost use Rattle.stream_worker.specs.Session.{Broke, Fails, HasAsked, IsAsked, IsUnanswered, Ran};
-ghost use Rattle.stream_worker.specs.Session.{Turned, Waited, standing_of};
+ghost use Rattle.stream_worker.specs.Machine.{machine_of};
+ghost use Rattle.stream_worker.specs.Session.{Breaks, Broke, Fails, FailsUnanswered, HasAsked, IsAsked, IsUnanswered};
+ghost use Rattle.stream_worker.specs.Session.{Ran, Turned, Waited, machine_after, standing_of};
 
 use crate::error::{InPlaceError, RunError};
 use crate::handler::Handler;
@@ -46,9 +47,8 @@ impl Worker {
         Ok(())
     }
 
-    /// Requests the next command, sends it, and receives the reply to it, which `answered` takes.
-    /// An `Err` is never `Answer`, and nothing is acknowledged then that was not committed.
-    pub fn ask<H: Handler, R: Read + Drop, W: Write + Drop>(
+    /// Requests the next command, sends it, and receives the answer to it.
+    fn try_ask<H: Handler, R: Read + Drop, W: Write + Drop>(
         &mut self,
         alloc: Global,
         connection: &mut Connection<R, W>,
@@ -67,6 +67,44 @@ impl Worker {
             Ok(reply) => Ok(reply),
             Err(error) => Err(RunError::Receive(error)),
         }
+    }
+
+    /// Requests the next command, sends it, and receives the answer to it, which `answered` takes.
+    /// An `Err` is never `Answer`, and nothing is acknowledged then that was not committed. If the
+    /// command may have gone out, the worker begins again.
+    pub fn ask<H: Handler, R: Read + Drop, W: Write + Drop>(
+        &mut self,
+        alloc: Global,
+        connection: &mut Connection<R, W>,
+        handler: &mut H,
+    ) -> Result<Reply, RunError>
+        ensures ok { IfOk result (λ reply. IsAsked H.with_commit self.old.settings connection.old
+            connection.new (standing_of self.old (H.history handler.old))
+            (standing_of self.new (H.history handler.new)) (answer reply)) }
+        ensures err { IfErr result (FailsUnanswered H.with_commit self.old.settings connection.old
+            connection.new (standing_of self.old (H.history handler.old))
+            (standing_of self.new (H.history handler.new))) }
+        ensures settings { self.new.settings ≡ self.old.settings }
+    {
+        match self.try_ask(alloc, connection, handler) {
+            Ok(reply) => Ok(reply),
+            Err(error) => Err(self.failed(error)),
+        }
+    }
+
+    /// Begins again with what is pending for it, if a command may have gone out.
+    fn failed(&mut self, error: RunError) -> RunError
+        ensures same { result ≡ error }
+        ensures machine { machine_of self.new ≡ machine_after error (machine_of self.old) }
+        ensures group { self.new.group_missing ≡ self.old.group_missing }
+        ensures asked { self.new.asked ≡ self.old.asked }
+        ensures settings { self.new.settings ≡ self.old.settings }
+    {
+        match error {
+            RunError::Request(_) => {}
+            _ => self.begin_again(),
+        }
+        error
     }
 
     /// Requests the next command, sends it, and waits until the reply to it is held whole: how many
@@ -92,10 +130,8 @@ impl Worker {
         }
     }
 
-    /// Makes one round of `run`, in which it asks, and takes the answer where it stands in the bytes that
-    /// came, which are given out then. Where memory runs out before the answer is read, it is `Receive`,
-    /// and the answer is held.
-    pub fn round<H: Handler, R: Read + Drop, W: Write + Drop>(
+    /// Makes one round, and after an error leaves the worker where it is.
+    fn try_round<H: Handler, R: Read + Drop, W: Write + Drop>(
         &mut self,
         alloc: Global,
         connection: &mut Connection<R, W>,
@@ -104,7 +140,7 @@ impl Worker {
         ensures ok { IfOk result (λ round. Turned H.with_verdict H.with_commit self.old.settings
             connection.old connection.new (standing_of self.old (H.history handler.old))
             (standing_of self.new (H.history handler.new)) round.asked round.progress) }
-        ensures err { IfErr result (Fails H.with_verdict H.with_commit self.old.settings
+        ensures err { IfErr result (Breaks H.with_verdict H.with_commit self.old.settings
             connection.old connection.new (standing_of self.old (H.history handler.old))
             (standing_of self.new (H.history handler.new))) }
         ensures settings { self.new.settings ≡ self.old.settings }
@@ -129,12 +165,36 @@ impl Worker {
         }
     }
 
+    /// Makes one round of `run`, in which it asks, and takes the answer where it stands in the bytes that
+    /// came, which are given out then. Where memory runs out before the answer is read, it is `Receive`,
+    /// and the answer is held. After an `Err` the worker begins again with what is pending for it, unless
+    /// it is `Request`: then nothing went out.
+    pub fn round<H: Handler, R: Read + Drop, W: Write + Drop>(
+        &mut self,
+        alloc: Global,
+        connection: &mut Connection<R, W>,
+        handler: &mut H,
+    ) -> Result<Round, RunError>
+        ensures ok { IfOk result (λ round. Turned H.with_verdict H.with_commit self.old.settings
+            connection.old connection.new (standing_of self.old (H.history handler.old))
+            (standing_of self.new (H.history handler.new)) round.asked round.progress) }
+        ensures err { IfErr result (Fails H.with_verdict H.with_commit self.old.settings
+            connection.old connection.new (standing_of self.old (H.history handler.old))
+            (standing_of self.new (H.history handler.new))) }
+        ensures settings { self.new.settings ≡ self.old.settings }
+    {
+        match self.try_round(alloc, connection, handler) {
+            Ok(round) => Ok(round),
+            Err(error) => Err(self.failed(error)),
+        }
+    }
+
     /// Runs for so many rounds, in each of which it asks, and takes the answer where it stands;
     /// `Stopped` where the handler says so before. What goes out are the commands of these rounds, and
     /// what comes in are their answers.
     ///
-    /// After an `Err` in place of an answer that answer may still come, so close the connection:
-    /// over another one the worker goes on, and no entry is lost.
+    /// After an `Err` in place of an answer that answer may still come, so close the connection: over
+    /// another one the worker begins again with what is pending for it, and no entry is lost.
     pub fn run<H: Handler, R: Read + Drop, W: Write + Drop>(
         &mut self,
         alloc: Global,

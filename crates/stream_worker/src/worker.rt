@@ -167,6 +167,17 @@ impl Worker {
         }
     }
 
+    /// Begins again with what is pending for it, after it acknowledged what is committed: as after a
+    /// connection that broke before an answer came. `run`, `round` and `ask` do so by themselves.
+    pub fn begin_again(&mut self)
+        ensures machine { machine_of self.new ≡ begins_again (machine_of self.old) }
+        ensures group { self.new.group_missing ≡ self.old.group_missing }
+        ensures asked { self.new.asked ≡ self.old.asked }
+        ensures settings { self.new.settings ≡ self.old.settings }
+    {
+        self.phase = Phase::Start;
+    }
+
     /// Takes an error in place of a value.
     fn refused(&mut self, asked: Asked, error: ServerError) -> Result<Progress, WorkerError>
         ensures ok { IfOk result (λ p. (p ≡ Progress.GoesOn)

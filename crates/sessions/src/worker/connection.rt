@@ -10,7 +10,8 @@
 //! | `writes 5 broken` | what each write does |
 //! | `send GET k` | a command is sent |
 //! | `text GET k`, `number GET k` | a command is sent, and its answer read as a text, as a number |
-//! | `receive`, `place` | a reply is received, is received in place |
+//! | `receive`, `place` | an answer is received, is received in place |
+//! | `any`, `passed` | a reply of any kind is received; how many messages were passed over |
 //! | `show 5`, `give 5` | so many bytes in place are shown, are given out |
 //! | `run 7` | the worker makes so many rounds |
 ghost use Rattle.std.specs.Prelude.{◌≡◌, IfOk, IsTrue};
@@ -236,18 +237,18 @@ fn reply_text(alloc: Global, reply: &Reply) -> Result<String, AllocError> {
     }
 }
 
-/// Receives a reply.
-fn received<R: Read + Drop, W: Write + Drop>(
+/// What was received.
+fn received_text(
     alloc: Global,
-    link: &mut Connection<R, W>,
+    received: &Result<Reply, ConnectionError>,
 ) -> Result<String, AllocError> {
-    match link.receive(alloc) {
-        Ok(reply) => reply_text(alloc, &reply),
-        Err(error) => failure_text(alloc, &error),
+    match received {
+        Ok(reply) => reply_text(alloc, reply),
+        Err(error) => failure_text(alloc, error),
     }
 }
 
-/// Receives a reply in place.
+/// Receives an answer in place.
 fn placed<R: Read + Drop, W: Write + Drop>(
     alloc: Global,
     link: &mut Connection<R, W>,
@@ -313,7 +314,7 @@ fn subject_of(verb: &str) -> Subject {
     match verb {
         "comes" | "reads" | "writes" => Subject::Ends,
         "send" | "text" | "number" => Subject::Question,
-        "receive" | "place" | "show" | "give" => Subject::Reply,
+        "receive" | "place" | "any" | "passed" | "show" | "give" => Subject::Reply,
         "run" => Subject::Rounds,
         _ => Subject::Worker,
     }
@@ -333,7 +334,7 @@ fn ask<R: Read + Drop, W: Write + Drop>(
     }
 }
 
-/// Receives a reply, shows it or gives it out.
+/// Receives a reply, shows it or gives it out, or says how many messages were passed over.
 fn take<R: Read + Drop, W: Write + Drop>(
     alloc: Global,
     link: &mut Connection<R, W>,
@@ -341,7 +342,9 @@ fn take<R: Read + Drop, W: Write + Drop>(
     len: usize,
 ) -> Result<String, AllocError> {
     match verb {
-        "receive" => received(alloc, link),
+        "receive" => received_text(alloc, &link.receive(alloc)),
+        "any" => received_text(alloc, &link.receive_any(alloc)),
+        "passed" => format!(in alloc; "{}", link.passed()),
         "place" => placed(alloc, link),
         "show" => text_of(alloc, link.received(len)),
         _ => {
@@ -430,17 +433,19 @@ fn ended(alloc: Global, bytes: &[u8], rounds: u64) -> Result<Outcome, AllocError
     let mut link = Connection::new(alloc, bytes, &mut sent, LIMITS)?;
     let mut text = ran(alloc, &mut link, &mut side, rounds)?;
     drop(link);
-    if asks_again(alloc, &mut side, &sent) {
-        text.push_str("; it asks the same again")?;
-    }
+    text.push_str("; next: ")?;
+    text.push_str(next_text(alloc, &mut side)?.as_str())?;
     Ok(Outcome { text, sent })
 }
 
-/// Whether a worker asks again what was sent last.
-fn asks_again(alloc: Global, side: &mut Side, sent: &[u8]) -> bool {
-    let mut again = Vec::new(alloc);
-    let asked = side.worker.request(alloc, &mut again, &mut side.doer);
-    asked.is_ok() && sent.ends_with(&again)
+/// What a worker asks next.
+fn next_text(alloc: Global, side: &mut Side) -> Result<String, AllocError> {
+    let mut bytes = Vec::new(alloc);
+    match side.worker.request(alloc, &mut bytes, &mut side.doer) {
+        Ok(_) => commands_text(alloc, &bytes),
+        Err(RequestError::Memory) => Err(AllocError),
+        Err(error) => format!(in alloc; "{error}"),
+    }
 }
 
 /// What comes of a session whose bytes end too early, beside the commands of the whole one.

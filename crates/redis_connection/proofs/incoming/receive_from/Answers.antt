@@ -13,7 +13,7 @@ returns-in_err-reply-clause-faulty g c =
 
 pub loop-turn-preserved : goal.loop-turn-preserved
 loop-turn-preserved g c =
-    let old = seen None (g.R.Read.remaining c.args.reader.now) c.args.replies.now c.args.piece.now c.args.unfed.now in
+    let old = seen 0 None (g.R.Read.remaining c.args.reader.now) c.args.replies.now c.args.piece.now c.args.unfed.now in
     let n = rw c.in_default.is at c.in_ok-reply.ensures in
     let same =
     waits_same old

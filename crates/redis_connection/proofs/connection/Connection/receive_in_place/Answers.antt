@@ -1,31 +1,16 @@
-use Rattle.std.proofs.Common.{◌≡◌, length, IfOk, OnErr, sym, subst, rules, arith}
-use Rattle.std.proofs.lemmas.List.{with_items_is}
-use Rattle.redis_connection.specs.Link.{IsInPlace, Waits}
-use Rattle.redis_connection.specs.Seen.{seen}
-use Rattle.redis_connection.proofs.LinkLemmas.{stood, waited}
+use Rattle.std.proofs.Common.{sym, ◌∙◌}
+use Rattle.redis_connection.proofs.PassingLemmas.{stands_as_answer, passes_in_place, true_false}
 use Rattle.redis_connection.proofs.connection.Connection.receive_in_place.Goals as goal
 
-pub returns-clause-ok : goal.returns-clause-ok
-returns-clause-ok g c =
-    let new = c.receive_in_place_from.new in
-    let len : length new.piece ≡ c.self.inside.piece.len = search (rules, arith) in
-    subst
-    (λ p. IfOk c.receive_in_place_from.result (IsInPlace c.args.self.now
-    (seen (g.W.Write.contents c.self.inside.writer) (g.R.Read.remaining new.reader) new.replies p new.unfed)))
-    (sym (with_items_is c.self.inside.piece new.piece len))
-    (stood
-    (g.W.Write.contents c.self.inside.writer) _ _ _ _ _ _ _ _ c.args.self.now c.self.view_is
-    c.receive_in_place_from.result (rw c.as_mut_slice.ensures.value at c.receive_in_place_from.ensures.ok))
+pub returns-then-not-begins_as_message-clause-ok : goal.returns-then-not-begins_as_message-clause-ok
+returns-then-not-begins_as_message-clause-ok g c =
+    stands_as_answer c.args.self.now c.loop-turn.self c.stand.new.self c.in_ok-len.len c.received.result.now
+    c.loop-turn.invariant c.in_ok-len.ensures.ok c.received.ensures.within
+    (λ begins. true_false (sym (c.begins_as_message.ensures.1 begins) ∙ c.if-not-begins_as_message.true))
 
-pub returns-clause-err : goal.returns-clause-err
-returns-clause-err g c =
-    let new = c.receive_in_place_from.new in
-    let len : length new.piece ≡ c.self.inside.piece.len = search (rules, arith) in
-    subst
-    (λ p. OnErr c.receive_in_place_from.result
-    (Waits c.args.self.now
-    (seen (g.W.Write.contents c.self.inside.writer) (g.R.Read.remaining new.reader) new.replies p new.unfed)))
-    (sym (with_items_is c.self.inside.piece new.piece len))
-    (waited
-    (g.W.Write.contents c.self.inside.writer) _ _ _ _ _ _ _ _ c.args.self.now c.self.view_is
-    c.receive_in_place_from.result (rw c.as_mut_slice.ensures.value at c.receive_in_place_from.ensures.err))
+pub loop-turn-preserved : goal.loop-turn-preserved
+loop-turn-preserved g c =
+    passes_in_place c.args.self.now c.loop-turn.self c.stand.new.self c.give_out.new.self c.count_message.new.self
+    c.in_ok-len.len c.received.result.now c.loop-turn.invariant c.in_ok-len.ensures.ok c.received.ensures.within
+    (c.begins_as_message.ensures.0 c.if-not-begins_as_message.false)
+    c.give_out.ensures.receives c.count_message.ensures

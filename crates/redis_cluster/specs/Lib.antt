@@ -1,0 +1,9 @@
+-- What a client of Redis Cluster computes by itself.
+pub mod Crc
+pub mod Split
+pub mod Slot
+pub mod Tag
+pub mod Sentence
+pub mod ErrorMeaning
+pub mod Step
+pub mod Partition
