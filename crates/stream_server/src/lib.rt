@@ -9,10 +9,13 @@ mod commands;
 mod laws;
 mod refusal;
 mod server;
+mod session;
+mod transaction;
 mod writing;
 
 pub use answer::{Answer, Reply, Status};
 pub use laws::replies_are_read;
 pub use redis_wire::Protocol;
-pub use server::{Server, Session};
+pub use server::Server;
+pub use session::Session;
 pub use writing::append_reply;
