@@ -4,3 +4,7 @@ pub mod ReadBack
 pub mod Server
 pub mod Shown
 pub mod Streams
+pub mod Quoted
+pub mod Incoming
+pub mod Serving
+pub mod Loopback
