@@ -6,3 +6,7 @@ pub mod Server
 pub mod Session
 pub mod Shown
 pub mod Streams
+pub mod Quoted
+pub mod Incoming
+pub mod Serving
+pub mod Loopback
