@@ -134,5 +134,6 @@ fn answer_one(
         return Ok(());
     }
     let reply = server.step(alloc, now, session, words)?;
-    append_reply(alloc, answers, session.protocol, &reply)
+    append_reply(alloc, answers, session.protocol, &reply)?;
+    Ok(())
 }
