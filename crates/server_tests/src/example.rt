@@ -1,4 +1,6 @@
 //! A worker of one's own, tried with no server and no connection: to copy from.
+mod loopback;
+
 use redis_resp::Value;
 use redis_wire::{Decoded, Limits, Reply, decode};
 use std::alloc::{AllocError, Global};

@@ -1,4 +1,4 @@
-//! A test of a worker over the server in memory, to copy from. What the server answers, and sessions
+//! Tests of a worker over the server in memory, to copy from. What the server answers, and sessions
 //! of workers that crash or lose their connection, are scripts of the program `sessions`.
 #![tactic(auto)]
 

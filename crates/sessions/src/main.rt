@@ -8,6 +8,7 @@
 //! | First line | Each other line |
 //! |---|---|
 //! | `server 2` | a command; 3 for RESP3 |
+//! | `bytes` | all that a client of a server of its own sends |
 //! | `worker` and settings | what a worker is asked or told, see `worker` |
 //! | `letters` | `give` and an entry, or bytes that answer what is asked |
 //! | `connection` and sizes | what a connection does, see `worker::connection`; once for reads of each size |
@@ -29,7 +30,7 @@ use std::alloc::{AllocError, Global};
 use std::io;
 use std::io::{Read, Write};
 use std::process::ExitCode;
-use stream_server::{Protocol, Server, Session, append_reply};
+use stream_server::{Client, Protocol, Server, Session, append_reply};
 
 /// Memory ran out, or standard input or output failed.
 const FAILED: u8 = 2;
@@ -73,6 +74,9 @@ fn play(alloc: Global, script: &str, out: &mut String) -> Result<(), AllocError>
     let (name, words) = parted(head, ' ');
     if name == "server" {
         return play_commands(alloc, words, lines, out);
+    }
+    if name == "bytes" {
+        return play_bytes(alloc, lines, out);
     }
     let is_played = worker::play(alloc, name, words, lines, out)?
         || letters::play(alloc, name, words, lines, out)?
@@ -271,4 +275,26 @@ fn play_commands(
     let mut server = Server::new(alloc);
     let mut session = Session::new(alloc, protocol_of(words));
     tell_all(alloc, &mut server, &mut session, lines, out)
+}
+
+/// What a client that sends these bytes to a server of its own is answered.
+fn answers_to(alloc: Global, bytes: &[u8]) -> Result<String, AllocError> {
+    let mut server = Server::new(alloc);
+    let mut client = Client::new(alloc);
+    let mut answers = Vec::new(alloc);
+    client.answer(alloc, &mut server, 0, bytes, &mut answers)?;
+    let mut text = text_of(alloc, &answers)?;
+    if client.has_ended() {
+        text.push_str(" and the connection ends")?;
+    }
+    Ok(text)
+}
+
+/// Plays clients of servers of their own.
+fn play_bytes(alloc: Global, lines: &str, out: &mut String) -> Result<(), AllocError> {
+    for line in lines.lines() {
+        let answer = answers_to(alloc, &bytes_of(alloc, line)?)?;
+        push_exchange(out, line, answer.as_str())?;
+    }
+    Ok(())
 }

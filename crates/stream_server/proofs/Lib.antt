@@ -1,3 +1,5 @@
 pub mod StreamLemmas
 pub mod SentLemmas
 pub mod SentReadLemmas
+mod CommandLemmas
+mod ServingLemmas

@@ -21,6 +21,11 @@ info_step (Answer-F.Map rows) = true
 info_step (Answer-F.Array items) = true
 info_step answer = false
 
+-- one level of an answer: whether it is bytes
+abbrev pub bytes_step : Answer-F Bool → Bool
+bytes_step (Answer-F.Bytes bytes) = true
+bytes_step answer = false
+
 -- an array, or that there is none
 abbrev pub IsArray : Answer → Type 0
 IsArray answer = fold-Answer Bool array_step answer ≡ true
@@ -32,3 +37,7 @@ IsRows answer = fold-Answer Bool rows_step answer ≡ true
 -- names with their answers as one map, or an array of such maps
 abbrev pub IsInfo : Answer → Type 0
 IsInfo answer = fold-Answer Bool info_step answer ≡ true
+
+-- bytes
+abbrev pub IsBytes : Answer → Type 0
+IsBytes answer = fold-Answer Bool bytes_step answer ≡ true

@@ -1,6 +1,12 @@
 pub mod Kinds
 pub mod Sent
 pub mod ReadBack
+pub mod Refusal
 pub mod Server
+pub mod Session
 pub mod Shown
 pub mod Streams
+pub mod Quoted
+pub mod Incoming
+pub mod Serving
+pub mod Loopback

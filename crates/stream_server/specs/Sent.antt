@@ -60,6 +60,7 @@ status_text Missing = codes "none"
 abbrev pub sent_step : Answer-F Sent → Sent
 sent_step Answer-F.Okay = plain okay
 sent_step (Answer-F.Status status) = plain (simple (status_text status))
+sent_step (Answer-F.Line v) = plain (simple v.items)
 sent_step (Answer-F.Int z) = plain (int z)
 sent_step (Answer-F.Bytes v) = plain (bulk v.items)
 sent_step (Answer-F.Id id) = plain (bulk (id_text id))

@@ -22,6 +22,8 @@ pub enum Answer {
     Okay,
     /// Another status.
     Status(Status),
+    /// A short text: a status, or bytes where CR or LF stands in it.
+    Line(Vec<u8>),
     Int(i64),
     Bytes(Vec<u8>),
     /// The text of an id.

@@ -1,5 +1,5 @@
 //! The commands by their names, and what they share.
-ghost use Rattle.std.specs.Prelude.{◌≡◌, ◌≤◌, length as length_of, OnErr, take};
+ghost use Rattle.std.specs.Prelude.{◌≡◌, ◌≤◌, ◌<◌, length as length_of, IfOk, OnErr, take};
 ghost use Rattle.std.specs.List.{prefix_len};
 ghost use Rattle.std.specs.List.Sorted.{IsSearchInRange};
 ghost use Rattle.stream_server.specs.Shown.{is_not_nul, text_before_nul};
@@ -7,25 +7,35 @@ ghost use Rattle.stream_server.specs.Streams.{seen_streams};
 
 mod add;
 mod claim;
+mod connection;
 mod group;
 mod hello;
+mod help;
 mod info;
+mod keys;
 mod pending;
 mod range;
 mod read;
 mod remove;
+mod report;
 mod retention;
 mod stalled;
 
 use crate::answer::{Answer, Status};
 use crate::refusal::Refusal;
-use crate::server::Session;
+use crate::session::Session;
+use connection::Connection;
+use report::Report;
 use std::alloc::{AllocError, Global};
 use stream_store::{Entry, EntryId, Group, Stream};
 
 const SYNTAX: Refusal = Refusal::Fixed("ERR syntax error");
 
 const NOT_AN_INTEGER: Refusal = Refusal::Fixed("ERR value is not an integer or out of range");
+
+const WRONG_NAME: Refusal = Refusal::Fixed(
+    "ERR Client names cannot contain spaces, newlines or special characters.",
+);
 
 /// How many bytes of a word that is not known are shown.
 const MOST_SHOWN: usize = 128;
@@ -34,62 +44,168 @@ const INVALID_ID: Refusal = Refusal::Fixed(
     "ERR Invalid stream ID specified as stream command argument",
 );
 
-/// Does a command, its name and its arguments. What is refused changes nothing.
+/// A command.
+#[derive(Clone, Copy)]
+pub(crate) enum Command {
+    /// It says when commands are done.
+    Transaction(Step),
+    /// It is done at once, or queued.
+    Plain(Plain),
+}
+
+/// What says when commands are done.
+#[derive(Clone, Copy)]
+pub(crate) enum Step {
+    Begin,
+    Execute,
+    Discard,
+    Watch,
+}
+
+/// A command that may be queued.
+#[derive(Clone, Copy, Debug)]
+pub(crate) enum Plain {
+    Change(Change),
+    LookUp(LookUp),
+    Report(Report),
+    Connection(Connection),
+}
+
+/// What changes streams.
+#[derive(Clone, Copy, Debug)]
+pub(crate) enum Change {
+    Delete,
+    DeleteAll,
+    Add,
+    ReadGroup,
+    Group,
+    Acknowledge,
+    Claim,
+    AutoClaim,
+    DeleteEntries,
+    Trim,
+    SetId,
+}
+
+/// What reads streams.
+#[derive(Clone, Copy, Debug)]
+pub(crate) enum LookUp {
+    Exists,
+    Type,
+    Len,
+    Range,
+    ReverseRange,
+    Read,
+    Pending,
+    Info,
+}
+
+/// Does a command, of these words. What is refused changes nothing.
 pub(crate) fn done(
     alloc: Global,
     streams: &mut Vec<Stream>,
     now: u64,
     session: &mut Session,
-    command: Vec<Vec<u8>>,
+    command: Plain,
+    words: Vec<Vec<u8>>,
 ) -> Result<Answer, Refusal>
-    ensures { OnErr result (seen_streams streams.new ≡ seen_streams streams.old) }
+    ensures streams { OnErr result (seen_streams streams.new ≡ seen_streams streams.old) }
+    ensures session { OnErr result (session.new ≡ session.old) }
 {
-    let [word, arguments @ ..] = command.as_slice() else {
-        return Err(SYNTAX);
-    };
-    let name = command_named(alloc, word, arguments)?;
-    match name {
-        Name::Ping => match arguments {
-            [] => Ok(Answer::Status(Status::Pong)),
-            [text] => Ok(Answer::Bytes(text.clone()?)),
-            _ => Err(wrong_count(alloc, word)),
-        },
-        Name::Hello => hello::hello(alloc, session, arguments),
-        Name::Delete => Ok(length(remove::remove_keys(streams, arguments))),
-        Name::FlushAll => {
-            streams.clear();
-            Ok(Answer::Okay)
-        }
-        Name::Add => add::add(alloc, streams, now, command),
-        Name::ReadGroup => read::read_group(alloc, streams, now, arguments),
-        Name::Group => group::group(alloc, streams, now, word, arguments),
-        Name::Acknowledge => remove::acknowledge(alloc, streams, arguments),
-        Name::Claim => claim::claim(alloc, streams, now, arguments),
-        Name::AutoClaim => stalled::claim_stalled(alloc, streams, now, arguments),
-        Name::DeleteEntries => remove::delete(alloc, streams, arguments),
-        Name::Trim => remove::trim(streams, arguments),
-        Name::SetId => remove::set_id(streams, arguments),
-        other => looked_up(alloc, streams, now, other, word, arguments),
+    match command {
+        Plain::Change(change) => changed(alloc, streams, now, change, words),
+        Plain::LookUp(look_up) => looked_up(alloc, streams, now, look_up, &words),
+        Plain::Report(report) => told(alloc, streams.len(), now, report, &words),
+        Plain::Connection(asked) => connection::answered(alloc, session, asked, &words),
     }
 }
 
-/// Does a command that changes no stream.
+/// Does a command that changes streams.
+fn changed(
+    alloc: Global,
+    streams: &mut Vec<Stream>,
+    now: u64,
+    change: Change,
+    words: Vec<Vec<u8>>,
+) -> Result<Answer, Refusal>
+    ensures { OnErr result (seen_streams streams.new ≡ seen_streams streams.old) }
+{
+    let [word, arguments @ ..] = words.as_slice() else {
+        return Err(SYNTAX);
+    };
+    match change {
+        Change::Delete => Ok(length(remove::remove_keys(streams, arguments))),
+        Change::DeleteAll => keys::remove_all(streams, arguments),
+        Change::Add => add::add(alloc, streams, now, words),
+        Change::ReadGroup => read::read_group(alloc, streams, now, arguments),
+        Change::Group => group::group(alloc, streams, now, word, arguments),
+        Change::Acknowledge => remove::acknowledge(alloc, streams, arguments),
+        Change::Claim => claim::claim(alloc, streams, now, arguments),
+        Change::AutoClaim => stalled::claim_stalled(alloc, streams, now, arguments),
+        Change::DeleteEntries => remove::delete(alloc, streams, arguments),
+        Change::Trim => remove::trim(streams, arguments),
+        Change::SetId => remove::set_id(streams, arguments),
+    }
+}
+
+/// Does a command that reads streams.
 fn looked_up(
     alloc: Global,
     streams: &[Stream],
     now: u64,
-    name: Name,
-    word: &[u8],
-    arguments: &[Vec<u8>],
+    look_up: LookUp,
+    words: &[Vec<u8>],
 ) -> Result<Answer, Refusal> {
-    match name {
-        Name::Len => len_of(streams, arguments),
-        Name::Range => range::range(alloc, streams, false, arguments),
-        Name::ReverseRange => range::range(alloc, streams, true, arguments),
-        Name::Read => read::read(alloc, streams, arguments),
-        Name::Pending => pending::pending(alloc, streams, now, arguments),
-        Name::Info => info::info(alloc, streams, now, word, arguments),
-        _ => Err(SYNTAX),
+    let [word, arguments @ ..] = words else {
+        return Err(SYNTAX);
+    };
+    match look_up {
+        LookUp::Exists => Ok(exists(streams, arguments)),
+        LookUp::Type => type_of(streams, arguments),
+        LookUp::Len => len_of(streams, arguments),
+        LookUp::Range => range::range(alloc, streams, false, arguments),
+        LookUp::ReverseRange => range::range(alloc, streams, true, arguments),
+        LookUp::Read => read::read(alloc, streams, arguments),
+        LookUp::Pending => pending::pending(alloc, streams, now, arguments),
+        LookUp::Info => info::info(alloc, streams, now, word, arguments),
+    }
+}
+
+/// Tells of a server with so many keys.
+fn told(
+    alloc: Global,
+    keys: usize,
+    now: u64,
+    report: Report,
+    words: &[Vec<u8>],
+) -> Result<Answer, Refusal> {
+    match report {
+        Report::KeyCount => Ok(length(keys)),
+        Report::Time => Ok(report::time(alloc, now)?),
+        Report::Info => Ok(report::info(alloc, keys, words)?),
+        Report::Commands => Ok(Answer::Map(Vec::new(alloc))),
+    }
+}
+
+/// `EXISTS key ..`: how many of the keys are there, each as often as it is named.
+fn exists(streams: &[Stream], keys: &[Vec<u8>]) -> Answer {
+    let mut count = 0u64;
+    for key in keys {
+        if stream_of(streams, key).is_some() {
+            count = count.saturating_add(1);
+        }
+    }
+    number(count)
+}
+
+/// `TYPE key`
+fn type_of(streams: &[Stream], arguments: &[Vec<u8>]) -> Result<Answer, Refusal> {
+    let [key, ..] = arguments else {
+        return Err(SYNTAX);
+    };
+    match stream_of(streams, key) {
+        Some(_) => Ok(Answer::Status(Status::Stream)),
+        None => Ok(Answer::Status(Status::Missing)),
     }
 }
 
@@ -271,78 +387,221 @@ fn entries_up(
     Ok(answers)
 }
 
-/// A command.
-#[derive(Clone, Copy)]
-enum Name {
-    Ping,
-    Hello,
-    Delete,
-    FlushAll,
-    Add,
-    Len,
-    Range,
-    ReverseRange,
-    Read,
-    ReadGroup,
-    Group,
-    Acknowledge,
-    Pending,
-    Claim,
-    AutoClaim,
-    DeleteEntries,
-    Trim,
-    SetId,
-    Info,
+/// The command of these words, where there is one, and it may have so many arguments.
+pub(crate) fn command_in(alloc: Global, words: &[Vec<u8>]) -> Result<Command, Refusal>
+    ensures { IfOk result (λ _. 0 < length_of words.now) }
+{
+    let [word, arguments @ ..] = words else {
+        return Err(SYNTAX);
+    };
+    let Some(command) = command_named(word) else {
+        return Err(unknown(alloc, word, arguments));
+    };
+    if !has_right_count(command, arguments.len()) {
+        return Err(wrong_count(alloc, word));
+    }
+    check_subcommand(alloc, command, word, arguments)?;
+    Ok(command)
 }
 
-/// The command of this name, where it may have so many arguments.
-fn command_named(alloc: Global, word: &[u8], arguments: &[Vec<u8>]) -> Result<Name, Refusal> {
+/// The command of this name.
+fn command_named(word: &[u8]) -> Option<Command> {
+    if let Some(change) = change_named(word) {
+        return Some(Command::Plain(Plain::Change(change)));
+    }
+    if let Some(look_up) = look_up_named(word) {
+        return Some(Command::Plain(Plain::LookUp(look_up)));
+    }
+    if let Some(report) = report_named(word) {
+        return Some(Command::Plain(Plain::Report(report)));
+    }
+    if let Some(asked) = connection_named(word) {
+        return Some(Command::Plain(Plain::Connection(asked)));
+    }
+    Some(Command::Transaction(step_named(word)?))
+}
+
+/// The command of this name that changes streams.
+fn change_named(word: &[u8]) -> Option<Change> {
     let names = [
-        ("XADD", Name::Add),
-        ("XREADGROUP", Name::ReadGroup),
-        ("XACK", Name::Acknowledge),
-        ("XAUTOCLAIM", Name::AutoClaim),
-        ("XPENDING", Name::Pending),
-        ("XRANGE", Name::Range),
-        ("XREVRANGE", Name::ReverseRange),
-        ("XLEN", Name::Len),
-        ("XDEL", Name::DeleteEntries),
-        ("XTRIM", Name::Trim),
-        ("XREAD", Name::Read),
-        ("XGROUP", Name::Group),
-        ("XCLAIM", Name::Claim),
-        ("XINFO", Name::Info),
-        ("XSETID", Name::SetId),
-        ("PING", Name::Ping),
-        ("HELLO", Name::Hello),
-        ("DEL", Name::Delete),
-        ("FLUSHALL", Name::FlushAll),
+        ("XADD", Change::Add),
+        ("XREADGROUP", Change::ReadGroup),
+        ("XACK", Change::Acknowledge),
+        ("XAUTOCLAIM", Change::AutoClaim),
+        ("XDEL", Change::DeleteEntries),
+        ("XTRIM", Change::Trim),
+        ("XGROUP", Change::Group),
+        ("XCLAIM", Change::Claim),
+        ("XSETID", Change::SetId),
+        ("DEL", Change::Delete),
+        ("FLUSHALL", Change::DeleteAll),
+        ("FLUSHDB", Change::DeleteAll),
     ];
-    for (text, name) in names {
+    for (text, change) in names {
         if is_word(word, text) {
-            if has_right_count(name, arguments.len()) {
-                return Ok(name);
-            }
-            return Err(wrong_count(alloc, word));
+            return Some(change);
         }
     }
-    Err(unknown(alloc, word, arguments))
+    None
+}
+
+/// The command of this name that reads streams.
+fn look_up_named(word: &[u8]) -> Option<LookUp> {
+    let names = [
+        ("XREAD", LookUp::Read),
+        ("XPENDING", LookUp::Pending),
+        ("XRANGE", LookUp::Range),
+        ("XREVRANGE", LookUp::ReverseRange),
+        ("XLEN", LookUp::Len),
+        ("XINFO", LookUp::Info),
+        ("EXISTS", LookUp::Exists),
+        ("TYPE", LookUp::Type),
+    ];
+    for (text, look_up) in names {
+        if is_word(word, text) {
+            return Some(look_up);
+        }
+    }
+    None
+}
+
+/// The command of this name that asks of the server.
+fn report_named(word: &[u8]) -> Option<Report> {
+    let names = [
+        ("DBSIZE", Report::KeyCount),
+        ("TIME", Report::Time),
+        ("INFO", Report::Info),
+        ("COMMAND", Report::Commands),
+    ];
+    for (text, report) in names {
+        if is_word(word, text) {
+            return Some(report);
+        }
+    }
+    None
+}
+
+/// The command of this name that concerns the connection.
+fn connection_named(word: &[u8]) -> Option<Connection> {
+    let names = [
+        ("PING", Connection::Ping),
+        ("HELLO", Connection::Hello),
+        ("UNWATCH", Connection::Unwatch),
+        ("SELECT", Connection::Select),
+        ("CLIENT", Connection::Client),
+    ];
+    for (text, asked) in names {
+        if is_word(word, text) {
+            return Some(asked);
+        }
+    }
+    None
+}
+
+/// The command of this name that says when commands are done.
+fn step_named(word: &[u8]) -> Option<Step> {
+    let names = [
+        ("MULTI", Step::Begin),
+        ("EXEC", Step::Execute),
+        ("DISCARD", Step::Discard),
+        ("WATCH", Step::Watch),
+    ];
+    for (text, step) in names {
+        if is_word(word, text) {
+            return Some(step);
+        }
+    }
+    None
 }
 
 /// Whether the command may have so many arguments.
-fn has_right_count(name: Name, count: usize) -> bool {
-    match name {
-        Name::Ping | Name::Hello | Name::FlushAll => true,
-        Name::Delete | Name::Group | Name::Info => count >= 1,
-        Name::Len => count == 1,
-        Name::Pending | Name::DeleteEntries | Name::SetId => count >= 2,
-        Name::Range | Name::ReverseRange | Name::Read | Name::Acknowledge | Name::Trim => {
-            count >= 3
-        }
-        Name::Add => count >= 4,
-        Name::Claim | Name::AutoClaim => count >= 5,
-        Name::ReadGroup => count >= 6,
+fn has_right_count(command: Command, count: usize) -> bool {
+    match command {
+        Command::Plain(Plain::Change(change)) => change_takes(change, count),
+        Command::Plain(Plain::LookUp(look_up)) => look_up_takes(look_up, count),
+        Command::Plain(Plain::Report(report)) => report_takes(report, count),
+        Command::Plain(Plain::Connection(asked)) => connection_takes(asked, count),
+        Command::Transaction(step) => step_takes(step, count),
     }
+}
+
+/// Whether it may have so many arguments.
+fn change_takes(change: Change, count: usize) -> bool {
+    match change {
+        Change::DeleteAll => true,
+        Change::Delete | Change::Group => count >= 1,
+        Change::DeleteEntries | Change::SetId => count >= 2,
+        Change::Acknowledge | Change::Trim => count >= 3,
+        Change::Add => count >= 4,
+        Change::Claim | Change::AutoClaim => count >= 5,
+        Change::ReadGroup => count >= 6,
+    }
+}
+
+/// Whether it may have so many arguments.
+fn look_up_takes(look_up: LookUp, count: usize) -> bool {
+    match look_up {
+        LookUp::Info | LookUp::Exists => count >= 1,
+        LookUp::Len | LookUp::Type => count == 1,
+        LookUp::Pending => count >= 2,
+        LookUp::Range | LookUp::ReverseRange | LookUp::Read => count >= 3,
+    }
+}
+
+/// Whether it may have so many arguments.
+fn report_takes(report: Report, count: usize) -> bool {
+    match report {
+        Report::KeyCount | Report::Time => count == 0,
+        Report::Info => true,
+        Report::Commands => count >= 1,
+    }
+}
+
+/// Whether it may have so many arguments.
+fn connection_takes(asked: Connection, count: usize) -> bool {
+    match asked {
+        Connection::Ping | Connection::Hello => true,
+        Connection::Unwatch => count == 0,
+        Connection::Select => count == 1,
+        Connection::Client => count >= 1,
+    }
+}
+
+/// Whether it may have so many arguments; EXEC says itself that it has too many.
+fn step_takes(step: Step, count: usize) -> bool {
+    match step {
+        Step::Begin | Step::Discard => count == 0,
+        Step::Execute => true,
+        Step::Watch => count >= 1,
+    }
+}
+
+/// Whether there is such a subcommand, and it may have so many arguments.
+fn check_subcommand(
+    alloc: Global,
+    command: Command,
+    word: &[u8],
+    arguments: &[Vec<u8>],
+) -> Result<(), Refusal> {
+    match command {
+        Command::Plain(Plain::Change(Change::Group)) => group::check(alloc, word, arguments),
+        Command::Plain(Plain::LookUp(LookUp::Info)) => info::check(alloc, word, arguments),
+        Command::Plain(Plain::Report(Report::Commands)) => report::check(alloc, word, arguments),
+        Command::Plain(Plain::Connection(Connection::Client)) => {
+            connection::check(alloc, word, arguments)
+        }
+        _ => Ok(()),
+    }
+}
+
+/// Whether a connection may have this name.
+fn check_name(name: &[u8]) -> Result<(), Refusal> {
+    for byte in name {
+        if !byte.is_ascii_graphic() {
+            return Err(WRONG_NAME);
+        }
+    }
+    Ok(())
 }
 
 /// That there is no such command.
@@ -553,8 +812,33 @@ enum Sequence {
     Given(u64),
 }
 
-/// The number of decimal digits.
+/// The number that a part of an id is: blanks may stand before it, and a sign. Behind a minus it
+/// counts down from 2 to the power of 64; but what `integer_in` reads as negative is none.
 fn number_in(text: &[u8]) -> Option<u64> {
+    if matches!(integer_in(text), Some(n) if n < 0) {
+        return None;
+    }
+    match without_blanks(text) {
+        [b'-', digits @ ..] => Some(0u64.wrapping_sub(digits_in(digits)?)),
+        [b'+', digits @ ..] => digits_in(digits),
+        digits => digits_in(digits),
+    }
+}
+
+/// What stands behind the blanks in front.
+fn without_blanks(text: &[u8]) -> &[u8] {
+    let mut rest = text;
+    for _ in 0..text.len() {
+        match rest {
+            [b' ' | b'\t'..=b'\r', behind @ ..] => rest = behind,
+            _ => break,
+        }
+    }
+    rest
+}
+
+/// The number of decimal digits.
+fn digits_in(text: &[u8]) -> Option<u64> {
     if text.is_empty() {
         return None;
     }
@@ -570,11 +854,12 @@ fn number_in(text: &[u8]) -> Option<u64> {
     Some(n)
 }
 
-/// The parts of an id.
+/// The parts of an id, which ends before its first NUL.
 fn parts_in(text: &[u8]) -> Option<(u64, Sequence)> {
     if text.len() > 127 {
         return None;
     }
+    let text = before_nul(text);
     let (front, behind) = text.split_at(front_len(text));
     let milliseconds = number_in(front)?;
     match behind {
@@ -607,7 +892,7 @@ fn strict_id(text: &[u8], missing: u64) -> Option<EntryId> {
 
 /// The same, or `-` for the smallest one and `+` for the largest one.
 fn loose_id(text: &[u8], missing: u64) -> Option<EntryId> {
-    match text {
+    match before_nul(text) {
         [b'-'] => Some(EntryId::ZERO),
         [b'+'] => Some(EntryId::LAST),
         _ => strict_id(text, missing),
@@ -616,7 +901,7 @@ fn loose_id(text: &[u8], missing: u64) -> Option<EntryId> {
 
 /// `*`, `ms-*`, `ms-seq` or `ms`.
 fn new_id(text: &[u8]) -> Option<NewId> {
-    if text == b"*".as_slice() {
+    if before_nul(text) == b"*".as_slice() {
         return Some(NewId::Automatic);
     }
     let (milliseconds, sequence) = parts_in(text)?;

@@ -5,14 +5,24 @@
 #![tactic(auto)]
 
 mod answer;
+mod client;
 mod commands;
+mod incoming;
 mod laws;
+mod loopback;
+mod quoted;
 mod refusal;
 mod server;
+mod session;
+mod transaction;
 mod writing;
 
 pub use answer::{Answer, Reply, Status};
+pub use client::Client;
+pub use incoming::ProtocolError;
 pub use laws::replies_are_read;
+pub use loopback::{Loopback, LoopbackReader, LoopbackWriter};
 pub use redis_wire::Protocol;
-pub use server::{Server, Session};
+pub use server::Server;
+pub use session::Session;
 pub use writing::append_reply;

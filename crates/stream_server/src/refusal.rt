@@ -1,4 +1,7 @@
 //! Why a command is refused.
+ghost use Rattle.std.specs.Prelude.{◌≡◌, IfOk};
+ghost use Rattle.stream_server.specs.Refusal.{refusal_text};
+
 use std::alloc::{AllocError, AllocFailed, Global};
 
 /// Why a command is refused.
@@ -10,6 +13,19 @@ pub(crate) enum Refusal {
     Fixed(&'static str),
     /// A text that repeats what was sent.
     Text(Vec<u8>),
+}
+
+impl Refusal {
+    /// What it says; an `Err` where memory was refused, also for the text.
+    pub(crate) fn into_text(self, alloc: Global) -> Result<Vec<u8>, AllocError>
+        ensures { IfOk result (λ text. text.items ≡ refusal_text self) }
+    {
+        match self {
+            Refusal::Memory => Err(AllocError),
+            Refusal::Fixed(text) => Vec::from_slice(alloc, text.as_bytes()),
+            Refusal::Text(text) => Ok(text),
+        }
+    }
 }
 
 impl From<AllocError> for Refusal {

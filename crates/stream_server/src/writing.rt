@@ -103,6 +103,7 @@ fn push_answer(out: &mut Vec<u8>, protocol: Protocol, answer: &Answer) -> Result
     match answer {
         Answer::Okay => push_line(out, b'+', b"OK"),
         Answer::Status(status) => push_text(out, status.text()),
+        Answer::Line(text) => push_text(out, text),
         Answer::Int(n) => push_line(out, b':', Buffer::new().format::<i64>(*n).as_bytes()),
         Answer::Bytes(bytes) => push_bulk(out, bytes),
         Answer::Id(id) => push_id(out, *id),

@@ -1,10 +1,10 @@
 //! `XGROUP`.
-ghost use Rattle.std.specs.Prelude.{◌≡◌, OnErr};
+ghost use Rattle.std.specs.Prelude.{◌≡◌, ◌<◌, length, IfOk, OnErr};
 ghost use Rattle.stream_server.specs.Streams.{seen_streams};
 ghost use Rattle.stream_store.specs.Stream.{seen_stream};
 
 use super::{
-    INVALID_ID, SYNTAX, integer, is_word, loose_id, no_group_for, place_of, place_of_group,
+    INVALID_ID, SYNTAX, help, integer, is_word, loose_id, no_group_for, place_of, place_of_group,
     strict_id, unknown_subcommand, wrong_options, wrong_subcount,
 };
 use crate::answer::Answer;
@@ -20,6 +20,7 @@ enum Action {
     Destroy,
     CreateConsumer,
     DeleteConsumer,
+    Help,
 }
 
 const NO_KEY: Refusal = Refusal::Fixed(
@@ -38,6 +39,9 @@ pub(super) fn group(
     ensures { OnErr result (seen_streams streams.new ≡ seen_streams streams.old) }
 {
     let action = action_in(alloc, word, arguments)?;
+    if action == Action::Help {
+        return Ok(help::of_groups(alloc)?);
+    }
     let [subcommand, key, name, rest @ ..] = arguments else {
         return Err(SYNTAX);
     };
@@ -77,8 +81,18 @@ fn done_on(
     }
 }
 
+/// Whether there is such an action, and it may have so many arguments.
+pub(super) fn check(alloc: Global, word: &[u8], arguments: &[Vec<u8>]) -> Result<(), Refusal>
+    ensures { IfOk result (λ _. 0 < length arguments.now) }
+{
+    let _action = action_in(alloc, word, arguments)?;
+    Ok(())
+}
+
 /// The action of this name, where it may have so many arguments.
-fn action_in(alloc: Global, word: &[u8], arguments: &[Vec<u8>]) -> Result<Action, Refusal> {
+fn action_in(alloc: Global, word: &[u8], arguments: &[Vec<u8>]) -> Result<Action, Refusal>
+    ensures { IfOk result (λ _. 0 < length arguments.now) }
+{
     let [subcommand, behind @ ..] = arguments else {
         return Err(SYNTAX);
     };
@@ -101,6 +115,8 @@ fn action_named(subcommand: &[u8]) -> Option<Action> {
         Some(Action::CreateConsumer)
     } else if is_word(subcommand, "DELCONSUMER") {
         Some(Action::DeleteConsumer)
+    } else if is_word(subcommand, "HELP") {
+        Some(Action::Help)
     } else {
         None
     }
@@ -112,6 +128,7 @@ fn has_right_count(action: Action, count: usize) -> bool {
         Action::Create | Action::SetId => count >= 3,
         Action::Destroy => count == 2,
         Action::CreateConsumer | Action::DeleteConsumer => count == 3,
+        Action::Help => count == 0,
     }
 }
 

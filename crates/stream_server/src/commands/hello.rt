@@ -1,14 +1,25 @@
 //! `HELLO`.
 ghost use Rattle.std.specs.Prelude.{◌≡◌, OnErr};
 
-use super::{bytes_answer, integer_in, put_row};
+use super::{bytes_answer, check_name, integer_in, is_word, put_row, refusal_of, shown};
 use crate::answer::Answer;
 use crate::refusal::Refusal;
-use crate::server::Session;
+use crate::session::Session;
 use redis_wire::Protocol;
 use std::alloc::{AllocError, Global};
 
-/// `HELLO [protover]`
+const WRONG_PASSWORD: Refusal = Refusal::Fixed(
+    "WRONGPASS invalid username-password pair or user is disabled.",
+);
+
+/// The options of HELLO.
+#[derive(Clone, Copy)]
+struct Options<'a> {
+    user: Option<&'a [u8]>,
+    name: Option<&'a [u8]>,
+}
+
+/// `HELLO [protover [AUTH username password] [SETNAME clientname]]`
 pub(super) fn hello(
     alloc: Global,
     session: &mut Session,
@@ -16,11 +27,16 @@ pub(super) fn hello(
 ) -> Result<Answer, Refusal>
     ensures { OnErr result (session.new ≡ session.old) }
 {
-    let protocol = match arguments {
-        [] => session.protocol,
-        [version, ..] => protocol_in(version)?,
+    let [version, words @ ..] = arguments else {
+        return Ok(greeting(alloc, session.protocol)?);
     };
+    let protocol = protocol_in(version)?;
+    let options = options_in(alloc, words)?;
+    check_user(options.user)?;
     let answer = greeting(alloc, protocol)?;
+    if let Some(name) = options.name {
+        session.name = Vec::from_slice(alloc, name)?;
+    }
     session.protocol = protocol;
     Ok(answer)
 }
@@ -32,6 +48,63 @@ fn protocol_in(version: &[u8]) -> Result<Protocol, Refusal> {
         Some(3) => Ok(Protocol::Resp3),
         Some(_) => Err(Refusal::Fixed("NOPROTO unsupported protocol version")),
         None => Err(Refusal::Fixed("ERR Protocol version is not an integer or out of range")),
+    }
+}
+
+/// The options, in any order.
+fn options_in(alloc: Global, words: &[Vec<u8>]) -> Result<Options<'_>, Refusal> {
+    let mut options = Options {
+        user: None,
+        name: None,
+    };
+    let mut rest = words;
+    for _ in 0..words.len() {
+        match rest {
+            [] => break,
+            _ => rest = option_at(alloc, &mut options, rest)?,
+        }
+    }
+    Ok(options)
+}
+
+/// Reads one option, and gives the words behind it.
+fn option_at<'a>(
+    alloc: Global,
+    options: &mut Options<'a>,
+    words: &'a [Vec<u8>],
+) -> Result<&'a [Vec<u8>], Refusal> {
+    match words {
+        [word, user, _password, behind @ ..] if is_word(word, "AUTH") => {
+            options.user = Some(user.as_slice());
+            Ok(behind)
+        }
+        [word, name, behind @ ..] if is_word(word, "SETNAME") => {
+            check_name(name)?;
+            options.name = Some(name.as_slice());
+            Ok(behind)
+        }
+        [word, ..] => Err(wrong_option(alloc, word)),
+        [] => Ok(words),
+    }
+}
+
+/// That HELLO has no such option.
+fn wrong_option(alloc: Global, word: &[u8]) -> Refusal {
+    refusal_of(
+        alloc,
+        &[
+            b"ERR Syntax error in HELLO option '",
+            shown(word, usize::MAX),
+            b"'",
+        ],
+    )
+}
+
+/// Whether there is such a user; the one that there is has any password.
+fn check_user(user: Option<&[u8]>) -> Result<(), Refusal> {
+    match user {
+        Some(name) if name != b"default".as_slice() => Err(WRONG_PASSWORD),
+        _ => Ok(()),
     }
 }
 

@@ -1,12 +1,12 @@
 //! `XINFO`.
 mod full;
 
-ghost use Rattle.std.specs.Prelude.{IfOk};
+ghost use Rattle.std.specs.Prelude.{◌<◌, length as length_of, IfOk};
 ghost use Rattle.stream_server.specs.Kinds.{IsInfo};
 
 use super::{
-    SYNTAX, bytes_answer, entry_answer, group_of, integer, is_word, length, no_group_for, number,
-    put, put_row, stream_of, unknown_subcommand, wrong_options, wrong_subcount,
+    SYNTAX, bytes_answer, entry_answer, group_of, help, integer, is_word, length, no_group_for,
+    number, put, put_row, stream_of, unknown_subcommand, wrong_options, wrong_subcount,
 };
 use crate::answer::Answer;
 use crate::refusal::Refusal;
@@ -21,6 +21,7 @@ enum Topic {
     Stream,
     Groups,
     Consumers,
+    Help,
 }
 
 /// `XINFO STREAM key [FULL [COUNT count]]`, `XINFO GROUPS key`, `XINFO CONSUMERS key group`
@@ -33,15 +34,31 @@ pub(super) fn info(
 ) -> Result<Answer, Refusal>
     ensures { IfOk result IsInfo }
 {
-    let topic = topic_in(alloc, word, arguments)?;
+    match topic_in(alloc, word, arguments)? {
+        Topic::Help => Ok(help::of_info(alloc)?),
+        topic => about(alloc, streams, now, topic, word, arguments),
+    }
+}
+
+/// What XINFO tells of a stream.
+fn about(
+    alloc: Global,
+    streams: &[Stream],
+    now: u64,
+    topic: Topic,
+    word: &[u8],
+    arguments: &[Vec<u8>],
+) -> Result<Answer, Refusal>
+    ensures { IfOk result IsInfo }
+{
     let [subcommand, key, rest @ ..] = arguments else {
         return Err(SYNTAX);
     };
     let stream = stream_of(streams, key).ok_or(NO_KEY)?;
     match topic {
-        Topic::Stream => about_stream(alloc, stream, word, subcommand, rest),
         Topic::Groups => Ok(groups_info(alloc, stream)?),
         Topic::Consumers => about_consumers(alloc, stream, now, key, rest),
+        _ => about_stream(alloc, stream, word, subcommand, rest),
     }
 }
 
@@ -80,8 +97,18 @@ fn about_consumers(
     }
 }
 
+/// Whether there is such a topic, and it may have so many arguments.
+pub(super) fn check(alloc: Global, word: &[u8], arguments: &[Vec<u8>]) -> Result<(), Refusal>
+    ensures { IfOk result (λ _. 0 < length_of arguments.now) }
+{
+    let _topic = topic_in(alloc, word, arguments)?;
+    Ok(())
+}
+
 /// The topic of this name, where it may have so many arguments.
-fn topic_in(alloc: Global, word: &[u8], arguments: &[Vec<u8>]) -> Result<Topic, Refusal> {
+fn topic_in(alloc: Global, word: &[u8], arguments: &[Vec<u8>]) -> Result<Topic, Refusal>
+    ensures { IfOk result (λ _. 0 < length_of arguments.now) }
+{
     let [subcommand, behind @ ..] = arguments else {
         return Err(SYNTAX);
     };
@@ -100,6 +127,8 @@ fn topic_named(subcommand: &[u8]) -> Option<Topic> {
         Some(Topic::Groups)
     } else if is_word(subcommand, "CONSUMERS") {
         Some(Topic::Consumers)
+    } else if is_word(subcommand, "HELP") {
+        Some(Topic::Help)
     } else {
         None
     }
@@ -111,6 +140,7 @@ fn has_right_count(topic: Topic, count: usize) -> bool {
         Topic::Stream => count >= 1,
         Topic::Groups => count == 1,
         Topic::Consumers => count == 2,
+        Topic::Help => count == 0,
     }
 }
 

@@ -1,0 +1,38 @@
+-- Commands that are answered one after the other.
+use Rattle.std.proofs.Common.{◌≡◌, ℕ, List, [], ◌∷◌, ◌++◌, Ok, Some, length, map, refl, sym, subst, append-nil, ◌∙◌}
+use Rattle.redis_wire.specs.declared.written.Protocol.{Protocol}
+use Rattle.std.specs.List.{flat_map}
+use Rattle.std.proofs.lemmas.List.{flat_map_more}
+use Rattle.stream_server.specs.declared.answer.Reply.{Reply}
+use Rattle.stream_server.specs.Incoming.{command_at}
+use Rattle.stream_server.specs.Serving.{Turn, IsAnswered, turn_bytes, AreAnswered, Does}
+
+-- nothing was done yet
+pub no_turns : (bytes before : List ℕ) → Does bytes bytes before before
+no_turns bytes before = record { turns = []; answered = refl; wrote = sym (append-nil before) }
+
+-- a list that is not empty has words
+pub some_words : {A : Type 0} (f : A → List ℕ) (xs : List A) (turn : Protocol × Reply) → (length xs ≡ 0 → ⊥)
+    → IsAnswered (map f xs) (Some turn)
+some_words f [] turn some = absurd (some refl)
+some_words f (x ∷ xs) turn some = tt
+
+turn_more : (turns : List Turn) (turn : Turn) (bytes rest behind : List ℕ) (words : List (List ℕ))
+    → AreAnswered turns bytes rest → command_at rest ≡ Ok (words, behind) → IsAnswered words turn
+    → AreAnswered (turns ++ turn ∷ []) bytes behind
+turn_more [] turn bytes rest behind words is h a =
+    (words, behind, subst (λ (b : List ℕ). command_at b ≡ Ok (words, behind)) (sym is) h, a, refl)
+turn_more (t ∷ turns) turn bytes rest behind words (first, next, read, answered, others) h a =
+    (first, next, read, answered, turn_more turns turn next rest behind words others h a)
+
+-- one command more
+pub one_more_turn : (bytes rest behind : List ℕ) (words : List (List ℕ)) (before between after : List ℕ)
+    → Does bytes rest before between → command_at rest ≡ Ok (words, behind)
+    → ((turn : Turn) × IsAnswered words turn × (after ≡ between ++ turn_bytes turn)) → Does bytes behind before after
+one_more_turn bytes rest behind words before between after d h (turn, answered, wrote) = record {
+  turns = d.turns ++ turn ∷ [];
+  answered = turn_more d.turns turn bytes rest behind words d.answered h answered;
+  wrote =
+      wrote ∙ subst (λ (b : List ℕ). b ++ turn_bytes turn ≡ before ++ flat_map turn_bytes (d.turns ++ turn ∷ [])) (sym d.wrote)
+      (flat_map_more turn_bytes before d.turns turn);
+}

@@ -1,0 +1,157 @@
+//! `PING`, `SELECT`, `CLIENT`, and the others that concern the connection.
+ghost use Rattle.std.specs.Prelude.{◌≡◌, ◌<◌, length, IfOk, OnErr};
+
+use super::{
+    NOT_AN_INTEGER, SYNTAX, bytes_answer, check_name, hello, integer_in, is_word,
+    unknown_subcommand, wrong_count, wrong_subcount,
+};
+use crate::answer::{Answer, Status};
+use crate::refusal::Refusal;
+use crate::session::Session;
+use std::alloc::Global;
+
+/// What concerns the connection.
+#[derive(Clone, Copy, Debug)]
+pub(crate) enum Connection {
+    Ping,
+    Hello,
+    Unwatch,
+    Select,
+    Client,
+}
+
+/// What CLIENT does.
+#[derive(Clone, Copy)]
+enum Action {
+    SetName,
+    GetName,
+    Id,
+}
+
+const NO_SUCH_INDEX: Refusal = Refusal::Fixed("ERR DB index is out of range");
+
+const WIDE_INDEX: Refusal = Refusal::Fixed(
+    "ERR value is out of range, value must between -2147483648 and 2147483647",
+);
+
+/// Does a command that concerns the connection.
+pub(super) fn answered(
+    alloc: Global,
+    session: &mut Session,
+    asked: Connection,
+    words: &[Vec<u8>],
+) -> Result<Answer, Refusal>
+    ensures { OnErr result (session.new ≡ session.old) }
+{
+    let [word, arguments @ ..] = words else {
+        return Err(SYNTAX);
+    };
+    match asked {
+        Connection::Ping => ping(alloc, word, arguments),
+        Connection::Hello => hello::hello(alloc, session, arguments),
+        Connection::Unwatch => Ok(Answer::Okay),
+        Connection::Select => select(arguments),
+        Connection::Client => client(alloc, session, word, arguments),
+    }
+}
+
+/// `PING [text]`
+fn ping(alloc: Global, word: &[u8], arguments: &[Vec<u8>]) -> Result<Answer, Refusal> {
+    match arguments {
+        [] => Ok(Answer::Status(Status::Pong)),
+        [text] => Ok(Answer::Bytes(text.clone()?)),
+        _ => Err(wrong_count(alloc, word)),
+    }
+}
+
+/// `SELECT index`, of the one that there is.
+fn select(arguments: &[Vec<u8>]) -> Result<Answer, Refusal> {
+    let [index, ..] = arguments else {
+        return Err(SYNTAX);
+    };
+    match integer_in(index) {
+        Some(0) => Ok(Answer::Okay),
+        Some(n) if i32::try_from(n).is_err() => Err(WIDE_INDEX),
+        Some(_) => Err(NO_SUCH_INDEX),
+        None => Err(NOT_AN_INTEGER),
+    }
+}
+
+/// `CLIENT SETNAME name`, `CLIENT GETNAME`, `CLIENT ID`
+fn client(
+    alloc: Global,
+    session: &mut Session,
+    word: &[u8],
+    arguments: &[Vec<u8>],
+) -> Result<Answer, Refusal>
+    ensures { OnErr result (session.new ≡ session.old) }
+{
+    match action_in(alloc, word, arguments)? {
+        Action::SetName => set_name(alloc, session, arguments),
+        Action::GetName => name_answer(alloc, &session.name),
+        Action::Id => Ok(Answer::Int(1)),
+    }
+}
+
+/// Whether there is such an action of CLIENT, and it may have so many arguments.
+pub(super) fn check(alloc: Global, word: &[u8], arguments: &[Vec<u8>]) -> Result<(), Refusal>
+    ensures { IfOk result (λ _. 0 < length arguments.now) }
+{
+    let _action = action_in(alloc, word, arguments)?;
+    Ok(())
+}
+
+/// The action of this name, where it may have so many arguments.
+fn action_in(alloc: Global, word: &[u8], arguments: &[Vec<u8>]) -> Result<Action, Refusal>
+    ensures { IfOk result (λ _. 0 < length arguments.now) }
+{
+    let [subcommand, behind @ ..] = arguments else {
+        return Err(SYNTAX);
+    };
+    match action_named(subcommand) {
+        Some(action) if has_right_count(action, behind.len()) => Ok(action),
+        Some(_) => Err(wrong_subcount(alloc, word, subcommand)),
+        None => Err(unknown_subcommand(alloc, word, subcommand)),
+    }
+}
+
+/// The action of this name.
+fn action_named(subcommand: &[u8]) -> Option<Action> {
+    if is_word(subcommand, "SETNAME") {
+        Some(Action::SetName)
+    } else if is_word(subcommand, "GETNAME") {
+        Some(Action::GetName)
+    } else if is_word(subcommand, "ID") {
+        Some(Action::Id)
+    } else {
+        None
+    }
+}
+
+/// Whether the action may have so many arguments.
+fn has_right_count(action: Action, count: usize) -> bool {
+    match action {
+        Action::SetName => count == 1,
+        Action::GetName | Action::Id => count == 0,
+    }
+}
+
+/// `SETNAME`; an empty name is none.
+fn set_name(alloc: Global, session: &mut Session, arguments: &[Vec<u8>]) -> Result<Answer, Refusal>
+    ensures { OnErr result (session.new ≡ session.old) }
+{
+    let [_, name, ..] = arguments else {
+        return Err(SYNTAX);
+    };
+    check_name(name)?;
+    session.name = Vec::from_slice(alloc, name)?;
+    Ok(Answer::Okay)
+}
+
+/// `GETNAME` of a connection with this name.
+fn name_answer(alloc: Global, name: &[u8]) -> Result<Answer, Refusal> {
+    if name.is_empty() {
+        return Ok(Answer::Nil);
+    }
+    Ok(bytes_answer(alloc, name)?)
+}

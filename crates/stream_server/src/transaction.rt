@@ -1,0 +1,224 @@
+//! `MULTI`, `EXEC`, `DISCARD`, `WATCH`: when commands are done.
+ghost use Rattle.std.specs.Prelude.{◌≡◌, IfOk, OnErr};
+ghost use Rattle.stream_server.specs.Server.{IsRefused};
+ghost use Rattle.stream_server.specs.Streams.{seen_streams};
+
+use crate::answer::{Answer, Reply, Status};
+use crate::commands::{self, Command, Plain, Step};
+use crate::refusal::Refusal;
+use crate::session::{Mode, Queued, Session};
+use std::alloc::{AllocError, Global};
+use std::mem;
+use stream_store::Stream;
+
+const NESTED: Refusal = Refusal::Fixed("ERR MULTI calls can not be nested");
+
+const WATCH_INSIDE: Refusal = Refusal::Fixed("ERR WATCH inside MULTI is not allowed");
+
+const NOT_BEGUN: Refusal = Refusal::Fixed("ERR EXEC without MULTI");
+
+const NONE_TO_DISCARD: Refusal = Refusal::Fixed("ERR DISCARD without MULTI");
+
+const ABORTED: Refusal = Refusal::Fixed(
+    "EXECABORT Transaction discarded because of previous errors.",
+);
+
+const WRONG_EXECUTE: Refusal = Refusal::Fixed(
+    "EXECABORT Transaction discarded because of: wrong number of arguments for 'exec' command",
+);
+
+/// What a command of a transaction comes to where memory is refused.
+const OUT_OF_MEMORY: &str = "OOM command not allowed when used memory > 'maxmemory'.";
+
+/// Does a command, or queues it. What is refused changes no stream.
+pub(crate) fn answered(
+    alloc: Global,
+    streams: &mut Vec<Stream>,
+    now: u64,
+    session: &mut Session,
+    words: Vec<Vec<u8>>,
+) -> Result<Reply, AllocError>
+    ensures err { OnErr result (seen_streams streams.new ≡ seen_streams streams.old) }
+    ensures session { OnErr result (session.new ≡ session.old) }
+    ensures refused { IfOk result (λ r. IsRefused r
+        → seen_streams streams.new ≡ seen_streams streams.old) }
+{
+    match commands::command_in(alloc, &words) {
+        Ok(Command::Transaction(step)) => stepped(alloc, streams, now, session, step, words.len()),
+        Ok(Command::Plain(command)) if session.mode == Mode::AtOnce => {
+            at_once(alloc, streams, now, session, command, words)
+        }
+        Ok(Command::Plain(command)) => queued(session, command, words),
+        Err(refusal) => rejected(alloc, session, refusal),
+    }
+}
+
+/// Does a command.
+fn at_once(
+    alloc: Global,
+    streams: &mut Vec<Stream>,
+    now: u64,
+    session: &mut Session,
+    command: Plain,
+    words: Vec<Vec<u8>>,
+) -> Result<Reply, AllocError>
+    ensures err { OnErr result (seen_streams streams.new ≡ seen_streams streams.old) }
+    ensures session { OnErr result (session.new ≡ session.old) }
+    ensures refused { IfOk result (λ r. IsRefused r
+        → seen_streams streams.new ≡ seen_streams streams.old) }
+{
+    match commands::done(alloc, streams, now, session, command, words) {
+        Ok(answer) => Ok(Reply::Done(answer)),
+        Err(refusal) => refused(alloc, refusal),
+    }
+}
+
+/// Queues a command; one that would not be done is not kept.
+fn queued(session: &mut Session, command: Plain, words: Vec<Vec<u8>>) -> Result<Reply, AllocError>
+    ensures { OnErr result (session.new ≡ session.old) }
+{
+    if session.mode == Mode::Queued {
+        session.queue.push(Queued { command, words })?;
+    }
+    Ok(Reply::Done(Answer::Status(Status::Queued)))
+}
+
+/// Refuses a command before it is done or queued: then what is queued is not done either.
+fn rejected(alloc: Global, session: &mut Session, refusal: Refusal) -> Result<Reply, AllocError>
+    ensures { OnErr result (session.new ≡ session.old) }
+{
+    let reply = refused(alloc, refusal)?;
+    if session.mode != Mode::AtOnce {
+        session.mode = Mode::Aborted;
+    }
+    Ok(reply)
+}
+
+/// That a command is refused.
+fn refused(alloc: Global, refusal: Refusal) -> Result<Reply, AllocError> {
+    Ok(Reply::Refused(refusal.into_text(alloc)?))
+}
+
+/// Does what says when commands are done, and has so many words.
+fn stepped(
+    alloc: Global,
+    streams: &mut Vec<Stream>,
+    now: u64,
+    session: &mut Session,
+    step: Step,
+    words: usize,
+) -> Result<Reply, AllocError>
+    ensures err { OnErr result (seen_streams streams.new ≡ seen_streams streams.old) }
+    ensures session { OnErr result (session.new ≡ session.old) }
+    ensures refused { IfOk result (λ r. IsRefused r
+        → seen_streams streams.new ≡ seen_streams streams.old) }
+{
+    match step {
+        Step::Begin => begun(alloc, session),
+        Step::Execute if words > 1 => given_up(alloc, session, WRONG_EXECUTE),
+        Step::Execute => ended(alloc, streams, now, session),
+        Step::Discard => discarded(alloc, session),
+        Step::Watch => watched(alloc, session.mode),
+    }
+}
+
+/// `MULTI`
+fn begun(alloc: Global, session: &mut Session) -> Result<Reply, AllocError>
+    ensures { OnErr result (session.new ≡ session.old) }
+{
+    if session.mode != Mode::AtOnce {
+        return refused(alloc, NESTED);
+    }
+    session.mode = Mode::Queued;
+    Ok(Reply::Done(Answer::Okay))
+}
+
+/// `WATCH key ..`; no change of a key is looked at.
+fn watched(alloc: Global, mode: Mode) -> Result<Reply, AllocError> {
+    if mode != Mode::AtOnce {
+        return refused(alloc, WATCH_INSIDE);
+    }
+    Ok(Reply::Done(Answer::Okay))
+}
+
+/// `DISCARD`
+fn discarded(alloc: Global, session: &mut Session) -> Result<Reply, AllocError>
+    ensures { OnErr result (session.new ≡ session.old) }
+{
+    if session.mode == Mode::AtOnce {
+        return refused(alloc, NONE_TO_DISCARD);
+    }
+    forget(session);
+    Ok(Reply::Done(Answer::Okay))
+}
+
+/// Does nothing of what is queued, and says why.
+fn given_up(alloc: Global, session: &mut Session, refusal: Refusal) -> Result<Reply, AllocError>
+    ensures { OnErr result (session.new ≡ session.old) }
+{
+    let reply = refused(alloc, refusal)?;
+    forget(session);
+    Ok(reply)
+}
+
+/// Commands are done as they come.
+fn forget(session: &mut Session) {
+    session.queue.clear();
+    session.mode = Mode::AtOnce;
+}
+
+/// `EXEC`
+fn ended(
+    alloc: Global,
+    streams: &mut Vec<Stream>,
+    now: u64,
+    session: &mut Session,
+) -> Result<Reply, AllocError>
+    ensures err { OnErr result (seen_streams streams.new ≡ seen_streams streams.old) }
+    ensures session { OnErr result (session.new ≡ session.old) }
+    ensures refused { IfOk result (λ r. IsRefused r
+        → seen_streams streams.new ≡ seen_streams streams.old) }
+{
+    match session.mode {
+        Mode::AtOnce => refused(alloc, NOT_BEGUN),
+        Mode::Aborted => given_up(alloc, session, ABORTED),
+        Mode::Queued => {
+            let mut outcomes = none_done(alloc, session.queue.len())?;
+            let queue = mem::replace(&mut session.queue, Vec::new(alloc));
+            session.mode = Mode::AtOnce;
+            execute(alloc, streams, now, session, queue, &mut outcomes);
+            Ok(Reply::Executed(outcomes))
+        }
+    }
+}
+
+/// What so many commands come to for which memory is refused.
+fn none_done(alloc: Global, count: usize) -> Result<Vec<Result<Answer, Vec<u8>>>, AllocError> {
+    let mut outcomes = Vec::with_capacity(alloc, count)?;
+    for _ in 0..count {
+        outcomes.push(Err(Vec::from_slice(alloc, OUT_OF_MEMORY.as_bytes())?))?;
+    }
+    Ok(outcomes)
+}
+
+/// Does commands one after the other. An outcome that has no memory stays as it is, and so do the
+/// streams.
+fn execute(
+    alloc: Global,
+    streams: &mut Vec<Stream>,
+    now: u64,
+    session: &mut Session,
+    queue: Vec<Queued>,
+    outcomes: &mut Vec<Result<Answer, Vec<u8>>>,
+) {
+    for (queued, outcome) in queue.into_iter().zip(outcomes.iter_mut()) {
+        match commands::done(alloc, streams, now, session, queued.command, queued.words) {
+            Ok(answer) => *outcome = Ok(answer),
+            Err(refusal) => {
+                if let Ok(text) = refusal.into_text(alloc) {
+                    *outcome = Err(text);
+                }
+            }
+        }
+    }
+}
