@@ -81,11 +81,7 @@ fn begin(
     let (base, rest) = words.split_once(' ').unwrap_or((words, ""));
     let (batch, count) = rest.split_once(' ').unwrap_or((rest, ""));
     let key = String::from_str(alloc, "k")?;
-    match Settings::new(
-        key,
-        base.parse().unwrap_or(0),
-        batch.parse().unwrap_or(0),
-    ) {
+    match Settings::new(key, base.parse().unwrap_or(0), batch.parse().unwrap_or(0)) {
         Ok(settings) => {
             *feed = Some(Feed {
                 producer: Producer::new(settings),
@@ -114,7 +110,12 @@ fn records_of(alloc: Global, count: u8) -> Result<Vec<Record>, AllocError> {
 }
 
 /// Plays a step of a producer.
-fn play_step(alloc: Global, line: &str, feed: &mut Feed, out: &mut String) -> Result<(), AllocError> {
+fn play_step(
+    alloc: Global,
+    line: &str,
+    feed: &mut Feed,
+    out: &mut String,
+) -> Result<(), AllocError> {
     let text = if line == "ask" {
         asked(alloc, feed)?
     } else if line == "cut" {

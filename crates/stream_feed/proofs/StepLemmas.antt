@@ -1,60 +1,68 @@
 -- What a producer promises are steps of the model.
-use Rattle.std.proofs.Common.{◌≡◌, refl, sym, ap, ◌∙◌, ℕ, List, [], ◌∷◌, length, take, drop, Some}
-use Rattle.stream_once.specs.Feed.{Numbered, Stage, numbered, asking, knows, waits, sends, asks, hears, learns}
+use Rattle.std.proofs.Common.{◌≡◌, ◌&&◌, refl, sym, ap, subst, ◌∙◌, ℕ, List, [], ◌∷◌, length, take, drop, Option, Some, None}
+use Rattle.std.specs.Prelude.{if◌then◌else◌}
+use Rattle.std.specs.Option.{is_none}
+use Rattle.stream_once.specs.Feed.{Numbered, Stage, Answer, Request, numbered, asking, knows, waits, learns, request, requested}
+use Rattle.stream_once.specs.Feed.{waiting, adding}
+use Rattle.stream_once.specs.Producer.{Producer, sends, hears}
 use Rattle.stream_once.specs.World.{Setting, World, Send, happens}
-use Rattle.stream_feed.specs.Machine.{Sent, Standing, next_batch}
+use Rattle.stream_feed.specs.Machine.{Sent, Standing, next_batch, stands_at, asks_of}
 use Rattle.stream_feed.specs.Records.{Fields}
-use Rattle.stream_feed.specs.Step.{RequestsStayInStep, BatchesStayInStep, AnswersStayInStep, BreaksStayInStep, as_it_asks}
+use Rattle.stream_feed.specs.Step.{RequestsStayInStep, AnswersStayInStep, BreaksStayInStep, on_the_way}
 use Rattle.stream_feed.specs.declared.settings.Settings.{Settings}
 use Rattle.stream_feed.specs.declared.stage.Asked.{Asked}
-use Rattle.stream_feed.specs.declared.stage.Asked.TheVariants as asked
 
--- where the model stands after what was asked, by what the producer knows and by the batch that is next
-stage_then : (s : Settings) (setting : Setting Fields) (w : World Fields) (st : Stage) (b : List (Numbered Fields))
-    → w.feed.stage ≡ st → setting.base ≡ s.base → next_batch s setting.records st ≡ b
-    → (out more : List ℕ) (new : Standing) (a : Asked) → Sent s b out more st new a
-    → (as_it_asks setting s.batch w a).feed.stage ≡ new.stage
-stage_then s setting w asking b e base is out more new a sent =
-    ap (λ x. (as_it_asks setting s.batch w x).feed.stage) sent.asks
-    ∙ (ap (λ x. (asks w.stream x w.feed).stage) e ∙ (e ∙ ap (λ (n : Standing). n.stage) (sym sent.stands)))
-stage_then s setting w (knows m) [] e base is out more new a sent =
-    ap (λ x. (as_it_asks setting s.batch w x).feed.stage) sent.asks
-    ∙ (e ∙ ap (λ (n : Standing). n.stage) (sym sent.stands))
-stage_then s setting w (knows m) (r ∷ rs) e base is out more new a sent =
-    ap (λ x. (as_it_asks setting s.batch w x).feed.stage) sent.asks
-    ∙ (ap (λ x. (sends (numbered setting.base setting.records) s.batch x w.feed).stage) e
-    ∙ (ap (λ (k : ℕ). waits m (length (take s.batch (drop m (numbered k setting.records))))) base
-    ∙ (ap (λ bs. waits m (length bs)) is ∙ ap (λ (n : Standing). n.stage) (sym sent.stands))))
-stage_then s setting w (waits m n) b e base is out more new a sent =
-    ap (λ x. (as_it_asks setting s.batch w x).feed.stage) sent.asks
-    ∙ (e ∙ ap (λ (n : Standing). n.stage) (sym sent.stands))
+-- the model's producer sends where nothing is on the way
+sends_then : (n : ℕ) (all : List (Numbered Fields)) (p : Producer Fields) → p.sent ≡ None → p.answer ≡ None
+    → sends n all p ≡ record p { stage = requested n all p.stage; sent = request n all p.stage }
+sends_then n all p unsent unanswered =
+    let q : Producer Fields = record p { stage = requested n all p.stage; sent = request n all p.stage } in
+    ap (λ (o : Option (Request Fields)). if is_none o && is_none p.answer then q else p) unsent
+    ∙ ap (λ (o : Option Answer). if is_none o then q else p) unanswered
+
+waits_as : (m : ℕ) (b : List (Numbered Fields)) → waiting m b ≡ (stands_at (knows m) b).stage
+waits_as m [] = refl
+waits_as m (r ∷ rs) = refl
+
+adds_as : (m : ℕ) (b : List (Numbered Fields)) → adding b ≡ on_the_way (asks_of (knows m) b) b
+adds_as m [] = refl
+adds_as m (r ∷ rs) = refl
+
+-- where it stands then, by what it knows
+stands_as : (s : Settings) (records : List Fields) (base : ℕ) → base ≡ s.base → (st : Stage)
+    → requested s.batch (numbered base records) st ≡ (stands_at st (next_batch s records st)).stage
+stands_as s records base is asking = refl
+stands_as s records base is (knows m) =
+    ap (λ (k : ℕ). waiting m (take s.batch (drop m (numbered k records)))) is
+    ∙ waits_as m (take s.batch (drop m (numbered s.base records)))
+stands_as s records base is (waits m n) = refl
+
+-- and what is on the way
+asks_as : (s : Settings) (records : List Fields) (base : ℕ) → base ≡ s.base → (st : Stage)
+    → request s.batch (numbered base records) st ≡ on_the_way (asks_of st (next_batch s records st)) (next_batch s records st)
+asks_as s records base is asking = refl
+asks_as s records base is (knows m) =
+    ap (λ (k : ℕ). adding (take s.batch (drop m (numbered k records)))) is
+    ∙ adds_as m (take s.batch (drop m (numbered s.base records)))
+asks_as s records base is (waits m n) = refl
 
 pub requests_stay : RequestsStayInStep
-requests_stay s setting base w out more new a sent = stage_then s setting w w.feed.stage
-    (next_batch s setting.records w.feed.stage) refl base refl out more new a sent
-
--- the batch that is then on the way
-sent_then : (s : Settings) (setting : Setting Fields) (w : World Fields) (st : Stage) (b : List (Numbered Fields))
-    → w.feed.stage ≡ st → setting.base ≡ s.base → next_batch s setting.records st ≡ b
-    → (out more : List ℕ) (new : Standing) → Sent s b out more st new asked.Records
-    → (happens setting w (Send s.batch)).feed.sent ≡ Some b
-sent_then s setting w asking b e base is out more new sent = let no = sent.asks in absurd (cc)
-sent_then s setting w (knows m) [] e base is out more new sent = let no = sent.asks in absurd (cc)
-sent_then s setting w (knows m) (r ∷ rs) e base is out more new sent =
-    ap (λ x. (sends (numbered setting.base setting.records) s.batch x w.feed).sent) e
-    ∙ (ap (λ (k : ℕ). Some (take s.batch (drop m (numbered k setting.records)))) base ∙ ap (λ bs. Some bs) is)
-sent_then s setting w (waits m n) b e base is out more new sent = let no = sent.asks in absurd (cc)
-
-pub batches_stay : BatchesStayInStep
-batches_stay s setting base w out more new sent = sent_then s setting w w.feed.stage
-    (next_batch s setting.records w.feed.stage) refl base refl out more new sent
+requests_stay s setting base w unsent unanswered out more new a sent =
+    let p : Producer Fields = w.producer in
+    let sends_it = sends_then s.batch (numbered setting.base setting.records) p unsent unanswered in
+    let b = next_batch s setting.records p.stage in (
+      ap (λ (q : Producer Fields). q.stage) sends_it ∙ stands_as s setting.records setting.base base p.stage
+          ∙ ap (λ (n : Standing). n.stage) (sym sent.stands),
+      ap (λ (q : Producer Fields). q.sent) sends_it ∙ asks_as s setting.records setting.base base p.stage
+          ∙ ap (λ (x : Asked). on_the_way x b) (sym sent.asks),
+    )
 
 pub answers_stay : AnswersStayInStep
 answers_stay setting w x there count a said new l =
     let same : Some x ≡ Some l.hears = sym said ∙ l.is in
     let eq : x ≡ l.hears = cc in
-    ap (λ o. (hears setting.base o w.feed).stage) there
-    ∙ (ap (λ y. learns setting.base w.feed.stage y) eq ∙ sym l.knows)
+    ap (λ (o : Option Answer). (hears setting.base o w.producer).stage) there
+    ∙ (ap (λ y. learns setting.base w.producer.stage y) eq ∙ sym l.knows)
 
 pub breaks_stay : BreaksStayInStep
 breaks_stay setting w = refl

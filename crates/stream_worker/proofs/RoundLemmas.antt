@@ -72,12 +72,16 @@ module _ {R : Type 0} (with_verdict : R → List ℕ × Fields Tree → Verdict 
   pub held : x ≡ y → Breaks with_verdict with_commit settings old here w x (causes.Receive Memory)
   held same = (
     same ∙ waited.1.0,
-    (waited.0, waited.1.1, record {
-      count = waited.2.1.count;
-      between = before_it;
-      passes = waited.2.1.passes;
-      waits = (stands.taken, stands.takes);
-    }),
+    (
+      waited.0,
+      waited.1.1,
+      record {
+        count = waited.2.1.count;
+        between = before_it;
+        passes = waited.2.1.passes;
+        waits = (stands.taken, stands.takes);
+      },
+    ),
     tt,
     tt,
   )
@@ -90,12 +94,12 @@ module _ {R : Type 0} (with_verdict : R → List ℕ × Fields Tree → Verdict 
         sends = waited.1.1;
         receives = subst (λ (a : wire.Answer). ReceivesAnswer waited.0 new a)
             (sym (same_answer limits text answer b is_reply h)) (record {
-          count = waited.2.1.count;
-          between = before_it;
-          passes = waited.2.1.passes;
-          receives = given before_it answer stands;
-          is_answer = waited.2.1.is_answer;
-        });
+              count = waited.2.1.count;
+              between = before_it;
+              passes = waited.2.1.passes;
+              receives = given before_it answer stands;
+              is_answer = waited.2.1.is_answer;
+            });
       }
 
       pub turned : (s : Settings) → s ≡ settings → (q : Asked) (p : Progress) → q ≡ y.asked

@@ -319,9 +319,9 @@ module _ {R : Type 0} (with_verdict : R → List ℕ × Fields Tree → Verdict 
 
 phase_kept : (m : Machine) → (at_request m).phase ≡ m.phase
 phase_kept m = elim (commits m) as (λ b. (if b then after_commit m else m).phase ≡ m.phase) [
-    | true ↦ refl
-    | false ↦ refl
-  ]
+  | true ↦ refl
+  | false ↦ refl
+]
 
 begun_again : (e : RunError) (m : Machine) → (IsUnsent e → ⊥) → (machine_after e m).phase ≡ own (codes "0")
 begun_again (causes.Request e) m sent = absurd (sent tt)

@@ -1,11 +1,15 @@
-use Rattle.stream_once.proofs.Fill.{log_is_first_records, said_is_in, done_is_all, log_only_grows}
+use Rattle.stream_once.proofs.Fill.{log_is_first_records, known_is_in, done_is_all, log_only_grows}
+use Rattle.stream_once.proofs.Write.{log_has_each_once}
 use Rattle.stream_feed.proofs.laws.nothing_twice.Goals as goal
 
 pub returns-clause-first : goal.returns-clause-first
 returns-clause-first c = log_is_first_records
 
-pub returns-clause-said : goal.returns-clause-said
-returns-clause-said c = said_is_in
+pub returns-clause-once : goal.returns-clause-once
+returns-clause-once c = log_has_each_once
+
+pub returns-clause-known : goal.returns-clause-known
+returns-clause-known c = known_is_in
 
 pub returns-clause-done : goal.returns-clause-done
 returns-clause-done c = done_is_all

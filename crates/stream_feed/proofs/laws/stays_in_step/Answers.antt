@@ -1,11 +1,8 @@
-use Rattle.stream_feed.proofs.StepLemmas.{requests_stay, batches_stay, answers_stay, breaks_stay}
+use Rattle.stream_feed.proofs.StepLemmas.{requests_stay, answers_stay, breaks_stay}
 use Rattle.stream_feed.proofs.laws.stays_in_step.Goals as goal
 
 pub returns-clause-requests : goal.returns-clause-requests
 returns-clause-requests c = requests_stay
-
-pub returns-clause-batches : goal.returns-clause-batches
-returns-clause-batches c = batches_stay
 
 pub returns-clause-answers : goal.returns-clause-answers
 returns-clause-answers c = answers_stay
