@@ -11,12 +11,12 @@
 //! It ends with 0, or with 2 where memory ran out, or standard input or output failed.
 #![tactic(auto)]
 
-use redis_wire::{Decoded, Limits, Reply, decode};
+use redis_wire::{Decoded, Limits, Reply, WireError, decode};
 use std::alloc::{AllocError, Global};
 use std::io;
 use std::io::{Read, Write};
 use std::process::ExitCode;
-use stream_feed::{Producer, Record, Settings};
+use stream_feed::{FeedError, Producer, Record, RequestError, Settings};
 
 /// Memory ran out, or standard input or output failed.
 const FAILED: u8 = 2;
@@ -138,6 +138,8 @@ fn asked(alloc: Global, feed: &mut Feed) -> Result<String, AllocError> {
             let text = text_of(alloc, &bytes)?;
             format!(in alloc; "{asked:?}: {}", text.as_str())
         }
+        // (records in memory are not read only where memory is refused)
+        Err(RequestError::Memory | RequestError::NotRead) => Err(AllocError),
         Err(error) => format!(in alloc; "{error}"),
     }
 }
@@ -153,6 +155,7 @@ fn told(alloc: Global, line: &str, feed: &mut Feed) -> Result<String, AllocError
                 push_taken(alloc, reply, feed, &mut text)?;
                 rest = rest.get(len..).unwrap_or(&[]);
             }
+            Err(WireError::Memory) => return Err(AllocError),
             _ => return Ok(text),
         }
     }
@@ -169,6 +172,7 @@ fn push_taken(
     let count = feed.records.len() as u64;
     match feed.producer.answered(alloc, reply, count) {
         Ok(()) => text.push_str("Ok "),
+        Err(FeedError::Memory) => Err(AllocError),
         Err(error) => {
             let error = format!(in alloc; "[{error}] ")?;
             text.push_str(error.as_str())
