@@ -44,20 +44,22 @@ instead n w b = take (length w - n) w ++ b ∷ []
 abbrev pub last_byte : List ℕ → ℕ
 last_byte w = slice_index w (length w - 1)
 
--- a byte of a word, in no quotes, in double quotes, in single quotes
+-- a byte of a word in no quotes
 unfoldable pub in_word : List ℕ → ℕ → Turn
 in_word w b = if b == 34 then goes places.Double w
     else (if b == 39 then goes places.Single w else goes places.Inside (w ++ b ∷ []))
 
+-- a byte of a word in double quotes
 unfoldable pub in_double : List ℕ → ℕ → Turn
 in_double w b = if b == 34 then goes places.Closed w
     else (if b == 92 then goes places.Escape w else goes places.Double (w ++ b ∷ []))
 
+-- a byte of a word in single quotes
 unfoldable pub in_single : List ℕ → ℕ → Turn
 in_single w b = if b == 39 then goes places.Closed w
     else (if b == 92 then goes places.SingleEscape (w ++ b ∷ []) else goes places.Single (w ++ b ∷ []))
 
--- the same, by where the reading stands
+-- a byte of a line, by the place of the reading
 unfoldable pub turn : Place → List ℕ → ℕ → Turn
 turn places.Between w b = if is_blank b then goes places.Between w else in_word w b
 turn places.Inside w b = if is_end b then ends w else in_word w b
