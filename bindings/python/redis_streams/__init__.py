@@ -1,0 +1,22 @@
+"""Redis streams: replies read where they stand, and commands, by the C library redis_c.
+
+`find_streams` and its like read the reply at the head of bytes; a `Decoder` reads replies from pieces of bytes, and a
+`Connection` from a socket. `commands` has the commands, `errors` what goes wrong. A `Consumer` reads for a group and
+acknowledges what its handler returned for, at least once.
+"""
+from . import commands, errors
+from .commands import Command, pack
+from .connection import Connection, Decoder, SocketLike
+from .consumer import Consumer, LeavePending
+from .errors import (ArgumentTooLarge, BadSettings, ConnectionClosed, Error, LibraryNotFound, NothingGiven, OtherReply,
+                     OutOfMemory, ProtocolError, ServerError)
+from .replies import (Claimed, Entries, Entry, Stream, Streams, Value, find_autoclaim, find_justid, find_range,
+                      find_streams, find_value)
+
+__all__ = [
+    "ArgumentTooLarge", "BadSettings", "Claimed", "Command", "Connection", "ConnectionClosed", "Consumer", "Decoder",
+    "Entries", "Entry", "Error", "LeavePending", "LibraryNotFound", "NothingGiven", "OtherReply", "OutOfMemory",
+    "ProtocolError", "ServerError", "SocketLike", "Stream", "Streams", "Value", "commands", "errors", "find_autoclaim",
+    "find_justid", "find_range", "find_streams", "find_value", "pack",
+]
+__version__ = "1.0.0"

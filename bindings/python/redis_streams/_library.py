@@ -1,0 +1,118 @@
+"""The shared library, and its records as the header redis_streams.h lays them out."""
+from __future__ import annotations
+
+import ctypes
+import functools
+import os
+
+from .errors import LibraryNotFound
+
+VARIABLE = "REDIS_C_LIBRARY"
+NAME = "libredis_c.so"
+HERE = os.path.dirname(os.path.abspath(__file__))
+SIZE, BOOL, LONG = ctypes.c_size_t, ctypes.c_bool, ctypes.c_uint64
+
+
+class Span(ctypes.Structure):
+    _fields_ = [("start", SIZE), ("len", SIZE)]
+
+
+class Field(ctypes.Structure):
+    _fields_ = [("name", Span), ("value", Span)]
+
+
+class Entry(ctypes.Structure):
+    _fields_ = [("id", Span), ("first", SIZE), ("end", SIZE), ("deleted", BOOL), ("delivered", BOOL),
+                ("elapsed", LONG), ("count", LONG)]
+
+
+class Stream(ctypes.Structure):
+    _fields_ = [("name", Span), ("first", SIZE), ("end", SIZE)]
+
+
+class Found(ctypes.Structure):
+    _fields_ = [("len", SIZE), ("streams", SIZE), ("entries", SIZE), ("fields", SIZE), ("error", Span)]
+
+
+class Claim(ctypes.Structure):
+    _fields_ = [("next", Span), ("claimed", SIZE), ("len", SIZE)]
+
+
+class Node(ctypes.Structure):
+    _fields_ = [("kind", ctypes.c_uint8), ("text", Span), ("members", LONG), ("end", SIZE)]
+
+
+class ReadSettings(ctypes.Structure):
+    _fields_ = [("counts", BOOL), ("blocks", BOOL), ("noack", BOOL), ("claims", BOOL),
+                ("count", SIZE), ("block", SIZE), ("claim", SIZE)]
+
+
+class TrimSettings(ctypes.Structure):
+    _fields_ = [("bound", ctypes.c_uint32), ("references", ctypes.c_uint32), ("about", BOOL), ("limits", BOOL),
+                ("maxlen", SIZE), ("minid", Span), ("limit", SIZE)]
+
+
+class AddSettings(ctypes.Structure):
+    _fields_ = [("nomkstream", BOOL), ("recognizes", ctypes.c_uint32), ("producer", Span), ("item", Span),
+                ("trim", TrimSettings)]
+
+
+class ClaimSettings(ctypes.Structure):
+    _fields_ = [("idles", BOOL), ("times", BOOL), ("retries", BOOL), ("force", BOOL), ("justid", BOOL),
+                ("notes", BOOL), ("idle", SIZE), ("time", SIZE), ("retry", SIZE), ("lastid", Span)]
+
+
+class AutoclaimSettings(ctypes.Structure):
+    _fields_ = [("counts", BOOL), ("justid", BOOL), ("count", SIZE)]
+
+
+class PendingSettings(ctypes.Structure):
+    _fields_ = [("idles", BOOL), ("names", BOOL), ("idle", SIZE)]
+
+
+# Of each call what it is handed: B bytes and their number, T a table and its room or number, N a number, F a flag,
+# P a pointer to one record. The calls that write a command take a buffer, its room and a place for the length behind.
+_READINGS = {
+    "redis_find_streams": "BTTTP", "redis_find_range": "BTTP", "redis_find_autoclaim": "BTTPP",
+    "redis_find_justid": "BTPP", "redis_find_nodes": "BTPP",
+}
+_COMMANDS = {
+    "redis_xack_entries": "BBBT", "redis_xadd_options": "BBPBT", "redis_xtrim_options": "BPB",
+    "redis_xclaim_options": "BBBNPBT", "redis_xautoclaim_options": "BBBNBP", "redis_xread_streams": "PBT",
+    "redis_xreadgroup_streams": "PBBBT", "redis_xpending_options": "BBPBBNB",
+}
+_TYPES: dict[str, list[type]] = {
+    "B": [ctypes.c_char_p, SIZE], "T": [ctypes.c_void_p, SIZE], "N": [SIZE], "F": [BOOL], "P": [ctypes.c_void_p],
+}
+
+
+def _declare(library: ctypes.CDLL) -> None:
+    for name, handed in [*_READINGS.items(), *((name, handed + "TP") for name, handed in _COMMANDS.items())]:
+        call = getattr(library, name)
+        call.restype = ctypes.c_uint32
+        call.argtypes = [kind for letter in handed for kind in _TYPES[letter]]
+    # Bytes that are read may be a bytearray, too, which is handed in by its address.
+    for name in _READINGS:
+        call = getattr(library, name)
+        call.argtypes = [ctypes.c_void_p, *call.argtypes[1:]]
+
+
+def library_paths() -> list[str]:
+    """Where the library is looked for: where the variable says, else beside the package, else in a checkout's dist/."""
+    named = os.environ.get(VARIABLE)
+    return [named] if named else [os.path.join(HERE, NAME), os.path.join(HERE, "..", "..", "..", "dist", NAME)]
+
+
+@functools.lru_cache(maxsize=None)
+def library() -> ctypes.CDLL:
+    """The library, which is loaded by the first call of it."""
+    paths = library_paths()
+    path = next((path for path in paths if os.path.isfile(path)), None)
+    if path is None:
+        raise LibraryNotFound(f"no {NAME} at {' or '.join(paths)}: set {VARIABLE} to its path")
+    try:
+        loaded = ctypes.CDLL(path)
+        _declare(loaded)
+    except (OSError, AttributeError) as error:
+        raise LibraryNotFound(f"{path}: {error}") from None
+    return loaded

@@ -1,0 +1,214 @@
+"""Commands, as the bytes that a server reads.
+
+Each call returns a `Command`: bytes to send, whose `arguments` are the words of the command. Texts are bytes or str,
+which is sent as UTF-8. Times are milliseconds.
+"""
+from __future__ import annotations
+
+import ctypes
+from typing import Any, Callable, Iterable, Mapping, Union
+
+from . import _library as c
+from .errors import OK, ROOM, BadSettings, error_of
+
+Text = Union[bytes, str]
+Fields = Union[Mapping[Text, Text], Iterable["tuple[Text, Text]"]]
+Ids = Union[Text, Iterable[Text]]
+_REFERENCES = {None: 0, "KEEPREF": 1, "DELREF": 2, "ACKED": 3}
+
+
+class Command(bytes):
+    """The bytes of a command."""
+
+    @property
+    def arguments(self) -> list[bytes]:
+        """The words of the command, for a client that packs them itself."""
+        words: list[bytes] = []
+        at = self.index(b"\r\n") + 2
+        while at < len(self):
+            end = self.index(b"\r\n", at)
+            size = int(self[at + 1 : end])
+            words.append(bytes(self[end + 2 : end + 2 + size]))
+            at = end + size + 4
+        return words
+
+
+def pack(*words: Text | int) -> Command:
+    """A command of any words, for what no call here writes."""
+    packed = [str(word).encode() if isinstance(word, int) else _bytes(word) for word in words]
+    return Command(b"*%d\r\n" % len(packed) + b"".join(b"$%d\r\n%b\r\n" % (len(word), word) for word in packed))
+
+
+def xadd(key: Text, fields: Fields, id: Text = b"*", *, nomkstream: bool = False, maxlen: int | None = None,
+         minid: Text | None = None, approximate: bool = False, limit: int | None = None, references: str | None = None,
+         idmp: tuple[Text, Text] | None = None, idmpauto: Text | None = None) -> Command:
+    """XADD: `idmp` is the producer and the id that it gives the entry, `idmpauto` the producer."""
+    texts = _Texts()
+    settings = c.AddSettings(nomkstream=nomkstream, trim=_trimming(texts, maxlen, minid, approximate, limit, references))
+    if idmp is not None and idmpauto is not None:
+        raise BadSettings("idmp and idmpauto exclude one another")
+    if idmp is not None:
+        settings.recognizes, settings.producer, settings.item = 1, texts.add(idmp[0]), texts.add(idmp[1])
+    elif idmpauto is not None:
+        settings.recognizes, settings.producer = 2, texts.add(idmpauto)
+    table = _fields(texts, fields.items() if isinstance(fields, Mapping) else fields)
+    return _packed("redis_xadd_options", *_text(key), *_text(id), ctypes.byref(settings), *texts.joined(), *table)
+
+
+def xtrim(key: Text, *, maxlen: int | None = None, minid: Text | None = None, approximate: bool = False,
+          limit: int | None = None, references: str | None = None) -> Command:
+    """XTRIM by `maxlen` or by `minid`."""
+    texts = _Texts()
+    settings = _trimming(texts, maxlen, minid, approximate, limit, references)
+    return _packed("redis_xtrim_options", *_text(key), ctypes.byref(settings), *texts.joined())
+
+
+def xread(streams: Mapping[Text, Text], *, count: int | None = None, block: int | None = None) -> Command:
+    """XREAD of streams, each with the id behind which it is read; with `block` 0 it waits without end."""
+    texts = _Texts()
+    settings = _reading(count, block)
+    table = _fields(texts, streams.items())
+    return _packed("redis_xread_streams", ctypes.byref(settings), *texts.joined(), *table)
+
+
+def xreadgroup(group: Text, consumer: Text, streams: Mapping[Text, Text], *, count: int | None = None,
+               block: int | None = None, noack: bool = False, claim: int | None = None) -> Command:
+    """XREADGROUP of streams, each with an id: `>` for entries that no consumer was given yet.
+
+    `claim`, of Redis 8.4, takes over entries that are idle for so long. Its reply has four values an entry, and
+    `find_value` reads it, not `find_streams`.
+    """
+    texts = _Texts()
+    settings = _reading(count, block, noack, claim)
+    table = _fields(texts, streams.items())
+    return _packed("redis_xreadgroup_streams", ctypes.byref(settings), *_text(group), *_text(consumer), *texts.joined(),
+                   *table)
+
+
+def xack(key: Text, group: Text, ids: Ids) -> Command:
+    """XACK of one id or of several."""
+    texts = _Texts()
+    table = _ids(texts, ids)
+    return _packed("redis_xack_entries", *_text(key), *_text(group), *texts.joined(), *table)
+
+
+def xclaim(key: Text, group: Text, consumer: Text, min_idle: int, ids: Ids, *, idle: int | None = None,
+           time: int | None = None, retrycount: int | None = None, force: bool = False, justid: bool = False,
+           lastid: Text | None = None) -> Command:
+    """XCLAIM of ids that are idle for at least `min_idle`."""
+    texts = _Texts()
+    settings = c.ClaimSettings(force=force, justid=justid)
+    settings.idles, settings.idle = _given(idle)
+    settings.times, settings.time = _given(time)
+    settings.retries, settings.retry = _given(retrycount)
+    if lastid is not None:
+        settings.notes, settings.lastid = True, texts.add(lastid)
+    table = _ids(texts, ids)
+    return _packed("redis_xclaim_options", *_text(key), *_text(group), *_text(consumer), _number(min_idle),
+                   ctypes.byref(settings), *texts.joined(), *table)
+
+
+def xautoclaim(key: Text, group: Text, consumer: Text, min_idle: int, start: Text = b"0-0", *, count: int | None = None,
+               justid: bool = False) -> Command:
+    """XAUTOCLAIM from the id `start` on; with `justid`, `find_justid` reads the reply."""
+    settings = c.AutoclaimSettings(justid=justid)
+    settings.counts, settings.count = _given(count)
+    return _packed("redis_xautoclaim_options", *_text(key), *_text(group), *_text(consumer), _number(min_idle),
+                   *_text(start), ctypes.byref(settings))
+
+
+def xpending(key: Text, group: Text, count: int, start: Text = b"-", end: Text = b"+", *, idle: int | None = None,
+             consumer: Text | None = None) -> Command:
+    """XPENDING with a range: `find_value` reads the reply."""
+    settings = c.PendingSettings(names=consumer is not None)
+    settings.idles, settings.idle = _given(idle)
+    own = b"" if consumer is None else consumer
+    return _packed("redis_xpending_options", *_text(key), *_text(group), ctypes.byref(settings), *_text(start), *_text(end),
+                   _number(count), *_text(own))
+
+
+class _Texts:
+    """Texts one behind the other, each at a place."""
+
+    def __init__(self) -> None:
+        self.texts: list[bytes] = []
+        self.size = 0
+
+    def add(self, text: Text) -> c.Span:
+        own = _bytes(text)
+        span = c.Span(self.size, len(own))
+        self.texts.append(own)
+        self.size += len(own)
+        return span
+
+    def joined(self) -> tuple[bytes, int]:
+        return b"".join(self.texts), self.size
+
+
+def _bytes(text: Text) -> bytes:
+    return text.encode() if isinstance(text, str) else bytes(memoryview(text))
+
+
+def _text(text: Text) -> tuple[bytes, int]:
+    own = _bytes(text)
+    return own, len(own)
+
+
+def _number(number: int) -> int:
+    if not 0 <= number < 1 << 64:
+        raise BadSettings(f"{number} is no number from 0 to 2**64 - 1")
+    return number
+
+
+def _given(number: int | None) -> tuple[bool, int]:
+    """Whether an option is asked for, and its number."""
+    return (False, 0) if number is None else (True, _number(number))
+
+
+def _reading(count: int | None, block: int | None, noack: bool = False, claim: int | None = None) -> c.ReadSettings:
+    settings = c.ReadSettings(noack=noack)
+    settings.counts, settings.count = _given(count)
+    settings.blocks, settings.block = _given(block)
+    settings.claims, settings.claim = _given(claim)
+    return settings
+
+
+def _trimming(texts: _Texts, maxlen: int | None, minid: Text | None, approximate: bool, limit: int | None,
+              references: str | None) -> c.TrimSettings:
+    if references not in _REFERENCES:
+        raise BadSettings(f"references is KEEPREF, DELREF or ACKED, and not {references}")
+    if maxlen is not None and minid is not None:
+        raise BadSettings("maxlen and minid exclude one another")
+    settings = c.TrimSettings(about=approximate, references=_REFERENCES[references])
+    settings.limits, settings.limit = _given(limit)
+    if maxlen is not None:
+        settings.bound, settings.maxlen = 1, _number(maxlen)
+    elif minid is not None:
+        settings.bound, settings.minid = 2, texts.add(minid)
+    elif approximate or limit is not None:
+        raise BadSettings("approximate and limit want maxlen or minid beside them")
+    return settings
+
+
+def _fields(texts: _Texts, pairs: Iterable[tuple[Text, Text]]) -> tuple[Any, int]:
+    rows = [(texts.add(name), texts.add(value)) for name, value in pairs]
+    return (c.Field * max(len(rows), 1))(*rows), len(rows)
+
+
+def _ids(texts: _Texts, ids: Ids) -> tuple[Any, int]:
+    rows = [(texts.add(id),) for id in ([ids] if isinstance(ids, (bytes, str)) else ids)]
+    return (c.Entry * max(len(rows), 1))(*rows), len(rows)
+
+
+def _packed(name: str, *handed: Any) -> Command:
+    """The command that a call writes: it tells how much room it wants where that is too little."""
+    call: Callable[..., int] = getattr(c.library(), name)
+    room, length = 256, c.SIZE()
+    while True:
+        out = ctypes.create_string_buffer(room)
+        told = call(*handed, out, room, ctypes.byref(length))
+        if told == OK:
+            return Command(out.raw[: length.value])
+        if told != ROOM:
+            raise error_of(told)
+        room = length.value

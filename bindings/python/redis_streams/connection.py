@@ -1,0 +1,123 @@
+"""Replies as they come, from pieces of bytes or from a socket."""
+from __future__ import annotations
+
+import ctypes
+from typing import Any, Callable, Protocol
+
+from . import replies
+from .commands import Command, Text, pack
+from .errors import OK, SERVER_ERROR, OTHER, ConnectionClosed
+
+_PIECE = 65536
+_MOST = 1 << 24
+
+
+class SocketLike(Protocol):
+    """What a connection runs over: a socket, with TLS or without, or anything with these two."""
+
+    def recv(self, size: int, /) -> bytes: ...
+
+    def sendall(self, data: bytes, /) -> Any: ...
+
+
+class Decoder:
+    """Bytes that come in pieces, and the replies in them, one after the other.
+
+    Each reading returns the reply at the head of the bytes and takes it off, or returns None where it is not whole yet.
+    What it returns has a copy of its bytes, so it stays as it is. ServerError and OtherReply take their reply off, too; a
+    ProtocolError takes nothing off, so that it comes again. Each reading looks at the bytes from their head on: large
+    pieces are cheaper than small ones.
+    """
+
+    def __init__(self) -> None:
+        self._buffer = bytearray()
+        self._tables = replies.Tables()
+
+    def feed(self, data: bytes | bytearray | memoryview) -> None:
+        """Adds bytes that came."""
+        self._buffer += data
+
+    def __len__(self) -> int:
+        """How many bytes came that are not taken off."""
+        return len(self._buffer)
+
+    def streams(self) -> replies.Streams | None:
+        """The reply of XREAD or XREADGROUP."""
+        return self._next(replies.streams_of, replies.make_streams)
+
+    def range(self) -> replies.Entries | None:
+        """The reply of XRANGE, XREVRANGE or XCLAIM."""
+        return self._next(replies.range_of, replies.make_range)
+
+    def autoclaim(self) -> replies.Claimed | None:
+        """The reply of XAUTOCLAIM."""
+        return self._next(replies.autoclaim_of, replies.make_claimed)
+
+    def justid(self) -> replies.Claimed | None:
+        """The reply of XAUTOCLAIM with JUSTID."""
+        return self._next(replies.justid_of, replies.make_claimed)
+
+    def value(self) -> tuple[replies.Value] | None:
+        """Any reply, in a tuple of its own, since a reply may be None itself."""
+        return self._next(replies.nodes_of, lambda tables, reply: (replies.make_value(tables, reply),))
+
+    def _next(self, finding: replies.Finding, making: Callable[[replies.Tables, bytes], Any]) -> Any:
+        size = len(self._buffer)
+        if not size:
+            return None
+        tables = self._tables
+        told, length = finding(tables, (ctypes.c_char * size).from_buffer(self._buffer), size)
+        reply = bytes(self._buffer[:length]) if told in (OK, SERVER_ERROR, OTHER) else b""
+        del self._buffer[: len(reply)]
+        replies.tell(told, lambda: reply, tables.found.error)
+        return making(tables, reply) if told == OK else None
+
+
+class Connection:
+    """Commands and replies over a socket that is connected and logged in.
+
+    Each reading waits for a whole reply. Where the socket raises, such as after its timeout, a reply may be under way:
+    then the connection is to be closed, and another one made.
+    """
+
+    def __init__(self, socket: SocketLike) -> None:
+        self.socket = socket
+        self.decoder = Decoder()
+
+    def send(self, command: bytes) -> None:
+        self.socket.sendall(command)
+
+    def call(self, *words: Text | int) -> replies.Value:
+        """Sends a command of any words, and returns its reply."""
+        return self.value_of(pack(*words))
+
+    def value_of(self, command: Command) -> replies.Value:
+        """Sends a command, and returns its reply, whatever shape it has."""
+        self.send(command)
+        return self._wait(self.decoder.value)[0]
+
+    def streams_of(self, command: Command) -> replies.Streams:
+        """Sends an XREAD or XREADGROUP, and returns its reply."""
+        self.send(command)
+        return self._wait(self.decoder.streams)
+
+    def range_of(self, command: Command) -> replies.Entries:
+        """Sends an XRANGE, XREVRANGE or XCLAIM, and returns its reply."""
+        self.send(command)
+        return self._wait(self.decoder.range)
+
+    def claimed_of(self, command: Command, *, justid: bool = False) -> replies.Claimed:
+        """Sends an XAUTOCLAIM, and returns its reply."""
+        self.send(command)
+        return self._wait(self.decoder.justid if justid else self.decoder.autoclaim)
+
+    def _wait(self, reading: Callable[[], Any]) -> Any:
+        """What a reading finds, when it is whole. A reply that is long is asked for in larger pieces."""
+        while True:
+            found = reading()
+            if found is not None:
+                return found
+            piece = self.socket.recv(min(max(_PIECE, len(self.decoder)), _MOST))
+            if not piece:
+                raise ConnectionClosed("the server closed the connection")
+            self.decoder.feed(piece)

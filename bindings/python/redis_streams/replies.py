@@ -1,0 +1,325 @@
+"""Replies that are read where they stand: nothing is copied before it is asked for."""
+from __future__ import annotations
+
+import ctypes
+import struct
+from typing import Any, Callable, Iterator, NamedTuple, Sequence, Union
+
+from . import _library as c
+from .errors import INCOMPLETE, OK, OTHER, ROOM, SERVER_ERROR, OtherReply, ServerError, error_of
+
+_FIELD = struct.Struct("@NNNN")
+_ENTRY = struct.Struct("@NNNN??QQ")
+_STREAM = struct.Struct("@NNNN")
+# No stream of a reply has fewer bytes than this, no entry, no field.
+_LEAST = (10, 11, 12)
+_DIGITS = 4300  # Python makes no number of more; a longer one stays a text
+Table = Any  # an array of records of ctypes
+
+
+class Entry:
+    """An entry of a stream, in the bytes of its reply.
+
+    It yields its fields in their order, each a name and a value as memoryviews of the reply. `deleted` says that the
+    entry is deleted, so that it has no fields.
+    """
+
+    __slots__ = ("_bytes", "_fields", "_id", "_first", "_end", "deleted")
+
+    def __init__(self, reply: bytes, fields: memoryview, row: tuple[Any, ...]) -> None:
+        self._bytes, self._fields = reply, fields
+        start, size, self._first, self._end, self.deleted = row[:5]
+        self._id = (start, start + size)
+
+    @property
+    def id(self) -> bytes:
+        return self._bytes[slice(*self._id)]
+
+    def __iter__(self) -> Iterator[tuple[memoryview, memoryview]]:
+        whole = memoryview(self._bytes)
+        for name, name_len, value, value_len in _FIELD.iter_unpack(self._rows()):
+            yield whole[name : name + name_len], whole[value : value + value_len]
+
+    def items(self) -> list[tuple[bytes, bytes]]:
+        """The names and values as bytes, in their order; a name may stand there twice."""
+        whole = self._bytes
+        return [(whole[name : name + name_len], whole[value : value + value_len])
+                for name, name_len, value, value_len in _FIELD.iter_unpack(self._rows())]
+
+    def to_dict(self) -> dict[bytes, bytes]:
+        """The fields as a dict, in which the last of two fields of one name counts."""
+        return dict(self.items())
+
+    def get(self, name: bytes) -> memoryview | None:
+        """The value of the last field of this name."""
+        found = None
+        for own, value in self:
+            if own == name:
+                found = value
+        return found
+
+    def _rows(self) -> memoryview:
+        return self._fields[self._first * _FIELD.size : self._end * _FIELD.size]
+
+    def __repr__(self) -> str:
+        return f"Entry(id={self.id!r}, fields={self.items()!r}{', deleted' if self.deleted else ''})"
+
+
+class Entries(Sequence[Entry]):
+    """Entries of a reply, in its order."""
+
+    __slots__ = ("_bytes", "_rows", "_fields")
+
+    def __init__(self, reply: bytes, rows: memoryview, fields: memoryview) -> None:
+        self._bytes, self._rows, self._fields = reply, rows, fields
+
+    def __len__(self) -> int:
+        return len(self._rows) // _ENTRY.size
+
+    def __iter__(self) -> Iterator[Entry]:
+        reply, fields = self._bytes, self._fields
+        return (Entry(reply, fields, row) for row in _ENTRY.iter_unpack(self._rows))
+
+    def __getitem__(self, index: Any) -> Any:
+        if isinstance(index, slice):
+            return [self[at] for at in range(*index.indices(len(self)))]
+        at = range(len(self))[index]
+        return Entry(self._bytes, self._fields, _ENTRY.unpack_from(self._rows, at * _ENTRY.size))
+
+    def ids(self) -> list[bytes]:
+        """The ids of all of these entries."""
+        reply = self._bytes
+        return [reply[row[0] : row[0] + row[1]] for row in _ENTRY.iter_unpack(self._rows)]
+
+    def __repr__(self) -> str:
+        return f"Entries({list(self)!r})"
+
+
+class Stream(NamedTuple):
+    """A stream of a reply: its name, and its entries."""
+
+    name: bytes
+    entries: Entries
+
+
+class Streams(Sequence[Stream]):
+    """The reply of XREAD or XREADGROUP: its streams, in the order of the reply. None at all where it was nil."""
+
+    __slots__ = ("_bytes", "_streams", "_entries", "_fields")
+
+    def __init__(self, reply: bytes, streams: memoryview, entries: memoryview, fields: memoryview) -> None:
+        self._bytes, self._streams, self._entries, self._fields = reply, streams, entries, fields
+
+    def __len__(self) -> int:
+        return len(self._streams) // _STREAM.size
+
+    def __getitem__(self, index: Any) -> Any:
+        if isinstance(index, slice):
+            return [self[at] for at in range(*index.indices(len(self)))]
+        start, size, first, end = _STREAM.unpack_from(self._streams, range(len(self))[index] * _STREAM.size)
+        rows = self._entries[first * _ENTRY.size : end * _ENTRY.size]
+        return Stream(self._bytes[start : start + size], Entries(self._bytes, rows, self._fields))
+
+    @property
+    def entries(self) -> Entries:
+        """The entries of all streams."""
+        return Entries(self._bytes, self._entries, self._fields)
+
+    def __repr__(self) -> str:
+        return f"Streams({list(self)!r})"
+
+
+class Claimed(NamedTuple):
+    """The reply of XAUTOCLAIM: the id from which the next one goes on, 0-0 at the end; the entries that were claimed, of
+    which only the ids are there with JUSTID; and the ids that were pending and are no longer in the stream."""
+
+    next_id: bytes
+    entries: Entries
+    deleted_ids: list[bytes]
+
+
+Value = Union[None, bool, int, float, bytes, ServerError, "list[Value]", "dict[Any, Value]"]
+Reply = Union[Streams, Entries, Claimed, Value]
+Finding = Callable[["Tables", Any, int], "tuple[int, int] | None"]
+
+
+class Tables:
+    """Tables of places, and what the last call found: they grow to what a reply wants, and are made anew where a reply
+    took them."""
+
+    def __init__(self) -> None:
+        self.rooms = [8, 64, 512]
+        self.nodes_room = 64
+        self.tables: list[Table] | None = None
+        self.found, self.claim = c.Found(), c.Claim()
+
+    def room(self, most: int) -> list[Table]:
+        """Tables of streams, entries and fields, with no more rows than so many bytes can have."""
+        if self.tables is None:
+            rooms = [min(room, most // least + 1) for room, least in zip(self.rooms, _LEAST)]
+            self.tables = [(kind * room)() for kind, room in zip((c.Stream, c.Entry, c.Field), rooms)]
+        return self.tables
+
+    def take(self) -> list[memoryview]:
+        """The rows that were found, as bytes."""
+        assert self.tables is not None
+        counts = (self.found.streams, self.found.entries, self.found.fields)
+        rows = [memoryview(table).cast("B")[: count * ctypes.sizeof(table._type_)]
+                for table, count in zip(self.tables, counts)]
+        self.tables = None
+        return rows
+
+    def find(self, call: Callable[..., int], size: int) -> tuple[int, int]:
+        """What the library tells, and how many bytes the reply has; with tables as large as they have to be."""
+        while True:
+            told = call(self.room(size))
+            if told != ROOM:
+                return told, self.found.len
+            wanted = (self.found.streams, self.found.entries, self.found.fields)
+            self.rooms = [max(room, count) for room, count in zip(self.rooms, wanted)]
+            self.tables = [(kind * max(count, 1))() for kind, count in zip((c.Stream, c.Entry, c.Field), wanted)]
+
+
+def tell(told: int, reply: Callable[[], bytes], error: c.Span) -> None:
+    """Raises what the library tells, but that all is done or that the bytes end too early."""
+    if told == SERVER_ERROR:
+        raise ServerError(reply()[error.start : error.start + error.len])
+    if told == OTHER:
+        raise OtherReply(reply())
+    if told not in (OK, INCOMPLETE):
+        raise error_of(told)
+
+
+def streams_of(tables: Tables, address: Any, size: int) -> tuple[int, int]:
+    call, found = c.library().redis_find_streams, ctypes.byref(tables.found)
+    return tables.find(lambda t: call(address, size, t[0], len(t[0]), t[1], len(t[1]), t[2], len(t[2]), found), size)
+
+
+def range_of(tables: Tables, address: Any, size: int) -> tuple[int, int]:
+    call, found = c.library().redis_find_range, ctypes.byref(tables.found)
+    return tables.find(lambda t: call(address, size, t[1], len(t[1]), t[2], len(t[2]), found), size)
+
+
+def autoclaim_of(tables: Tables, address: Any, size: int) -> tuple[int, int]:
+    call, places = c.library().redis_find_autoclaim, (ctypes.byref(tables.claim), ctypes.byref(tables.found))
+    return tables.find(lambda t: call(address, size, t[1], len(t[1]), t[2], len(t[2]), *places), size)
+
+
+def justid_of(tables: Tables, address: Any, size: int) -> tuple[int, int]:
+    call, places = c.library().redis_find_justid, (ctypes.byref(tables.claim), ctypes.byref(tables.found))
+    return tables.find(lambda t: call(address, size, t[1], len(t[1]), *places), size)
+
+
+def make_streams(tables: Tables, reply: bytes) -> Streams:
+    return Streams(reply, *tables.take())
+
+
+def make_range(tables: Tables, reply: bytes) -> Entries:
+    return Entries(reply, *tables.take()[1:])
+
+
+def make_claimed(tables: Tables, reply: bytes) -> Claimed:
+    _, rows, fields = tables.take()
+    claim = tables.claim
+    cut = claim.claimed * _ENTRY.size
+    following = reply[claim.next.start : claim.next.start + claim.next.len]
+    return Claimed(following, Entries(reply, rows[:cut], fields), Entries(reply, rows[cut:], fields).ids())
+
+
+def nodes_of(tables: Tables, address: Any, size: int) -> tuple[int, int]:
+    call, length, count = c.library().redis_find_nodes, c.SIZE(), c.SIZE()
+    room = min(tables.nodes_room, size // 3 + 1)
+    while True:
+        tables.tables = [(c.Node * room)()]
+        told = call(address, size, tables.tables[0], room, ctypes.byref(length), ctypes.byref(count))
+        tables.found = c.Found(len=length.value, entries=count.value)
+        if told != ROOM:
+            return told, length.value
+        room = tables.nodes_room = max(count.value, 1)
+
+
+def make_value(tables: Tables, reply: bytes) -> Value:
+    nodes, tables.tables = tables.tables, None
+    assert nodes is not None
+    value, _ = _value_at(nodes[0], 0, reply)
+    if isinstance(value, ServerError):
+        raise value
+    return value
+
+
+def _value_at(nodes: Table, at: int, reply: bytes) -> tuple[Value, int]:
+    """The value of a node with its members, and the index of the node behind these."""
+    node = nodes[at]
+    kind, end = node.kind, node.end
+    text = reply[node.text.start : node.text.start + node.text.len]
+    if kind in b"*~>%|":
+        members: list[Value] = []
+        at += 1
+        while at < end:
+            member, at = _value_at(nodes, at, reply)
+            members.append(member)
+        return _group(kind, members), end
+    return _scalar(kind, text), end
+
+
+def _scalar(kind: int, text: bytes) -> Value:
+    if kind in b":(":
+        return int(text) if len(text) <= _DIGITS else text
+    if kind == ord(","):
+        return float(text)
+    if kind == ord("#"):
+        return text == b"t"
+    if kind == ord("_"):
+        return None
+    if kind in b"-!":
+        return ServerError(text)
+    return text[4:] if kind == ord("=") else text
+
+
+def _group(kind: int, members: list[Value]) -> Value:
+    if kind == ord("|"):
+        return members[-1]  # attributes say something of the value that stands behind them
+    if kind != ord("%"):
+        return members
+    pairs = list(zip(members[::2], members[1::2]))
+    try:
+        return dict(pairs)
+    except TypeError:
+        return [list(pair) for pair in pairs]
+
+
+def _find(finding: Finding, making: Callable[..., Any], data: bytes) -> Any:
+    """What stands at the head of bytes, and how many bytes it has: None where they end too early."""
+    data = bytes(data)
+    tables = Tables()
+    told, length = finding(tables, data, len(data))
+    tell(told, lambda: data[:length], tables.found.error)
+    return (making(tables, data), length) if told == OK else None
+
+
+def find_streams(data: bytes) -> tuple[Streams, int] | None:
+    """The streams of the reply of XREAD or XREADGROUP at the head of the bytes, and how many bytes it has.
+
+    None says that the bytes end before the reply does. Raises ServerError, OtherReply or a ProtocolError.
+    """
+    return _find(streams_of, make_streams, data)
+
+
+def find_range(data: bytes) -> tuple[Entries, int] | None:
+    """The same of the reply of XRANGE, XREVRANGE or XCLAIM."""
+    return _find(range_of, make_range, data)
+
+
+def find_autoclaim(data: bytes) -> tuple[Claimed, int] | None:
+    """The same of the reply of XAUTOCLAIM."""
+    return _find(autoclaim_of, make_claimed, data)
+
+
+def find_justid(data: bytes) -> tuple[Claimed, int] | None:
+    """The same of the reply of XAUTOCLAIM with JUSTID."""
+    return _find(justid_of, make_claimed, data)
+
+
+def find_value(data: bytes) -> tuple[Value, int] | None:
+    """The same of any reply: texts are bytes, and an error among the members of a group is a ServerError there."""
+    return _find(nodes_of, make_value, data)

@@ -1,0 +1,104 @@
+"""A consumer over a scripted socket."""
+from __future__ import annotations
+
+import unittest
+
+import redis_streams
+from redis_streams import Consumer, LeavePending, commands
+
+from .stored import bulk, entry, group
+
+NIL = b"*-1\r\n"
+DELETED = b"*2\r\n" + bulk(b"9-0") + b"*-1\r\n"
+
+
+def answer(*rows: bytes) -> bytes:
+    return group(group(bulk(b"orders"), group(*rows)))
+
+
+def row(number: int) -> bytes:
+    return entry(b"%d-0" % number, b"item", b"tea")
+
+
+class Scripted:
+    """A socket that answers each command by the next reply, a few bytes at a time, and keeps what was sent."""
+
+    def __init__(self, *replies: bytes) -> None:
+        self.replies, self.left = list(replies), b""
+        self.sent: list[str] = []
+
+    def sendall(self, data: bytes) -> None:
+        self.sent.append(" ".join(word.decode() for word in redis_streams.Command(data).arguments))
+        self.left += self.replies.pop(0) if self.replies else b""
+
+    def recv(self, size: int) -> bytes:
+        piece, self.left = self.left[: min(size, 5)], self.left[min(size, 5) :]
+        return piece
+
+
+def consumer(socket: Scripted) -> Consumer:
+    return Consumer(socket, "orders", "g", "ann", count=2, block=9)
+
+
+PENDING = "XREADGROUP GROUP g ann COUNT 2 STREAMS orders "
+NEW = "XREADGROUP GROUP g ann BLOCK 9 COUNT 2 STREAMS orders >"
+
+
+class ConsumerTest(unittest.TestCase):
+    def test_until_empty(self) -> None:
+        socket = Scripted(answer(row(1), DELETED), b":2\r\n", answer(), answer(row(10), row(11)), b":2\r\n", NIL)
+        seen: list[bytes] = []
+        self.assertEqual(consumer(socket).run(lambda it: seen.append(it.id), until_empty=True), 3)
+        self.assertEqual(seen, [b"1-0", b"10-0", b"11-0"])
+        self.assertEqual(socket.sent, [PENDING + "0-0", "XACK orders g 1-0 9-0", PENDING + "9-0", NEW,
+                                       "XACK orders g 10-0 11-0", NEW])
+
+    def test_what_a_handler_raises(self) -> None:
+        socket = Scripted(answer(), answer(row(1), row(2)), b":1\r\n")
+
+        def handler(it: redis_streams.Entry) -> None:
+            self.assertEqual(len([sent for sent in socket.sent if sent.startswith("XACK")]), 0)
+            if it.id == b"2-0":
+                raise KeyError("no such item")
+
+        with self.assertRaises(KeyError):
+            consumer(socket).run(handler)
+        self.assertEqual(socket.sent[-1], "XACK orders g 1-0")
+
+    def test_what_is_left_pending(self) -> None:
+        socket = Scripted(answer(row(1)), answer(), answer(row(2), row(3)), b":1\r\n", NIL)
+
+        def handler(it: redis_streams.Entry) -> None:
+            if it.id != b"3-0":
+                raise LeavePending
+
+        self.assertEqual(consumer(socket).run(handler, until_empty=True), 1)
+        self.assertEqual([sent for sent in socket.sent if sent.startswith("XACK")], ["XACK orders g 3-0"])
+
+    def test_stop(self) -> None:
+        socket = Scripted(answer(), answer(row(1), row(2)), b":2\r\n")
+        mine = consumer(socket)
+        self.assertEqual(mine.run(lambda it: mine.stop()), 2)
+        self.assertEqual(socket.sent[-1], "XACK orders g 1-0 2-0")
+
+    def test_what_ends_a_run(self) -> None:
+        for replies, kind in (((b"-NOGROUP no such group\r\n",), redis_streams.ServerError),
+                              ((b"*1\r\n",), redis_streams.ConnectionClosed), ((b"?",), redis_streams.ProtocolError),
+                              ((b"+OK\r\n",), redis_streams.OtherReply), ((answer(row(1)), b"+OK\r\n"), redis_streams.Error)):
+            with self.assertRaises(kind):
+                consumer(Scripted(*replies)).run(lambda it: None)
+
+    def test_connection(self) -> None:
+        socket = Scripted(b"+PONG\r\n", group(row(1)), group(bulk(b"0-0"), group(row(1)), group(bulk(b"2-0"))),
+                          group(bulk(b"3-0"), group(bulk(b"1-0")), group()))
+        connection = redis_streams.Connection(socket)
+        self.assertEqual(connection.call("PING"), b"PONG")
+        self.assertEqual(connection.range_of(commands.xclaim("orders", "g", "ann", 0, "1-0"))[0].get(b"item"), b"tea")
+        claimed = connection.claimed_of(commands.xautoclaim("orders", "g", "ann", 0))
+        self.assertEqual((claimed.next_id, claimed.entries.ids(), claimed.deleted_ids), (b"0-0", [b"1-0"], [b"2-0"]))
+        claimed = connection.claimed_of(commands.xautoclaim("orders", "g", "ann", 0, justid=True), justid=True)
+        self.assertEqual((claimed.next_id, claimed.entries.ids(), claimed.deleted_ids), (b"3-0", [b"1-0"], []))
+
+
+if __name__ == "__main__":
+    unittest.main()

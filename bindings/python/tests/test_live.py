@@ -1,0 +1,85 @@
+"""A consumer over a connection to redis-server, where that is installed, in RESP2 and RESP3."""
+from __future__ import annotations
+
+import os
+import shutil
+import socket
+import subprocess
+import tempfile
+import time
+import unittest
+
+from redis_streams import Connection, Consumer, Entry, ServerError, commands
+
+
+@unittest.skipUnless(shutil.which("redis-server"), "redis-server is not installed")
+class LiveTest(unittest.TestCase):
+    @classmethod
+    def setUpClass(cls) -> None:
+        cls.folder = tempfile.TemporaryDirectory()
+        cls.path = os.path.join(cls.folder.name, "socket")
+        cls.server = subprocess.Popen(
+            ["redis-server", "--port", "0", "--unixsocket", cls.path, "--save", "", "--dir", cls.folder.name],
+            stdout=subprocess.DEVNULL)
+        until = time.monotonic() + 60
+        while not os.path.exists(cls.path) and time.monotonic() < until:
+            time.sleep(0.05)
+
+    @classmethod
+    def tearDownClass(cls) -> None:
+        cls.server.terminate()
+        cls.server.wait()
+        cls.folder.cleanup()
+
+    def connected(self, protocol: int) -> Connection:
+        connected = socket.socket(socket.AF_UNIX)
+        connected.settimeout(60)
+        connected.connect(self.path)
+        self.addCleanup(connected.close)
+        connection = Connection(connected)
+        connection.call("HELLO", protocol)
+        return connection
+
+    def test_at_least_once(self) -> None:
+        for protocol in (2, 3):
+            with self.subTest(protocol=protocol):
+                self.consume(self.connected(protocol), f"orders{protocol}")
+
+    def consume(self, connection: Connection, key: str) -> None:
+        self.assertEqual(connection.call("XGROUP", "CREATE", key, "g", "0", "MKSTREAM"), b"OK")
+        value = bytes(range(256)) * 300
+        ids = [connection.value_of(commands.xadd(key, {"number": str(at), "value": value})) for at in range(500)]
+        seen: list[bytes] = []
+
+        def handler(entry: Entry) -> None:
+            if entry.get(b"number") == b"250" and len(seen) == 250:
+                raise InterruptedError
+            self.assertEqual(entry.items(), [(b"number", b"%d" % len(seen)), (b"value", value)])
+            seen.append(entry.id)
+
+        consumer = Consumer(connection, key, "g", "ann", count=100, block=1)
+        with self.assertRaises(InterruptedError):
+            consumer.run(handler)
+        pending = connection.value_of(commands.xpending(key, "g", 1000))
+        assert isinstance(pending, list)
+        self.assertEqual([row[0] for row in pending], ids[250:300])
+        claimed = connection.claimed_of(commands.xautoclaim(key, "g", "bob", 0, count=10))
+        self.assertEqual(claimed.entries.ids(), ids[250:260])
+        mine = connection.range_of(commands.xclaim(key, "g", "ann", 0, claimed.entries.ids()))
+        self.assertEqual(mine.ids(), ids[250:260])
+        connection.call("XDEL", key, str(ids[499], "ascii"))
+
+        def rest(entry: Entry) -> None:
+            seen.append(entry.id)
+
+        self.assertEqual(consumer.run(rest, until_empty=True), 249)
+        self.assertEqual(seen, ids[:499])
+        self.assertEqual(connection.value_of(commands.xpending(key, "g", 1000)), [])
+        with self.assertRaises(ServerError) as raised:
+            Consumer(connection, key, "other", "ann").read_new()
+        self.assertEqual(raised.exception.code, "NOGROUP")
+        self.assertEqual(connection.call("PING"), b"PONG")
+
+
+if __name__ == "__main__":
+    unittest.main()
