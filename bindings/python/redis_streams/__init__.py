@@ -10,13 +10,13 @@ from .connection import Connection, Decoder, SocketLike
 from .consumer import Consumer, LeavePending
 from .errors import (ArgumentTooLarge, BadSettings, ConnectionClosed, Error, LibraryNotFound, NothingGiven, OtherReply,
                      OutOfMemory, ProtocolError, ServerError)
-from .replies import (Claimed, Entries, Entry, Stream, Streams, Value, find_autoclaim, find_justid, find_range,
-                      find_streams, find_value)
+from .replies import (Claimed, ClaimedIds, Entries, Entry, Stream, Streams, Value, find_autoclaim, find_justid,
+                      find_range, find_streams, find_value)
 
 __all__ = [
-    "ArgumentTooLarge", "BadSettings", "Claimed", "Command", "Connection", "ConnectionClosed", "Consumer", "Decoder",
-    "Entries", "Entry", "Error", "LeavePending", "LibraryNotFound", "NothingGiven", "OtherReply", "OutOfMemory",
-    "ProtocolError", "ServerError", "SocketLike", "Stream", "Streams", "Value", "commands", "errors", "find_autoclaim",
-    "find_justid", "find_range", "find_streams", "find_value", "pack",
+    "ArgumentTooLarge", "BadSettings", "Claimed", "ClaimedIds", "Command", "Connection", "ConnectionClosed", "Consumer",
+    "Decoder", "Entries", "Entry", "Error", "LeavePending", "LibraryNotFound", "NothingGiven", "OtherReply",
+    "OutOfMemory", "ProtocolError", "ServerError", "SocketLike", "Stream", "Streams", "Value", "commands", "errors",
+    "find_autoclaim", "find_justid", "find_range", "find_streams", "find_value", "pack",
 ]
 __version__ = "1.0.0"

@@ -53,9 +53,9 @@ class Decoder:
         """The reply of XAUTOCLAIM."""
         return self._next(replies.autoclaim_of, replies.make_claimed)
 
-    def justid(self) -> replies.Claimed | None:
+    def justid(self) -> replies.ClaimedIds | None:
         """The reply of XAUTOCLAIM with JUSTID."""
-        return self._next(replies.justid_of, replies.make_claimed)
+        return self._next(replies.justid_of, replies.make_claimed_ids)
 
     def value(self) -> tuple[replies.Value] | None:
         """Any reply, in a tuple of its own, since a reply may be None itself."""
@@ -106,10 +106,15 @@ class Connection:
         self.send(command)
         return self._wait(self.decoder.range)
 
-    def claimed_of(self, command: Command, *, justid: bool = False) -> replies.Claimed:
+    def claimed_of(self, command: Command) -> replies.Claimed:
         """Sends an XAUTOCLAIM, and returns its reply."""
         self.send(command)
-        return self._wait(self.decoder.justid if justid else self.decoder.autoclaim)
+        return self._wait(self.decoder.autoclaim)
+
+    def claimed_ids_of(self, command: Command) -> replies.ClaimedIds:
+        """Sends an XAUTOCLAIM with JUSTID, and returns its reply."""
+        self.send(command)
+        return self._wait(self.decoder.justid)
 
     def _wait(self, reading: Callable[[], Any]) -> Any:
         """What a reading finds, when it is whole. A reply that is long is asked for in larger pieces."""

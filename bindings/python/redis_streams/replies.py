@@ -130,16 +130,23 @@ class Streams(Sequence[Stream]):
 
 
 class Claimed(NamedTuple):
-    """The reply of XAUTOCLAIM: the id from which the next one goes on, 0-0 at the end; the entries that were claimed, of
-    which only the ids are there with JUSTID; and the ids that were pending and are no longer in the stream."""
+    """The reply of XAUTOCLAIM: the id from which the next one goes on, 0-0 at the end; the entries that were claimed; and
+    the ids that were pending and are no longer in the stream."""
 
     next_id: bytes
     entries: Entries
     deleted_ids: list[bytes]
 
 
+class ClaimedIds(NamedTuple):
+    """The same with JUSTID, of which only the ids of the entries are there."""
+
+    next_id: bytes
+    ids: list[bytes]
+    deleted_ids: list[bytes]
+
+
 Value = Union[None, bool, int, float, bytes, ServerError, "list[Value]", "dict[Any, Value]"]
-Reply = Union[Streams, Entries, Claimed, Value]
 Finding = Callable[["Tables", Any, int], "tuple[int, int] | None"]
 
 
@@ -224,6 +231,11 @@ def make_claimed(tables: Tables, reply: bytes) -> Claimed:
     cut = claim.claimed * _ENTRY.size
     following = reply[claim.next.start : claim.next.start + claim.next.len]
     return Claimed(following, Entries(reply, rows[:cut], fields), Entries(reply, rows[cut:], fields).ids())
+
+
+def make_claimed_ids(tables: Tables, reply: bytes) -> ClaimedIds:
+    following, entries, deleted = make_claimed(tables, reply)
+    return ClaimedIds(following, entries.ids(), deleted)
 
 
 def nodes_of(tables: Tables, address: Any, size: int) -> tuple[int, int]:
@@ -315,9 +327,9 @@ def find_autoclaim(data: bytes) -> tuple[Claimed, int] | None:
     return _find(autoclaim_of, make_claimed, data)
 
 
-def find_justid(data: bytes) -> tuple[Claimed, int] | None:
+def find_justid(data: bytes) -> tuple[ClaimedIds, int] | None:
     """The same of the reply of XAUTOCLAIM with JUSTID."""
-    return _find(justid_of, make_claimed, data)
+    return _find(justid_of, make_claimed_ids, data)
 
 
 def find_value(data: bytes) -> tuple[Value, int] | None:

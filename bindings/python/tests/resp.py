@@ -216,7 +216,7 @@ class Shapes(Reader):
         size = self.head(b"*")
         shaped(size in (2, 3))
         following = self.name()
-        claimed = [(own, None) for own in self.ids()] if justid else self.entries()
+        claimed = self.ids() if justid else self.entries()
         return following, claimed, self.ids() if size == 3 else []
 
 

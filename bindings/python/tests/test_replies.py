@@ -30,7 +30,7 @@ def plain(kind: str, found: Any) -> Any:
         return [(stream.name, entries(stream.entries)) for stream in found]
     if kind == "range":
         return entries(found)
-    claimed = [(own, None) for own in found.entries.ids()] if kind == "justid" else entries(found.entries)
+    claimed = found.ids if kind == "justid" else entries(found.entries)
     return found.next_id, claimed, found.deleted_ids
 
 

@@ -1,0 +1,345 @@
+//! The calls of the C library, as safe functions: the one module with `unsafe`.
+//!
+//! The header asks three things of a caller. Each block below rests on the same reasons, so they are given here once
+//! and named there:
+//!
+//! - *Slices*: each pointer is that of a slice, or of a reference, and the number after it is the slice's length. A
+//!   pointer of a slice is never null, also if the slice is empty.
+//! - *Apart*: what a call writes is borrowed by `&mut`, so it overlaps nothing else that the call has, and nobody else
+//!   writes during the call.
+//! - *Valid*: each record is `repr(C)` with the header's fields. In tables that the library writes a `bool` is a `u8`
+//!   here, so any bytes are a valid record.
+
+#[repr(C)]
+#[derive(Clone, Copy, Debug, Default)]
+pub struct Span {
+    pub start: usize,
+    pub len: usize,
+}
+
+#[repr(C)]
+#[derive(Clone, Copy, Debug, Default)]
+pub struct Field {
+    pub name: Span,
+    pub value: Span,
+}
+
+#[repr(C)]
+#[derive(Clone, Copy, Debug, Default)]
+pub struct Entry {
+    pub id: Span,
+    pub from: usize,
+    pub to: usize,
+    pub deleted: u8,
+    pub delivered: u8,
+    pub elapsed: u64,
+    pub count: u64,
+}
+
+#[repr(C)]
+#[derive(Clone, Copy, Debug, Default)]
+pub struct Stream {
+    pub name: Span,
+    pub from: usize,
+    pub to: usize,
+}
+
+#[repr(C)]
+#[derive(Clone, Copy, Debug, Default)]
+pub struct Found {
+    pub len: usize,
+    pub streams: usize,
+    pub entries: usize,
+    pub fields: usize,
+    pub error: Span,
+}
+
+#[repr(C)]
+#[derive(Clone, Copy, Debug, Default)]
+pub struct Claim {
+    pub next: Span,
+    pub claimed: usize,
+    pub len: usize,
+}
+
+#[repr(C)]
+#[derive(Clone, Copy, Debug, Default)]
+pub struct Node {
+    pub kind: u8,
+    pub text: Span,
+    pub members: u64,
+    pub end: usize,
+}
+
+#[repr(C)]
+#[derive(Clone, Debug, Default)]
+pub struct ReadSettings {
+    pub counts: bool,
+    pub blocks: bool,
+    pub noack: bool,
+    pub claims: bool,
+    pub count: usize,
+    pub block: usize,
+    pub claim: usize,
+}
+
+#[repr(C)]
+#[derive(Clone, Debug, Default)]
+pub struct TrimSettings {
+    pub bound: u32,
+    pub references: u32,
+    pub about: bool,
+    pub limits: bool,
+    pub maxlen: usize,
+    pub minid: Span,
+    pub limit: usize,
+}
+
+#[repr(C)]
+#[derive(Clone, Debug, Default)]
+pub struct AddSettings {
+    pub nomkstream: bool,
+    pub recognizes: u32,
+    pub producer: Span,
+    pub item: Span,
+    pub trim: TrimSettings,
+}
+
+#[repr(C)]
+#[derive(Clone, Debug, Default)]
+pub struct ClaimSettings {
+    pub idles: bool,
+    pub times: bool,
+    pub retries: bool,
+    pub force: bool,
+    pub justid: bool,
+    pub notes: bool,
+    pub idle: usize,
+    pub time: usize,
+    pub retry: usize,
+    pub lastid: Span,
+}
+
+#[repr(C)]
+#[derive(Clone, Debug, Default)]
+pub struct AutoclaimSettings {
+    pub counts: bool,
+    pub justid: bool,
+    pub count: usize,
+}
+
+#[repr(C)]
+#[derive(Clone, Debug, Default)]
+pub struct PendingSettings {
+    pub idles: bool,
+    pub names: bool,
+    pub idle: usize,
+}
+
+#[rustfmt::skip]
+extern "C" {
+    fn redis_find_streams(
+        bytes: *const u8, len: usize, streams: *mut Stream, stream_room: usize, entries: *mut Entry, entry_room: usize,
+        fields: *mut Field, field_room: usize, found: *mut Found,
+    ) -> u32;
+    fn redis_find_range(
+        bytes: *const u8, len: usize, entries: *mut Entry, entry_room: usize, fields: *mut Field, field_room: usize,
+        found: *mut Found,
+    ) -> u32;
+    fn redis_find_autoclaim(
+        bytes: *const u8, len: usize, entries: *mut Entry, entry_room: usize, fields: *mut Field, field_room: usize,
+        claim: *mut Claim, found: *mut Found,
+    ) -> u32;
+    fn redis_find_justid(
+        bytes: *const u8, len: usize, entries: *mut Entry, entry_room: usize, claim: *mut Claim, found: *mut Found,
+    ) -> u32;
+    fn redis_find_nodes(
+        bytes: *const u8, len: usize, nodes: *mut Node, node_room: usize, reply_len: *mut usize, count: *mut usize,
+    ) -> u32;
+    fn redis_xadd_options(
+        key: *const u8, key_len: usize, id: *const u8, id_len: usize, settings: *const AddSettings, bytes: *const u8,
+        bytes_len: usize, fields: *const Field, field_count: usize, out: *mut u8, room: usize, len: *mut usize,
+    ) -> u32;
+    fn redis_xtrim_options(
+        key: *const u8, key_len: usize, settings: *const TrimSettings, bytes: *const u8, bytes_len: usize, out: *mut u8,
+        room: usize, len: *mut usize,
+    ) -> u32;
+    fn redis_xack_entries(
+        key: *const u8, key_len: usize, group: *const u8, group_len: usize, bytes: *const u8, bytes_len: usize,
+        entries: *const Entry, entry_count: usize, out: *mut u8, room: usize, len: *mut usize,
+    ) -> u32;
+    fn redis_xclaim_options(
+        key: *const u8, key_len: usize, group: *const u8, group_len: usize, consumer: *const u8, consumer_len: usize,
+        min_idle: usize, settings: *const ClaimSettings, bytes: *const u8, bytes_len: usize, entries: *const Entry,
+        entry_count: usize, out: *mut u8, room: usize, len: *mut usize,
+    ) -> u32;
+    fn redis_xautoclaim_options(
+        key: *const u8, key_len: usize, group: *const u8, group_len: usize, consumer: *const u8, consumer_len: usize,
+        min_idle: usize, start: *const u8, start_len: usize, settings: *const AutoclaimSettings, out: *mut u8,
+        room: usize, len: *mut usize,
+    ) -> u32;
+    fn redis_xread_streams(
+        settings: *const ReadSettings, bytes: *const u8, bytes_len: usize, streams: *const Field, stream_count: usize,
+        out: *mut u8, room: usize, len: *mut usize,
+    ) -> u32;
+    fn redis_xreadgroup_streams(
+        settings: *const ReadSettings, group: *const u8, group_len: usize, consumer: *const u8, consumer_len: usize,
+        bytes: *const u8, bytes_len: usize, streams: *const Field, stream_count: usize, out: *mut u8, room: usize,
+        len: *mut usize,
+    ) -> u32;
+    fn redis_xpending_options(
+        key: *const u8, key_len: usize, group: *const u8, group_len: usize, settings: *const PendingSettings,
+        start: *const u8, start_len: usize, end: *const u8, end_len: usize, count: usize, consumer: *const u8,
+        consumer_len: usize, out: *mut u8, room: usize, len: *mut usize,
+    ) -> u32;
+}
+
+pub fn find_streams(
+    bytes: &[u8],
+    streams: &mut [Stream],
+    entries: &mut [Entry],
+    fields: &mut [Field],
+    found: &mut Found,
+) -> u32 {
+    let (s, e, f) = (streams.len(), entries.len(), fields.len());
+    let (streams, entries, fields) = (streams.as_mut_ptr(), entries.as_mut_ptr(), fields.as_mut_ptr());
+    // SAFETY: slices, apart, valid.
+    unsafe { redis_find_streams(bytes.as_ptr(), bytes.len(), streams, s, entries, e, fields, f, found) }
+}
+
+pub fn find_range(bytes: &[u8], entries: &mut [Entry], fields: &mut [Field], found: &mut Found) -> u32 {
+    let (e, f) = (entries.len(), fields.len());
+    let (entries, fields) = (entries.as_mut_ptr(), fields.as_mut_ptr());
+    // SAFETY: slices, apart, valid.
+    unsafe { redis_find_range(bytes.as_ptr(), bytes.len(), entries, e, fields, f, found) }
+}
+
+pub fn find_autoclaim(
+    bytes: &[u8],
+    entries: &mut [Entry],
+    fields: &mut [Field],
+    claim: &mut Claim,
+    found: &mut Found,
+) -> u32 {
+    let (e, f) = (entries.len(), fields.len());
+    let (entries, fields) = (entries.as_mut_ptr(), fields.as_mut_ptr());
+    // SAFETY: slices, apart, valid.
+    unsafe { redis_find_autoclaim(bytes.as_ptr(), bytes.len(), entries, e, fields, f, claim, found) }
+}
+
+pub fn find_justid(bytes: &[u8], entries: &mut [Entry], claim: &mut Claim, found: &mut Found) -> u32 {
+    // SAFETY: slices, apart, valid.
+    unsafe { redis_find_justid(bytes.as_ptr(), bytes.len(), entries.as_mut_ptr(), entries.len(), claim, found) }
+}
+
+pub fn find_nodes(bytes: &[u8], nodes: &mut [Node], len: &mut usize, count: &mut usize) -> u32 {
+    // SAFETY: slices, apart, valid.
+    unsafe { redis_find_nodes(bytes.as_ptr(), bytes.len(), nodes.as_mut_ptr(), nodes.len(), len, count) }
+}
+
+#[rustfmt::skip]
+pub fn xadd(
+    key: &[u8], id: &[u8], settings: &AddSettings, bytes: &[u8], fields: &[Field], out: &mut [u8], len: &mut usize,
+) -> u32 {
+    // SAFETY: slices, apart, valid.
+    unsafe {
+        redis_xadd_options(
+            key.as_ptr(), key.len(), id.as_ptr(), id.len(), settings, bytes.as_ptr(), bytes.len(), fields.as_ptr(),
+            fields.len(), out.as_mut_ptr(), out.len(), len,
+        )
+    }
+}
+
+pub fn xtrim(key: &[u8], settings: &TrimSettings, bytes: &[u8], out: &mut [u8], len: &mut usize) -> u32 {
+    let (room, out) = (out.len(), out.as_mut_ptr());
+    // SAFETY: slices, apart, valid.
+    unsafe { redis_xtrim_options(key.as_ptr(), key.len(), settings, bytes.as_ptr(), bytes.len(), out, room, len) }
+}
+
+#[rustfmt::skip]
+pub fn xack(key: &[u8], group: &[u8], bytes: &[u8], entries: &[Entry], out: &mut [u8], len: &mut usize) -> u32 {
+    // SAFETY: slices, apart, valid.
+    unsafe {
+        redis_xack_entries(
+            key.as_ptr(), key.len(), group.as_ptr(), group.len(), bytes.as_ptr(), bytes.len(), entries.as_ptr(),
+            entries.len(), out.as_mut_ptr(), out.len(), len,
+        )
+    }
+}
+
+/// Whose entries are claimed, and by whom.
+pub struct Claimer<'a> {
+    pub key: &'a [u8],
+    pub group: &'a [u8],
+    pub consumer: &'a [u8],
+    pub min_idle: usize,
+}
+
+#[rustfmt::skip]
+pub fn xclaim(
+    by: &Claimer<'_>, settings: &ClaimSettings, bytes: &[u8], entries: &[Entry], out: &mut [u8], len: &mut usize,
+) -> u32 {
+    // SAFETY: slices, apart, valid.
+    unsafe {
+        redis_xclaim_options(
+            by.key.as_ptr(), by.key.len(), by.group.as_ptr(), by.group.len(), by.consumer.as_ptr(), by.consumer.len(),
+            by.min_idle, settings, bytes.as_ptr(), bytes.len(), entries.as_ptr(), entries.len(), out.as_mut_ptr(),
+            out.len(), len,
+        )
+    }
+}
+
+#[rustfmt::skip]
+pub fn xautoclaim(
+    by: &Claimer<'_>, start: &[u8], settings: &AutoclaimSettings, out: &mut [u8], len: &mut usize,
+) -> u32 {
+    // SAFETY: slices, apart, valid.
+    unsafe {
+        redis_xautoclaim_options(
+            by.key.as_ptr(), by.key.len(), by.group.as_ptr(), by.group.len(), by.consumer.as_ptr(), by.consumer.len(),
+            by.min_idle, start.as_ptr(), start.len(), settings, out.as_mut_ptr(), out.len(), len,
+        )
+    }
+}
+
+pub fn xread(settings: &ReadSettings, bytes: &[u8], streams: &[Field], out: &mut [u8], len: &mut usize) -> u32 {
+    let (count, streams, room, out) = (streams.len(), streams.as_ptr(), out.len(), out.as_mut_ptr());
+    // SAFETY: slices, apart, valid.
+    unsafe { redis_xread_streams(settings, bytes.as_ptr(), bytes.len(), streams, count, out, room, len) }
+}
+
+#[rustfmt::skip]
+pub fn xreadgroup(
+    settings: &ReadSettings, group: &[u8], consumer: &[u8], bytes: &[u8], streams: &[Field], out: &mut [u8],
+    len: &mut usize,
+) -> u32 {
+    // SAFETY: slices, apart, valid.
+    unsafe {
+        redis_xreadgroup_streams(
+            settings, group.as_ptr(), group.len(), consumer.as_ptr(), consumer.len(), bytes.as_ptr(), bytes.len(),
+            streams.as_ptr(), streams.len(), out.as_mut_ptr(), out.len(), len,
+        )
+    }
+}
+
+/// Which entries are pending, for whom.
+pub struct Pending<'a> {
+    pub key: &'a [u8],
+    pub group: &'a [u8],
+    pub start: &'a [u8],
+    pub end: &'a [u8],
+    pub count: usize,
+    pub consumer: &'a [u8],
+}
+
+#[rustfmt::skip]
+pub fn xpending(of: &Pending<'_>, settings: &PendingSettings, out: &mut [u8], len: &mut usize) -> u32 {
+    // SAFETY: slices, apart, valid.
+    unsafe {
+        redis_xpending_options(
+            of.key.as_ptr(), of.key.len(), of.group.as_ptr(), of.group.len(), settings, of.start.as_ptr(),
+            of.start.len(), of.end.as_ptr(), of.end.len(), of.count, of.consumer.as_ptr(), of.consumer.len(),
+            out.as_mut_ptr(), out.len(), len,
+        )
+    }
+}
