@@ -152,6 +152,7 @@ fn error_text(alloc: Global, error: &WorkerError) -> Result<String, AllocError> 
     match error {
         WorkerError::Memory => Err(AllocError),
         WorkerError::Server(_) => format!(in alloc; "Server: {error}"),
+        WorkerError::GroupIsGone(_) => format!(in alloc; "GroupIsGone: {error}"),
         error => format!(in alloc; "{error:?}: {error}"),
     }
 }

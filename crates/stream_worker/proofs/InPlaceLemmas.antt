@@ -1,6 +1,7 @@
 -- From what stands in bytes to what a worker did with it.
 use Rattle.std.proofs.Common.{◌≡◌, ◌≢◌, refl, sym, ap, ◌∙◌, ℕ, Bool, List, take, drop, Option, Some, None}
-use Rattle.std.proofs.Common.{option_map, string_bytes, Result, Ok, Err, inl, subst}
+use Rattle.std.proofs.Common.{string_bytes, Result, Ok, Err, inl, subst}
+use Rattle.std.specs.Prelude.{true, if◌then◌else◌}
 use Rattle.std.specs.Result.{IsErrAnd}
 use Rattle.std.proofs.lemmas.List.{take-append-drop}
 use Rattle.redis_resp.specs.Table.{Fields}
@@ -13,10 +14,11 @@ use Rattle.redis_wire.specs.declared.fault.WireError.TheVariants as wire_errors
 use Rattle.redis_wire.specs.declared.limits.Limits.{Limits}
 use Rattle.stream_entries.specs.Entry.{Entry}
 use Rattle.stream_entries.specs.Read.{Streams, read_reading}
-use Rattle.stream_group.specs.Worker.{Answer, Machine, Verdict, begins_again}
+use Rattle.stream_group.specs.Worker.{Machine, Verdict, begins_again}
 use Rattle.stream_worker.specs.Answered.{Failed, Went}
-use Rattle.stream_worker.specs.Answers.{told, group_after, hears, entries_read, only_stream}
+use Rattle.stream_worker.specs.Answers.{by_value, group_after, entries_read, only_stream, shows_group}
 use Rattle.stream_worker.specs.InPlace.{FailedInPlace, Heads, TakenByValue, TakenInPlace, WentInPlace}
+use Rattle.stream_worker.specs.Parts.{reads_own}
 use Rattle.stream_worker.specs.Session.{Standing}
 use Rattle.stream_worker.specs.declared.error.InPlaceError.{InPlaceError}
 use Rattle.stream_worker.specs.declared.error.InPlaceError.TheVariants as causes
@@ -25,6 +27,7 @@ use Rattle.stream_worker.specs.declared.error.WorkerError.TheVariants as worker
 use Rattle.stream_worker.specs.declared.state.Asked.{Asked}
 use Rattle.stream_worker.specs.declared.state.Asked.TheVariants as asked
 use Rattle.stream_worker.specs.declared.state.Asked.TheVariants.{Nothing}
+use Rattle.stream_worker.specs.declared.state.GroupState.TheVariants.{Known}
 use Rattle.stream_worker.specs.declared.state.Settings.{Settings}
 use Rattle.stream_worker.specs.declared.worker.Progress.{Progress}
 
@@ -32,12 +35,6 @@ use Rattle.stream_worker.specs.declared.worker.Progress.{Progress}
 pub streams_say : (key : List ℕ) (t : Tree) (ss : Streams) (o : Option (List Entry)) → read_reading t ≡ Some ss
     → o ≡ only_stream key ss → entries_read key t ≡ o
 streams_say key t ss o reads is = rw reads (sym is)
-
--- entries say nothing of a group
-pub still_missing : {A : Type 0} (f : A → Answer (Fields Tree)) (o : Option A) (missing : Bool)
-    → group_after missing (option_map (λ x. told (f x)) o) ≡ missing
-still_missing f None missing = refl
-still_missing f (Some x) missing = refl
 
 module _ {R : Type 0} (with_verdict : R → List ℕ × Fields Tree → Verdict → R) (settings : Settings) (t : Tree)
     (m n : Machine) (r s : R) (ss : Streams) (reads : read_reading t ≡ Some ss) where
@@ -52,6 +49,16 @@ module _ {R : Type 0} (with_verdict : R → List ℕ × Fields Tree → Verdict 
   pub news_other : only_stream (string_bytes settings.key) ss ≡ None → n ≡ begins_again m → s ≡ r
       → Failed with_verdict settings asked.News (wire.value t) m n r s worker.OtherStream
   news_other other i j = ((t, refl, it_reads), rw (reads, other) refl, i, j)
+
+-- a value with entries of its own shows that the group is there
+pub shows_own : (q : Asked) → reads_own q ≡ true → shows_group q ≡ true
+shows_own asked.First own = refl
+shows_own asked.Own own = refl
+shows_own asked.Nothing own = absurd cc
+shows_own asked.Acknowledgement own = absurd cc
+shows_own asked.Group own = absurd cc
+shows_own asked.Claim own = absurd cc
+shows_own asked.News own = absurd cc
 
 -- memory ran out before an entry was handed out
 pub nothing_taken : {R : Type 0} (with_verdict : R → List ℕ × Fields Tree → Verdict → R) (settings : Settings)
@@ -72,13 +79,13 @@ module _ {R : Type 0} (with_verdict : R → List ℕ × Fields Tree → Verdict 
     (bytes : List ℕ) (w x : Standing R) where
   pub went_at : (len : ℕ) (a : wire.Answer) (p : Progress) → IsAnyReply limits (take len bytes) a
       → Went with_verdict settings w.asked a w.machine x.machine w.history x.history p
-      → x.missing ≡ group_after w.missing (hears settings w.asked a) → x.asked ≡ Nothing
+      → x.group ≡ group_after settings w.group w.asked a → x.asked ≡ Nothing
       → WentInPlace with_verdict settings limits bytes w x p
   went_at len a p r went group answered = (a, heads limits bytes len a r, went, group, answered)
 
   pub failed_at : (len : ℕ) (a : wire.Answer) (e : WorkerError) → IsAnyReply limits (take len bytes) a
       → Failed with_verdict settings w.asked a w.machine x.machine w.history x.history e
-      → x.missing ≡ w.missing → x.asked ≡ Nothing
+      → x.group ≡ group_after settings w.group w.asked a → x.asked ≡ Nothing
       → FailedInPlace with_verdict settings limits bytes w x (causes.Answer e)
   failed_at len a e r failed group answered = (a, heads limits bytes len a r, failed, group, answered)
 
@@ -87,27 +94,32 @@ module _ {R : Type 0} (with_verdict : R → List ℕ × Fields Tree → Verdict 
   unread wire_errors.Memory same sound first = same
   unread (wire_errors.Fault fault) same sound first = (same, sound, first)
 
+  known_after : (q : Asked) → w.asked ≡ q → shows_group q ≡ true → x.group ≡ Known
+      → x.group ≡ by_value w.group w.asked
+  known_after q is shows known =
+      known ∙ sym (ap (λ (b : Bool). if b then Known else w.group) (ap shows_group is ∙ shows))
+
   -- a value that was taken where it stands
   pub value_went : (q : Asked) (len : ℕ) (t : Tree) (p : Progress) → w.asked ≡ q
       → IsAnyReply limits (take len bytes) (wire.value t)
       → Went with_verdict settings q (wire.value t) w.machine x.machine w.history x.history p
-      → group_after w.missing (hears settings q (wire.value t)) ≡ w.missing → x.missing ≡ w.missing → x.asked ≡ Nothing
+      → shows_group q ≡ true → x.group ≡ Known → x.asked ≡ Nothing
       → WentInPlace with_verdict settings limits bytes w x p
-  value_went q len t p is r went still same answered =
+  value_went q len t p is r went shows known answered =
       went_at len (wire.value t) p r
       (subst (λ (y : Asked). Went with_verdict settings y (wire.value t) w.machine x.machine w.history x.history p)
       (sym is) went)
-      (same ∙ sym (ap (λ (y : Asked). group_after w.missing (hears settings y (wire.value t))) is ∙ still)) answered
+      (known_after q is shows known) answered
 
   pub value_failed : (q : Asked) (len : ℕ) (t : Tree) (e : WorkerError) → w.asked ≡ q
       → IsAnyReply limits (take len bytes) (wire.value t)
       → Failed with_verdict settings q (wire.value t) w.machine x.machine w.history x.history e
-      → x.missing ≡ w.missing → x.asked ≡ Nothing
+      → shows_group q ≡ true → x.group ≡ Known → x.asked ≡ Nothing
       → FailedInPlace with_verdict settings limits bytes w x (causes.Answer e)
-  value_failed q len t e is r failed same answered =
+  value_failed q len t e is r failed shows known answered =
       failed_at len (wire.value t) e r
       (subst (λ (y : Asked). Failed with_verdict settings y (wire.value t) w.machine x.machine w.history x.history e)
-      (sym is) failed) same answered
+      (sym is) failed) (known_after q is shows known) answered
 
   pub answer_taken : (r : Result Progress InPlaceError) (e : WorkerError) → IsErrAnd r (λ i. i ≡ causes.Answer e)
       → FailedInPlace with_verdict settings limits bytes w x (causes.Answer e)

@@ -28,6 +28,7 @@ use Rattle.stream_worker.specs.declared.error.RunError.TheVariants as causes
 use Rattle.stream_worker.specs.declared.error.WorkerError.{WorkerError}
 use Rattle.stream_worker.specs.declared.error.WorkerError.TheVariants as faults
 use Rattle.stream_worker.specs.declared.state.Asked.{Asked}
+use Rattle.stream_worker.specs.declared.state.GroupState.{GroupState}
 use Rattle.stream_worker.specs.declared.state.Settings.{Settings}
 use Rattle.stream_worker.specs.declared.worker.Progress.{Progress}
 use Rattle.stream_worker.specs.declared.worker.Progress.TheVariants.{GoesOn}
@@ -155,12 +156,12 @@ sound_again m d deleted s = record { held = s.held; loose = s.loose }
 abbrev Stands : Standing Doings → List Id → Type 0
 Stands w deleted = IsSound w.machine w.history deleted
 
-stands_heard : (w : Standing Doings) (deleted : List Id) (o : Option Heard) (vs : List Verdict) → Stands w deleted
-    → Stands (having_heard done_too w o vs) (deleted ++ deleted_by o)
-stands_heard w deleted None vs s = sound_later w.machine w.history deleted [] s
-stands_heard w deleted (Some (told a)) vs s = sound_told w.machine w.history deleted a vs s
-stands_heard w deleted (Some no_group) vs s = sound_later w.machine w.history deleted [] s
-stands_heard w deleted (Some group_made) vs s = sound_later w.machine w.history deleted [] s
+stands_heard : (w : Standing Doings) (k : GroupState) (deleted : List Id) (o : Option Heard) (vs : List Verdict)
+    → Stands w deleted → Stands (having_heard done_too w k o vs) (deleted ++ deleted_by o)
+stands_heard w k deleted None vs s = sound_later w.machine w.history deleted [] s
+stands_heard w k deleted (Some (told a)) vs s = sound_told w.machine w.history deleted a vs s
+stands_heard w k deleted (Some no_group) vs s = sound_later w.machine w.history deleted [] s
+stands_heard w k deleted (Some group_made) vs s = sound_later w.machine w.history deleted [] s
 
 -- where the machine and the history are these
 sound_as : (m n : Machine) (d now : Doings) (deleted : List Id) → n ≡ m → now ≡ d → IsSound m d deleted
@@ -212,7 +213,8 @@ module _ (settings : Settings) where
 
     failed_sound : (e : WorkerError) → Failed done_too settings question a m n d now e → Result
     failed_sound faults.NotAsked f = stays f.1 f.2
-    failed_sound (faults.Server e) f = stays f.3 f.4
+    failed_sound (faults.Server e) f = stays f.4 f.5
+    failed_sound (faults.GroupIsGone e) f = stays f.3 f.4
     failed_sound faults.NotAnAnswer f = stays f.2 f.3
     failed_sound (faults.Parsing e) f = starts_over f.2 f.3
     failed_sound faults.OtherStream f = starts_over f.2 f.3
@@ -252,7 +254,7 @@ module _ (settings : Settings) where
   lives_stands : (w : Standing Doings) (deleted : List Id) → Lives settings w deleted → Stands w deleted
   lives_stands w deleted begins = record { held = λ id h. absurd h; loose = λ id h. absurd h }
   lives_stands w deleted (goes_on v before t lived) =
-      stands_heard (asking committed_too settings v) before
+      stands_heard (asking committed_too settings v) _ before
       (hears settings (asking committed_too settings v).asked t.answer) t.verdicts
       (asking_stands v before (lives_stands v before lived))
   lives_stands w deleted (fails v x before old new e f lived) =

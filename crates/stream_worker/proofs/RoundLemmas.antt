@@ -17,7 +17,7 @@ use Rattle.redis_connection.specs.Passing.{ReceivesAnswer}
 use Rattle.redis_connection.specs.declared.error.ConnectionError.TheVariants.{Memory}
 use Rattle.stream_group.specs.Worker.{Verdict}
 use Rattle.stream_worker.specs.Answered.{Failed}
-use Rattle.stream_worker.specs.Answers.{hears}
+use Rattle.stream_worker.specs.Answers.{group_after, hears}
 use Rattle.stream_worker.specs.InPlace.{Heads, WentInPlace, FailedInPlace}
 use Rattle.stream_worker.specs.Session.{Standing, Breaks, Turned, Waited, EndsBy, command, having_heard}
 use Rattle.stream_worker.specs.declared.error.InPlaceError.TheVariants as in_place
@@ -111,8 +111,8 @@ module _ {R : Type 0} (with_verdict : R → List ℕ × Fields Tree → Verdict 
             turn = record { answer = g.0; verdicts = t.0 };
             asked = is ∙ ap (λ (v : Standing R). v.asked) waited.1.0;
             exchanges = exchanged g.0 g.1;
-            stands = subst (λ (v : Standing R). x ≡ having_heard with_verdict v (hears settings v.asked g.0) t.0)
-                waited.1.0 t.1;
+            stands = subst (λ (v : Standing R). x ≡ having_heard with_verdict v
+                (group_after settings v.group v.asked g.0) (hears settings v.asked g.0) t.0) waited.1.0 t.1;
             ends = subst (λ (v : Standing R). EndsBy (hears settings v.asked g.0) t.0 p) waited.1.0 t.2;
           }
 
@@ -125,6 +125,6 @@ module _ {R : Type 0} (with_verdict : R → List ℕ × Fields Tree → Verdict 
             exchanged g.0 g.1,
             subst (λ (v : Standing R). Failed with_verdict settings v.asked g.0 v.machine x.machine v.history x.history e)
                 waited.1.0 g.2,
-            g.3 ∙ ap (λ (v : Standing R). v.missing) waited.1.0,
+            g.3 ∙ ap (λ (v : Standing R). group_after settings v.group v.asked g.0) waited.1.0,
             g.4,
           )

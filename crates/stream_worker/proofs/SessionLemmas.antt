@@ -28,6 +28,7 @@ use Rattle.stream_worker.specs.declared.error.RunError.{RunError}
 use Rattle.stream_worker.specs.declared.error.RunError.TheVariants as causes
 use Rattle.stream_worker.specs.declared.state.Asked.{Asked}
 use Rattle.stream_worker.specs.declared.state.Asked.TheVariants.{Nothing}
+use Rattle.stream_worker.specs.declared.state.GroupState.{GroupState}
 use Rattle.stream_worker.specs.declared.state.Settings.{Settings}
 use Rattle.stream_worker.specs.declared.worker.Progress.{Progress}
 use Rattle.stream_worker.specs.declared.worker.Worker.{Worker}
@@ -160,15 +161,15 @@ before_some : (turns : List Turn) → ends_before turns GoesOn ≡ GoesOn
 before_some [] = refl
 before_some (u ∷ turns) = refl
 
-standing_is : {R : Type 0} (x : Standing R) (m : Machine) (b : Bool) (q : Asked) (r : R) → x.machine ≡ m
-    → x.missing ≡ b → x.asked ≡ q → x.history ≡ r
-    → x ≡ (let y : Standing R = record { machine = m; missing = b; asked = q; history = r } in y)
+standing_is : {R : Type 0} (x : Standing R) (m : Machine) (b : GroupState) (q : Asked) (r : R) → x.machine ≡ m
+    → x.group ≡ b → x.asked ≡ q → x.history ≡ r
+    → x ≡ (let y : Standing R = record { machine = m; group = b; asked = q; history = r } in y)
 standing_is {R = R} x m b q r im ib iq ir =
     ap (λ v. let y : Standing R = record x { machine = v } in y)
     im
-    ∙ ap (λ v. let y : Standing R = record { machine = m; missing = v; asked = x.asked; history = x.history } in y) ib
-    ∙ ap (λ v. let y : Standing R = record { machine = m; missing = b; asked = v; history = x.history } in y) iq
-    ∙ ap (λ v. let y : Standing R = record { machine = m; missing = b; asked = q; history = v } in y) ir
+    ∙ ap (λ v. let y : Standing R = record { machine = m; group = v; asked = x.asked; history = x.history } in y) ib
+    ∙ ap (λ v. let y : Standing R = record { machine = m; group = b; asked = v; history = x.history } in y) iq
+    ∙ ap (λ v. let y : Standing R = record { machine = m; group = b; asked = q; history = v } in y) ir
 
 module _ {R : Type 0} (with_verdict : R → List ℕ × Fields Tree → Verdict → R) (with_commit : R → R)
     (settings : Settings) where
@@ -205,24 +206,25 @@ module _ {R : Type 0} (with_verdict : R → List ℕ × Fields Tree → Verdict 
   -- what a worker did with an answer is a turn
   module _ (w x : Standing R) (a : wire.Answer) (p : Progress) where
     abbrev IsTurn : Type 0
-    IsTurn = (verdicts : List Verdict) × (x ≡ having_heard with_verdict w (hears settings w.asked a) verdicts)
+    IsTurn = (verdicts : List Verdict)
+        × (x ≡ having_heard with_verdict w (group_after settings w.group w.asked a) (hears settings w.asked a) verdicts)
         × EndsBy (hears settings w.asked a) verdicts p
 
-    of_heard : (h : Heard) → hears settings w.asked a ≡ Some h → x.missing ≡ group_after w.missing (Some h)
-        → x.asked ≡ Nothing → GoesBy with_verdict h w.machine x.machine w.history x.history p
-        → (verdicts : List Verdict) × (x ≡ having_heard with_verdict w (Some h) verdicts) × EndsBy (Some h) verdicts p
-    of_heard (told answer) said missing asked g =
-        (g.verdicts, standing_is x _ _ _ _ g.machine missing asked g.history, g.ended)
-    of_heard no_group said missing asked g = ([], standing_is x _ _ _ _ g.0 missing asked g.1, g.2)
-    of_heard group_made said missing asked g = ([], standing_is x _ _ _ _ g.0 missing asked g.1, g.2)
+    of_heard : (h : Heard) (k : GroupState) → x.group ≡ k → x.asked ≡ Nothing
+        → GoesBy with_verdict h w.machine x.machine w.history x.history p
+        → (verdicts : List Verdict) × (x ≡ having_heard with_verdict w k (Some h) verdicts) × EndsBy (Some h) verdicts p
+    of_heard (told answer) k group asked g =
+        (g.verdicts, standing_is x _ _ _ _ g.machine group asked g.history, g.ended)
+    of_heard no_group k group asked g = ([], standing_is x _ _ _ _ g.0 group asked g.1, g.2)
+    of_heard group_made k group asked g = ([], standing_is x _ _ _ _ g.0 group asked g.1, g.2)
 
     pub turn_of : Went with_verdict settings w.asked a w.machine x.machine w.history x.history p
-        → x.missing ≡ group_after w.missing (hears settings w.asked a) → x.asked ≡ Nothing → IsTurn
-    turn_of g missing asked =
-        let P : Option Heard → Type 0 = λ o. (verdicts : List Verdict) × (x ≡ having_heard with_verdict w o verdicts)
+        → x.group ≡ group_after settings w.group w.asked a → x.asked ≡ Nothing → IsTurn
+    turn_of g group asked =
+        let k : GroupState = group_after settings w.group w.asked a in
+        let P : Option Heard → Type 0 = λ o. (verdicts : List Verdict) × (x ≡ having_heard with_verdict w k o verdicts)
         × EndsBy o verdicts p in
-        subst P (sym g.said)
-        (of_heard g.heard g.said (missing ∙ ap (group_after w.missing) g.said) asked g.goes)
+        subst P (sym g.said) (of_heard g.heard k group asked g.goes)
 
   -- ---- rounds, and one more
 
@@ -300,9 +302,9 @@ module _ {R : Type 0} (with_verdict : R → List ℕ × Fields Tree → Verdict 
 
 -- a worker that begins again, if a command may have gone out
 pub stands_failed : {R : Type 0} (w w' : Worker) (r : R) (e : RunError)
-    → machine_of w' ≡ machine_after e (machine_of w) → w'.group_missing ≡ w.group_missing → w'.asked ≡ w.asked
+    → machine_of w' ≡ machine_after e (machine_of w) → w'.group ≡ w.group → w'.asked ≡ w.asked
     → standing_of w' r ≡ after_failure e (standing_of w r)
-stands_failed w w' r e machine missing asked = standing_is (standing_of w' r) _ _ _ _ machine missing asked refl
+stands_failed w w' r e machine group asked = standing_is (standing_of w' r) _ _ _ _ machine group asked refl
 
 module _ {R : Type 0} (with_verdict : R → List ℕ × Fields Tree → Verdict → R) (with_commit : R → R)
     (settings : Settings) (old new : Link) (w y x : Standing R) (e f : RunError) (same : f ≡ e)
@@ -331,5 +333,5 @@ begun_again (causes.Answer e) m sent = refl
 
 pub failures_begin_again : FailuresBeginAgain
 failures_begin_again settings old new w x e f sent =
-    ap (λ p. sentence settings x.missing p (at_request x.machine).to_acknowledge)
+    ap (λ p. sentence settings x.group p (at_request x.machine).to_acknowledge)
     (phase_kept x.machine ∙ ap (λ (v : Standing Doings). v.machine.phase) f.2 ∙ begun_again e f.0.machine sent)

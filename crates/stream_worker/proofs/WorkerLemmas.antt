@@ -1,7 +1,7 @@
 -- From what an answer says to what a worker did with it.
 use Rattle.std.proofs.Common.{◌≡◌, ◌≢◌, inl, inr, refl, sym, ap, subst, ◌∙◌, ℕ, List, [], ◌∷◌, ◌++◌, Option, Some, None}
 use Rattle.std.proofs.Common.{option_map, string_bytes, Result, Ok, Err}
-use Rattle.std.specs.Prelude.{option_and_then, OnOk}
+use Rattle.std.specs.Prelude.{option_and_then, OnOk, true, false}
 use Rattle.std.specs.Result.{IfOk, IfErr, IsErrAnd}
 use Rattle.redis_resp.specs.Number.{unsigned_reading}
 use Rattle.redis_resp.specs.Refusal.{RefusesNumber}
@@ -18,11 +18,11 @@ use Rattle.stream_group.specs.Worker as machine
 use Rattle.stream_group.specs.Worker.{Id, Delivered, Verdict, Answer, acknowledged, own_pending, taken_over, news}
 use Rattle.stream_group.specs.Worker.{Machine, Ending, cut_off, ending, after, after_own, after_claim, after_news}
 use Rattle.stream_group.specs.Worker.{phase_after, phase_at, still, entries_in, acks_in, begins_again}
-use Rattle.stream_worker.specs.Answered.{Took, Went, Failed}
-use Rattle.stream_worker.specs.Answers.{Heard, told, no_group, group_made, means, says, entries_read, only_stream}
+use Rattle.stream_worker.specs.Answered.{Took, Went, WasCut, Failed}
+use Rattle.stream_worker.specs.Answers.{Heard, told, no_group, group_made, is_gone, means, says, entries_read, only_stream}
 use Rattle.stream_worker.specs.Errors.{read_error}
 use Rattle.stream_worker.specs.Machine.{Moved, ending_of}
-use Rattle.stream_worker.specs.Parts.{IsAcknowledged, IsOfGroup, IsRefused, NotRead, Unread}
+use Rattle.stream_worker.specs.Parts.{IsAcknowledged, IsOfGroup, IsRefused, NotRead, Unread, reads_own}
 use Rattle.stream_worker.specs.Taking.{all_delivered}
 use Rattle.stream_worker.specs.declared.error.WorkerError.{WorkerError}
 use Rattle.stream_worker.specs.declared.error.WorkerError.TheVariants as causes
@@ -322,8 +322,67 @@ module _ {R : Type 0} (with_verdict : R → List ℕ × Fields Tree → Verdict 
       → IsRefused question text e × (means settings.make_group question text ≡ None)
       → Failed with_verdict settings question (wire.refused text) m n r s e
   refused_failed text causes.NotAsked j k h = (h.0, j, k)
-  refused_failed text (causes.Server e) j k h = (h.0.0, ap wire.refused h.0.1, h.1, j, k)
+  refused_failed text (causes.Server e) j k h = (
+    h.0.0,
+    ap wire.refused h.0.1,
+    subst (λ (x : List ℕ). is_gone question x ≡ false) h.0.1 h.0.2,
+    h.1,
+    j,
+    k,
+  )
+  refused_failed text (causes.GroupIsGone e) j k h =
+      (ap wire.refused h.0.0, subst (λ (x : List ℕ). is_gone question x ≡ true) h.0.0 h.0.1, h.1, j, k)
   refused_failed text causes.NotAnAnswer j k h = absurd h.0
   refused_failed text (causes.Parsing e) j k h = absurd h.0
   refused_failed text causes.OtherStream j k h = absurd h.0
   refused_failed text causes.Memory j k h = absurd h.0
+
+-- before anything is known of the group, entries of its own are taken in the same way
+module _ {R : Type 0} (with_verdict : R → List ℕ × Fields Tree → Verdict → R) (settings : Settings) (t : Tree)
+    (m n : Machine) (r s : R) where
+  pub first_went : (p : Progress) → Went with_verdict settings asked.Own (wire.value t) m n r s p
+      → Went with_verdict settings asked.First (wire.value t) m n r s p
+  first_went p g = record { heard = g.heard; said = g.said; goes = g.goes }
+
+  first_cut : (u : Tree) → WasCut with_verdict settings asked.Own u m n r s
+      → WasCut with_verdict settings asked.First u m n r s
+  first_cut u c = record { answer = c.answer; said = c.said; took = c.took }
+
+  pub first_failed : (e : WorkerError) → Failed with_verdict settings asked.Own (wire.value t) m n r s e
+      → Failed with_verdict settings asked.First (wire.value t) m n r s e
+  first_failed causes.NotAsked f = let both : asked.Own ≡ asked.Nothing = f.0 in absurd cc
+  first_failed (causes.Server e) f = let both : wire.value t ≡ wire.refused e.text.items = f.1 in absurd cc
+  first_failed (causes.GroupIsGone e) f = let both : wire.value t ≡ wire.refused e.text.items = f.0 in absurd cc
+  first_failed causes.NotAnAnswer f = absurd f.0
+  first_failed (causes.Parsing e) f = f
+  first_failed causes.OtherStream f = f
+  first_failed causes.Memory f = (
+    f.0,
+    f.1,
+    elim f.2 [
+      | inl p ↦ inl p
+      | inr c ↦ inr (first_cut f.0 c)
+    ],
+  )
+
+  pub own_as_asked : (q : Asked) (p : Progress) → reads_own q ≡ true
+      → Went with_verdict settings asked.Own (wire.value t) m n r s p
+      → Went with_verdict settings q (wire.value t) m n r s p
+  own_as_asked asked.First p own g = first_went p g
+  own_as_asked asked.Own p own g = g
+  own_as_asked asked.Nothing p own g = absurd cc
+  own_as_asked asked.Acknowledgement p own g = absurd cc
+  own_as_asked asked.Group p own g = absurd cc
+  own_as_asked asked.Claim p own g = absurd cc
+  own_as_asked asked.News p own g = absurd cc
+
+  pub own_failed_as_asked : (q : Asked) (e : WorkerError) → reads_own q ≡ true
+      → Failed with_verdict settings asked.Own (wire.value t) m n r s e
+      → Failed with_verdict settings q (wire.value t) m n r s e
+  own_failed_as_asked asked.First e own f = first_failed e f
+  own_failed_as_asked asked.Own e own f = f
+  own_failed_as_asked asked.Nothing e own f = absurd cc
+  own_failed_as_asked asked.Acknowledgement e own f = absurd cc
+  own_failed_as_asked asked.Group e own f = absurd cc
+  own_failed_as_asked asked.Claim e own f = absurd cc
+  own_failed_as_asked asked.News e own f = absurd cc

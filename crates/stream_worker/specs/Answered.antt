@@ -1,5 +1,5 @@
 -- What an answer does to a worker.
-use Rattle.std.specs.Prelude.{◌≡◌, ◌≢◌, ◌⊎◌, ℕ, List, Some, None}
+use Rattle.std.specs.Prelude.{◌≡◌, ◌≢◌, ◌⊎◌, ℕ, true, false, List, Some, None}
 use Rattle.redis_resp.specs.Number.{unsigned_reading}
 use Rattle.redis_resp.specs.Refusal.{Refuses, RefusesNumber}
 use Rattle.redis_resp.specs.Table.{Fields}
@@ -11,7 +11,7 @@ use Rattle.stream_entries.specs.Read.{read_reading}
 use Rattle.stream_entries.specs.Refusal.{RefusesAutoClaim, RefusesRead}
 use Rattle.stream_group.specs.Worker.{Verdict, Machine, Answer, Ending, cut_off, ending, entries_in, told_in, after}
 use Rattle.stream_group.specs.Worker.{begins_again}
-use Rattle.stream_worker.specs.Answers.{Heard, told, no_group, group_made, hears}
+use Rattle.stream_worker.specs.Answers.{Heard, told, no_group, group_made, hears, is_gone}
 use Rattle.stream_worker.specs.Handling.{with_all}
 use Rattle.stream_worker.specs.Machine.{ending_of}
 use Rattle.stream_worker.specs.declared.error.WorkerError.{WorkerError}
@@ -27,6 +27,7 @@ abbrev pub MayRefuse : Asked → Tree → ParsingError → Type 0
 MayRefuse asked.Nothing t error = ⊥
 MayRefuse asked.Acknowledgement t error = Refuses (unsigned_reading 64) RefusesNumber t error
 MayRefuse asked.Group t error = ⊥
+MayRefuse asked.First t error = Refuses read_reading RefusesRead t error
 MayRefuse asked.Own t error = Refuses read_reading RefusesRead t error
 MayRefuse asked.Claim t error = Refuses autoclaim_reading RefusesAutoClaim t error
 MayRefuse asked.News t error = Refuses read_reading RefusesRead t error
@@ -68,8 +69,11 @@ module _ {R : Type 0} (with_verdict : R → List ℕ × Fields Tree → Verdict 
   abbrev pub Failed : Settings → Asked → wire.Answer → Machine → Machine → R → R → WorkerError → Type 0
   Failed settings question a m n r s causes.NotAsked = (question ≡ asked.Nothing) × (n ≡ m) × (s ≡ r)
   Failed settings question a m n r s (causes.Server e) =
-      (question ≢ asked.Nothing) × (a ≡ wire.refused e.text.items) × (hears settings question a ≡ None) × (n ≡ m)
-      × (s ≡ r)
+      (question ≢ asked.Nothing) × (a ≡ wire.refused e.text.items) × (is_gone question e.text.items ≡ false)
+      × (hears settings question a ≡ None) × (n ≡ m) × (s ≡ r)
+  Failed settings question a m n r s (causes.GroupIsGone e) =
+      (a ≡ wire.refused e.text.items) × (is_gone question e.text.items ≡ true) × (hears settings question a ≡ None)
+      × (n ≡ m) × (s ≡ r)
   Failed settings question a m n r s causes.NotAnAnswer =
       IsNoAnswer a × (hears settings question a ≡ None) × (n ≡ m) × (s ≡ r)
   Failed settings question a m n r s (causes.Parsing e) =

@@ -14,6 +14,8 @@ use Rattle.stream_group.specs.Worker.{Answer, acknowledged, own_pending, taken_o
 use Rattle.stream_worker.specs.Taking.{all_delivered}
 use Rattle.stream_worker.specs.declared.state.Asked.{Asked}
 use Rattle.stream_worker.specs.declared.state.Asked.TheVariants as asked
+use Rattle.stream_worker.specs.declared.state.GroupState.{GroupState}
+use Rattle.stream_worker.specs.declared.state.GroupState.TheVariants.{Missing, Known}
 use Rattle.stream_worker.specs.declared.state.MakeGroup.{MakeGroup}
 use Rattle.stream_worker.specs.declared.state.MakeGroup.TheVariants.{Never, FromTheFirst, FromNow}
 use Rattle.stream_worker.specs.declared.state.Settings.{Settings}
@@ -39,6 +41,7 @@ abbrev pub says : List ℕ → Asked → Tree → Option Heard
 says key asked.Nothing t = None
 says key asked.Acknowledgement t = option_map (λ n. told acknowledged) (unsigned_reading 64 t)
 says key asked.Group t = Some group_made
+says key asked.First t = option_map (λ es. told (own_pending (all_delivered es))) (entries_read key t)
 says key asked.Own t = option_map (λ es. told (own_pending (all_delivered es))) (entries_read key t)
 says key asked.Claim t = option_map (λ c. told (taken_over c.next (all_delivered c.claimed))) (autoclaim_reading t)
 says key asked.News t = option_map (λ es. told (news (all_delivered es))) (entries_read key t)
@@ -57,13 +60,13 @@ where_none make text = if makes_group make && bytes_eq (code_of text) (codes "NO
 abbrev pub where_made : List ℕ → Option Heard
 where_made text = if bytes_eq (code_of text) (codes "BUSYGROUP") then Some group_made else None
 
--- what an error in place of a value says: where a claim or a read of new entries finds no group, the group that was
--- there is gone, and none is made in its place
+-- what an error in place of a value says: only the first question of all may find that there is no group
 abbrev pub means : MakeGroup → Asked → List ℕ → Option Heard
 means make asked.Nothing text = None
 means make asked.Acknowledgement text = None
 means make asked.Group text = where_made text
-means make asked.Own text = where_none make text
+means make asked.First text = where_none make text
+means make asked.Own text = None
 means make asked.Claim text = None
 means make asked.News text = None
 
@@ -74,9 +77,40 @@ hears s question (wire.refused text) = means s.make_group question text
 hears s question (wire.group kind members) = None
 hears s question (wire.pushed kind payload) = None
 
--- whether a group is missing, after what was heard
-abbrev pub group_after : Bool → Option Heard → Bool
-group_after missing None = missing
-group_after missing (Some (told answer)) = missing
-group_after missing (Some no_group) = true
-group_after missing (Some group_made) = false
+-- a value in answer to this shows that the group is there
+abbrev pub shows_group : Asked → Bool
+shows_group asked.Nothing = false
+shows_group asked.Acknowledgement = false
+shows_group asked.Group = true
+shows_group asked.First = true
+shows_group asked.Own = true
+shows_group asked.Claim = true
+shows_group asked.News = true
+
+-- what is known of the group after a value
+abbrev pub by_value : GroupState → Asked → GroupState
+by_value group question = if shows_group question then Known else group
+
+-- what is known of it after an error that says this
+abbrev pub by_error : GroupState → Option Heard → GroupState
+by_error group None = group
+by_error group (Some (told answer)) = group
+by_error group (Some no_group) = Missing
+by_error group (Some group_made) = Known
+
+-- what is known of it after an answer
+abbrev pub group_after : Settings → GroupState → Asked → wire.Answer → GroupState
+group_after s group question (wire.value t) = by_value group question
+group_after s group question (wire.refused text) = by_error group (means s.make_group question text)
+group_after s group question (wire.group kind members) = group
+group_after s group question (wire.pushed kind payload) = group
+
+-- a group that was there is gone: NOGROUP to a question that comes after the first
+abbrev pub is_gone : Asked → List ℕ → Bool
+is_gone asked.Nothing text = false
+is_gone asked.Acknowledgement text = false
+is_gone asked.Group text = false
+is_gone asked.First text = false
+is_gone asked.Own text = bytes_eq (code_of text) (codes "NOGROUP")
+is_gone asked.Claim text = bytes_eq (code_of text) (codes "NOGROUP")
+is_gone asked.News text = bytes_eq (code_of text) (codes "NOGROUP")

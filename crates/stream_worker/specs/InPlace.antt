@@ -9,7 +9,7 @@ use Rattle.redis_wire.specs.declared.fault.WireError.TheVariants as wire_errors
 use Rattle.redis_wire.specs.declared.limits.Limits.{Limits}
 use Rattle.stream_group.specs.Worker.{Machine, Verdict}
 use Rattle.stream_worker.specs.Answered.{Failed, Went}
-use Rattle.stream_worker.specs.Answers.{group_after, hears}
+use Rattle.stream_worker.specs.Answers.{group_after}
 use Rattle.stream_worker.specs.Session.{Standing}
 use Rattle.stream_worker.specs.declared.error.InPlaceError.{InPlaceError}
 use Rattle.stream_worker.specs.declared.error.InPlaceError.TheVariants as causes
@@ -32,7 +32,7 @@ module _ {R : Type 0} (with_verdict : R → List ℕ × Fields Tree → Verdict 
   abbrev pub WentInPlace : Standing R → Standing R → Progress → Type 0
   WentInPlace w x p = (a : wire.Answer) × Heads limits bytes a
       × Went with_verdict settings w.asked a w.machine x.machine w.history x.history p
-      × (x.missing ≡ group_after w.missing (hears settings w.asked a)) × (x.asked ≡ Nothing)
+      × (x.group ≡ group_after settings w.group w.asked a) × (x.asked ≡ Nothing)
 
   -- no reply was read, and nothing changed; or that at the head of the bytes does not bring the worker on
   abbrev pub FailedInPlace : Standing R → Standing R → InPlaceError → Type 0
@@ -43,7 +43,7 @@ module _ {R : Type 0} (with_verdict : R → List ℕ × Fields Tree → Verdict 
       × IsFirstFault limits bytes (wire_errors.Fault fault)
   FailedInPlace w x (causes.Answer e) = (a : wire.Answer) × Heads limits bytes a
       × Failed with_verdict settings w.asked a w.machine x.machine w.history x.history e
-      × (x.missing ≡ w.missing) × (x.asked ≡ Nothing)
+      × (x.group ≡ group_after settings w.group w.asked a) × (x.asked ≡ Nothing)
 
   -- one or the other, by what is returned
   abbrev pub TakenInPlace : Standing R → Standing R → Result Progress InPlaceError → Type 0

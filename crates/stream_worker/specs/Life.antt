@@ -7,6 +7,7 @@ use Rattle.redis_connection.specs.Link.{Link}
 use Rattle.stream_group.specs.Law.{Among}
 use Rattle.stream_group.specs.Worker.{Id, Delivered, start, entries_in}
 use Rattle.stream_worker.specs.Answers.{Heard, told, no_group, group_made, hears}
+use Rattle.stream_worker.specs.declared.state.GroupState.TheVariants.{Unknown}
 use Rattle.stream_worker.specs.Gathered.{Doings, done_too, committed_too}
 use Rattle.stream_worker.specs.Session.{Standing, Turn, asking, after_turn, Ran, Fails, Broke}
 use Rattle.stream_worker.specs.declared.error.RunError.{RunError}
@@ -36,7 +37,7 @@ deleted_by (Some group_made) = []
 abbrev pub newborn : Settings → Standing Doings
 newborn settings = record {
   machine = start settings.every;
-  missing = false;
+  group = Unknown;
   asked = Nothing;
   history = record { loose = []; committed = [] };
 }

@@ -7,12 +7,14 @@ use Rattle.redis_resp.specs.declared.value.error.ParsingError.{ParsingError}
 use Rattle.stream_entries.specs.Read.{read_reading}
 use Rattle.stream_entries.specs.Refusal.{RefusesRead}
 use Rattle.stream_group.specs.Worker.{Machine}
-use Rattle.stream_worker.specs.Answers.{Heard, told, no_group, group_made, entries_read}
+use Rattle.stream_worker.specs.Answers.{Heard, told, no_group, group_made, entries_read, is_gone}
 use Rattle.stream_worker.specs.Errors.{read_error}
 use Rattle.stream_worker.specs.declared.error.WorkerError.{WorkerError}
 use Rattle.stream_worker.specs.declared.error.WorkerError.TheVariants as causes
 use Rattle.stream_worker.specs.declared.state.Asked.{Asked}
 use Rattle.stream_worker.specs.declared.state.Asked.TheVariants as asked
+use Rattle.stream_worker.specs.declared.state.GroupState.{GroupState}
+use Rattle.stream_worker.specs.declared.state.GroupState.TheVariants.{Missing, Known}
 
 -- a value that was refused, with the error that this makes
 abbrev pub Unread : {M : Type 0} → (Tree → Option M) → (Tree → ParsingError → Type 0) → Tree → WorkerError → Type 0
@@ -26,12 +28,12 @@ IsOther key t e = (e ≡ causes.OtherStream) × (entries_read key t ≡ None) ×
 abbrev pub NotRead : List ℕ → Tree → WorkerError → Type 0
 NotRead key t e = Unread read_reading RefusesRead t e ⊎ IsOther key t e
 
--- whether a group is missing, by what an error says of it
-abbrev pub missing_by : Option Heard → Option Bool
-missing_by None = None
-missing_by (Some (told answer)) = None
-missing_by (Some no_group) = Some true
-missing_by (Some group_made) = Some false
+-- what an error says of the group
+abbrev pub state_by : Option Heard → Option GroupState
+state_by None = None
+state_by (Some (told answer)) = None
+state_by (Some no_group) = Some Missing
+state_by (Some group_made) = Some Known
 
 -- it is a group that was heard of
 abbrev pub IsOfGroup : Option Heard → Type 0
@@ -40,14 +42,26 @@ IsOfGroup (Some (told answer)) = ⊥
 IsOfGroup (Some no_group) = Unit {0}
 IsOfGroup (Some group_made) = Unit {0}
 
--- nothing was asked, or the error is the server's
+-- nothing was asked; or the error is the server's, and says that the group is gone, or does not
 abbrev pub IsRefused : Asked → List ℕ → WorkerError → Type 0
 IsRefused question text causes.NotAsked = question ≡ asked.Nothing
-IsRefused question text (causes.Server e) = (question ≢ asked.Nothing) × (text ≡ e.text.items)
+IsRefused question text (causes.Server e) =
+    (question ≢ asked.Nothing) × (text ≡ e.text.items) × (is_gone question text ≡ false)
+IsRefused question text (causes.GroupIsGone e) = (text ≡ e.text.items) × (is_gone question text ≡ true)
 IsRefused question text causes.NotAnAnswer = ⊥
 IsRefused question text (causes.Parsing e) = ⊥
 IsRefused question text causes.OtherStream = ⊥
 IsRefused question text causes.Memory = ⊥
+
+-- its own pending entries were asked for
+abbrev pub reads_own : Asked → Bool
+reads_own asked.Nothing = false
+reads_own asked.Acknowledgement = false
+reads_own asked.Group = false
+reads_own asked.First = true
+reads_own asked.Own = true
+reads_own asked.Claim = false
+reads_own asked.News = false
 
 -- the value is a count, and the machine has acknowledged
 abbrev pub IsAcknowledged : Tree → Machine → Machine → Type 0

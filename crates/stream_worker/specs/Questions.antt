@@ -1,10 +1,12 @@
 -- What a worker asks.
-use Rattle.std.specs.Prelude.{ℕ, Bool, true, false, List, [], ◌∷◌, codes, decimal, string_bytes}
+use Rattle.std.specs.Prelude.{ℕ, List, [], ◌∷◌, codes, decimal, string_bytes}
 use Rattle.stream_group.specs.Worker as machine
 use Rattle.stream_group.specs.Worker.{Id, own, claiming, reading}
 use Rattle.stream_worker.specs.declared.state.Settings.{Settings}
 use Rattle.stream_worker.specs.declared.state.MakeGroup.{MakeGroup}
 use Rattle.stream_worker.specs.declared.state.MakeGroup.TheVariants.{Never, FromTheFirst, FromNow}
+use Rattle.stream_worker.specs.declared.state.GroupState.{GroupState}
+use Rattle.stream_worker.specs.declared.state.GroupState.TheVariants.{Unknown, Missing, Known}
 use Rattle.stream_worker.specs.declared.state.Phase.{Phase}
 use Rattle.stream_worker.specs.declared.state.Phase.TheVariants as phases
 use Rattle.stream_worker.specs.declared.state.Asked.{Asked}
@@ -53,17 +55,18 @@ news_sentence s =
     ∷ codes "BLOCK" ∷ decimal s.block ∷ codes "COUNT" ∷ decimal s.count
     ∷ codes "STREAMS" ∷ string_bytes s.key ∷ codes ">" ∷ []
 
--- where nothing is to be acknowledged and there is a group, what the phase asks
+-- where nothing is to be acknowledged and no group is to be made, what the phase asks
 abbrev pub phase_sentence : Settings → machine.Phase → List (List ℕ)
 phase_sentence s (own id) = own_sentence s id
 phase_sentence s (claiming id) = claim_sentence s id
 phase_sentence s (reading rounds) = news_sentence s
 
 -- acknowledgements go out first, and a group is made before anything is read from it
-abbrev pub sentence : Settings → Bool → machine.Phase → List Id → List (List ℕ)
-sentence s missing phase (id ∷ ids) = ack_sentence s (id ∷ ids)
-sentence s true phase [] = group_sentence s
-sentence s false phase [] = phase_sentence s phase
+abbrev pub sentence : Settings → GroupState → machine.Phase → List Id → List (List ℕ)
+sentence s group phase (id ∷ ids) = ack_sentence s (id ∷ ids)
+sentence s Missing phase [] = group_sentence s
+sentence s Unknown phase [] = phase_sentence s phase
+sentence s Known phase [] = phase_sentence s phase
 
 -- what the phase asks
 abbrev pub phase_asks : machine.Phase → Asked
@@ -71,8 +74,15 @@ phase_asks (own id) = asked.Own
 phase_asks (claiming id) = asked.Claim
 phase_asks (reading rounds) = asked.News
 
+-- the same before anything is known of the group
+abbrev pub first_asks : machine.Phase → Asked
+first_asks (own id) = asked.First
+first_asks (claiming id) = asked.Claim
+first_asks (reading rounds) = asked.News
+
 -- what is asked then
-abbrev pub asks : Bool → machine.Phase → List Id → Asked
-asks missing phase (id ∷ ids) = asked.Acknowledgement
-asks true phase [] = asked.Group
-asks false phase [] = phase_asks phase
+abbrev pub asks : GroupState → machine.Phase → List Id → Asked
+asks group phase (id ∷ ids) = asked.Acknowledgement
+asks Missing phase [] = asked.Group
+asks Unknown phase [] = first_asks phase
+asks Known phase [] = phase_asks phase

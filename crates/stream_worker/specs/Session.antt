@@ -1,5 +1,5 @@
 -- A session of a worker over a connection: the run of its machine over the answers that came.
-use Rattle.std.specs.Prelude.{◌≡◌, ◌≢◌, ◌≤◌, ◌<◌, ℕ, zero, suc, Bool, true, false, List, [], ◌∷◌, ◌++◌, map, length}
+use Rattle.std.specs.Prelude.{◌≡◌, ◌≢◌, ◌≤◌, ◌<◌, ℕ, zero, suc, List, [], ◌∷◌, ◌++◌, map, length}
 use Rattle.std.specs.Prelude.{codes, Option, Some, None}
 use Rattle.std.specs.Io.KnownBytes.{Appends, Consumes}
 use Rattle.redis_resp.specs.Table.{Fields}
@@ -13,7 +13,7 @@ use Rattle.redis_connection.specs.Link.{Link, Sends, SendsFront, IsEnded, IsFaul
 use Rattle.redis_connection.specs.Passing.{IsMessage, AwaitsAnswer, IsAnswerInPlace}
 use Rattle.redis_connection.specs.declared.error.ConnectionError.TheVariants.{TooLong}
 use Rattle.stream_group.specs.Worker.{Verdict, Machine, ending, entries_in, told_in, after, begins_again, own}
-use Rattle.stream_worker.specs.Answers.{Heard, told, no_group, group_made, hears}
+use Rattle.stream_worker.specs.Answers.{Heard, told, no_group, group_made, group_after, hears}
 use Rattle.stream_worker.specs.Answered.{Failed}
 use Rattle.stream_worker.specs.Gathered.{Doings, done_too, committed_too}
 use Rattle.stream_worker.specs.Handling.{with_all}
@@ -24,6 +24,7 @@ use Rattle.stream_worker.specs.declared.error.RunError.{RunError}
 use Rattle.stream_worker.specs.declared.error.RunError.TheVariants as causes
 use Rattle.stream_worker.specs.declared.state.Asked.{Asked}
 use Rattle.stream_worker.specs.declared.state.Asked.TheVariants.{Nothing}
+use Rattle.stream_worker.specs.declared.state.GroupState.{GroupState}
 use Rattle.stream_worker.specs.declared.state.Settings.{Settings}
 use Rattle.stream_worker.specs.declared.worker.Progress.{Progress}
 use Rattle.stream_worker.specs.declared.worker.Progress.TheVariants.{GoesOn, Stopped}
@@ -32,13 +33,13 @@ use Rattle.stream_worker.specs.declared.worker.Worker.{Worker}
 -- where a worker and its handler stand
 pub record Standing (R : Type 0) : Type 0 where
   pub machine : Machine
-  pub missing : Bool  -- a group is to be made
+  pub group : GroupState  -- what is known of the group
   pub asked : Asked  -- what is to be answered
   pub history : R  -- what passed between the worker and its handler
 
 -- where a worker with this history of its handler stands
 abbrev pub standing_of : {R : Type 0} → Worker → R → Standing R
-standing_of w r = record { machine = machine_of w; missing = w.group_missing; asked = w.asked; history = r }
+standing_of w r = record { machine = machine_of w; group = w.group; asked = w.asked; history = r }
 
 -- the machine after an error: if a command may have gone out, it begins again with what is pending for it
 abbrev pub machine_after : RunError → Machine → Machine
@@ -95,7 +96,7 @@ pub record Converses (old new : Link) (out : List ℕ) (came : List wire.Answer)
 -- the command that a worker asks, after its handler has committed what is to be acknowledged
 abbrev pub command : {R : Type 0} → Settings → Standing R → List (List ℕ)
 command settings w =
-    sentence settings w.missing (at_request w.machine).phase (at_request w.machine).to_acknowledge
+    sentence settings w.group (at_request w.machine).phase (at_request w.machine).to_acknowledge
 
 -- the error is that a command did not go out, since it was not written
 abbrev pub IsUnsent : RunError → Type 0
@@ -107,8 +108,8 @@ module _ {R : Type 0} (with_commit : R → R) (settings : Settings) where
   abbrev pub asking : Standing R → Standing R
   asking w = record {
     machine = at_request w.machine;
-    missing = w.missing;
-    asked = asks w.missing (at_request w.machine).phase (at_request w.machine).to_acknowledge;
+    group = w.group;
+    asked = asks w.group (at_request w.machine).phase (at_request w.machine).to_acknowledge;
     history = history_at_request with_commit w.machine w.history;
   }
 
@@ -120,7 +121,7 @@ module _ {R : Type 0} (with_commit : R → R) (settings : Settings) where
   abbrev pub IsUnanswered : Link → Link → Standing R → Standing R → RunError → Type 0
   IsUnanswered old new w x (causes.Request e) =
       (new ≡ old) × Unasked with_commit w.machine x.machine w.history x.history e
-      × (x.missing ≡ w.missing) × (x.asked ≡ w.asked)
+      × (x.group ≡ w.group) × (x.asked ≡ w.asked)
   IsUnanswered old new w x (causes.Send e) =
       (x ≡ asking w) × SendsFront old new (command_bytes (command settings w)) × (e ≢ TooLong)
   IsUnanswered old new w x (causes.Receive e) =
@@ -140,18 +141,19 @@ module _ {R : Type 0} (with_commit : R → R) (settings : Settings) where
   abbrev pub Waited : Link → Link → Standing R → Standing R → ℕ → Type 0
   Waited old new w x len = (between : Link) × HasAsked old between w x × IsAnswerInPlace between new len
 
--- where a worker stands by what it heard, where its handler said this of the entries
-abbrev pub having_heard : {R : Type 0} → (R → List ℕ × Fields Tree → Verdict → R) → Standing R → Option Heard
-    → List Verdict → Standing R
-having_heard with_verdict w None verdicts = record w { asked = Nothing }
-having_heard with_verdict w (Some (told answer)) verdicts = record {
+-- where a worker stands by what it heard, where this is known of its group then, and its handler said this of the
+-- entries
+abbrev pub having_heard : {R : Type 0} → (R → List ℕ × Fields Tree → Verdict → R) → Standing R → GroupState
+    → Option Heard → List Verdict → Standing R
+having_heard with_verdict w group None verdicts = record w { group = group; asked = Nothing }
+having_heard with_verdict w group (Some (told answer)) verdicts = record {
   machine = after w.machine answer verdicts;
-  missing = w.missing;
+  group = group;
   asked = Nothing;
   history = with_all with_verdict w.history (told_in (entries_in answer) verdicts);
 }
-having_heard with_verdict w (Some no_group) verdicts = record w { missing = true; asked = Nothing }
-having_heard with_verdict w (Some group_made) verdicts = record w { missing = false; asked = Nothing }
+having_heard with_verdict w group (Some no_group) verdicts = record w { group = group; asked = Nothing }
+having_heard with_verdict w group (Some group_made) verdicts = record w { group = group; asked = Nothing }
 
 -- how a turn ends by what was heard
 abbrev pub EndsBy : Option Heard → List Verdict → Progress → Type 0
@@ -176,7 +178,7 @@ module _ {R : Type 0} (with_verdict : R → List ℕ × Fields Tree → Verdict 
   abbrev pub after_turn : Standing R → Turn → Standing R
   after_turn w t =
       let x : Standing R = asking with_commit settings w in
-      having_heard with_verdict x (hears settings x.asked t.answer) t.verdicts
+      having_heard with_verdict x (group_after settings x.group x.asked t.answer) (hears settings x.asked t.answer) t.verdicts
 
   -- after all of them
   abbrev pub after_turns : Standing R → List Turn → Standing R
@@ -221,7 +223,7 @@ module _ {R : Type 0} (with_verdict : R → List ℕ × Fields Tree → Verdict 
   Breaks old new w x (causes.Answer e) = (a : wire.Answer) × Exchanges old new (command settings w) a
       × Failed with_verdict settings (asking with_commit settings w).asked a (at_request w.machine) x.machine
       (asking with_commit settings w).history x.history e
-      × (x.missing ≡ w.missing) × (x.asked ≡ Nothing)
+      × (x.group ≡ group_after settings w.group (asking with_commit settings w).asked a) × (x.asked ≡ Nothing)
   Breaks old new w x e = IsUnanswered with_commit settings old new w x e
 
   -- a round fails: it breaks, and if its command may have gone out, the worker begins again
@@ -243,4 +245,4 @@ abbrev pub FailuresBeginAgain : Type 0
 FailuresBeginAgain = (settings : Settings) (old new : Link) (w x : Standing Doings) (e : RunError)
     → Fails done_too committed_too settings old new w x e → (IsUnsent e → ⊥)
     → command settings x
-    ≡ sentence settings x.missing (own (codes "0")) (at_request x.machine).to_acknowledge
+    ≡ sentence settings x.group (own (codes "0")) (at_request x.machine).to_acknowledge

@@ -2,10 +2,10 @@
 ghost use Rattle.std.specs.Prelude.{◌≡◌, ◌≢◌, [], ◌++◌, IfOk, OnOk, OnErr, map, string_bytes};
 ghost use Rattle.redis_wire.specs.Packed.{command_bytes};
 ghost use Rattle.stream_worker.specs.Questions.{ack_sentence, asks, claim_sentence, group_sentence, news_sentence, own_sentence};
-ghost use Rattle.stream_worker.specs.Questions.{phase_asks, phase_of, phase_sentence, sentence};
+ghost use Rattle.stream_worker.specs.Questions.{first_asks, phase_asks, phase_of, phase_sentence, sentence};
 
 use crate::packing::append_command;
-use crate::state::{Asked, MakeGroup, Phase, Settings};
+use crate::state::{Asked, GroupState, MakeGroup, Phase, Settings};
 use redis_resp::{ToRedisArgs, WriteError};
 use std::alloc::Global;
 use stream_commands::{
@@ -18,22 +18,50 @@ pub fn append_question(
     alloc: Global,
     out: &mut Vec<u8>,
     settings: &Settings,
-    group_missing: bool,
+    group: GroupState,
     phase: &Phase,
     ids: &[String],
 ) -> Result<Asked, WriteError>
     ensures ok { OnOk result (out.new.items ≡ out.old.items ++ command_bytes
-        (sentence settings.now group_missing (phase_of phase.now) (map string_bytes ids.now))) }
+        (sentence settings.now group (phase_of phase.now) (map string_bytes ids.now))) }
     ensures asked { IfOk result (λ a. a
-        ≡ asks group_missing (phase_of phase.now) (map string_bytes ids.now)) }
+        ≡ asks group (phase_of phase.now) (map string_bytes ids.now)) }
     ensures err { OnErr result (out.new.items ≡ out.old.items) }
 {
     if !ids.is_empty() {
-        append_acknowledgement(alloc, out, settings, ids)
-    } else if group_missing {
-        append_group(alloc, out, settings)
-    } else {
-        append_by_phase(alloc, out, settings, phase)
+        return append_acknowledgement(alloc, out, settings, ids);
+    }
+    match group {
+        GroupState::Missing => append_group(alloc, out, settings),
+        GroupState::Unknown => append_first(alloc, out, settings, phase),
+        GroupState::Known => append_by_phase(alloc, out, settings, phase),
+    }
+}
+
+/// What the phase asks, before anything is known of the group.
+fn append_first(
+    alloc: Global,
+    out: &mut Vec<u8>,
+    settings: &Settings,
+    phase: &Phase,
+) -> Result<Asked, WriteError>
+    ensures ok { OnOk result (out.new.items ≡ out.old.items
+        ++ command_bytes (phase_sentence settings.now (phase_of phase.now))) }
+    ensures asked { IfOk result (λ a. a ≡ first_asks (phase_of phase.now)) }
+    ensures err { OnErr result (out.new.items ≡ out.old.items) }
+{
+    let asked = append_by_phase(alloc, out, settings, phase)?;
+    Ok(as_first(phase, asked))
+}
+
+/// The question of a phase, before anything is known of the group.
+fn as_first(phase: &Phase, asked: Asked) -> Asked
+    requires { asked ≡ phase_asks (phase_of phase.now) }
+    ensures { result ≡ first_asks (phase_of phase.now) }
+{
+    match phase {
+        Phase::Start | Phase::Own(_) => Asked::First,
+        Phase::Stalled | Phase::Claiming(_) | Phase::Reading(_) => asked,
     }
 }
 

@@ -52,10 +52,16 @@ pub enum WorkerError {
     /// Nothing was asked.
     #[error("an answer to no question")]
     NotAsked,
-    /// The server answered an error, such as `NOGROUP`, `LOADING` or `READONLY`. `answered` leaves the
-    /// worker where it was; `round` and `run` begin again.
+    /// The server answered an error, such as `LOADING` or `READONLY`, or `NOGROUP` to the first question
+    /// of a worker that makes no group. `answered` leaves the worker where it was; `round` and `run` begin
+    /// again.
     #[error("the server answers {0}")]
     Server(ServerError),
+    /// The group was there and is gone: the server answered `NOGROUP` to a question after the first. The
+    /// worker does not make it again, since it would begin at another place. `answered` leaves the worker
+    /// where it was; `round` and `run` begin again.
+    #[error("the group is gone: the server answers {0}")]
+    GroupIsGone(ServerError),
     /// The reply answers no command: the server pushed it unasked, or it is a group with an error
     /// in it. `answered` leaves the worker where it was; `round` and `run` begin again.
     #[error("no answer of a command")]

@@ -96,7 +96,7 @@ impl Worker {
     fn failed(&mut self, error: RunError) -> RunError
         ensures same { result ≡ error }
         ensures machine { machine_of self.new ≡ machine_after error (machine_of self.old) }
-        ensures group { self.new.group_missing ≡ self.old.group_missing }
+        ensures group { self.new.group ≡ self.old.group }
         ensures asked { self.new.asked ≡ self.old.asked }
         ensures settings { self.new.settings ≡ self.old.settings }
     {

@@ -30,7 +30,7 @@ pub struct Settings {
     pub min_idle: usize,
     /// It claims after so many reads of new entries; after each for 0 and 1.
     pub every: usize,
-    /// Whether it makes the group where the server has none.
+    /// Whether it makes the group if the server has none as it asks first.
     pub make_group: MakeGroup,
 }
 
@@ -77,6 +77,17 @@ pub enum Phase {
     Reading(usize),
 }
 
+/// What a worker knows of its group.
+#[derive(Clone, Copy, Debug, PartialEq, Eq)]
+pub enum GroupState {
+    /// Nothing yet.
+    Unknown,
+    /// There was none as it asked first, and it is to make it.
+    Missing,
+    /// It was there: the server read from it, or made it.
+    Known,
+}
+
 /// What a worker waits to be answered.
 #[derive(Clone, Copy, Debug, PartialEq, Eq)]
 pub enum Asked {
@@ -86,6 +97,8 @@ pub enum Asked {
     Acknowledgement,
     /// XGROUP CREATE.
     Group,
+    /// XREADGROUP of its own pending entries, before it knows of its group.
+    First,
     /// XREADGROUP of its own pending entries.
     Own,
     /// XAUTOCLAIM.

@@ -1,5 +1,5 @@
 //! A worker of a consumer group.
-ghost use Rattle.std.specs.Prelude.{◌≡◌, ◌++◌, None, IfErr, IfOk, OnOk, OnErr, map, true, false};
+ghost use Rattle.std.specs.Prelude.{◌≡◌, ◌≢◌, ◌++◌, None, IfErr, IfOk, OnOk, OnErr, map, true};
 ghost use Rattle.redis_resp.specs.Number.{unsigned_reading};
 ghost use Rattle.redis_resp.specs.Refusal.{RefusesNumber};
 ghost use Rattle.redis_resp.specs.Value.{tree};
@@ -8,10 +8,10 @@ ghost use Rattle.redis_wire.specs.Reply as wire;
 ghost use Rattle.redis_wire.specs.Reply.{answer};
 ghost use Rattle.stream_group.specs.Worker.{begins_again, start};
 ghost use Rattle.stream_worker.specs.Answered.{Failed, Went};
-ghost use Rattle.stream_worker.specs.Answers.{group_after, hears, means};
+ghost use Rattle.stream_worker.specs.Answers.{by_error, by_value, group_after, is_gone, means};
 ghost use Rattle.stream_worker.specs.Machine.{Moved, at_request, commits, ending_said};
 ghost use Rattle.stream_worker.specs.Machine.{history_at_request, machine_of};
-ghost use Rattle.stream_worker.specs.Parts.{IsAcknowledged, IsOfGroup, IsRefused, Unread, missing_by};
+ghost use Rattle.stream_worker.specs.Parts.{IsAcknowledged, IsOfGroup, IsRefused, Unread, state_by};
 ghost use Rattle.stream_worker.specs.Questions.{asks, phase_of, sentence};
 ghost use Rattle.stream_worker.specs.Requested.{Unasked};
 ghost use Rattle.stream_worker.specs.Taking.{all_delivered, entry_meaning};
@@ -24,7 +24,7 @@ use crate::error::{RequestError, WorkerError};
 use crate::handler::{Handler, NotCommitted};
 use crate::phases::{next_claim, next_own, next_round};
 use crate::reading::read_entries;
-use crate::state::{Asked, MakeGroup, Phase, Settings};
+use crate::state::{Asked, GroupState, MakeGroup, Phase, Settings};
 use redis_resp::{Value, from_redis_value};
 use redis_streams::{StreamAutoClaimReply, StreamId};
 use redis_wire::{Reply, ServerError};
@@ -49,7 +49,7 @@ pub enum Progress {
 #[derive(Debug, Drop)]
 pub struct Worker {
     settings: Settings,
-    group_missing: bool,
+    group: GroupState,
     phase: Phase,
     to_commit: Vec<String>,
     to_acknowledge: Vec<String>,
@@ -62,12 +62,12 @@ impl Worker {
     pub fn new(alloc: Global, settings: Settings) -> Worker
         ensures machine { machine_of result ≡ start settings.every }
         ensures settings { result.settings ≡ settings }
-        ensures group { result.group_missing ≡ false }
+        ensures group { result.group ≡ GroupState.Unknown }
         ensures asked { result.asked ≡ Asked.Nothing }
     {
         Worker {
             settings,
-            group_missing: false,
+            group: GroupState::Unknown,
             phase: Phase::Start,
             to_commit: Vec::new(alloc),
             to_acknowledge: Vec::new(alloc),
@@ -83,8 +83,8 @@ impl Worker {
         self.asked
     }
 
-    /// Appends the bytes of the next command: an acknowledgement of what is committed; where there
-    /// is nothing to acknowledge a group, if one is to be made; and else what the phase asks.
+    /// Appends the bytes of the next command: an acknowledgement of what is committed; if there is
+    /// nothing to acknowledge a group, if one is to be made; and else what the phase asks.
     ///
     /// Where something is done and not committed, the handler commits first. An `Err` appends
     /// nothing, and after it the same is requested again.
@@ -95,10 +95,10 @@ impl Worker {
         handler: &mut H,
     ) -> Result<(), RequestError>
         ensures bytes { OnOk result (out.new.items ≡ out.old.items ++ command_bytes
-            (sentence self.old.settings self.old.group_missing (machine_of self.new).phase
+            (sentence self.old.settings self.old.group (machine_of self.new).phase
             (machine_of self.new).to_acknowledge)) }
         ensures machine { OnOk result (machine_of self.new ≡ at_request (machine_of self.old)) }
-        ensures asked { OnOk result (self.new.asked ≡ asks self.old.group_missing
+        ensures asked { OnOk result (self.new.asked ≡ asks self.old.group
             (machine_of self.new).phase (machine_of self.new).to_acknowledge) }
         ensures history { OnOk result (H.history handler.new ≡ history_at_request H.with_commit
             (machine_of self.old) (H.history handler.old)) }
@@ -107,14 +107,14 @@ impl Worker {
         ensures err_bytes { OnErr result (out.new.items ≡ out.old.items) }
         ensures err_asked { OnErr result (self.new.asked ≡ self.old.asked) }
         ensures settings { self.new.settings ≡ self.old.settings }
-        ensures group { self.new.group_missing ≡ self.old.group_missing }
+        ensures group { self.new.group ≡ self.old.group }
     {
         self.commit(alloc, handler)?;
         let asked = append_question(
             alloc,
             out,
             &self.settings,
-            self.group_missing,
+            self.group,
             &self.phase,
             &self.to_acknowledge,
         )?;
@@ -130,7 +130,7 @@ impl Worker {
         ensures err { OnErr result ((commits (machine_of self.old) ≡ true) × (self.new ≡ self.old)
             × (H.history handler.new ≡ H.history handler.old)) }
         ensures settings { self.new.settings ≡ self.old.settings }
-        ensures group { self.new.group_missing ≡ self.old.group_missing }
+        ensures group { self.new.group ≡ self.old.group }
         ensures asked { self.new.asked ≡ self.old.asked }
     {
         if self.to_acknowledge.is_empty() && !self.to_commit.is_empty() {
@@ -153,15 +153,17 @@ impl Worker {
         ensures err { IfErr result (Failed H.with_verdict self.old.settings self.old.asked
             (answer reply) (machine_of self.old) (machine_of self.new)
             (H.history handler.old) (H.history handler.new)) }
-        ensures group { OnOk result (self.new.group_missing ≡ group_after self.old.group_missing
-            (hears self.old.settings self.old.asked (answer reply))) }
-        ensures err_group { OnErr result (self.new.group_missing ≡ self.old.group_missing) }
+        ensures group { self.new.group
+            ≡ group_after self.old.settings self.old.group self.old.asked (answer reply) }
         ensures settings { self.new.settings ≡ self.old.settings }
         ensures asked { self.new.asked ≡ Asked.Nothing }
     {
         let asked = mem::replace(&mut self.asked, Asked::Nothing);
         match reply {
-            Reply::Value(value) => self.told(alloc, asked, value, handler),
+            Reply::Value(value) => {
+                self.group = known_by(self.group, asked);
+                self.told(alloc, asked, value, handler)
+            }
             Reply::Error(error) => self.refused(asked, error),
             Reply::Group { .. } | Reply::Push { .. } => Err(WorkerError::NotAnAnswer),
         }
@@ -171,7 +173,7 @@ impl Worker {
     /// connection that broke before an answer came. `run`, `round` and `ask` do so by themselves.
     pub fn begin_again(&mut self)
         ensures machine { machine_of self.new ≡ begins_again (machine_of self.old) }
-        ensures group { self.new.group_missing ≡ self.old.group_missing }
+        ensures group { self.new.group ≡ self.old.group }
         ensures asked { self.new.asked ≡ self.old.asked }
         ensures settings { self.new.settings ≡ self.old.settings }
     {
@@ -184,8 +186,8 @@ impl Worker {
             × IsOfGroup (means self.old.settings.make_group asked error.text.items)) }
         ensures err { IfErr result (λ e. IsRefused asked error.text.items e
             × (means self.old.settings.make_group asked error.text.items ≡ None)) }
-        ensures group { self.new.group_missing ≡ group_after self.old.group_missing
-            (means self.old.settings.make_group asked error.text.items) }
+        ensures group { self.new.group
+            ≡ by_error self.old.group (means self.old.settings.make_group asked error.text.items) }
         ensures machine { machine_of self.new ≡ machine_of self.old }
         ensures settings { self.new.settings ≡ self.old.settings }
         ensures asked { self.new.asked ≡ self.old.asked }
@@ -194,11 +196,11 @@ impl Worker {
             return Err(WorkerError::NotAsked);
         }
         match group_told(self.settings.make_group, asked, &error) {
-            Some(missing) => {
-                self.group_missing = missing;
+            Some(group) => {
+                self.group = group;
                 Ok(Progress::GoesOn)
             }
-            None => Err(WorkerError::Server(error)),
+            None => Err(refusal(asked, error)),
         }
     }
 
@@ -216,19 +218,15 @@ impl Worker {
         ensures err { IfErr result (Failed H.with_verdict self.old.settings asked
             (wire.value (tree value)) (machine_of self.old) (machine_of self.new)
             (H.history handler.old) (H.history handler.new)) }
-        ensures group { OnOk result (self.new.group_missing ≡ group_after self.old.group_missing
-            (hears self.old.settings asked (wire.value (tree value)))) }
-        ensures err_group { OnErr result (self.new.group_missing ≡ self.old.group_missing) }
+        ensures group { self.new.group ≡ self.old.group }
         ensures settings { self.new.settings ≡ self.old.settings }
         ensures asked { self.new.asked ≡ self.old.asked }
     {
         match asked {
             Asked::Nothing => Err(WorkerError::NotAsked),
             Asked::Acknowledgement => self.acknowledged(alloc, value),
-            Asked::Group => {
-                self.group_missing = false;
-                Ok(Progress::GoesOn)
-            }
+            Asked::Group => Ok(Progress::GoesOn),
+            Asked::First => self.own(alloc, value, handler),
             Asked::Own => self.own(alloc, value, handler),
             Asked::Claim => self.claimed(alloc, value, handler),
             Asked::News => self.news(alloc, value, handler),
@@ -241,7 +239,7 @@ impl Worker {
             × IsAcknowledged (tree value) (machine_of self.old) (machine_of self.new)) }
         ensures err { IfErr result (λ e. Unread (unsigned_reading 64) RefusesNumber (tree value) e
             × (machine_of self.new ≡ begins_again (machine_of self.old))) }
-        ensures group { self.new.group_missing ≡ self.old.group_missing }
+        ensures group { self.new.group ≡ self.old.group }
         ensures settings { self.new.settings ≡ self.old.settings }
         ensures asked { self.new.asked ≡ self.old.asked }
     {
@@ -265,7 +263,7 @@ impl Worker {
         ensures err { IfErr result (Failed H.with_verdict self.old.settings Asked.Own
             (wire.value (tree value)) (machine_of self.old) (machine_of self.new)
             (H.history handler.old) (H.history handler.new)) }
-        ensures group { self.new.group_missing ≡ self.old.group_missing }
+        ensures group { self.new.group ≡ self.old.group }
         ensures settings { self.new.settings ≡ self.old.settings }
         ensures asked { self.new.asked ≡ self.old.asked }
     {
@@ -288,7 +286,7 @@ impl Worker {
         ensures err { IfErr result (Failed H.with_verdict self.old.settings Asked.Claim
             (wire.value (tree value)) (machine_of self.old) (machine_of self.new)
             (H.history handler.old) (H.history handler.new)) }
-        ensures group { self.new.group_missing ≡ self.old.group_missing }
+        ensures group { self.new.group ≡ self.old.group }
         ensures settings { self.new.settings ≡ self.old.settings }
         ensures asked { self.new.asked ≡ self.old.asked }
     {
@@ -311,7 +309,7 @@ impl Worker {
         ensures err { IfErr result (Failed H.with_verdict self.old.settings Asked.News
             (wire.value (tree value)) (machine_of self.old) (machine_of self.new)
             (H.history handler.old) (H.history handler.new)) }
-        ensures group { self.new.group_missing ≡ self.old.group_missing }
+        ensures group { self.new.group ≡ self.old.group }
         ensures settings { self.new.settings ≡ self.old.settings }
         ensures asked { self.new.asked ≡ self.old.asked }
     {
@@ -333,7 +331,7 @@ impl Worker {
         ensures moved { Moved H.with_verdict (all_delivered (map entry_meaning entries.now))
             (phase_of next) (machine_of self.old) (machine_of self.new)
             (H.history handler.old) (H.history handler.new) (ending_said result) }
-        ensures group { self.new.group_missing ≡ self.old.group_missing }
+        ensures group { self.new.group ≡ self.old.group }
         ensures settings { self.new.settings ≡ self.old.settings }
         ensures asked { self.new.asked ≡ self.old.asked }
     {
@@ -347,28 +345,58 @@ impl Worker {
     }
 }
 
-/// What an error says of the group that is to be made: true where there is none, false where there
-/// is one now.
-/// A claim or a read of new entries that finds no group says nothing of it: the group that was there
-/// is gone, and made again it would begin at another place.
-fn group_told(make: MakeGroup, asked: Asked, error: &ServerError) -> Option<bool>
-    ensures { result ≡ missing_by (means make asked error.now.text.items) }
+/// What is known of the group after a value: it is there, if entries of it were asked for, or it was made.
+fn known_by(group: GroupState, asked: Asked) -> GroupState
+    ensures { result ≡ by_value group asked }
 {
     match asked {
-        Asked::Nothing | Asked::Acknowledgement | Asked::Claim | Asked::News => None,
+        Asked::Nothing | Asked::Acknowledgement => group,
+        Asked::Group | Asked::First | Asked::Own | Asked::Claim | Asked::News => GroupState::Known,
+    }
+}
+
+/// What an error says of the group: that it is to be made, or that it was. Only the first question of all
+/// may find that there is none.
+fn group_told(make: MakeGroup, asked: Asked, error: &ServerError) -> Option<GroupState>
+    ensures { result ≡ state_by (means make asked error.now.text.items) }
+{
+    match asked {
+        Asked::Nothing | Asked::Acknowledgement | Asked::Own | Asked::Claim | Asked::News => None,
         Asked::Group => {
             if error.code() == b"BUSYGROUP".as_slice() {
-                Some(false)
+                Some(GroupState::Known)
             } else {
                 None
             }
         }
-        Asked::Own => {
+        Asked::First => {
             if make != MakeGroup::Never && error.code() == b"NOGROUP".as_slice() {
-                Some(true)
+                Some(GroupState::Missing)
             } else {
                 None
             }
         }
+    }
+}
+
+/// An error of the server in place of a value, by its name.
+fn refusal(asked: Asked, error: ServerError) -> WorkerError
+    requires { asked ≢ Asked.Nothing }
+    ensures { IsRefused asked error.text.items result }
+{
+    if tells_of_no_group(asked, &error) {
+        WorkerError::GroupIsGone(error)
+    } else {
+        WorkerError::Server(error)
+    }
+}
+
+/// Whether an error says that the group is gone, which was there.
+fn tells_of_no_group(asked: Asked, error: &ServerError) -> bool
+    ensures { result ≡ is_gone asked error.now.text.items }
+{
+    match asked {
+        Asked::Nothing | Asked::Acknowledgement | Asked::Group | Asked::First => false,
+        Asked::Own | Asked::Claim | Asked::News => error.code() == b"NOGROUP".as_slice(),
     }
 }

@@ -1,5 +1,5 @@
 //! Answers out of the bytes that came, with their entries where they stand.
-ghost use Rattle.std.specs.Prelude.{◌≡◌, IfErr, IfOk, Some};
+ghost use Rattle.std.specs.Prelude.{◌≡◌, IfErr, IfOk, Some, true};
 ghost use Rattle.redis_resp.specs.Tree.{Tree};
 ghost use Rattle.stream_entries.specs.AutoClaim.{autoclaim_reading};
 ghost use Rattle.stream_entries.specs.Read.{read_reading};
@@ -8,6 +8,7 @@ ghost use Rattle.stream_refs.specs.Copied.{copied_streams};
 ghost use Rattle.stream_worker.specs.Handed.{entries_sent};
 ghost use Rattle.stream_worker.specs.InPlace.{FailedInPlace, TakenByValue, TakenInPlace, WentInPlace};
 ghost use Rattle.stream_worker.specs.Machine.{Moved, ending_said, machine_of};
+ghost use Rattle.stream_worker.specs.Parts.{reads_own};
 ghost use Rattle.stream_worker.specs.Questions.{phase_of};
 ghost use Rattle.stream_worker.specs.Session.{standing_of};
 ghost use Rattle.stream_worker.specs.Taking.{all_delivered};
@@ -17,7 +18,7 @@ use crate::error::{InPlaceError, WorkerError};
 use crate::handler::Handler;
 use crate::phases::{next_claim, next_own_in_place, next_round};
 use crate::reading::only_in_place;
-use crate::state::{Asked, Phase};
+use crate::state::{Asked, GroupState, Phase};
 use crate::worker::{Progress, Worker};
 use redis_wire::{Decoded, Limits, decode};
 use std::alloc::{AllocError, Global};
@@ -65,6 +66,7 @@ impl Worker {
         ensures settings { self.new.settings ≡ self.old.settings }
     {
         match self.asked {
+            Asked::First => self.own_in_place(alloc, tape, bytes, limits, handler),
             Asked::Own => self.own_in_place(alloc, tape, bytes, limits, handler),
             Asked::Claim => self.claim_in_place(alloc, tape, bytes, limits, handler),
             Asked::News => self.news_in_place(alloc, tape, bytes, limits, handler),
@@ -103,7 +105,7 @@ impl Worker {
         limits: Limits,
         handler: &mut H,
     ) -> Result<Progress, InPlaceError>
-        requires { self.old.asked ≡ Asked.Own }
+        requires { reads_own self.old.asked ≡ true }
         ensures taken { TakenInPlace H.with_verdict self.old.settings limits bytes.now
             (standing_of self.old (H.history handler.old))
             (standing_of self.new (H.history handler.new)) result }
@@ -167,11 +169,12 @@ impl Worker {
         ensures taken { (t : Tree) → read_reading t ≡ Some (copied_streams streams.entry)
             → TakenByValue H.with_verdict self.old.settings Asked.Own t (machine_of self.old)
             (machine_of self.new) (H.history handler.old) (H.history handler.new) result }
-        ensures group { self.new.group_missing ≡ self.old.group_missing }
+        ensures group { self.new.group ≡ GroupState.Known }
         ensures settings { self.new.settings ≡ self.old.settings }
         ensures asked { self.new.asked ≡ Asked.Nothing }
     {
         self.asked = Asked::Nothing;
+        self.group = GroupState::Known;
         self.phase = Phase::Start;
         let Some(entries) = only_in_place(&self.settings.key, streams) else {
             return Err(WorkerError::OtherStream);
@@ -194,11 +197,12 @@ impl Worker {
         }))
             → TakenByValue H.with_verdict self.old.settings Asked.Claim t (machine_of self.old)
             (machine_of self.new) (H.history handler.old) (H.history handler.new) result }
-        ensures group { self.new.group_missing ≡ self.old.group_missing }
+        ensures group { self.new.group ≡ GroupState.Known }
         ensures settings { self.new.settings ≡ self.old.settings }
         ensures asked { self.new.asked ≡ Asked.Nothing }
     {
         self.asked = Asked::Nothing;
+        self.group = GroupState::Known;
         self.phase = Phase::Start;
         let next = next_claim(String::from_str(alloc, found.next_stream_id)?);
         Ok(self.take_in_place(alloc, Some(found.claimed), next, handler)?)
@@ -214,11 +218,12 @@ impl Worker {
         ensures taken { (t : Tree) → read_reading t ≡ Some (copied_streams streams.entry)
             → TakenByValue H.with_verdict self.old.settings Asked.News t (machine_of self.old)
             (machine_of self.new) (H.history handler.old) (H.history handler.new) result }
-        ensures group { self.new.group_missing ≡ self.old.group_missing }
+        ensures group { self.new.group ≡ GroupState.Known }
         ensures settings { self.new.settings ≡ self.old.settings }
         ensures asked { self.new.asked ≡ Asked.Nothing }
     {
         self.asked = Asked::Nothing;
+        self.group = GroupState::Known;
         let phase = mem::replace(&mut self.phase, Phase::Start);
         let Some(entries) = only_in_place(&self.settings.key, streams) else {
             return Err(WorkerError::OtherStream);
@@ -239,7 +244,7 @@ impl Worker {
         ensures moved { Moved H.with_verdict (all_delivered (entries_sent entries.entry))
             (phase_of next) (machine_of self.old) (machine_of self.new)
             (H.history handler.old) (H.history handler.new) (ending_said result) }
-        ensures group { self.new.group_missing ≡ self.old.group_missing }
+        ensures group { self.new.group ≡ self.old.group }
         ensures settings { self.new.settings ≡ self.old.settings }
         ensures asked { self.new.asked ≡ self.old.asked }
     {

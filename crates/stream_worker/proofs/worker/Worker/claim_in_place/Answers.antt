@@ -1,8 +1,6 @@
-use Rattle.stream_entries.specs.AutoClaim.{autoclaim_reading}
-use Rattle.stream_group.specs.Worker.{taken_over}
-use Rattle.stream_worker.specs.Taking.{all_delivered}
+use Rattle.std.proofs.Common.{refl}
 use Rattle.stream_refs.specs.AutoClaim.{autoclaim_tree}
-use Rattle.stream_worker.proofs.InPlaceLemmas.{answer_taken, still_missing, value_failed, value_went}
+use Rattle.stream_worker.proofs.InPlaceLemmas.{answer_taken, value_failed, value_went}
 use Rattle.stream_worker.proofs.worker.Worker.claim_in_place.Goals as goal
 
 pub returns-in_err-claim_found-in-Some-clause-taken : goal.returns-in_err-claim_found-in-Some-clause-taken
@@ -16,7 +14,7 @@ returns-in_err-claim_found-in-Some-clause-taken g c =
     answer_taken g.H.Handler.with_verdict _ _ _ _ _ c.from_residual-in_err-claim_found-in-Some.result
     c.in_err-claim_found-in-Some.field-0.0 c.from_residual-in_err-claim_found-in-Some.ensures.1
     (value_failed g.H.Handler.with_verdict _ _ _ _ _ _ c.in-Some.found.len t c.in_err-claim_found-in-Some.field-0.0 c.requires
-    r.reply (c.in_err-claim_found-in-Some.ensures.taken t r.reading) c.claim_found.ensures.group c.claim_found.ensures.asked)
+    r.reply (c.in_err-claim_found-in-Some.ensures.taken t r.reading) refl c.claim_found.ensures.group c.claim_found.ensures.asked)
 
 pub returns-in_ok-claim_found-in-Some-clause-taken : goal.returns-in_ok-claim_found-in-Some-clause-taken
 returns-in_ok-claim_found-in-Some-clause-taken g c =
@@ -28,5 +26,4 @@ returns-in_ok-claim_found-in-Some-clause-taken g c =
     }) in
     value_went g.H.Handler.with_verdict _ _ _ _ _ _ c.in-Some.found.len t c.in_ok-claim_found-in-Some.field-0 c.requires r.reply
     (c.in_ok-claim_found-in-Some.ensures.taken t r.reading)
-    (still_missing (λ x. taken_over x.next (all_delivered x.claimed)) (autoclaim_reading t) c.args.self.now.group_missing)
-    c.claim_found.ensures.group c.claim_found.ensures.asked
+    refl c.claim_found.ensures.group c.claim_found.ensures.asked

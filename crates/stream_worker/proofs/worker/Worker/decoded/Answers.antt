@@ -8,7 +8,7 @@ returns-in_err-answered-in-Ok-Complete-clause-taken g c =
     answer_taken g.H.Handler.with_verdict _ _ _ _ _ c.from_residual.result c.in_err-answered-in-Ok-Complete.field-0.0
     c.from_residual.ensures.1
     (failed_at g.H.Handler.with_verdict _ _ _ _ _ _ _ c.in_err-answered-in-Ok-Complete.field-0.0
-    sound.1.reply c.in_err-answered-in-Ok-Complete.ensures.err c.in_err-answered-in-Ok-Complete.ensures.err_group
+    sound.1.reply c.in_err-answered-in-Ok-Complete.ensures.err c.in_err-answered-in-Ok-Complete.ensures.group
     c.answered.ensures.asked)
 
 pub returns-in_ok-answered-in-Ok-Complete-clause-taken :

@@ -1,8 +1,5 @@
-use Rattle.std.proofs.Common.{string_bytes}
-use Rattle.stream_group.specs.Worker.{news}
-use Rattle.stream_worker.specs.Answers.{entries_read}
-use Rattle.stream_worker.specs.Taking.{all_delivered}
-use Rattle.stream_worker.proofs.InPlaceLemmas.{answer_taken, still_missing, value_failed, value_went}
+use Rattle.std.proofs.Common.{refl}
+use Rattle.stream_worker.proofs.InPlaceLemmas.{answer_taken, value_failed, value_went}
 use Rattle.stream_worker.proofs.worker.Worker.news_in_place.Goals as goal
 
 pub returns-in_err-news_found-in-Some-clause-taken : goal.returns-in_err-news_found-in-Some-clause-taken
@@ -12,7 +9,7 @@ returns-in_err-news_found-in-Some-clause-taken g c =
     answer_taken g.H.Handler.with_verdict _ _ _ _ _ c.from_residual-in_err-news_found-in-Some.result
     c.in_err-news_found-in-Some.field-0.0 c.from_residual-in_err-news_found-in-Some.ensures.1
     (value_failed g.H.Handler.with_verdict _ _ _ _ _ _ c.in-Some.found.len t c.in_err-news_found-in-Some.field-0.0 c.requires
-    r.reply (c.in_err-news_found-in-Some.ensures.taken t r.reading) c.news_found.ensures.group c.news_found.ensures.asked)
+    r.reply (c.in_err-news_found-in-Some.ensures.taken t r.reading) refl c.news_found.ensures.group c.news_found.ensures.asked)
 
 pub returns-in_ok-news_found-in-Some-clause-taken : goal.returns-in_ok-news_found-in-Some-clause-taken
 returns-in_ok-news_found-in-Some-clause-taken g c =
@@ -20,5 +17,4 @@ returns-in_ok-news_found-in-Some-clause-taken g c =
     let t = r.tree in
     value_went g.H.Handler.with_verdict _ _ _ _ _ _ c.in-Some.found.len t c.in_ok-news_found-in-Some.field-0 c.requires r.reply
     (c.in_ok-news_found-in-Some.ensures.taken t r.reading)
-    (still_missing (λ es. news (all_delivered es)) (entries_read (string_bytes c.args.self.now.settings.key) t) c.args.self.now.group_missing)
-    c.news_found.ensures.group c.news_found.ensures.asked
+    refl c.news_found.ensures.group c.news_found.ensures.asked

@@ -1,8 +1,6 @@
-use Rattle.std.proofs.Common.{string_bytes}
-use Rattle.stream_group.specs.Worker.{own_pending}
-use Rattle.stream_worker.specs.Answers.{entries_read}
-use Rattle.stream_worker.specs.Taking.{all_delivered}
-use Rattle.stream_worker.proofs.InPlaceLemmas.{answer_taken, still_missing, value_failed, value_went}
+use Rattle.std.proofs.Common.{refl}
+use Rattle.stream_worker.proofs.InPlaceLemmas.{answer_taken, shows_own, value_failed, value_went}
+use Rattle.stream_worker.proofs.WorkerLemmas.{own_as_asked, own_failed_as_asked}
 use Rattle.stream_worker.proofs.worker.Worker.own_in_place.Goals as goal
 
 pub returns-in_err-own_found-in-Some-clause-taken : goal.returns-in_err-own_found-in-Some-clause-taken
@@ -11,14 +9,18 @@ returns-in_err-own_found-in-Some-clause-taken g c =
     let t = r.tree in
     answer_taken g.H.Handler.with_verdict _ _ _ _ _ c.from_residual-in_err-own_found-in-Some.result
     c.in_err-own_found-in-Some.field-0.0 c.from_residual-in_err-own_found-in-Some.ensures.1
-    (value_failed g.H.Handler.with_verdict _ _ _ _ _ _ c.in-Some.found.len t c.in_err-own_found-in-Some.field-0.0 c.requires
-    r.reply (c.in_err-own_found-in-Some.ensures.taken t r.reading) c.own_found.ensures.group c.own_found.ensures.asked)
+    (value_failed g.H.Handler.with_verdict _ _ _ _ _ c.args.self.now.asked c.in-Some.found.len t
+    c.in_err-own_found-in-Some.field-0.0 refl r.reply
+    (own_failed_as_asked g.H.Handler.with_verdict _ t _ _ _ _ c.args.self.now.asked c.in_err-own_found-in-Some.field-0.0
+    c.requires (c.in_err-own_found-in-Some.ensures.taken t r.reading))
+    (shows_own c.args.self.now.asked c.requires) c.own_found.ensures.group c.own_found.ensures.asked)
 
 pub returns-in_ok-own_found-in-Some-clause-taken : goal.returns-in_ok-own_found-in-Some-clause-taken
 returns-in_ok-own_found-in-Some-clause-taken g c =
     let r = rw c.in-Some.is at c.in_ok-found.ensures.is in
     let t = r.tree in
-    value_went g.H.Handler.with_verdict _ _ _ _ _ _ c.in-Some.found.len t c.in_ok-own_found-in-Some.field-0 c.requires r.reply
-    (c.in_ok-own_found-in-Some.ensures.taken t r.reading)
-    (still_missing (λ es. own_pending (all_delivered es)) (entries_read (string_bytes c.args.self.now.settings.key) t) c.args.self.now.group_missing)
-    c.own_found.ensures.group c.own_found.ensures.asked
+    value_went g.H.Handler.with_verdict _ _ _ _ _ c.args.self.now.asked c.in-Some.found.len t
+    c.in_ok-own_found-in-Some.field-0 refl r.reply
+    (own_as_asked g.H.Handler.with_verdict _ t _ _ _ _ c.args.self.now.asked c.in_ok-own_found-in-Some.field-0
+    c.requires (c.in_ok-own_found-in-Some.ensures.taken t r.reading))
+    (shows_own c.args.self.now.asked c.requires) c.own_found.ensures.group c.own_found.ensures.asked
