@@ -1,0 +1,2 @@
+-- Lemmas on what is asked.
+pub mod AskedLemmas

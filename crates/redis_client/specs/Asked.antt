@@ -1,0 +1,23 @@
+-- Commands that are asked one after the other.
+use Rattle.std.specs.Prelude.{◌≡◌, ◌⊎◌, ℕ, List, [], ◌∷◌, Option, Some}
+use Rattle.redis_resp.specs.Tree.{Tree}
+use Rattle.redis_resp.specs.Refusal.{RefusesValue}
+use Rattle.redis_wire.specs.Reply.{value}
+use Rattle.redis_connection.specs.Ask.{Exchanges, HasNoAnswer}
+use Rattle.redis_connection.specs.Link.{Link}
+use Rattle.redis_connection.specs.declared.error.AskError.{AskError}
+
+-- the command went out whole, and a value came as its answer
+abbrev pub IsAnswered : Link → Link → List (List ℕ) → Type 0
+IsAnswered old new args = (t : Tree) × Exchanges old new args (value t)
+
+-- each of the commands was answered, before the next one went out
+abbrev pub AsksEach : Link → Link → List (List (List ℕ)) → Type 0
+AsksEach old new [] = new ≡ old
+AsksEach old new (args ∷ more) = (between : Link) × IsAnswered old between args × AsksEach between new more
+
+-- some of the first commands were answered, and the next one was not, for this cause
+abbrev pub BreaksOff : Link → Link → List (List (List ℕ)) → AskError → Type 0
+BreaksOff old new [] e = ⊥
+BreaksOff old new (args ∷ more) e = HasNoAnswer old new args (λ t. Some t) RefusesValue e
+    ⊎ ((between : Link) × IsAnswered old between args × BreaksOff between new more e)

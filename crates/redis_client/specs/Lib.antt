@@ -1,0 +1,8 @@
+-- What a program that connects speaks of.
+pub mod Cut
+pub mod Parts
+pub mod AddressMeaning
+pub mod Asked
+pub mod Greeting
+pub mod Backoff
+pub mod Next

@@ -1,0 +1,53 @@
+-- What an error asks for.
+use Rattle.std.specs.Prelude.{ℕ, List, Bool, codes, if◌then◌else◌, ◌||◌}
+use Rattle.std.specs.Str.{bytes_eq}
+use Rattle.redis_connection.specs.declared.error.AskError.{AskError}
+use Rattle.redis_connection.specs.declared.error.AskError.TheVariants as ask_errors
+use Rattle.redis_connection.specs.declared.error.ConnectionError.{ConnectionError}
+use Rattle.redis_connection.specs.declared.error.ConnectionError.TheVariants as errors
+use Rattle.redis_wire.specs.Reply.{code_of}
+use Rattle.redis_client.specs.declared.next.Next.{Next}
+use Rattle.redis_client.specs.declared.next.Next.TheVariants.{Reconnect, Later, GiveUp}
+
+-- the server has become a replica: another one takes the commands
+abbrev pub is_moving : List ℕ → Bool
+is_moving code = bytes_eq code (codes "READONLY") || bytes_eq code (codes "UNBLOCKED")
+
+-- it starts, or has lost those that it follows or serves with
+abbrev pub is_starting : List ℕ → Bool
+is_starting code = (bytes_eq code (codes "LOADING") || bytes_eq code (codes "MASTERDOWN"))
+    || bytes_eq code (codes "CLUSTERDOWN")
+
+-- it is at work that ends
+abbrev pub is_working : List ℕ → Bool
+is_working code = bytes_eq code (codes "TRYAGAIN") || bytes_eq code (codes "BUSY")
+
+-- it lacks memory, a disk or replicas
+abbrev pub is_lacking : List ℕ → Bool
+is_lacking code = (bytes_eq code (codes "OOM") || bytes_eq code (codes "MISCONF")) || bytes_eq code (codes "NOREPLICAS")
+
+-- it says no for the moment
+abbrev pub is_passing : List ℕ → Bool
+is_passing code = (is_starting code || is_working code) || is_lacking code
+
+-- what the code of a server's error asks for; whatever is not named asks to give up
+abbrev pub after_code : List ℕ → Next
+after_code code = if is_moving code then Reconnect else if is_passing code then Later else GiveUp
+
+-- a connection that broke is made anew, and so is one after memory ran out; what no server answers is
+-- given up, and so is a server that does not speak the protocol
+abbrev pub after_connection : ConnectionError → Next
+after_connection (errors.Write e) = Reconnect
+after_connection (errors.Read e) = Reconnect
+after_connection errors.Closed = Reconnect
+after_connection errors.Memory = Reconnect
+after_connection errors.TooLong = GiveUp
+after_connection errors.NoArguments = GiveUp
+after_connection (errors.Fault fault) = GiveUp
+
+-- an answer that does not fit its command is given up
+abbrev pub after_answer : AskError → Next
+after_answer (ask_errors.Connection e) = after_connection e
+after_answer (ask_errors.Server e) = after_code (code_of e.text.items)
+after_answer (ask_errors.Parsing e) = GiveUp
+after_answer ask_errors.NotAnAnswer = GiveUp

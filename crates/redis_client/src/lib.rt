@@ -1,0 +1,21 @@
+//! What a program does that connects to a server by itself: the address, the commands that begin a
+//! connection, the pauses between tries, and what an error asks for. Nothing here opens a socket.
+#![tactic(auto)]
+
+mod address;
+mod backoff;
+mod cut;
+mod greeting;
+mod next;
+mod number;
+mod parts;
+mod settings;
+mod socket;
+
+pub use address::{Address, AddressError, Login, Protocol};
+pub use backoff::Backoff;
+pub use greeting::greet;
+pub use next::{
+    Next, next_after_answer, next_after_code, next_after_connection, next_after_server,
+};
+pub use socket::connection_over;

@@ -1,0 +1,65 @@
+//! The settings of an address.
+use crate::address::{AddressError, Protocol, decoded};
+use crate::cut::cut;
+use std::alloc::Global;
+
+/// The settings behind the question mark.
+#[derive(Drop)]
+pub(crate) struct Settings {
+    pub protocol: Protocol,
+    pub name: Option<Vec<u8>>,
+}
+
+/// The settings of a text: `protocol` and `name`, in either order.
+pub(crate) fn settings_of(alloc: Global, text: Option<&[u8]>) -> Result<Settings, AddressError> {
+    let none = Settings {
+        protocol: Protocol::Resp2,
+        name: None,
+    };
+    let Some(text) = text else {
+        return Ok(none);
+    };
+    match cut(text, b'&') {
+        (first, None) => with_setting(alloc, none, first),
+        (first, Some(second)) => {
+            let one = with_setting(alloc, none, first)?;
+            with_setting(alloc, one, second)
+        }
+    }
+}
+
+/// The settings with this one in place of what they had.
+fn with_setting(
+    alloc: Global,
+    mut settings: Settings,
+    text: &[u8],
+) -> Result<Settings, AddressError> {
+    let (key, Some(value)) = cut(text, b'=') else {
+        return Err(AddressError::Setting);
+    };
+    if key == b"protocol".as_slice() {
+        settings.protocol = protocol_of(value)?;
+    } else if key == b"name".as_slice() {
+        settings.name = Some(name_of(alloc, value)?);
+    } else {
+        return Err(AddressError::Setting);
+    }
+    Ok(settings)
+}
+
+/// The protocol of this version.
+fn protocol_of(value: &[u8]) -> Result<Protocol, AddressError> {
+    match value {
+        [b'2'] => Ok(Protocol::Resp2),
+        [b'3'] => Ok(Protocol::Resp3),
+        _ => Err(AddressError::Setting),
+    }
+}
+
+/// The name of the connection. A setting behind it is one too many.
+fn name_of(alloc: Global, value: &[u8]) -> Result<Vec<u8>, AddressError> {
+    if let (_, Some(_)) = cut(value, b'&') {
+        return Err(AddressError::Setting);
+    }
+    Ok(decoded(alloc, value)?)
+}

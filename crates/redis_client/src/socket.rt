@@ -1,0 +1,30 @@
+//! A connection over a socket that is open.
+use redis_connection::{Connection, ConnectionError};
+use redis_wire::Limits;
+use std::alloc::Global;
+use std::io;
+use std::io::{Read, Write};
+use std::net::OpenStream;
+use std::time::Duration;
+
+/// A connection over a stream that is open, such as a `TcpStream`. Small commands are not held back, and
+/// a read or a write that takes longer than `patience` fails. It has to be longer than `block` of a
+/// worker's settings, by as long as a busy server may take.
+pub fn connection_over<S: Read + Write + OpenStream + Drop>(
+    alloc: Global,
+    stream: S,
+    patience: Duration,
+) -> Result<Connection<S, S>, ConnectionError> {
+    match reader_of(&stream, patience) {
+        Ok(reader) => Ok(Connection::new(alloc, reader, stream, Limits::default())?),
+        Err(error) => Err(ConnectionError::Read(error)),
+    }
+}
+
+/// The reading end of a stream, after both ends are set.
+fn reader_of<S: Read + Write + OpenStream + Drop>(stream: &S, patience: Duration) -> io::Result<S> {
+    stream.set_nodelay(true)?;
+    stream.set_read_timeout(Some(patience))?;
+    stream.set_write_timeout(Some(patience))?;
+    stream.try_clone()
+}
