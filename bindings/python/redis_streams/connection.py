@@ -6,7 +6,7 @@ from typing import Any, Callable, Protocol
 
 from . import replies
 from .commands import Command, Text, pack
-from .errors import OK, SERVER_ERROR, OTHER, ConnectionClosed
+from .errors import INCOMPLETE, OK, OTHER, SERVER_ERROR, ConnectionClosed
 
 _PIECE = 65536
 _MOST = 1 << 24
@@ -32,6 +32,7 @@ class Decoder:
     def __init__(self) -> None:
         self._buffer = bytearray()
         self._tables = replies.Tables()
+        self._short = False  # whether the last look found that the bytes end too early
 
     def feed(self, data: bytes | bytearray | memoryview) -> None:
         """Adds bytes that came."""
@@ -65,8 +66,12 @@ class Decoder:
         size = len(self._buffer)
         if not size:
             return None
-        tables = self._tables
-        told, length = finding(tables, (ctypes.c_char * size).from_buffer(self._buffer), size)
+        tables, address = self._tables, (ctypes.c_char * size).from_buffer(self._buffer)
+        if self._short and replies.is_short(tables, address, size):
+            return None
+        told, length = finding(tables, address, size)
+        self._short = told == INCOMPLETE
+        del address  # the buffer cannot be cut before
         reply = bytes(self._buffer[:length]) if told in (OK, SERVER_ERROR, OTHER) else b""
         del self._buffer[: len(reply)]
         replies.tell(told, lambda: reply, tables.found.error)

@@ -3,6 +3,7 @@ from __future__ import annotations
 
 import ctypes
 import struct
+import threading
 from typing import Any, Callable, Iterator, NamedTuple, Sequence, Union
 
 from . import _library as c
@@ -11,10 +12,8 @@ from .errors import INCOMPLETE, OK, OTHER, ROOM, SERVER_ERROR, OtherReply, Serve
 _FIELD = struct.Struct("@NNNN")
 _ENTRY = struct.Struct("@NNNN??QQ")
 _STREAM = struct.Struct("@NNNN")
-# No stream of a reply has fewer bytes than this, no entry, no field.
-_LEAST = (10, 11, 12)
+_NODE = struct.Struct("@BNNQN")
 _DIGITS = 4300  # Python makes no number of more; a longer one stays a text
-Table = Any  # an array of records of ctypes
 
 
 class Entry:
@@ -24,31 +23,36 @@ class Entry:
     entry is deleted, so that it has no fields.
     """
 
-    __slots__ = ("_bytes", "_fields", "_id", "_first", "_end", "deleted")
+    __slots__ = ("_bytes", "_fields", "_row")
 
-    def __init__(self, reply: bytes, fields: memoryview, row: tuple[Any, ...]) -> None:
-        self._bytes, self._fields = reply, fields
-        start, size, self._first, self._end, self.deleted = row[:5]
-        self._id = (start, start + size)
+    def __init__(self, reply: bytes, fields: bytes, row: tuple[Any, ...]) -> None:
+        self._bytes, self._fields, self._row = reply, fields, row
 
     @property
     def id(self) -> bytes:
-        return self._bytes[slice(*self._id)]
+        start, size = self._row[:2]
+        return self._bytes[start : start + size]
+
+    @property
+    def deleted(self) -> bool:
+        return bool(self._row[4])
 
     def __iter__(self) -> Iterator[tuple[memoryview, memoryview]]:
         whole = memoryview(self._bytes)
-        for name, name_len, value, value_len in _FIELD.iter_unpack(self._rows()):
-            yield whole[name : name + name_len], whole[value : value + value_len]
+        return ((whole[name : name + name_len], whole[value : value + value_len])
+                for name, name_len, value, value_len in self._places())
 
     def items(self) -> list[tuple[bytes, bytes]]:
-        """The names and values as bytes, in their order; a name may stand there twice."""
+        """The names and values as bytes, in their order; a name may be there twice."""
         whole = self._bytes
         return [(whole[name : name + name_len], whole[value : value + value_len])
-                for name, name_len, value, value_len in _FIELD.iter_unpack(self._rows())]
+                for name, name_len, value, value_len in self._places()]
 
     def to_dict(self) -> dict[bytes, bytes]:
         """The fields as a dict, in which the last of two fields of one name counts."""
-        return dict(self.items())
+        whole = self._bytes
+        return {whole[name : name + name_len]: whole[value : value + value_len]
+                for name, name_len, value, value_len in self._places()}
 
     def get(self, name: bytes) -> memoryview | None:
         """The value of the last field of this name."""
@@ -58,8 +62,8 @@ class Entry:
                 found = value
         return found
 
-    def _rows(self) -> memoryview:
-        return self._fields[self._first * _FIELD.size : self._end * _FIELD.size]
+    def _places(self) -> Iterator[tuple[int, ...]]:
+        return _FIELD.iter_unpack(self._fields[self._row[2] * _FIELD.size : self._row[3] * _FIELD.size])
 
     def __repr__(self) -> str:
         return f"Entry(id={self.id!r}, fields={self.items()!r}{', deleted' if self.deleted else ''})"
@@ -70,7 +74,7 @@ class Entries(Sequence[Entry]):
 
     __slots__ = ("_bytes", "_rows", "_fields")
 
-    def __init__(self, reply: bytes, rows: memoryview, fields: memoryview) -> None:
+    def __init__(self, reply: bytes, rows: bytes, fields: bytes) -> None:
         self._bytes, self._rows, self._fields = reply, rows, fields
 
     def __len__(self) -> int:
@@ -107,7 +111,7 @@ class Streams(Sequence[Stream]):
 
     __slots__ = ("_bytes", "_streams", "_entries", "_fields")
 
-    def __init__(self, reply: bytes, streams: memoryview, entries: memoryview, fields: memoryview) -> None:
+    def __init__(self, reply: bytes, streams: bytes, entries: bytes, fields: bytes) -> None:
         self._bytes, self._streams, self._entries, self._fields = reply, streams, entries, fields
 
     def __len__(self) -> int:
@@ -151,40 +155,32 @@ Finding = Callable[["Tables", Any, int], "tuple[int, int] | None"]
 
 
 class Tables:
-    """Tables of places, and what the last call found: they grow to what a reply wants, and are made anew where a reply
-    took them."""
+    """Tables of places, which grow to what a reply wants, and what the last call found. They serve one thread."""
 
     def __init__(self) -> None:
-        self.rooms = [8, 64, 512]
-        self.nodes_room = 64
-        self.tables: list[Table] | None = None
         self.found, self.claim = c.Found(), c.Claim()
+        self.length, self.count = c.SIZE(), c.SIZE()
+        self.tables: list[Any] = [(c.Stream * 8)(), (c.Entry * 64)(), (c.Field * 512)()]
+        self.nodes: Any = (c.Node * 64)()
 
-    def room(self, most: int) -> list[Table]:
-        """Tables of streams, entries and fields, with no more rows than so many bytes can have."""
-        if self.tables is None:
-            rooms = [min(room, most // least + 1) for room, least in zip(self.rooms, _LEAST)]
-            self.tables = [(kind * room)() for kind, room in zip((c.Stream, c.Entry, c.Field), rooms)]
-        return self.tables
+    def grow(self) -> None:
+        """Makes room for what the last call wants."""
+        wanted = (self.found.streams, self.found.entries, self.found.fields)
+        self.tables = [table if count <= len(table) else (table._type_ * count)()
+                       for table, count in zip(self.tables, wanted)]
 
-    def take(self) -> list[memoryview]:
-        """The rows that were found, as bytes."""
-        assert self.tables is not None
-        counts = (self.found.streams, self.found.entries, self.found.fields)
-        rows = [memoryview(table).cast("B")[: count * ctypes.sizeof(table._type_)]
-                for table, count in zip(self.tables, counts)]
-        self.tables = None
-        return rows
+    def take(self) -> tuple[bytes, bytes, bytes]:
+        """The rows of streams, entries and fields that were found."""
+        found, (streams, entries, fields) = self.found, self.tables
+        return (ctypes.string_at(streams, found.streams * _STREAM.size),
+                ctypes.string_at(entries, found.entries * _ENTRY.size),
+                ctypes.string_at(fields, found.fields * _FIELD.size))
 
-    def find(self, call: Callable[..., int], size: int) -> tuple[int, int]:
-        """What the library tells, and how many bytes the reply has; with tables as large as they have to be."""
-        while True:
-            told = call(self.room(size))
-            if told != ROOM:
-                return told, self.found.len
-            wanted = (self.found.streams, self.found.entries, self.found.fields)
-            self.rooms = [max(room, count) for room, count in zip(self.rooms, wanted)]
-            self.tables = [(kind * max(count, 1))() for kind, count in zip((c.Stream, c.Entry, c.Field), wanted)]
+
+def is_short(tables: Tables, address: Any, size: int) -> bool:
+    """Whether the bytes end before their first reply does, whatever it is. It is cheaper than a reading that fails."""
+    length, count = ctypes.byref(tables.length), ctypes.byref(tables.count)
+    return bool(c.library().redis_find_nodes(address, size, tables.nodes, 0, length, count) == INCOMPLETE)
 
 
 def tell(told: int, reply: Callable[[], bytes], error: c.Span) -> None:
@@ -198,23 +194,45 @@ def tell(told: int, reply: Callable[[], bytes], error: c.Span) -> None:
 
 
 def streams_of(tables: Tables, address: Any, size: int) -> tuple[int, int]:
-    call, found = c.library().redis_find_streams, ctypes.byref(tables.found)
-    return tables.find(lambda t: call(address, size, t[0], len(t[0]), t[1], len(t[1]), t[2], len(t[2]), found), size)
+    """What the library tells of the reply of XREAD, and how many bytes it has. The tables grow if they have to."""
+    call, found = c.library().redis_find_streams, tables.found
+    told = ROOM
+    while told == ROOM:
+        streams, entries, fields = tables.tables
+        told = call(address, size, streams, len(streams), entries, len(entries), fields, len(fields), ctypes.byref(found))
+        if told == ROOM:
+            tables.grow()
+    return told, found.len
 
 
 def range_of(tables: Tables, address: Any, size: int) -> tuple[int, int]:
-    call, found = c.library().redis_find_range, ctypes.byref(tables.found)
-    return tables.find(lambda t: call(address, size, t[1], len(t[1]), t[2], len(t[2]), found), size)
+    return _entries_of(c.library().redis_find_range, tables, address, size, [])
 
 
 def autoclaim_of(tables: Tables, address: Any, size: int) -> tuple[int, int]:
-    call, places = c.library().redis_find_autoclaim, (ctypes.byref(tables.claim), ctypes.byref(tables.found))
-    return tables.find(lambda t: call(address, size, t[1], len(t[1]), t[2], len(t[2]), *places), size)
+    return _entries_of(c.library().redis_find_autoclaim, tables, address, size, [ctypes.byref(tables.claim)])
+
+
+def _entries_of(call: Callable[..., int], tables: Tables, address: Any, size: int, more: list[Any]) -> tuple[int, int]:
+    found = tables.found
+    told = ROOM
+    while told == ROOM:
+        _, entries, fields = tables.tables
+        told = call(address, size, entries, len(entries), fields, len(fields), *more, ctypes.byref(found))
+        if told == ROOM:
+            tables.grow()
+    return told, found.len
 
 
 def justid_of(tables: Tables, address: Any, size: int) -> tuple[int, int]:
-    call, places = c.library().redis_find_justid, (ctypes.byref(tables.claim), ctypes.byref(tables.found))
-    return tables.find(lambda t: call(address, size, t[1], len(t[1]), *places), size)
+    call, found, claim = c.library().redis_find_justid, tables.found, tables.claim
+    told = ROOM
+    while told == ROOM:
+        _, entries, _ = tables.tables
+        told = call(address, size, entries, len(entries), ctypes.byref(claim), ctypes.byref(found))
+        if told == ROOM:
+            tables.grow()
+    return told, found.len
 
 
 def make_streams(tables: Tables, reply: bytes) -> Streams:
@@ -222,7 +240,8 @@ def make_streams(tables: Tables, reply: bytes) -> Streams:
 
 
 def make_range(tables: Tables, reply: bytes) -> Entries:
-    return Entries(reply, *tables.take()[1:])
+    _, rows, fields = tables.take()
+    return Entries(reply, rows, fields)
 
 
 def make_claimed(tables: Tables, reply: bytes) -> Claimed:
@@ -239,39 +258,34 @@ def make_claimed_ids(tables: Tables, reply: bytes) -> ClaimedIds:
 
 
 def nodes_of(tables: Tables, address: Any, size: int) -> tuple[int, int]:
-    call, length, count = c.library().redis_find_nodes, c.SIZE(), c.SIZE()
-    room = min(tables.nodes_room, size // 3 + 1)
-    while True:
-        tables.tables = [(c.Node * room)()]
-        told = call(address, size, tables.tables[0], room, ctypes.byref(length), ctypes.byref(count))
-        tables.found = c.Found(len=length.value, entries=count.value)
-        if told != ROOM:
-            return told, length.value
-        room = tables.nodes_room = max(count.value, 1)
+    call, length, count = c.library().redis_find_nodes, tables.length, tables.count
+    told = ROOM
+    while told == ROOM:
+        told = call(address, size, tables.nodes, len(tables.nodes), ctypes.byref(length), ctypes.byref(count))
+        if told == ROOM:
+            tables.nodes = (c.Node * count.value)()
+    return told, length.value
 
 
 def make_value(tables: Tables, reply: bytes) -> Value:
-    nodes, tables.tables = tables.tables, None
-    assert nodes is not None
-    value, _ = _value_at(nodes[0], 0, reply)
+    rows = list(_NODE.iter_unpack(ctypes.string_at(tables.nodes, tables.count.value * _NODE.size)))
+    value, _ = _value_at(rows, 0, reply)
     if isinstance(value, ServerError):
         raise value
     return value
 
 
-def _value_at(nodes: Table, at: int, reply: bytes) -> tuple[Value, int]:
-    """The value of a node with its members, and the index of the node behind these."""
-    node = nodes[at]
-    kind, end = node.kind, node.end
-    text = reply[node.text.start : node.text.start + node.text.len]
-    if kind in b"*~>%|":
-        members: list[Value] = []
-        at += 1
-        while at < end:
-            member, at = _value_at(nodes, at, reply)
-            members.append(member)
-        return _group(kind, members), end
-    return _scalar(kind, text), end
+def _value_at(nodes: list[tuple[int, ...]], at: int, reply: bytes) -> tuple[Value, int]:
+    """The value of a node with its members, and the index of the node after these."""
+    kind, start, size, _, end = nodes[at]
+    if kind not in b"*~>%|":
+        return _scalar(kind, reply[start : start + size]), end
+    members: list[Value] = []
+    at += 1
+    while at < end:
+        member, at = _value_at(nodes, at, reply)
+        members.append(member)
+    return _group(kind, members), end
 
 
 def _scalar(kind: int, text: bytes) -> Value:
@@ -290,7 +304,7 @@ def _scalar(kind: int, text: bytes) -> Value:
 
 def _group(kind: int, members: list[Value]) -> Value:
     if kind == ord("|"):
-        return members[-1]  # attributes say something of the value that stands behind them
+        return members[-1]  # attributes say something of the value after them
     if kind != ord("%"):
         return members
     pairs = list(zip(members[::2], members[1::2]))
@@ -300,10 +314,21 @@ def _group(kind: int, members: list[Value]) -> Value:
         return [list(pair) for pair in pairs]
 
 
+_own = threading.local()
+
+
+def _tables() -> Tables:
+    """The tables of this thread."""
+    tables: Tables | None = getattr(_own, "tables", None)
+    if tables is None:
+        tables = _own.tables = Tables()
+    return tables
+
+
 def _find(finding: Finding, making: Callable[..., Any], data: bytes) -> Any:
     """What stands at the head of bytes, and how many bytes it has: None where they end too early."""
     data = bytes(data)
-    tables = Tables()
+    tables = _tables()
     told, length = finding(tables, data, len(data))
     tell(told, lambda: data[:length], tables.found.error)
     return (making(tables, data), length) if told == OK else None

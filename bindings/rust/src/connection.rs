@@ -25,6 +25,8 @@ use std::io::{self, Read, Write};
 pub struct Decoder {
     buffer: Vec<u8>,
     taken: usize,
+    /// Whether the last look found that the bytes end too early.
+    short: bool,
     tables: Tables,
 }
 
@@ -81,7 +83,11 @@ impl Decoder {
     /// Whether a whole reply is at the head of the bytes. Then its places are in the tables.
     fn find(&mut self, shape: Shape) -> Result<bool, Error> {
         self.drop_taken();
+        if self.short && Tables::is_short(&self.buffer) {
+            return Ok(false);
+        }
         let found = self.tables.find(shape, &self.buffer);
+        self.short = matches!(found, Ok(false));
         self.taken = match &found {
             Ok(true) => self.tables.reply_len(),
             Ok(false) => 0,
@@ -169,18 +175,14 @@ impl<S: Read + Write> Connection<S> {
 
     /// The next reply, if it is one of XAUTOCLAIM with JUSTID.
     pub fn justid(&mut self) -> Result<ClaimedIds<'_>, ConnectionError> {
-        Ok(self.autoclaim_of_ids()?.ids())
+        self.wait(Shape::JustId)?;
+        Ok(self.decoder.tables.claimed(&self.decoder.buffer).ids())
     }
 
     /// The next reply, whatever it is.
     pub fn value(&mut self) -> Result<Value<'_>, ConnectionError> {
         self.wait(Shape::Any)?;
         Ok(self.decoder.tables.value(&self.decoder.buffer))
-    }
-
-    fn autoclaim_of_ids(&mut self) -> Result<Claimed<'_>, ConnectionError> {
-        self.wait(Shape::JustId)?;
-        Ok(self.decoder.tables.claimed(&self.decoder.buffer))
     }
 
     /// Reads until a whole reply is at the head of the bytes. A long reply is read in larger pieces.

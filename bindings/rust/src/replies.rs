@@ -94,6 +94,12 @@ impl Tables {
         }
     }
 
+    /// Whether the bytes end before their first reply does, whatever it is. It is cheaper than a reading that fails.
+    pub(crate) fn is_short(bytes: &[u8]) -> bool {
+        let (mut len, mut count) = (0, 0);
+        raw::find_nodes(bytes, &mut [], &mut len, &mut count) == INCOMPLETE
+    }
+
     /// How many bytes the reply has that was found last.
     pub(crate) fn reply_len(&self) -> usize {
         self.found.len
