@@ -4,7 +4,7 @@
 usage: bench.py [ENTRIES ..]     how many entries the reply has: 100 and 10,000 if nothing is said
 
 redis-py and hiredis (Debian's python3-redis and python3-hiredis) are left out if they are not there. Each row is the best
-of seven runs, in processor time, over the same bytes, in the same process and in turn. Every row but the first of each
+of three runs, in processor time, over the same bytes, in the same process and in turn. Every row but the first of each
 library makes its entries; 'a dict for each' is what redis-py returns to its caller. The bytes come whole, or from a
 socket that hands out 64 KiB at a time.
 """
@@ -19,7 +19,7 @@ from typing import Any, Callable
 sys.path.insert(0, os.path.dirname(os.path.abspath(__file__)))
 import redis_streams  # noqa: E402
 
-RUNS = 7
+RUNS = 3
 SECONDS = 0.3  # so long each run takes at least
 PIECE = 65536
 

@@ -12,7 +12,8 @@ from . import _library as c
 from .errors import OK, ROOM, BadSettings, error_of
 
 Text = Union[bytes, str]
-Fields = Union[Mapping[Text, Text], Iterable["tuple[Text, Text]"]]
+Texts = Union[Mapping[str, Text], Mapping[bytes, Text], Mapping[Text, Text]]
+Fields = Union[Texts, Iterable["tuple[Text, Text]"]]
 Ids = Union[Text, Iterable[Text]]
 _REFERENCES = {None: 0, "KEEPREF": 1, "DELREF": 2, "ACKED": 3}
 
@@ -63,7 +64,7 @@ def xtrim(key: Text, *, maxlen: int | None = None, minid: Text | None = None, ap
     return _packed("redis_xtrim_options", *_text(key), ctypes.byref(settings), *texts.joined())
 
 
-def xread(streams: Mapping[Text, Text], *, count: int | None = None, block: int | None = None) -> Command:
+def xread(streams: Texts, *, count: int | None = None, block: int | None = None) -> Command:
     """XREAD of streams, each with the id behind which it is read; with `block` 0 it waits without end."""
     texts = _Texts()
     settings = _reading(count, block)
@@ -71,7 +72,7 @@ def xread(streams: Mapping[Text, Text], *, count: int | None = None, block: int 
     return _packed("redis_xread_streams", ctypes.byref(settings), *texts.joined(), *table)
 
 
-def xreadgroup(group: Text, consumer: Text, streams: Mapping[Text, Text], *, count: int | None = None,
+def xreadgroup(group: Text, consumer: Text, streams: Texts, *, count: int | None = None,
                block: int | None = None, noack: bool = False, claim: int | None = None) -> Command:
     """XREADGROUP of streams, each with an id: `>` for entries that no consumer was given yet.
 
@@ -191,12 +192,12 @@ def _trimming(texts: _Texts, maxlen: int | None, minid: Text | None, approximate
 
 
 def _fields(texts: _Texts, pairs: Iterable[tuple[Text, Text]]) -> tuple[Any, int]:
-    rows = [(texts.add(name), texts.add(value)) for name, value in pairs]
+    rows = [c.Field(texts.add(name), texts.add(value)) for name, value in pairs]
     return (c.Field * max(len(rows), 1))(*rows), len(rows)
 
 
 def _ids(texts: _Texts, ids: Ids) -> tuple[Any, int]:
-    rows = [(texts.add(id),) for id in ([ids] if isinstance(ids, (bytes, str)) else ids)]
+    rows = [c.Entry(texts.add(id)) for id in ([ids] if isinstance(ids, (bytes, str)) else ids)]
     return (c.Entry * max(len(rows), 1))(*rows), len(rows)
 
 

@@ -2,7 +2,7 @@
 from __future__ import annotations
 
 import ctypes
-from typing import Any, Callable, Protocol
+from typing import Any, Callable, Protocol, TypeVar
 
 from . import replies
 from .commands import Command, Text, pack
@@ -10,6 +10,7 @@ from .errors import INCOMPLETE, OK, OTHER, SERVER_ERROR, ConnectionClosed
 
 _PIECE = 65536
 _MOST = 1 << 24
+T = TypeVar("T")
 
 
 class SocketLike(Protocol):
@@ -62,7 +63,7 @@ class Decoder:
         """Any reply, in a tuple of its own, since a reply may be None itself."""
         return self._next(replies.nodes_of, lambda tables, reply: (replies.make_value(tables, reply),))
 
-    def _next(self, finding: replies.Finding, making: Callable[[replies.Tables, bytes], Any]) -> Any:
+    def _next(self, finding: replies.Finding, making: Callable[[replies.Tables, bytes], T]) -> T | None:
         size = len(self._buffer)
         if not size:
             return None
@@ -121,7 +122,7 @@ class Connection:
         self.send(command)
         return self._wait(self.decoder.justid)
 
-    def _wait(self, reading: Callable[[], Any]) -> Any:
+    def _wait(self, reading: Callable[[], T | None]) -> T:
         """What a reading finds, when it is whole. A reply that is long is asked for in larger pieces."""
         while True:
             found = reading()

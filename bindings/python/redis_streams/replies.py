@@ -4,7 +4,7 @@ from __future__ import annotations
 import ctypes
 import struct
 import threading
-from typing import Any, Callable, Iterator, NamedTuple, Sequence, Union
+from typing import Any, Callable, Iterator, NamedTuple, Sequence, TypeVar, Union
 
 from . import _library as c
 from .errors import INCOMPLETE, OK, OTHER, ROOM, SERVER_ERROR, OtherReply, ServerError, error_of
@@ -151,7 +151,8 @@ class ClaimedIds(NamedTuple):
 
 
 Value = Union[None, bool, int, float, bytes, ServerError, "list[Value]", "dict[Any, Value]"]
-Finding = Callable[["Tables", Any, int], "tuple[int, int] | None"]
+Finding = Callable[["Tables", Any, int], "tuple[int, int]"]
+T = TypeVar("T")
 
 
 class Tables:
@@ -325,7 +326,7 @@ def _tables() -> Tables:
     return tables
 
 
-def _find(finding: Finding, making: Callable[..., Any], data: bytes) -> Any:
+def _find(finding: Finding, making: Callable[[Tables, bytes], T], data: bytes) -> tuple[T, int] | None:
     """What stands at the head of bytes, and how many bytes it has: None where they end too early."""
     data = bytes(data)
     tables = _tables()

@@ -96,8 +96,8 @@ class ConsumerTest(unittest.TestCase):
         self.assertEqual(connection.range_of(commands.xclaim("orders", "g", "ann", 0, "1-0"))[0].get(b"item"), b"tea")
         claimed = connection.claimed_of(commands.xautoclaim("orders", "g", "ann", 0))
         self.assertEqual((claimed.next_id, claimed.entries.ids(), claimed.deleted_ids), (b"0-0", [b"1-0"], [b"2-0"]))
-        claimed = connection.claimed_ids_of(commands.xautoclaim("orders", "g", "ann", 0, justid=True))
-        self.assertEqual(claimed, (b"3-0", [b"1-0"], []))
+        ids = connection.claimed_ids_of(commands.xautoclaim("orders", "g", "ann", 0, justid=True))
+        self.assertEqual(ids, (b"3-0", [b"1-0"], []))
 
 
 if __name__ == "__main__":
