@@ -1,7 +1,7 @@
 """Makes the wheel, with nothing but Python's own library: `pip install .` then wants no network and no other package.
 
-The shared library goes into the wheel where it is found: where REDIS_C_LIBRARY says, or in dist/ of the repository,
-where `tools/release` puts it. A wheel without it has the name of no platform, and looks for the library when it runs.
+The shared library goes into the wheel if it is found: at the path in REDIS_C_LIBRARY, or in dist/ of the repository, as
+`tools/release` puts it. A wheel without it has the name of no platform, and looks for the library when it runs.
 """
 import base64
 import hashlib
@@ -18,7 +18,7 @@ INFO = f"{NAME}-{VERSION}.dist-info"
 METADATA = f"""Metadata-Version: 2.1
 Name: redis-streams-c
 Version: {VERSION}
-Summary: Redis streams: replies read where they stand, and commands, by the C library redis_c
+Summary: Redis streams: replies read in place, and commands, by the C library redis_c
 Requires-Python: >=3.9
 """
 
@@ -29,7 +29,7 @@ def read(path):
 
 
 def shared_library():
-    """Returns the path of the shared library, None where there is none."""
+    """Returns the path of the shared library, None if there is none."""
     paths = [os.environ.get("REDIS_C_LIBRARY", ""), f"{HERE}/{PACKAGE}/libredis_c.so", f"{HERE}/../../dist/libredis_c.so"]
     return next((path for path in paths if os.path.isfile(path)), None)
 

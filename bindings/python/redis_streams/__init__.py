@@ -1,4 +1,4 @@
-"""Redis streams: replies read where they stand, and commands, by the C library redis_c.
+"""Redis streams: replies read in place, and commands, by the C library redis_c.
 
 `find_streams` and its like read the reply at the head of bytes; a `Decoder` reads replies from pieces of bytes, and a
 `Connection` from a socket. `commands` has the commands, `errors` what goes wrong. A `Consumer` reads for a group and

@@ -71,7 +71,7 @@ class PendingSettings(ctypes.Structure):
 
 
 # Of each call what it is handed: B bytes and their number, T a table and its room or number, N a number, F a flag,
-# P a pointer to one record. The calls that write a command take a buffer, its room and a place for the length behind.
+# P a pointer to one record. The calls that write a command take a buffer, its room and a place for the length at the end.
 _READINGS = {
     "redis_find_streams": "BTTTP", "redis_find_range": "BTTP", "redis_find_autoclaim": "BTTPP",
     "redis_find_justid": "BTPP", "redis_find_nodes": "BTPP",
@@ -98,7 +98,7 @@ def _declare(library: ctypes.CDLL) -> None:
 
 
 def library_paths() -> list[str]:
-    """Where the library is looked for: where the variable says, else beside the package, else in a checkout's dist/."""
+    """Where the library is looked for: at the path in the variable, else beside the package, else in a checkout's dist/."""
     named = os.environ.get(VARIABLE)
     return [named] if named else [os.path.join(HERE, NAME), os.path.join(HERE, "..", "..", "..", "dist", NAME)]
 

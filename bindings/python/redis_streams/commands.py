@@ -65,7 +65,7 @@ def xtrim(key: Text, *, maxlen: int | None = None, minid: Text | None = None, ap
 
 
 def xread(streams: Texts, *, count: int | None = None, block: int | None = None) -> Command:
-    """XREAD of streams, each with the id behind which it is read; with `block` 0 it waits without end."""
+    """XREAD of streams, each with the id after which it is read; with `block` 0 it waits without end."""
     texts = _Texts()
     settings = _reading(count, block)
     table = _fields(texts, streams.items())
@@ -129,7 +129,7 @@ def xpending(key: Text, group: Text, count: int, start: Text = b"-", end: Text =
 
 
 class _Texts:
-    """Texts one behind the other, each at a place."""
+    """Texts one after the other, each at a place."""
 
     def __init__(self) -> None:
         self.texts: list[bytes] = []
@@ -202,7 +202,7 @@ def _ids(texts: _Texts, ids: Ids) -> tuple[Any, int]:
 
 
 def _packed(name: str, *handed: Any) -> Command:
-    """The command that a call writes: it tells how much room it wants where that is too little."""
+    """The command that a call writes: it tells how much room it wants if that is too little."""
     call: Callable[..., int] = getattr(c.library(), name)
     room, length = 256, c.SIZE()
     while True:

@@ -24,7 +24,7 @@ class SocketLike(Protocol):
 class Decoder:
     """Bytes that come in pieces, and the replies in them, one after the other.
 
-    Each reading returns the reply at the head of the bytes and takes it off, or returns None where it is not whole yet.
+    Each reading returns the reply at the head of the bytes and takes it off, or returns None if it is not whole yet.
     What it returns has a copy of its bytes, so it stays as it is. ServerError and OtherReply take their reply off, too; a
     ProtocolError takes nothing off, so that it comes again. Each reading looks at the bytes from their head on: large
     pieces are cheaper than small ones.
@@ -82,8 +82,8 @@ class Decoder:
 class Connection:
     """Commands and replies over a socket that is connected and logged in.
 
-    Each reading waits for a whole reply. Where the socket raises, such as after its timeout, a reply may be under way:
-    then the connection is to be closed, and another one made.
+    Each reading waits for a whole reply. If the socket raises, such as after its timeout, a reply may be under way: then
+    the connection is to be closed, and another one made.
     """
 
     def __init__(self, socket: SocketLike) -> None:

@@ -29,7 +29,7 @@ class Consumer:
                  block: int | None = 5000) -> None:
         """At most `count` entries are read at once, and each read waits up to `block` milliseconds, 0 without end.
 
-        The timeout of the socket, where it has one, has to be longer than that."""
+        If the socket has a timeout, it has to be longer than that."""
         self.connection = socket if isinstance(socket, Connection) else Connection(socket)
         self.key, self.group, self.name = key, group, name
         self.count, self.block = count, block
@@ -61,11 +61,11 @@ class Consumer:
         self._stopped = True
 
     def read_pending(self, after: Text = b"0-0") -> Entries:
-        """The entries behind an id that this consumer was given and did not acknowledge."""
+        """The entries after an id that this consumer was given and did not acknowledge."""
         return self._read(commands.xreadgroup(self.group, self.name, {self.key: after}, count=self.count))
 
     def read_new(self) -> Entries:
-        """Entries that no consumer was given yet; none where nothing came in time."""
+        """Entries that no consumer was given yet; none if nothing came in time."""
         return self._read(commands.xreadgroup(self.group, self.name, {self.key: b">"}, count=self.count,
                                               block=self.block))
 
@@ -92,7 +92,7 @@ class Consumer:
             return 0
         count = self.connection.value_of(commands.xack(self.key, self.group, ids))
         if not isinstance(count, int):
-            raise Error(f"XACK was answered by {count!r}")
+            raise Error(f"the reply to XACK is {count!r}")
         return count
 
     def _read(self, command: commands.Command) -> Entries:

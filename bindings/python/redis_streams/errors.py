@@ -11,11 +11,11 @@ class LibraryNotFound(Error, ImportError):
 
 
 class ConnectionClosed(Error, ConnectionError):
-    """The server closed the connection, where a reply was waited for."""
+    """The server closed the connection while a reply was waited for."""
 
 
 class ServerError(Error):
-    """The server answered an error: `text` is what it says, and `code` its first word, such as NOGROUP."""
+    """The server's own error: `text` is what it says, and `code` its first word, such as NOGROUP."""
 
     def __init__(self, text: bytes) -> None:
         super().__init__(text.decode("utf-8", "backslashreplace"))
@@ -107,7 +107,7 @@ class BadPush(ProtocolError):
 
 
 class Overfull(ProtocolError):
-    """No call of this library answers it."""
+    """No call of this library returns it."""
 
 
 class TooMany(ProtocolError):

@@ -1,4 +1,4 @@
-"""Replies that are read where they stand: nothing is copied before it is asked for."""
+"""Replies that are read in place: nothing is copied before it is asked for."""
 from __future__ import annotations
 
 import ctypes
@@ -107,7 +107,7 @@ class Stream(NamedTuple):
 
 
 class Streams(Sequence[Stream]):
-    """The reply of XREAD or XREADGROUP: its streams, in the order of the reply. None at all where it was nil."""
+    """The reply of XREAD or XREADGROUP: its streams, in the order of the reply. None at all if it was nil."""
 
     __slots__ = ("_bytes", "_streams", "_entries", "_fields")
 
@@ -327,7 +327,7 @@ def _tables() -> Tables:
 
 
 def _find(finding: Finding, making: Callable[[Tables, bytes], T], data: bytes) -> tuple[T, int] | None:
-    """What stands at the head of bytes, and how many bytes it has: None where they end too early."""
+    """What is at the head of bytes, and how many bytes it has: None if they end too early."""
     data = bytes(data)
     tables = _tables()
     told, length = finding(tables, data, len(data))

@@ -227,7 +227,7 @@ READINGS = {
 
 
 def outcome(kind: str, data: bytes) -> tuple[Any, ...]:
-    """What stands at the head of the bytes: found, error, other, refused, or not yet."""
+    """What is at the head of the bytes: found, error, other, refused, or not yet."""
     reader: Reader
     try:
         if kind in READINGS:
