@@ -3,3 +3,4 @@ pub mod ReplyLemmas
 pub mod RequestLemmas
 pub mod TakenLemmas
 pub mod StepLemmas
+pub mod SessionLemmas

@@ -1,18 +1,23 @@
 -- Records that are numbered, and what is written of them.
 use Rattle.std.proofs.Common.{◌≡◌, ◌≢◌, ℕ, zero, suc, ◌+◌, ◌<◌, ◌≤◌, ◌^◌, List, [], ◌∷◌, ◌++◌, length, map, take, drop}
-use Rattle.std.proofs.Common.{refl, ap, sym, ◌∙◌, arith, get_or, append_assoc, append-nil, add-one, subst}
+use Rattle.std.proofs.Common.{◌⊎◌, inl, inr, Option, Some, None, refl, ap, sym, ◌∙◌, arith, get_or, append_assoc, append-nil, add-one, subst}
 use Rattle.std.proofs.Math.Seq.{drop-cons}
-use Rattle.std.specs.Prelude.{string_bytes, Result, Ok, Err, OnOk, IfOk, IfErr}
+use Rattle.std.proofs.lemmas.List.{take_all}
+use Rattle.std.specs.Prelude.{string_bytes, Result, Ok, Err, OnOk, IfOk, IfErr, IfSome}
 use Rattle.redis_wire.specs.Packed.{command_bytes}
-use Rattle.stream_once.specs.Feed.{Numbered, numbered, knows, waits}
-use Rattle.stream_feed.specs.Machine.{Sent, Standing, Unrequested, Unsent, next_batch}
-use Rattle.stream_feed.specs.Records.{Fields}
-use Rattle.stream_feed.specs.Sentences.{add_sentence, adds_bytes, batch_bytes}
+use Rattle.stream_once.specs.Feed as feed
+use Rattle.stream_once.specs.Feed.{Numbered, numbered, asking, knows, waits}
+use Rattle.stream_feed.specs.Machine.{Asks, AsksNone, RequestedAt, Sends, Sent, Standing, Unrequested, Unsent, next_batch}
+use Rattle.stream_feed.specs.Machine.{stage_of, standing_of}
+use Rattle.stream_feed.specs.Records.{AreAll, Fields}
+use Rattle.stream_feed.specs.Sentences.{add_sentence, adds_bytes, ask_bytes, batch_bytes}
 use Rattle.stream_feed.specs.declared.error.RequestError.{RequestError}
 use Rattle.stream_feed.specs.declared.error.RequestError.TheVariants as causes
+use Rattle.stream_feed.specs.declared.producer.Producer.{Producer}
 use Rattle.stream_feed.specs.declared.settings.Settings.{Settings}
 use Rattle.stream_feed.specs.declared.stage.Asked.{Asked}
 use Rattle.stream_feed.specs.declared.stage.Asked.TheVariants as asked
+use Rattle.stream_feed.proofs.TakenLemmas.{none_to_come}
 
 -- one more record is written
 pub written : {A : Type 0} (f : A → Fields) (key : List ℕ) (n i : ℕ) (xs : List A) (x : A) (out new all : List ℕ)
@@ -114,3 +119,95 @@ pub sent_err : (r : Result Asked RequestError) (s : Settings) (all : List Fields
     → IfErr r (Unrequested s all (record { stage = knows m; coming = 0 }))
 sent_err (Ok a) s all m k len u = tt
 sent_err (Err e) s all m k len u = unsent s all m k e len u
+
+-- so many records before these
+behind_others : {A : Type 0} (m n : ℕ) (xs : List (List A)) → length xs ≤ n
+    → (all : List (List A)) × (xs ≡ take n (drop m all))
+behind_others zero n xs few = (xs, sym (take_all n xs few))
+behind_others (suc m) n xs few =
+    let rest = behind_others m n xs few in
+    ([] ∷ rest.0, rest.1)
+
+-- what was read is next of all records, where they are known, and else of some
+pub all_read : {A : Type 0} (n m : ℕ) (known : Option (List Fields)) (f : A → Fields) (xs : List A)
+    → IfSome known (λ all. map f xs ≡ take n (drop m all)) → length xs ≤ n
+    → (all : List Fields) × AreAll known all × (map f xs ≡ take n (drop m all))
+all_read n m None f xs read few =
+    let within : length (map f xs) ≤ n = omega (arith, map_length f xs, few) in
+    let all = behind_others m n (map f xs) within in
+    (all.0, tt, all.1)
+all_read n m (Some all) f xs read few = (all, refl, read)
+
+pub sends_ok : (r : Result Asked RequestError) (s : Settings) (known : Option (List Fields)) (all : List Fields)
+    (old : feed.Stage) (out more : List ℕ) (new : Standing) → AreAll known all
+    → IfOk r (Sent s (next_batch s all old) out more old new) → IfOk r (Sends s known out more old new)
+sends_ok (Ok a) s known all old out more new are sent = (all, are, sent)
+sends_ok (Err e) s known all old out more new are sent = tt
+
+pub sends_err : (r : Result Asked RequestError) (s : Settings) (known : Option (List Fields)) (all : List Fields) (m : ℕ)
+    → AreAll known all → IfErr r (Unrequested s all (record { stage = knows m; coming = 0 }))
+    → IfErr r (AsksNone s known (record { stage = knows m; coming = 0 }))
+sends_err (Ok a) s known all m are u = tt
+sends_err (Err e) s known all m are u = (all, are, u)
+
+-- some records that all may be
+pub some_records : (known : Option (List Fields)) → (all : List Fields) × AreAll known all
+some_records None = ([], tt)
+some_records (Some all) = (all, refl)
+
+pub not_read : (s : Settings) (known : Option (List Fields)) (m : ℕ)
+    → AsksNone s known (record { stage = knows m; coming = 0 }) causes.NotRead
+not_read s known m =
+    let all = some_records known in
+    (all.0, all.1, (m, refl))
+
+-- the last id is asked for
+asked_last : (s : Settings) (all : List Fields) (st : feed.Stage) (out more : List ℕ) (new : Standing) (a : Asked)
+    → st ≡ asking → more ≡ out ++ ask_bytes (string_bytes s.key) → new ≡ record { stage = asking; coming = 1 }
+    → a ≡ asked.LastId → Sent s (next_batch s all st) out more st new a
+asked_last s all st out more new a is bytes stands asks =
+    subst (λ (t : feed.Stage). Sent s (next_batch s all t) out more t new a) (sym is)
+    (record { bytes = bytes; asks = asks; stands = stands; fits = tt })
+
+pub asking_ok : (r : Result Asked RequestError) (known : Option (List Fields)) (p q : Producer) (out more : List ℕ)
+    → p.coming ≡ 0 → stage_of p.stage ≡ asking
+    → OnOk r (more ≡ out ++ ask_bytes (string_bytes p.settings.key)) → OnOk r (q ≡ record p { coming = 1 })
+    → IfOk r (λ a. a ≡ asked.LastId) → IfOk r (Asks p.settings known out more (standing_of p) (standing_of q))
+asking_ok (Err e) known p q out more none is bytes stands asks = tt
+asking_ok (Ok a) known p q out more none is bytes stands asks =
+    let all = some_records known in
+    let new : standing_of q ≡ record { stage = asking; coming = 1 } =
+    ap standing_of stands ∙ ap (λ (t : feed.Stage). let y : Standing = record { stage = t; coming = 1 } in y) is in (
+      all.0,
+      all.1,
+      none_to_come p.coming p.settings all.0 out more (standing_of p) (standing_of q) a none
+          (asked_last p.settings all.0 (stage_of p.stage) out more (standing_of q) a is bytes new asks),
+    )
+
+short_of : (s : Settings) (all : List Fields) (old : Standing) (e : RequestError) → old.coming ≡ 0
+    → (e ≡ causes.TooLong) ⊎ (e ≡ causes.Memory) → Unrequested s all old e
+short_of s all old e none is = elim is [
+  | inl x ↦ subst (λ (c : RequestError). Unrequested s all old c) (sym x) none
+  | inr x ↦ subst (λ (c : RequestError). Unrequested s all old c) (sym x) none
+]
+
+pub asking_err : (r : Result Asked RequestError) (s : Settings) (known : Option (List Fields)) (old : Standing)
+    → old.coming ≡ 0 → IfErr r (λ e. (e ≡ causes.TooLong) ⊎ (e ≡ causes.Memory)) → IfErr r (AsksNone s known old)
+asking_err (Ok a) s known old none is = tt
+asking_err (Err e) s known old none is =
+    let all = some_records known in
+    (all.0, all.1, short_of s all.0 old e none is)
+
+-- it waits, and asks nothing
+waits_at : (s : Settings) (all : List Fields) (out : List ℕ) (m n : ℕ)
+    → (let y : Standing = record { stage = waits m n; coming = 0 } in RequestedAt 0 s all out out y y asked.Nothing)
+waits_at s all out m n = record { bytes = sym (append-nil out); asks = refl; stands = refl; fits = tt }
+
+pub waits_still : (s : Settings) (all : List Fields) (out : List ℕ) (st : feed.Stage) (c m n : ℕ) → c ≡ 0
+    → st ≡ waits m n
+    → (let y : Standing = record { stage = st; coming = c } in RequestedAt c s all out out y y asked.Nothing)
+waits_still s all out st c m n none is =
+    subst (λ (k : ℕ). let y : Standing = record { stage = st; coming = k } in RequestedAt k s all out out y y asked.Nothing)
+    (sym none)
+    (subst (λ (t : feed.Stage). let y : Standing = record { stage = t; coming = 0 } in
+    RequestedAt 0 s all out out y y asked.Nothing) (sym is) (waits_at s all out m n))

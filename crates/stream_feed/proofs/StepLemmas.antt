@@ -1,12 +1,11 @@
 -- What a producer promises are steps of the model.
-use Rattle.std.proofs.Common.{◌≡◌, ◌&&◌, refl, sym, ap, subst, ◌∙◌, ℕ, List, [], ◌∷◌, length, take, drop, Option, Some, None}
+use Rattle.std.proofs.Common.{◌≡◌, ◌&&◌, refl, sym, ap, ◌∙◌, ℕ, List, [], ◌∷◌, take, drop, Option, Some, None}
 use Rattle.std.specs.Prelude.{if◌then◌else◌}
 use Rattle.std.specs.Option.{is_none}
 use Rattle.stream_once.specs.Feed.{Numbered, Stage, Answer, Request, numbered, asking, knows, waits, learns, request, requested}
 use Rattle.stream_once.specs.Feed.{waiting, adding}
 use Rattle.stream_once.specs.Producer.{Producer, sends, hears}
-use Rattle.stream_once.specs.World.{Setting, World, Send, happens}
-use Rattle.stream_feed.specs.Machine.{Sent, Standing, next_batch, stands_at, asks_of}
+use Rattle.stream_feed.specs.Machine.{Standing, next_batch, stands_at, asks_of}
 use Rattle.stream_feed.specs.Records.{Fields}
 use Rattle.stream_feed.specs.Step.{RequestsStayInStep, AnswersStayInStep, BreaksStayInStep, on_the_way}
 use Rattle.stream_feed.specs.declared.settings.Settings.{Settings}

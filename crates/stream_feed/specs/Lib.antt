@@ -8,3 +8,4 @@ pub mod Unheard
 pub mod Machine
 pub mod Learnt
 pub mod Step
+pub mod Session

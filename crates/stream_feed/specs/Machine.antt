@@ -1,9 +1,9 @@
 -- A producer as the machine that the laws speak of.
 use Rattle.std.specs.Prelude.{◌≡◌, ℕ, zero, suc, ◌+◌, ◌<◌, ◌≤◌, ◌^◌, List, [], ◌∷◌, ◌++◌, take, drop, length}
-use Rattle.std.specs.Prelude.{string_bytes}
+use Rattle.std.specs.Prelude.{Option, string_bytes}
 use Rattle.stream_once.specs.Feed as feed
 use Rattle.stream_once.specs.Feed.{Numbered, numbered, asking, knows, waits}
-use Rattle.stream_feed.specs.Records.{Fields}
+use Rattle.stream_feed.specs.Records.{Fields, AreAll}
 use Rattle.stream_feed.specs.Sentences.{ask_bytes, batch_bytes}
 use Rattle.stream_feed.specs.declared.error.RequestError.{RequestError}
 use Rattle.stream_feed.specs.declared.error.RequestError.TheVariants as causes
@@ -84,6 +84,14 @@ RequestedAt (suc k) s all out more old new a = (more ≡ out) × (a ≡ asked.No
 abbrev pub Requested : Settings → List Fields → List ℕ → List ℕ → Standing → Standing → Asked → Type 0
 Requested s all out more old new a = RequestedAt old.coming s all out more old new a
 
+-- the same of all records where they are known, and else of some
+abbrev pub Asks : Settings → Option (List Fields) → List ℕ → List ℕ → Standing → Standing → Asked → Type 0
+Asks s known out more old new a = (all : List Fields) × AreAll known all × Requested s all out more old new a
+
+-- the same where no reply is to come
+abbrev pub Sends : Settings → Option (List Fields) → List ℕ → List ℕ → feed.Stage → Standing → Asked → Type 0
+Sends s known out more old new a = (all : List Fields) × AreAll known all × Sent s (next_batch s all old) out more old new a
+
 -- why a batch is not sent, whose last id has this number
 abbrev pub Unsent : ℕ → RequestError → Type 0
 Unsent last causes.NotRead = ⊥
@@ -99,3 +107,7 @@ Unrequested s all old causes.NoIdLeft =
     × (2 ^ 64 ≤ s.base + m + length (next_batch s all old.stage))
 Unrequested s all old causes.TooLong = old.coming ≡ 0
 Unrequested s all old causes.Memory = old.coming ≡ 0
+
+-- the same of all records where they are known, and else of some
+abbrev pub AsksNone : Settings → Option (List Fields) → Standing → RequestError → Type 0
+AsksNone s known old e = (all : List Fields) × AreAll known all × Unrequested s all old e

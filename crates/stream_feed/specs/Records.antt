@@ -1,5 +1,5 @@
 -- Records as arguments.
-use Rattle.std.specs.Prelude.{ℕ, List, [], ◌∷◌, Vec}
+use Rattle.std.specs.Prelude.{◌≡◌, ℕ, List, [], ◌∷◌, Option, Some, None, Vec}
 use Rattle.std.specs.List.{flat_map}
 use Rattle.std.specs.declared.alloc.Global.{Global}
 
@@ -14,3 +14,8 @@ arguments_of_field field = field.0.items ∷ field.1.items ∷ []
 -- the arguments of a record
 abbrev pub arguments_of : Vec (Vec ℕ Global × Vec ℕ Global) Global → Fields
 arguments_of record_of = flat_map arguments_of_field record_of.items
+
+-- these are all records, where they are known
+abbrev pub AreAll : Option (List Fields) → List Fields → Type 0
+AreAll None all = Unit {0}
+AreAll (Some known) all = all ≡ known

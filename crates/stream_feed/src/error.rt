@@ -1,5 +1,6 @@
 //! Why a producer asks nothing, or a reply does not bring it on.
 use crate::source::NotRead;
+use redis_connection::ConnectionError;
 use redis_resp::WriteError;
 use redis_wire::ServerError;
 use std::alloc::AllocError;
@@ -76,5 +77,44 @@ impl From<AllocError> for FeedError {
 
     fn from(_error: AllocError) -> FeedError {
         FeedError::Memory
+    }
+}
+
+/// Why a producer does not go on over a connection. It is disconnected then.
+#[derive(Debug, Drop, Error)]
+pub enum RunError {
+    /// It asked nothing, and nothing was sent.
+    #[error("{0}")]
+    Request(RequestError),
+    /// Some front of what it asked was sent.
+    #[error("{0}")]
+    Send(ConnectionError),
+    /// What it asked was sent, and a reply did not come.
+    #[error("{0}")]
+    Receive(ConnectionError),
+    /// A reply came, which does not bring it on.
+    #[error("{0}")]
+    Answer(FeedError),
+}
+
+impl From<RequestError> for RunError {
+    ghost use Rattle.std.specs.Prelude.{◌≡◌};
+    ghost use Rattle.stream_feed.specs.declared.error.RunError.TheVariants as causes;
+
+    ghost from_gives = { λ r e. e ≡ causes.Request r };
+
+    fn from(error: RequestError) -> RunError {
+        RunError::Request(error)
+    }
+}
+
+impl From<FeedError> for RunError {
+    ghost use Rattle.std.specs.Prelude.{◌≡◌};
+    ghost use Rattle.stream_feed.specs.declared.error.RunError.TheVariants as causes;
+
+    ghost from_gives = { λ f e. e ≡ causes.Answer f };
+
+    fn from(error: FeedError) -> RunError {
+        RunError::Answer(error)
     }
 }

@@ -1,5 +1,5 @@
 //! Records in memory.
-ghost use Rattle.std.specs.Prelude.{◌≡◌, IfOk, drop, map, take};
+ghost use Rattle.std.specs.Prelude.{◌≡◌, IfOk, Some, drop, map, take};
 ghost use Rattle.stream_feed.specs.Records.{arguments_of, arguments_of_field};
 
 use crate::source::{Field, NotRead, Record, Source};
@@ -7,7 +7,7 @@ use std::alloc::{AllocError, Global};
 
 /// Records in memory. Where there is no memory for copies of those asked for, they are not read.
 impl Source for Vec<Record> {
-    ghost records = { λ kept. map arguments_of kept.items };
+    ghost records = { λ kept. Some (map arguments_of kept.items) };
 
     fn read(&mut self, alloc: Global, behind: u64, most: usize) -> Result<Vec<Record>, NotRead> {
         match copied(alloc, part_of(self, behind, most)) {

@@ -13,11 +13,12 @@ mod kept;
 mod last_id;
 pub mod laws;
 mod producer;
+mod session;
 mod settings;
 mod source;
 mod stage;
 
-pub use error::{FeedError, RequestError};
+pub use error::{FeedError, RequestError, RunError};
 pub use producer::Producer;
 pub use settings::{Settings, SettingsError};
 pub use source::{Field, NotRead, Record, Source};

@@ -3,7 +3,7 @@ ghost use Rattle.std.specs.Prelude.{◌≡◌, ◌⊎◌, ◌+◌, ◌<◌, ◌�
 ghost use Rattle.std.specs.Prelude.{string_bytes, true};
 ghost use Rattle.redis_wire.specs.Reply.{answer};
 ghost use Rattle.stream_feed.specs.Learnt.{Learns, Took, Unlearnt, Untaken};
-ghost use Rattle.stream_feed.specs.Machine.{Requested, Sent, Unrequested, Unsent, idle, next_batch};
+ghost use Rattle.stream_feed.specs.Machine.{Asks, AsksNone, Sends, Sent, Unsent, idle};
 ghost use Rattle.stream_feed.specs.Machine.{stage_of, standing_of};
 ghost use Rattle.stream_feed.specs.Records.{arguments_of};
 ghost use Rattle.stream_feed.specs.Replies.{is_executed};
@@ -81,9 +81,9 @@ impl Producer {
         out: &mut Vec<u8>,
         source: &mut S,
     ) -> Result<Asked, RequestError>
-        ensures ok { IfOk result (Requested self.old.settings (S.records source.old)
+        ensures ok { IfOk result (Asks self.old.settings (S.records source.old)
             out.old.items out.new.items (standing_of self.old) (standing_of self.new)) }
-        ensures err { IfErr result (Unrequested self.old.settings (S.records source.old)
+        ensures err { IfErr result (AsksNone self.old.settings (S.records source.old)
             (standing_of self.old)) }
         ensures err_bytes { OnErr result (out.new.items ≡ out.old.items) }
         ensures err_standing { OnErr result (standing_of self.new ≡ standing_of self.old) }
@@ -126,10 +126,9 @@ impl Producer {
     ) -> Result<Asked, RequestError>
         requires stage { self.old.stage ≡ Stage.Knows known }
         requires coming { self.old.coming ≡ 0 }
-        ensures ok { IfOk result (Sent self.old.settings
-            (next_batch self.old.settings (S.records source.old) (knows known)) out.old.items
+        ensures ok { IfOk result (Sends self.old.settings (S.records source.old) out.old.items
             out.new.items (knows known) (standing_of self.new)) }
-        ensures err { IfErr result (Unrequested self.old.settings (S.records source.old)
+        ensures err { IfErr result (AsksNone self.old.settings (S.records source.old)
             (record { stage = knows known; coming = 0 })) }
         ensures err_bytes { OnErr result (out.new.items ≡ out.old.items) }
         ensures err_self { OnErr result (self.new ≡ self.old) }

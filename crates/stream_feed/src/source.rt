@@ -1,5 +1,5 @@
 //! Where records come from.
-ghost use Rattle.std.specs.Prelude.{◌≡◌, ℕ, List, IfOk, drop, map, take};
+ghost use Rattle.std.specs.Prelude.{◌≡◌, ◌≤◌, ℕ, List, Option, IfOk, IfSome, drop, length, map, take};
 ghost use Rattle.stream_feed.specs.Records.{arguments_of};
 
 use std::alloc::Global;
@@ -18,13 +18,15 @@ pub struct NotRead;
 
 /// Records that can be read again from a number on, as lines of a file can.
 pub trait Source {
-    /// All records in order, each as the arguments of XADD behind the id.
-    ghost records: { Self → List (List (List ℕ)) };
+    /// All records in order, each as the arguments of XADD behind the id, where they are known: no
+    /// contract can say what a file of the system has.
+    ghost records: { Self → Option (List (List (List ℕ))) };
 
     /// The records behind the first `behind` ones, in order, at most `most` of them; none where no
     /// record is behind.
     fn read(&mut self, alloc: Global, behind: u64, most: usize) -> Result<Vec<Record>, NotRead>
-        ensures ok { IfOk result (λ rs. map arguments_of rs.items
-            ≡ take most (drop behind (records self.old))) }
+        ensures ok { IfOk result (λ rs. IfSome (records self.old) (λ all. map arguments_of rs.items
+            ≡ take most (drop behind all))) }
+        ensures most { IfOk result (λ rs. length rs.items ≤ most) }
         ensures same { records self.new ≡ records self.old };
 }
