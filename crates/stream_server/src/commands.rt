@@ -8,6 +8,7 @@ ghost use Rattle.stream_server.specs.Streams.{seen_streams};
 mod add;
 mod claim;
 mod connection;
+mod draft;
 mod group;
 mod hello;
 mod help;
@@ -275,16 +276,6 @@ fn group_for<'a>(
     match group_of(stream, name) {
         Some(group) => Ok(group),
         None => Err(no_group(alloc, key, name)),
-    }
-}
-
-/// The group takes the place of the one of its name.
-fn put_group(streams: &mut [Stream], key: &[u8], group: Group) {
-    if let Ok(index) = place_of(streams, key) {
-        let stream = &mut streams[index];
-        if let Ok(place) = place_of_group(stream, &group.name) {
-            stream.groups[place] = group;
-        }
     }
 }
 

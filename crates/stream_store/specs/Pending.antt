@@ -1,6 +1,6 @@
 -- What is pending in a group, and for whom.
-use Rattle.std.specs.Prelude.{◌≡◌, ◌≤◌, ◌<◌, ◌+◌, ◌-◌, ◌==◌, ◌⊎◌, if◌then◌else◌, ℕ, List, length, map, min}
-use Rattle.std.specs.Prelude.{slice_index_or, slice_set, insert, remove, drop}
+use Rattle.std.specs.Prelude.{◌≡◌, ◌≤◌, ◌<◌, ◌+◌, ◌-◌, ◌==◌, ◌⊎◌, if◌then◌else◌, ℕ, length, map, min}
+use Rattle.std.specs.Prelude.{slice_index_or, slice_set, insert, remove}
 use Rattle.stream_store.specs.Order.{IsAscending, IsGapFor}
 use Rattle.stream_store.specs.declared.entry_id.EntryId.{EntryId}
 use Rattle.stream_store.specs.declared.group.Consumer.{Consumer}
@@ -47,8 +47,3 @@ pub record IsAcknowledged (id : EntryId) (old new : Group) : Type 0 where
   pub named : was.id ≡ id
   pub others : new.pending.items ≡ remove old.pending.items index
   pub counts : new.consumers.items ≡ map (with_less was.consumer) old.consumers.items
-
--- these are the last ones
-pub record IsEndOf (end all : List Pending) : Type 0 where
-  pub count : ℕ
-  pub is : end ≡ drop count all

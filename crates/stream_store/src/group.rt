@@ -4,10 +4,12 @@ ghost use Rattle.std.specs.Bool.{OnTrue, OnFalse};
 ghost use Rattle.std.specs.List.{HoldsAt};
 ghost use Rattle.std.specs.List.Sorted.{IsSearchInRange};
 ghost use Rattle.stream_store.specs.Order.{IsAscending, IsGapFor, IsNowhere, IsSplitBefore};
-ghost use Rattle.stream_store.specs.Pending.{IsAcknowledged, IsEndOf, IsGiven, with_less, with_more};
+ghost use Rattle.stream_store.specs.Pending.{IsAcknowledged, IsGiven, with_less, with_more};
 
 use crate::entry_id::EntryId;
+use crate::room::Room;
 use std::alloc::{AllocError, Global};
+use std::collections::VecDeque;
 
 /// An entry that was given to a consumer and is not acknowledged.
 #[derive(Clone, Copy, Debug, PartialEq, Eq)]
@@ -42,7 +44,7 @@ pub struct Group {
     /// How many entries were read, where that is known.
     pub entries_read: Option<i64>,
     /// What is pending, in the order of its ids.
-    pub pending: Vec<Pending>,
+    pub pending: VecDeque<Pending>,
     /// The consumers, in the order of their names.
     pub consumers: Vec<Consumer>,
     /// The number of the next consumer.
@@ -62,7 +64,7 @@ impl Group {
             name,
             last_id,
             entries_read,
-            pending: Vec::new(alloc),
+            pending: VecDeque::new(alloc),
             consumers: Vec::new(alloc),
             next_number: 0,
         }
@@ -90,13 +92,6 @@ impl Group {
         }
     }
 
-    /// What is pending from this id on.
-    pub fn pending_from(&self, id: EntryId) -> &[Pending]
-        ensures { IsEndOf result.now self.now.pending.items }
-    {
-        &self.pending[self.start(id)..]
-    }
-
     /// What is pending with this id.
     pub fn get(&self, id: EntryId) -> Option<&Pending>
         ensures some { IfSome result (λ pending. pending.now.id ≡ id) }
@@ -119,6 +114,48 @@ impl Group {
         }
     }
 
+    /// A group that has delivered as much, with this consumer alone, where it is there, and with
+    /// nothing pending.
+    pub fn part(&self, alloc: Global, name: &[u8]) -> Result<Group, AllocError>
+        ensures last_id { IfOk result (λ part. part.last_id ≡ self.now.last_id) }
+        ensures entries_read { IfOk result (λ part. part.entries_read ≡ self.now.entries_read) }
+        ensures next_number { IfOk result (λ part. part.next_number ≡ self.now.next_number) }
+        ensures pending { IfOk result (λ part. part.pending.items ≡ []) }
+    {
+        let mut consumers = Vec::new(alloc);
+        if let Some(consumer) = self.consumer(name) {
+            consumers.push(consumer.clone()?)?;
+        }
+        Ok(Group {
+            name: Vec::new(alloc),
+            last_id: self.last_id,
+            entries_read: self.entries_read,
+            pending: VecDeque::new(alloc),
+            consumers,
+            next_number: self.next_number,
+        })
+    }
+
+    /// Room for this consumer and for so many more that are pending.
+    pub fn room_for(&self, alloc: Global, name: &[u8], more: usize) -> Result<Room, AllocError>
+        ensures { IfOk result (λ room. room.name.items ≡ name.now) }
+    {
+        let name = Vec::from_slice(alloc, name)?;
+        let mut pending = VecDeque::new(alloc);
+        if self.pending.capacity().saturating_sub(self.pending.len()) < more {
+            pending.reserve(self.pending.len().max(more).saturating_mul(2))?;
+        }
+        let mut consumers = Vec::new(alloc);
+        if self.consumers.capacity() == self.consumers.len() {
+            consumers.reserve(self.consumers.len().max(2).saturating_mul(2))?;
+        }
+        Ok(Room {
+            name,
+            pending,
+            consumers,
+        })
+    }
+
     /// The number of the consumer, who was seen now and is made where it is new. What is pending
     /// stays.
     pub fn see(&mut self, alloc: Global, name: &[u8], now: u64) -> Result<u64, AllocError>
@@ -131,19 +168,48 @@ impl Group {
                 consumer.seen_at = now;
                 Ok(consumer.number)
             }
+            Err(index) => self.make(index, Vec::from_slice(alloc, name)?, now),
+        }
+    }
+
+    /// The same of the consumer that the room is for, which is the group's from now on: where it is
+    /// the one that `room_for` took of this group, no memory is asked for.
+    pub fn see_in(&mut self, room: Room, now: u64) -> Result<u64, AllocError>
+        ensures pending { self.new.pending.items ≡ self.old.pending.items }
+        ensures last_id { self.new.last_id ≡ self.old.last_id }
+    {
+        move_pending(&mut self.pending, room.pending);
+        match self.place_of(&room.name) {
+            Ok(index) => {
+                let consumer = &mut self.consumers[index];
+                consumer.seen_at = now;
+                Ok(consumer.number)
+            }
             Err(index) => {
-                let number = self.next_number;
-                let consumer = Consumer {
-                    name: Vec::from_slice(alloc, name)?,
-                    number,
-                    seen_at: now,
-                    pending: 0,
-                };
-                self.consumers.insert(index, consumer)?;
-                self.next_number = number.saturating_add(1);
-                Ok(number)
+                move_consumers(&mut self.consumers, room.consumers);
+                self.make(index, room.name, now)
             }
         }
+    }
+
+    /// Makes a consumer, whose place is at this index, and gives its number.
+    fn make(&mut self, index: usize, name: Vec<u8>, now: u64) -> Result<u64, AllocError>
+        requires { index ≤ length self.old.consumers.items }
+        ensures pending { self.new.pending ≡ self.old.pending }
+        ensures last_id { self.new.last_id ≡ self.old.last_id }
+    {
+        let number = self.next_number;
+        self.consumers.insert(
+            index,
+            Consumer {
+                name,
+                number,
+                seen_at: now,
+                pending: 0,
+            },
+        )?;
+        self.next_number = number.saturating_add(1);
+        Ok(number)
     }
 
     /// The entry is pending so, whether it was pending or not.
@@ -176,7 +242,9 @@ impl Group {
         let Ok(index) = self.place(id) else {
             return false;
         };
-        let pending = self.pending.remove(index);
+        let Some(pending) = self.pending.remove(index) else {
+            return false;
+        };
         one_less(&mut self.consumers, pending.consumer);
         true
     }
@@ -206,6 +274,30 @@ impl Group {
         match self.consumers.get(index) {
             Some(consumer) if consumer.name.as_slice() == name => Ok(index),
             _ => Err(index),
+        }
+    }
+}
+
+/// What is pending moves into the room, where that is larger.
+fn move_pending(pending: &mut VecDeque<Pending>, mut room: VecDeque<Pending>)
+    ensures { pending.new.items ≡ pending.old.items }
+{
+    if room.capacity() > pending.capacity() {
+        room.clear();
+        if room.append(pending).is_ok() {
+            *pending = room;
+        }
+    }
+}
+
+/// The consumers move into the room, where that is larger.
+fn move_consumers(consumers: &mut Vec<Consumer>, mut room: Vec<Consumer>)
+    ensures { consumers.new.items ≡ consumers.old.items }
+{
+    if room.capacity() > consumers.capacity() {
+        room.clear();
+        if room.append(consumers).is_ok() {
+            *consumers = room;
         }
     }
 }

@@ -5,10 +5,12 @@
 
 mod entry_id;
 mod group;
+mod room;
 mod stream;
 mod trim;
 
 pub use entry_id::EntryId;
 pub use group::{Consumer, Group, Pending};
+pub use room::Room;
 pub use stream::{Entry, NODE_ENTRIES, Node, Stream};
 pub use trim::{Bound, Trim};

@@ -1,9 +1,10 @@
 //! `XCLAIM`.
 ghost use Rattle.std.specs.Prelude.{◌≡◌, ◌≤◌, length, OnErr};
 
+use super::draft::{Draft, room_of, settle};
 use super::{
-    SYNTAX, claimed_answer, group_for, id, ids, integer_in, is_word, put, put_group, refusal_of,
-    shown, stream_for, strict_id,
+    SYNTAX, claimed_answer, group_for, id, ids, integer_in, is_word, place_of, place_of_group, put,
+    refusal_of, shown, stream_for, strict_id,
 };
 use crate::answer::Answer;
 use crate::refusal::Refusal;
@@ -24,7 +25,7 @@ struct ClaimOptions<'a> {
 }
 
 /// `XCLAIM key group consumer min-idle id .. [IDLE ms] [TIME ms] [RETRYCOUNT n] [FORCE] [JUSTID]
-/// [LASTID id]`. A copy of the group is changed, and takes its place.
+/// [LASTID id]`. All memory is taken before the group is changed.
 pub(super) fn claim(
     alloc: Global,
     streams: &mut [Stream],
@@ -33,21 +34,32 @@ pub(super) fn claim(
 ) -> Result<Answer, Refusal>
     ensures { OnErr result (streams.new ≡ streams.old) }
 {
-    let [key, ..] = arguments else {
-        return Err(SYNTAX);
-    };
-    let (group, answers) = claimed(alloc, streams, now, arguments)?;
-    put_group(streams, key, group);
+    let Outcome {
+        draft,
+        wanted,
+        answers,
+    } = claimed(alloc, streams, now, arguments)?;
+    let room = room_of(alloc, streams, &draft)?;
+    drop_missing(streams, &draft, &wanted);
+    settle(streams, draft, room);
     Ok(Answer::Array(answers))
 }
 
-/// The group as it is then, and what is answered.
-fn claimed(
+/// What XCLAIM changes and answers.
+#[derive(Drop)]
+struct Outcome<'a> {
+    draft: Draft<'a>,
+    wanted: Vec<EntryId>,
+    answers: Vec<Answer>,
+}
+
+/// What is changed, and what is answered.
+fn claimed<'a>(
     alloc: Global,
     streams: &[Stream],
     now: u64,
-    arguments: &[Vec<u8>],
-) -> Result<(Group, Vec<Answer>), Refusal> {
+    arguments: &'a [Vec<u8>],
+) -> Result<Outcome<'a>, Refusal> {
     let [key, name, consumer, least_idle, words @ ..] = arguments else {
         return Err(SYNTAX);
     };
@@ -57,12 +69,43 @@ fn claimed(
     let (wanted, rest) = words.split_at(ids_len(words));
     let wanted = ids(alloc, wanted)?;
     let options = options_in(alloc, usual, rest)?;
-    let mut group = group.clone()?;
-    if options.last_id > group.last_id {
-        group.last_id = options.last_id;
+    let mut part = group.part(alloc, consumer)?;
+    if options.last_id > part.last_id {
+        part.last_id = options.last_id;
     }
-    let answers = claim_all(alloc, stream, &mut group, &wanted, &options)?;
-    Ok((group, answers))
+    take_up(group, &mut part, &wanted)?;
+    let answers = claim_all(alloc, stream, &mut part, &wanted, &options)?;
+    Ok(Outcome {
+        draft: Draft { key, name, part },
+        wanted,
+        answers,
+    })
+}
+
+/// What is pending of these entries is in the part too.
+fn take_up(group: &Group, part: &mut Group, ids: &[EntryId]) -> Result<(), AllocError> {
+    for id in ids {
+        if let Some(pending) = group.get(*id) {
+            part.give(*pending)?;
+        }
+    }
+    Ok(())
+}
+
+/// Of these entries, what is no longer pending in the part is not pending in the group.
+fn drop_missing(streams: &mut [Stream], draft: &Draft<'_>, ids: &[EntryId]) {
+    let Ok(index) = place_of(streams, draft.key) else {
+        return;
+    };
+    let Ok(place) = place_of_group(&streams[index], draft.name) else {
+        return;
+    };
+    let group = &mut streams[index].groups[place];
+    for id in ids {
+        if draft.part.get(*id).is_none() {
+            let _was_pending = group.acknowledge(*id);
+        }
+    }
 }
 
 /// What a claim without options is.

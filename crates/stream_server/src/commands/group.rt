@@ -9,7 +9,7 @@ use super::{
 };
 use crate::answer::Answer;
 use crate::refusal::Refusal;
-use std::alloc::{AllocError, Global};
+use std::alloc::Global;
 use stream_store::{EntryId, Group, Stream};
 
 /// What XGROUP does.
@@ -235,7 +235,7 @@ fn create(
     Ok(Answer::Okay)
 }
 
-/// `SETID`, `CREATECONSUMER`, `DELCONSUMER`: a copy of the group is changed, and takes its place.
+/// `SETID`, `CREATECONSUMER`, `DELCONSUMER`
 fn changed(
     alloc: Global,
     stream: &mut Stream,
@@ -250,47 +250,38 @@ fn changed(
     let [word, ..] = words else {
         return Err(SYNTAX);
     };
-    let Some(group) = stream.groups.get(place) else {
+    if place >= stream.groups.len() {
         return Err(SYNTAX);
-    };
-    let mut group = group.clone()?;
-    let answer = match action {
-        Action::SetId => move_group(&mut group, stream.last_id, word, options)?,
-        Action::CreateConsumer => make_consumer(alloc, &mut group, word, now)?,
-        _ => super::number(group.remove_consumer(word)),
-    };
-    if place < stream.groups.len() {
-        stream.groups[place] = group;
     }
-    Ok(answer)
+    match action {
+        Action::SetId => {
+            let last_id = moved_to(stream.last_id, word)?;
+            move_group(&mut stream.groups[place], last_id, options);
+            Ok(Answer::Okay)
+        }
+        Action::CreateConsumer => {
+            if stream.groups[place].consumer(word).is_some() {
+                return Ok(Answer::Int(0));
+            }
+            let room = stream.groups[place].room_for(alloc, word, 0)?;
+            let _number = stream.groups[place].see_in(room, now);
+            Ok(Answer::Int(1))
+        }
+        _ => Ok(super::number(stream.groups[place].remove_consumer(word))),
+    }
 }
 
-/// `SETID`, of a stream with this last id.
-fn move_group(
-    group: &mut Group,
-    last_id: EntryId,
-    word: &[u8],
-    options: GroupOptions,
-) -> Result<Answer, Refusal> {
-    group.last_id = if word == b"$".as_slice() {
-        last_id
+/// Where `SETID` sets a group, of a stream with this last id.
+fn moved_to(last_id: EntryId, word: &[u8]) -> Result<EntryId, Refusal> {
+    if word == b"$".as_slice() {
+        Ok(last_id)
     } else {
-        loose_id(word, 0).ok_or(INVALID_ID)?
-    };
-    group.entries_read = options.entries_read;
-    Ok(Answer::Okay)
+        loose_id(word, 0).ok_or(INVALID_ID)
+    }
 }
 
-/// `CREATECONSUMER`
-fn make_consumer(
-    alloc: Global,
-    group: &mut Group,
-    name: &[u8],
-    now: u64,
-) -> Result<Answer, AllocError> {
-    if group.consumer(name).is_some() {
-        return Ok(Answer::Int(0));
-    }
-    let _number = group.see(alloc, name, now)?;
-    Ok(Answer::Int(1))
+/// The group has delivered as much.
+fn move_group(group: &mut Group, last_id: EntryId, options: GroupOptions) {
+    group.last_id = last_id;
+    group.entries_read = options.entries_read;
 }

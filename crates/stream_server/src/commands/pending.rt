@@ -95,7 +95,7 @@ fn rows(
         None => None,
     };
     let mut left = wanted.most;
-    for pending in group.pending_from(wanted.start) {
+    for pending in group.pending.range(group.start(wanted.start)..) {
         if pending.id > wanted.end || left == 0 {
             break;
         }
@@ -122,7 +122,7 @@ fn row(alloc: Global, group: &Group, pending: &Pending, idle: u64) -> Result<Ans
 /// How many entries are pending, the first and the last one, and how many for which consumer.
 fn summary(alloc: Global, group: &Group) -> Result<Vec<Answer>, AllocError> {
     let pending = length(group.pending.len());
-    let row = match (group.pending.first(), group.pending.last()) {
+    let row = match (group.pending.front(), group.pending.back()) {
         (Some(first), Some(last)) => {
             let counts = Answer::Array(counts(alloc, group)?);
             [pending, Answer::Id(first.id), Answer::Id(last.id), counts]

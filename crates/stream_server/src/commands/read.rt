@@ -2,14 +2,15 @@
 ghost use Rattle.std.specs.Prelude.{◌≡◌, IfOk, OnErr};
 ghost use Rattle.stream_server.specs.Kinds.{IsRows};
 
+use super::draft::{Draft, room_of, settle};
 use super::{
     SYNTAX, array, count, entries_up, entry_answer, group_of, id, integer_in, is_word, put,
-    put_group, refusal_of, shown, stream_of,
+    refusal_of, shown, stream_of,
 };
 use crate::answer::Answer;
 use crate::refusal::Refusal;
 use std::alloc::{AllocError, Global};
-use stream_store::{EntryId, Group, Pending, Stream};
+use stream_store::{EntryId, Group, Pending, Room, Stream};
 
 /// Where reading of one stream begins.
 #[derive(Clone, Copy)]
@@ -41,13 +42,6 @@ struct ReadOptions<'a> {
     acknowledges: bool,
     keys: &'a [Vec<u8>],
     ids: &'a [Vec<u8>],
-}
-
-/// A group as it is after the command.
-#[derive(Drop)]
-struct Change<'a> {
-    key: &'a [u8],
-    group: Group,
 }
 
 /// `XREAD [COUNT n] [BLOCK ms] STREAMS key .. id ..`. It does not wait.
@@ -113,7 +107,7 @@ fn put_stream(
 }
 
 /// `XREADGROUP GROUP group consumer [COUNT n] [BLOCK ms] [NOACK] STREAMS key .. id ..`. It does not
-/// wait. Copies of the groups are changed, and take their places at the end.
+/// wait. All memory is taken before the first group is changed.
 pub(super) fn read_group(
     alloc: Global,
     streams: &mut [Stream],
@@ -123,28 +117,42 @@ pub(super) fn read_group(
     ensures rows { IfOk result IsRows }
     ensures err { OnErr result (streams.new ≡ streams.old) }
 {
-    let mut changes = Vec::new(alloc);
-    let rows = given(alloc, streams, now, arguments, &mut changes)?;
-    for change in changes {
-        put_group(streams, change.key, change.group);
+    let mut drafts = Vec::new(alloc);
+    let rows = given(alloc, streams, now, arguments, &mut drafts)?;
+    let rooms = rooms_of(alloc, streams, &drafts)?;
+    for (draft, room) in drafts.into_iter().zip(rooms) {
+        settle(streams, draft, room);
     }
     Ok(rows_answer(rows))
 }
 
-/// What XREADGROUP answers, and the groups that it changes.
+/// Room in each of the groups.
+fn rooms_of(
+    alloc: Global,
+    streams: &[Stream],
+    drafts: &[Draft<'_>],
+) -> Result<Vec<Option<Room>>, AllocError> {
+    let mut rooms = Vec::with_capacity(alloc, drafts.len())?;
+    for draft in drafts {
+        rooms.push(room_of(alloc, streams, draft)?)?;
+    }
+    Ok(rooms)
+}
+
+/// What XREADGROUP answers, and what it changes of the groups.
 fn given<'a>(
     alloc: Global,
     streams: &[Stream],
     now: u64,
     arguments: &'a [Vec<u8>],
-    changes: &mut Vec<Change<'a>>,
+    drafts: &mut Vec<Draft<'a>>,
 ) -> Result<Vec<(Vec<u8>, Answer)>, Refusal> {
     let options = options_in(arguments, true)?;
     let reader = reader_of(&options, now)?;
     let starts = group_starts(alloc, streams, &options, reader.group)?;
     let mut rows = Vec::new(alloc);
     for (key, start) in options.keys.iter().zip(starts) {
-        let entries = read_stream(alloc, streams, key, reader, start, changes)?;
+        let entries = read_stream(alloc, streams, key, reader, start, drafts)?;
         put_stream(alloc, &mut rows, key, entries)?;
     }
     Ok(rows)
@@ -183,38 +191,39 @@ fn read_stream<'a>(
     alloc: Global,
     streams: &[Stream],
     key: &'a [u8],
-    reader: Reader<'_>,
+    reader: Reader<'a>,
     start: Start,
-    changes: &mut Vec<Change<'a>>,
+    drafts: &mut Vec<Draft<'a>>,
 ) -> Result<Option<Vec<Answer>>, Refusal> {
     let Some(stream) = stream_of(streams, key) else {
         return Ok(None);
     };
-    let place = changed_group(alloc, stream, key, reader.group, changes)?;
-    match changes.get_mut(place) {
-        Some(change) => Ok(read_as(alloc, stream, &mut change.group, reader, start)?),
+    let Some(group) = group_of(stream, reader.group) else {
+        return Err(SYNTAX);
+    };
+    let place = place_of_draft(alloc, group, key, reader, drafts)?;
+    match drafts.get_mut(place) {
+        Some(draft) => Ok(read_as(alloc, stream, group, &mut draft.part, reader, start)?),
         None => Ok(None),
     }
 }
 
-/// The index of the copy of the group that is changed.
-fn changed_group<'a>(
+/// The index of the draft of the group; a key may come more than once.
+fn place_of_draft<'a>(
     alloc: Global,
-    stream: &Stream,
+    group: &Group,
     key: &'a [u8],
-    name: &[u8],
-    changes: &mut Vec<Change<'a>>,
+    reader: Reader<'a>,
+    drafts: &mut Vec<Draft<'a>>,
 ) -> Result<usize, Refusal> {
-    if let Some(place) = changes.iter().position(|change| change.key == key) {
+    if let Some(place) = drafts.iter().position(|draft| draft.key == key) {
         return Ok(place);
     }
-    let Some(group) = group_of(stream, name) else {
-        return Err(SYNTAX);
-    };
-    let place = changes.len();
-    changes.push(Change {
+    let place = drafts.len();
+    drafts.push(Draft {
         key,
-        group: group.clone()?,
+        name: reader.group,
+        part: group.part(alloc, reader.consumer)?,
     })?;
     Ok(place)
 }
@@ -395,49 +404,75 @@ fn read_behind(
 fn read_as(
     alloc: Global,
     stream: &Stream,
-    group: &mut Group,
+    group: &Group,
+    part: &mut Group,
     reader: Reader<'_>,
     start: Start,
 ) -> Result<Option<Vec<Answer>>, AllocError> {
     match start {
-        Start::Behind(behind) => Ok(Some(reread(alloc, stream, group, reader, behind)?)),
+        Start::Behind(behind) => {
+            let number = part.see(alloc, reader.consumer, reader.now)?;
+            let Some(first) = behind.next() else {
+                return Ok(Some(Vec::new(alloc)));
+            };
+            take_up(group, part, number, first, reader.most)?;
+            Ok(Some(reread(alloc, stream, part, reader, first)?))
+        }
         Start::News => {
-            let Some(answers) = read_behind(alloc, stream, group.last_id, reader.most)? else {
+            let Some(answers) = read_behind(alloc, stream, part.last_id, reader.most)? else {
                 return Ok(None);
             };
-            hand_out(alloc, stream, group, reader)?;
+            hand_out(alloc, stream, part, reader)?;
             Ok(Some(answers))
         }
     }
 }
 
-/// What is pending for the consumer behind the id, each entry with its fields, and with nil where
-/// it was deleted.
-fn reread(
-    alloc: Global,
-    stream: &Stream,
-    group: &mut Group,
-    reader: Reader<'_>,
-    behind: EntryId,
-) -> Result<Vec<Answer>, AllocError> {
-    let number = group.see(alloc, reader.consumer, reader.now)?;
-    let mut answers = Vec::new(alloc);
-    let Some(first) = behind.next() else {
-        return Ok(answers);
-    };
-    let mut left = reader.most;
-    let start = group.start(first);
-    for pending in group.pending.iter_mut().skip(start) {
+/// What is pending in the group for the consumer of this number from the id on, as much as is read,
+/// is in the part too.
+fn take_up(
+    group: &Group,
+    part: &mut Group,
+    number: u64,
+    first: EntryId,
+    most: u64,
+) -> Result<(), AllocError> {
+    let mut left = most;
+    for pending in group.pending.range(group.start(first)..) {
         if left == 0 {
             break;
         }
         if pending.consumer == number {
             left -= 1;
-            put(
-                &mut answers,
-                given_again(alloc, stream, pending, reader.now)?,
-            )?;
+            if part.get(pending.id).is_none() {
+                part.give(*pending)?;
+            }
         }
+    }
+    Ok(())
+}
+
+/// What is pending in the part from the id on, each entry with its fields, and with nil where it was
+/// deleted.
+fn reread(
+    alloc: Global,
+    stream: &Stream,
+    part: &mut Group,
+    reader: Reader<'_>,
+    first: EntryId,
+) -> Result<Vec<Answer>, AllocError> {
+    let mut answers = Vec::new(alloc);
+    let mut left = reader.most;
+    let start = part.start(first);
+    for pending in part.pending.iter_mut().skip(start) {
+        if left == 0 {
+            break;
+        }
+        left -= 1;
+        put(
+            &mut answers,
+            given_again(alloc, stream, pending, reader.now)?,
+        )?;
     }
     Ok(answers)
 }

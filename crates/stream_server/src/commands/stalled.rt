@@ -2,13 +2,13 @@
 ghost use Rattle.std.specs.Prelude.{◌≡◌, OnErr};
 
 use super::{
-    SYNTAX, array, claimed_answer, group_for, integer_in, interval_start, is_word, put, put_group,
-    stream_for,
+    SYNTAX, array, claimed_answer, group_for, integer_in, interval_start, is_word, place_of,
+    place_of_group, put, stream_for,
 };
 use crate::answer::Answer;
 use crate::refusal::Refusal;
 use std::alloc::{AllocError, Global};
-use stream_store::{EntryId, Group, Pending, Stream};
+use stream_store::{EntryId, Group, Pending, Room, Stream};
 
 /// Which entries are claimed, and by whom.
 #[derive(Clone, Copy)]
@@ -31,8 +31,18 @@ struct Stalled {
     next: EntryId,
 }
 
-/// `XAUTOCLAIM key group consumer min-idle start [COUNT count] [JUSTID]`. A copy of the group is
-/// changed, and takes its place.
+/// What XAUTOCLAIM changes and answers.
+#[derive(Drop)]
+struct Outcome<'a> {
+    claim: Claim<'a>,
+    stalled: Stalled,
+    /// Room for the consumer, who is seen where there is one entry for it.
+    room: Option<Room>,
+    answer: Answer,
+}
+
+/// `XAUTOCLAIM key group consumer min-idle start [COUNT count] [JUSTID]`. All memory is taken before
+/// the group is changed.
 pub(super) fn claim_stalled(
     alloc: Global,
     streams: &mut [Stream],
@@ -41,61 +51,94 @@ pub(super) fn claim_stalled(
 ) -> Result<Answer, Refusal>
     ensures { OnErr result (streams.new ≡ streams.old) }
 {
-    let [key, ..] = arguments else {
+    let [key, name, ..] = arguments else {
         return Err(SYNTAX);
     };
-    let (group, answer) = claimed(alloc, streams, now, arguments)?;
-    put_group(streams, key, group);
+    let Outcome {
+        claim,
+        stalled,
+        room,
+        answer,
+    } = claimed(alloc, streams, now, arguments)?;
+    if let Ok(index) = place_of(streams, key) {
+        if let Ok(place) = place_of_group(&streams[index], name) {
+            let group = &mut streams[index].groups[place];
+            settle(group, &stalled, &claim, room);
+        }
+    }
     Ok(answer)
 }
 
-/// The group as it is then, and what is answered.
-fn claimed(
+/// What is changed, and what is answered.
+fn claimed<'a>(
     alloc: Global,
     streams: &[Stream],
     now: u64,
-    arguments: &[Vec<u8>],
-) -> Result<(Group, Answer), Refusal> {
+    arguments: &'a [Vec<u8>],
+) -> Result<Outcome<'a>, Refusal> {
     let [key, name, consumer, least_idle, start, words @ ..] = arguments else {
         return Err(SYNTAX);
     };
     let claim = claim_in(consumer, now, least_idle, start, words)?;
     let stream = stream_for(alloc, streams, key, name)?;
     let group = group_for(alloc, stream, key, name)?;
-    let mut group = group.clone()?;
-    let answer = take_stalled(alloc, stream, &mut group, &claim)?;
-    Ok((group, answer))
+    let stalled = stalled_in(alloc, stream, group, &claim)?;
+    let room = if stalled.claimed.is_empty() {
+        None
+    } else {
+        Some(group.room_for(alloc, consumer, 0)?)
+    };
+    let answer = answer_of(alloc, stream, &stalled, claim.only_ids)?;
+    Ok(Outcome {
+        claim,
+        stalled,
+        room,
+        answer,
+    })
 }
 
 /// Where the next claim goes on, what the consumer takes over, and the ids that are gone.
-fn take_stalled(
+fn answer_of(
     alloc: Global,
     stream: &Stream,
-    group: &mut Group,
-    claim: &Claim<'_>,
+    stalled: &Stalled,
+    only_ids: bool,
 ) -> Result<Answer, AllocError> {
-    let stalled = stalled_in(alloc, stream, group, claim)?;
-    let next = stalled.next;
-    let gone = drop_gone(alloc, group, &stalled.gone)?;
-    let answers = take_over(alloc, stream, group, &stalled.claimed, claim)?;
-    array(
-        alloc,
-        [
-            Answer::Id(next),
-            Answer::Array(answers),
-            Answer::Array(gone),
-        ],
-    )
-}
-
-/// What is no longer in the stream is no longer pending.
-fn drop_gone(alloc: Global, group: &mut Group, ids: &[EntryId]) -> Result<Vec<Answer>, AllocError> {
+    let mut claimed = Vec::new(alloc);
+    for pending in &stalled.claimed {
+        if let Some(entry) = stream.get(pending.id) {
+            put(&mut claimed, claimed_answer(alloc, entry, only_ids)?)?;
+        }
+    }
     let mut gone = Vec::new(alloc);
-    for id in ids {
-        let _was_pending = group.acknowledge(*id);
+    for id in &stalled.gone {
         put(&mut gone, Answer::Id(*id))?;
     }
-    Ok(gone)
+    let next = Answer::Id(stalled.next);
+    array(alloc, [next, Answer::Array(claimed), Answer::Array(gone)])
+}
+
+/// What is no longer in the stream is no longer pending, and the other entries are the consumer's.
+/// With the room, no memory is asked for.
+fn settle(group: &mut Group, stalled: &Stalled, claim: &Claim<'_>, room: Option<Room>) {
+    for id in &stalled.gone {
+        let _was_pending = group.acknowledge(*id);
+    }
+    let Some(room) = room else {
+        return;
+    };
+    let Ok(number) = group.see_in(room, claim.now) else {
+        return;
+    };
+    let more = if claim.only_ids { 0 } else { 1 };
+    for pending in &stalled.claimed {
+        let _given = group.give(Pending {
+            id: pending.id,
+            consumer: number,
+            given_at: claim.now,
+            deliveries: pending.deliveries.saturating_add(more),
+        });
+    }
 }
 
 /// The arguments behind the names of the key and the group.
@@ -162,7 +205,7 @@ fn stalled_in(
     let mut next = EntryId::ZERO;
     let mut left = claim.most;
     let mut attempts = claim.most.saturating_mul(10);
-    for pending in group.pending_from(claim.start) {
+    for pending in group.pending.range(group.start(claim.start)..) {
         if attempts == 0 || left == 0 {
             next = pending.id;
             break;
@@ -181,32 +224,4 @@ fn stalled_in(
         gone,
         next,
     })
-}
-
-/// The pending entries are the consumer's, who is made where there is one of them.
-fn take_over(
-    alloc: Global,
-    stream: &Stream,
-    group: &mut Group,
-    claimed: &[Pending],
-    claim: &Claim<'_>,
-) -> Result<Vec<Answer>, AllocError> {
-    let mut answers = Vec::new(alloc);
-    if claimed.is_empty() {
-        return Ok(answers);
-    }
-    let number = group.see(alloc, claim.consumer, claim.now)?;
-    let more = if claim.only_ids { 0 } else { 1 };
-    for pending in claimed {
-        group.give(Pending {
-            id: pending.id,
-            consumer: number,
-            given_at: claim.now,
-            deliveries: pending.deliveries.saturating_add(more),
-        })?;
-        if let Some(entry) = stream.get(pending.id) {
-            put(&mut answers, claimed_answer(alloc, entry, claim.only_ids)?)?;
-        }
-    }
-    Ok(answers)
 }

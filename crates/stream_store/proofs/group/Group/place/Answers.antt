@@ -8,10 +8,10 @@ pub returns-clause-found : goal.returns-clause-found
 returns-clause-found c =
     let key = answers_always _ _ _ (λ f a r g called. search rules) in
     let by_id = c.binary_search_by_key.ensures.position (λ x. x.id) key in
-    rw (← c.deref.ensures.value) (found (λ x. x.id) _ c.args.id _ by_id)
+    found (λ x. x.id) _ c.args.id _ by_id
 
 pub returns-clause-missing : goal.returns-clause-missing
 returns-clause-missing c =
     let key = answers_always _ _ _ (λ f a r g called. search rules) in
     let by_id = c.binary_search_by_key.ensures.position (λ x. x.id) key in
-    rw (← c.deref.ensures.value) (missing (λ x. x.id) _ c.args.id _ by_id)
+    missing (λ x. x.id) _ c.args.id _ by_id
