@@ -1,0 +1,99 @@
+//! Fills a stream with the lines of a file, each once and in order, over a connection that stands at
+//! its standard input and output:
+//!
+//! ```text
+//! bash -c 'exec 3<>/dev/tcp/127.0.0.1/6379; stream_fill orders orders.txt <&3 >&3'
+//! ```
+//!
+//! The line k is a record with the id `(base + k)-0` and one field, `line` or what `--field` says. With
+//! `--json` each line is an object of texts, `{"name":"value",..}`, or a line that `stream_drain --json`
+//! wrote, whose fields it has; a text that is not UTF-8 stands there as `{"base64":".."}`. Batches of
+//! `--batch` records go out, 1,000 where nothing is said. It keeps nothing on a disk: it asks the
+//! server how many of the lines are in, and goes on behind them. So after whatever failed it is called
+//! again with the same words.
+//!
+//! What it did stands on standard error at the end. It ends with 0 where all lines are in, and else
+//! with 1 and the reason. A last line without an end is not added, and is a reason.
+#![tactic(auto)]
+
+mod fill;
+mod json_records;
+mod lines;
+mod options;
+
+use crate::fill::{Counts, fill};
+use crate::lines::Lines;
+use crate::options::{Options, options_of};
+use anyhow::{Error, Result, bail};
+use redis_connection::Connection;
+use redis_wire::Limits;
+use std::alloc::{AllocError, Global};
+use std::{env, io};
+use stream_feed::Producer;
+
+fn main(rt: HostRuntime) -> Result<()> {
+    let words = words_of(&rt)?;
+    let options = options_of(rt.alloc(), &words)?;
+    match fill_by(&rt, options) {
+        Ok(()) => Ok(()),
+        Err(error) => Err(masked(rt.alloc(), error)),
+    }
+}
+
+// An error as it may be shown: a control character, which could steer a terminal, stands in its text
+// as `?`.
+fn masked(alloc: Global, error: Error) -> Error {
+    match masked_text(alloc, &error) {
+        Ok(Some(text)) => Error::msg(text),
+        Ok(None) | Err(_) => error,
+    }
+}
+
+// The text of an error that has a control character in it, masked.
+fn masked_text(alloc: Global, error: &Error) -> Result<Option<String>, AllocError> {
+    let text = format!(in alloc; "{error}")?;
+    if !text.chars().any(char::is_control) {
+        return Ok(None);
+    }
+    let mut shown = String::new(alloc);
+    for letter in text.chars() {
+        shown.push(if letter.is_control() { '?' } else { letter })?;
+    }
+    Ok(Some(shown))
+}
+
+// The words that the program is called with.
+fn words_of(rt: &HostRuntime) -> Result<Vec<String>> {
+    let mut words = Vec::new(rt.alloc());
+    for word in env::args(rt)?.skip(1) {
+        words.push(word)?;
+    }
+    Ok(words)
+}
+
+// Fills as these options say, over standard input and output.
+fn fill_by(rt: &HostRuntime, options: Options) -> Result<()> {
+    let Options {
+        settings,
+        path,
+        form,
+    } = options;
+    let alloc = rt.alloc();
+    let mut lines = Lines::open(rt, &path, form)?;
+    let mut connection = Connection::new(alloc, rt.reader(), io::writer(rt), Limits::default())?;
+    let mut producer = Producer::new(settings);
+    let mut counts = Counts::new();
+    let ended = fill(
+        alloc,
+        &mut connection,
+        &mut producer,
+        &mut lines,
+        &mut counts,
+    );
+    eprintln!(rt; "{counts}")?;
+    ended?;
+    if lines.is_torn {
+        bail!("the last line has no end, and is not added");
+    }
+    Ok(())
+}
