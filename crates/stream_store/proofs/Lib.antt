@@ -1,2 +1,4 @@
+pub mod AscendLemmas
 pub mod CountLemmas
+pub mod LawLemmas
 pub mod OrderLemmas

@@ -1,4 +1,5 @@
 pub mod EntryId
+pub mod Laws
 pub mod Order
 pub mod Pending
 pub mod Stream

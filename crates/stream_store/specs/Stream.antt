@@ -1,5 +1,5 @@
 -- What a stream and a group show, and how they change.
-use Rattle.std.specs.Prelude.{◌≡◌, ◌≢◌, ℕ, ℤ, List, [], ◌∷◌, remove}
+use Rattle.std.specs.Prelude.{◌≡◌, ◌≢◌, ◌<◌, ℕ, ℤ, List, [], ◌∷◌, length, remove}
 use Rattle.std.specs.declared.cmp.Ordering.TheVariants.{Greater}
 use Rattle.std.specs.List.{HoldsAt}
 use Rattle.stream_store.specs.Order.{id_order}
@@ -34,6 +34,7 @@ seen_stream s = record {
 -- one entry with this id is taken out, and the others stay
 pub record IsWithoutOne (id : EntryId) (old new : List Entry) : Type 0 where
   pub index : ℕ
+  pub within : index < length old
   pub named : HoldsAt (λ entry. entry.id ≡ id) old index
   pub others : new ≡ remove old index
 

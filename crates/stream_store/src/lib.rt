@@ -5,6 +5,7 @@
 
 mod entry_id;
 mod group;
+pub mod laws;
 mod room;
 mod stream;
 mod trim;
