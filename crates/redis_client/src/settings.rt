@@ -1,4 +1,6 @@
 //! The settings of an address.
+ghost use Rattle.std.specs.Prelude.{◌≡◌, None, IfOk};
+
 use crate::address::{AddressError, Protocol, decoded};
 use crate::cut::cut;
 use std::alloc::Global;
@@ -11,7 +13,10 @@ pub(crate) struct Settings {
 }
 
 /// The settings of a text: `protocol` and `name`, in either order.
-pub(crate) fn settings_of(alloc: Global, text: Option<&[u8]>) -> Result<Settings, AddressError> {
+pub(crate) fn settings_of(alloc: Global, text: Option<&[u8]>) -> Result<Settings, AddressError>
+    ensures none { text.entry ≡ None
+        → IfOk result (λ s. (s.protocol ≡ Protocol.Resp2) × (s.name ≡ None)) }
+{
     let none = Settings {
         protocol: Protocol::Resp2,
         name: None,

@@ -1,4 +1,6 @@
 //! A connection over a socket that is open.
+ghost use Rattle.std.specs.Prelude.{◌≢◌, IfErr};
+
 use redis_connection::{Connection, ConnectionError};
 use redis_wire::Limits;
 use std::alloc::Global;
@@ -14,7 +16,9 @@ pub fn connection_over<S: Read + Write + OpenStream + Drop>(
     alloc: Global,
     stream: S,
     patience: Duration,
-) -> Result<Connection<S, S>, ConnectionError> {
+) -> Result<Connection<S, S>, ConnectionError>
+    ensures { IfErr result (λ e. e ≢ ConnectionError.Closed) }
+{
     match reader_of(&stream, patience) {
         Ok(reader) => Ok(Connection::new(alloc, reader, stream, Limits::default())?),
         Err(error) => Err(ConnectionError::Read(error)),

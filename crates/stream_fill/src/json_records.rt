@@ -1,4 +1,5 @@
 //! Lines of JSON as records.
+ghost use Rattle.std.specs.Prelude.{◌≢◌, [], IfOk};
 
 use base64::DecodeAllocError;
 use base64::engine::general_purpose::STANDARD;
@@ -35,11 +36,9 @@ impl<T: Drop> From<AllocFailed<T>> for NoRecord {
 /// The record of a line: an object of texts, `{"name":"value",..}`, or a line of `stream_drain`,
 /// `{"id":"1-0","fields":[["name","value"],..]}`, whose id is passed over. A text is a string or,
 /// where it is not UTF-8, `{"base64":".."}`.
-pub fn record_of_json(
-    alloc: Global,
-    scratch: &mut Scratch,
-    line: &[u8],
-) -> Result<Record, NoRecord> {
+pub fn record_of_json(alloc: Global, scratch: &mut Scratch, line: &[u8]) -> Result<Record, NoRecord>
+    ensures { IfOk result (λ r. r.items ≢ []) }
+{
     let record = match Value::from_slice(alloc, line, scratch) {
         Ok(value) => record_of_value(alloc, &value)?,
         Err(json::Error::OutOfMemory) => return Err(NoRecord::Memory),

@@ -1,5 +1,5 @@
 //! A file of lines as a source of records.
-ghost use Rattle.std.specs.Prelude.{None};
+ghost use Rattle.std.specs.Prelude.{◌≡◌, None, IfOk};
 
 use crate::json_records::record_of_json;
 use anyhow::{Context, Error, Result, anyhow, bail};
@@ -52,7 +52,9 @@ impl Lines {
         rt: &R,
         path: &str,
         form: Form,
-    ) -> Result<Lines> {
+    ) -> Result<Lines>
+        ensures { IfOk result (λ lines. lines.before ≡ None) }
+    {
         let alloc = rt.alloc();
         let file = File::open(rt, path).context(format_args!("cannot open {path}"))?;
         let mut lines = Lines {
@@ -67,6 +69,7 @@ impl Lines {
             fault: None,
         };
         lines.count_all()?;
+        lines.before = None;
         Ok(lines)
     }
 

@@ -16,20 +16,21 @@
 //! with 1 and the reason. A last line without an end is not added, and is a reason.
 #![tactic(auto)]
 
-mod fill;
+mod counts;
 mod json_records;
 mod lines;
 mod options;
 
-use crate::fill::{Counts, fill};
+use crate::counts::Counts;
 use crate::lines::Lines;
 use crate::options::{Options, options_of};
 use anyhow::{Error, Result, bail};
 use redis_connection::Connection;
 use redis_wire::Limits;
 use std::alloc::{AllocError, Global};
+use std::io::{Read, Write};
 use std::{env, io};
-use stream_feed::Producer;
+use stream_feed::{Asked, Producer, RequestError, RunError};
 
 fn main(rt: HostRuntime) -> Result<()> {
     let words = words_of(&rt)?;
@@ -96,4 +97,31 @@ fn fill_by(rt: &HostRuntime, options: Options) -> Result<()> {
         bail!("the last line has no end, and is not added");
     }
     Ok(())
+}
+
+// Makes rounds until all records are in, or something fails.
+fn fill<R: Read + Drop, W: Write + Drop>(
+    alloc: Global,
+    connection: &mut Connection<R, W>,
+    producer: &mut Producer,
+    lines: &mut Lines,
+    counts: &mut Counts,
+) -> Result<()> {
+    let count = lines.count;
+    for _ in 0..u64::MAX {
+        match producer.round(alloc, connection, lines, count) {
+            Ok(Asked::Nothing) => return Ok(()),
+            Ok(asked) => counts.take(asked, producer.stage()),
+            Err(error) => return Err(broken_off(error, lines)),
+        }
+    }
+    bail!("the last turn came")
+}
+
+// Why a round failed.
+fn broken_off(error: RunError, lines: &mut Lines) -> Error {
+    match (error, lines.fault.take()) {
+        (RunError::Request(RequestError::NotRead), Some(fault)) => fault,
+        (error, _) => error.into(),
+    }
 }

@@ -26,9 +26,10 @@ use crate::answer::{Answer, Status};
 use crate::refusal::Refusal;
 use crate::session::Session;
 use connection::Connection;
+use draft::Draft;
 use report::Report;
 use std::alloc::{AllocError, Global};
-use stream_store::{Entry, EntryId, Group, Stream};
+use stream_store::{Entry, EntryId, Group, Room, Stream};
 
 const SYNTAX: Refusal = Refusal::Fixed("ERR syntax error");
 
@@ -950,5 +951,46 @@ fn interval_end_at(argument: &[u8], missing: u64) -> Result<(EntryId, bool), Ref
     match found {
         Some(id) => Ok((id, is_exclusive)),
         None => Err(INVALID_ID),
+    }
+}
+
+/// Room in the group for what is changed, where a consumer was seen.
+fn room_of(
+    alloc: Global,
+    streams: &[Stream],
+    draft: &Draft<'_>,
+) -> Result<Option<Room>, AllocError> {
+    let Some(stream) = stream_of(streams, draft.key) else {
+        return Ok(None);
+    };
+    match (group_of(stream, draft.name), draft.part.consumers.first()) {
+        (Some(group), Some(consumer)) => {
+            let more = draft.part.pending.len();
+            Ok(Some(group.room_for(alloc, &consumer.name, more)?))
+        }
+        _ => Ok(None),
+    }
+}
+
+/// The group is changed. With its room, no memory is asked for.
+fn settle(streams: &mut [Stream], draft: Draft<'_>, room: Option<Room>) {
+    let Ok(index) = place_of(streams, draft.key) else {
+        return;
+    };
+    let Ok(place) = place_of_group(&streams[index], draft.name) else {
+        return;
+    };
+    put_part(&mut streams[index].groups[place], draft.part, room);
+}
+
+/// The part stands for what it holds of the group.
+fn put_part(group: &mut Group, part: Group, room: Option<Room>) {
+    group.last_id = part.last_id;
+    group.entries_read = part.entries_read;
+    if let (Some(room), Some(consumer)) = (room, part.consumers.first()) {
+        let _number = group.see_in(room, consumer.seen_at);
+    }
+    for pending in &part.pending {
+        let _given = group.give(*pending);
     }
 }

@@ -9,12 +9,45 @@ use std::io::{ErrorKind, Read, Write};
 use std::test::Fail;
 use stream_server::{Loopback, LoopbackReader, LoopbackWriter, Server};
 
-type Link = Connection<LoopbackReader, LoopbackWriter>;
-
 // A connection to the server.
-fn connected(alloc: Global, loopback: &Loopback) -> Result<Link, Fail> {
+fn connected(
+    alloc: Global,
+    loopback: &Loopback,
+) -> Result<Connection<LoopbackReader, LoopbackWriter>, Fail> {
     let (reader, writer) = loopback.connect()?;
     Ok(Connection::new(alloc, reader, writer, Limits::default())?)
+}
+
+// Adds three entries.
+fn add_three<R: Read + Drop, W: Write + Drop>(
+    alloc: Global,
+    connection: &mut Connection<R, W>,
+) -> Result<(), Fail> {
+    for id in ["1-1", "2-1", "3-1"] {
+        let entry = ("XADD", "k", id, ("item", "tea"));
+        let _id = connection.ask_as::<String, _>(alloc, &entry)?;
+    }
+    Ok(())
+}
+
+// How many entries a worker takes in eight rounds.
+fn drained<R: Read + Drop, W: Write + Drop>(
+    alloc: Global,
+    connection: &mut Connection<R, W>,
+) -> Result<usize, Fail> {
+    let mut worker = worker_of(alloc, "ann")?;
+    let mut handler = Count { done: 0 };
+    let _progress = worker.run(alloc, connection, &mut handler, 8)?;
+    Ok(handler.done)
+}
+
+// How many entries are pending, of ten at most.
+fn pending<R: Read + Drop, W: Write + Drop>(
+    alloc: Global,
+    connection: &mut Connection<R, W>,
+) -> Result<usize, Fail> {
+    let question = ("XPENDING", "k", "g", ("-", "+", "10"));
+    Ok(connection.ask_as::<Vec<Value>, _>(alloc, &question)?.len())
 }
 
 #[test]
@@ -22,20 +55,10 @@ fn my_worker_drains_what_another_connection_adds(rt: HostRuntime) -> Result<(), 
     let alloc = rt.alloc();
     let loopback = Loopback::new(alloc, Server::new(alloc))?;
     let mut producer = connected(alloc, &loopback)?;
-    for id in ["1-1", "2-1", "3-1"] {
-        let _id = producer.ask_as::<String, _>(alloc, &("XADD", "k", id, ("item", "tea")))?;
-    }
-    let mut worker = worker_of(alloc, "ann")?;
-    let mut handler = Count { done: 0 };
-    let mut link = connected(alloc, &loopback)?;
-    let _progress = worker.run(alloc, &mut link, &mut handler, 8)?;
-    assert_eq!(rt; handler.done, 3);
-    let question = ("XPENDING", "k", "g", ("-", "+", "10"));
-    assert!(rt;
-        producer
-            .ask_as::<Vec<Value>, _>(alloc, &question)?
-            .is_empty()
-    );
+    add_three(alloc, &mut producer)?;
+    let mut connection = connected(alloc, &loopback)?;
+    assert_eq!(rt; drained(alloc, &mut connection)?, 3);
+    assert_eq!(rt; pending(alloc, &mut producer)?, 0);
     Ok(())
 }
 

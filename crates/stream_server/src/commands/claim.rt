@@ -1,10 +1,10 @@
 //! `XCLAIM`.
 ghost use Rattle.std.specs.Prelude.{◌≡◌, ◌≤◌, length, OnErr};
 
-use super::draft::{Draft, room_of, settle};
+use super::draft::Draft;
 use super::{
     SYNTAX, claimed_answer, group_for, id, ids, integer_in, is_word, place_of, place_of_group, put,
-    refusal_of, shown, stream_for, strict_id,
+    refusal_of, room_of, settle, shown, stream_for, strict_id,
 };
 use crate::answer::Answer;
 use crate::refusal::Refusal;

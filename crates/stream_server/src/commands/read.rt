@@ -2,10 +2,10 @@
 ghost use Rattle.std.specs.Prelude.{◌≡◌, IfOk, OnErr};
 ghost use Rattle.stream_server.specs.Kinds.{IsRows};
 
-use super::draft::{Draft, room_of, settle};
+use super::draft::Draft;
 use super::{
     SYNTAX, array, count, entries_up, entry_answer, group_of, id, integer_in, is_word, put,
-    refusal_of, shown, stream_of,
+    refusal_of, room_of, settle, shown, stream_of,
 };
 use crate::answer::Answer;
 use crate::refusal::Refusal;
