@@ -22,9 +22,14 @@ fn a_reply_is_read(rt: HostRuntime) {
     let length = xlen("orders");
     let read = length.read_reply(rt.alloc(), Reply::Value(Value::Int(3)));
     assert!(rt; matches!(&read, Ok(3)), "{read:?}");
+}
+
+#[test]
+fn an_error_of_the_server_is_read(rt: HostRuntime) {
+    let length = xlen("orders");
     let text = Vec::from_slice(rt.alloc(), b"WRONGTYPE no stream").expect(&rt, "memory");
     match length.read_reply(rt.alloc(), Reply::Error(ServerError { text })) {
-        Err(ReplyError::Server(error)) => assert_eq!(rt; error.code(), b"WRONGTYPE".as_slice()),
+        Err(ReplyError::Server(error)) => assert!(rt; error.code() == b"WRONGTYPE".as_slice()),
         other => assert!(rt; false, "{other:?}"),
     }
 }
@@ -47,7 +52,8 @@ fn no_streams_are_read(rt: HostRuntime) {
 #[test]
 fn an_empty_list_is_none(rt: HostRuntime) {
     let none: [&str; 0] = [];
-    assert_eq!(rt; AtLeastOne::new(&none).is_none(), true);
+    assert!(rt; AtLeastOne::new(&none).is_none());
     let some = ["a", "b"];
-    assert_eq!(rt; AtLeastOne::new(&some).map(|list| list.len()), Some(2));
+    let list = AtLeastOne::new(&some).expect(&rt, "a list");
+    assert!(rt; list.len() == 2);
 }

@@ -16,7 +16,7 @@ use stream_options::{
 };
 
 /// A call on the options of `XADD`.
-#[derive(Debug, Drop)]
+#[derive(Drop)]
 pub enum AddCall {
     Nomkstream,
     Trim(StreamTrimStrategy),
@@ -26,7 +26,7 @@ pub enum AddCall {
 }
 
 /// A call on the options of `XREAD` and `XREADGROUP`; `Block` and `Claim` are in milliseconds.
-#[derive(Debug, Drop)]
+#[derive(Drop)]
 pub enum ReadCall {
     Noack,
     Block(usize),

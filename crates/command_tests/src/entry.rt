@@ -1,6 +1,7 @@
 //! Commands on the entries of a stream.
 use crate::{check, text};
 use redis_resp::PairList;
+use std::process::Abort;
 use stream_commands::{
     AtLeastOne, FieldsThen, pair_fields, xadd, xadd_maxlen, xadd_options, xcfgset, xdel, xdel_ex,
     xlen, xrange, xrange_all, xrange_count, xread, xread_options, xrevrange, xrevrange_all,
@@ -12,51 +13,82 @@ use stream_options::{
 };
 
 #[test]
-fn entries_are_added(rt: HostRuntime) {
-    let one = ("item", "tea");
-    let add = xadd("orders", "1-0", one);
+fn an_entry_of_one_field_is_added(rt: HostRuntime) {
+    let add = xadd("orders", "1-0", ("item", "tea"));
     check(&rt, &add, "XADD orders 1-0 item tea");
+}
+
+#[test]
+fn an_entry_is_added_and_old_ones_are_cut(rt: HostRuntime) {
     let kept = StreamMaxlen::Approx(1000);
-    let add = xadd_maxlen("orders", kept, "3-0", one);
+    let add = xadd_maxlen("orders", kept, "3-0", ("item", "tea"));
     check(&rt, &add, "XADD orders MAXLEN ~ 1000 3-0 item tea");
+}
+
+#[test]
+fn an_entry_of_two_fields_is_added(rt: HostRuntime) {
     let fields = [("item", "cup"), ("size", "2")];
     let two = AtLeastOne::new(&fields).expect(&rt, "fields");
     let add = xadd("orders", "2-0", two);
     check(&rt, &add, "XADD orders 2-0 item cup size 2");
+}
+
+#[test]
+fn an_entry_is_added_with_options(rt: HostRuntime) {
     let strategy = StreamTrimStrategy::maxlen(StreamTrimmingMode::Exact, 10);
     let options = StreamAddOptions::default().nomkstream().trim(strategy);
-    let add = xadd_options("none", "*", one, &options);
+    let add = xadd_options("none", "*", ("item", "tea"), &options);
     check(&rt, &add, "XADD none NOMKSTREAM MAXLEN = 10 * item tea");
+}
+
+// Fields of this name, that were read of an entry.
+fn fields_of(rt: &(impl AllocGlobal + Abort), name: &str, values: &[u64]) -> PairList<u64> {
+    let mut read = Vec::new(rt.alloc());
+    for value in values {
+        read.push((text(rt, name), *value)).expect(rt, "memory");
+    }
+    PairList(read)
 }
 
 #[test]
 fn fields_of_an_entry_are_added_again(rt: HostRuntime) {
-    let mut read = Vec::new(rt.alloc());
-    for value in [7u64, 8] {
-        read.push((text(&rt, "item"), value)).expect(&rt, "memory");
-    }
-    let fields = PairList(read);
-    let times = ("times", 3u64);
-    let add = xadd("dead", "*", FieldsThen(&fields, times));
-    check(&rt, &add, "XADD dead * item 7 item 8 times 3");
+    let fields = fields_of(&rt, "item", &[7, 8]);
     let own = pair_fields(&fields).expect(&rt, "fields");
-    let add = xadd("dead", "*", own);
-    check(&rt, &add, "XADD dead * item 7 item 8");
-    let none: PairList<u64> = PairList(Vec::new(rt.alloc()));
+    check(&rt, &xadd("dead", "*", own), "XADD dead * item 7 item 8");
+}
+
+#[test]
+fn fields_of_an_entry_and_a_new_one_are_added(rt: HostRuntime) {
+    let fields = fields_of(&rt, "item", &[7, 8]);
+    let add = xadd("dead", "*", FieldsThen(&fields, ("times", 3u64)));
+    check(&rt, &add, "XADD dead * item 7 item 8 times 3");
+}
+
+#[test]
+fn no_fields_and_a_new_one_are_added(rt: HostRuntime) {
+    let none = fields_of(&rt, "item", &[]);
     assert!(rt; pair_fields(&none).is_none());
-    let add = xadd("dead", "*", FieldsThen(&none, times));
+    let add = xadd("dead", "*", FieldsThen(&none, ("times", 3u64)));
     check(&rt, &add, "XADD dead * times 3");
 }
 
 #[test]
-fn entries_are_listed(rt: HostRuntime) {
+fn all_entries_are_listed(rt: HostRuntime) {
     check(&rt, &xlen("orders"), "XLEN orders");
     check(&rt, &xrange_all("orders"), "XRANGE orders - +");
     check(&rt, &xrevrange_all("orders"), "XREVRANGE orders + -");
+}
+
+#[test]
+fn entries_are_listed_in_order(rt: HostRuntime) {
     let range = xrange("orders", "1-0", "2-0");
     check(&rt, &range, "XRANGE orders 1-0 2-0");
     let range = xrange_count("orders", "2", "+", 1);
     check(&rt, &range, "XRANGE orders 2 + COUNT 1");
+}
+
+#[test]
+fn entries_are_listed_backwards(rt: HostRuntime) {
     let range = xrevrange("orders", "+", "3-0");
     check(&rt, &range, "XREVRANGE orders + 3-0");
     let range = xrevrange_count("orders", "+", "-", 1);
@@ -65,10 +97,14 @@ fn entries_are_listed(rt: HostRuntime) {
 
 #[test]
 fn streams_are_read(rt: HostRuntime) {
-    let orders = ("orders", "3-0");
-    let streams = [orders, ("none", "0-0")];
+    let streams = [("orders", "3-0"), ("none", "0-0")];
     let both = AtLeastOne::new(&streams).expect(&rt, "streams");
     check(&rt, &xread(both), "XREAD STREAMS orders none 3-0 0-0");
+}
+
+#[test]
+fn a_stream_is_read_with_options(rt: HostRuntime) {
+    let orders = ("orders", "3-0");
     let count = StreamReadOptions::default().noack().count(1);
     let read = xread_options(AtLeastOne::one(&orders), &count);
     check(&rt, &read, "XREAD COUNT 1 STREAMS orders 3-0");
@@ -79,6 +115,10 @@ fn entries_are_deleted(rt: HostRuntime) {
     let ids = ["1-0", "9-9"];
     let both = AtLeastOne::new(&ids).expect(&rt, "ids");
     check(&rt, &xdel("orders", both), "XDEL orders 1-0 9-9");
+}
+
+#[test]
+fn an_entry_is_deleted_by_a_policy(rt: HostRuntime) {
     let policy = StreamDeletionPolicy::KeepRef;
     let delete = xdel_ex("orders", AtLeastOne::one(&"1-0"), policy);
     check(&rt, &delete, "XDELEX orders KEEPREF IDS 1 1-0");
@@ -88,6 +128,10 @@ fn entries_are_deleted(rt: HostRuntime) {
 fn streams_are_cut(rt: HostRuntime) {
     let cut = xtrim("orders", StreamMaxlen::Equals(2));
     check(&rt, &cut, "XTRIM orders MAXLEN = 2");
+}
+
+#[test]
+fn a_stream_is_cut_with_options(rt: HostRuntime) {
     let options = StreamTrimOptions::maxlen(StreamTrimmingMode::Approx, 1).limit(50);
     let options = options.set_deletion_policy(StreamDeletionPolicy::Acked);
     let cut = xtrim_options("orders", &options);

@@ -56,44 +56,48 @@ fn words_of(rt: &(impl AllocGlobal + Abort), line: &str) -> Vec<Vec<u8>> {
 #[cfg(test)]
 fn check<T: ToRedisArgs>(rt: &(impl AllocGlobal + Abort), value: &T, line: &str) {
     let words = words_of(rt, line);
-    let listed = value.to_redis_args(rt.alloc()).expect(rt, "memory");
-    assert!(rt; listed == words, "of {line}");
-    drop(listed);
-    let mut behind = words_of(rt, "held");
-    assert_eq!(rt; value.write_redis_args(&mut behind), Ok(()));
-    assert!(rt; behind.get(1..) == Some(words.as_slice()), "of {line}");
-    drop(behind);
-    let mut place: FixedArgs<16, 128> = FixedArgs::new();
-    assert_eq!(rt; value.write_redis_args(&mut place), Ok(()));
-    assert_eq!(rt; place.len(), words.len());
-    for (index, word) in words.iter().enumerate() {
-        assert_eq!(rt; place.get(index), Some(word.as_slice()));
-    }
+    assert!(rt; is_listed(rt, value, &words), "of {line}");
+    assert!(rt; is_added(rt, value, &words), "of {line}");
+    check_place(rt, FixedArgs::<16, 128>::new(), value, Ok(()), line);
 }
 
-/// Written into this empty place the value answers so, and then these arguments stand there.
+#[cfg(test)]
+fn is_listed<T: ToRedisArgs>(
+    rt: &(impl AllocGlobal + Abort),
+    value: &T,
+    words: &[Vec<u8>],
+) -> bool {
+    let listed = value.to_redis_args(rt.alloc()).expect(rt, "memory");
+    listed.as_slice() == words
+}
+
+#[cfg(test)]
+fn is_added<T: ToRedisArgs>(rt: &(impl AllocGlobal + Abort), value: &T, words: &[Vec<u8>]) -> bool {
+    let mut behind = words_of(rt, "held");
+    let answer = value.write_redis_args(&mut behind);
+    answer == Ok(()) && behind.get(1..) == Some(words)
+}
+
+/// Written into this empty place the value answers so, and then the words of this line stand there.
 #[cfg(test)]
 fn check_place<T: ToRedisArgs, const N: usize, const B: usize>(
-    rt: &impl Abort,
+    rt: &(impl AllocGlobal + Abort),
     mut place: FixedArgs<N, B>,
     value: &T,
     answer: Result<(), WriteError>,
-    held: &[&[u8]],
+    line: &str,
 ) {
-    assert_eq!(rt; value.write_redis_args(&mut place), answer);
-    assert_holds(rt, &place, held);
+    assert!(rt; value.write_redis_args(&mut place) == answer, "of {line}");
+    assert!(rt; holds(&place, &words_of(rt, line)), "of {line}");
 }
 
 /// These arguments stand in the place, and nothing else.
 #[cfg(test)]
-fn assert_holds<const N: usize, const B: usize>(
-    rt: &impl Abort,
-    place: &FixedArgs<N, B>,
-    held: &[&[u8]],
-) {
-    assert_eq!(rt; place.len(), held.len());
-    for (index, arg) in held.iter().enumerate() {
-        assert_eq!(rt; place.get(index), Some(*arg));
+fn holds<const N: usize, const B: usize>(place: &FixedArgs<N, B>, args: &[Vec<u8>]) -> bool {
+    for (index, arg) in args.iter().enumerate() {
+        if place.get(index) != Some(arg.as_slice()) {
+            return false;
+        }
     }
-    assert_eq!(rt; place.get(held.len()), None);
+    place.len() == args.len() && place.get(args.len()) == None
 }

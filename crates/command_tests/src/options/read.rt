@@ -75,10 +75,9 @@ fn places_for_a_read(rt: HostRuntime) {
         .block(5);
     let options = options.group(rt.alloc(), "g", "c").expect(&rt, "memory");
     check(&rt, &options, "GROUP g c BLOCK 5 COUNT 2 NOACK CLAIM 100");
-    let words: [&[u8]; 10] = [
-        b"GROUP", b"g", b"c", b"BLOCK", b"5", b"COUNT", b"2", b"NOACK", b"CLAIM", b"100",
-    ];
-    check_place(&rt, FixedArgs::<10, 32>::new(), &options, Ok(()), &words);
+    let line = "GROUP g c BLOCK 5 COUNT 2 NOACK CLAIM 100";
+    check_place(&rt, FixedArgs::<10, 32>::new(), &options, Ok(()), line);
     let full = Err(WriteError::Full);
-    check_place(&rt, FixedArgs::<9, 64>::new(), &options, full, &words[..9]);
+    let line = "GROUP g c BLOCK 5 COUNT 2 NOACK CLAIM";
+    check_place(&rt, FixedArgs::<9, 64>::new(), &options, full, line);
 }

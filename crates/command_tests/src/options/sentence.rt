@@ -37,20 +37,12 @@ fn places_for_all_of_add(rt: HostRuntime) {
     let all = all_of_add(&rt);
     let line = "NOMKSTREAM KEEPREF IDMP producer-1 iid-1 MAXLEN ~ 100";
     check(&rt, &all, line);
-    let words: [&[u8]; 8] = [
-        b"NOMKSTREAM",
-        b"KEEPREF",
-        b"IDMP",
-        b"producer-1",
-        b"iid-1",
-        b"MAXLEN",
-        b"~",
-        b"100",
-    ];
+    check_place(&rt, FixedArgs::<8, 46>::new(), &all, Ok(()), line);
     let full = Err(WriteError::Full);
-    check_place(&rt, FixedArgs::<8, 46>::new(), &all, Ok(()), &words);
-    check_place(&rt, FixedArgs::<8, 45>::new(), &all, full, &words[..7]);
-    check_place(&rt, FixedArgs::<8, 21>::new(), &all, full, &words[..3]);
+    let seven = "NOMKSTREAM KEEPREF IDMP producer-1 iid-1 MAXLEN ~";
+    check_place(&rt, FixedArgs::<8, 45>::new(), &all, full, seven);
+    let three = "NOMKSTREAM KEEPREF IDMP";
+    check_place(&rt, FixedArgs::<8, 21>::new(), &all, full, three);
 }
 
 #[test]

@@ -3,13 +3,13 @@ ghost use Rattle.std.specs.Prelude.{◌≡◌, ◌⊎◌, [], ◌∷◌, codes, 
 ghost use Rattle.redis_args.specs.Room.{MayRefuse};
 ghost use Rattle.redis_args.specs.declared.writer.WriteError.TheVariants.{Full};
 
-use crate::{assert_holds, check, check_place, text};
+use crate::{check, check_place, holds, text, words_of};
 use redis_args::{FixedArgs, RedisWrite, ToRedisArgs, WriteError};
 use std::process::Abort;
 use stream_options::{StreamDeletionPolicy, StreamTrimOptions, StreamTrimmingMode};
 
 /// `yes` or `no`.
-#[derive(Debug, Drop)]
+#[derive(Drop)]
 pub(crate) struct Flag(pub bool);
 
 impl ToRedisArgs for Flag {
@@ -53,35 +53,44 @@ fn values_of_a_users_own(rt: HostRuntime) {
 
 // The answer of writing these options without room for the word `LIMIT`, and what is then held.
 fn check_without_limit(
-    rt: &impl Abort,
+    rt: &(impl AllocGlobal + Abort),
     options: &StreamTrimOptions,
     answer: Result<(), WriteError>,
-    held: &[&[u8]],
+    line: &str,
 ) {
     let mut out = WithoutLimit {
         store: FixedArgs::new(),
     };
-    assert_eq!(rt; options.write_redis_args(&mut out), answer);
-    assert_holds(rt, &out.store, held);
+    assert!(rt; options.write_redis_args(&mut out) == answer);
+    assert!(rt; holds(&out.store, &words_of(rt, line)));
 }
 
 #[test]
 fn a_writer_without_limit(rt: HostRuntime) {
-    let full = Err(WriteError::Full);
     let spelled = StreamTrimOptions::minid(StreamTrimmingMode::Exact, text(&rt, "LIMIT"));
     let spelled = spelled.set_deletion_policy(StreamDeletionPolicy::Acked);
-    check_without_limit(&rt, &spelled, full, &[b"MINID", b"="]);
+    check_without_limit(&rt, &spelled, Err(WriteError::Full), "MINID =");
+}
+
+#[test]
+fn a_limit_for_a_writer_without_limit(rt: HostRuntime) {
     let about = StreamTrimOptions::maxlen(StreamTrimmingMode::Approx, 10);
-    check_without_limit(&rt, &about, Ok(()), &[b"MAXLEN", b"~", b"10"]);
-    check_without_limit(&rt, &about.limit(5), full, &[b"MAXLEN", b"~", b"10"]);
+    check_without_limit(&rt, &about, Ok(()), "MAXLEN ~ 10");
+    let full = Err(WriteError::Full);
+    check_without_limit(&rt, &about.limit(5), full, "MAXLEN ~ 10");
 }
 
 #[test]
 fn little_room(rt: HostRuntime) {
     let options = StreamTrimOptions::maxlen(StreamTrimmingMode::Approx, 10);
-    let words: [&[u8]; 3] = [b"MAXLEN", b"~", b"10"];
     let full = Err(WriteError::Full);
-    check_place(&rt, FixedArgs::<2, 64>::new(), &options, full, &words[..2]);
-    check_place(&rt, FixedArgs::<3, 8>::new(), &options, full, &words[..2]);
-    check_place(&rt, FixedArgs::<3, 9>::new(), &options, Ok(()), &words);
+    check_place(&rt, FixedArgs::<2, 64>::new(), &options, full, "MAXLEN ~");
+    check_place(&rt, FixedArgs::<3, 8>::new(), &options, full, "MAXLEN ~");
+    check_place(
+        &rt,
+        FixedArgs::<3, 9>::new(),
+        &options,
+        Ok(()),
+        "MAXLEN ~ 10",
+    );
 }
