@@ -139,7 +139,8 @@ pub use Rattle.stream_options.specs.Trim.{trim_sentence, trim_words, unlimited}
 pub use Rattle.stream_options.specs.TrimCalls.{final_trim}
 pub use Rattle.stream_options.specs.View.{idempotency_of, maxlen_of, mode_of, nack_of, policy_of, strategy_of}
 pub use Rattle.stream_options.specs.Words.{IsFree, among}
-pub use Rattle.stream_refs.specs.AutoClaim.{copied_autoclaim, IsAutoClaim, IsJustId, SentAutoClaim}
+pub use Rattle.stream_refs.specs.AutoClaim.{copied_autoclaim, IsAutoClaim, IsJustId}
+pub use Rattle.stream_refs.specs.Sent.{SentAutoClaim}
 pub use Rattle.stream_refs.specs.ClaimOutcome.{IsAutoClaimInPlace, IsAutoClaimOutcome, IsJustIdInPlace, IsJustIdOutcome}
 pub use Rattle.stream_refs.specs.ClaimPlaced.{AreClaimPlaces, AreJustIdPlaces, autoclaim_in, justid_in}
 pub use Rattle.stream_refs.specs.Copied.{copied, copied_stream, copied_streams, pairs_or_none}

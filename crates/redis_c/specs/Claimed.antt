@@ -3,7 +3,8 @@ use Rattle.std.specs.Prelude.{◌≡◌, ◌≤◌, ◌+◌, ℕ, List, length}
 use Rattle.redis_wire.specs.Limits.{default_limits}
 use Rattle.stream_refs.specs.declared.places.AutoClaimPlace.{AutoClaimPlace}
 use Rattle.stream_refs.specs.Held.{Held}
-use Rattle.stream_refs.specs.AutoClaim.{SentAutoClaim, IsAutoClaim, IsJustId}
+use Rattle.stream_refs.specs.AutoClaim.{IsAutoClaim, IsJustId}
+use Rattle.stream_refs.specs.Sent.{SentAutoClaim}
 use Rattle.stream_refs.specs.Sent.{all_fields}
 use Rattle.stream_refs.specs.Shapes.{BeginsWithAutoClaim, BeginsWithJustId}
 use Rattle.stream_entries.specs.JustId.{JustId}

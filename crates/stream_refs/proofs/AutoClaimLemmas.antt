@@ -24,7 +24,8 @@ use Rattle.stream_refs.specs.Held.{Held, none_held}
 use Rattle.stream_refs.specs.Sent.{SentEntry, row_tree, rows_tree, IsTextEntry, IsStandard}
 use Rattle.stream_refs.specs.Copied.{copied}
 use Rattle.stream_refs.specs.Placed.{entry_in, IsField}
-use Rattle.stream_refs.specs.AutoClaim.{SentAutoClaim, ids_tree, deleted_trees, autoclaim_tree, justid_tree}
+use Rattle.stream_refs.specs.AutoClaim.{ids_tree, deleted_trees, autoclaim_tree, justid_tree}
+use Rattle.stream_refs.specs.Sent.{SentAutoClaim}
 use Rattle.stream_refs.specs.AutoClaim.{copied_autoclaim, IsAutoClaim, IsJustId}
 use Rattle.stream_refs.specs.ClaimPlaced.{id_at, autoclaim_in, justid_in, AreClaimPlaces, AreJustIdPlaces}
 use Rattle.stream_refs.specs.Added.{EntriesAdded}

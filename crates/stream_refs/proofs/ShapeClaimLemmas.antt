@@ -14,7 +14,8 @@ use Rattle.redis_wire.specs.Place.{BeginsWithArray}
 use Rattle.stream_entries.specs.AutoClaim.{AutoClaim, autoclaim_reading}
 use Rattle.stream_entries.specs.JustId.{JustId, justid_reading}
 use Rattle.stream_refs.specs.Sent.{Pairs, SentEntry, rows_tree, AreTextFields, IsTextEntry, IsStandard}
-use Rattle.stream_refs.specs.AutoClaim.{SentAutoClaim, ids_tree, deleted_trees, autoclaim_tree, justid_tree}
+use Rattle.stream_refs.specs.AutoClaim.{ids_tree, deleted_trees, autoclaim_tree, justid_tree}
+use Rattle.stream_refs.specs.Sent.{SentAutoClaim}
 use Rattle.stream_refs.specs.AutoClaim.{copied_autoclaim, IsAutoClaim, IsJustId}
 use Rattle.stream_refs.specs.AddedIds.{deleted_count}
 use Rattle.stream_refs.specs.Shapes.{NilForm, entry_bytes, rows_bytes, ids_bytes, deleted_bytes, claim_start}

@@ -6,14 +6,9 @@ use Rattle.redis_wire.specs.Reply.{value}
 use Rattle.redis_wire.specs.Grammar.{IsAnyReply}
 use Rattle.stream_entries.specs.AutoClaim.{AutoClaim, autoclaim_reading}
 use Rattle.stream_entries.specs.JustId.{JustId, justid_reading}
-use Rattle.stream_refs.specs.Sent.{SentEntry, rows_tree}
+use Rattle.stream_refs.specs.Sent.{SentAutoClaim, AreNamed, rows_tree}
+use Rattle.stream_refs.specs.SentReading.{sent_autoclaim_reading}
 use Rattle.stream_refs.specs.Copied.{copied}
-
--- the id to go on with, the entries that were claimed, and the ids that are no longer in the stream
-pub record SentAutoClaim : Type 0 where
-  pub next : List ℕ
-  pub claimed : List SentEntry
-  pub deleted : List (List ℕ)
 
 -- ids alone
 abbrev pub ids_tree : List (List ℕ) → Tree
@@ -35,13 +30,14 @@ justid_tree told r = array (trees (bulk r.next ∷ ids_tree r.claimed ∷ delete
 abbrev pub copied_autoclaim : SentAutoClaim → AutoClaim
 copied_autoclaim r = record { next = r.next; claimed = map copied r.claimed; deleted = r.deleted; invalid = false }
 
--- The first `len` bytes are a reply within the limits, however many values it has, which says this: what the
--- record of the copying path holds.
+-- The first `len` bytes are a reply within the limits, however many values it has, which says this; where names
+-- are text, it is what the record of the copying path holds.
 pub record IsAutoClaim (limits : Limits) (bytes : List ℕ) (r : SentAutoClaim) (len : ℕ) : Type 0 where
   pub within : len ≤ length bytes
   pub told : Bool
   pub reply : IsAnyReply limits (take len bytes) (value (autoclaim_tree told r))
-  pub reading : autoclaim_reading (autoclaim_tree told r) ≡ Some (copied_autoclaim r)
+  pub sent : sent_autoclaim_reading (autoclaim_tree told r) ≡ Some r
+  pub reading : AreNamed r.claimed → autoclaim_reading (autoclaim_tree told r) ≡ Some (copied_autoclaim r)
 
 -- The same where the command asked for ids alone.
 pub record IsJustId (limits : Limits) (bytes : List ℕ) (r : JustId) (len : ℕ) : Type 0 where

@@ -16,7 +16,8 @@ use Rattle.stream_refs.specs.declared.claim_outcome.AutoClaimOutcome.{AutoClaimO
 use Rattle.stream_refs.specs.declared.claim_outcome.AutoClaimOutcome.TheVariants as claims
 use Rattle.stream_refs.specs.declared.claim_outcome.JustIdOutcome.{JustIdOutcome}
 use Rattle.stream_refs.specs.declared.claim_outcome.JustIdOutcome.TheVariants as justids
-use Rattle.stream_refs.specs.AutoClaim.{SentAutoClaim, IsAutoClaim, IsJustId}
+use Rattle.stream_refs.specs.AutoClaim.{IsAutoClaim, IsJustId}
+use Rattle.stream_refs.specs.Sent.{SentAutoClaim}
 
 -- in place; or the record of the reply at the head, its refusal or the server's error; or the bytes end too
 -- early; or the first fault, behind which none is a reply, whatever comes behind

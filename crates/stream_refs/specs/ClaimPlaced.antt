@@ -7,7 +7,7 @@ use Rattle.stream_entries.specs.JustId.{JustId}
 use Rattle.stream_refs.specs.declared.places.AutoClaimPlace.{AutoClaimPlace}
 use Rattle.stream_refs.specs.declared.places.EntryPlace.{EntryPlace}
 use Rattle.stream_refs.specs.declared.places.FieldPlace.{FieldPlace}
-use Rattle.stream_refs.specs.AutoClaim.{SentAutoClaim}
+use Rattle.stream_refs.specs.Sent.{SentAutoClaim}
 use Rattle.stream_refs.specs.Placed.{entry_in, IsField, IsEntry}
 
 -- the id that stands there

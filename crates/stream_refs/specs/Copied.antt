@@ -1,8 +1,10 @@
 -- What the copying path keeps of entries as servers send them.
-use Rattle.std.specs.Prelude.{ℕ, List, [], map, Option, Some, None, option_map}
+use Rattle.std.specs.Prelude.{◌≡◌, ◌⊎◌, ℕ, List, [], map, Option, Some, None, option_map}
 use Rattle.std.specs.FinMap.{from_entries}
 use Rattle.redis_resp.specs.Tree.{bulk}
 use Rattle.redis_resp.specs.Table.{table_of, on_values}
+use Rattle.redis_resp.specs.declared.value.error.ParsingError.{ParsingError}
+use Rattle.redis_resp.specs.declared.value.error.ParsingError.TheVariants.{NotText, Memory}
 use Rattle.stream_entries.specs.Entry.{Entry}
 use Rattle.stream_entries.specs.Read.{Streams}
 use Rattle.stream_refs.specs.Sent.{Pairs, SentEntry, SentStream}
@@ -20,6 +22,10 @@ copied e = record {
   milliseconds_elapsed_from_delivery = option_map (λ d. d.0) e.delivery;
   delivered_count = option_map (λ d. d.1) e.delivery;
 }
+
+-- why no record is made of entries: a name is no text, or memory ran out
+abbrev pub NotOwned : Type 0 → ParsingError → Type 0
+NotOwned named error = ((error ≡ NotText) × (named → ⊥)) ⊎ (error ≡ Memory)
 
 -- the stream of a record
 abbrev pub copied_stream : SentStream → List ℕ × List Entry

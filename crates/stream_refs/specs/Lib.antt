@@ -1,6 +1,9 @@
 pub mod Held
 pub mod Lent
 pub mod Sent
+pub mod SentReading
+pub mod SentRefusal
+pub mod SentMeaning
 pub mod Copied
 pub mod Range
 pub mod Placed

@@ -42,11 +42,10 @@ stream_in bytes entries fields s = record {
   entries = map (entry_in bytes fields) (own_entries entries s);
 }
 
--- a field within the bytes, with a name that is text
+-- a field within the bytes
 pub record IsField (bytes : List ℕ) (f : FieldPlace) : Type 0 where
   pub name : IsSpan bytes f.name
   pub value : IsSpan bytes f.value
-  pub is_text : is_utf8 (text_in bytes f.name) ≡ true
 
 -- an entry within the bytes, whose id is text and whose fields are among so many
 pub record IsEntry (bytes : List ℕ) (count : ℕ) (e : EntryPlace) : Type 0 where

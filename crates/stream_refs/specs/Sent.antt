@@ -20,6 +20,12 @@ pub record SentStream : Type 0 where
   pub name : List ℕ
   pub entries : List SentEntry
 
+-- the id to go on with, the entries that were claimed, and the ids that are no longer in the stream
+pub record SentAutoClaim : Type 0 where
+  pub next : List ℕ
+  pub claimed : List SentEntry
+  pub deleted : List (List ℕ)
+
 -- the fields of an entry, none where it was deleted
 abbrev pub fields_of : Option Pairs → Pairs
 fields_of None = []
@@ -84,6 +90,14 @@ IsReadTree ss _ = ⊥
 abbrev pub AreTextFields : Option Pairs → Type 0
 AreTextFields None = Unit {0}
 AreTextFields (Some ps) = AllByRecursion (λ p. is_utf8 p.0 ≡ true) ps
+
+-- entries whose fields have names that are text, as records need them
+abbrev pub AreNamed : List SentEntry → Type 0
+AreNamed es = AllByRecursion (λ e. AreTextFields e.fields) es
+
+-- streams of such entries
+abbrev pub AreAllNamed : List SentStream → Type 0
+AreAllNamed ss = AllByRecursion (λ s. AreNamed s.entries) ss
 
 -- an entry whose id and names are text
 pub record IsTextEntry (e : SentEntry) : Type 0 where

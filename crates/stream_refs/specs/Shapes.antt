@@ -8,7 +8,7 @@ use Rattle.redis_wire.specs.Packed.{bulk_bytes}
 use Rattle.redis_wire.specs.Written.{line_bytes, count_bytes}
 use Rattle.stream_entries.specs.JustId.{JustId}
 use Rattle.stream_refs.specs.Sent.{Pairs, SentEntry, SentStream}
-use Rattle.stream_refs.specs.AutoClaim.{SentAutoClaim}
+use Rattle.stream_refs.specs.Sent.{SentAutoClaim}
 use Rattle.stream_refs.specs.AddedIds.{deleted_count}
 
 -- the three ways to write that there is no value
@@ -106,9 +106,9 @@ pub record IsName (limits : Limits) (text : List ℕ) : Type 0 where
   pub within : length text ≤ limits.length
   pub is_text : is_utf8 text ≡ true
 
--- the same of a name, and a value of any bytes
+-- a name and a value of any bytes, no longer than the limit
 pub record IsPair (limits : Limits) (p : List ℕ × List ℕ) : Type 0 where
-  pub name : IsName limits p.0
+  pub name : length p.0 ≤ limits.length
   pub value : length p.1 ≤ limits.length
 
 -- no more fields than the limit, each such a pair

@@ -1,17 +1,19 @@
 //! The reply of XAUTOCLAIM, where it stands.
-ghost use Rattle.std.specs.Prelude.{◌≡◌, ◌≤◌, ◌+◌, ◌++◌, ℕ, suc, Bool, List, Some, IfOk, IfSome, IsOk, IsSomeAnd};
+ghost use Rattle.std.specs.Prelude.{◌≡◌, ◌≤◌, ◌+◌, ◌++◌, ℕ, suc, Bool, List, Some, IfErr, IfOk, IfSome, IsOk, IsSomeAnd, OnOk};
 ghost use Rattle.std.specs.Prelude.{drop, length};
 ghost use Rattle.redis_wire.specs.Written.{count_bytes};
 ghost use Rattle.redis_wire.specs.Place.{EndsBefore};
 ghost use Rattle.stream_entries.specs.JustId.{JustId};
-ghost use Rattle.stream_refs.specs.AutoClaim.{SentAutoClaim, copied_autoclaim, IsAutoClaim, IsJustId};
+ghost use Rattle.stream_refs.specs.AutoClaim.{copied_autoclaim, IsAutoClaim, IsJustId};
+ghost use Rattle.stream_refs.specs.Sent.{SentAutoClaim};
 ghost use Rattle.stream_refs.specs.Shapes.{deleted_bytes, claim_start, AllowsRows, IsName, AreDeleted};
 ghost use Rattle.stream_refs.specs.Shapes.{BeginsWithAutoClaim, BeginsWithJustId};
 ghost use Rattle.stream_entries.specs.AutoClaimMeaning.{autoclaim_meaning};
 ghost use Rattle.stream_entries.specs.JustIdMeaning.{justid_meaning};
 ghost use Rattle.stream_refs.specs.ClaimPlaced.{autoclaim_in, justid_in, AreClaimPlaces, AreJustIdPlaces};
 ghost use Rattle.stream_refs.specs.Lent.{EntriesFit, FieldsFit};
-ghost use Rattle.stream_refs.specs.Sent.{all_fields};
+ghost use Rattle.stream_refs.specs.Sent.{AreNamed, all_fields};
+ghost use Rattle.stream_refs.specs.Copied.{NotOwned};
 ghost use Rattle.stream_refs.specs.AddedIds.{deleted_count, IsClaimHead, DeletedAdded};
 
 use crate::entry_list::{EntriesRef, entries_at};
@@ -19,6 +21,7 @@ use crate::ids::{IdsRef, add_ids, ids_at};
 use crate::places::{AutoClaimPlace, EntryPlace, FieldPlace};
 use crate::room::Places;
 use crate::rows::{add_entries, name_at, text_in};
+use redis_resp::ParsingError;
 use redis_wire::Limits;
 use redis_wire::place::{Span, array_at};
 use std::alloc::{AllocError, Global};
@@ -53,13 +56,16 @@ pub struct AutoClaimJustIdRef<'a> {
 }
 
 impl<'a> AutoClaimRef<'a> {
-    /// The record of the copying path, where all entries and ids are left.
-    pub fn to_owned(&self, alloc: Global) -> Result<StreamAutoClaimReply, AllocError>
-        ensures { IfOk result (λ r. autoclaim_meaning r ≡ copied_autoclaim (record {
+    /// The record of the copying path, where all entries and ids are left. `NotText` if a name of a field is
+    /// no UTF-8.
+    pub fn to_owned(&self, alloc: Global) -> Result<StreamAutoClaimReply, ParsingError>
+        ensures ok { IfOk result (λ r. autoclaim_meaning r ≡ copied_autoclaim (record {
           next = self.now.next_stream_id.now;
           claimed = self.now.claimed;
           deleted = self.now.deleted_ids;
         })) }
+        ensures named { OnOk result (AreNamed self.now.claimed) }
+        ensures err { IfErr result (NotOwned (AreNamed self.now.claimed)) }
     {
         Ok(StreamAutoClaimReply {
             next_stream_id: String::from_str(alloc, self.next_stream_id)?,

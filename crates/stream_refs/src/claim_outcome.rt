@@ -1,7 +1,7 @@
 //! Replies of XAUTOCLAIM of any shape: where they stand, or by the copying path.
 ghost use Rattle.std.specs.Prelude.{ℕ};
 ghost use Rattle.stream_entries.specs.JustId.{JustId};
-ghost use Rattle.stream_refs.specs.AutoClaim.{SentAutoClaim};
+ghost use Rattle.stream_refs.specs.Sent.{SentAutoClaim};
 ghost use Rattle.stream_refs.specs.ClaimOutcome.{IsAutoClaimOutcome, IsJustIdOutcome, IsAutoClaimInPlace};
 ghost use Rattle.stream_refs.specs.ClaimOutcome.{IsJustIdInPlace};
 ghost use Rattle.stream_refs.specs.Shapes.{BeginsWithAutoClaim, BeginsWithJustId};

@@ -1,15 +1,16 @@
 //! An entry, where it stands.
-ghost use Rattle.std.specs.Prelude.{◌≡◌, [], Ok, Err, IfOk, MatchResult, option_map};
+ghost use Rattle.std.specs.Prelude.{◌≡◌, [], Ok, Err, IfErr, IfOk, MatchResult, OnOk, option_map};
 ghost use Rattle.redis_resp.specs.Table.{last_with};
-ghost use Rattle.stream_refs.specs.Sent.{is_none};
-ghost use Rattle.stream_refs.specs.Copied.{copied, pairs_or_none};
+ghost use Rattle.stream_refs.specs.Sent.{AreTextFields, is_none};
+ghost use Rattle.stream_refs.specs.Copied.{NotOwned, copied, pairs_or_none};
 ghost use Rattle.stream_entries.specs.EntryMeaning.{entry_meaning};
 ghost use Rattle.stream_refs.specs.Placed.{fields_if};
 ghost use Rattle.stream_refs.specs.FieldValue.{text_value, unsigned_value, signed_value};
 
 use crate::field_value::{FieldError, i64_of, str_of, u64_of};
 use crate::fields::FieldsRef;
-use std::alloc::{AllocError, Global};
+use redis_resp::ParsingError;
+use std::alloc::Global;
 use std::fmt;
 use std::marker::Model;
 use stream_entries::StreamId;
@@ -109,8 +110,11 @@ impl<'a> EntryRef<'a> {
     }
 
     /// The entry as a record has it: of fields with one name the last, and none where it was deleted.
-    pub fn to_owned(&self, alloc: Global) -> Result<StreamId, AllocError>
-        ensures { IfOk result (λ s. entry_meaning s ≡ copied self.now) }
+    /// `NotText` if a name is no UTF-8.
+    pub fn to_owned(&self, alloc: Global) -> Result<StreamId, ParsingError>
+        ensures ok { IfOk result (λ s. entry_meaning s ≡ copied self.now) }
+        ensures named { OnOk result (AreTextFields self.now.fields) }
+        ensures err { IfErr result (NotOwned (AreTextFields self.now.fields)) }
     {
         Ok(StreamId {
             id: String::from_str(alloc, self.id)?,

@@ -1,15 +1,17 @@
 //! Entries, where they stand.
-ghost use Rattle.std.specs.Prelude.{◌≡◌, ◌∷◌, [], length, map, nat_eq, option_map, IfOk, MatchOption};
+ghost use Rattle.std.specs.Prelude.{◌≡◌, ◌∷◌, [], length, map, nat_eq, option_map, IfErr, IfOk, MatchOption, OnOk};
 ghost use Rattle.std.specs.List.{AllByRecursion};
 ghost use Rattle.stream_entries.specs.EntryMeaning.{entries_of};
-ghost use Rattle.stream_refs.specs.Copied.{copied};
+ghost use Rattle.stream_refs.specs.Copied.{NotOwned, copied};
+ghost use Rattle.stream_refs.specs.Sent.{AreNamed};
 ghost use Rattle.stream_refs.specs.Placed.{delivery_if, entry_in, IsField, IsEntry};
 
 use crate::entry::{Delivery, EntryRef, entry_of};
 use crate::fields::fields_at;
 use crate::places::{EntryPlace, FieldPlace};
 use crate::rows::text_in;
-use std::alloc::{AllocError, Global};
+use redis_resp::ParsingError;
+use std::alloc::Global;
 use std::fmt;
 use std::iter::ExactSizeIterator;
 use std::marker::Model;
@@ -63,9 +65,11 @@ impl<'a> EntriesRef<'a> {
         }
     }
 
-    /// The entries that are left, as records.
-    pub fn to_owned(&self, alloc: Global) -> Result<Vec<StreamId>, AllocError>
-        ensures { IfOk result (λ ids. entries_of ids ≡ map copied self.now) }
+    /// The entries that are left, as records. `NotText` if a name is no UTF-8.
+    pub fn to_owned(&self, alloc: Global) -> Result<Vec<StreamId>, ParsingError>
+        ensures ok { IfOk result (λ ids. entries_of ids ≡ map copied self.now) }
+        ensures named { OnOk result (AreNamed self.now) }
+        ensures err { IfErr result (NotOwned (AreNamed self.now)) }
     {
         let mut copies = Vec::with_capacity(alloc, self.places.len())?;
         for entry in self.again() {
@@ -164,9 +168,11 @@ pub struct RangeRef<'a> {
 }
 
 impl<'a> RangeRef<'a> {
-    /// The record of the copying path, where all entries are left.
-    pub fn to_owned(&self, alloc: Global) -> Result<StreamRangeReply, AllocError>
-        ensures { IfOk result (λ r. entries_of r.ids ≡ map copied self.now.entries) }
+    /// The record of the copying path, where all entries are left. `NotText` if a name is no UTF-8.
+    pub fn to_owned(&self, alloc: Global) -> Result<StreamRangeReply, ParsingError>
+        ensures ok { IfOk result (λ r. entries_of r.ids ≡ map copied self.now.entries) }
+        ensures named { OnOk result (AreNamed self.now.entries) }
+        ensures err { IfErr result (NotOwned (AreNamed self.now.entries)) }
     {
         Ok(StreamRangeReply {
             ids: self.entries.to_owned(alloc)?,

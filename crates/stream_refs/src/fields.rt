@@ -1,6 +1,6 @@
 //! The fields of an entry, where they stand.
 ghost use Rattle.std.specs.Prelude.{◌≡◌, ◌∷◌, [], length, map, nat_eq, true, MatchOption, MatchResult};
-ghost use Rattle.std.specs.Prelude.{Ok, Err, option_map, IfOk, OnOk, string_bytes};
+ghost use Rattle.std.specs.Prelude.{Ok, Err, Some, option_map, IfErr, IfOk, OnOk, false, string_bytes};
 ghost use Rattle.std.specs.FinMap as fin;
 ghost use Rattle.std.specs.FinMap.{from_entries};
 ghost use Rattle.std.specs.Str.{is_utf8};
@@ -10,21 +10,23 @@ ghost use Rattle.redis_resp.specs.Table.{entries_meaning, last_with, on_values, 
 ghost use Rattle.redis_resp.specs.FieldsMeaning.{fields_of};
 ghost use Rattle.std.specs.List.{AllByRecursion};
 ghost use Rattle.stream_refs.specs.Placed.{field_in, IsField};
+ghost use Rattle.stream_refs.specs.Copied.{NotOwned};
+ghost use Rattle.stream_refs.specs.Sent.{AreTextFields};
 ghost use Rattle.stream_refs.specs.FieldValue.{text_value, unsigned_value, signed_value};
 
 use crate::field_value::{FieldError, i64_of, str_of, u64_of};
 use crate::places::FieldPlace;
 use crate::rows::text_in;
 use bstr::BStr;
-use redis_resp::{PairList, Value};
+use redis_resp::{PairList, ParsingError, Value};
 use std::alloc::{AllocError, Global};
 use std::collections::HashMap;
 use std::fmt;
 use std::iter::ExactSizeIterator;
 use std::marker::Model;
 
-/// The fields of an entry, in order and with repeated ones: names, which are UTF-8, and values, which
-/// are any bytes. As an iterator it returns those that are left.
+/// The fields of an entry, in order and with repeated ones: names and values, which are any bytes. As an
+/// iterator it returns those that are left.
 #[derive(Drop)]
 pub struct FieldsRef<'a> {
     bytes: &'a [u8],
@@ -96,23 +98,28 @@ impl<'a> FieldsRef<'a> {
         i64_of(self.get(name))
     }
 
-    /// The fields by name, as a record keeps them: of those with one name the last.
-    pub fn to_owned(&self, alloc: Global) -> Result<HashMap<String, Value>, AllocError>
-        ensures { IfOk result (λ fields. fields_of fields
+    /// The fields by name, as a record keeps them: of those with one name the last. `NotText` if a name
+    /// is no UTF-8.
+    pub fn to_owned(&self, alloc: Global) -> Result<HashMap<String, Value>, ParsingError>
+        ensures ok { IfOk result (λ fields. fields_of fields
             ≡ from_entries (table_of (on_values bulk self.now))) }
+        ensures named { OnOk result (AreTextFields (Some self.now)) }
+        ensures err { IfErr result (NotOwned (AreTextFields (Some self.now))) }
     {
         let mut copies = HashMap::new(alloc);
         for place in self.places {
             let name = text_in(self.bytes, place.name);
             let value = text_in(self.bytes, place.value);
-            put_field(alloc, &mut copies, name, value)?;
+            put_field(alloc, &mut copies, text_of(name)?, value)?;
         }
         Ok(copies)
     }
 
-    /// The fields in order and with repeated ones, for who keeps them so.
-    pub fn to_pairs(&self, alloc: Global) -> Result<PairList<Value>, AllocError>
-        ensures { IfOk result (λ list. entries_meaning tree list.0.items ≡ on_values bulk self.now) }
+    /// The fields in order and with repeated ones, for who keeps them so. `NotText` if a name is no UTF-8.
+    pub fn to_pairs(&self, alloc: Global) -> Result<PairList<Value>, ParsingError>
+        ensures ok { IfOk result (λ list. entries_meaning tree list.0.items ≡ on_values bulk self.now) }
+        ensures named { OnOk result (AreTextFields (Some self.now)) }
+        ensures err { IfErr result (NotOwned (AreTextFields (Some self.now))) }
     {
         let mut pairs = Vec::with_capacity(alloc, self.places.len())?;
         for place in self.places {
@@ -186,21 +193,30 @@ impl<'a> fmt::Debug for FieldsRef<'a> {
     }
 }
 
-/// The bytes as text.
-fn as_text(bytes: &[u8]) -> &str
-    requires { is_utf8 bytes.now ≡ true }
-    ensures { result.now ≡ bytes.now }
+/// The bytes as text, which a name of a record has to be.
+fn text_of(bytes: &[u8]) -> Result<&str, ParsingError>
+    ensures ok { IfOk result (λ t. (t.now ≡ bytes.now) × (is_utf8 bytes.now ≡ true)) }
+    ensures err { IfErr result (λ e. (e ≡ ParsingError.NotText) × (is_utf8 bytes.now ≡ false)) }
 {
-    unsafe { str::from_utf8_unchecked(bytes) }
+    match str::from_utf8(bytes) {
+        Ok(text) => Ok(text),
+        Err(_) => Err(ParsingError::NotText),
+    }
 }
 
 /// A copy of the field that stands there.
-fn pair_at(alloc: Global, bytes: &[u8], place: FieldPlace) -> Result<(String, Value), AllocError>
+fn pair_at(
+    alloc: Global,
+    bytes: &[u8],
+    place: FieldPlace,
+) -> Result<(String, Value), ParsingError>
     requires { IsField bytes.now place }
     ensures name { IfOk result (λ p. string_bytes p.0 ≡ (field_in bytes.now place).0) }
     ensures value { IfOk result (λ p. tree p.1 ≡ bulk (field_in bytes.now place).1) }
+    ensures named { OnOk result (is_utf8 (field_in bytes.now place).0 ≡ true) }
+    ensures err { IfErr result (NotOwned (is_utf8 (field_in bytes.now place).0 ≡ true)) }
 {
-    let name = String::from_str(alloc, as_text(text_in(bytes, place.name)))?;
+    let name = String::from_str(alloc, text_of(text_in(bytes, place.name))?)?;
     let value = Vec::from_slice(alloc, text_in(bytes, place.value))?;
     Ok((name, Value::BulkString(value)))
 }
@@ -219,14 +235,13 @@ fn put(copies: &mut HashMap<String, Value>, name: String, value: Value) -> Resul
 fn put_field(
     alloc: Global,
     copies: &mut HashMap<String, Value>,
-    name: &[u8],
+    name: &str,
     value: &[u8],
 ) -> Result<(), AllocError>
-    requires { is_utf8 name.now ≡ true }
     ensures { OnOk result (fields_of copies.new
         ≡ fin.insert (fields_of copies.old) name.now (bulk value.now)) }
 {
-    let name = String::from_str(alloc, as_text(name))?;
+    let name = String::from_str(alloc, name)?;
     let value = Value::BulkString(Vec::from_slice(alloc, value)?);
     put(copies, name, value)
 }

@@ -76,7 +76,7 @@ fn add_fields<P: Places>(
 {
     let mut behind = at;
     for _ in 0..count {
-        let Some((name, after)) = name_at(limits, bytes, behind) else {
+        let Some((name, after)) = text_at(limits, bytes, behind) else {
             return Ok(None);
         };
         let Some((value, after)) = text_at(limits, bytes, after) else {

@@ -1,14 +1,16 @@
 //! Streams with their entries, where they stand.
-ghost use Rattle.std.specs.Prelude.{◌≡◌, ◌∷◌, [], length, map, nat_eq, IfOk, MatchOption};
+ghost use Rattle.std.specs.Prelude.{◌≡◌, ◌∷◌, [], length, map, nat_eq, IfErr, IfOk, MatchOption, OnOk};
 ghost use Rattle.std.specs.List.{AllByRecursion};
 ghost use Rattle.stream_entries.specs.ReadMeaning.{stream_key_meaning, streams_of};
-ghost use Rattle.stream_refs.specs.Copied.{copied_stream, copied_streams};
+ghost use Rattle.stream_refs.specs.Copied.{NotOwned, copied_stream, copied_streams};
+ghost use Rattle.stream_refs.specs.Sent.{AreAllNamed, AreNamed};
 ghost use Rattle.stream_refs.specs.Placed.{stream_in, IsField, IsEntry, IsStream};
 
 use crate::entry_list::{EntriesRef, entries_at};
 use crate::places::{EntryPlace, FieldPlace, StreamPlace};
 use crate::rows::text_in;
-use std::alloc::{AllocError, Global};
+use redis_resp::ParsingError;
+use std::alloc::Global;
 use std::fmt;
 use std::iter::ExactSizeIterator;
 use std::marker::Model;
@@ -46,9 +48,11 @@ impl<'a> StreamRef<'a> {
 }
 
 impl<'a> StreamRef<'a> {
-    /// The stream as a record has it.
-    pub fn to_owned(&self, alloc: Global) -> Result<StreamKey, AllocError>
-        ensures { IfOk result (λ k. stream_key_meaning k ≡ copied_stream self.now) }
+    /// The stream as a record has it. `NotText` if a name of a field is no UTF-8.
+    pub fn to_owned(&self, alloc: Global) -> Result<StreamKey, ParsingError>
+        ensures ok { IfOk result (λ k. stream_key_meaning k ≡ copied_stream self.now) }
+        ensures named { OnOk result (AreNamed self.now.entries) }
+        ensures err { IfErr result (NotOwned (AreNamed self.now.entries)) }
     {
         Ok(StreamKey {
             key: String::from_str(alloc, self.name)?,
@@ -108,9 +112,11 @@ impl<'a> StreamsRef<'a> {
         }
     }
 
-    /// The streams that are left, as records.
-    pub fn to_owned(&self, alloc: Global) -> Result<Vec<StreamKey>, AllocError>
-        ensures { IfOk result (λ keys. streams_of keys ≡ copied_streams self.now) }
+    /// The streams that are left, as records. `NotText` if a name of a field is no UTF-8.
+    pub fn to_owned(&self, alloc: Global) -> Result<Vec<StreamKey>, ParsingError>
+        ensures ok { IfOk result (λ keys. streams_of keys ≡ copied_streams self.now) }
+        ensures named { OnOk result (AreAllNamed self.now) }
+        ensures err { IfErr result (NotOwned (AreAllNamed self.now)) }
     {
         let mut copies = Vec::with_capacity(alloc, self.places.len())?;
         for stream in self.again() {
@@ -204,9 +210,12 @@ pub struct ReadRef<'a> {
 }
 
 impl<'a> ReadRef<'a> {
-    /// The record of the copying path, where all streams are left.
-    pub fn to_owned(&self, alloc: Global) -> Result<StreamReadReply, AllocError>
-        ensures { IfOk result (λ r. streams_of r.keys ≡ copied_streams self.now.streams) }
+    /// The record of the copying path, where all streams are left. `NotText` if a name of a field is no
+    /// UTF-8.
+    pub fn to_owned(&self, alloc: Global) -> Result<StreamReadReply, ParsingError>
+        ensures ok { IfOk result (λ r. streams_of r.keys ≡ copied_streams self.now.streams) }
+        ensures named { OnOk result (AreAllNamed self.now.streams) }
+        ensures err { IfErr result (NotOwned (AreAllNamed self.now.streams)) }
     {
         Ok(StreamReadReply {
             keys: self.streams.to_owned(alloc)?,

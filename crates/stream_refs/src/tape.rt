@@ -2,7 +2,8 @@
 ghost use Rattle.std.specs.Prelude.{◌≡◌, ℕ, Bool, true, false, List, IfOk, IfSome, IsSomeAnd};
 ghost use Rattle.stream_refs.specs.Held.{none_held};
 ghost use Rattle.stream_refs.specs.Range.{IsRange, IsRead};
-ghost use Rattle.stream_refs.specs.AutoClaim.{SentAutoClaim, IsAutoClaim, IsJustId};
+ghost use Rattle.stream_refs.specs.AutoClaim.{IsAutoClaim, IsJustId};
+ghost use Rattle.stream_refs.specs.Sent.{SentAutoClaim};
 ghost use Rattle.stream_entries.specs.JustId.{JustId};
 ghost use Rattle.stream_refs.specs.Sent.{SentEntry, SentStream};
 ghost use Rattle.stream_refs.specs.Shapes.{BeginsWithRange, BeginsWithStreams, BeginsWithAutoClaim, BeginsWithJustId};

@@ -1,5 +1,5 @@
 use Rattle.std.proofs.Common.{rules, ◌≡◌, ◌∙◌}
-use Rattle.stream_refs.specs.AutoClaim.{SentAutoClaim}
+use Rattle.stream_refs.specs.Sent.{SentAutoClaim}
 use Rattle.stream_refs.specs.ClaimPlaced.{autoclaim_in}
 use Rattle.stream_refs.proofs.tape.EntryTape.read_autoclaim.Goals as goal
 
