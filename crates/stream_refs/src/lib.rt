@@ -11,6 +11,7 @@ mod fields;
 mod find;
 mod id_parts;
 mod ids;
+mod kept;
 mod laid;
 mod outcome;
 mod places;

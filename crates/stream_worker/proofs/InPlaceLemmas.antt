@@ -4,7 +4,6 @@ use Rattle.std.proofs.Common.{string_bytes, Result, Ok, Err, inl, subst}
 use Rattle.std.specs.Prelude.{true, if◌then◌else◌}
 use Rattle.std.specs.Result.{IsErrAnd}
 use Rattle.std.proofs.lemmas.List.{take-append-drop}
-use Rattle.redis_resp.specs.Table.{Fields}
 use Rattle.redis_resp.specs.Tree.{Tree}
 use Rattle.redis_wire.specs.Decoded.{Decodes, IsFirstFault}
 use Rattle.redis_wire.specs.Grammar.{IsAnyReply}
@@ -15,6 +14,7 @@ use Rattle.redis_wire.specs.declared.limits.Limits.{Limits}
 use Rattle.stream_entries.specs.Entry.{Entry}
 use Rattle.stream_entries.specs.Read.{Streams, read_reading}
 use Rattle.stream_group.specs.Worker.{Machine, Verdict, begins_again}
+use Rattle.stream_refs.specs.Sent.{Pairs}
 use Rattle.stream_worker.specs.Answered.{Failed, Went}
 use Rattle.stream_worker.specs.Answers.{by_value, group_after, entries_read, only_stream, shows_group}
 use Rattle.stream_worker.specs.InPlace.{FailedInPlace, Heads, TakenByValue, TakenInPlace, WentInPlace}
@@ -36,7 +36,7 @@ pub streams_say : (key : List ℕ) (t : Tree) (ss : Streams) (o : Option (List E
     → o ≡ only_stream key ss → entries_read key t ≡ o
 streams_say key t ss o reads is = rw reads (sym is)
 
-module _ {R : Type 0} (with_verdict : R → List ℕ × Fields Tree → Verdict → R) (settings : Settings) (t : Tree)
+module _ {R : Type 0} (with_verdict : R → List ℕ × Pairs → Verdict → R) (settings : Settings) (t : Tree)
     (m n : Machine) (r s : R) (ss : Streams) (reads : read_reading t ≡ Some ss) where
   it_reads : read_reading t ≢ None
   it_reads e = let both : Some ss ≡ None = sym reads ∙ e in absurd cc
@@ -61,7 +61,7 @@ shows_own asked.Claim own = absurd cc
 shows_own asked.News own = absurd cc
 
 -- memory ran out before an entry was handed out
-pub nothing_taken : {R : Type 0} (with_verdict : R → List ℕ × Fields Tree → Verdict → R) (settings : Settings)
+pub nothing_taken : {R : Type 0} (with_verdict : R → List ℕ × Pairs → Verdict → R) (settings : Settings)
     (q : Asked) (t : Tree) (m n : Machine) (r s : R) → n ≡ begins_again m → s ≡ r
     → Failed with_verdict settings q (wire.value t) m n r s worker.Memory
 nothing_taken with_verdict settings q t m n r s i j = (t, refl, inl (i, j))
@@ -75,7 +75,7 @@ heads limits bytes len a r = record {
   reply = r;
 }
 
-module _ {R : Type 0} (with_verdict : R → List ℕ × Fields Tree → Verdict → R) (settings : Settings) (limits : Limits)
+module _ {R : Type 0} (with_verdict : R → List ℕ × Pairs → Verdict → R) (settings : Settings) (limits : Limits)
     (bytes : List ℕ) (w x : Standing R) where
   pub went_at : (len : ℕ) (a : wire.Answer) (p : Progress) → IsAnyReply limits (take len bytes) a
       → Went with_verdict settings w.asked a w.machine x.machine w.history x.history p
@@ -127,7 +127,7 @@ module _ {R : Type 0} (with_verdict : R → List ℕ × Fields Tree → Verdict 
   answer_taken (Ok p) e h f = absurd h
   answer_taken (Err i) e h f = subst (FailedInPlace with_verdict settings limits bytes w x) (sym h) f
 
-pub memory_taken : {R : Type 0} (with_verdict : R → List ℕ × Fields Tree → Verdict → R) (settings : Settings)
+pub memory_taken : {R : Type 0} (with_verdict : R → List ℕ × Pairs → Verdict → R) (settings : Settings)
     (q : Asked) (t : Tree) (m n : Machine) (r s : R) (result : Result Progress WorkerError)
     → IsErrAnd result (λ e. e ≡ worker.Memory) → Failed with_verdict settings q (wire.value t) m n r s worker.Memory
     → TakenByValue with_verdict settings q t m n r s result

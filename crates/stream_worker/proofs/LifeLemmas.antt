@@ -1,7 +1,6 @@
 -- What a worker acknowledges was committed, or deleted.
 use Rattle.std.proofs.Common.{◌≡◌, ◌⊎◌, inl, inr, sym, ap, subst, ◌∙◌, ℕ, Bool, true, false, List, []}
 use Rattle.std.proofs.Common.{◌∷◌, ◌++◌, Option, Some, None, if◌then◌else◌, append_assoc}
-use Rattle.redis_resp.specs.Table.{Fields}
 use Rattle.redis_resp.specs.Tree.{Tree}
 use Rattle.redis_wire.specs.Reply as wire
 use Rattle.redis_connection.specs.Link.{Link}
@@ -11,6 +10,7 @@ use Rattle.stream_group.specs.Worker.{acknowledged, own_pending, taken_over, new
 use Rattle.stream_group.specs.Worker.{handled_one, handled_in, told_in, still, after, after_commit, begins_again}
 use Rattle.stream_group.specs.Worker.{Ending}
 use Rattle.stream_group.proofs.Among.{among_left, among_right, among_split}
+use Rattle.stream_refs.specs.Sent.{Pairs}
 use Rattle.stream_worker.specs.Answers.{Heard, told, no_group, group_made, hears}
 use Rattle.stream_worker.specs.Answered.{Took, Failed, WasCut}
 use Rattle.stream_worker.specs.Gathered.{Doings, done_too, committed_too}
@@ -35,8 +35,8 @@ use Rattle.stream_worker.specs.declared.worker.Progress.TheVariants.{GoesOn}
 use Rattle.stream_worker.proofs.StepLemmas.{nothing_behind, more, all_done}
 
 -- the id is one of these entries', or of those that were deleted
-abbrev IsOf : List (Entry (Fields Tree)) → List Id → Id → Type 0
-IsOf es deleted id = ((fields : Fields Tree) × Among (id, fields) es) ⊎ Among id deleted
+abbrev IsOf : List (Entry Pairs) → List Id → Id → Type 0
+IsOf es deleted id = ((fields : Pairs) × Among (id, fields) es) ⊎ Among id deleted
 
 -- what is to be acknowledged is committed, and what is to be committed is done
 record IsSound (m : Machine) (d : Doings) (deleted : List Id) : Type 0 where
@@ -45,24 +45,24 @@ record IsSound (m : Machine) (d : Doings) (deleted : List Id) : Type 0 where
 
 -- ---- more entries, and more that were deleted
 
-of_left : (es fs : List (Entry (Fields Tree))) (deleted gone : List Id) (id : Id) → IsOf es deleted id
+of_left : (es fs : List (Entry Pairs)) (deleted gone : List Id) (id : Id) → IsOf es deleted id
     → IsOf (es ++ fs) (deleted ++ gone) id
 of_left es fs deleted gone id (inl p) = inl (p.0, among_left (id, p.0) es fs p.1)
 of_left es fs deleted gone id (inr q) = inr (among_left id deleted gone q)
 
-of_right : (es fs : List (Entry (Fields Tree))) (deleted gone : List Id) (id : Id) → IsOf fs gone id
+of_right : (es fs : List (Entry Pairs)) (deleted gone : List Id) (id : Id) → IsOf fs gone id
     → IsOf (es ++ fs) (deleted ++ gone) id
 of_right es fs deleted gone id (inl p) = inl (p.0, among_right (id, p.0) es fs p.1)
 of_right es fs deleted gone id (inr q) = inr (among_right id deleted gone q)
 
-of_later : (es : List (Entry (Fields Tree))) (deleted gone : List Id) (id : Id) → IsOf es deleted id
+of_later : (es : List (Entry Pairs)) (deleted gone : List Id) (id : Id) → IsOf es deleted id
     → IsOf es (deleted ++ gone) id
 of_later es deleted gone id (inl p) = inl p
 of_later es deleted gone id (inr q) = inr (among_left id deleted gone q)
 
 -- ---- what is to be acknowledged of entries was done, or was deleted
 
-one_of : (e : Id) (o : Option (Fields Tree)) (v : Verdict) (id : Id) → Among id (acks_one e o v)
+one_of : (e : Id) (o : Option Pairs) (v : Verdict) (id : Id) → Among id (acks_one e o v)
     → IsOf (handled_one e o v) (deleted_one e o) id
 one_of e None v id h = inr h
 one_of e (Some f) done id (inl same) = inl (f, inl (ap (λ i. (i, f)) same))
@@ -70,7 +70,7 @@ one_of e (Some f) done id (inr h) = absurd h
 one_of e (Some f) left_pending id h = absurd h
 one_of e (Some f) stop id h = absurd h
 
-all_of : (es : List (Delivered (Fields Tree))) (vs : List Verdict) (id : Id) → Among id (acks_in es vs)
+all_of : (es : List (Delivered Pairs)) (vs : List Verdict) (id : Id) → Among id (acks_in es vs)
     → IsOf (handled_in es vs) (deleted_in es) id
 all_of [] vs id h = absurd h
 all_of (e ∷ es) [] id h = absurd h
@@ -80,7 +80,7 @@ all_of (e ∷ es) (v ∷ vs) id h =
     = λ b. elim b as (λ c. Among id (if c then acks_in es vs else [])
     → IsOf (if c then handled_in es vs else []) (deleted_in es) id)
     [ true ↦ all_of es vs id | false ↦ λ n. absurd n ] in
-    let later : List (Entry (Fields Tree)) = if follows e.1 v then handled_in es vs else [] in
+    let later : List (Entry Pairs) = if follows e.1 v then handled_in es vs else [] in
     elim (among_split id (acks_one e.0 e.1 v) (if follows e.1 v then acks_in es vs else []) h) [
       | inl a ↦ of_left (handled_one e.0 e.1 v) later (deleted_one e.0 e.1) (deleted_in es) id (one_of e.0 e.1 v id a)
       | inr a ↦ of_right (handled_one e.0 e.1 v) later (deleted_one e.0 e.1) (deleted_in es) id
@@ -120,18 +120,18 @@ sound_asking m d deleted s =
     [ true ↦ sound_commit m d deleted s | false ↦ s ] in
     case (commits m)
 
-still_among : (ids : List Id) (a : Answer (Fields Tree)) (id : Id) → Among id (still ids a) → Among id ids
+still_among : (ids : List Id) (a : Answer Pairs) (id : Id) → Among id (still ids a) → Among id ids
 still_among ids acknowledged id h = absurd h
 still_among ids (own_pending es) id h = h
 still_among ids (taken_over next es) id h = h
 still_among ids (news es) id h = h
 
-sound_told : (m : Machine) (d : Doings) (deleted : List Id) (a : Answer (Fields Tree)) (vs : List Verdict)
+sound_told : (m : Machine) (d : Doings) (deleted : List Id) (a : Answer Pairs) (vs : List Verdict)
     → IsSound m d deleted
     → IsSound (after m a vs) (with_all done_too d (told_in (entries_in a) vs)) (deleted ++ deleted_in (entries_in a))
 sound_told m d deleted a vs s =
     let gone : List Id = deleted_in (entries_in a) in
-    let handled : List (Entry (Fields Tree)) = handled_in (entries_in a) vs in
+    let handled : List (Entry Pairs) = handled_in (entries_in a) vs in
     let is : IsSound (after m a vs) (more d handled) (deleted ++ gone) = record {
       held = λ id h. of_later d.committed deleted gone id (s.held id (still_among m.to_acknowledge a id h));
       loose = λ id h. elim (among_split id m.to_commit (acks_in (entries_in a) vs) h) [
@@ -141,7 +141,7 @@ sound_told m d deleted a vs s =
     } in
     subst (λ (x : Doings). IsSound (after m a vs) x (deleted ++ gone)) (sym (all_done d (entries_in a) vs)) is
 
-sound_took : (m n : Machine) (d now : Doings) (deleted : List Id) (a : Answer (Fields Tree)) (how : Ending)
+sound_took : (m n : Machine) (d now : Doings) (deleted : List Id) (a : Answer Pairs) (how : Ending)
     → IsSound m d deleted → Took done_too a m n d now how → IsSound n now (deleted ++ deleted_in (entries_in a))
 sound_took m n d now deleted a how s t =
     subst (λ (x : Machine). IsSound x now (deleted ++ deleted_in (entries_in a))) (sym t.machine)

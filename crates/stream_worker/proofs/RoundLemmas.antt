@@ -2,8 +2,6 @@
 use Rattle.std.proofs.Common.{◌≡◌, ◌≤◌, ℕ, List, [], ◌++◌, length, take, Ok, Err, sym, ◌∙◌, ap, subst}
 use Rattle.std.proofs.Common.{append-nil}
 use Rattle.std.proofs.Math.Seq.{take-length}
-use Rattle.redis_resp.specs.Table.{Fields}
-use Rattle.redis_resp.specs.Tree.{Tree}
 use Rattle.redis_wire.specs.Decoded.{NoReply}
 use Rattle.redis_wire.specs.Grammar.{IsReply}
 use Rattle.redis_wire.specs.Push.{reply_at}
@@ -16,6 +14,7 @@ use Rattle.redis_connection.specs.Link.{Link, Receives, Stands}
 use Rattle.redis_connection.specs.Passing.{ReceivesAnswer}
 use Rattle.redis_connection.specs.declared.error.ConnectionError.TheVariants.{Memory}
 use Rattle.stream_group.specs.Worker.{Verdict}
+use Rattle.stream_refs.specs.Sent.{Pairs}
 use Rattle.stream_worker.specs.Answered.{Failed}
 use Rattle.stream_worker.specs.Answers.{group_after, hears}
 use Rattle.stream_worker.specs.InPlace.{Heads, WentInPlace, FailedInPlace}
@@ -43,7 +42,7 @@ same_answer limits bytes a b r h =
     ∙ ap (reply_at limits) (sym joined) ∙ f.again bytes [] a r.reply)
 
 -- the reply to its command is held, and this is what is read of it
-module _ {R : Type 0} (with_verdict : R → List ℕ × Fields Tree → Verdict → R) (with_commit : R → R)
+module _ {R : Type 0} (with_verdict : R → List ℕ × Pairs → Verdict → R) (with_commit : R → R)
     (settings : Settings) (old here : Link) (w y x : Standing R) (len : ℕ)
     (waited : Waited with_commit settings old here w y len) (limits : Limits) (text : List ℕ)
     (within : limits ≡ here.held.limits) (received : len ≤ here.in_place → text ≡ take len here.held.bytes) where

@@ -4,8 +4,6 @@ use Rattle.std.proofs.Common.{arith, refl, sym, ◌∙◌, ap, subst, append_ass
 use Rattle.std.specs.Prelude.{codes, if◌then◌else◌}
 use Rattle.std.proofs.KnownBytes.{Appends-nil, Appends-trans, Consumes-nil, Consumes-trans}
 use Rattle.std.specs.Io.KnownBytes.{Appends, Consumes}
-use Rattle.redis_resp.specs.Table.{Fields}
-use Rattle.redis_resp.specs.Tree.{Tree}
 use Rattle.redis_wire.specs.Grammar.{IsReply}
 use Rattle.redis_wire.specs.Next.{Held}
 use Rattle.redis_wire.specs.Packed.{command_bytes}
@@ -15,6 +13,7 @@ use Rattle.redis_connection.specs.Ask.{Exchanges}
 use Rattle.redis_connection.specs.Link.{Link}
 use Rattle.redis_connection.specs.Passing.{Passes}
 use Rattle.stream_group.specs.Worker.{Verdict, Machine, own, after_commit}
+use Rattle.stream_refs.specs.Sent.{Pairs}
 use Rattle.stream_worker.specs.Answers.{Heard, told, no_group, group_made, hears, group_after}
 use Rattle.stream_worker.specs.Answered.{Went, GoesBy}
 use Rattle.stream_worker.specs.Gathered.{Doings}
@@ -171,7 +170,7 @@ standing_is {R = R} x m b q r im ib iq ir =
     ∙ ap (λ v. let y : Standing R = record { machine = m; group = b; asked = v; history = x.history } in y) iq
     ∙ ap (λ v. let y : Standing R = record { machine = m; group = b; asked = q; history = v } in y) ir
 
-module _ {R : Type 0} (with_verdict : R → List ℕ × Fields Tree → Verdict → R) (with_commit : R → R)
+module _ {R : Type 0} (with_verdict : R → List ℕ × Pairs → Verdict → R) (with_commit : R → R)
     (settings : Settings) where
   stands_more : (w : Standing R) (turns : List Turn) (t : Turn)
       → after_turns with_verdict with_commit settings w (turns ++ t ∷ [])
@@ -306,7 +305,7 @@ pub stands_failed : {R : Type 0} (w w' : Worker) (r : R) (e : RunError)
     → standing_of w' r ≡ after_failure e (standing_of w r)
 stands_failed w w' r e machine group asked = standing_is (standing_of w' r) _ _ _ _ machine group asked refl
 
-module _ {R : Type 0} (with_verdict : R → List ℕ × Fields Tree → Verdict → R) (with_commit : R → R)
+module _ {R : Type 0} (with_verdict : R → List ℕ × Pairs → Verdict → R) (with_commit : R → R)
     (settings : Settings) (old new : Link) (w y x : Standing R) (e f : RunError) (same : f ≡ e)
     (is : x ≡ after_failure e y) where
   pub failed_unanswered : IsUnanswered with_commit settings old new w y e

@@ -3,13 +3,12 @@ use Rattle.std.proofs.Common.{◌≡◌, refl, sym, ap, subst, ◌∙◌, ℕ, B
 use Rattle.std.proofs.Common.{Option, Some, None, if◌then◌else◌}
 use Rattle.std.proofs.lemmas.Slice.Eq.{bytes_eq-Decides}
 use Rattle.std.specs.Str.{bytes_eq}
-use Rattle.redis_resp.specs.Table.{Fields}
-use Rattle.redis_resp.specs.Tree.{Tree}
 use Rattle.stream_group.specs.Worker.{Verdict, done, left_pending, stop, follows, Machine, Entry, Delivered, Answer}
 use Rattle.stream_group.specs.Worker.{Ending, entries_in, handled_one, handled_in, told_one, told_in, after}
 use Rattle.stream_group.specs.Worker.{after_commit}
 use Rattle.stream_group.specs.Group.{Name}
 use Rattle.stream_group.specs.World.{World, Reply, Comes, Commit, comes, happens, with_one, item}
+use Rattle.stream_refs.specs.Sent.{Pairs}
 use Rattle.stream_worker.specs.Handling.{with_all}
 use Rattle.stream_worker.specs.Answers.{Heard, told}
 use Rattle.stream_worker.specs.Answered.{Took, GoesBy}
@@ -23,28 +22,28 @@ nothing_behind [] = refl
 nothing_behind (x ∷ xs) = ap (λ r. x ∷ r) (nothing_behind xs)
 
 -- what was done, with these behind it
-abbrev pub more : Doings → List (Entry (Fields Tree)) → Doings
+abbrev pub more : Doings → List (Entry Pairs) → Doings
 more d es = record d { loose = d.loose ++ es }
 
 more_none : (d : Doings) → more d [] ≡ d
 more_none d = ap (λ l. let x : Doings = record d { loose = l } in x) (nothing_behind d.loose)
 
-more_more : (d : Doings) (xs ys : List (Entry (Fields Tree))) → more (more d xs) ys ≡ more d (xs ++ ys)
+more_more : (d : Doings) (xs ys : List (Entry Pairs)) → more (more d xs) ys ≡ more d (xs ++ ys)
 more_more d xs ys = ap (λ l. let x : Doings = record d { loose = l } in x) (append_assoc d.loose xs ys)
 
-with_append : (d : Doings) (xs ys : List (Entry (Fields Tree) × Verdict))
+with_append : (d : Doings) (xs ys : List (Entry Pairs × Verdict))
     → with_all done_too d (xs ++ ys) ≡ with_all done_too (with_all done_too d xs) ys
 with_append d [] ys = refl
 with_append d (x ∷ xs) ys = with_append (done_too d x.0 x.1) xs ys
 
-one_done : (d : Doings) (id : List ℕ) (o : Option (Fields Tree)) (v : Verdict)
+one_done : (d : Doings) (id : List ℕ) (o : Option Pairs) (v : Verdict)
     → with_all done_too d (told_one id o v) ≡ more d (handled_one id o v)
 one_done d id None v = sym (more_none d)
 one_done d id (Some f) done = refl
 one_done d id (Some f) left_pending = sym (more_none d)
 one_done d id (Some f) stop = sym (more_none d)
 
-pub all_done : (d : Doings) (es : List (Delivered (Fields Tree))) (vs : List Verdict)
+pub all_done : (d : Doings) (es : List (Delivered Pairs)) (vs : List Verdict)
     → with_all done_too d (told_in es vs) ≡ more d (handled_in es vs)
 all_done d [] vs = sym (more_none d)
 all_done d (e ∷ es) [] = sym (more_none d)
@@ -64,7 +63,7 @@ of_the_one each name a =
     let same : bytes_eq name name ≡ true = (bytes_eq-Decides name name).1 refl in
     ap (λ b. if b then a else each name) same
 
-steps : (w : World (Fields Tree)) (k : ℕ) (r : Reply (Fields Tree)) → item w.replies k ≡ Some r
+steps : (w : World Pairs) (k : ℕ) (r : Reply Pairs) → item w.replies k ≡ Some r
     → (n : Machine) (now : Doings) (how : Ending)
     → Took done_too r.answer (w.workers r.consumer) n (doings_in w r.consumer) now how → Steps w k r n now
 steps w k r here n now how t =
@@ -74,18 +73,18 @@ steps w k r here n now how t =
     = t.history ∙ all_done (doings_in w r.consumer) (entries_in r.answer) t.verdicts in
     record {
       verdicts = t.verdicts;
-      worker = ap (λ (v : World (Fields Tree)). v.workers r.consumer) there
+      worker = ap (λ (v : World Pairs). v.workers r.consumer) there
           ∙ (of_the_one w.workers r.consumer (after (w.workers r.consumer) r.answer t.verdicts) ∙ sym t.machine);
-      done = ap (λ (v : World (Fields Tree)). v.loose r.consumer) there
+      done = ap (λ (v : World Pairs). v.loose r.consumer) there
           ∙ (of_the_one w.loose r.consumer (w.loose r.consumer ++ handled_in (entries_in r.answer) t.verdicts)
           ∙ sym (ap (λ (d : Doings). d.loose) did));
-      committed = ap (λ (v : World (Fields Tree)). v.committed) there ∙ sym (ap (λ (d : Doings). d.committed) did);
+      committed = ap (λ (v : World Pairs). v.committed) there ∙ sym (ap (λ (d : Doings). d.committed) did);
     }
 
 pub cuts_stay : CutsStayInStep
 cuts_stay w k r here settings question t said n now g =
     let one : g.answer ≡ r.answer = let e : Some (told g.answer) ≡ Some (told r.answer) = sym g.said ∙ said in cc in
-    let P : Answer (Fields Tree) → Type 0 = λ x. (how : Ending)
+    let P : Answer Pairs → Type 0 = λ x. (how : Ending)
     → Took done_too x (w.workers r.consumer) n (doings_in w r.consumer) now how → Steps w k r n now in
     let Q : (how : Ending) → Took done_too g.answer (w.workers r.consumer) n (doings_in w r.consumer) now how
     → Steps w k r n now

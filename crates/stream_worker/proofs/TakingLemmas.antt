@@ -3,11 +3,10 @@ use Rattle.std.proofs.Common.{◌≡◌, refl, sym, ap, subst, ◌∙◌, ℕ, B
 use Rattle.std.proofs.Common.{arith, Result, Ok, Err, List, [], ◌∷◌, ◌++◌, map, take, length, ◌<◌, append_assoc, Option}
 use Rattle.std.proofs.Common.{Some, None, if◌then◌else◌}
 use Rattle.std.specs.FinMap as fin
-use Rattle.redis_resp.specs.Table.{Fields}
-use Rattle.redis_resp.specs.Tree.{Tree}
 use Rattle.stream_entries.specs.Entry.{Entry}
 use Rattle.stream_group.specs.Worker.{Id, Delivered, Verdict, follows, acks_one, told_one, of_each, acks_in, told_in}
 use Rattle.stream_group.specs.Worker.{ending, went_through, stopped, cut_off}
+use Rattle.stream_refs.specs.Sent.{Pairs}
 use Rattle.stream_worker.specs.Handling.{with_all}
 use Rattle.std.proofs.lemmas.List.{take_more}
 use Rattle.std.specs.Result.{IsErr}
@@ -107,14 +106,14 @@ module _ {T : Type 0} (f : T → Entry) where
       ap (λ ys. all_delivered (map f ys)) (take_more xs i x l ∙ ap (λ y. take i xs ++ y ∷ []) (sym e))
       ∙ mapped_more (take i xs) (x ∷ [])
 
-module _ {R : Type 0} (with_verdict : R → List ℕ × Fields Tree → Verdict → R) where
-  with_more : (r : R) (xs ys : List ((List ℕ × Fields Tree) × Verdict))
+module _ {R : Type 0} (with_verdict : R → List ℕ × Pairs → Verdict → R) where
+  with_more : (r : R) (xs ys : List ((List ℕ × Pairs) × Verdict))
       → with_all with_verdict r (xs ++ ys) ≡ with_all with_verdict (with_all with_verdict r xs) ys
   with_more r [] ys = refl
   with_more r (x ∷ xs) ys = with_more (with_verdict r x.0 x.1) xs ys
 
   -- all entries so far got verdicts
-  pub record Going (es : List (Delivered (Fields Tree))) (old new : List Id) (r s : R) : Type 0 where
+  pub record Going (es : List (Delivered Pairs)) (old new : List Id) (r s : R) : Type 0 where
     pub verdicts : List Verdict
     pub matched : Matched es verdicts
     pub ids : new ≡ old ++ acks_in es verdicts
@@ -124,7 +123,7 @@ module _ {R : Type 0} (with_verdict : R → List ℕ × Fields Tree → Verdict 
   begins old r = record { verdicts = []; matched = tt; ids = sym (nothing_behind old); history = refl }
 
   -- what one more verdict makes of what stands there
-  ids_further : (es rest : List (Delivered (Fields Tree))) (d : Delivered (Fields Tree)) (old mid new : List Id)
+  ids_further : (es rest : List (Delivered Pairs)) (d : Delivered Pairs) (old mid new : List Id)
       (r s t : R) (on : Bool)
       → (g : Going es old mid r s) → (o : TookOne with_verdict d mid new s t on)
       → new ≡ old ++ acks_in (es ++ d ∷ rest) (g.verdicts ++ o.verdict ∷ [])
@@ -134,7 +133,7 @@ module _ {R : Type 0} (with_verdict : R → List ℕ × Fields Tree → Verdict 
       ∙ ap (λ l. old ++ l) (sym (each_more acks_one es (d ∷ rest) g.verdicts (o.verdict ∷ []) g.matched
       ∙ ap (λ l. acks_in es g.verdicts ++ l) (of_one acks_one d rest o.verdict)))))
 
-  history_further : (es rest : List (Delivered (Fields Tree))) (d : Delivered (Fields Tree)) (old mid new : List Id)
+  history_further : (es rest : List (Delivered Pairs)) (d : Delivered Pairs) (old mid new : List Id)
       (r s t : R) (on : Bool)
       → (g : Going es old mid r s) → (o : TookOne with_verdict d mid new s t on)
       → t ≡ with_all with_verdict r (told_in (es ++ d ∷ rest) (g.verdicts ++ o.verdict ∷ []))
@@ -144,7 +143,7 @@ module _ {R : Type 0} (with_verdict : R → List ℕ × Fields Tree → Verdict 
       ∙ ap (λ l. with_all with_verdict r l) (sym (each_more told_one es (d ∷ rest) g.verdicts (o.verdict ∷ []) g.matched
       ∙ ap (λ l. told_in es g.verdicts ++ l) (of_one told_one d rest o.verdict)))))
 
-  pub goes_further : (es : List (Delivered (Fields Tree))) (d : Delivered (Fields Tree)) (old mid new : List Id)
+  pub goes_further : (es : List (Delivered Pairs)) (d : Delivered Pairs) (old mid new : List Id)
       (r s t : R)
       → Going es old mid r s → TookOne with_verdict d mid new s t true → Going (es ++ d ∷ []) old new r t
   goes_further es d old mid new r s t g o = record {
@@ -154,7 +153,7 @@ module _ {R : Type 0} (with_verdict : R → List ℕ × Fields Tree → Verdict 
     history = history_further es [] d old mid new r s t true g o;
   }
 
-  pub ends : (es : List (Delivered (Fields Tree))) (old new : List Id) (r s : R) → Going es old new r s
+  pub ends : (es : List (Delivered Pairs)) (old new : List Id) (r s : R) → Going es old new r s
       → Took with_verdict es old new r s went_through
   ends es old new r s g = record {
     verdicts = g.verdicts;
@@ -167,8 +166,8 @@ module _ {R : Type 0} (with_verdict : R → List ℕ × Fields Tree → Verdict 
   }
 
   -- the handler said to stop
-  pub stops : (es : List (Delivered (Fields Tree))) (d : Delivered (Fields Tree))
-      (rest : List (Delivered (Fields Tree))) (old mid new : List Id) (r s t : R)
+  pub stops : (es : List (Delivered Pairs)) (d : Delivered Pairs)
+      (rest : List (Delivered Pairs)) (old mid new : List Id) (r s t : R)
       → Going es old mid r s → TookOne with_verdict d mid new s t false
       → Took with_verdict (es ++ d ∷ rest) old new r t stopped
   stops es d rest old mid new r s t g o = record {
@@ -183,7 +182,7 @@ module _ {R : Type 0} (with_verdict : R → List ℕ × Fields Tree → Verdict 
         ∙ case (follows d.1 o.verdict) o.follows_then);
   }
 
-  pub cut : (es : List (Delivered (Fields Tree))) (d : Delivered (Fields Tree)) (rest : List (Delivered (Fields Tree)))
+  pub cut : (es : List (Delivered Pairs)) (d : Delivered Pairs) (rest : List (Delivered Pairs))
       (old new : List Id) (r s : R)
       → Going es old new r s → Took with_verdict (es ++ d ∷ rest) old new r s cut_off
   cut es d rest old new r s g =
@@ -209,7 +208,7 @@ module _ {R : Type 0} (with_verdict : R → List ℕ × Fields Tree → Verdict 
       → TookOne with_verdict (delivered_of (f x)) mid new s t true
       → Going (all_delivered (map f (take (i + 1) xs))) old new r t
   loop_step f xs i x old mid new r s t l e g o =
-      let P : List (Delivered (Fields Tree)) → Type 0 = λ es. Going es old new r t in
+      let P : List (Delivered Pairs) → Type 0 = λ es. Going es old new r t in
       subst P (sym (one_more f xs i x l e))
       (goes_further (all_delivered (map f (take i xs))) (delivered_of (f x)) old mid new r s t g o)
 
@@ -222,7 +221,7 @@ module _ {R : Type 0} (with_verdict : R → List ℕ × Fields Tree → Verdict 
       → Going (all_delivered (map f done)) old mid r s → TookOne with_verdict (delivered_of (f x)) mid new s t true
       → Going (all_delivered (map f (done ++ x ∷ []))) old new r t
   next_step f done x old mid new r s t g o =
-      let P : List (Delivered (Fields Tree)) → Type 0 = λ es. Going es old new r t in
+      let P : List (Delivered Pairs) → Type 0 = λ es. Going es old new r t in
       subst P (sym (mapped_more f done (x ∷ [])))
       (goes_further (all_delivered (map f done)) (delivered_of (f x)) old mid new r s t g o)
 
@@ -230,9 +229,9 @@ module _ {R : Type 0} (with_verdict : R → List ℕ × Fields Tree → Verdict 
       → xs ≡ done ++ x ∷ rest → Going (all_delivered (map f done)) old mid r s
       → new ≡ mid → t ≡ s → Took with_verdict (all_delivered (map f xs)) old new r t cut_off
   next_cut f xs done rest x old mid new r s t is g p q =
-      let d : List (Delivered (Fields Tree)) = all_delivered (map f done) in
-      let more : List (Delivered (Fields Tree)) = all_delivered (map f rest) in
-      let P : List (Delivered (Fields Tree)) → Type 0 = λ es. Took with_verdict es old new r t cut_off in
+      let d : List (Delivered Pairs) = all_delivered (map f done) in
+      let more : List (Delivered Pairs) = all_delivered (map f rest) in
+      let P : List (Delivered Pairs) → Type 0 = λ es. Took with_verdict es old new r t cut_off in
       let A : List Id → Type 0 = λ l. Took with_verdict (d ++ delivered_of (f x) ∷ more) old l r s cut_off in
       let B : R → Type 0 = λ y. Took with_verdict (d ++ delivered_of (f x) ∷ more) old new r y cut_off in
       subst P (sym (shape_of f xs done rest x is))
@@ -243,7 +242,7 @@ module _ {R : Type 0} (with_verdict : R → List ℕ × Fields Tree → Verdict 
       → TookOne with_verdict (delivered_of (f x)) mid new s t false
       → Took with_verdict (all_delivered (map f xs)) old new r t stopped
   next_stops f xs done rest x old mid new r s t is g o =
-      let P : List (Delivered (Fields Tree)) → Type 0 = λ es. Took with_verdict es old new r t stopped in
+      let P : List (Delivered Pairs) → Type 0 = λ es. Took with_verdict es old new r t stopped in
       subst P (sym (shape_of f xs done rest x is)) (stops (all_delivered (map f done)) (delivered_of (f x))
       (all_delivered (map f rest)) old mid new r s t g o)
 

@@ -5,7 +5,6 @@ use Rattle.std.specs.Prelude.{option_and_then, OnOk, true, false}
 use Rattle.std.specs.Result.{IfOk, IfErr, IsErrAnd}
 use Rattle.redis_resp.specs.Number.{unsigned_reading}
 use Rattle.redis_resp.specs.Refusal.{RefusesNumber}
-use Rattle.redis_resp.specs.Table.{Fields}
 use Rattle.redis_resp.specs.Tree.{Tree}
 use Rattle.redis_resp.specs.declared.value.error.ParsingError.{ParsingError}
 use Rattle.redis_resp.specs.declared.value.error.ParsingError.TheVariants as parsing
@@ -18,6 +17,7 @@ use Rattle.stream_group.specs.Worker as machine
 use Rattle.stream_group.specs.Worker.{Id, Delivered, Verdict, Answer, acknowledged, own_pending, taken_over, news}
 use Rattle.stream_group.specs.Worker.{Machine, Ending, cut_off, ending, after, after_own, after_claim, after_news}
 use Rattle.stream_group.specs.Worker.{phase_after, phase_at, still, entries_in, acks_in, begins_again}
+use Rattle.stream_refs.specs.Sent.{Pairs}
 use Rattle.stream_worker.specs.Answered.{Took, Went, WasCut, Failed}
 use Rattle.stream_worker.specs.Answers.{Heard, told, no_group, group_made, is_gone, means, says, entries_read, only_stream}
 use Rattle.stream_worker.specs.Errors.{read_error}
@@ -33,7 +33,7 @@ use Rattle.stream_worker.specs.declared.worker.Progress.{Progress}
 use Rattle.stream_worker.specs.declared.worker.Progress.TheVariants.{GoesOn}
 
 -- what was moved is what the answer does to the machine
-took : {R : Type 0} (with_verdict : R → List ℕ × Fields Tree → Verdict → R) (answer : Answer (Fields Tree))
+took : {R : Type 0} (with_verdict : R → List ℕ × Pairs → Verdict → R) (answer : Answer Pairs)
     (next : machine.Phase) (m n : Machine) (r s : R) (how : Ending)
     → next ≡ phase_after m.every m.phase answer → still m.to_acknowledge answer ≡ m.to_acknowledge
     → Moved with_verdict (entries_in answer) next (begins_again m) n r s how → Took with_verdict answer m n r s how
@@ -78,7 +78,7 @@ said_claim : (key : List ℕ) (t : Tree) (c : AutoClaim) → autoclaim_reading t
     → says key asked.Claim t ≡ Some (told (taken_over c.next (all_delivered c.claimed)))
 said_claim key t c h = ap (λ o. option_map (λ x. told (taken_over x.next (all_delivered x.claimed))) o) h
 
-module _ {R : Type 0} (with_verdict : R → List ℕ × Fields Tree → Verdict → R) (settings : Settings) (t : Tree)
+module _ {R : Type 0} (with_verdict : R → List ℕ × Pairs → Verdict → R) (settings : Settings) (t : Tree)
     (m n : Machine) (r s : R) where
   pub own_went : (es : List Entry) (next : machine.Phase) (p : Progress)
       → entries_read (string_bytes settings.key) t ≡ Some es
@@ -186,7 +186,7 @@ read_failed P parsing.NotXDelEx m f = f (λ e. absurd cc)
 read_failed P parsing.NotXAckDel m f = f (λ e. absurd cc)
 read_failed P parsing.NotBytes m f = f (λ e. absurd cc)
 
-module _ {R : Type 0} (with_verdict : R → List ℕ × Fields Tree → Verdict → R) (settings : Settings) (t : Tree)
+module _ {R : Type 0} (with_verdict : R → List ℕ × Pairs → Verdict → R) (settings : Settings) (t : Tree)
     (m n : Machine) (r s : R) where
   own_unread : (e : WorkerError) → Unread read_reading RefusesRead t e → n ≡ begins_again m → s ≡ r
       → Failed with_verdict settings asked.Own (wire.value t) m n r s e
@@ -279,7 +279,7 @@ nothing_behind : {A : Type 0} (xs : List A) → xs ++ [] ≡ xs
 nothing_behind [] = refl
 nothing_behind (x ∷ xs) = ap (λ r. x ∷ r) (nothing_behind xs)
 
-module _ {R : Type 0} (with_verdict : R → List ℕ × Fields Tree → Verdict → R) (settings : Settings) (question : Asked)
+module _ {R : Type 0} (with_verdict : R → List ℕ × Pairs → Verdict → R) (settings : Settings) (question : Asked)
     (m n : Machine) (r s : R) where
   pub ack_went : (t : Tree) (p : Progress) → question ≡ asked.Acknowledgement → s ≡ r
       → (p ≡ GoesOn) × IsAcknowledged t m n
@@ -338,7 +338,7 @@ module _ {R : Type 0} (with_verdict : R → List ℕ × Fields Tree → Verdict 
   refused_failed text causes.Memory j k h = absurd h.0
 
 -- before anything is known of the group, entries of its own are taken in the same way
-module _ {R : Type 0} (with_verdict : R → List ℕ × Fields Tree → Verdict → R) (settings : Settings) (t : Tree)
+module _ {R : Type 0} (with_verdict : R → List ℕ × Pairs → Verdict → R) (settings : Settings) (t : Tree)
     (m n : Machine) (r s : R) where
   pub first_went : (p : Progress) → Went with_verdict settings asked.Own (wire.value t) m n r s p
       → Went with_verdict settings asked.First (wire.value t) m n r s p

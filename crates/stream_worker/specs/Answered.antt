@@ -1,17 +1,16 @@
 -- What an answer does to a worker.
-use Rattle.std.specs.Prelude.{◌≡◌, ◌≢◌, ◌⊎◌, ℕ, true, false, List, Some, None}
+use Rattle.std.specs.Prelude.{◌≡◌, ◌≢◌, ◌⊎◌, ℕ, true, false, List, Some, None, string_bytes}
 use Rattle.redis_resp.specs.Number.{unsigned_reading}
 use Rattle.redis_resp.specs.Refusal.{Refuses, RefusesNumber}
-use Rattle.redis_resp.specs.Table.{Fields}
 use Rattle.redis_resp.specs.Tree.{Tree}
 use Rattle.redis_resp.specs.declared.value.error.ParsingError.{ParsingError}
 use Rattle.redis_wire.specs.Reply as wire
-use Rattle.stream_entries.specs.AutoClaim.{autoclaim_reading}
-use Rattle.stream_entries.specs.Read.{read_reading}
-use Rattle.stream_entries.specs.Refusal.{RefusesAutoClaim, RefusesRead}
 use Rattle.stream_group.specs.Worker.{Verdict, Machine, Answer, Ending, cut_off, ending, entries_in, told_in, after}
 use Rattle.stream_group.specs.Worker.{begins_again}
-use Rattle.stream_worker.specs.Answers.{Heard, told, no_group, group_made, hears, is_gone}
+use Rattle.stream_refs.specs.Sent.{Pairs, SentAutoClaim, SentEntry}
+use Rattle.stream_refs.specs.SentReading.{sent_autoclaim_reading, sent_streams_reading}
+use Rattle.stream_refs.specs.SentRefusal.{RefusesSentAutoClaim, RefusesSentStreams}
+use Rattle.stream_worker.specs.Answers.{Heard, told, no_group, group_made, hears, is_gone, all_there, entries_read}
 use Rattle.stream_worker.specs.Handling.{with_all}
 use Rattle.stream_worker.specs.Machine.{ending_of}
 use Rattle.stream_worker.specs.declared.error.WorkerError.{WorkerError}
@@ -27,14 +26,25 @@ abbrev pub MayRefuse : Asked → Tree → ParsingError → Type 0
 MayRefuse asked.Nothing t error = ⊥
 MayRefuse asked.Acknowledgement t error = Refuses (unsigned_reading 64) RefusesNumber t error
 MayRefuse asked.Group t error = ⊥
-MayRefuse asked.First t error = Refuses read_reading RefusesRead t error
-MayRefuse asked.Own t error = Refuses read_reading RefusesRead t error
-MayRefuse asked.Claim t error = Refuses autoclaim_reading RefusesAutoClaim t error
-MayRefuse asked.News t error = Refuses read_reading RefusesRead t error
+MayRefuse asked.First t error = Refuses sent_streams_reading RefusesSentStreams t error
+MayRefuse asked.Own t error = Refuses sent_streams_reading RefusesSentStreams t error
+MayRefuse asked.Claim t error = Refuses sent_autoclaim_reading RefusesSentAutoClaim t error
+MayRefuse asked.News t error = Refuses sent_streams_reading RefusesSentStreams t error
 
-module _ {R : Type 0} (with_verdict : R → List ℕ × Fields Tree → Verdict → R) where
+-- nil stands in place of the fields of an entry, in an answer in which no server says so of a deleted one
+abbrev pub HasNil : List ℕ → Asked → Tree → Type 0
+HasNil key asked.Nothing t = ⊥
+HasNil key asked.Acknowledgement t = ⊥
+HasNil key asked.Group t = ⊥
+HasNil key asked.First t = ⊥
+HasNil key asked.Own t = ⊥
+HasNil key asked.Claim t =
+    (c : SentAutoClaim) × (sent_autoclaim_reading t ≡ Some c) × (all_there c.claimed ≡ false)
+HasNil key asked.News t = (es : List SentEntry) × (entries_read key t ≡ Some es) × (all_there es ≡ false)
+
+module _ {R : Type 0} (with_verdict : R → List ℕ × Pairs → Verdict → R) where
   -- the machine went on by the answer, and its handler said this of the entries, which so came to an end
-  pub record Took (answer : Answer (Fields Tree)) (m n : Machine) (r s : R) (how : Ending) : Type 0 where
+  pub record Took (answer : Answer Pairs) (m n : Machine) (r s : R) (how : Ending) : Type 0 where
     pub verdicts : List Verdict
     pub machine : n ≡ after m answer verdicts
     pub history : s ≡ with_all with_verdict r (told_in (entries_in answer) verdicts)
@@ -54,7 +64,7 @@ module _ {R : Type 0} (with_verdict : R → List ℕ × Fields Tree → Verdict 
 
   -- some entries at the front got verdicts, and then memory ran out
   pub record WasCut (settings : Settings) (question : Asked) (t : Tree) (m n : Machine) (r s : R) : Type 0 where
-    pub answer : Answer (Fields Tree)
+    pub answer : Answer Pairs
     pub said : hears settings question (wire.value t) ≡ Some (told answer)
     pub took : Took answer m n r s cut_off
 
@@ -80,7 +90,11 @@ module _ {R : Type 0} (with_verdict : R → List ℕ × Fields Tree → Verdict 
       ((t : Tree) × (a ≡ wire.value t) × MayRefuse question t e) × (hears settings question a ≡ None)
       × (n ≡ begins_again m) × (s ≡ r)
   Failed settings question a m n r s causes.OtherStream =
-      ((t : Tree) × (a ≡ wire.value t) × (read_reading t ≢ None)) × (hears settings question a ≡ None)
+      ((t : Tree) × (a ≡ wire.value t) × (entries_read (string_bytes settings.key) t ≡ None)
+      × (sent_streams_reading t ≢ None)) × (hears settings question a ≡ None)
       × (n ≡ begins_again m) × (s ≡ r)
+  Failed settings question a m n r s causes.NilFields =
+      ((t : Tree) × (a ≡ wire.value t) × HasNil (string_bytes settings.key) question t)
+      × (hears settings question a ≡ None) × (n ≡ begins_again m) × (s ≡ r)
   Failed settings question a m n r s causes.Memory =
       (t : Tree) × (a ≡ wire.value t) × (((n ≡ begins_again m) × (s ≡ r)) ⊎ WasCut settings question t m n r s)

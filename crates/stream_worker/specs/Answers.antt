@@ -1,16 +1,15 @@
 -- What an answer says, by what was asked.
-use Rattle.std.specs.Prelude.{Bool, true, false, ◌&&◌, ℕ, List, [], ◌∷◌, Option, Some, None, option_map}
+use Rattle.std.specs.Prelude.{Bool, true, false, ◌&&◌, not, ℕ, List, [], ◌∷◌, Option, Some, None, option_map}
 use Rattle.std.specs.Prelude.{option_and_then, codes, string_bytes, if◌then◌else◌}
+use Rattle.std.specs.List.{list_all}
 use Rattle.std.specs.Str.{bytes_eq}
 use Rattle.redis_resp.specs.Number.{unsigned_reading}
-use Rattle.redis_resp.specs.Table.{Fields}
 use Rattle.redis_resp.specs.Tree.{Tree}
 use Rattle.redis_wire.specs.Reply as wire
 use Rattle.redis_wire.specs.Reply.{code_of}
-use Rattle.stream_entries.specs.AutoClaim.{autoclaim_reading}
-use Rattle.stream_entries.specs.Entry.{Entry}
-use Rattle.stream_entries.specs.Read.{Streams, read_reading}
 use Rattle.stream_group.specs.Worker.{Answer, acknowledged, own_pending, taken_over, news}
+use Rattle.stream_refs.specs.Sent.{Pairs, SentAutoClaim, SentEntry, SentStream, is_none}
+use Rattle.stream_refs.specs.SentReading.{sent_autoclaim_reading, sent_streams_reading}
 use Rattle.stream_worker.specs.Taking.{all_delivered}
 use Rattle.stream_worker.specs.declared.state.Asked.{Asked}
 use Rattle.stream_worker.specs.declared.state.Asked.TheVariants as asked
@@ -22,19 +21,39 @@ use Rattle.stream_worker.specs.declared.state.Settings.{Settings}
 
 -- what a worker hears: an answer to its machine; that there is no group, which it is to make; that one was made
 pub data Heard : Type 0 where
-  told : Answer (Fields Tree) → Heard
+  told : Answer Pairs → Heard
   no_group : Heard
   group_made : Heard
 
 -- the entries of the one stream; none where there is no stream
-abbrev pub only_stream : List ℕ → Streams → Option (List Entry)
+abbrev pub only_stream : List ℕ → List SentStream → Option (List SentEntry)
 only_stream key [] = Some []
-only_stream key (s ∷ []) = if bytes_eq s.0 key then Some s.1 else None
+only_stream key (s ∷ []) = if bytes_eq s.name key then Some s.entries else None
 only_stream key (s ∷ t ∷ rest) = None
 
 -- the entries of that stream that a value of XREADGROUP holds
-abbrev pub entries_read : List ℕ → Tree → Option (List Entry)
-entries_read key t = option_and_then (only_stream key) (read_reading t)
+abbrev pub entries_read : List ℕ → Tree → Option (List SentEntry)
+entries_read key t = option_and_then (only_stream key) (sent_streams_reading t)
+
+-- nil stands for the fields of none
+abbrev pub all_there : List SentEntry → Bool
+all_there es = list_all (λ e. not (is_none e.fields)) es
+
+-- new entries: nil in one of them is no answer, since a server says only of pending entries that they were deleted
+abbrev pub those_there : List SentEntry → Option (List SentEntry)
+those_there es = if all_there es then Some es else None
+
+-- the new entries that a value of XREADGROUP holds
+abbrev pub news_read : List ℕ → Tree → Option (List SentEntry)
+news_read key t = option_and_then those_there (entries_read key t)
+
+-- a claim: nil in one of its entries is no answer, since servers tell the ids of deleted ones apart, or nothing
+abbrev pub claim_there : SentAutoClaim → Option SentAutoClaim
+claim_there c = if all_there c.claimed then Some c else None
+
+-- the claim that a value of XAUTOCLAIM holds
+abbrev pub claim_read : Tree → Option SentAutoClaim
+claim_read t = option_and_then claim_there (sent_autoclaim_reading t)
 
 -- what a value says
 abbrev pub says : List ℕ → Asked → Tree → Option Heard
@@ -43,8 +62,8 @@ says key asked.Acknowledgement t = option_map (λ n. told acknowledged) (unsigne
 says key asked.Group t = Some group_made
 says key asked.First t = option_map (λ es. told (own_pending (all_delivered es))) (entries_read key t)
 says key asked.Own t = option_map (λ es. told (own_pending (all_delivered es))) (entries_read key t)
-says key asked.Claim t = option_map (λ c. told (taken_over c.next (all_delivered c.claimed))) (autoclaim_reading t)
-says key asked.News t = option_map (λ es. told (news (all_delivered es))) (entries_read key t)
+says key asked.Claim t = option_map (λ c. told (taken_over c.next (all_delivered c.claimed))) (claim_read t)
+says key asked.News t = option_map (λ es. told (news (all_delivered es))) (news_read key t)
 
 -- whether a group is made where there is none
 abbrev pub makes_group : MakeGroup → Bool

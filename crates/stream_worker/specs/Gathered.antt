@@ -1,20 +1,19 @@
 -- What a handler that keeps entries has handled.
 use Rattle.std.specs.Prelude.{List, [], ◌∷◌, ◌++◌, map, Vec}
 use Rattle.std.specs.declared.alloc.Global.{Global}
-use Rattle.redis_resp.specs.Table.{Fields}
-use Rattle.redis_resp.specs.Tree.{Tree}
-use Rattle.stream_entries.specs.EntryMeaning.{entries_of}
-use Rattle.stream_entries.specs.declared.stream_id.StreamId.{StreamId}
 use Rattle.stream_group.specs.Worker.{Entry, Verdict, done, left_pending, stop}
+use Rattle.stream_refs.specs.Sent.{Pairs}
+use Rattle.stream_refs.specs.SentMeaning.{sent_all}
+use Rattle.stream_refs.specs.declared.sent.SentRow.{SentRow}
 use Rattle.stream_worker.specs.Handling.{pair_of}
 
 -- what was done and not committed, and what was committed
 pub record Doings : Type 0 where
-  pub loose : List (Entry (Fields Tree))
-  pub committed : List (Entry (Fields Tree))
+  pub loose : List (Entry Pairs)
+  pub committed : List (Entry Pairs)
 
 -- with one more entry, where it was done
-abbrev pub done_too : Doings → Entry (Fields Tree) → Verdict → Doings
+abbrev pub done_too : Doings → Entry Pairs → Verdict → Doings
 done_too d e done = record d { loose = d.loose ++ e ∷ [] }
 done_too d e left_pending = d
 done_too d e stop = d
@@ -23,6 +22,6 @@ done_too d e stop = d
 abbrev pub committed_too : Doings → Doings
 committed_too d = record { loose = []; committed = d.committed ++ d.loose }
 
--- the id and the fields of each
-abbrev pub pairs_of : Vec StreamId Global → List (Entry (Fields Tree))
-pairs_of es = map pair_of (entries_of es)
+-- the id and the fields of each, in order
+abbrev pub pairs_of : Vec SentRow Global → List (Entry Pairs)
+pairs_of es = map pair_of (sent_all es)

@@ -1,6 +1,5 @@
 -- What the reply at the head of bytes does to a worker.
 use Rattle.std.specs.Prelude.{◌≡◌, ℕ, List, ◌++◌, Result, Ok, Err}
-use Rattle.redis_resp.specs.Table.{Fields}
 use Rattle.redis_resp.specs.Tree.{Tree}
 use Rattle.redis_wire.specs.Decoded.{NoReply, EndTooEarly, IsFirstFault}
 use Rattle.redis_wire.specs.Grammar.{IsAnyReply}
@@ -8,6 +7,7 @@ use Rattle.redis_wire.specs.Reply as wire
 use Rattle.redis_wire.specs.declared.fault.WireError.TheVariants as wire_errors
 use Rattle.redis_wire.specs.declared.limits.Limits.{Limits}
 use Rattle.stream_group.specs.Worker.{Machine, Verdict}
+use Rattle.stream_refs.specs.Sent.{Pairs}
 use Rattle.stream_worker.specs.Answered.{Failed, Went}
 use Rattle.stream_worker.specs.Answers.{group_after}
 use Rattle.stream_worker.specs.Session.{Standing}
@@ -26,7 +26,7 @@ pub record Heads (limits : Limits) (bytes : List ℕ) (a : wire.Answer) : Type 0
   pub is : bytes ≡ text ++ rest
   pub reply : IsAnyReply limits text a
 
-module _ {R : Type 0} (with_verdict : R → List ℕ × Fields Tree → Verdict → R) (settings : Settings) (limits : Limits)
+module _ {R : Type 0} (with_verdict : R → List ℕ × Pairs → Verdict → R) (settings : Settings) (limits : Limits)
     (bytes : List ℕ) where
   -- the worker went on by the reply at the head of the bytes
   abbrev pub WentInPlace : Standing R → Standing R → Progress → Type 0
@@ -51,7 +51,7 @@ module _ {R : Type 0} (with_verdict : R → List ℕ × Fields Tree → Verdict 
   TakenInPlace w x (Err e) = FailedInPlace w x e
 
 -- the same of a value
-abbrev pub TakenByValue : {R : Type 0} → (R → List ℕ × Fields Tree → Verdict → R) → Settings → Asked → Tree → Machine
+abbrev pub TakenByValue : {R : Type 0} → (R → List ℕ × Pairs → Verdict → R) → Settings → Asked → Tree → Machine
     → Machine → R → R → Result Progress WorkerError → Type 0
 TakenByValue with_verdict settings question t m n r s (Ok p) = Went with_verdict settings question (wire.value t) m n r s p
 TakenByValue with_verdict settings question t m n r s (Err e) =

@@ -1,6 +1,7 @@
 -- What a worker's contracts speak of.
 pub mod Handed
 pub mod Handling
+pub mod Read
 pub mod Taking
 pub mod Questions
 pub mod Errors

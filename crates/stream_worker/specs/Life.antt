@@ -1,11 +1,10 @@
 -- The life of a worker, over any number of sessions, and the law of what it acknowledges.
 use Rattle.std.specs.Prelude.{◌⊎◌, ℕ, List, [], ◌∷◌, ◌++◌, false, Option, Some, None}
-use Rattle.redis_resp.specs.Table.{Fields}
-use Rattle.redis_resp.specs.Tree.{Tree}
 use Rattle.redis_wire.specs.Reply as wire
 use Rattle.redis_connection.specs.Link.{Link}
 use Rattle.stream_group.specs.Law.{Among}
 use Rattle.stream_group.specs.Worker.{Id, Delivered, start, entries_in}
+use Rattle.stream_refs.specs.Sent.{Pairs}
 use Rattle.stream_worker.specs.Answers.{Heard, told, no_group, group_made, hears}
 use Rattle.stream_worker.specs.declared.state.GroupState.TheVariants.{Unknown}
 use Rattle.stream_worker.specs.Gathered.{Doings, done_too, committed_too}
@@ -16,7 +15,7 @@ use Rattle.stream_worker.specs.declared.state.Asked.TheVariants.{Nothing}
 use Rattle.stream_worker.specs.declared.state.Settings.{Settings}
 use Rattle.stream_worker.specs.declared.worker.Progress.{Progress}
 
--- the id of an entry that came without fields, since it was deleted from the stream
+-- the id of an entry that came with nil in place of its fields, since it was deleted from the stream
 abbrev pub deleted_one : {F : Type 0} → Id → Option F → List Id
 deleted_one id None = id ∷ []
 deleted_one id (Some fields) = []
@@ -71,7 +70,7 @@ acknowledges settings w = (asking committed_too settings w).machine.to_acknowled
 
 -- an entry of this id was done, and that was committed
 abbrev pub IsCommitted : Doings → Id → Type 0
-IsCommitted d id = (fields : Fields Tree) × Among (id, fields) d.committed
+IsCommitted d id = (fields : Pairs) × Among (id, fields) d.committed
 
 -- the law: wherever a worker stands, before it asks to acknowledge an id its handler said that this entry is done,
 -- and committed that; or the server said that it was deleted

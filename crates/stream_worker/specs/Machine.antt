@@ -2,11 +2,10 @@
 use Rattle.std.specs.Prelude.{◌≡◌, ℕ, Bool, true, false, not, ◌&&◌, List, [], ◌∷◌, ◌++◌, map, Result, Ok, Err, String}
 use Rattle.std.specs.Prelude.{Vec, string_bytes, if◌then◌else◌}
 use Rattle.std.specs.declared.alloc.Global.{Global}
-use Rattle.redis_resp.specs.Table.{Fields}
-use Rattle.redis_resp.specs.Tree.{Tree}
 use Rattle.stream_group.specs.Worker as machine
 use Rattle.stream_group.specs.Worker.{Id, Delivered, Verdict, Machine, Ending, went_through, stopped, cut_off, ending}
 use Rattle.stream_group.specs.Worker.{acks_in, told_in, phase_at, after_commit}
+use Rattle.stream_refs.specs.Sent.{Pairs}
 use Rattle.stream_worker.specs.Handling.{with_all}
 use Rattle.stream_worker.specs.Questions.{phase_of}
 use Rattle.stream_worker.specs.declared.worker.Progress.{Progress}
@@ -53,9 +52,9 @@ abbrev pub ending_said : {E : Type 0} → Result Progress E → Ending
 ending_said (Ok p) = ending_of p
 ending_said (Err e) = cut_off
 
-module _ {R : Type 0} (with_verdict : R → List ℕ × Fields Tree → Verdict → R) where
+module _ {R : Type 0} (with_verdict : R → List ℕ × Pairs → Verdict → R) where
   -- the machine took entries, and goes on in this phase, or begins again where it did not get through them
-  pub record Moved (es : List (Delivered (Fields Tree))) (next : machine.Phase) (m n : Machine) (r s : R)
+  pub record Moved (es : List (Delivered Pairs)) (next : machine.Phase) (m n : Machine) (r s : R)
       (how : Ending) : Type 0 where
     pub verdicts : List Verdict
     pub machine : n ≡ record {

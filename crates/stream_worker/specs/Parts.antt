@@ -4,9 +4,10 @@ use Rattle.redis_resp.specs.Number.{unsigned_reading}
 use Rattle.redis_resp.specs.Refusal.{Refuses}
 use Rattle.redis_resp.specs.Tree.{Tree}
 use Rattle.redis_resp.specs.declared.value.error.ParsingError.{ParsingError}
-use Rattle.stream_entries.specs.Read.{read_reading}
-use Rattle.stream_entries.specs.Refusal.{RefusesRead}
 use Rattle.stream_group.specs.Worker.{Machine}
+use Rattle.stream_refs.specs.SentReading.{sent_autoclaim_reading, sent_streams_reading}
+use Rattle.stream_refs.specs.SentRefusal.{RefusesSentAutoClaim, RefusesSentStreams}
+use Rattle.stream_worker.specs.Answered.{HasNil}
 use Rattle.stream_worker.specs.Answers.{Heard, told, no_group, group_made, entries_read, is_gone}
 use Rattle.stream_worker.specs.Errors.{read_error}
 use Rattle.stream_worker.specs.declared.error.WorkerError.{WorkerError}
@@ -22,11 +23,20 @@ Unread reading may_refuse t e = (p : ParsingError) × (e ≡ read_error p) × Re
 
 -- it tells of another stream
 abbrev pub IsOther : List ℕ → Tree → WorkerError → Type 0
-IsOther key t e = (e ≡ causes.OtherStream) × (entries_read key t ≡ None) × (read_reading t ≢ None)
+IsOther key t e = (e ≡ causes.OtherStream) × (entries_read key t ≡ None) × (sent_streams_reading t ≢ None)
 
 -- why a value holds no entries of the stream
 abbrev pub NotRead : List ℕ → Tree → WorkerError → Type 0
-NotRead key t e = Unread read_reading RefusesRead t e ⊎ IsOther key t e
+NotRead key t e = Unread sent_streams_reading RefusesSentStreams t e ⊎ IsOther key t e
+
+-- why it holds no new entries of the stream
+abbrev pub NotNews : List ℕ → Tree → WorkerError → Type 0
+NotNews key t e = NotRead key t e ⊎ ((e ≡ causes.NilFields) × HasNil key asked.News t)
+
+-- why a value is no claim
+abbrev pub NotClaimed : List ℕ → Tree → WorkerError → Type 0
+NotClaimed key t e = Unread sent_autoclaim_reading RefusesSentAutoClaim t e
+    ⊎ ((e ≡ causes.NilFields) × HasNil key asked.Claim t)
 
 -- what an error says of the group
 abbrev pub state_by : Option Heard → Option GroupState
@@ -51,6 +61,7 @@ IsRefused question text (causes.GroupIsGone e) = (text ≡ e.text.items) × (is_
 IsRefused question text causes.NotAnAnswer = ⊥
 IsRefused question text (causes.Parsing e) = ⊥
 IsRefused question text causes.OtherStream = ⊥
+IsRefused question text causes.NilFields = ⊥
 IsRefused question text causes.Memory = ⊥
 
 -- its own pending entries were asked for

@@ -2,8 +2,6 @@
 use Rattle.std.specs.Prelude.{◌≡◌, ◌≢◌, ◌≤◌, ◌<◌, ℕ, zero, suc, List, [], ◌∷◌, ◌++◌, map, length}
 use Rattle.std.specs.Prelude.{codes, Option, Some, None}
 use Rattle.std.specs.Io.KnownBytes.{Appends, Consumes}
-use Rattle.redis_resp.specs.Table.{Fields}
-use Rattle.redis_resp.specs.Tree.{Tree}
 use Rattle.redis_wire.specs.Grammar.{IsReply}
 use Rattle.redis_wire.specs.Packed.{command_bytes}
 use Rattle.redis_wire.specs.Reply as wire
@@ -13,6 +11,7 @@ use Rattle.redis_connection.specs.Link.{Link, Sends, SendsFront, IsEnded, IsFaul
 use Rattle.redis_connection.specs.Passing.{IsMessage, AwaitsAnswer, IsAnswerInPlace}
 use Rattle.redis_connection.specs.declared.error.ConnectionError.TheVariants.{TooLong}
 use Rattle.stream_group.specs.Worker.{Verdict, Machine, ending, entries_in, told_in, after, begins_again, own}
+use Rattle.stream_refs.specs.Sent.{Pairs}
 use Rattle.stream_worker.specs.Answers.{Heard, told, no_group, group_made, group_after, hears}
 use Rattle.stream_worker.specs.Answered.{Failed}
 use Rattle.stream_worker.specs.Gathered.{Doings, done_too, committed_too}
@@ -143,7 +142,7 @@ module _ {R : Type 0} (with_commit : R → R) (settings : Settings) where
 
 -- where a worker stands by what it heard, where this is known of its group then, and its handler said this of the
 -- entries
-abbrev pub having_heard : {R : Type 0} → (R → List ℕ × Fields Tree → Verdict → R) → Standing R → GroupState
+abbrev pub having_heard : {R : Type 0} → (R → List ℕ × Pairs → Verdict → R) → Standing R → GroupState
     → Option Heard → List Verdict → Standing R
 having_heard with_verdict w group None verdicts = record w { group = group; asked = Nothing }
 having_heard with_verdict w group (Some (told answer)) verdicts = record {
@@ -172,7 +171,7 @@ abbrev pub IsCount : ℕ → ℕ → Progress → Type 0
 IsCount rounds n GoesOn = n ≡ rounds
 IsCount rounds n Stopped = (0 < n) × (n ≤ rounds)
 
-module _ {R : Type 0} (with_verdict : R → List ℕ × Fields Tree → Verdict → R) (with_commit : R → R)
+module _ {R : Type 0} (with_verdict : R → List ℕ × Pairs → Verdict → R) (with_commit : R → R)
     (settings : Settings) where
   -- where it stands after a round: it asked, and took the answer
   abbrev pub after_turn : Standing R → Turn → Standing R

@@ -1,11 +1,11 @@
 -- A worker of the code beside the worker of the model.
 use Rattle.std.specs.Prelude.{◌≡◌, ℕ, List, ◌∷◌, Some, if◌then◌else◌}
-use Rattle.redis_resp.specs.Table.{Fields}
 use Rattle.redis_resp.specs.Tree.{Tree}
 use Rattle.redis_wire.specs.Reply as wire
 use Rattle.stream_group.specs.Worker.{Verdict, Machine}
 use Rattle.stream_group.specs.Group.{Name}
 use Rattle.stream_group.specs.World.{World, Reply, Comes, Commit, Acknowledge, item, happens}
+use Rattle.stream_refs.specs.Sent.{Pairs}
 use Rattle.stream_worker.specs.Answers.{hears, told}
 use Rattle.stream_worker.specs.Answered.{Went, WasCut}
 use Rattle.stream_worker.specs.Gathered.{Doings, done_too, committed_too}
@@ -15,12 +15,12 @@ use Rattle.stream_worker.specs.declared.state.Settings.{Settings}
 use Rattle.stream_worker.specs.declared.worker.Progress.{Progress}
 
 -- what the worker of that name and its handler did in the world
-abbrev pub doings_in : World (Fields Tree) → Name → Doings
+abbrev pub doings_in : World Pairs → Name → Doings
 doings_in w c = record { loose = w.loose c; committed = w.committed }
 
 -- for some verdicts the reply comes to the worker of the model, which is then where this one is, and its handler
 -- has done what this one's has
-pub record Steps (w : World (Fields Tree)) (k : ℕ) (r : Reply (Fields Tree)) (n : Machine) (now : Doings) : Type 0 where
+pub record Steps (w : World Pairs) (k : ℕ) (r : Reply Pairs) (n : Machine) (now : Doings) : Type 0 where
   pub verdicts : List Verdict
   pub worker : (happens w (Comes k verdicts)).workers r.consumer ≡ n
   pub done : (happens w (Comes k verdicts)).loose r.consumer ≡ now.loose
@@ -28,26 +28,26 @@ pub record Steps (w : World (Fields Tree)) (k : ℕ) (r : Reply (Fields Tree)) (
 
 -- what `answered` promises is a step of the model, wherever the answer is the one that is on its way
 abbrev pub AnswersStayInStep : Type 0
-AnswersStayInStep = (w : World (Fields Tree)) (k : ℕ) (r : Reply (Fields Tree)) → item w.replies k ≡ Some r
+AnswersStayInStep = (w : World Pairs) (k : ℕ) (r : Reply Pairs) → item w.replies k ≡ Some r
     → (settings : Settings) (question : Asked) (a : wire.Answer) → hears settings question a ≡ Some (told r.answer)
     → (n : Machine) (now : Doings) (p : Progress)
     → Went done_too settings question a (w.workers r.consumer) n (doings_in w r.consumer) now p → Steps w k r n now
 
 -- and so where memory runs out among the entries
 abbrev pub CutsStayInStep : Type 0
-CutsStayInStep = (w : World (Fields Tree)) (k : ℕ) (r : Reply (Fields Tree)) → item w.replies k ≡ Some r
+CutsStayInStep = (w : World Pairs) (k : ℕ) (r : Reply Pairs) → item w.replies k ≡ Some r
     → (settings : Settings) (question : Asked) (t : Tree)
     → hears settings question (wire.value t) ≡ Some (told r.answer)
     → (n : Machine) (now : Doings)
     → WasCut done_too settings question t (w.workers r.consumer) n (doings_in w r.consumer) now → Steps w k r n now
 
 -- the world as the worker of that name asks: it commits, where there is something to commit and nothing to acknowledge
-abbrev pub as_it_asks : World (Fields Tree) → Name → World (Fields Tree)
+abbrev pub as_it_asks : World Pairs → Name → World Pairs
 as_it_asks w c = if commits (w.workers c) then happens w (Commit c) else w
 
 -- what `request` promises are steps of the model: a commit, where it commits, and then the acknowledgement that it
 -- sends, which names what is committed
-pub record Asks (w : World (Fields Tree)) (c : Name) : Type 0 where
+pub record Asks (w : World Pairs) (c : Name) : Type 0 where
   pub worker : (as_it_asks w c).workers c ≡ at_request (w.workers c)
   pub done : doings_in (as_it_asks w c) c ≡ history_at_request committed_too (w.workers c) (doings_in w c)
   pub sent : (happens (as_it_asks w c) (Acknowledge c)).acks ≡ (c, (at_request (w.workers c)).to_acknowledge)
@@ -55,4 +55,4 @@ pub record Asks (w : World (Fields Tree)) (c : Name) : Type 0 where
 
 -- and they are so in every world
 abbrev pub RequestsStayInStep : Type 0
-RequestsStayInStep = (w : World (Fields Tree)) (c : Name) → Asks w c
+RequestsStayInStep = (w : World Pairs) (c : Name) → Asks w c

@@ -1,43 +1,33 @@
 -- What a worker makes of entries: the machine's `acks_in` and `told_in`, for some verdicts.
-use Rattle.std.specs.Prelude.{◌≡◌, ℕ, Bool, true, false, nat_eq, List, ◌++◌, map, Some, None, Result, Ok, Err}
-use Rattle.std.specs.Prelude.{if◌then◌else◌}
-use Rattle.std.specs.FinMap as fin
-use Rattle.redis_resp.specs.Table.{Fields}
-use Rattle.redis_resp.specs.Tree.{Tree}
-use Rattle.stream_entries.specs.Entry.{Entry}
-use Rattle.stream_entries.specs.EntryMeaning as entries
-use Rattle.stream_entries.specs.declared.stream_id.StreamId.{StreamId}
+use Rattle.std.specs.Prelude.{◌≡◌, ℕ, Bool, true, false, List, ◌++◌, map, Result, Ok, Err}
 use Rattle.stream_group.specs.Worker.{Id, Delivered, Verdict, follows, acks_one, told_one, acks_in, told_in, Ending}
 use Rattle.stream_group.specs.Worker.{ending, went_through, stopped, cut_off}
+use Rattle.stream_refs.specs.Sent.{Pairs, SentEntry}
 use Rattle.stream_worker.specs.Handling.{with_all}
 
--- the entry that a handler is given
-abbrev pub entry_meaning : StreamId → Entry
-entry_meaning = entries.entry_meaning
-
--- an entry as it was handed out. One without any field was deleted from the stream: XADD takes none without a field
-abbrev pub delivered_of : Entry → Delivered (Fields Tree)
-delivered_of e = (e.id, if nat_eq (fin.len e.fields) 0 then None else Some e.fields)
+-- an entry as it was handed out: without fields where nil stands for them, as it does of a deleted one
+abbrev pub delivered_of : SentEntry → Delivered Pairs
+delivered_of e = (e.id, e.fields)
 
 -- the same of all
-abbrev pub all_delivered : List Entry → List (Delivered (Fields Tree))
+abbrev pub all_delivered : List SentEntry → List (Delivered Pairs)
 all_delivered es = map delivered_of es
 
-module _ {R : Type 0} (with_verdict : R → List ℕ × Fields Tree → Verdict → R) where
+module _ {R : Type 0} (with_verdict : R → List ℕ × Pairs → Verdict → R) where
   -- one entry got a verdict, after which the next one follows or not
-  pub record TookOne (d : Delivered (Fields Tree)) (old new : List Id) (r s : R) (on : Bool) : Type 0 where
+  pub record TookOne (d : Delivered Pairs) (old new : List Id) (r s : R) (on : Bool) : Type 0 where
     pub verdict : Verdict
     pub ids : new ≡ old ++ acks_one d.0 d.1 verdict
     pub history : s ≡ with_all with_verdict r (told_one d.0 d.1 verdict)
     pub follows_then : on ≡ follows d.1 verdict
 
   -- or it got none, and nothing changed
-  abbrev pub TookOneOr : {E : Type 0} → Delivered (Fields Tree) → (old new : List Id) (r s : R) → Result Bool E → Type 0
+  abbrev pub TookOneOr : {E : Type 0} → Delivered Pairs → (old new : List Id) (r s : R) → Result Bool E → Type 0
   TookOneOr d old new r s (Ok on) = TookOne d old new r s on
   TookOneOr d old new r s (Err e) = (new ≡ old) × (s ≡ r)
 
   -- entries got verdicts, all of them or some at the front
-  pub record Took (es : List (Delivered (Fields Tree))) (old new : List Id) (r s : R) (how : Ending) : Type 0 where
+  pub record Took (es : List (Delivered Pairs)) (old new : List Id) (r s : R) (how : Ending) : Type 0 where
     pub verdicts : List Verdict
     pub ids : new ≡ old ++ acks_in es verdicts
     pub history : s ≡ with_all with_verdict r (told_in es verdicts)

@@ -1,14 +1,11 @@
 //! What a handler does with entries, and the ids to acknowledge then.
 ghost use Rattle.std.specs.Prelude.{map, string_bytes};
-ghost use Rattle.stream_refs.specs.Copied.{copied};
-ghost use Rattle.stream_worker.specs.Handed.{entry_of};
-ghost use Rattle.stream_worker.specs.Taking.{Took, TookOneOr, all_delivered, delivered_of, entry_meaning, said_ending};
+ghost use Rattle.stream_refs.specs.SentMeaning.{sent_of};
+ghost use Rattle.stream_worker.specs.Taking.{Took, TookOneOr, all_delivered, delivered_of, said_ending};
 
-use crate::entry::Entry;
 use crate::handler::{Handler, Verdict};
-use redis_streams::StreamId;
 use std::alloc::{AllocError, Global};
-use stream_refs::EntriesRef;
+use stream_refs::{EntriesRef, EntryRef, EntryRoom, SentRow};
 
 /// Hands one entry to the handler. Its id is remembered before the handler sees it, and forgotten
 /// where it is not done, so that memory cannot run out between the two. False where the handler
@@ -16,16 +13,16 @@ use stream_refs::EntriesRef;
 fn take_entry<H: Handler>(
     alloc: Global,
     ids: &mut Vec<String>,
-    entry: &Entry<'_>,
+    entry: &EntryRef<'_>,
     handler: &mut H,
 ) -> Result<bool, AllocError>
-    ensures { TookOneOr H.with_verdict (delivered_of (entry_of entry.now))
+    ensures { TookOneOr H.with_verdict (delivered_of entry.now)
         (map string_bytes ids.old.items) (map string_bytes ids.new.items)
         (H.history handler.old) (H.history handler.new) result }
 {
     let len = ids.len();
     ids.push(String::from_str(alloc, entry.id())?)?;
-    if entry.is_empty() {
+    if entry.is_deleted() {
         return Ok(true);
     }
     match handler.handle(alloc, entry) {
@@ -41,19 +38,36 @@ fn take_entry<H: Handler>(
     }
 }
 
-/// Hands entries to the handler, in order. False where the handler says to stop.
+/// Hands a decoded entry to the handler, in the form of one where it stands.
+fn take_row<H: Handler>(
+    alloc: Global,
+    room: &mut EntryRoom,
+    ids: &mut Vec<String>,
+    row: &SentRow,
+    handler: &mut H,
+) -> Result<bool, AllocError>
+    ensures { TookOneOr H.with_verdict (delivered_of (sent_of row.now))
+        (map string_bytes ids.old.items) (map string_bytes ids.new.items)
+        (H.history handler.old) (H.history handler.new) result }
+{
+    let entry = row.entry_in(room)?;
+    take_entry(alloc, ids, &entry, handler)
+}
+
+/// Hands decoded entries to the handler, in order. False where the handler says to stop.
 pub fn take_entries<H: Handler>(
     alloc: Global,
     ids: &mut Vec<String>,
-    entries: &[StreamId],
+    entries: &[SentRow],
     handler: &mut H,
 ) -> Result<bool, AllocError>
-    ensures { Took H.with_verdict (all_delivered (map entry_meaning entries.now))
+    ensures { Took H.with_verdict (all_delivered (map sent_of entries.now))
         (map string_bytes ids.old.items) (map string_bytes ids.new.items)
         (H.history handler.old) (H.history handler.new) (said_ending result) }
 {
+    let mut room = EntryRoom::new(alloc);
     for entry in entries {
-        if !take_entry(alloc, ids, &Entry::Copied(entry), handler)? {
+        if !take_row(alloc, &mut room, ids, entry, handler)? {
             return Ok(false);
         }
     }
@@ -67,12 +81,12 @@ pub fn take_in_place<H: Handler>(
     entries: EntriesRef<'_>,
     handler: &mut H,
 ) -> Result<bool, AllocError>
-    ensures { Took H.with_verdict (all_delivered (map copied entries.entry))
+    ensures { Took H.with_verdict (all_delivered entries.entry)
         (map string_bytes ids.old.items) (map string_bytes ids.new.items)
         (H.history handler.old) (H.history handler.new) (said_ending result) }
 {
     for entry in entries {
-        if !take_entry(alloc, ids, &Entry::InPlace(entry), handler)? {
+        if !take_entry(alloc, ids, &entry, handler)? {
             return Ok(false);
         }
     }

@@ -72,6 +72,10 @@ pub enum WorkerError {
     /// The answer tells of another stream than the one that was asked for.
     #[error("an answer about another stream")]
     OtherStream,
+    /// Nil stands in place of the fields of an entry, in answer to a claim or to a read of new entries. Servers
+    /// say so only of pending entries that were deleted.
+    #[error("nil in place of the fields of an entry")]
+    NilFields,
     /// Out of memory.
     #[error("out of memory")]
     Memory,

@@ -2,18 +2,17 @@
 ghost use Rattle.std.specs.Prelude.{◌≡◌, []};
 ghost use Rattle.stream_worker.specs.Gathered.{Doings, committed_too, done_too, pairs_of};
 
-use crate::entry::Entry;
 use crate::handler::{Handler, NotCommitted, Verdict};
-use redis_streams::StreamId;
 use std::alloc::Global;
+use stream_refs::{EntryRef, SentRow};
 
 /// Keeps a copy of each entry, and stops where there is no memory for one.
 #[derive(Debug, Drop)]
 pub struct Gathered {
     /// What it kept and has not committed.
-    pub loose: Vec<StreamId>,
+    pub loose: Vec<SentRow>,
     /// What it kept and has committed.
-    pub committed: Vec<StreamId>,
+    pub committed: Vec<SentRow>,
 }
 
 impl Gathered {
@@ -38,8 +37,8 @@ impl Handler for Gathered {
 
     ghost history = { λ h. record { loose = pairs_of h.loose; committed = pairs_of h.committed } };
 
-    fn handle(&mut self, alloc: Global, entry: &Entry<'_>) -> Verdict {
-        let Ok(copy) = entry.to_owned(alloc) else {
+    fn handle(&mut self, alloc: Global, entry: &EntryRef<'_>) -> Verdict {
+        let Ok(copy) = entry.to_row(alloc) else {
             return Verdict::Stop;
         };
         match self.loose.push(copy) {

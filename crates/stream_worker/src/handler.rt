@@ -1,13 +1,11 @@
 //! What is done with entries.
 ghost use Rattle.std.specs.Prelude.{◌≡◌, ℕ, List, OnErr, OnOk};
-ghost use Rattle.redis_resp.specs.Table.{Fields};
-ghost use Rattle.redis_resp.specs.Tree.{Tree};
 ghost use Rattle.stream_group.specs.Worker as machine;
-ghost use Rattle.stream_worker.specs.Handed.{entry_of};
+ghost use Rattle.stream_refs.specs.Sent.{Pairs};
 ghost use Rattle.stream_worker.specs.Handling.{pair_of, verdict_of};
 
-use crate::entry::Entry;
 use std::alloc::Global;
+use stream_refs::EntryRef;
 use thiserror::Error;
 
 /// What a handler says of an entry.
@@ -35,7 +33,7 @@ pub trait Handler {
     ghost History: { Type 0 };
 
     /// The history with one more verdict.
-    ghost with_verdict: { History → List ℕ × Fields Tree → machine.Verdict → History };
+    ghost with_verdict: { History → List ℕ × Pairs → machine.Verdict → History };
 
     /// The history with one more commit.
     ghost with_commit: { History → History };
@@ -43,10 +41,10 @@ pub trait Handler {
     /// What passed so far.
     ghost history: { Self → History };
 
-    /// Does what is to be done with an entry that has fields.
-    fn handle(&mut self, alloc: Global, entry: &Entry<'_>) -> Verdict
+    /// Does what is to be done with an entry: its id and its fields in order, as the server sent them.
+    fn handle(&mut self, alloc: Global, entry: &EntryRef<'_>) -> Verdict
         ensures { history self.new ≡ with_verdict (history self.old)
-            (pair_of (entry_of entry.now)) (verdict_of result) };
+            (pair_of entry.now) (verdict_of result) };
 
     /// Makes everything that it did outlive a crash, also what an earlier commit failed to. It is
     /// called before each acknowledgement of entries, once for a batch of them; what is not

@@ -1,8 +1,7 @@
 //! What holds of workers over every schedule.
-ghost use Rattle.redis_resp.specs.Table.{Fields};
-ghost use Rattle.redis_resp.specs.Tree.{Tree};
 ghost use Rattle.stream_group.specs.Law.{AcknowledgedIsSettled, EachEntryIsKept, HandledAsDelivered};
 ghost use Rattle.stream_group.specs.Law.{CommittedIsHandled, HandledIsOfTheLog};
+ghost use Rattle.stream_refs.specs.Sent.{Pairs};
 ghost use Rattle.stream_worker.specs.Life.{OnlyCommittedIsAcknowledged, SessionsAreLived};
 ghost use Rattle.stream_worker.specs.Session.{FailuresBeginAgain};
 ghost use Rattle.stream_worker.specs.Step.{AnswersStayInStep, CutsStayInStep, RequestsStayInStep};
@@ -10,11 +9,11 @@ ghost use Rattle.stream_worker.specs.Step.{AnswersStayInStep, CutsStayInStep, Re
 /// The laws of `stream_group`, of entries with the fields that a worker sees: each that was ever
 /// added is still to come, or pending, or was handled and its handling committed, or was deleted.
 pub fn nothing_is_lost()
-    ensures kept { EachEntryIsKept (Fields Tree) }
-    ensures acknowledged { AcknowledgedIsSettled (Fields Tree) }
-    ensures committed { CommittedIsHandled (Fields Tree) }
-    ensures handled { HandledIsOfTheLog (Fields Tree) }
-    ensures delivered { HandledAsDelivered (Fields Tree) }
+    ensures kept { EachEntryIsKept Pairs }
+    ensures acknowledged { AcknowledgedIsSettled Pairs }
+    ensures committed { CommittedIsHandled Pairs }
+    ensures handled { HandledIsOfTheLog Pairs }
+    ensures delivered { HandledAsDelivered Pairs }
 {}
 
 /// What `Worker::answered` and `Worker::request` promise are steps of the model: the worker is then

@@ -5,7 +5,6 @@
 
 mod commands;
 mod entries;
-mod entry;
 mod error;
 mod gathered;
 mod handler;
@@ -18,11 +17,11 @@ mod session;
 mod state;
 mod worker;
 
-pub use entry::Entry;
 pub use error::{InPlaceError, RequestError, RunError, WorkerError};
 pub use gathered::Gathered;
 pub use handler::{Handler, NotCommitted, Verdict};
 pub use letters::{DeadLetters, LetterAsked, LetterError};
 pub use session::Round;
 pub use state::{Asked, MakeGroup, Phase, Settings};
+pub use stream_refs::EntryRef;
 pub use worker::{Progress, Worker};

@@ -1,21 +1,20 @@
 //! Where a worker goes on after an answer.
 ghost use Rattle.std.specs.Prelude.{◌≡◌, IfOk, map, string_bytes};
 ghost use Rattle.stream_group.specs.Worker.{after_claim, after_news, after_own};
-ghost use Rattle.stream_refs.specs.Copied.{copied};
+ghost use Rattle.stream_refs.specs.SentMeaning.{sent_of};
 ghost use Rattle.stream_worker.specs.Handed.{entries_sent};
 ghost use Rattle.stream_worker.specs.Questions.{phase_of};
-ghost use Rattle.stream_worker.specs.Taking.{all_delivered, entry_meaning};
+ghost use Rattle.stream_worker.specs.Taking.{all_delivered};
 
 use crate::state::Phase;
-use redis_streams::StreamId;
 use std::alloc::{AllocError, Global};
-use stream_refs::EntriesRef;
+use stream_refs::{EntriesRef, SentRow};
 
 /// Its own pending entries are asked for until none is left.
 #[tactic(auto, using(crate::proofs::PhaseLemmas::after_last))]
-pub fn next_own(entries: &[StreamId]) -> Result<Phase, AllocError>
+pub fn next_own(entries: &[SentRow]) -> Result<Phase, AllocError>
     ensures { IfOk result (λ p. phase_of p
-        ≡ after_own (all_delivered (map entry_meaning entries.now))) }
+        ≡ after_own (all_delivered (map sent_of entries.now))) }
 {
     match entries {
         [] => Ok(Phase::Stalled),
@@ -38,7 +37,7 @@ pub fn next_own_in_place(
 
 /// Behind the last of these entries.
 fn behind_last(alloc: Global, entries: EntriesRef<'_>) -> Result<Phase, AllocError>
-    ensures { IfOk result (λ p. phase_of p ≡ after_own (all_delivered (map copied entries.entry))) }
+    ensures { IfOk result (λ p. phase_of p ≡ after_own (all_delivered entries.entry)) }
 {
     let mut last = None;
     for entry in entries {

@@ -1,48 +1,118 @@
-//! The entries that a value holds.
-ghost use Rattle.std.specs.Prelude.{◌≡◌, IfErr, IfOk, Some, option_map};
+//! The entries that an answer holds.
+ghost use Rattle.std.specs.Prelude.{◌≡◌, IfErr, IfOk, Some, map, option_map};
 ghost use Rattle.redis_resp.specs.Value.{tree};
-ghost use Rattle.stream_entries.specs.EntryMeaning.{entries_of};
-ghost use Rattle.stream_entries.specs.ReadMeaning.{streams_of};
-ghost use Rattle.stream_refs.specs.Copied.{copied_streams};
-ghost use Rattle.stream_worker.specs.Answers.{entries_read, only_stream};
+ghost use Rattle.stream_refs.specs.SentMeaning.{claim_of, sent_all, sent_of};
+ghost use Rattle.stream_refs.specs.SentReading.{sent_stream};
+ghost use Rattle.stream_worker.specs.Answers.{all_there, claim_read, entries_read, news_read, only_stream};
 ghost use Rattle.stream_worker.specs.Handed.{entries_sent};
-ghost use Rattle.stream_worker.specs.Parts.{NotRead};
+ghost use Rattle.stream_worker.specs.Parts.{NotClaimed, NotNews, NotRead};
+ghost use Rattle.stream_worker.specs.Read.{named, streams_named};
 
 use crate::error::WorkerError;
-use redis_resp::{Value, from_redis_value};
-use redis_streams::{StreamId, StreamKey, StreamReadReply};
-use std::alloc::Global;
-use stream_refs::{EntriesRef, StreamsRef};
+use redis_resp::{PairList, Value, from_redis_value};
+use std::alloc::{AllocError, Global};
+use stream_refs::{EntriesRef, SentClaim, SentRow, StreamsRef};
 
 /// The entries of the one stream that an XREADGROUP answers.
-pub fn read_entries(alloc: Global, key: &str, value: Value) -> Result<Vec<StreamId>, WorkerError>
-    ensures ok { IfOk result (λ es. entries_read key.now (tree value) ≡ Some (entries_of es)) }
+pub fn read_entries(alloc: Global, key: &str, value: Value) -> Result<Vec<SentRow>, WorkerError>
+    ensures ok { IfOk result (λ es. entries_read key.now (tree value) ≡ Some (sent_all es)) }
     ensures err { IfErr result (NotRead key.now (tree value)) }
 {
-    let reply: StreamReadReply = from_redis_value(alloc, value)?;
-    match only_entries(alloc, key, reply.keys) {
+    let streams: Vec<PairList<Vec<SentRow>>> = from_redis_value(alloc, value)?;
+    match only_entries(alloc, key, join(alloc, streams)?) {
         Some(entries) => Ok(entries),
         None => Err(WorkerError::OtherStream),
     }
 }
 
-/// The entries of the one stream, and none where there is no stream.
-fn only_entries(alloc: Global, key: &str, mut streams: Vec<StreamKey>) -> Option<Vec<StreamId>>
-    ensures { option_map entries_of result ≡ only_stream key.now (streams_of streams) }
+/// The streams, in order.
+fn join(
+    alloc: Global,
+    lists: Vec<PairList<Vec<SentRow>>>,
+) -> Result<Vec<(String, Vec<SentRow>)>, AllocError>
+    ensures { IfOk result (λ r. map named r.items ≡ streams_named lists) }
 {
-    let Some(stream) = streams.pop() else {
+    let mut streams = Vec::new(alloc);
+    for mut list in lists {
+        streams.append(&mut list.0)?;
+    }
+    Ok(streams)
+}
+
+/// The entries of the one stream, and none where there is no stream.
+fn only_entries(
+    alloc: Global,
+    key: &str,
+    mut streams: Vec<(String, Vec<SentRow>)>,
+) -> Option<Vec<SentRow>>
+    ensures { option_map sent_all result ≡ only_stream key.now (map named streams.items) }
+{
+    let Some((name, entries)) = streams.pop() else {
         return Some(Vec::new(alloc));
     };
-    if streams.is_empty() && stream.key.as_str() == key {
-        Some(stream.ids)
+    if streams.is_empty() && name.as_str() == key {
+        Some(entries)
     } else {
         None
     }
 }
 
+/// The new entries of the one stream.
+pub fn read_news(alloc: Global, key: &str, value: Value) -> Result<Vec<SentRow>, WorkerError>
+    ensures ok { IfOk result (λ es. news_read key.now (tree value) ≡ Some (sent_all es)) }
+    ensures err { IfErr result (NotNews key.now (tree value)) }
+{
+    let entries = read_entries(alloc, key, value)?;
+    if !are_there(&entries) {
+        return Err(WorkerError::NilFields);
+    }
+    Ok(entries)
+}
+
+/// What an XAUTOCLAIM answers.
+pub fn read_claim(alloc: Global, value: Value) -> Result<SentClaim, WorkerError>
+    ensures ok { IfOk result (λ c. claim_read (tree value) ≡ Some (claim_of c)) }
+    ensures err { IfErr result (NotClaimed [] (tree value)) }
+{
+    let claim: SentClaim = from_redis_value(alloc, value)?;
+    if !are_there(&claim.claimed) {
+        return Err(WorkerError::NilFields);
+    }
+    Ok(claim)
+}
+
+/// Whether nil stands for the fields of none.
+fn are_there(entries: &[SentRow]) -> bool
+    ensures { result ≡ all_there (map sent_of entries.now) }
+{
+    entries.iter().all(|entry| entry.fields.is_some())
+}
+
+/// The same of entries where they stand.
+pub fn are_there_in_place(entries: EntriesRef<'_>) -> bool
+    ensures { result ≡ all_there entries.entry }
+{
+    for entry in entries {
+        if entry.is_deleted() {
+            return false;
+        }
+    }
+    true
+}
+
+/// The same of entries where they stand, if there are any.
+pub fn news_are_there(entries: &Option<EntriesRef<'_>>) -> bool
+    ensures { result ≡ all_there (entries_sent entries.now) }
+{
+    match entries {
+        None => true,
+        Some(entries) => are_there_in_place(entries.again()),
+    }
+}
+
 /// The same where they stand: what there is of the one stream, which is nothing where there is none.
 pub fn only_in_place<'a>(key: &str, mut streams: StreamsRef<'a>) -> Option<Option<EntriesRef<'a>>>
-    ensures { option_map entries_sent result ≡ only_stream key.now (copied_streams streams.entry) }
+    ensures { option_map entries_sent result ≡ only_stream key.now streams.entry }
 {
     let Some(stream) = streams.next() else {
         return Some(None);

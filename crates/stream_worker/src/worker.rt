@@ -7,6 +7,7 @@ ghost use Rattle.redis_wire.specs.Packed.{command_bytes};
 ghost use Rattle.redis_wire.specs.Reply as wire;
 ghost use Rattle.redis_wire.specs.Reply.{answer};
 ghost use Rattle.stream_group.specs.Worker.{begins_again, start};
+ghost use Rattle.stream_refs.specs.SentMeaning.{sent_of};
 ghost use Rattle.stream_worker.specs.Answered.{Failed, Went};
 ghost use Rattle.stream_worker.specs.Answers.{by_error, by_value, group_after, is_gone, means};
 ghost use Rattle.stream_worker.specs.Machine.{Moved, at_request, commits, ending_said};
@@ -14,7 +15,7 @@ ghost use Rattle.stream_worker.specs.Machine.{history_at_request, machine_of};
 ghost use Rattle.stream_worker.specs.Parts.{IsAcknowledged, IsOfGroup, IsRefused, Unread, state_by};
 ghost use Rattle.stream_worker.specs.Questions.{asks, phase_of, sentence};
 ghost use Rattle.stream_worker.specs.Requested.{Unasked};
-ghost use Rattle.stream_worker.specs.Taking.{all_delivered, entry_meaning};
+ghost use Rattle.stream_worker.specs.Taking.{all_delivered};
 
 mod in_place;
 
@@ -23,14 +24,13 @@ use crate::entries::take_entries;
 use crate::error::{RequestError, WorkerError};
 use crate::handler::{Handler, NotCommitted};
 use crate::phases::{next_claim, next_own, next_round};
-use crate::reading::read_entries;
+use crate::reading::{read_claim, read_entries, read_news};
 use crate::state::{Asked, GroupState, MakeGroup, Phase, Settings};
 use redis_resp::{Value, from_redis_value};
-use redis_streams::{StreamAutoClaimReply, StreamId};
 use redis_wire::{Reply, ServerError};
 use std::alloc::{AllocError, Global};
 use std::mem;
-use stream_refs::EntryTape;
+use stream_refs::{EntryTape, SentRow};
 
 /// Whether a worker's handler goes on.
 #[derive(Clone, Copy, Debug, PartialEq, Eq)]
@@ -44,8 +44,8 @@ pub enum Progress {
 /// A worker of a consumer group, without input and output: `request` says the next command, and
 /// `answered_in_place` takes its answer out of the bytes that came, or `answered` where it is decoded.
 ///
-/// It acknowledges just what its handler has done and committed, and what came without fields,
-/// since it was deleted from the stream.
+/// It acknowledges just what its handler has done and committed, and what came with nil in place of
+/// its fields as its own pending entries were asked for, since it was deleted from the stream.
 #[derive(Debug, Drop)]
 pub struct Worker {
     settings: Settings,
@@ -291,8 +291,8 @@ impl Worker {
         ensures asked { self.new.asked ≡ self.old.asked }
     {
         self.phase = Phase::Start;
-        let claim: StreamAutoClaimReply = from_redis_value(alloc, value)?;
-        let next = next_claim(claim.next_stream_id);
+        let claim = read_claim(alloc, value)?;
+        let next = next_claim(claim.next);
         Ok(self.take(alloc, &claim.claimed, next, handler)?)
     }
 
@@ -314,7 +314,7 @@ impl Worker {
         ensures asked { self.new.asked ≡ self.old.asked }
     {
         let phase = mem::replace(&mut self.phase, Phase::Start);
-        let entries = read_entries(alloc, &self.settings.key, value)?;
+        let entries = read_news(alloc, &self.settings.key, value)?;
         let next = next_round(self.settings.every, phase);
         Ok(self.take(alloc, &entries, next, handler)?)
     }
@@ -324,11 +324,11 @@ impl Worker {
     fn take<H: Handler>(
         &mut self,
         alloc: Global,
-        entries: &[StreamId],
+        entries: &[SentRow],
         next: Phase,
         handler: &mut H,
     ) -> Result<Progress, AllocError>
-        ensures moved { Moved H.with_verdict (all_delivered (map entry_meaning entries.now))
+        ensures moved { Moved H.with_verdict (all_delivered (map sent_of entries.now))
             (phase_of next) (machine_of self.old) (machine_of self.new)
             (H.history handler.old) (H.history handler.new) (ending_said result) }
         ensures group { self.new.group ≡ self.old.group }

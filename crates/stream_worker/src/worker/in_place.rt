@@ -1,10 +1,7 @@
 //! Answers out of the bytes that came, with their entries where they stand.
 ghost use Rattle.std.specs.Prelude.{◌≡◌, IfErr, IfOk, Some, true};
 ghost use Rattle.redis_resp.specs.Tree.{Tree};
-ghost use Rattle.stream_entries.specs.AutoClaim.{autoclaim_reading};
-ghost use Rattle.stream_entries.specs.Read.{read_reading};
-ghost use Rattle.stream_refs.specs.AutoClaim.{copied_autoclaim};
-ghost use Rattle.stream_refs.specs.Copied.{copied_streams};
+ghost use Rattle.stream_refs.specs.SentReading.{sent_autoclaim_reading, sent_streams_reading};
 ghost use Rattle.stream_worker.specs.Handed.{entries_sent};
 ghost use Rattle.stream_worker.specs.InPlace.{FailedInPlace, TakenByValue, TakenInPlace, WentInPlace};
 ghost use Rattle.stream_worker.specs.Machine.{Moved, ending_said, machine_of};
@@ -17,7 +14,7 @@ use crate::entries::take_in_place;
 use crate::error::{InPlaceError, WorkerError};
 use crate::handler::Handler;
 use crate::phases::{next_claim, next_own_in_place, next_round};
-use crate::reading::only_in_place;
+use crate::reading::{are_there_in_place, news_are_there, only_in_place};
 use crate::state::{Asked, GroupState, Phase};
 use crate::worker::{Progress, Worker};
 use redis_wire::{Decoded, Limits, decode};
@@ -166,7 +163,7 @@ impl Worker {
         streams: StreamsRef<'_>,
         handler: &mut H,
     ) -> Result<Progress, WorkerError>
-        ensures taken { (t : Tree) → read_reading t ≡ Some (copied_streams streams.entry)
+        ensures taken { (t : Tree) → sent_streams_reading t ≡ Some streams.entry
             → TakenByValue H.with_verdict self.old.settings Asked.Own t (machine_of self.old)
             (machine_of self.new) (H.history handler.old) (H.history handler.new) result }
         ensures group { self.new.group ≡ GroupState.Known }
@@ -190,11 +187,11 @@ impl Worker {
         found: AutoClaimRef<'_>,
         handler: &mut H,
     ) -> Result<Progress, WorkerError>
-        ensures taken { (t : Tree) → autoclaim_reading t ≡ Some (copied_autoclaim (record {
+        ensures taken { (t : Tree) → sent_autoclaim_reading t ≡ Some (record {
           next = found.entry.next_stream_id.now;
           claimed = found.entry.claimed;
           deleted = found.entry.deleted_ids;
-        }))
+        })
             → TakenByValue H.with_verdict self.old.settings Asked.Claim t (machine_of self.old)
             (machine_of self.new) (H.history handler.old) (H.history handler.new) result }
         ensures group { self.new.group ≡ GroupState.Known }
@@ -204,6 +201,9 @@ impl Worker {
         self.asked = Asked::Nothing;
         self.group = GroupState::Known;
         self.phase = Phase::Start;
+        if !are_there_in_place(found.claimed.again()) {
+            return Err(WorkerError::NilFields);
+        }
         let next = next_claim(String::from_str(alloc, found.next_stream_id)?);
         Ok(self.take_in_place(alloc, Some(found.claimed), next, handler)?)
     }
@@ -215,7 +215,7 @@ impl Worker {
         streams: StreamsRef<'_>,
         handler: &mut H,
     ) -> Result<Progress, WorkerError>
-        ensures taken { (t : Tree) → read_reading t ≡ Some (copied_streams streams.entry)
+        ensures taken { (t : Tree) → sent_streams_reading t ≡ Some streams.entry
             → TakenByValue H.with_verdict self.old.settings Asked.News t (machine_of self.old)
             (machine_of self.new) (H.history handler.old) (H.history handler.new) result }
         ensures group { self.new.group ≡ GroupState.Known }
@@ -228,6 +228,9 @@ impl Worker {
         let Some(entries) = only_in_place(&self.settings.key, streams) else {
             return Err(WorkerError::OtherStream);
         };
+        if !news_are_there(&entries) {
+            return Err(WorkerError::NilFields);
+        }
         let next = next_round(self.settings.every, phase);
         Ok(self.take_in_place(alloc, entries, next, handler)?)
     }

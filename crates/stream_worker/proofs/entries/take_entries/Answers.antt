@@ -1,8 +1,7 @@
 use Rattle.std.proofs.Common.{map, take, string_bytes, length, ◌≤◌, arith, ap, sym, subst, ◌≡◌, List}
 use Rattle.std.proofs.lemmas.List.{take_all}
-use Rattle.redis_resp.specs.Table.{Fields}
-use Rattle.redis_resp.specs.Tree.{Tree}
 use Rattle.stream_group.specs.Worker.{Delivered, Ending, went_through}
+use Rattle.stream_refs.specs.Sent.{Pairs}
 use Rattle.stream_worker.specs.Taking.{entry_meaning}
 use Rattle.stream_worker.specs.Taking.{Took, all_delivered}
 use Rattle.stream_worker.proofs.TakingLemmas.{loop_step, loop_stops, loop_cut, ends, said_error}
@@ -37,7 +36,7 @@ returns g c =
     let all : all_delivered (map entry_meaning (take c.loop-entry.entry-index c.args.entries.now))
     ≡ all_delivered (map entry_meaning c.args.entries.now)
     = ap (λ es. all_delivered (map entry_meaning es)) e in
-    let P : List (Delivered (Fields Tree)) → Type 0 =
+    let P : List (Delivered Pairs) → Type 0 =
     λ es. Took g.H.Handler.with_verdict es (map string_bytes c.args.ids.now.items)
     (map string_bytes c.loop-entry.ids.items) (g.H.Handler.history c.args.handler.now)
     (g.H.Handler.history c.loop-entry.handler) went_through in
