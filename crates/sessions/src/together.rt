@@ -21,7 +21,7 @@ use std::alloc::{AllocError, Global};
 use std::mem;
 use stream_server::{Protocol, Server, Session};
 use stream_worker::{
-    Entry, Handler, InPlaceError, MakeGroup, NotCommitted, RequestError, Settings, Verdict, Worker,
+    EntryRef, Handler, InPlaceError, MakeGroup, NotCommitted, RequestError, Settings, Verdict, Worker,
     WorkerError,
 };
 
@@ -368,14 +368,12 @@ impl Handler for Book {
 
     ghost history = { λ handler. tt };
 
-    fn handle(&mut self, alloc: Global, entry: &Entry<'_>) -> Verdict {
-        let Ok(field) = entry.get::<usize>(alloc, "n") else {
-            return Verdict::Stop;
-        };
+    fn handle(&mut self, _alloc: Global, entry: &EntryRef<'_>) -> Verdict {
+        let field = entry.get_u64(b"n");
         let verdict = mem::replace(&mut self.says, Verdict::Done);
         let number = number_of_id(entry.id());
         match self.loose.get_mut(number) {
-            Some(place) if field == Some(number) => {
+            Some(place) if field == Ok(number as u64) => {
                 if verdict == Verdict::Done {
                     *place = true;
                 }

@@ -24,9 +24,8 @@ pub mod streams;
 use crate::{bytes_of, commands_text, number_of, parted, push_bytes, push_exchange, push_line};
 use redis_wire::{Decoded, Limits, WireError, decode};
 use std::alloc::{AllocError, Global};
-use stream_refs::FieldsRef;
 use stream_worker::{
-    Entry, Gathered, Handler, InPlaceError, MakeGroup, NotCommitted, Progress, RequestError,
+    EntryRef, Gathered, Handler, InPlaceError, MakeGroup, NotCommitted, Progress, RequestError,
     Settings, Verdict, Worker, WorkerError,
 };
 
@@ -328,9 +327,6 @@ fn play_session(
 
 // A handler that says of each entry what a script says.
 
-/// The fields that are shown of an entry that is a record, which has no order.
-const NAMES: [&str; 3] = ["a", "b", "n"];
-
 /// Keeps each entry that is done as `Gathered` does, and notes what it was given.
 #[derive(Drop)]
 struct Doer {
@@ -393,8 +389,8 @@ impl Doer {
     }
 
     /// Notes an entry, and keeps it where it is done.
-    fn note(&mut self, alloc: Global, entry: &Entry<'_>) -> Result<Verdict, AllocError> {
-        push_entry(alloc, &mut self.seen, entry)?;
+    fn note(&mut self, alloc: Global, entry: &EntryRef<'_>) -> Result<Verdict, AllocError> {
+        push_entry(&mut self.seen, entry)?;
         let verdict = self.says.pop().unwrap_or(Verdict::Done);
         self.seen.push_str(name_of(verdict))?;
         if verdict == Verdict::Done && self.kept.handle(alloc, entry) != Verdict::Done {
@@ -430,30 +426,12 @@ fn push_field(out: &mut String, name: &[u8], value: &[u8]) -> Result<(), AllocEr
     push_bytes(out, value)
 }
 
-/// Appends an entry's id and fields: in place in order and with repeated ones, else by name.
-fn push_entry(alloc: Global, out: &mut String, entry: &Entry<'_>) -> Result<(), AllocError> {
+/// Appends an entry's id and fields, in order and with repeated ones.
+fn push_entry(out: &mut String, entry: &EntryRef<'_>) -> Result<(), AllocError> {
     out.push_str("; ")?;
     out.push_str(entry.id())?;
-    match entry.fields() {
-        Some(fields) => push_fields(out, fields),
-        None => push_named(alloc, out, entry),
-    }
-}
-
-/// Appends the fields of an entry in place.
-fn push_fields(out: &mut String, fields: FieldsRef<'_>) -> Result<(), AllocError> {
-    for (name, value) in fields {
+    for (name, value) in entry.fields() {
         push_field(out, name, value)?;
-    }
-    Ok(())
-}
-
-/// Appends the fields of a record that have one of the names.
-fn push_named(alloc: Global, out: &mut String, entry: &Entry<'_>) -> Result<(), AllocError> {
-    for name in &NAMES {
-        if let Some(last) = entry.get::<String>(alloc, name)? {
-            push_field(out, name.as_bytes(), last.as_bytes())?;
-        }
     }
     Ok(())
 }
@@ -467,7 +445,7 @@ impl Handler for Doer {
 
     ghost history = { λ handler. tt };
 
-    fn handle(&mut self, alloc: Global, entry: &Entry<'_>) -> Verdict {
+    fn handle(&mut self, alloc: Global, entry: &EntryRef<'_>) -> Verdict {
         match self.note(alloc, entry) {
             Ok(verdict) => verdict,
             Err(AllocError) => {
