@@ -12,14 +12,15 @@
 //!
 //! What is read in place is printed as `Debug` shows it. A reply of another shape is `copied`, `refused`
 //! or `error`, after its length; bytes that are none are `incomplete` or refused by a fault. If the record
-//! of what is read in place is not that of the copying path, the outcome says so.
+//! of what is read in place is not that of the copying path, the outcome says so; also if neither has a
+//! record, since a name of a field is no text.
 ghost use Rattle.cases.specs.Kinds.{is_refs};
 ghost use Rattle.std.specs.Prelude.{◌≡◌, IfOk, IsSome, IsTrue};
 
 use crate::{INCOMPLETE, bytes_of, fault_text};
 use bstr::BStr;
 use redis_resp::{FromRedisValue, ParsingError};
-use redis_wire::{Decoded, Limits, ReplyError, WireError, decode, from_reply};
+use redis_wire::{Decoded, Limits, Reply, ReplyError, WireError, decode, from_reply};
 use std::alloc::{AllocError, Global};
 use std::fmt::Debug;
 use stream_entries::{
@@ -73,12 +74,15 @@ fn outcome_of(alloc: Global, kind: &str, bytes: &[u8]) -> Result<String, AllocEr
 fn of_range(alloc: Global, tape: &mut EntryTape, bytes: &[u8]) -> Result<String, AllocError> {
     match read_any_range(alloc, tape, bytes, Limits::default()) {
         Ok(RangeOutcome::InPlace(found)) => {
-            let record = found.to_owned(alloc)?;
-            let same = match copied_record(alloc, bytes, found.len)? {
-                Some(copied) => is_same_range(&record, &copied),
-                None => false,
+            let record = record_of(found.to_owned(alloc))?;
+            let beside = match (record, copied_record(alloc, bytes, found.len)?) {
+                (Some(record), Copied::Record(copied)) => beside_of(is_same_range(
+                    &record, &copied,
+                )),
+                (None, Copied::Refused) => Beside::BothRefused,
+                _ => Beside::Differs,
             };
-            in_place(alloc, &found, same)
+            in_place(alloc, &found, beside)
         }
         Ok(RangeOutcome::Copied { reply, len }) => copied_text(alloc, len, reply),
         Ok(RangeOutcome::Incomplete) => String::from_str(alloc, INCOMPLETE),
@@ -105,12 +109,13 @@ fn of_streams(alloc: Global, tape: &mut EntryTape, bytes: &[u8]) -> Result<Strin
 fn of_either_form(alloc: Global, tape: &mut EntryTape, bytes: &[u8]) -> Result<String, AllocError> {
     match read_any_streams(alloc, tape, bytes, Limits::default()) {
         Ok(ReadOutcome::InPlace(found)) => {
-            let record = found.to_owned(alloc)?;
-            let same = match copied_record(alloc, bytes, found.len)? {
-                Some(copied) => is_same_read(&record, &copied),
-                None => false,
+            let record = record_of(found.to_owned(alloc))?;
+            let beside = match (record, copied_record(alloc, bytes, found.len)?) {
+                (Some(record), Copied::Record(copied)) => beside_of(is_same_read(&record, &copied)),
+                (None, Copied::Refused) => Beside::BothRefused,
+                _ => Beside::Differs,
             };
-            in_place(alloc, &found, same)
+            in_place(alloc, &found, beside)
         }
         Ok(ReadOutcome::Copied { reply, len }) => copied_text(alloc, len, reply),
         Ok(ReadOutcome::Incomplete) => String::from_str(alloc, INCOMPLETE),
@@ -122,12 +127,15 @@ fn of_either_form(alloc: Global, tape: &mut EntryTape, bytes: &[u8]) -> Result<S
 fn of_claim(alloc: Global, tape: &mut EntryTape, bytes: &[u8]) -> Result<String, AllocError> {
     match read_any_autoclaim(alloc, tape, bytes, Limits::default()) {
         Ok(AutoClaimOutcome::InPlace(found)) => {
-            let record = found.to_owned(alloc)?;
-            let same = match copied_record(alloc, bytes, found.len)? {
-                Some(copied) => is_same_claim(&record, &copied),
-                None => false,
+            let record = record_of(found.to_owned(alloc))?;
+            let beside = match (record, copied_record(alloc, bytes, found.len)?) {
+                (Some(record), Copied::Record(copied)) => beside_of(is_same_claim(
+                    &record, &copied,
+                )),
+                (None, Copied::Refused) => Beside::BothRefused,
+                _ => Beside::Differs,
             };
-            in_place(alloc, &found, same)
+            in_place(alloc, &found, beside)
         }
         Ok(AutoClaimOutcome::Copied { reply, len }) => copied_text(alloc, len, reply),
         Ok(AutoClaimOutcome::Incomplete) => String::from_str(alloc, INCOMPLETE),
@@ -140,11 +148,11 @@ fn of_justid(alloc: Global, tape: &mut EntryTape, bytes: &[u8]) -> Result<String
     match read_any_justid(alloc, tape, bytes, Limits::default()) {
         Ok(JustIdOutcome::InPlace(found)) => {
             let record = found.to_owned(alloc)?;
-            let same = match copied_record(alloc, bytes, found.len)? {
-                Some(copied) => is_same_justid(&record, &copied),
-                None => false,
+            let beside = match copied_record(alloc, bytes, found.len)? {
+                Copied::Record(copied) => beside_of(is_same_justid(&record, &copied)),
+                Copied::Refused | Copied::Other => Beside::Differs,
             };
-            in_place(alloc, &found, same)
+            in_place(alloc, &found, beside)
         }
         Ok(JustIdOutcome::Copied { reply, len }) => copied_text(alloc, len, reply),
         Ok(JustIdOutcome::Incomplete) => String::from_str(alloc, INCOMPLETE),
@@ -152,12 +160,14 @@ fn of_justid(alloc: Global, tape: &mut EntryTape, bytes: &[u8]) -> Result<String
     }
 }
 
-/// What is read in place, and that the copying path has another record, if it has.
-fn in_place<F: Debug>(alloc: Global, found: &F, same: bool) -> Result<String, AllocError> {
+/// What is read in place, and what the copying path has of it, if that is not the same record.
+fn in_place<F: Debug>(alloc: Global, found: &F, beside: Beside) -> Result<String, AllocError> {
     let mut text = format!(in alloc; "in place {found:?}")?;
-    if !same {
-        text.push_str(", differs from the copying path")?;
-    }
+    text.push_str(match beside {
+        Beside::Same => "",
+        Beside::BothRefused => ", no record: a name is no text",
+        Beside::Differs => ", differs from the copying path",
+    })?;
     Ok(text)
 }
 
@@ -177,6 +187,31 @@ fn copied_text<T: Drop>(
 }
 
 // Whether what is read in place has the record of the copying path.
+
+/// What is read in place, beside the copying path.
+#[derive(Clone, Copy)]
+enum Beside {
+    /// Both have the same record.
+    Same,
+    /// Neither has a record, since a name of a field is no text.
+    BothRefused,
+    /// They differ.
+    Differs,
+}
+
+/// What two records are that may be the same.
+fn beside_of(same: bool) -> Beside {
+    if same { Beside::Same } else { Beside::Differs }
+}
+
+/// The record of what is read in place, or none if a name is no text.
+fn record_of<T: Drop>(record: Result<T, ParsingError>) -> Result<Option<T>, AllocError> {
+    match record {
+        Ok(record) => Ok(Some(record)),
+        Err(ParsingError::Memory) => Err(AllocError),
+        Err(_) => Ok(None),
+    }
+}
 
 /// Whether two ranges are the same.
 fn is_same_range(one: &StreamRangeReply, other: &StreamRangeReply) -> bool {
@@ -212,20 +247,45 @@ fn are_same(some: &[StreamKey], others: &[StreamKey]) -> bool {
     true
 }
 
-/// The record that the copying path has of the reply at the head of bytes, if the reply has this length.
-fn copied_record<T: FromRedisValue>(
+/// What the copying path has of a reply.
+#[derive(Drop)]
+enum Copied<T> {
+    /// The record.
+    Record(T),
+    /// No record.
+    Refused,
+    /// The bytes are no reply, or one of another length.
+    Other,
+}
+
+/// What the copying path has of the reply at the head of bytes, if the reply has this length.
+fn copied_record<T: FromRedisValue + Drop>(
     alloc: Global,
     bytes: &[u8],
     len: usize,
-) -> Result<Option<T>, AllocError> {
+) -> Result<Copied<T>, AllocError> {
     match decode(alloc, bytes, Limits::default()) {
-        Ok(Decoded::Complete { reply, len: other }) => match from_reply::<T>(alloc, reply) {
-            Ok(copied) => Ok(if len == other { Some(copied) } else { None }),
-            Err(ReplyError::Parsing(ParsingError::Memory)) => Err(AllocError),
-            Err(_) => Ok(None),
-        },
+        Ok(Decoded::Complete { reply, len: other }) => {
+            if len == other {
+                copied_of(alloc, reply)
+            } else {
+                Ok(Copied::Other)
+            }
+        }
         Err(WireError::Memory) => Err(AllocError),
-        Ok(Decoded::Incomplete) | Err(WireError::Fault(_)) => Ok(None),
+        Ok(Decoded::Incomplete) | Err(WireError::Fault(_)) => Ok(Copied::Other),
+    }
+}
+
+/// What the copying path has of a decoded reply.
+fn copied_of<T: FromRedisValue + Drop>(
+    alloc: Global,
+    reply: Reply,
+) -> Result<Copied<T>, AllocError> {
+    match from_reply::<T>(alloc, reply) {
+        Ok(record) => Ok(Copied::Record(record)),
+        Err(ReplyError::Parsing(ParsingError::Memory)) => Err(AllocError),
+        Err(_) => Ok(Copied::Refused),
     }
 }
 
@@ -250,8 +310,10 @@ fn fields_text(alloc: Global, tape: &mut EntryTape, bytes: &[u8]) -> Result<Stri
 fn add_entry(alloc: Global, text: &mut String, entry: &EntryRef<'_>) -> Result<(), AllocError> {
     let fields = entry.fields();
     let count = fields.len();
-    let copies = fields.to_pairs(alloc)?;
-    write!(text, "{count} fields {copies:?}")?;
+    match record_of(fields.to_pairs(alloc))? {
+        Some(copies) => write!(text, "{count} fields {copies:?}")?,
+        None => write!(text, "{count} fields, a name is no text")?,
+    }
     for (name, _) in entry.fields() {
         add_field(text, entry, name)?;
     }
