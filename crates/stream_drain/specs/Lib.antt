@@ -2,4 +2,3 @@
 pub mod Dead
 pub mod Json
 pub mod Report
-pub mod Texts

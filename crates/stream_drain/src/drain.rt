@@ -3,10 +3,10 @@ ghost use Rattle.std.specs.Prelude.{IfOk, IsTrue};
 
 use crate::backlog::{Backlog, Watched, backlog_of};
 use crate::dead::Dead;
-use crate::lines::{LineFault, Lines};
+use crate::lines::Lines;
 use crate::report::Report;
 use anyhow::{Error, Result, anyhow, bail};
-use line_log::LogFile;
+use line_log::{LogError, LogFile};
 use redis_connection::{AskError, Connection, ConnectionError};
 use redis_streams::StreamInfoGroupsReply;
 use redis_wire::Fault;
@@ -149,7 +149,7 @@ fn backlog_in(reply: &StreamInfoGroupsReply, name: &str) -> Option<Backlog> {
 }
 
 // Why a round failed.
-fn broken_off(error: RunError, fault: &Option<LineFault>) -> Error {
+fn broken_off(error: RunError, fault: &Option<LogError>) -> Error {
     match error {
         RunError::Request(RequestError::NotCommitted) => not_committed(fault),
         RunError::Receive(ConnectionError::Fault(Fault::Overfull)) => {
@@ -163,17 +163,17 @@ fn broken_off(error: RunError, fault: &Option<LineFault>) -> Error {
 }
 
 // Why what was done was not committed.
-fn not_committed(fault: &Option<LineFault>) -> Error {
+fn not_committed(fault: &Option<LogError>) -> Error {
     match fault {
-        Some(LineFault::Log(reason)) => anyhow!("cannot write the file: {reason}"),
+        Some(reason) => anyhow!("cannot write the file: {reason}"),
         _ => RunError::Request(RequestError::NotCommitted).into(),
     }
 }
 
 // Why an entry was not done.
-fn stopped(fault: &Option<LineFault>) -> Error {
+fn stopped(fault: &Option<LogError>) -> Error {
     match fault {
-        Some(LineFault::Log(reason)) => anyhow!("cannot write a line: {reason}"),
-        Some(LineFault::NoText) | None => anyhow!("an entry has a field that is no text"),
+        Some(reason) => anyhow!("cannot write a line: {reason}"),
+        None => anyhow!("an entry was not written"),
     }
 }

@@ -1,40 +1,32 @@
 //! Entries as lines of JSON.
-ghost use Rattle.std.specs.Prelude.{◌≡◌, ◌≢◌, IfOk, IfSome, OnOk};
+ghost use Rattle.std.specs.Prelude.{◌≡◌, ◌≢◌, IfOk, OnOk};
 ghost use Rattle.std.specs.List.{AllByRecursion};
 ghost use Rattle.stream_drain.specs.Json.{are_texts};
 
-use crate::texts::text_in;
 use base64::engine::general_purpose::STANDARD;
 use json::Writer;
-use redis_resp::Value;
 use std::alloc::{AllocError, Global};
-use std::collections::HashMap;
 use stream_refs::FieldsRef;
-use stream_worker::Entry;
+use stream_worker::EntryRef;
 
-/// The line of an entry: `{"id":"1-0","fields":[["name","value"],..]}`, where a text that is not
-/// UTF-8 is `{"base64":"..."}`. None where a field is no text.
-pub fn json_line(alloc: Global, entry: &Entry<'_>) -> Result<Option<Vec<u8>>, AllocError>
-    ensures one_line { IfOk result (λ o. IfSome o (λ line. AllByRecursion (λ b. b ≢ 10) line.items)) }
+/// The line of an entry: `{"id":"1-0","fields":[["name","value"],..]}`, where a name or a value that
+/// is not UTF-8 is `{"base64":"..."}`.
+pub fn json_line(alloc: Global, entry: &EntryRef<'_>) -> Result<Vec<u8>, AllocError>
+    ensures one_line { IfOk result (λ line. AllByRecursion (λ b. b ≢ 10) line.items) }
 {
     let mut out = Writer::new(Vec::with_capacity(alloc, 128)?);
-    if !push_entry(alloc, &mut out, entry)? {
-        return Ok(None);
-    }
-    Ok(Some(out.into_inner()))
+    push_entry(alloc, &mut out, entry)?;
+    Ok(out.into_inner())
 }
 
-/// An entry as an object. False where a field is no text; then the object is not ended.
-fn push_entry(alloc: Global, out: &mut Writer, entry: &Entry<'_>) -> Result<bool, AllocError>
+/// An entry as an object.
+fn push_entry(alloc: Global, out: &mut Writer, entry: &EntryRef<'_>) -> Result<(), AllocError>
     ensures before { out.new.before ≡ out.old.before }
     ensures texts { OnOk result (are_texts out.new.tokens ≡ are_texts out.old.tokens) }
 {
     begin(out, entry.id())?;
-    if !push_all(alloc, out, entry)? {
-        return Ok(false);
-    }
-    end(out)?;
-    Ok(true)
+    push_fields(alloc, out, entry.fields())?;
+    end(out)
 }
 
 /// The beginning of an entry, with its id, up to its fields.
@@ -58,44 +50,15 @@ fn end(out: &mut Writer) -> Result<(), AllocError>
     out.end_object()
 }
 
-/// The fields of an entry. False where one of them is no text.
-fn push_all(alloc: Global, out: &mut Writer, entry: &Entry<'_>) -> Result<bool, AllocError>
-    ensures before { out.new.before ≡ out.old.before }
-    ensures texts { OnOk result (are_texts out.new.tokens ≡ are_texts out.old.tokens) }
-{
-    match entry {
-        Entry::InPlace(entry) => push_fields(alloc, out, entry.fields()),
-        Entry::Copied(entry) => push_map(alloc, out, &entry.map),
-    }
-}
-
-/// Fields where they stand, in order: always texts.
-fn push_fields(alloc: Global, out: &mut Writer, fields: FieldsRef<'_>) -> Result<bool, AllocError>
+/// Fields, in order.
+fn push_fields(alloc: Global, out: &mut Writer, fields: FieldsRef<'_>) -> Result<(), AllocError>
     ensures before { out.new.before ≡ out.old.before }
     ensures texts { OnOk result (are_texts out.new.tokens ≡ are_texts out.old.tokens) }
 {
     for (name, value) in fields {
         push_field(alloc, out, name, value)?;
     }
-    Ok(true)
-}
-
-/// Fields of a record. False where one of them is no text.
-fn push_map(
-    alloc: Global,
-    out: &mut Writer,
-    fields: &HashMap<String, Value>,
-) -> Result<bool, AllocError>
-    ensures before { out.new.before ≡ out.old.before }
-    ensures texts { OnOk result (are_texts out.new.tokens ≡ are_texts out.old.tokens) }
-{
-    for (name, value) in fields {
-        let Some(value) = text_in(value) else {
-            return Ok(false);
-        };
-        push_field(alloc, out, name.as_bytes(), value)?;
-    }
-    Ok(true)
+    Ok(())
 }
 
 /// A name and its value, as an array of two.

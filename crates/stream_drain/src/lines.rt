@@ -2,22 +2,9 @@
 ghost use Rattle.std.specs.Prelude.{◌≡◌};
 
 use crate::json_lines::json_line;
-use crate::texts::text_in;
 use line_log::{LineLog, LogError, LogFile, push_escaped};
-use redis_resp::Value;
 use std::alloc::{AllocError, Global};
-use std::collections::HashMap;
-use stream_refs::FieldsRef;
-use stream_worker::{Entry, Handler, NotCommitted, Verdict};
-
-/// Why a line is not in the file.
-#[derive(Debug, Drop)]
-pub enum LineFault {
-    /// The log did not take it.
-    Log(LogError),
-    /// A field of the entry is no text, so it has no line.
-    NoText,
-}
+use stream_worker::{EntryRef, Handler, NotCommitted, Verdict};
 
 /// A handler that writes each entry as a line.
 #[derive(Drop)]
@@ -31,8 +18,8 @@ pub struct Lines<D: LogFile + Drop> {
     pub seen: u64,
     pub done: u64,
     pub committed: u64,
-    /// Why it stopped, or did not commit.
-    pub fault: Option<LineFault>,
+    /// Why it stopped, or did not commit: the log did not take a line, or memory ran out for one.
+    pub fault: Option<LogError>,
 }
 
 impl<D: LogFile + Drop> Lines<D> {
@@ -53,14 +40,10 @@ impl<D: LogFile + Drop> Lines<D> {
     }
 
     // Adds the line of an entry to the log.
-    fn add(&mut self, alloc: Global, entry: &Entry<'_>) -> Result<(), LineFault> {
+    fn add(&mut self, alloc: Global, entry: &EntryRef<'_>) -> Result<(), LogError> {
         match put(alloc, &mut self.text, entry, self.json) {
-            Ok(true) => match self.log.add_line(&self.text) {
-                Ok(()) => Ok(()),
-                Err(error) => Err(LineFault::Log(error)),
-            },
-            Ok(false) => Err(LineFault::NoText),
-            Err(_) => Err(LineFault::Log(LogError::Memory)),
+            Ok(()) => self.log.add_line(&self.text),
+            Err(_) => Err(LogError::Memory),
         }
     }
 }
@@ -74,7 +57,7 @@ impl<D: LogFile + Drop> Handler for Lines<D> {
 
     ghost history = { λ handler. tt };
 
-    fn handle(&mut self, alloc: Global, entry: &Entry<'_>) -> Verdict {
+    fn handle(&mut self, alloc: Global, entry: &EntryRef<'_>) -> Verdict {
         self.seen = self.seen.saturating_add(1);
         match self.add(alloc, entry) {
             Ok(()) => {
@@ -95,72 +78,37 @@ impl<D: LogFile + Drop> Handler for Lines<D> {
                 Ok(())
             }
             Err(error) => {
-                self.fault = Some(LineFault::Log(error));
+                self.fault = Some(error);
                 Err(NotCommitted)
             }
         }
     }
 }
 
-// Puts the line of an entry in place of this text. False where a field is no text.
+// Puts the line of an entry in place of this text.
 fn put(
     alloc: Global,
     text: &mut Vec<u8>,
-    entry: &Entry<'_>,
+    entry: &EntryRef<'_>,
     json: bool,
-) -> Result<bool, AllocError> {
-    text.clear();
+) -> Result<(), AllocError> {
     if json {
-        put_json(alloc, text, entry)
+        *text = json_line(alloc, entry)?;
+        Ok(())
     } else {
+        text.clear();
         push_line(text, entry)
     }
 }
 
-// The line of an entry as JSON. False where a field is no text.
-fn put_json(alloc: Global, text: &mut Vec<u8>, entry: &Entry<'_>) -> Result<bool, AllocError> {
-    match json_line(alloc, entry)? {
-        Some(line) => {
-            *text = line;
-            Ok(true)
-        }
-        None => Ok(false),
-    }
-}
-
-// Appends the line of an entry: its id and its fields, separated by tabs. False where a field is no
-// text.
-fn push_line(text: &mut Vec<u8>, entry: &Entry<'_>) -> Result<bool, AllocError> {
+// Appends the line of an entry: its id, and its names and values in order, separated by tabs.
+fn push_line(text: &mut Vec<u8>, entry: &EntryRef<'_>) -> Result<(), AllocError> {
     push_escaped(text, entry.id().as_bytes())?;
-    match entry {
-        Entry::InPlace(entry) => push_fields(text, entry.fields()),
-        Entry::Copied(entry) => push_map(text, &entry.map),
+    for (name, value) in entry.fields() {
+        push_behind_tab(text, name)?;
+        push_behind_tab(text, value)?;
     }
-}
-
-// Appends fields where they stand, in order: always texts.
-fn push_fields(text: &mut Vec<u8>, fields: FieldsRef<'_>) -> Result<bool, AllocError> {
-    for (name, value) in fields {
-        push_field(text, name, value)?;
-    }
-    Ok(true)
-}
-
-// Appends fields of a record. False where one of them is no text.
-fn push_map(text: &mut Vec<u8>, fields: &HashMap<String, Value>) -> Result<bool, AllocError> {
-    for (name, value) in fields {
-        let Some(value) = text_in(value) else {
-            return Ok(false);
-        };
-        push_field(text, name.as_bytes(), value)?;
-    }
-    Ok(true)
-}
-
-// A name and its value, each behind a tab.
-fn push_field(text: &mut Vec<u8>, name: &[u8], value: &[u8]) -> Result<(), AllocError> {
-    push_behind_tab(text, name)?;
-    push_behind_tab(text, value)
+    Ok(())
 }
 
 // A text behind a tab.

@@ -24,7 +24,6 @@ mod json_lines;
 mod lines;
 mod options;
 mod report;
-mod texts;
 
 use crate::backlog::Watched;
 use crate::dead::{Dead, GiveUp};
