@@ -6,7 +6,7 @@ use redis_wire::{Decoded, Limits, Reply, decode};
 use std::alloc::{AllocError, Global};
 use std::test::Fail;
 use stream_server::{Protocol, Server, Session, append_reply};
-use stream_worker::{Entry, Handler, MakeGroup, NotCommitted, Settings, Verdict, Worker};
+use stream_worker::{EntryRef, Handler, MakeGroup, NotCommitted, Settings, Verdict, Worker};
 
 /// Counts the entries that it is given.
 #[derive(Drop)]
@@ -23,7 +23,7 @@ impl Handler for Count {
 
     ghost history = { λ handler. tt };
 
-    fn handle(&mut self, _alloc: Global, _entry: &Entry<'_>) -> Verdict {
+    fn handle(&mut self, _alloc: Global, _entry: &EntryRef<'_>) -> Verdict {
         self.done = self.done.saturating_add(1);
         Verdict::Done
     }
