@@ -1,7 +1,7 @@
 -- From what stands in bytes to what a worker did with it.
 use Rattle.std.proofs.Common.{◌≡◌, ◌≢◌, refl, sym, ap, ◌∙◌, ℕ, Bool, List, take, drop, Option, Some, None}
 use Rattle.std.proofs.Common.{string_bytes, Result, Ok, Err, inl, subst}
-use Rattle.std.specs.Prelude.{true, if◌then◌else◌}
+use Rattle.std.specs.Prelude.{true, if◌then◌else◌, option_and_then, option_map}
 use Rattle.std.specs.Result.{IsErrAnd}
 use Rattle.std.proofs.lemmas.List.{take-append-drop}
 use Rattle.redis_resp.specs.Tree.{Tree}
@@ -11,15 +11,16 @@ use Rattle.redis_wire.specs.Reply as wire
 use Rattle.redis_wire.specs.declared.fault.WireError.{WireError}
 use Rattle.redis_wire.specs.declared.fault.WireError.TheVariants as wire_errors
 use Rattle.redis_wire.specs.declared.limits.Limits.{Limits}
-use Rattle.stream_entries.specs.Entry.{Entry}
-use Rattle.stream_entries.specs.Read.{Streams, read_reading}
-use Rattle.stream_group.specs.Worker.{Machine, Verdict, begins_again}
-use Rattle.stream_refs.specs.Sent.{Pairs}
+use Rattle.stream_group.specs.Worker.{Machine, Verdict, begins_again, news, own_pending}
+use Rattle.stream_refs.specs.Sent.{Pairs, SentAutoClaim, SentEntry, SentStream}
+use Rattle.stream_refs.specs.SentReading.{sent_autoclaim_reading, sent_streams_reading}
 use Rattle.stream_worker.specs.Answered.{Failed, Went}
-use Rattle.stream_worker.specs.Answers.{by_value, group_after, entries_read, only_stream, shows_group}
+use Rattle.stream_worker.specs.Answers.{told, all_there, by_value, claim_read, claim_there, group_after, entries_read}
+use Rattle.stream_worker.specs.Answers.{news_read, only_stream, shows_group, those_there}
 use Rattle.stream_worker.specs.InPlace.{FailedInPlace, Heads, TakenByValue, TakenInPlace, WentInPlace}
 use Rattle.stream_worker.specs.Parts.{reads_own}
 use Rattle.stream_worker.specs.Session.{Standing}
+use Rattle.stream_worker.specs.Taking.{all_delivered}
 use Rattle.stream_worker.specs.declared.error.InPlaceError.{InPlaceError}
 use Rattle.stream_worker.specs.declared.error.InPlaceError.TheVariants as causes
 use Rattle.stream_worker.specs.declared.error.WorkerError.{WorkerError}
@@ -32,23 +33,47 @@ use Rattle.stream_worker.specs.declared.state.Settings.{Settings}
 use Rattle.stream_worker.specs.declared.worker.Progress.{Progress}
 
 -- the entries of the streams that a value holds
-pub streams_say : (key : List ℕ) (t : Tree) (ss : Streams) (o : Option (List Entry)) → read_reading t ≡ Some ss
-    → o ≡ only_stream key ss → entries_read key t ≡ o
-streams_say key t ss o reads is = rw reads (sym is)
+pub streams_say : (key : List ℕ) (t : Tree) (ss : List SentStream) (o : Option (List SentEntry))
+    → sent_streams_reading t ≡ Some ss → o ≡ only_stream key ss → entries_read key t ≡ o
+streams_say key t ss o reads is = ap (option_and_then (only_stream key)) reads ∙ sym is
+
+-- new entries, where nil stands for the fields of none
+pub news_say : (key : List ℕ) (t : Tree) (es : List SentEntry) → entries_read key t ≡ Some es → all_there es ≡ true
+    → news_read key t ≡ Some es
+news_say key t es reads there =
+    ap (option_and_then those_there) reads ∙ ap (λ (b : Bool). if b then Some es else None) there
+
+pub claim_says : (t : Tree) (c : SentAutoClaim) → sent_autoclaim_reading t ≡ Some c → all_there c.claimed ≡ true
+    → claim_read t ≡ Some c
+claim_says t c reads there =
+    ap (option_and_then claim_there) reads ∙ ap (λ (b : Bool). if b then Some c else None) there
 
 module _ {R : Type 0} (with_verdict : R → List ℕ × Pairs → Verdict → R) (settings : Settings) (t : Tree)
-    (m n : Machine) (r s : R) (ss : Streams) (reads : read_reading t ≡ Some ss) where
-  it_reads : read_reading t ≢ None
+    (m n : Machine) (r s : R) (ss : List SentStream) (reads : sent_streams_reading t ≡ Some ss) where
+  it_reads : sent_streams_reading t ≢ None
   it_reads e = let both : Some ss ≡ None = sym reads ∙ e in absurd cc
+
+  other_stream : only_stream (string_bytes settings.key) ss ≡ None → entries_read (string_bytes settings.key) t ≡ None
+  other_stream other = ap (option_and_then (only_stream (string_bytes settings.key))) reads ∙ other
 
   -- the streams are not the one that was asked for
   pub own_other : only_stream (string_bytes settings.key) ss ≡ None → n ≡ begins_again m → s ≡ r
       → Failed with_verdict settings asked.Own (wire.value t) m n r s worker.OtherStream
-  own_other other i j = ((t, refl, it_reads), rw (reads, other) refl, i, j)
+  own_other other i j = (
+    (t, refl, other_stream other, it_reads),
+    ap (option_map (λ es. told (own_pending (all_delivered es)))) (other_stream other),
+    i,
+    j,
+  )
 
   pub news_other : only_stream (string_bytes settings.key) ss ≡ None → n ≡ begins_again m → s ≡ r
       → Failed with_verdict settings asked.News (wire.value t) m n r s worker.OtherStream
-  news_other other i j = ((t, refl, it_reads), rw (reads, other) refl, i, j)
+  news_other other i j = (
+    (t, refl, other_stream other, it_reads),
+    ap (λ o. option_map (λ es. told (news (all_delivered es))) (option_and_then those_there o)) (other_stream other),
+    i,
+    j,
+  )
 
 -- a value with entries of its own shows that the group is there
 pub shows_own : (q : Asked) → reads_own q ≡ true → shows_group q ≡ true

@@ -1,14 +1,12 @@
 -- What the loop over entries keeps.
-use Rattle.std.proofs.Common.{◌≡◌, refl, sym, ap, subst, ◌∙◌, ℕ, Bool, true, false, nat_eq, ◌+◌, zero, suc, get_or}
+use Rattle.std.proofs.Common.{◌≡◌, refl, sym, ap, subst, ◌∙◌, ℕ, Bool, true, false, ◌+◌, zero, suc, get_or}
 use Rattle.std.proofs.Common.{arith, Result, Ok, Err, List, [], ◌∷◌, ◌++◌, map, take, length, ◌<◌, append_assoc, Option}
 use Rattle.std.proofs.Common.{Some, None, if◌then◌else◌}
-use Rattle.std.specs.FinMap as fin
-use Rattle.stream_entries.specs.Entry.{Entry}
 use Rattle.stream_group.specs.Worker.{Id, Delivered, Verdict, follows, acks_one, told_one, of_each, acks_in, told_in}
 use Rattle.stream_group.specs.Worker.{ending, went_through, stopped, cut_off}
-use Rattle.stream_refs.specs.Sent.{Pairs}
+use Rattle.stream_refs.specs.Sent.{Pairs, SentEntry}
 use Rattle.stream_worker.specs.Handling.{with_all}
-use Rattle.std.proofs.lemmas.List.{take_more}
+use Rattle.std.proofs.lemmas.List.{map-append, take_more}
 use Rattle.std.specs.Result.{IsErr}
 use Rattle.stream_worker.specs.Taking.{delivered_of, all_delivered, TookOne, Took, said_ending}
 
@@ -68,15 +66,9 @@ of_one : {F A : Type 0} (one : Id → Option F → Verdict → List A) (d : Deli
     (v : Verdict) → of_each one (d ∷ rest) (v ∷ []) ≡ one d.0 d.1 v
 of_one one d rest v = ap (λ l. one d.0 d.1 v ++ l) (of_rest one rest (follows d.1 v)) ∙ nothing_behind (one d.0 d.1 v)
 
-pub delivered_more : (es more : List Entry) → all_delivered (es ++ more) ≡ all_delivered es ++ all_delivered more
+pub delivered_more : (es more : List SentEntry) → all_delivered (es ++ more) ≡ all_delivered es ++ all_delivered more
 delivered_more [] more = refl
 delivered_more (e ∷ es) more = ap (λ r. delivered_of e ∷ r) (delivered_more es more)
-
-pub came_empty : (e : Entry) → fin.len e.fields ≡ 0 → delivered_of e ≡ (e.id, None)
-came_empty e h = rw h refl
-
-pub came_full : (e : Entry) → nat_eq (fin.len e.fields) 0 ≡ false → delivered_of e ≡ (e.id, Some e.fields)
-came_full e h = rw h refl
 
 -- an item of a list, and what lies behind it
 pub record Split {T : Type 0} (xs : List T) (i : ℕ) (x : T) : Type 0 where
@@ -90,11 +82,15 @@ split (y ∷ xs) (suc i) x l e =
     let below : i < length xs = omega arith in
     let s = split xs i x below e in record { rest = s.rest; is = ap (λ z. y ∷ z) s.is }
 
+mapped : {A B : Type 0} (f : A → B) (xs done : List A) (x : A) (rest : List A) → xs ≡ done ++ x ∷ rest
+    → map f xs ≡ map f done ++ f x ∷ map f rest
+mapped f xs done x rest is = ap (λ ys. map f ys) is ∙ map-append f done (x ∷ rest)
+
 pub said_error : {E : Type 0} (r : Result Bool E) → IsErr r → said_ending r ≡ cut_off
 said_error (Ok b) h = let t : false ≡ true = h in cc
 said_error (Err e) h = refl
 
-module _ {T : Type 0} (f : T → Entry) where
+module _ {T : Type 0} (f : T → SentEntry) where
   pub mapped_more : (xs ys : List T) → all_delivered (map f (xs ++ ys)) ≡ all_delivered (map f xs)
       ++ all_delivered (map f ys)
   mapped_more [] ys = refl
@@ -200,10 +196,10 @@ module _ {R : Type 0} (with_verdict : R → List ℕ × Pairs → Verdict → R)
         ended = sym (ap (λ l. ending (es ++ d ∷ rest) l) (sym vs) ∙ all_more es (d ∷ rest) g.verdicts [] g.matched);
       }
 
-  pub loop_begins : {T : Type 0} (f : T → Entry) (old : List Id) (r : R) → Going (all_delivered (map f [])) old old r r
+  pub loop_begins : {T : Type 0} (f : T → SentEntry) (old : List Id) (r : R) → Going (all_delivered (map f [])) old old r r
   loop_begins f old r = begins old r
 
-  pub loop_step : {T : Type 0} (f : T → Entry) (xs : List T) (i : ℕ) (x : T) (old mid new : List Id) (r s t : R)
+  pub loop_step : {T : Type 0} (f : T → SentEntry) (xs : List T) (i : ℕ) (x : T) (old mid new : List Id) (r s t : R)
       → i < length xs → x ≡ get_or xs i x → Going (all_delivered (map f (take i xs))) old mid r s
       → TookOne with_verdict (delivered_of (f x)) mid new s t true
       → Going (all_delivered (map f (take (i + 1) xs))) old new r t
@@ -213,48 +209,52 @@ module _ {R : Type 0} (with_verdict : R → List ℕ × Pairs → Verdict → R)
       (goes_further (all_delivered (map f (take i xs))) (delivered_of (f x)) old mid new r s t g o)
 
   -- entries that end before this one, and those that it stands among
-  shape_of : {T : Type 0} (f : T → Entry) (xs done rest : List T) (x : T) → xs ≡ done ++ x ∷ rest
-      → all_delivered (map f xs) ≡ all_delivered (map f done) ++ delivered_of (f x) ∷ all_delivered (map f rest)
-  shape_of f xs done rest x is = ap (λ ys. all_delivered (map f ys)) is ∙ mapped_more f done (x ∷ rest)
+  shape_of : (xs done rest : List SentEntry) (x : SentEntry) → xs ≡ done ++ x ∷ rest
+      → all_delivered xs ≡ all_delivered done ++ delivered_of x ∷ all_delivered rest
+  shape_of xs done rest x is = ap all_delivered is ∙ delivered_more done (x ∷ rest)
 
-  pub next_step : {T : Type 0} (f : T → Entry) (done : List T) (x : T) (old mid new : List Id) (r s t : R)
-      → Going (all_delivered (map f done)) old mid r s → TookOne with_verdict (delivered_of (f x)) mid new s t true
-      → Going (all_delivered (map f (done ++ x ∷ []))) old new r t
-  next_step f done x old mid new r s t g o =
+  pub next_step : (done : List SentEntry) (x : SentEntry) (old mid new : List Id) (r s t : R)
+      → Going (all_delivered done) old mid r s → TookOne with_verdict (delivered_of x) mid new s t true
+      → Going (all_delivered (done ++ x ∷ [])) old new r t
+  next_step done x old mid new r s t g o =
       let P : List (Delivered Pairs) → Type 0 = λ es. Going es old new r t in
-      subst P (sym (mapped_more f done (x ∷ [])))
-      (goes_further (all_delivered (map f done)) (delivered_of (f x)) old mid new r s t g o)
+      subst P (sym (delivered_more done (x ∷ [])))
+      (goes_further (all_delivered done) (delivered_of x) old mid new r s t g o)
 
-  pub next_cut : {T : Type 0} (f : T → Entry) (xs done rest : List T) (x : T) (old mid new : List Id) (r s t : R)
-      → xs ≡ done ++ x ∷ rest → Going (all_delivered (map f done)) old mid r s
-      → new ≡ mid → t ≡ s → Took with_verdict (all_delivered (map f xs)) old new r t cut_off
-  next_cut f xs done rest x old mid new r s t is g p q =
-      let d : List (Delivered Pairs) = all_delivered (map f done) in
-      let more : List (Delivered Pairs) = all_delivered (map f rest) in
+  pub next_cut : (xs done rest : List SentEntry) (x : SentEntry) (old mid new : List Id) (r s t : R)
+      → xs ≡ done ++ x ∷ rest → Going (all_delivered done) old mid r s
+      → new ≡ mid → t ≡ s → Took with_verdict (all_delivered xs) old new r t cut_off
+  next_cut xs done rest x old mid new r s t is g p q =
+      let d : List (Delivered Pairs) = all_delivered done in
+      let more : List (Delivered Pairs) = all_delivered rest in
       let P : List (Delivered Pairs) → Type 0 = λ es. Took with_verdict es old new r t cut_off in
-      let A : List Id → Type 0 = λ l. Took with_verdict (d ++ delivered_of (f x) ∷ more) old l r s cut_off in
-      let B : R → Type 0 = λ y. Took with_verdict (d ++ delivered_of (f x) ∷ more) old new r y cut_off in
-      subst P (sym (shape_of f xs done rest x is))
-      (subst B (sym q) (subst A (sym p) (cut d (delivered_of (f x)) more old mid r s g)))
+      let A : List Id → Type 0 = λ l. Took with_verdict (d ++ delivered_of x ∷ more) old l r s cut_off in
+      let B : R → Type 0 = λ y. Took with_verdict (d ++ delivered_of x ∷ more) old new r y cut_off in
+      subst P (sym (shape_of xs done rest x is))
+      (subst B (sym q) (subst A (sym p) (cut d (delivered_of x) more old mid r s g)))
 
-  pub next_stops : {T : Type 0} (f : T → Entry) (xs done rest : List T) (x : T) (old mid new : List Id) (r s t : R)
-      → xs ≡ done ++ x ∷ rest → Going (all_delivered (map f done)) old mid r s
-      → TookOne with_verdict (delivered_of (f x)) mid new s t false
-      → Took with_verdict (all_delivered (map f xs)) old new r t stopped
-  next_stops f xs done rest x old mid new r s t is g o =
+  pub next_stops : (xs done rest : List SentEntry) (x : SentEntry) (old mid new : List Id) (r s t : R)
+      → xs ≡ done ++ x ∷ rest → Going (all_delivered done) old mid r s
+      → TookOne with_verdict (delivered_of x) mid new s t false
+      → Took with_verdict (all_delivered xs) old new r t stopped
+  next_stops xs done rest x old mid new r s t is g o =
       let P : List (Delivered Pairs) → Type 0 = λ es. Took with_verdict es old new r t stopped in
-      subst P (sym (shape_of f xs done rest x is)) (stops (all_delivered (map f done)) (delivered_of (f x))
-      (all_delivered (map f rest)) old mid new r s t g o)
+      subst P (sym (shape_of xs done rest x is)) (stops (all_delivered done) (delivered_of x)
+      (all_delivered rest) old mid new r s t g o)
 
-  pub loop_cut : {T : Type 0} (f : T → Entry) (xs : List T) (i : ℕ) (x : T) (old mid new : List Id) (r s t : R)
+  pub loop_cut : {T : Type 0} (f : T → SentEntry) (xs : List T) (i : ℕ) (x : T) (old mid new : List Id) (r s t : R)
       → i < length xs → x ≡ get_or xs i x → Going (all_delivered (map f (take i xs))) old mid r s
       → new ≡ mid → t ≡ s → Took with_verdict (all_delivered (map f xs)) old new r t cut_off
   loop_cut f xs i x old mid new r s t l e g p q =
-      let k = split xs i x l e in next_cut f xs (take i xs) k.rest x old mid new r s t k.is g p q
+      let k = split xs i x l e in
+      next_cut (map f xs) (map f (take i xs)) (map f k.rest) (f x) old mid new r s t (mapped f xs (take i xs) x k.rest k.is)
+      g p q
 
-  pub loop_stops : {T : Type 0} (f : T → Entry) (xs : List T) (i : ℕ) (x : T) (old mid new : List Id) (r s t : R)
+  pub loop_stops : {T : Type 0} (f : T → SentEntry) (xs : List T) (i : ℕ) (x : T) (old mid new : List Id) (r s t : R)
       → i < length xs → x ≡ get_or xs i x → Going (all_delivered (map f (take i xs))) old mid r s
       → TookOne with_verdict (delivered_of (f x)) mid new s t false
       → Took with_verdict (all_delivered (map f xs)) old new r t stopped
   loop_stops f xs i x old mid new r s t l e g o =
-      let k = split xs i x l e in next_stops f xs (take i xs) k.rest x old mid new r s t k.is g o
+      let k = split xs i x l e in
+      next_stops (map f xs) (map f (take i xs)) (map f k.rest) (f x) old mid new r s t
+      (mapped f xs (take i xs) x k.rest k.is) g o

@@ -1,7 +1,7 @@
 -- From what an answer says to what a worker did with it.
 use Rattle.std.proofs.Common.{◌≡◌, ◌≢◌, inl, inr, refl, sym, ap, subst, ◌∙◌, ℕ, List, [], ◌∷◌, ◌++◌, Option, Some, None}
 use Rattle.std.proofs.Common.{option_map, string_bytes, Result, Ok, Err}
-use Rattle.std.specs.Prelude.{option_and_then, OnOk, true, false}
+use Rattle.std.specs.Prelude.{option_and_then, OnOk, true, false, Bool, if◌then◌else◌}
 use Rattle.std.specs.Result.{IfOk, IfErr, IsErrAnd}
 use Rattle.redis_resp.specs.Number.{unsigned_reading}
 use Rattle.redis_resp.specs.Refusal.{RefusesNumber}
@@ -9,20 +9,19 @@ use Rattle.redis_resp.specs.Tree.{Tree}
 use Rattle.redis_resp.specs.declared.value.error.ParsingError.{ParsingError}
 use Rattle.redis_resp.specs.declared.value.error.ParsingError.TheVariants as parsing
 use Rattle.redis_wire.specs.Reply as wire
-use Rattle.stream_entries.specs.AutoClaim.{AutoClaim, autoclaim_reading}
-use Rattle.stream_entries.specs.Entry.{Entry}
-use Rattle.stream_entries.specs.Read.{read_reading}
-use Rattle.stream_entries.specs.Refusal.{RefusesAutoClaim, RefusesRead}
 use Rattle.stream_group.specs.Worker as machine
 use Rattle.stream_group.specs.Worker.{Id, Delivered, Verdict, Answer, acknowledged, own_pending, taken_over, news}
 use Rattle.stream_group.specs.Worker.{Machine, Ending, cut_off, ending, after, after_own, after_claim, after_news}
 use Rattle.stream_group.specs.Worker.{phase_after, phase_at, still, entries_in, acks_in, begins_again}
-use Rattle.stream_refs.specs.Sent.{Pairs}
-use Rattle.stream_worker.specs.Answered.{Took, Went, WasCut, Failed}
+use Rattle.stream_refs.specs.Sent.{Pairs, SentAutoClaim, SentEntry}
+use Rattle.stream_refs.specs.SentReading.{sent_autoclaim_reading, sent_streams_reading}
+use Rattle.stream_refs.specs.SentRefusal.{RefusesSentAutoClaim, RefusesSentStreams}
+use Rattle.stream_worker.specs.Answered.{Took, Went, WasCut, Failed, HasNil}
 use Rattle.stream_worker.specs.Answers.{Heard, told, no_group, group_made, is_gone, means, says, entries_read, only_stream}
+use Rattle.stream_worker.specs.Answers.{claim_read, claim_there, news_read, those_there}
 use Rattle.stream_worker.specs.Errors.{read_error}
 use Rattle.stream_worker.specs.Machine.{Moved, ending_of}
-use Rattle.stream_worker.specs.Parts.{IsAcknowledged, IsOfGroup, IsRefused, NotRead, Unread, reads_own}
+use Rattle.stream_worker.specs.Parts.{IsAcknowledged, IsOfGroup, IsRefused, NotClaimed, NotNews, NotRead, Unread, reads_own}
 use Rattle.stream_worker.specs.Taking.{all_delivered}
 use Rattle.stream_worker.specs.declared.error.WorkerError.{WorkerError}
 use Rattle.stream_worker.specs.declared.error.WorkerError.TheVariants as causes
@@ -66,21 +65,21 @@ took with_verdict answer next m n r s how e k v = record {
   ended = v.ended;
 }
 
-said_own : (key : List ℕ) (t : Tree) (es : List Entry) → entries_read key t ≡ Some es
+said_own : (key : List ℕ) (t : Tree) (es : List SentEntry) → entries_read key t ≡ Some es
     → says key asked.Own t ≡ Some (told (own_pending (all_delivered es)))
 said_own key t es h = ap (λ o. option_map (λ xs. told (own_pending (all_delivered xs))) o) h
 
-said_news : (key : List ℕ) (t : Tree) (es : List Entry) → entries_read key t ≡ Some es
+said_news : (key : List ℕ) (t : Tree) (es : List SentEntry) → news_read key t ≡ Some es
     → says key asked.News t ≡ Some (told (news (all_delivered es)))
 said_news key t es h = ap (λ o. option_map (λ xs. told (news (all_delivered xs))) o) h
 
-said_claim : (key : List ℕ) (t : Tree) (c : AutoClaim) → autoclaim_reading t ≡ Some c
+said_claim : (key : List ℕ) (t : Tree) (c : SentAutoClaim) → claim_read t ≡ Some c
     → says key asked.Claim t ≡ Some (told (taken_over c.next (all_delivered c.claimed)))
 said_claim key t c h = ap (λ o. option_map (λ x. told (taken_over x.next (all_delivered x.claimed))) o) h
 
 module _ {R : Type 0} (with_verdict : R → List ℕ × Pairs → Verdict → R) (settings : Settings) (t : Tree)
     (m n : Machine) (r s : R) where
-  pub own_went : (es : List Entry) (next : machine.Phase) (p : Progress)
+  pub own_went : (es : List SentEntry) (next : machine.Phase) (p : Progress)
       → entries_read (string_bytes settings.key) t ≡ Some es
       → next ≡ after_own (all_delivered es)
       → Moved with_verdict (all_delivered es) next (begins_again m) n r s (ending_of p)
@@ -91,7 +90,7 @@ module _ {R : Type 0} (with_verdict : R → List ℕ × Pairs → Verdict → R)
     goes = took with_verdict (own_pending (all_delivered es)) next m n r s (ending_of p) e refl v;
   }
 
-  pub own_cut : (es : List Entry) (next : machine.Phase) → entries_read (string_bytes settings.key) t ≡ Some es
+  pub own_cut : (es : List SentEntry) (next : machine.Phase) → entries_read (string_bytes settings.key) t ≡ Some es
       → next ≡ after_own (all_delivered es) → Moved with_verdict (all_delivered es) next (begins_again m) n r s cut_off
       → Failed with_verdict settings asked.Own (wire.value t) m n r s causes.Memory
   own_cut es next h e v = (
@@ -104,8 +103,8 @@ module _ {R : Type 0} (with_verdict : R → List ℕ × Pairs → Verdict → R)
     }),
   )
 
-  pub news_went : (es : List Entry) (next : machine.Phase) (p : Progress)
-      → entries_read (string_bytes settings.key) t ≡ Some es
+  pub news_went : (es : List SentEntry) (next : machine.Phase) (p : Progress)
+      → news_read (string_bytes settings.key) t ≡ Some es
       → next ≡ after_news m.every m.phase → Moved with_verdict (all_delivered es) next (begins_again m) n r s
       (ending_of p)
       → Went with_verdict settings asked.News (wire.value t) m n r s p
@@ -115,7 +114,7 @@ module _ {R : Type 0} (with_verdict : R → List ℕ × Pairs → Verdict → R)
     goes = took with_verdict (news (all_delivered es)) next m n r s (ending_of p) e refl v;
   }
 
-  pub news_cut : (es : List Entry) (next : machine.Phase) → entries_read (string_bytes settings.key) t ≡ Some es
+  pub news_cut : (es : List SentEntry) (next : machine.Phase) → news_read (string_bytes settings.key) t ≡ Some es
       → next ≡ after_news m.every m.phase → Moved with_verdict (all_delivered es) next (begins_again m) n r s cut_off
       → Failed with_verdict settings asked.News (wire.value t) m n r s causes.Memory
   news_cut es next h e v = (
@@ -128,7 +127,7 @@ module _ {R : Type 0} (with_verdict : R → List ℕ × Pairs → Verdict → R)
     }),
   )
 
-  pub claim_went : (c : AutoClaim) (next : machine.Phase) (p : Progress) → autoclaim_reading t ≡ Some c
+  pub claim_went : (c : SentAutoClaim) (next : machine.Phase) (p : Progress) → claim_read t ≡ Some c
       → next ≡ after_claim c.next → Moved with_verdict (all_delivered c.claimed) next (begins_again m) n r s
       (ending_of p)
       → Went with_verdict settings asked.Claim (wire.value t) m n r s p
@@ -138,7 +137,7 @@ module _ {R : Type 0} (with_verdict : R → List ℕ × Pairs → Verdict → R)
     goes = took with_verdict (taken_over c.next (all_delivered c.claimed)) next m n r s (ending_of p) e refl v;
   }
 
-  pub claim_cut : (c : AutoClaim) (next : machine.Phase) → autoclaim_reading t ≡ Some c
+  pub claim_cut : (c : SentAutoClaim) (next : machine.Phase) → claim_read t ≡ Some c
       → next ≡ after_claim c.next → Moved with_verdict (all_delivered c.claimed) next (begins_again m) n r s cut_off
       → Failed with_verdict settings asked.Claim (wire.value t) m n r s causes.Memory
   claim_cut c next h e v = (
@@ -188,7 +187,7 @@ read_failed P parsing.NotBytes m f = f (λ e. absurd cc)
 
 module _ {R : Type 0} (with_verdict : R → List ℕ × Pairs → Verdict → R) (settings : Settings) (t : Tree)
     (m n : Machine) (r s : R) where
-  own_unread : (e : WorkerError) → Unread read_reading RefusesRead t e → n ≡ begins_again m → s ≡ r
+  own_unread : (e : WorkerError) → Unread sent_streams_reading RefusesSentStreams t e → n ≡ begins_again m → s ≡ r
       → Failed with_verdict settings asked.Own (wire.value t) m n r s e
   own_unread e u i j =
       subst (λ (x : WorkerError). Failed with_verdict settings asked.Own (wire.value t) m n r s x) (sym u.1)
@@ -208,13 +207,13 @@ module _ {R : Type 0} (with_verdict : R → List ℕ × Pairs → Verdict → R)
   own_not_read e (inl u) i j = own_unread e u i j
   own_not_read e (inr o) i j =
       subst (λ (x : WorkerError). Failed with_verdict settings asked.Own (wire.value t) m n r s x) (sym o.0) (
-        (t, refl, o.2),
+        (t, refl, o.1, o.2),
         ap (λ es. option_map (λ xs. told (own_pending (all_delivered xs))) es) o.1,
         i,
         j,
       )
 
-  news_unread : (e : WorkerError) → Unread read_reading RefusesRead t e → n ≡ begins_again m → s ≡ r
+  news_unread : (e : WorkerError) → Unread sent_streams_reading RefusesSentStreams t e → n ≡ begins_again m → s ≡ r
       → Failed with_verdict settings asked.News (wire.value t) m n r s e
   news_unread e u i j =
       subst (λ (x : WorkerError). Failed with_verdict settings asked.News (wire.value t) m n r s x) (sym u.1)
@@ -223,7 +222,7 @@ module _ {R : Type 0} (with_verdict : R → List ℕ × Pairs → Verdict → R)
       (λ other. (
         (t, refl, u.2),
         ap (λ o. option_map (λ es. told (news (all_delivered es)))
-            (option_and_then (only_stream (string_bytes settings.key)) o)) (u.2.1 other),
+            (option_and_then those_there (option_and_then (only_stream (string_bytes settings.key)) o))) (u.2.1 other),
         i,
         j,
       )))
@@ -233,14 +232,32 @@ module _ {R : Type 0} (with_verdict : R → List ℕ × Pairs → Verdict → R)
   news_not_read e (inl u) i j = news_unread e u i j
   news_not_read e (inr o) i j =
       subst (λ (x : WorkerError). Failed with_verdict settings asked.News (wire.value t) m n r s x) (sym o.0) (
-        (t, refl, o.2),
-        ap (λ es. option_map (λ xs. told (news (all_delivered xs))) es) o.1,
+        (t, refl, o.1, o.2),
+        ap (λ es. option_map (λ xs. told (news (all_delivered xs))) (option_and_then those_there es)) o.1,
         i,
         j,
       )
 
+  -- nil in a new entry
+  nil_in_news : HasNil (string_bytes settings.key) asked.News t → news_read (string_bytes settings.key) t ≡ None
+  nil_in_news h =
+      ap (option_and_then those_there) h.1 ∙ ap (λ (b : Bool). if b then Some h.0 else None) h.2
+
+  pub news_nil : HasNil (string_bytes settings.key) asked.News t → n ≡ begins_again m → s ≡ r
+      → Failed with_verdict settings asked.News (wire.value t) m n r s causes.NilFields
+  news_nil h i j =
+      ((t, refl, h), ap (option_map (λ xs. told (news (all_delivered xs)))) (nil_in_news h), i, j)
+
+  -- a value that holds no new entries of the stream
+  pub news_refused : (e : WorkerError) → NotNews (string_bytes settings.key) t e → n ≡ begins_again m → s ≡ r
+      → Failed with_verdict settings asked.News (wire.value t) m n r s e
+  news_refused e (inl u) i j = news_not_read e u i j
+  news_refused e (inr h) i j =
+      subst (λ (x : WorkerError). Failed with_verdict settings asked.News (wire.value t) m n r s x) (sym h.0)
+      (news_nil h.1 i j)
+
   -- a value that is no answer to a claim
-  pub claim_unread : (e : WorkerError) → Unread autoclaim_reading RefusesAutoClaim t e → n ≡ begins_again m → s ≡ r
+  pub claim_unread : (e : WorkerError) → Unread sent_autoclaim_reading RefusesSentAutoClaim t e → n ≡ begins_again m → s ≡ r
       → Failed with_verdict settings asked.Claim (wire.value t) m n r s e
   claim_unread e u i j =
       subst (λ (x : WorkerError). Failed with_verdict settings asked.Claim (wire.value t) m n r s x) (sym u.1)
@@ -248,10 +265,32 @@ module _ {R : Type 0} (with_verdict : R → List ℕ × Pairs → Verdict → R)
       (t, refl, inl (i, j))
       (λ other. (
         (t, refl, u.2),
-        ap (λ o. option_map (λ (c : AutoClaim). told (taken_over c.next (all_delivered c.claimed))) o) (u.2.1 other),
+        ap (λ o. option_map (λ (c : SentAutoClaim). told (taken_over c.next (all_delivered c.claimed)))
+            (option_and_then claim_there o)) (u.2.1 other),
         i,
         j,
       )))
+
+  -- nil in a claimed entry
+  nil_in_claim : HasNil (string_bytes settings.key) asked.Claim t → claim_read t ≡ None
+  nil_in_claim h =
+      ap (option_and_then claim_there) h.1 ∙ ap (λ (b : Bool). if b then Some h.0 else None) h.2
+
+  pub claim_nil : HasNil (string_bytes settings.key) asked.Claim t → n ≡ begins_again m → s ≡ r
+      → Failed with_verdict settings asked.Claim (wire.value t) m n r s causes.NilFields
+  claim_nil h i j = (
+    (t, refl, h),
+    ap (option_map (λ (c : SentAutoClaim). told (taken_over c.next (all_delivered c.claimed)))) (nil_in_claim h),
+    i,
+    j,
+  )
+
+  pub claim_refused : (key : List ℕ) (e : WorkerError) → NotClaimed key t e → n ≡ begins_again m → s ≡ r
+      → Failed with_verdict settings asked.Claim (wire.value t) m n r s e
+  claim_refused key e (inl u) i j = claim_unread e u i j
+  claim_refused key e (inr h) i j =
+      subst (λ (x : WorkerError). Failed with_verdict settings asked.Claim (wire.value t) m n r s x) (sym h.0)
+      (claim_nil h.1 i j)
 
   -- a value that is no count
   pub ack_unread : (e : WorkerError) → Unread (unsigned_reading 64) RefusesNumber t e → n ≡ begins_again m → s ≡ r
@@ -335,6 +374,7 @@ module _ {R : Type 0} (with_verdict : R → List ℕ × Pairs → Verdict → R)
   refused_failed text causes.NotAnAnswer j k h = absurd h.0
   refused_failed text (causes.Parsing e) j k h = absurd h.0
   refused_failed text causes.OtherStream j k h = absurd h.0
+  refused_failed text causes.NilFields j k h = absurd h.0
   refused_failed text causes.Memory j k h = absurd h.0
 
 -- before anything is known of the group, entries of its own are taken in the same way
@@ -356,6 +396,7 @@ module _ {R : Type 0} (with_verdict : R → List ℕ × Pairs → Verdict → R)
   first_failed causes.NotAnAnswer f = absurd f.0
   first_failed (causes.Parsing e) f = f
   first_failed causes.OtherStream f = f
+  first_failed causes.NilFields f = absurd f.0.2
   first_failed causes.Memory f = (
     f.0,
     f.1,

@@ -2,40 +2,40 @@ use Rattle.std.proofs.Common.{map, take, string_bytes, length, ◌≤◌, arith,
 use Rattle.std.proofs.lemmas.List.{take_all}
 use Rattle.stream_group.specs.Worker.{Delivered, Ending, went_through}
 use Rattle.stream_refs.specs.Sent.{Pairs}
-use Rattle.stream_worker.specs.Taking.{entry_meaning}
+use Rattle.stream_refs.specs.SentMeaning.{sent_of}
 use Rattle.stream_worker.specs.Taking.{Took, all_delivered}
 use Rattle.stream_worker.proofs.TakingLemmas.{loop_step, loop_stops, loop_cut, ends, said_error}
 use Rattle.stream_worker.proofs.entries.take_entries.Goals as goal
 
 pub loop-entry-preserved : goal.loop-entry-preserved
 loop-entry-preserved g c =
-    let o = rw c.if-not-branch.false at c.in_ok-take_entry.ensures in
-    loop_step g.H.Handler.with_verdict entry_meaning c.args.entries.now c.loop-entry.entry-index c.entry-item.result _ _
+    let o = rw c.if-not-branch.false at c.in_ok-take_row.ensures in
+    loop_step g.H.Handler.with_verdict sent_of c.args.entries.now c.loop-entry.entry-index c.entry-item.result _ _
     _ _ _ _ c.loop-entry-test.true c.entry-item.is c.loop-entry.invariant o
 
 pub returns-then-not-branch : goal.returns-then-not-branch
 returns-then-not-branch g c =
-    let o = rw c.if-not-branch.true at c.in_ok-take_entry.ensures in
-    loop_stops g.H.Handler.with_verdict entry_meaning c.args.entries.now c.loop-entry.entry-index c.entry-item.result _
+    let o = rw c.if-not-branch.true at c.in_ok-take_row.ensures in
+    loop_stops g.H.Handler.with_verdict sent_of c.args.entries.now c.loop-entry.entry-index c.entry-item.result _
     _ _ _ _ _ c.loop-entry-test.true c.entry-item.is c.loop-entry.invariant o
 
-pub returns-in_err-take_entry : goal.returns-in_err-take_entry
-returns-in_err-take_entry g c =
-    let o = c.in_err-take_entry.ensures in
-    let P : Ending → Type 0 = λ b. Took g.H.Handler.with_verdict (all_delivered (map entry_meaning c.args.entries.now))
-    (map string_bytes c.args.ids.now.items) (map string_bytes c.take_entry.new.ids.items)
-    (g.H.Handler.history c.args.handler.now) (g.H.Handler.history c.take_entry.new.handler) b in
+pub returns-in_err-take_row : goal.returns-in_err-take_row
+returns-in_err-take_row g c =
+    let o = c.in_err-take_row.ensures in
+    let P : Ending → Type 0 = λ b. Took g.H.Handler.with_verdict (all_delivered (map sent_of c.args.entries.now))
+    (map string_bytes c.args.ids.now.items) (map string_bytes c.take_row.new.ids.items)
+    (g.H.Handler.history c.args.handler.now) (g.H.Handler.history c.take_row.new.handler) b in
     subst P (sym (said_error c.from_residual.result c.from_residual.ensures.0))
-    (loop_cut g.H.Handler.with_verdict entry_meaning c.args.entries.now c.loop-entry.entry-index c.entry-item.result _ _
+    (loop_cut g.H.Handler.with_verdict sent_of c.args.entries.now c.loop-entry.entry-index c.entry-item.result _ _
     _ _ _ _ c.loop-entry-test.true c.entry-item.is c.loop-entry.invariant o.0 o.1)
 
 pub returns : goal.returns
 returns g c =
     let past : length c.args.entries.now ≤ c.loop-entry.entry-index = omega arith in
     let e = take_all c.loop-entry.entry-index c.args.entries.now past in
-    let all : all_delivered (map entry_meaning (take c.loop-entry.entry-index c.args.entries.now))
-    ≡ all_delivered (map entry_meaning c.args.entries.now)
-    = ap (λ es. all_delivered (map entry_meaning es)) e in
+    let all : all_delivered (map sent_of (take c.loop-entry.entry-index c.args.entries.now))
+    ≡ all_delivered (map sent_of c.args.entries.now)
+    = ap (λ es. all_delivered (map sent_of es)) e in
     let P : List (Delivered Pairs) → Type 0 =
     λ es. Took g.H.Handler.with_verdict es (map string_bytes c.args.ids.now.items)
     (map string_bytes c.loop-entry.ids.items) (g.H.Handler.history c.args.handler.now)

@@ -1,5 +1,5 @@
 use Rattle.std.proofs.Common.{map, take, string_bytes}
-use Rattle.stream_worker.specs.Taking.{entry_meaning}
+use Rattle.stream_refs.specs.SentMeaning.{sent_of}
 use Rattle.stream_worker.specs.Taking.{all_delivered}
 use Rattle.stream_worker.proofs.TakingLemmas.{Going}
 use Rattle.stream_worker.proofs.entries.take_entries.Given as goal
@@ -7,5 +7,5 @@ use Rattle.stream_worker.proofs.entries.take_entries.Given as goal
 -- all entries so far got verdicts
 abbrev pub invariant-loop-entry : goal.invariant-loop-entry
 invariant-loop-entry g l = Going g.H.Handler.with_verdict
-    (all_delivered (map entry_meaning (take l.entry-index l.entries))) (map string_bytes l.initial.ids.items)
+    (all_delivered (map sent_of (take l.entry-index l.entries))) (map string_bytes l.initial.ids.items)
     (map string_bytes l.ids.items) (g.H.Handler.history l.initial.handler) (g.H.Handler.history l.handler)

@@ -1,6 +1,5 @@
 use Rattle.std.proofs.Common.{rules, map, string_bytes, append_assoc, append-nil, ◌∙◌, ap, sym, subst, ◌≡◌, ◌++◌, ◌∷◌, [], List}
 use Rattle.stream_group.specs.Worker.{Ending, went_through}
-use Rattle.stream_refs.specs.Copied.{copied}
 use Rattle.stream_refs.specs.Sent.{SentEntry}
 use Rattle.stream_worker.specs.Taking.{Took, all_delivered}
 use Rattle.stream_worker.proofs.TakingLemmas.{next_step, next_stops, next_cut, ends, said_error}
@@ -13,7 +12,7 @@ loop-entry-preserved g c =
     record {
       whole = append_assoc c.loop-entry.yielded (c.in-Some.entry ∷ []) c.next.new.self
           ∙ ap (λ t. c.loop-entry.yielded ++ t) (sym next) ∙ c.loop-entry.invariant.whole;
-      going = next_step g.H.Handler.with_verdict copied c.loop-entry.yielded c.in-Some.entry _ _ _ _ _ _
+      going = next_step g.H.Handler.with_verdict c.loop-entry.yielded c.in-Some.entry _ _ _ _ _ _
           c.loop-entry.invariant.going o;
     }
 
@@ -21,7 +20,7 @@ pub returns-then-not-branch : goal.returns-then-not-branch
 returns-then-not-branch g c =
     let next : c.loop-entry.entry-iterator ≡ c.in-Some.entry ∷ c.next.new.self = search rules in
     let o = rw c.if-not-branch.true at c.in_ok-take_entry.ensures in
-    next_stops g.H.Handler.with_verdict copied c.args.entries c.loop-entry.yielded c.next.new.self c.in-Some.entry
+    next_stops g.H.Handler.with_verdict c.args.entries c.loop-entry.yielded c.next.new.self c.in-Some.entry
     _ _ _ _ _ _ (sym c.loop-entry.invariant.whole ∙ ap (λ t. c.loop-entry.yielded ++ t) next)
     c.loop-entry.invariant.going o
 
@@ -29,11 +28,11 @@ pub returns-in_err-take_entry : goal.returns-in_err-take_entry
 returns-in_err-take_entry g c =
     let next : c.loop-entry.entry-iterator ≡ c.in-Some.entry ∷ c.next.new.self = search rules in
     let o = c.in_err-take_entry.ensures in
-    let P : Ending → Type 0 = λ b. Took g.H.Handler.with_verdict (all_delivered (map copied c.args.entries))
+    let P : Ending → Type 0 = λ b. Took g.H.Handler.with_verdict (all_delivered c.args.entries)
     (map string_bytes c.args.ids.now.items) (map string_bytes c.take_entry.new.ids.items)
     (g.H.Handler.history c.args.handler.now) (g.H.Handler.history c.take_entry.new.handler) b in
     subst P (sym (said_error c.from_residual.result c.from_residual.ensures.0))
-    (next_cut g.H.Handler.with_verdict copied c.args.entries c.loop-entry.yielded c.next.new.self c.in-Some.entry
+    (next_cut g.H.Handler.with_verdict c.args.entries c.loop-entry.yielded c.next.new.self c.in-Some.entry
     _ _ _ _ _ _ (sym c.loop-entry.invariant.whole ∙ ap (λ t. c.loop-entry.yielded ++ t) next)
     c.loop-entry.invariant.going o.0 o.1)
 
@@ -44,7 +43,7 @@ returns g c =
     sym (append-nil c.loop-entry.yielded) ∙ ap (λ t. c.loop-entry.yielded ++ t) (sym none)
     ∙ c.loop-entry.invariant.whole in
     let P : List SentEntry → Type 0 =
-    λ es. Took g.H.Handler.with_verdict (all_delivered (map copied es)) (map string_bytes c.args.ids.now.items)
+    λ es. Took g.H.Handler.with_verdict (all_delivered es) (map string_bytes c.args.ids.now.items)
     (map string_bytes c.loop-entry.ids.items) (g.H.Handler.history c.args.handler.now)
     (g.H.Handler.history c.loop-entry.handler) went_through in
     subst P all (ends g.H.Handler.with_verdict _ _ _ _ _ c.loop-entry.invariant.going)

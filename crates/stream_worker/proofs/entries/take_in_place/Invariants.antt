@@ -1,5 +1,4 @@
 use Rattle.std.proofs.Common.{◌≡◌, ◌++◌, map, string_bytes}
-use Rattle.stream_refs.specs.Copied.{copied}
 use Rattle.stream_worker.specs.Taking.{all_delivered}
 use Rattle.stream_worker.proofs.TakingLemmas.{Going}
 use Rattle.stream_worker.proofs.entries.take_in_place.Given as goal
@@ -8,6 +7,6 @@ use Rattle.stream_worker.proofs.entries.take_in_place.Given as goal
 abbrev pub invariant-loop-entry : goal.invariant-loop-entry
 invariant-loop-entry g l = record {
   whole : l.yielded ++ l.entry-iterator ≡ l.fn.entries;
-  going : Going g.H.Handler.with_verdict (all_delivered (map copied l.yielded)) (map string_bytes l.initial.ids.items)
+  going : Going g.H.Handler.with_verdict (all_delivered l.yielded) (map string_bytes l.initial.ids.items)
       (map string_bytes l.ids.items) (g.H.Handler.history l.initial.handler) (g.H.Handler.history l.handler);
 }

@@ -1,6 +1,5 @@
 use Rattle.std.proofs.Common.{rules, ◌≡◌, ◌∙◌, ap, sym, append_assoc, ◌∷◌, ◌++◌, []}
 use Rattle.stream_group.specs.Worker.{own}
-use Rattle.stream_refs.specs.Copied.{copied}
 use Rattle.stream_worker.proofs.PhaseLemmas.{behind_next}
 use Rattle.stream_worker.proofs.phases.behind_last.Goals as goal
 
@@ -10,5 +9,5 @@ loop-entry-preserved c =
     record {
       whole = append_assoc c.loop-entry.yielded (c.in-Some.entry ∷ []) c.next.new.self
           ∙ ap (λ t. c.loop-entry.yielded ++ t) (sym next) ∙ c.loop-entry.invariant.whole;
-      last = behind_next copied c.loop-entry.yielded c.in-Some.entry ∙ ap own (sym c.id.ensures);
+      last = behind_next c.loop-entry.yielded c.in-Some.entry ∙ ap own (sym c.id.ensures);
     }

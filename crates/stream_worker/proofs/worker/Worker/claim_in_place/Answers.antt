@@ -14,7 +14,7 @@ returns-in_err-claim_found-in-Some-clause-taken g c =
     answer_taken g.H.Handler.with_verdict _ _ _ _ _ c.from_residual-in_err-claim_found-in-Some.result
     c.in_err-claim_found-in-Some.field-0.0 c.from_residual-in_err-claim_found-in-Some.ensures.1
     (value_failed g.H.Handler.with_verdict _ _ _ _ _ _ c.in-Some.found.len t c.in_err-claim_found-in-Some.field-0.0 c.requires
-    r.reply (c.in_err-claim_found-in-Some.ensures.taken t r.reading) refl c.claim_found.ensures.group c.claim_found.ensures.asked)
+    r.reply (c.in_err-claim_found-in-Some.ensures.taken t r.sent) refl c.claim_found.ensures.group c.claim_found.ensures.asked)
 
 pub returns-in_ok-claim_found-in-Some-clause-taken : goal.returns-in_ok-claim_found-in-Some-clause-taken
 returns-in_ok-claim_found-in-Some-clause-taken g c =
@@ -25,5 +25,5 @@ returns-in_ok-claim_found-in-Some-clause-taken g c =
       deleted = c.in-Some.found.deleted_ids;
     }) in
     value_went g.H.Handler.with_verdict _ _ _ _ _ _ c.in-Some.found.len t c.in_ok-claim_found-in-Some.field-0 c.requires r.reply
-    (c.in_ok-claim_found-in-Some.ensures.taken t r.reading)
+    (c.in_ok-claim_found-in-Some.ensures.taken t r.sent)
     refl c.claim_found.ensures.group c.claim_found.ensures.asked

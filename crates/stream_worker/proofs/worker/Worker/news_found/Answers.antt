@@ -1,5 +1,4 @@
 use Rattle.std.proofs.Common.{Some, string_bytes}
-use Rattle.stream_refs.specs.Copied.{copied_streams}
 use Rattle.stream_worker.specs.Handed.{entries_sent}
 use Rattle.stream_worker.specs.Machine.{machine_of}
 use Rattle.stream_worker.proofs.InPlaceLemmas.{streams_say, memory_taken}
@@ -9,7 +8,7 @@ use Rattle.stream_worker.proofs.worker.Worker.news_found.Goals as goal
 pub returns-in_err-take_in_place-clause-taken : goal.returns-in_err-take_in_place-clause-taken
 returns-in_err-take_in_place-clause-taken g c t reads =
     let is = rw c.deref.ensures at c.in-Some.ensures in
-    let said = streams_say (string_bytes c.args.self.now.settings.key) t (copied_streams c.args.streams)
+    let said = streams_say (string_bytes c.args.self.now.settings.key) t c.args.streams
     (Some (entries_sent c.in-Some.entries)) reads is in
     let next = rw c.replace-phase.ensures.value at c.next_round-next.ensures in
     let moved = rw c.replace-phase.ensures.after at c.in_err-take_in_place.ensures.moved in
@@ -19,7 +18,7 @@ returns-in_err-take_in_place-clause-taken g c t reads =
 pub returns-clause-taken : goal.returns-clause-taken
 returns-clause-taken g c t reads =
     let is = rw c.deref.ensures at c.in-Some.ensures in
-    let said = streams_say (string_bytes c.args.self.now.settings.key) t (copied_streams c.args.streams)
+    let said = streams_say (string_bytes c.args.self.now.settings.key) t c.args.streams
     (Some (entries_sent c.in-Some.entries)) reads is in
     let next = rw c.replace-phase.ensures.value at c.next_round-next.ensures in
     let moved = rw c.replace-phase.ensures.after at c.in_ok-take_in_place.ensures.moved in

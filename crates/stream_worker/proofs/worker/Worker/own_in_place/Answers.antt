@@ -12,7 +12,7 @@ returns-in_err-own_found-in-Some-clause-taken g c =
     (value_failed g.H.Handler.with_verdict _ _ _ _ _ c.args.self.now.asked c.in-Some.found.len t
     c.in_err-own_found-in-Some.field-0.0 refl r.reply
     (own_failed_as_asked g.H.Handler.with_verdict _ t _ _ _ _ c.args.self.now.asked c.in_err-own_found-in-Some.field-0.0
-    c.requires (c.in_err-own_found-in-Some.ensures.taken t r.reading))
+    c.requires (c.in_err-own_found-in-Some.ensures.taken t r.sent))
     (shows_own c.args.self.now.asked c.requires) c.own_found.ensures.group c.own_found.ensures.asked)
 
 pub returns-in_ok-own_found-in-Some-clause-taken : goal.returns-in_ok-own_found-in-Some-clause-taken
@@ -22,5 +22,5 @@ returns-in_ok-own_found-in-Some-clause-taken g c =
     value_went g.H.Handler.with_verdict _ _ _ _ _ c.args.self.now.asked c.in-Some.found.len t
     c.in_ok-own_found-in-Some.field-0 refl r.reply
     (own_as_asked g.H.Handler.with_verdict _ t _ _ _ _ c.args.self.now.asked c.in_ok-own_found-in-Some.field-0
-    c.requires (c.in_ok-own_found-in-Some.ensures.taken t r.reading))
+    c.requires (c.in_ok-own_found-in-Some.ensures.taken t r.sent))
     (shows_own c.args.self.now.asked c.requires) c.own_found.ensures.group c.own_found.ensures.asked
