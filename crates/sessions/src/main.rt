@@ -3,7 +3,8 @@
 //! connections break.
 //!
 //! A script ends with an empty line. Its first line says what is played; a line before it that
-//! begins with `#` is its title. Bytes stand in it as text, with `\r` and `\n` for the ends of lines:
+//! begins with `#` is its title. Bytes stand in it as text, with `\r` and `\n` for the ends of lines, and
+//! `\xff` for any byte:
 //!
 //! | First line | Each other line |
 //! |---|---|
@@ -120,27 +121,38 @@ fn push_exchange(out: &mut String, asked: &str, answer: &str) -> Result<(), Allo
     push_line(out, answer)
 }
 
-/// The bytes that a text of a script is: `\r` and `\n` are ends of lines.
+/// The bytes that a text of a script is: `\r` and `\n` are ends of lines, and `\xff` is any byte.
 fn bytes_of(alloc: Global, text: &str) -> Result<Vec<u8>, AllocError> {
     let mut bytes = Vec::new(alloc);
-    let mut is_escaped = false;
-    for byte in text.as_bytes() {
-        if *byte == b'\\' && !is_escaped {
-            is_escaped = true;
-        } else {
-            bytes.push(if is_escaped { unescaped(*byte) } else { *byte })?;
-            is_escaped = false;
-        }
+    let mut rest = text.as_bytes();
+    for _ in 0..text.len() {
+        let Some((byte, behind)) = first_byte(rest) else {
+            return Ok(bytes);
+        };
+        bytes.push(byte)?;
+        rest = behind;
     }
     Ok(bytes)
 }
 
-/// The byte behind a backslash.
-fn unescaped(byte: u8) -> u8 {
+/// The first byte of a text of a script, and what is behind it.
+fn first_byte(text: &[u8]) -> Option<(u8, &[u8])> {
+    match text {
+        [b'\\', b'x', high, low, rest @ ..] => Some((digit_of(*high) << 4 | digit_of(*low), rest)),
+        [b'\\', b'r', rest @ ..] => Some((b'\r', rest)),
+        [b'\\', b'n', rest @ ..] => Some((b'\n', rest)),
+        [b'\\', byte, rest @ ..] => Some((*byte, rest)),
+        [byte, rest @ ..] => Some((*byte, rest)),
+        [] => None,
+    }
+}
+
+/// The number of a hexadecimal digit, and 0 for another byte.
+fn digit_of(byte: u8) -> u8 {
     match byte {
-        b'r' => b'\r',
-        b'n' => b'\n',
-        byte => byte,
+        b'0'..=b'9' => byte - b'0',
+        b'a'..=b'f' => byte - b'a' + 10,
+        _ => 0,
     }
 }
 
@@ -150,6 +162,7 @@ fn push_bytes(out: &mut String, bytes: &[u8]) -> Result<(), AllocError> {
         match *byte {
             b'\r' => out.push_str("\\r")?,
             b'\n' => out.push_str("\\n")?,
+            128..=255 => write!(out, "\\x{byte:02x}")?,
             byte => out.push(char::from(byte))?,
         }
     }

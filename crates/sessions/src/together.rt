@@ -21,8 +21,8 @@ use std::alloc::{AllocError, Global};
 use std::mem;
 use stream_server::{Protocol, Server, Session};
 use stream_worker::{
-    EntryRef, Handler, InPlaceError, MakeGroup, NotCommitted, RequestError, Settings, Verdict, Worker,
-    WorkerError,
+    EntryRef, Handler, InPlaceError, MakeGroup, NotCommitted, RequestError, Settings, Verdict,
+    Worker, WorkerError,
 };
 
 /// Plays workers over a server in memory; false if the script is another one.
