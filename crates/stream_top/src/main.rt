@@ -7,17 +7,22 @@
 //!
 //! It prints a table as often as the second word says, one a second and one more as soon as an
 //! entry comes: between two tables it waits in `XREAD BLOCK 1000`. Times are those of the server's
-//! clock. It ends with 0, or with 1 where the connection ends, the server answers an error or
+//! clock. In a name a control character stands as `?`, a byte that is no UTF-8 as `\xff`, and a backslash
+//! as `\\`. It ends with 0, or with 1 where the connection ends, the server answers an error or
 //! memory runs out.
 #![tactic(auto)]
 
+mod legible;
+
+use crate::legible::{escaped, legible};
 use anyhow::{Result, anyhow};
-use redis_resp::{FromRedisValue, ToRedisArgs, Value};
+use redis_resp::{FromRedisValue, ToRedisArgs, Value, from_redis_value};
 use redis_streams::{StreamInfoFullConsumer, StreamInfoFullGroup, StreamInfoFullReply};
 use redis_wire::{Limits, Reply, ReplyError, ReplyStream, from_reply, pack_command};
 use std::alloc::{AllocError, Global};
+use std::env::{Env, FillError};
+use std::io;
 use std::io::{Read, Write};
-use std::{env, io};
 use stream_commands::{AtLeastOne, xinfo_stream_full_count, xread_options};
 use stream_options::StreamReadOptions;
 use unicode_width::UnicodeWidthStr;
@@ -33,13 +38,14 @@ const WAIT: usize = 1000;
 fn ask<R: Read, W: Write>(
     alloc: Global,
     connection: &mut Connection<R, W>,
-    key: &str,
+    key: &[u8],
 ) -> Result<(StreamInfoFullReply, usize)> {
     connection.send(alloc, &"TIME")?;
     connection.send(alloc, &xinfo_stream_full_count(key, COUNT))?;
     let (seconds, micros): (usize, usize) = connection.answer(alloc)?;
     let now = seconds.saturating_mul(1000).saturating_add(micros / 1000);
-    let stream: StreamInfoFullReply = connection.answer(alloc)?;
+    let answer: Value = connection.answer(alloc)?;
+    let stream: StreamInfoFullReply = from_redis_value(alloc, legible(alloc, &answer)?)?;
     Ok((stream, now))
 }
 
@@ -47,7 +53,7 @@ fn ask<R: Read, W: Write>(
 fn wait<R: Read, W: Write>(
     alloc: Global,
     connection: &mut Connection<R, W>,
-    key: &str,
+    key: &[u8],
     last_id: &str,
 ) -> Result<()> {
     let options = StreamReadOptions::default().block(WAIT).count(1);
@@ -61,21 +67,36 @@ fn wait<R: Read, W: Write>(
 
 fn main(rt: HostRuntime) -> Result<()> {
     let alloc = rt.alloc();
-    let mut words = env::args(&rt)?.skip(1);
-    let (Some(key), Some(rounds)) = (words.next(), words.next()) else {
+    let (Some(key), Some(rounds)) = (word_at(alloc, &rt, 1)?, word_at(alloc, &rt, 2)?) else {
         return Err(anyhow!("wanted: KEY ROUNDS"));
     };
-    let rounds: u32 = rounds.parse()?;
+    let rounds: u32 = escaped(alloc, &rounds)?.parse()?;
     let mut connection = Connection::new(alloc, rt.reader(), io::writer(&rt));
     for round in 0..rounds {
         let (stream, now) = ask(alloc, &mut connection, &key)?;
-        let text = page(alloc, &key, &stream, now)?;
+        let text = page(alloc, &escaped(alloc, &key)?, &stream, now)?;
         eprint!(rt; "{text}")?;
         if round + 1 < rounds {
             wait(alloc, &mut connection, &key, &stream.last_generated_id)?;
         }
     }
     Ok(())
+}
+
+// A word that the program is called with has no more bytes.
+const LONGEST: usize = 131_072;
+
+// The word of this number that the program is called with, which is any bytes.
+fn word_at<E: Env>(alloc: Global, rt: &E, number: usize) -> Result<Option<Vec<u8>>> {
+    let mut word = vec![in alloc; 0u8; LONGEST]?;
+    match rt.arg(number, &mut word) {
+        Ok(len) => {
+            word.truncate(len);
+            Ok(Some(word))
+        }
+        Err(FillError::NotPresent) => Ok(None),
+        Err(FillError::TooLong) => Err(anyhow!("a word is too long")),
+    }
 }
 
 // So many bytes are read at a time.
