@@ -7,7 +7,7 @@ ghost use Rattle.redis_resp.specs.Source.{all_left};
 ghost use Rattle.redis_resp.specs.Value.{tree};
 ghost use Rattle.stream_refs.specs.Sent.{SentAutoClaim};
 ghost use Rattle.stream_refs.specs.Sent.{Pairs, SentEntry};
-ghost use Rattle.stream_refs.specs.SentMeaning.{octet_pair, octet_pairs, sent_of, claim_of, sent_there};
+ghost use Rattle.stream_refs.specs.SentMeaning.{octet_pair, octet_pairs, sent_of, claim_of};
 ghost use Rattle.stream_refs.specs.SentReading.{octets_reading, octet_pairs_reading, sent_row_reading};
 ghost use Rattle.stream_refs.specs.SentReading.{sent_autoclaim_reading, there};
 ghost use Rattle.stream_refs.specs.SentRefusal.{RefusesOctets, RefusesOctetPair, RefusesOctetPairs};
