@@ -27,8 +27,8 @@ copied_more done more items left all p next is h =
     ∙ append_assoc done (p.0.0.items ++ p.1.0.items) (laid_bytes left) ∙ at
 
 -- The fields found so far, with those whose bytes stand from `at` on, are all.
-pub record IsLaid (bytes : List ℕ) (fields : List FieldPlace) (left : List (Octets × Octets)) (at : ℕ)
-    (all : Pairs) : Type 0 where
+pub record IsLaid (bytes : List ℕ) (all : Pairs) (fields : List FieldPlace) (left : List (Octets × Octets))
+    (at : ℕ) : Type 0 where
   pub are : map (field_in bytes) fields ++ map octet_pair left ≡ all
   pub rest : drop at bytes ≡ laid_bytes left
   pub within : at ≤ length bytes
@@ -36,7 +36,7 @@ pub record IsLaid (bytes : List ℕ) (fields : List FieldPlace) (left : List (Oc
 
 module _ (bytes : List ℕ) (all : Pairs) where
   pub laid_starts : (pairs : List (Octets × Octets)) (fields : List FieldPlace) → fields ≡ []
-      → bytes ≡ laid_bytes pairs → all ≡ map octet_pair pairs → IsLaid bytes fields pairs 0 all
+      → bytes ≡ laid_bytes pairs → all ≡ map octet_pair pairs → IsLaid bytes all fields pairs 0
   laid_starts pairs fields none is are = rw none (record {
     are = sym are;
     rest = is;
@@ -45,13 +45,13 @@ module _ (bytes : List ℕ) (all : Pairs) where
   })
 
   pub laid_ends : (left : List (Octets × Octets)) (fields : List FieldPlace) (at : ℕ) → left ≡ []
-      → IsLaid bytes fields left at all → map (field_in bytes) fields ≡ all
+      → IsLaid bytes all fields left at → map (field_in bytes) fields ≡ all
   laid_ends left fields at none h =
       let done : map (field_in bytes) fields ++ [] ≡ all = rw none at h.are in
       sym (append-nil (map (field_in bytes) fields)) ∙ done
 
   module _ (items left : List (Octets × Octets)) (p : Octets × Octets) (next : items ≡ p ∷ left)
-      (fields : List FieldPlace) (at : ℕ) (h : IsLaid bytes fields items at all) where
+      (fields : List FieldPlace) (at : ℕ) (h : IsLaid bytes all fields items at) where
     name_and_rest : drop at bytes ≡ p.0.0.items ++ (p.1.0.items ++ laid_bytes left)
     name_and_rest =
         let is : drop at bytes ≡ (p.0.0.items ++ p.1.0.items) ++ laid_bytes left = rw next at h.rest in
@@ -85,7 +85,7 @@ module _ (bytes : List ℕ) (all : Pairs) where
           name = record { start = at; len = length p.0.0.items };
           value = record { start = middle; len = length p.1.0.items };
         }
-        → more ≡ fields ++ f ∷ [] → IsLaid bytes more left after all
+        → more ≡ fields ++ f ∷ [] → IsLaid bytes all more left after
     laid_more middle after f more middle_is after_is f_is more_is =
         let end : after ≡ (at + length p.0.0.items) + length p.1.0.items =
         after_is ∙ ap (λ (n : ℕ). n + length p.1.0.items) middle_is in

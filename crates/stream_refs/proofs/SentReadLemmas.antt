@@ -1,48 +1,57 @@
 -- Decoded rows and claims that are read by the number of their members.
 use Rattle.std.proofs.Common.{◌≡◌, ◌⊎◌, ◌∙◌, ℕ, List, [], Bool, true, false, Option, Some, None, option_map, MatchOption}
-use Rattle.std.proofs.Common.{option_and_then, inl, refl, sym, ap}
-use Rattle.std.specs.Option.{is_some}
+use Rattle.std.proofs.Common.{option_and_then, inl, refl, sym, ap, subst}
+use Rattle.std.specs.Option.{is_some, option_or}
 use Rattle.redis_resp.specs.Number.{unsigned_reading}
 use Rattle.redis_resp.specs.Reading.{list_reading, two_in, two_of, two_reading, three_in, three_of, three_reading}
 use Rattle.redis_resp.specs.Reading.{four_in, four_of, four_reading, both_read}
 use Rattle.redis_resp.specs.Then.{◌>>=◌}
-use Rattle.redis_resp.specs.Refusal.{Refuses, RefusesText, RefusesNumber, RefusesList, RefusesTwo, RefusesThree}
+use Rattle.redis_resp.specs.Refusal.{Refuses, RefusesBytes, RefusesText, RefusesNumber, RefusesList, RefusesTwo, RefusesThree}
 use Rattle.redis_resp.specs.Refusal.{RefusesFour}
 use Rattle.redis_resp.specs.Text.{text_reading}
-use Rattle.redis_resp.specs.Tree.{Tree, nil, int, bulk, array, simple, okay, map_of_pairs, attribute, set, boolean}
-use Rattle.redis_resp.specs.Tree.{verbatim, push, plain}
-use Rattle.redis_resp.specs.Bytes.{bytes_of_plain}
+use Rattle.redis_resp.specs.Tree.{Tree}
+use Rattle.redis_resp.specs.Bytes.{bytes_reading}
 use Rattle.redis_resp.specs.declared.value.error.ParsingError.{ParsingError}
-use Rattle.redis_resp.specs.declared.value.error.ParsingError.TheVariants.{NotText, NotTuple, Memory}
+use Rattle.redis_resp.specs.declared.value.error.ParsingError.TheVariants.{NotText, NotBytes, NotTuple, Memory}
 use Rattle.stream_refs.specs.Sent.{Pairs, SentEntry, SentAutoClaim}
 use Rattle.stream_refs.specs.SentReading.{octets_reading, sent_fields_reading, standard_entry, claimed_entry, row_by}
 use Rattle.stream_refs.specs.SentReading.{sent_row_reading, there, claimed_rows_reading, claim_of_two, claim_of_three}
 use Rattle.stream_refs.specs.SentReading.{claim_by, sent_autoclaim_reading}
-use Rattle.stream_refs.specs.SentRefusal.{RefusesSentFields, RefusesSentRow, RefusesClaimedRows, RefusesSentAutoClaim}
+use Rattle.stream_refs.specs.SentRefusal.{RefusesOctets, RefusesSentFields, RefusesSentRow, RefusesClaimedRows, RefusesSentAutoClaim}
 
 -- ---- bytes
 
-plain_again : (t : Tree) → plain (plain t) ≡ plain t
-plain_again (attribute t ps) = plain_again t
-plain_again nil = refl
-plain_again (int z) = refl
-plain_again (bulk b) = refl
-plain_again (array ts) = refl
-plain_again (simple b) = refl
-plain_again okay = refl
-plain_again (map_of_pairs ps) = refl
-plain_again (set ts) = refl
-plain_again (boolean b) = refl
-plain_again (verbatim a b) = refl
-plain_again (push k ts) = refl
-
 -- bytes of a bulk string
-pub octets_are : (t : Tree) (bytes : List ℕ) → bulk bytes ≡ plain t → octets_reading t ≡ Some bytes
-octets_are t bytes is = rw ← is refl
+pub octets_there : (t : Tree) (bytes : List ℕ) → bytes_reading t ≡ Some bytes → octets_reading t ≡ Some bytes
+octets_there t bytes is = rw is refl
+
+or_second : {A : Type 0} (o p : Option A) → is_some o ≡ false → option_or o p ≡ p
+or_second None p h = refl
+or_second (Some x) p h = absurd cc
 
 -- and else those of its text
-pub octets_of_text : (t u : Tree) → u ≡ plain t → bytes_of_plain u ≡ None → octets_reading t ≡ text_reading u
-octets_of_text t u is none = rw (is, plain_again t) (rw (sym is, none) refl)
+pub octets_of_text : (t : Tree) → is_some (bytes_reading t) ≡ false → octets_reading t ≡ text_reading t
+octets_of_text t none = or_second (bytes_reading t) (text_reading t) none
+
+bytes_refused : (o p : Option (List ℕ)) (error : ParsingError) → is_some o ≡ true
+    → MatchOption o (error ≡ NotBytes) (λ _. error ≡ Memory)
+    → MatchOption (option_or o p) (error ≡ NotText) (λ _. error ≡ Memory) × (error ≡ Memory)
+bytes_refused None p error h r = absurd cc
+bytes_refused (Some b) p error h r = (r, r)
+
+pub refused_bytes : (t : Tree) (error : ParsingError) → is_some (bytes_reading t) ≡ true
+    → Refuses bytes_reading RefusesBytes t error → Refuses octets_reading RefusesOctets t error
+refused_bytes t error bulk r =
+    let both = bytes_refused (bytes_reading t) (text_reading t) error bulk r.0 in
+    (both.0, λ e. absurd (e both.1))
+
+pub refused_text : (t : Tree) (error : ParsingError) → is_some (bytes_reading t) ≡ false
+    → Refuses text_reading RefusesText t error → Refuses octets_reading RefusesOctets t error
+refused_text t error none r = (
+  subst (λ (o : Option (List ℕ)). MatchOption o (error ≡ NotText) (λ _. error ≡ Memory)) (sym (octets_of_text t none))
+      r.0,
+  λ e. octets_of_text t none ∙ r.1 e,
+)
 
 -- ---- rows
 

@@ -3,4 +3,4 @@ use Rattle.stream_refs.proofs.LaidLemmas.{laid_bytes}
 use Rattle.stream_refs.proofs.laid.EntryRoom.copy.Given as goal
 
 abbrev pub invariant-loop-name : goal.invariant-loop-name
-invariant-loop-name l = l.self.bytes.items ++ laid_bytes (drop l.name-index l.name-items) ≡ laid_bytes l.pairs
+invariant-loop-name l = l.self.bytes.items ++ laid_bytes (drop l.name-index l.pairs) ≡ laid_bytes l.pairs

@@ -5,6 +5,6 @@ use Rattle.stream_refs.proofs.laid.EntryRoom.place.Given as goal
 
 abbrev pub invariant-loop-name : goal.invariant-loop-name
 invariant-loop-name l = record {
-  bytes : l.self.bytes ≡ l.initial.self.bytes;
-  laid : IsLaid l.self.bytes.items l.self.fields.items (drop l.name-index l.name-items) l.at (map octet_pair l.pairs);
+  bytes : l.self.bytes ≡ l.fn.self.bytes;
+  laid : IsLaid l.fn.self.bytes.items (map octet_pair l.pairs) l.self.fields.items (drop l.name-index l.pairs) l.at;
 }
