@@ -79,22 +79,21 @@ module _ (bytes : List ℕ) (all : Pairs) where
           h.within,
         )
 
-    pub laid_more : (middle after : ℕ) (f : FieldPlace) (more : List FieldPlace) → middle ≡ at + length p.0.0.items
-        → after ≡ middle + length p.1.0.items
-        → f ≡ record {
-          name = record { start = at; len = length p.0.0.items };
-          value = record { start = middle; len = length p.1.0.items };
-        }
+    pub laid_more : (middle after n m : ℕ) (f : FieldPlace) (more : List FieldPlace)
+        → middle ≡ at + length p.0.0.items → after ≡ middle + length p.1.0.items
+        → n ≡ length p.0.0.items → m ≡ length p.1.0.items
+        → f ≡ record { name = record { start = at; len = n }; value = record { start = middle; len = m } }
         → more ≡ fields ++ f ∷ [] → IsLaid bytes all more left after
-    laid_more middle after f more middle_is after_is f_is more_is =
+    laid_more middle after n m f more middle_is after_is n_is m_is f_is more_is =
         let end : after ≡ (at + length p.0.0.items) + length p.1.0.items =
-        after_is ∙ ap (λ (n : ℕ). n + length p.1.0.items) middle_is in
+        after_is ∙ ap (λ (x : ℕ). x + length p.1.0.items) middle_is in
         let name : text_in bytes f.name ≡ p.0.0.items =
-        ap (λ (x : FieldPlace). text_in bytes x.name) f_is ∙ ap (take (length p.0.0.items)) name_and_rest
+        ap (λ (x : FieldPlace). text_in bytes x.name) f_is ∙ ap (λ (x : ℕ). take x (drop at bytes)) n_is
+        ∙ ap (take (length p.0.0.items)) name_and_rest
         ∙ take-append_seam p.0.0.items (p.1.0.items ++ laid_bytes left) in
         let val : text_in bytes f.value ≡ p.1.0.items =
-        ap (λ (x : FieldPlace). text_in bytes x.value) f_is
-        ∙ ap (λ (n : ℕ). take (length p.1.0.items) (drop n bytes)) middle_is
+        ap (λ (x : FieldPlace). text_in bytes x.value) f_is ∙ ap (λ (x : ℕ). take x (drop middle bytes)) m_is
+        ∙ ap (λ (x : ℕ). take (length p.1.0.items) (drop x bytes)) middle_is
         ∙ ap (take (length p.1.0.items)) value_and_rest ∙ take-append_seam p.1.0.items (laid_bytes left) in
         let field : field_in bytes f ≡ octet_pair p =
         ap (λ (x : List ℕ). (x, text_in bytes f.value)) name ∙ ap (λ (x : List ℕ). (p.0.0.items, x)) val in
@@ -103,13 +102,13 @@ module _ (bytes : List ℕ) (all : Pairs) where
         ∙ ap (λ (x : List ℕ × List ℕ). map (field_in bytes) fields ++ x ∷ []) field in
         let before : map (field_in bytes) fields ++ octet_pair p ∷ map octet_pair left ≡ all = rw next at h.are in
         let in_bytes : IsField bytes f = rw f_is (record {
-          name = omega (arith, pair_within);
-          value = omega (arith, pair_within, middle_is);
+          name = omega (arith, n_is, pair_within);
+          value = omega (arith, m_is, middle_is, pair_within);
         }) in
         record {
           are = ap (λ (x : Pairs). x ++ map octet_pair left) fields_are
               ∙ append_assoc (map (field_in bytes) fields) (octet_pair p ∷ []) (map octet_pair left) ∙ before;
-          rest = ap (λ (n : ℕ). drop n bytes) end ∙ rest_left;
+          rest = ap (λ (x : ℕ). drop x bytes) end ∙ rest_left;
           within = omega (arith, end, pair_within);
           each = rw more_is (all_append (IsField bytes) fields (f ∷ []) h.each (in_bytes, tt));
         }
