@@ -1,6 +1,7 @@
 -- Decoded claims that are read by the number of their members.
 use Rattle.std.proofs.Common.{◌≡◌, ◌∙◌, ℕ, List, [], Bool, true, false, Option, Some, None, option_map, MatchOption}
-use Rattle.std.proofs.Common.{option_and_then, refl, ap}
+use Rattle.std.proofs.Common.{option_and_then, Result, Ok, Err, IfErr, refl, ap, sym, subst}
+use Rattle.std.specs.Result.{IsErrAnd}
 use Rattle.std.specs.Option.{is_some}
 use Rattle.redis_resp.specs.Reading.{list_reading, two_in, two_of, two_reading, three_reading}
 use Rattle.redis_resp.specs.Refusal.{Refuses, RefusesText, RefusesList, RefusesTwo, RefusesThree}
@@ -79,3 +80,9 @@ claim_refused_three t error other r = (
   refused_claim_three (two_in t) t error other r.0,
   λ e. claim_three (two_in t) t other ∙ ap (option_map claim_of_three) (r.1 e),
 )
+
+-- the error that is passed on
+pub err_is : {A : Type 0} (r : Result A ParsingError) (error : ParsingError) (P : ParsingError → Type 0)
+    → IsErrAnd r (λ e. e ≡ error) → P error → IfErr r P
+err_is (Ok x) error P is p = tt
+err_is (Err e) error P is p = subst P (sym is) p
