@@ -1,5 +1,5 @@
 -- Names and values that are laid out one behind the other, and where they stand.
-use Rattle.std.proofs.Common.{◌≡◌, ◌≤◌, ◌+◌, ◌∙◌, ℕ, List, [], ◌∷◌, ◌++◌, map, flat_map, length, take, drop, refl, sym}
+use Rattle.std.proofs.Common.{◌≡◌, ◌≤◌, ◌+◌, ◌∙◌, ℕ, List, [], ◌∷◌, ◌++◌, map, flat_map, length, take, drop, sym}
 use Rattle.std.proofs.Common.{ap, arith, append_assoc, append-nil, drop-drop}
 use Rattle.std.specs.List.{AllByRecursion}
 use Rattle.std.proofs.lemmas.List.{length-append, length-drop}

@@ -1,8 +1,7 @@
 -- Items that are looked at one by one, each of a kind, and why no record is made of them.
-use Rattle.std.proofs.Common.{◌≡◌, ◌<◌, ◌+◌, ◌∙◌, ℕ, List, [], ◌∷◌, map, length, drop, true, Option, Some, None, inl, inr}
-use Rattle.std.proofs.Common.{⊎_elim, ap, sym, refl, add-one}
+use Rattle.std.proofs.Common.{◌≡◌, ◌<◌, ◌+◌, ◌∙◌, ℕ, List, [], ◌∷◌, map, length, drop, Option, Some, None, inl, inr}
+use Rattle.std.proofs.Common.{⊎_elim, ap, sym, add-one}
 use Rattle.std.specs.List.{AllByRecursion}
-use Rattle.std.specs.Str.{is_utf8}
 use Rattle.std.proofs.Math.ListN.{get_or}
 use Rattle.std.proofs.Math.Seq.{drop-cons}
 use Rattle.redis_resp.specs.declared.value.error.ParsingError.{ParsingError}

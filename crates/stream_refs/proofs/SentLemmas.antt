@@ -1,5 +1,5 @@
 -- What entries as servers send them read as, with their fields in order and names of any bytes.
-use Rattle.std.proofs.Common.{◌≡◌, ◌<◌, ◌^◌, ◌∙◌, ℕ, List, [], ◌∷◌, map, Bool, true, false, Option, Some, None}
+use Rattle.std.proofs.Common.{◌≡◌, ◌<◌, ◌^◌, ℕ, List, [], ◌∷◌, map, Bool, true, false, Option, Some, None}
 use Rattle.std.proofs.Common.{option_map, refl, sym, ap}
 use Rattle.std.specs.List.{AllByRecursion}
 use Rattle.std.specs.Str.{is_utf8}
@@ -13,7 +13,7 @@ use Rattle.redis_resp.proofs.TreeLemmas.{listed_trees, listed_pairs}
 use Rattle.stream_entries.specs.Rows.{joined}
 use Rattle.stream_refs.specs.Sent.{Pairs, SentEntry, SentStream, SentAutoClaim, members_of, fields_tree, row_tree}
 use Rattle.stream_refs.specs.Sent.{rows_tree, stream_tree, stream_pair, IsReadTree, AreNamed, AreAllNamed, IsTextEntry}
-use Rattle.stream_refs.specs.Sent.{IsTextStream, IsStandard, IsClaimed}
+use Rattle.stream_refs.specs.Sent.{IsTextStream}
 use Rattle.stream_refs.specs.AutoClaim.{ids_tree, autoclaim_tree}
 use Rattle.stream_refs.specs.SentReading.{octets_reading, octet_pairs_reading, sent_fields_reading, sent_row_reading}
 use Rattle.stream_refs.specs.SentReading.{sent_stream, sent_streams_reading, there, claimed_rows_reading}

@@ -204,11 +204,7 @@ fn text_of(bytes: &[u8]) -> Result<&str, ParsingError>
 }
 
 /// A copy of the field that stands there.
-fn pair_at(
-    alloc: Global,
-    bytes: &[u8],
-    place: FieldPlace,
-) -> Result<(String, Value), ParsingError>
+fn pair_at(alloc: Global, bytes: &[u8], place: FieldPlace) -> Result<(String, Value), ParsingError>
     requires { IsField bytes.now place }
     ensures name { IfOk result (λ p. string_bytes p.0 ≡ (field_in bytes.now place).0) }
     ensures value { IfOk result (λ p. tree p.1 ≡ bulk (field_in bytes.now place).1) }
