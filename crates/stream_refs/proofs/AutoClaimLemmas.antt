@@ -33,8 +33,9 @@ use Rattle.stream_refs.specs.AddedIds.{deleted_count, IdsAdded, DeletedAdded, Is
 use Rattle.stream_refs.proofs.FillLemmas.{array_of}
 use Rattle.stream_refs.proofs.ManyLemmas.{many_first}
 use Rattle.stream_refs.proofs.RowLemmas.{range_read}
-use Rattle.stream_refs.proofs.RangeLemmas.{texts_told, standard_told, rows_of, reply_is}
+use Rattle.stream_refs.proofs.RangeLemmas.{sent_told, standard_told, rows_of, reply_is}
 use Rattle.stream_refs.proofs.IdLemmas.{ids_told}
+use Rattle.stream_refs.proofs.SentLemmas.{named_entries, sent_claim_read}
 
 -- ---- its reading
 
@@ -46,7 +47,7 @@ texts_read : (ids : List (List ℕ)) → AllByRecursion (λ i. is_utf8 i ≡ tru
 texts_read [] h = refl
 texts_read (i ∷ ids) h = rw (h.0, texts_read ids h.1) refl
 
-ids_read : (ids : List (List ℕ)) → AllByRecursion (λ i. is_utf8 i ≡ true) ids
+pub ids_read : (ids : List (List ℕ)) → AllByRecursion (λ i. is_utf8 i ≡ true) ids
     → list_reading text_reading (ids_tree ids) ≡ Some ids
 ids_read ids h = rw (listed_trees (map bulk ids), texts_read ids h) refl
 
@@ -161,6 +162,8 @@ module _ (limits : Limits) (bytes : List ℕ) (told : Bool) (next : Span) (count
           let each : AllByRecursion (IsField bytes) mid.fields = rw fields_are at all_fields in
           let d : suc (suc (suc (suc (suc (limits.depth - 5))))) ≡ limits.depth = omega arith in
           let rows = rows_of bytes mid.fields h.grown.more in
+          let entries_sent = sent_told bytes mid.fields each false h.grown.more h.grown.entries h.grown.forms in
+          let ids = ids_told bytes deleted.grown.more deleted.grown.each in
           let read = claim_read (suc (suc (suc (limits.depth - 5)))) (map row_tree found.claimed)
           (deleted_trees told found.deleted) (rw rows at (h.reads (limits.depth - 5)))
           (deleted.reads (suc (suc (limits.depth - 5)))) in
@@ -169,10 +172,9 @@ module _ (limits : Limits) (bytes : List ℕ) (told : Bool) (next : Span) (count
             told = told;
             reply = reply_is limits (suc (suc (suc (suc (suc (limits.depth - 5)))))) bytes (autoclaim_tree told found)
                 len d deleted.end read;
-            reading = autoclaim_read told found head.is_text
-                (texts_told bytes mid.fields each h.grown.more h.grown.entries)
-                (standard_told bytes mid.fields each h.grown.more h.grown.forms)
-                (ids_told bytes deleted.grown.more deleted.grown.each) none_told;
+            sent = sent_claim_read told found head.is_text entries_sent (ids_read found.deleted ids) none_told;
+            reading = λ named. autoclaim_read told found head.is_text (named_entries found.claimed entries_sent named)
+                (standard_told bytes mid.fields each h.grown.more h.grown.forms) ids none_told;
           }
 
       pub autoclaim_is : 5 ≤ limits.depth → IsAutoClaim limits bytes

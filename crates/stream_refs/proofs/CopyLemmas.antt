@@ -71,9 +71,9 @@ copied_more bytes f left all done c = record {
 }
 
 pub copy_goes : (bytes : List ℕ) (places : List FieldPlace) (i : ℕ) (d : FieldPlace) (all : Pairs)
-    (done more : Fields Tree) (name value : List ℕ) → i < length places
-    → name ≡ text_in bytes (get_or places i d).name → value ≡ text_in bytes (get_or places i d).value
-    → more ≡ insert done name (bulk value)
+    (done more : Fields Tree) (name : List ℕ) (value : Tree) → i < length places
+    → name ≡ (field_in bytes (get_or places i d)).0 → value ≡ bulk (field_in bytes (get_or places i d)).1
+    → more ≡ insert done name value
     → Copied bytes (drop i places) all done → Copied bytes (drop (i + 1) places) all more
 copy_goes bytes places i d all done more name value lt named valued put c =
     let next : drop i places ≡ get_or places i d ∷ drop (i + 1) places =
@@ -81,7 +81,7 @@ copy_goes bytes places i d all done more name value lt named valued put c =
     rw (put, named, valued)
     (copied_more bytes (get_or places i d) (drop (i + 1) places) all done (rw next at c))
 
-none_left : {A : Type 0} (xs : List A) (i : ℕ) → length xs ≤ i → drop i xs ≡ []
+pub none_left : {A : Type 0} (xs : List A) (i : ℕ) → length xs ≤ i → drop i xs ≡ []
 none_left [] zero h = refl
 none_left [] (suc i) h = refl
 none_left (x ∷ xs) zero h = absurd (omega (arith, h))

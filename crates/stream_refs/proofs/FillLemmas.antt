@@ -55,10 +55,9 @@ module _ (limits : Limits) (bytes : List ℕ) (at : ℕ) (old : Held) where
 
   pub fields_more : (i behind middle after : ℕ) (f : FieldPlace) (fields new : Held)
       → FieldsAdded limits bytes at i behind old fields
-      → IsTextAt limits bytes behind f.name middle → is_utf8 (text_in bytes f.name) ≡ true
-      → IsTextAt limits bytes middle f.value after
+      → IsTextAt limits bytes behind f.name middle → IsTextAt limits bytes middle f.value after
       → new ≡ with_fields fields (fields.fields ++ f ∷ []) → FieldsAdded limits bytes at (i + 1) after old new
-  fields_more i behind middle after f fields new h name text val pushed =
+  fields_more i behind middle after f fields new h name val pushed =
       let g = h.grown in
       record {
         grown = record {
@@ -66,7 +65,7 @@ module _ (limits : Limits) (bytes : List ℕ) (at : ℕ) (old : Held) where
           is = pushed ∙ ap (λ (x : Held). with_fields x (x.fields ++ f ∷ [])) g.is
               ∙ ap (with_fields old) (append_assoc old.fields g.more (f ∷ []));
           each = all_append (IsField bytes) g.more (f ∷ []) g.each
-              (record { name = name.within; value = val.within; is_text = text }, tt);
+              (record { name = name.within; value = val.within }, tt);
         };
         end = val.end;
         reads = λ d.

@@ -3,8 +3,12 @@ pub mod ManyLemmas
 pub mod FillLemmas
 pub mod GetLemmas
 pub mod CopyLemmas
+pub mod NamedLemmas
 pub mod AgreeLemmas
 pub mod RowLemmas
+pub mod SentLemmas
+pub mod SentReadLemmas
+pub mod LaidLemmas
 pub mod RangeLemmas
 pub mod StreamLemmas
 pub mod ReadLemmas

@@ -1,8 +1,7 @@
 -- Entries that are found are those of a reply.
-use Rattle.std.proofs.Common.{◌≡◌, ◌≤◌, ◌-◌, ◌∙◌, ℕ, zero, suc, List, [], ◌∷◌, map, length, take, drop, Bool, true}
+use Rattle.std.proofs.Common.{◌≡◌, ◌≤◌, ◌<◌, ◌^◌, ◌-◌, ◌∙◌, ℕ, zero, suc, List, [], ◌∷◌, map, length, take, drop, Bool, true}
 use Rattle.std.proofs.Common.{false, cond, ◌==◌, None, Ok, refl, sym, ap, arith}
 use Rattle.std.specs.List.{AllByRecursion}
-use Rattle.std.specs.Str.{is_utf8}
 use Rattle.std.proofs.lemmas.Bool.{eqb-true}
 use Rattle.std.proofs.lemmas.List.{length-drop}
 use Rattle.redis_resp.specs.Tree.{Tree}
@@ -17,13 +16,13 @@ use Rattle.redis_wire.proofs.DecodeLemmas.{any_sound}
 use Rattle.stream_refs.specs.declared.places.FieldPlace.{FieldPlace}
 use Rattle.stream_refs.specs.declared.places.EntryPlace.{EntryPlace}
 use Rattle.stream_refs.specs.Held.{Held, none_held}
-use Rattle.stream_refs.specs.Sent.{Pairs, SentEntry, row_tree, rows_tree, AreTextFields, IsTextEntry, IsStandard}
-use Rattle.stream_refs.specs.Sent.{IsClaimed}
-use Rattle.stream_refs.specs.Placed.{field_in, fields_if, delivery_if, own_fields, entry_in, IsField, IsEntry}
+use Rattle.stream_refs.specs.Sent.{SentEntry, row_tree, rows_tree, IsStandard, IsClaimed}
+use Rattle.stream_refs.specs.Placed.{delivery_if, entry_in, IsField, IsEntry}
 use Rattle.stream_refs.specs.Added.{IsForm, EntriesAdded}
 use Rattle.stream_refs.specs.Range.{IsRange}
 use Rattle.stream_refs.proofs.FillLemmas.{array_of}
 use Rattle.stream_refs.proofs.RowLemmas.{range_read}
+use Rattle.stream_refs.proofs.SentLemmas.{Fits, IsSent, named_entries, sent_rows_read}
 
 pub all_taken : {A : Type 0} (P : A → Type 0) (n : ℕ) (xs : List A) → AllByRecursion P xs → AllByRecursion P (take n xs)
 all_taken P zero xs h = tt
@@ -36,30 +35,19 @@ all_dropped P zero xs h = h
 all_dropped P (suc n) [] h = tt
 all_dropped P (suc n) (x ∷ xs) h = all_dropped P n xs h.1
 
-names_told : (bytes : List ℕ) (fs : List FieldPlace) → AllByRecursion (IsField bytes) fs
-    → AllByRecursion (λ p. is_utf8 p.0 ≡ true) (map (field_in bytes) fs)
-names_told bytes [] h = tt
-names_told bytes (f ∷ fs) h = (h.0.is_text, names_told bytes fs h.1)
-
-fields_told : (deleted : Bool) (ps : Pairs) → AllByRecursion (λ p. is_utf8 p.0 ≡ true) ps
-    → AreTextFields (fields_if deleted ps)
-fields_told true ps h = tt
-fields_told false ps h = h
+delivery_fits : (claim : Bool) (elapsed count : ℕ) → elapsed < 2 ^ 64 → count < 2 ^ 64
+    → Fits (delivery_if claim elapsed count)
+delivery_fits true elapsed count short few = (short, few)
+delivery_fits false elapsed count short few = tt
 
 module _ (bytes : List ℕ) (fields : List FieldPlace) (each : AllByRecursion (IsField bytes) fields) where
-  pub texts_told : (es : List EntryPlace) → AllByRecursion (IsEntry bytes (length fields)) es
-      → AllByRecursion IsTextEntry (map (entry_in bytes fields) es)
-  texts_told [] h = tt
-  texts_told (e ∷ es) h =
-      let own = all_taken (IsField bytes) (e.to - e.from) (drop e.from fields)
-      (all_dropped (IsField bytes) e.from fields each) in (
-        record {
-          id = h.0.is_text;
-          names = fields_told e.deleted (map (field_in bytes) (own_fields fields e))
-              (names_told bytes (own_fields fields e) own);
-        },
-        texts_told es h.1,
-      )
+  pub sent_told : (claim : Bool) (es : List EntryPlace) → AllByRecursion (IsEntry bytes (length fields)) es
+      → AllByRecursion (IsForm claim) es → AllByRecursion IsSent (map (entry_in bytes fields) es)
+  sent_told claim [] h f = tt
+  sent_told claim (e ∷ es) h f = (
+    record { id = h.0.is_text; delivery = delivery_fits e.delivered e.elapsed e.count f.0.elapsed f.0.count },
+    sent_told claim es h.1 f.1,
+  )
 
   pub standard_told : (es : List EntryPlace) → AllByRecursion (IsForm false) es
       → AllByRecursion IsStandard (map (entry_in bytes fields) es)
@@ -114,8 +102,8 @@ range_is limits bytes at count len held es deep head h is =
     let all_fields : AllByRecursion (IsField bytes) held.fields = rw fields_are h.grown.fields in
     let es_are : es ≡ map (entry_in bytes held.fields) h.grown.more =
     is ∙ ap (map (entry_in bytes held.fields)) entries_are in
-    let texts : AllByRecursion IsTextEntry es =
-    rw es_are (texts_told bytes held.fields all_fields h.grown.more h.grown.entries) in
+    let es_sent : AllByRecursion IsSent es =
+    rw es_are (sent_told bytes held.fields all_fields false h.grown.more h.grown.entries h.grown.forms) in
     let forms : AllByRecursion IsStandard es =
     rw es_are (standard_told bytes held.fields all_fields h.grown.more h.grown.forms) in
     let d : suc (suc (suc (suc (limits.depth - 4)))) ≡ limits.depth = omega arith in
@@ -129,5 +117,6 @@ range_is limits bytes at count len held es deep head h is =
     record {
       within = h.end;
       reply = reply_is limits (suc (suc (suc (suc (limits.depth - 4))))) bytes (rows_tree es) len d h.end read;
-      reading = range_read es texts forms;
+      sent = sent_rows_read es es_sent;
+      reading = λ named. range_read es (named_entries es es_sent named) forms;
     }

@@ -24,13 +24,14 @@ use Rattle.stream_refs.specs.declared.places.EntryPlace.{EntryPlace}
 use Rattle.stream_refs.specs.declared.places.StreamPlace.{StreamPlace}
 use Rattle.stream_refs.specs.Held.{Held, none_held}
 use Rattle.stream_refs.specs.Sent.{SentStream, rows_tree, stream_tree, stream_pair, IsReadTree, IsTextStream}
-use Rattle.stream_refs.specs.Sent.{IsStandard, IsClaimed}
+use Rattle.stream_refs.specs.Sent.{IsStandard, IsClaimed, AreAllNamed}
 use Rattle.stream_refs.specs.Copied.{copied, copied_stream, copied_streams}
 use Rattle.stream_refs.specs.Placed.{own_entries, stream_in, IsField, IsEntry, IsStream}
 use Rattle.stream_refs.specs.Added.{stream_members, IsForm, StreamsAdded, IsFilled}
 use Rattle.stream_refs.specs.Range.{IsRead}
 use Rattle.stream_refs.proofs.FillLemmas.{array_of}
-use Rattle.stream_refs.proofs.RangeLemmas.{all_taken, all_dropped, texts_told, standard_told, claimed_told, reply_is}
+use Rattle.stream_refs.proofs.RangeLemmas.{all_taken, all_dropped, sent_told, standard_told, claimed_told, reply_is}
+use Rattle.stream_refs.proofs.SentLemmas.{IsSentStream, named_streams, sent_streams_read}
 use Rattle.stream_refs.proofs.RowLemmas.{range_entries, claimed_entries, claimed_standard}
 use Rattle.stream_refs.proofs.AgreeLemmas.{Agrees, agrees_map, agrees_all, agrees_or}
 
@@ -259,21 +260,25 @@ claimed_read ss t is h f = agrees_or (streams_reading standard_entries t) (strea
 
 module _ (bytes : List ℕ) (entries : List EntryPlace) (fields : List FieldPlace)
     (each : AllByRecursion (IsField bytes) fields) where
-  streams_told : AllByRecursion (IsEntry bytes (length fields)) entries → (ss : List StreamPlace)
-      → AllByRecursion (IsStream bytes (length entries)) ss
-      → AllByRecursion IsTextStream (map (stream_in bytes entries fields) ss)
-  streams_told all [] h = tt
-  streams_told all (s ∷ ss) h =
-      let own = all_taken (IsEntry bytes (length fields)) (s.to - s.from) (drop s.from entries)
-      (all_dropped (IsEntry bytes (length fields)) s.from entries all) in (
-        record { name = h.0.is_text; entries = texts_told bytes fields each (own_entries entries s) own },
-        streams_told all ss h.1,
-      )
-
   own_forms : (claim : Bool) → AllByRecursion (IsForm claim) entries → (s : StreamPlace)
       → AllByRecursion (IsForm claim) (own_entries entries s)
   own_forms claim forms s =
       all_taken (IsForm claim) (s.to - s.from) (drop s.from entries) (all_dropped (IsForm claim) s.from entries forms)
+
+  sent_streams : AllByRecursion (IsEntry bytes (length fields)) entries → (claim : Bool)
+      → AllByRecursion (IsForm claim) entries → (ss : List StreamPlace)
+      → AllByRecursion (IsStream bytes (length entries)) ss
+      → AllByRecursion IsSentStream (map (stream_in bytes entries fields) ss)
+  sent_streams all claim forms [] h = tt
+  sent_streams all claim forms (s ∷ ss) h =
+      let own = all_taken (IsEntry bytes (length fields)) (s.to - s.from) (drop s.from entries)
+      (all_dropped (IsEntry bytes (length fields)) s.from entries all) in (
+        record {
+          name = h.0.is_text;
+          entries = sent_told bytes fields each claim (own_entries entries s) own (own_forms claim forms s);
+        },
+        sent_streams all claim forms ss h.1,
+      )
 
   standard_streams : AllByRecursion (IsForm false) entries → (ss : List StreamPlace)
       → AllByRecursion IsStandardStream (map (stream_in bytes entries fields) ss)
@@ -287,18 +292,26 @@ module _ (bytes : List ℕ) (entries : List EntryPlace) (fields : List FieldPlac
   claimed_streams forms (s ∷ ss) =
       (claimed_told bytes fields each (own_entries entries s) (own_forms true forms s), claimed_streams forms ss)
 
+sent_by : (limits : Limits) (bytes : List ℕ) (claim : Bool) (len : ℕ) (held : Held)
+    → IsFilled limits bytes claim len held
+    → AllByRecursion IsSentStream (map (stream_in bytes held.entries held.fields) held.streams)
+sent_by limits bytes claim len held h =
+    let w = h.within in
+    sent_streams bytes held.entries held.fields w.fields w.entries claim w.forms held.streams w.streams
+
 read_by : (limits : Limits) (bytes : List ℕ) (claim : Bool) (len : ℕ) (held : Held)
     → (h : IsFilled limits bytes claim len held)
+    → AreAllNamed (map (stream_in bytes held.entries held.fields) held.streams)
     → read_reading h.tree ≡ Some (copied_streams (map (stream_in bytes held.entries held.fields) held.streams))
-read_by limits bytes false len held h =
+read_by limits bytes false len held h named =
     let w = h.within in
-    standard_read (map (stream_in bytes held.entries held.fields) held.streams) h.tree h.is
-    (streams_told bytes held.entries held.fields w.fields w.entries held.streams w.streams)
+    let ss = map (stream_in bytes held.entries held.fields) held.streams in
+    standard_read ss h.tree h.is (named_streams ss (sent_by limits bytes false len held h) named)
     (standard_streams bytes held.entries held.fields w.fields w.forms held.streams)
-read_by limits bytes true len held h =
+read_by limits bytes true len held h named =
     let w = h.within in
-    claimed_read (map (stream_in bytes held.entries held.fields) held.streams) h.tree h.is
-    (streams_told bytes held.entries held.fields w.fields w.entries held.streams w.streams)
+    let ss = map (stream_in bytes held.entries held.fields) held.streams in
+    claimed_read ss h.tree h.is (named_streams ss (sent_by limits bytes true len held h) named)
     (claimed_streams bytes held.entries held.fields w.fields w.forms held.streams)
 
 -- the streams of either form
@@ -311,5 +324,7 @@ read_is limits bytes claim len held ss h is =
       tree = h.tree;
       is = h.is;
       reply = h.reply;
+      sent = sent_streams_read (map (stream_in bytes held.entries held.fields) held.streams) h.tree h.is
+          (sent_by limits bytes claim len held h);
       reading = read_by limits bytes claim len held h;
     })

@@ -17,7 +17,7 @@ use Rattle.stream_refs.specs.Copied.{pairs_or_none, copied}
 use Rattle.stream_refs.proofs.AgreeLemmas.{Agrees}
 
 -- the pairs of names and values that stand in turn
-pairs_of_members : (ps : Pairs) → two_by_two (members_of ps) ≡ Some (map (λ p. (bulk p.0, bulk p.1)) ps)
+pub pairs_of_members : (ps : Pairs) → two_by_two (members_of ps) ≡ Some (map (λ p. (bulk p.0, bulk p.1)) ps)
 pairs_of_members [] = refl
 pairs_of_members (p ∷ ps) = rw (pairs_of_members ps) refl
 

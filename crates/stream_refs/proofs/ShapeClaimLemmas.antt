@@ -11,20 +11,20 @@ use Rattle.redis_wire.specs.Level.{value_at}
 use Rattle.redis_wire.specs.Packed.{bulk_bytes}
 use Rattle.redis_wire.specs.Written.{count_bytes}
 use Rattle.redis_wire.specs.Place.{BeginsWithArray}
-use Rattle.stream_entries.specs.AutoClaim.{AutoClaim, autoclaim_reading}
+use Rattle.stream_refs.specs.SentReading.{sent_autoclaim_reading}
 use Rattle.stream_entries.specs.JustId.{JustId, justid_reading}
-use Rattle.stream_refs.specs.Sent.{Pairs, SentEntry, rows_tree, AreTextFields, IsTextEntry, IsStandard}
+use Rattle.stream_refs.specs.Sent.{SentEntry, SentAutoClaim, rows_tree}
 use Rattle.stream_refs.specs.AutoClaim.{ids_tree, deleted_trees, autoclaim_tree, justid_tree}
-use Rattle.stream_refs.specs.Sent.{SentAutoClaim}
-use Rattle.stream_refs.specs.AutoClaim.{copied_autoclaim, IsAutoClaim, IsJustId}
+use Rattle.stream_refs.specs.AutoClaim.{IsAutoClaim, IsJustId}
 use Rattle.stream_refs.specs.AddedIds.{deleted_count}
 use Rattle.stream_refs.specs.Shapes.{NilForm, entry_bytes, rows_bytes, ids_bytes, deleted_bytes, claim_start}
-use Rattle.stream_refs.specs.Shapes.{autoclaim_bytes, justid_bytes, AllowsRows, IsName, IsPair, ArePairs, IsOfForm}
+use Rattle.stream_refs.specs.Shapes.{autoclaim_bytes, justid_bytes, AllowsRows, IsName, IsOfForm}
 use Rattle.stream_refs.specs.Shapes.{IsEntryOf, AreIdsOf, AreDeleted, BeginsWithAutoClaim, BeginsWithJustId}
 use Rattle.stream_refs.proofs.ManyLemmas.{no_more, many_first}
-use Rattle.stream_refs.proofs.AutoClaimLemmas.{autoclaim_read, justid_read}
+use Rattle.stream_refs.proofs.AutoClaimLemmas.{justid_read, ids_read as texts_read}
+use Rattle.stream_refs.proofs.SentLemmas.{Fits, IsSent, sent_claim_read}
 use Rattle.stream_refs.proofs.BeginLemmas.{head_begins, rows_split}
-use Rattle.stream_refs.proofs.ShapeLemmas.{text_reads, array_reads, rows_read, same_trees, same_rows_tree, one_reply}
+use Rattle.stream_refs.proofs.ShapeLemmas.{text_reads, array_reads, rows_read, one_reply}
 use Rattle.stream_refs.proofs.ShapeLemmas.{len_same}
 
 -- ---- the parts of the bytes
@@ -145,29 +145,21 @@ module _ (limits : Limits) (allows : AllowsRows limits) where
 
 -- ---- texts
 
-names_told : (limits : Limits) (ps : Pairs) → AllByRecursion (IsPair limits) ps
-    → AllByRecursion (λ p. is_utf8 p.0 ≡ true) ps
-names_told limits [] h = tt
-names_told limits (p ∷ ps) h = (h.0.name.is_text, names_told limits ps h.1)
-
-fields_told : (limits : Limits) (fs : Option Pairs) → ArePairs limits fs → AreTextFields fs
-fields_told limits None h = tt
-fields_told limits (Some ps) h = names_told limits ps h.1
-
-texts_told : (limits : Limits) (es : List SentEntry) → AllByRecursion (IsEntryOf limits false) es
-    → AllByRecursion IsTextEntry es
-texts_told limits [] h = tt
-texts_told limits (e ∷ es) h =
-    (record { id = h.0.id.is_text; names = fields_told limits e.fields h.0.pairs }, texts_told limits es h.1)
-
 no_delivery : (d : Option (ℕ × ℕ)) → IsOfForm false d → d ≡ None
 no_delivery None h = refl
 no_delivery (Some d) h = absurd h
 
-forms_told : (limits : Limits) (es : List SentEntry) → AllByRecursion (IsEntryOf limits false) es
-    → AllByRecursion IsStandard es
-forms_told limits [] h = tt
-forms_told limits (e ∷ es) h = (no_delivery e.delivery h.0.form, forms_told limits es h.1)
+no_fits : (d : Option (ℕ × ℕ)) → d ≡ None → Fits d
+no_fits None e = tt
+no_fits (Some d) e = absurd cc
+
+sent_told : (limits : Limits) (es : List SentEntry) → AllByRecursion (IsEntryOf limits false) es
+    → AllByRecursion IsSent es
+sent_told limits [] h = tt
+sent_told limits (e ∷ es) h = (
+  record { id = h.0.id.is_text; delivery = no_fits e.delivery (no_delivery e.delivery h.0.form) },
+  sent_told limits es h.1,
+)
 
 ids_told : (limits : Limits) (ids : List (List ℕ)) → AllByRecursion (IsName limits) ids
     → AllByRecursion (λ i. is_utf8 i ≡ true) ids
@@ -187,22 +179,6 @@ deleted_none limits false ids h e = h
 
 -- ---- whole replies
 
--- the next id and the list of the entries
-same_second : (a b : List ℕ) (s t : Tree) (ts us : List Tree)
-    → array (trees (bulk a ∷ s ∷ ts)) ≡ array (trees (bulk b ∷ t ∷ us)) → s ≡ t
-same_second a b s t ts us e =
-    let inner : trees (bulk a ∷ s ∷ ts) ≡ trees (bulk b ∷ t ∷ us) = cc in
-    let all = same_trees (bulk a ∷ s ∷ ts) (bulk b ∷ t ∷ us) inner in
-    cc
-
-same_claim : (r s : SentAutoClaim) → copied_autoclaim r ≡ copied_autoclaim s → r.claimed ≡ s.claimed → r ≡ s
-same_claim r s e claimed =
-    let next : r.next ≡ s.next = ap (λ (x : AutoClaim). x.next) e in
-    let deleted : r.deleted ≡ s.deleted = ap (λ (x : AutoClaim). x.deleted) e in
-    ap (λ (x : List ℕ). record { next = x; claimed = r.claimed; deleted = r.deleted }) next
-    ∙ ap (λ (x : List SentEntry). record { next = s.next; claimed = x; deleted = r.deleted }) claimed
-    ∙ ap (λ (x : List (List ℕ)). record { next = s.next; claimed = s.claimed; deleted = x }) deleted
-
 pub autoclaim_same : (limits : Limits) (bytes : List ℕ) (r s : SentAutoClaim) (n len : ℕ)
     → IsAutoClaim limits bytes r n → BeginsWithAutoClaim limits bytes s len → (r ≡ s) × (n ≡ len)
 autoclaim_same limits bytes r s n len h b =
@@ -217,15 +193,12 @@ autoclaim_same limits bytes r s n len h b =
     let one = one_reply limits (suc (suc (suc (suc (suc depth))))) bytes b.rest (value (autoclaim_tree b.told s))
     (value (autoclaim_tree h.told r)) n d h.within read h.reply in
     let same : autoclaim_tree h.told r ≡ autoclaim_tree b.told s = cc (one.0) in
-    let rows = same_second r.next s.next (rows_tree r.claimed) (rows_tree s.claimed)
-    (deleted_trees h.told r.deleted) (deleted_trees b.told s.deleted) same in
-    let told = autoclaim_read b.told s b.next.is_text (texts_told limits s.claimed b.claimed.each)
-    (forms_told limits s.claimed b.claimed.each) (deleted_told limits b.told s.deleted b.deleted)
+    let told = sent_claim_read b.told s b.next.is_text (sent_told limits s.claimed b.claimed.each)
+    (texts_read s.deleted (deleted_told limits b.told s.deleted b.deleted))
     (deleted_none limits b.told s.deleted b.deleted) in
-    let both : Some (copied_autoclaim r) ≡ Some (copied_autoclaim s) =
-    sym h.reading ∙ ap autoclaim_reading same ∙ told in
-    let record_is : copied_autoclaim r ≡ copied_autoclaim s = cc in (
-      same_claim r s record_is (same_rows_tree r.claimed s.claimed rows),
+    let both : Some r ≡ Some s = sym h.sent ∙ ap sent_autoclaim_reading same ∙ told in
+    let record_is : r ≡ s = cc in (
+      record_is,
       len_same bytes (autoclaim_bytes b.told b.form s) b.rest n len h.within b.is one.1 b.len_is,
     )
 

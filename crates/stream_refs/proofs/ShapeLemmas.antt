@@ -78,7 +78,7 @@ module _ (limits : Limits) (allows : AllowsRows limits) where
       (text_reads d p.1 behind (bulk_bytes p.1 ++ behind) h.0.value refl) (pairs_read d ps rest h.1) in
       ap (λ (k : ℕ). many inner k whole) n
       ∙ many_first inner (suc (2 * length ps)) whole (bulk p.0) (bulk_bytes p.1 ++ behind) (bulk p.1 ∷ members_of ps)
-      rest (text_reads d p.0 (bulk_bytes p.1 ++ behind) whole h.0.name.within split) last
+      rest (text_reads d p.0 (bulk_bytes p.1 ++ behind) whole h.0.name split) last
 
   fields_read : (d : ℕ) (form : NilForm) (fs : Option Pairs) (rest : List ℕ) → ArePairs limits fs
       → value_at limits (suc (suc d)) (fields_bytes form fs ++ rest) ≡ Ok (value (fields_tree fs), rest)

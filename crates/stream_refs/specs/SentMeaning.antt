@@ -1,9 +1,8 @@
 -- What decoded entries mean.
-use Rattle.std.specs.Prelude.{ℕ, List, ◌++◌, map, Option, option_map, string_bytes, Vec}
+use Rattle.std.specs.Prelude.{ℕ, List, ◌++◌, map, option_map, string_bytes, Vec}
 use Rattle.std.specs.declared.alloc.Global.{Global}
 use Rattle.stream_refs.specs.Sent.{SentAutoClaim}
 use Rattle.stream_refs.specs.Sent.{Pairs, SentEntry}
-use Rattle.stream_refs.specs.SentReading.{there}
 use Rattle.stream_refs.specs.declared.sent.Octets.{Octets}
 use Rattle.stream_refs.specs.declared.sent.OctetPairs.{OctetPairs}
 use Rattle.stream_refs.specs.declared.sent.SentRow.{SentRow}

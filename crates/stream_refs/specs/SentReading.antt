@@ -1,5 +1,5 @@
 -- What reads as entries with their fields in order, repeated ones too, each name and each value any bytes.
-use Rattle.std.specs.Prelude.{ℕ, List, [], ◌∷◌, map, flat_map, Option, Some, None, option_map, option_and_then}
+use Rattle.std.specs.Prelude.{ℕ, List, [], ◌∷◌, map, Option, Some, None, option_map, option_and_then}
 use Rattle.std.specs.Option.{option_or}
 use Rattle.redis_resp.specs.Bytes.{bytes_reading}
 use Rattle.redis_resp.specs.Number.{unsigned_reading}

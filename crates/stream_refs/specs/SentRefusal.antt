@@ -1,5 +1,5 @@
 -- With which error a value is refused that holds no such entries.
-use Rattle.std.specs.Prelude.{◌≡◌, ◌⊎◌, Option, Some, None, MatchOption}
+use Rattle.std.specs.Prelude.{◌≡◌, ◌⊎◌, MatchOption}
 use Rattle.redis_resp.specs.Number.{unsigned_reading}
 use Rattle.redis_resp.specs.Reading.{list_reading, option_reading, two_in, four_in}
 use Rattle.redis_resp.specs.Refusal.{Refuses, OneRefused, RefusesText, RefusesNumber, RefusesList, RefusesOption}

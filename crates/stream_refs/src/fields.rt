@@ -108,9 +108,8 @@ impl<'a> FieldsRef<'a> {
     {
         let mut copies = HashMap::new(alloc);
         for place in self.places {
-            let name = text_in(self.bytes, place.name);
-            let value = text_in(self.bytes, place.value);
-            put_field(alloc, &mut copies, text_of(name)?, value)?;
+            let (name, value) = pair_at(alloc, self.bytes, *place)?;
+            put(&mut copies, name, value)?;
         }
         Ok(copies)
     }
@@ -205,11 +204,7 @@ fn text_of(bytes: &[u8]) -> Result<&str, ParsingError>
 }
 
 /// A copy of the field that stands there.
-fn pair_at(
-    alloc: Global,
-    bytes: &[u8],
-    place: FieldPlace,
-) -> Result<(String, Value), ParsingError>
+fn pair_at(alloc: Global, bytes: &[u8], place: FieldPlace) -> Result<(String, Value), ParsingError>
     requires { IsField bytes.now place }
     ensures name { IfOk result (λ p. string_bytes p.0 ≡ (field_in bytes.now place).0) }
     ensures value { IfOk result (λ p. tree p.1 ≡ bulk (field_in bytes.now place).1) }
@@ -229,21 +224,6 @@ fn put(copies: &mut HashMap<String, Value>, name: String, value: Value) -> Resul
 {
     copies.insert(name, value)?;
     Ok(())
-}
-
-/// Puts a copy of a field.
-fn put_field(
-    alloc: Global,
-    copies: &mut HashMap<String, Value>,
-    name: &str,
-    value: &[u8],
-) -> Result<(), AllocError>
-    ensures { OnOk result (fields_of copies.new
-        ≡ fin.insert (fields_of copies.old) name.now (bulk value.now)) }
-{
-    let name = String::from_str(alloc, name)?;
-    let value = Value::BulkString(Vec::from_slice(alloc, value)?);
-    put(copies, name, value)
 }
 
 /// The fields that stand there.

@@ -66,8 +66,14 @@ impl EntryRoom {
             let middle = at + name.0.len();
             let after = middle + value.0.len();
             self.fields.push(FieldPlace {
-                name: Span { start: at, len: name.0.len() },
-                value: Span { start: middle, len: value.0.len() },
+                name: Span {
+                    start: at,
+                    len: name.0.len(),
+                },
+                value: Span {
+                    start: middle,
+                    len: value.0.len(),
+                },
             })?;
             at = after;
         }

@@ -1,13 +1,14 @@
 //! Entries of decoded replies, with their fields in order, repeated ones too, each name and each value any bytes.
 ghost use Rattle.std.specs.Prelude.{◌≡◌, IfOk, IfErr, List, None, Option, Some, map, option_map, string_bytes, ℕ};
 ghost use Rattle.std.specs.Option.{is_some};
+ghost use Rattle.redis_resp.specs.Bytes.{bytes_reading};
 ghost use Rattle.redis_resp.specs.Reading.{two_in, four_in, traverse, two_of};
 ghost use Rattle.redis_resp.specs.Refusal.{OneRefused, Refuses};
 ghost use Rattle.redis_resp.specs.Source.{all_left};
 ghost use Rattle.redis_resp.specs.Value.{tree};
 ghost use Rattle.stream_refs.specs.Sent.{SentAutoClaim};
 ghost use Rattle.stream_refs.specs.Sent.{Pairs, SentEntry};
-ghost use Rattle.stream_refs.specs.SentMeaning.{octet_pair, octet_pairs, sent_of, claim_of, sent_there};
+ghost use Rattle.stream_refs.specs.SentMeaning.{octet_pair, octet_pairs, sent_of, claim_of};
 ghost use Rattle.stream_refs.specs.SentReading.{octets_reading, octet_pairs_reading, sent_row_reading};
 ghost use Rattle.stream_refs.specs.SentReading.{sent_autoclaim_reading, there};
 ghost use Rattle.stream_refs.specs.SentRefusal.{RefusesOctets, RefusesOctetPair, RefusesOctetPairs};
@@ -15,8 +16,8 @@ ghost use Rattle.stream_refs.specs.SentRefusal.{RefusesSentRow, RefusesSentAutoC
 
 use crate::entry::Delivery;
 use redis_resp::{
-    FromRedisValue, PairsLeft, ParsingError, Source, Value, count_left, into_four, into_pairs,
-    into_two, next_left,
+    FromRedisValue, PairsLeft, ParsingError, RawBytes, Source, Value, count_left, into_four,
+    into_pairs, into_two, next_left,
 };
 use std::alloc::Global;
 
@@ -24,6 +25,29 @@ use std::alloc::Global;
 /// has no text.
 #[derive(Debug, Drop)]
 pub struct Octets(pub Vec<u8>);
+
+/// Whether the value is a bulk string.
+fn is_bulk(v: &Value) -> bool
+    ensures { result ≡ is_some (bytes_reading (tree v.now)) }
+{
+    match v.as_plain() {
+        Value::BulkString(_) => true,
+        _ => false,
+    }
+}
+
+/// Reads bytes. Those of an owned value are moved.
+fn read_bytes<S: Source>(alloc: Global, v: S) -> Result<Octets, ParsingError>
+    ensures ok { IfOk result (λ r. octets_reading (S.seen v) ≡ Some r.0.items) }
+    ensures err { IfErr result (Refuses octets_reading RefusesOctets (S.seen v)) }
+{
+    if is_bulk(v.as_value()) {
+        let bytes: RawBytes = v.read(alloc)?;
+        return Ok(Octets(bytes.0));
+    }
+    let text: String = v.read(alloc)?;
+    Ok(Octets(text.into_bytes()))
+}
 
 impl FromRedisValue for Octets {
     ghost Meaning = { List ℕ };
@@ -35,23 +59,11 @@ impl FromRedisValue for Octets {
     ghost may_refuse = { RefusesOctets };
 
     fn from_redis_value(alloc: Global, v: Value) -> Result<Octets, ParsingError> {
-        match v.into_plain() {
-            Value::BulkString(bytes) => Ok(Octets(bytes)),
-            other => {
-                let text: String = String::from_redis_value(alloc, other)?;
-                Ok(Octets(text.into_bytes()))
-            }
-        }
+        read_bytes(alloc, v)
     }
 
     fn from_redis_value_ref(alloc: Global, v: &Value) -> Result<Octets, ParsingError> {
-        match v.as_plain() {
-            Value::BulkString(bytes) => Ok(Octets(Vec::from_slice(alloc, bytes)?)),
-            other => {
-                let text: String = String::from_redis_value_ref(alloc, other)?;
-                Ok(Octets(text.into_bytes()))
-            }
-        }
+        read_bytes(alloc, v)
     }
 }
 

@@ -21,7 +21,7 @@ use Rattle.stream_worker.specs.Answers.{Heard, told, no_group, group_made, is_go
 use Rattle.stream_worker.specs.Answers.{claim_read, claim_there, news_read, those_there}
 use Rattle.stream_worker.specs.Errors.{read_error}
 use Rattle.stream_worker.specs.Machine.{Moved, ending_of}
-use Rattle.stream_worker.specs.Parts.{IsAcknowledged, IsOfGroup, IsRefused, NotClaimed, NotNews, NotRead, Unread, reads_own}
+use Rattle.stream_worker.specs.Parts.{IsAcknowledged, IsOfGroup, IsRefused, NoStreams, NotClaimed, NotNews, NotRead, Unread, reads_own}
 use Rattle.stream_worker.specs.Taking.{all_delivered}
 use Rattle.stream_worker.specs.declared.error.WorkerError.{WorkerError}
 use Rattle.stream_worker.specs.declared.error.WorkerError.TheVariants as causes
@@ -201,10 +201,17 @@ module _ {R : Type 0} (with_verdict : R → List ℕ × Pairs → Verdict → R)
         j,
       )))
 
+  own_no_streams : (e : WorkerError) → NoStreams t e → n ≡ begins_again m → s ≡ r
+      → Failed with_verdict settings asked.Own (wire.value t) m n r s e
+  own_no_streams e (inl h) i j =
+      subst (λ (x : WorkerError). Failed with_verdict settings asked.Own (wire.value t) m n r s x) (sym h)
+      (t, refl, inl (i, j))
+  own_no_streams e (inr u) i j = own_unread e u i j
+
   -- a value that holds no entries of the stream
   pub own_not_read : (e : WorkerError) → NotRead (string_bytes settings.key) t e → n ≡ begins_again m → s ≡ r
       → Failed with_verdict settings asked.Own (wire.value t) m n r s e
-  own_not_read e (inl u) i j = own_unread e u i j
+  own_not_read e (inl u) i j = own_no_streams e u i j
   own_not_read e (inr o) i j =
       subst (λ (x : WorkerError). Failed with_verdict settings asked.Own (wire.value t) m n r s x) (sym o.0) (
         (t, refl, o.1, o.2),
@@ -227,9 +234,16 @@ module _ {R : Type 0} (with_verdict : R → List ℕ × Pairs → Verdict → R)
         j,
       )))
 
+  news_no_streams : (e : WorkerError) → NoStreams t e → n ≡ begins_again m → s ≡ r
+      → Failed with_verdict settings asked.News (wire.value t) m n r s e
+  news_no_streams e (inl h) i j =
+      subst (λ (x : WorkerError). Failed with_verdict settings asked.News (wire.value t) m n r s x) (sym h)
+      (t, refl, inl (i, j))
+  news_no_streams e (inr u) i j = news_unread e u i j
+
   pub news_not_read : (e : WorkerError) → NotRead (string_bytes settings.key) t e → n ≡ begins_again m → s ≡ r
       → Failed with_verdict settings asked.News (wire.value t) m n r s e
-  news_not_read e (inl u) i j = news_unread e u i j
+  news_not_read e (inl u) i j = news_no_streams e u i j
   news_not_read e (inr o) i j =
       subst (λ (x : WorkerError). Failed with_verdict settings asked.News (wire.value t) m n r s x) (sym o.0) (
         (t, refl, o.1, o.2),

@@ -21,13 +21,17 @@ use Rattle.stream_worker.specs.declared.state.GroupState.TheVariants.{Missing, K
 abbrev pub Unread : {M : Type 0} → (Tree → Option M) → (Tree → ParsingError → Type 0) → Tree → WorkerError → Type 0
 Unread reading may_refuse t e = (p : ParsingError) × (e ≡ read_error p) × Refuses reading may_refuse t p
 
+-- memory ran out, or a value holds no streams
+abbrev pub NoStreams : Tree → WorkerError → Type 0
+NoStreams t e = (e ≡ causes.Memory) ⊎ Unread sent_streams_reading RefusesSentStreams t e
+
 -- it tells of another stream
 abbrev pub IsOther : List ℕ → Tree → WorkerError → Type 0
 IsOther key t e = (e ≡ causes.OtherStream) × (entries_read key t ≡ None) × (sent_streams_reading t ≢ None)
 
 -- why a value holds no entries of the stream
 abbrev pub NotRead : List ℕ → Tree → WorkerError → Type 0
-NotRead key t e = Unread sent_streams_reading RefusesSentStreams t e ⊎ IsOther key t e
+NotRead key t e = NoStreams t e ⊎ IsOther key t e
 
 -- why it holds no new entries of the stream
 abbrev pub NotNews : List ℕ → Tree → WorkerError → Type 0

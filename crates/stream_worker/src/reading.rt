@@ -1,11 +1,13 @@
 //! The entries that an answer holds.
-ghost use Rattle.std.specs.Prelude.{◌≡◌, IfErr, IfOk, Some, map, option_map};
+ghost use Rattle.std.specs.Prelude.{◌≡◌, [], IfErr, IfOk, Some, map, option_map};
+ghost use Rattle.std.specs.List.{list_all};
+ghost use Rattle.std.specs.Option.{is_some};
 ghost use Rattle.redis_resp.specs.Value.{tree};
 ghost use Rattle.stream_refs.specs.SentMeaning.{claim_of, sent_all, sent_of};
-ghost use Rattle.stream_refs.specs.SentReading.{sent_stream};
+ghost use Rattle.stream_refs.specs.SentReading.{sent_streams_reading};
 ghost use Rattle.stream_worker.specs.Answers.{all_there, claim_read, entries_read, news_read, only_stream};
 ghost use Rattle.stream_worker.specs.Handed.{entries_sent};
-ghost use Rattle.stream_worker.specs.Parts.{NotClaimed, NotNews, NotRead};
+ghost use Rattle.stream_worker.specs.Parts.{NoStreams, NotClaimed, NotNews, NotRead};
 ghost use Rattle.stream_worker.specs.Read.{named, streams_named};
 
 use crate::error::WorkerError;
@@ -18,11 +20,23 @@ pub fn read_entries(alloc: Global, key: &str, value: Value) -> Result<Vec<SentRo
     ensures ok { IfOk result (λ es. entries_read key.now (tree value) ≡ Some (sent_all es)) }
     ensures err { IfErr result (NotRead key.now (tree value)) }
 {
-    let streams: Vec<PairList<Vec<SentRow>>> = from_redis_value(alloc, value)?;
-    match only_entries(alloc, key, join(alloc, streams)?) {
+    let streams = read_streams(alloc, value)?;
+    match only_entries(alloc, key, streams) {
         Some(entries) => Ok(entries),
         None => Err(WorkerError::OtherStream),
     }
+}
+
+/// The streams that an XREADGROUP answers.
+fn read_streams(
+    alloc: Global,
+    value: Value,
+) -> Result<Vec<(String, Vec<SentRow>)>, WorkerError>
+    ensures ok { IfOk result (λ r. sent_streams_reading (tree value) ≡ Some (map named r.items)) }
+    ensures err { IfErr result (NoStreams (tree value)) }
+{
+    let lists: Vec<PairList<Vec<SentRow>>> = from_redis_value(alloc, value)?;
+    Ok(join(alloc, lists)?)
 }
 
 /// The streams, in order.
@@ -82,8 +96,16 @@ pub fn read_claim(alloc: Global, value: Value) -> Result<SentClaim, WorkerError>
 }
 
 /// Whether nil stands for the fields of none.
+#[tactic(auto, using(crate::proofs::ReadLemmas::there_each))]
 fn are_there(entries: &[SentRow]) -> bool
     ensures { result ≡ all_there (map sent_of entries.now) }
+{
+    have_fields(entries)
+}
+
+/// Whether each has fields.
+fn have_fields(entries: &[SentRow]) -> bool
+    ensures { result ≡ list_all (λ e. is_some e.fields) entries.now }
 {
     entries.iter().all(|entry| entry.fields.is_some())
 }

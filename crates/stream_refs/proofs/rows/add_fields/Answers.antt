@@ -20,13 +20,13 @@ loop-preserved g c = record {
   added = fields_more c.args.limits c.args.bytes.now c.args.at
       (g.P.Places.held c.args.places.now) c.loop.counter c.loop.behind c.in-Some.after c.in-Some-text_at.after _
       (g.P.Places.held c.loop.places) (g.P.Places.held c.push_field.new.self)
-      c.loop.invariant.added c.in-Some.ensures.is c.in-Some.ensures.text c.in-Some-text_at.ensures.is
+      c.loop.invariant.added c.in-Some.ensures.is c.in-Some-text_at.ensures.is
       c.in_ok-push_field.ensures.holds;
   left = left_more pair_bytes (IsPair c.args.limits) c.args.limits c.args.bytes.now c.args.at c.args.count
       c.loop.counter c.loop.behind c.loop.invariant.left c.in-Some-text_at.after (omega arith) (λ p rest a h is.
       let name = c.in-Some.ensures.found p.0 (bulk_bytes p.1 ++ rest)
-      (text_begins c.args.limits a (drop c.loop.behind c.args.bytes.now) p.0 (bulk_bytes p.1 ++ rest) h.name.within
-      (pair_split p rest (drop c.loop.behind c.args.bytes.now) is)) h.name.is_text in
+      (text_begins c.args.limits a (drop c.loop.behind c.args.bytes.now) p.0 (bulk_bytes p.1 ++ rest) h.name
+      (pair_split p rest (drop c.loop.behind c.args.bytes.now) is)) in
       (c.in-Some-text_at.ensures.found p.1 rest
       (text_begins c.args.limits a (drop c.in-Some.after c.args.bytes.now) p.1 rest h.value name.1)).1);
   counted = omega (
@@ -53,16 +53,16 @@ returns-in_default-clause-found g c =
     left_none pair_bytes (IsPair c.args.limits) c.args.limits c.args.bytes.now c.args.at c.args.count
     c.loop.counter c.loop.behind c.loop.invariant.left (omega arith) (λ p rest a h is.
     c.in_default.ensures.found p.0 (bulk_bytes p.1 ++ rest)
-    (text_begins c.args.limits a (drop c.loop.behind c.args.bytes.now) p.0 (bulk_bytes p.1 ++ rest) h.name.within
-    (pair_split p rest (drop c.loop.behind c.args.bytes.now) is)) h.name.is_text)
+    (text_begins c.args.limits a (drop c.loop.behind c.args.bytes.now) p.0 (bulk_bytes p.1 ++ rest) h.name
+    (pair_split p rest (drop c.loop.behind c.args.bytes.now) is)))
 
 pub returns-in_default-text_at-clause-found : goal.returns-in_default-text_at-clause-found
 returns-in_default-text_at-clause-found g c =
     left_none pair_bytes (IsPair c.args.limits) c.args.limits c.args.bytes.now c.args.at c.args.count
     c.loop.counter c.loop.behind c.loop.invariant.left (omega arith) (λ p rest a h is.
     let name = c.in-Some.ensures.found p.0 (bulk_bytes p.1 ++ rest)
-    (text_begins c.args.limits a (drop c.loop.behind c.args.bytes.now) p.0 (bulk_bytes p.1 ++ rest) h.name.within
-    (pair_split p rest (drop c.loop.behind c.args.bytes.now) is)) h.name.is_text in
+    (text_begins c.args.limits a (drop c.loop.behind c.args.bytes.now) p.0 (bulk_bytes p.1 ++ rest) h.name
+    (pair_split p rest (drop c.loop.behind c.args.bytes.now) is)) in
     c.in_default-text_at.ensures.found p.1 rest
     (text_begins c.args.limits a (drop c.in-Some.after c.args.bytes.now) p.1 rest h.value name.1))
 
