@@ -84,7 +84,7 @@ def main():
             return
 
         def text(span):
-            return data[span.start : span.start + span.len].decode()
+            return data[span.start : span.start + span.len].decode(errors="backslashreplace")
 
         for stream in streams[: found.streams]:
             for entry in entries[stream.start : stream.end]:

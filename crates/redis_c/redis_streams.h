@@ -65,7 +65,7 @@ typedef struct {
     size_t len;   /* how many bytes it has */
 } redis_span;
 
-/* Where a field stands. The name is UTF-8; the value is any bytes. */
+/* Where a field stands. The name and the value are any bytes. A name may stand in an entry twice. */
 typedef struct {
     redis_span name;
     redis_span value;

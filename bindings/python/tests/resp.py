@@ -193,7 +193,7 @@ class Shapes(Reader):
         if not self.nil():
             size = self.head(b"*")
             shaped(size % 2 == 0)
-            fields = [(self.name(), self.bytes()) for _ in range(size // 2)]
+            fields = [(self.bytes(), self.bytes()) for _ in range(size // 2)]
         return own, fields
 
     def entries(self) -> Any:

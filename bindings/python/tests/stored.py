@@ -21,6 +21,7 @@ ROWS = group(
     entry(b"1-0", b"item", b"tea", b"cups", b"2"),
     entry(b"2-0", b"item", b"\r\nmilk"),
     b"*2\r\n" + bulk(b"3-0") + b"*-1\r\n",
+    entry(b"4-1", b"\xff", b"v", b"n", b"\xfe", b"\xff", b""),
     entry(b"1526919030474-55", "naïve".encode(), bytes(range(40)), b"", b"", b"item", b"1", b"item", b"2"),
 )
 CLAIMED = group(entry(b"1-0", b"item", b"tea", tail=b":60000\r\n:3\r\n"), b"*4\r\n" + bulk(b"2-0") + b"_\r\n:0\r\n:1\r\n")

@@ -112,7 +112,7 @@ class RepliesTest(unittest.TestCase):
     def test_entry(self) -> None:
         found = redis_streams.find_range(ROWS)
         assert found is not None
-        tea, milk, gone, last = found[0]
+        tea, milk, gone, unnamed, last = found[0]
         self.assertEqual(tea.to_dict(), {b"item": b"tea", b"cups": b"2"})
         self.assertEqual((len(tea.items()), milk.items(), gone.deleted, gone.items()), (2, [(b"item", b"\r\nmilk")], True, []))
         self.assertEqual((last.get(b"item"), last.get(b"none")), (b"2", None))

@@ -20,7 +20,7 @@ fn read(
     for entry in connection.streams()?.entries().iter() {
         write!(out, "{}", entry.id())?;
         for (name, value) in entry.fields() {
-            write!(out, " {name}={}", String::from_utf8_lossy(value))?;
+            write!(out, " {}={}", String::from_utf8_lossy(name), String::from_utf8_lossy(value))?;
         }
         writeln!(out)?;
         ids.push(entry.id().to_string());

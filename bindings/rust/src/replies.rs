@@ -16,7 +16,7 @@ use std::str;
 ///     for entry in stream.entries().iter() {
 ///         println!("{} {}", stream.name(), entry.id());
 ///         for (name, value) in entry.fields() {
-///             println!("  {name}={}", String::from_utf8_lossy(value));
+///             println!("  {}={}", String::from_utf8_lossy(name), String::from_utf8_lossy(value));
 ///         }
 ///     }
 /// }
@@ -265,14 +265,15 @@ impl<'a> Entry<'a> {
         utf8(self.bytes, self.row.id)
     }
 
-    /// Names and values, in their order; a name may be there twice.
-    pub fn fields(&self) -> impl ExactSizeIterator<Item = (&'a str, &'a [u8])> + 'a {
+    /// Names and values, any bytes each, in their order; a name may be there twice.
+    pub fn fields(&self) -> impl ExactSizeIterator<Item = (&'a [u8], &'a [u8])> + 'a {
         let bytes = self.bytes;
-        self.fields[self.row.from..self.row.to].iter().map(move |it| (utf8(bytes, it.name), text(bytes, it.value)))
+        self.fields[self.row.from..self.row.to].iter().map(move |it| (text(bytes, it.name), text(bytes, it.value)))
     }
 
     /// The value of the last field of this name.
-    pub fn get(&self, name: &str) -> Option<&'a [u8]> {
+    pub fn get(&self, name: impl AsRef<[u8]>) -> Option<&'a [u8]> {
+        let name = name.as_ref();
         self.fields().filter(|(own, _)| *own == name).last().map(|(_, value)| value)
     }
 

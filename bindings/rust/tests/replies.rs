@@ -24,6 +24,7 @@ fn rows() -> Vec<u8> {
         entry("1-0", &[b"item", b"tea", b"cups", b"2"]),
         entry("2-0", &[b"item", b"\r\nmilk"]),
         [b"*2\r\n", &bulk(b"3-0")[..], b"*-1\r\n"].concat(),
+        entry("4-1", &[b"\xff", b"v", b"n", b"\xfe", b"\xff", b""]),
         entry("1526919030474-55", &["naïve".as_bytes(), &octets, b"", b"", b"item", b"1", b"item", b"2"]),
     ])
 }

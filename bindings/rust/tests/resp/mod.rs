@@ -25,7 +25,7 @@ pub enum Stop {
     OtherShape,
 }
 
-pub type Fields = Option<Vec<(String, Vec<u8>)>>;
+pub type Fields = Option<Vec<(Vec<u8>, Vec<u8>)>>;
 pub type Entry = (String, Fields);
 
 /// What is found in place.
@@ -242,7 +242,7 @@ impl<'a> Reader<'a> {
         shaped(size % 2 == 0)?;
         let mut fields = Vec::new();
         for _ in 0..size / 2 {
-            fields.push((self.name()?, self.octets()?));
+            fields.push((self.octets()?, self.octets()?));
         }
         Ok((id, Some(fields)))
     }
