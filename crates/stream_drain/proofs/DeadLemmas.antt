@@ -9,16 +9,6 @@ use Rattle.stream_drain.specs.Dead.{Names, Goes, DeliversSome}
 use Rattle.stream_worker.specs.Letters.{Desk, after_letter, letter_asks, letter_bytes, serves}
 use Rattle.stream_worker.specs.declared.letters.LetterAsked.{LetterAsked}
 
--- the meanings of what is kept are what is kept of the meanings
-pub map_kept : {A B : Type 0} (f : A → B) (p : B → Bool) (xs : List A)
-    → map f (filter (λ x. p (f x)) xs) ≡ filter p (map f xs)
-map_kept f p [] = refl
-map_kept f p (x ∷ xs) = elim (p (f x)) as (λ b. map f (cond b (x ∷ filter (λ x. p (f x)) xs) (filter (λ x. p (f x)) xs))
-    ≡ cond b (f x ∷ filter p (map f xs)) (filter p (map f xs))) [
-      | true ↦ ap (λ ys. f x ∷ ys) (map_kept f p xs)
-      | false ↦ map_kept f p xs
-    ]
-
 -- a list has its last item at its end
 pub last_split : {A : Type 0} (xs : List A) (x : A) → 0 < length xs → x ≡ get_or xs (length xs - 1) x
     → (before : List A) × (xs ≡ before ++ x ∷ [])

@@ -1,20 +1,30 @@
 -- Looks for entries that are given up, over a connection: none is acknowledged before its letter was answered.
-use Rattle.std.specs.Prelude.{◌≡◌, ◌⊎◌, ℕ, zero, suc, Bool, true, false, List, [], ◌∷◌, ◌++◌, codes, string_bytes}
+use Rattle.std.specs.Prelude.{◌≡◌, ◌⊎◌, ℕ, zero, suc, Bool, true, false, List, [], ◌∷◌, ◌++◌, codes, String, string_bytes}
+use Rattle.std.specs.declared.alloc.Global.{Global}
 use Rattle.redis_wire.specs.Reply.{Answer}
 use Rattle.redis_connection.specs.Ask.{Fails}
 use Rattle.redis_connection.specs.Link.{Link, Sends}
 use Rattle.redis_connection.specs.Passing.{ReceivesAnswer}
-use Rattle.redis_streams.specs.declared.pending.extended.StreamPendingId.{StreamPendingId}
+use Rattle.redis_resp.specs.declared.value.Value.{Value}
+use Rattle.stream_drain.specs.declared.dead.Waiting.{Waiting}
 use Rattle.stream_worker.specs.Letters.{Desk, after_letter, letter_asks, letter_bytes, serves}
 
 -- a stream, its group, and the stream of dead letters
 abbrev pub Names : Type 0
 Names = List ℕ × List ℕ × List ℕ
 
+-- the id of a pending entry, and how often it was delivered
+abbrev pub waiting_of : Waiting → List ℕ × ℕ
+waiting_of w = (string_bytes w.id, w.deliveries)
+
+-- the same of a row
+abbrev pub row_of : String Global × Value × Value × ℕ → List ℕ × ℕ
+row_of r = (string_bytes r.0, r.3)
+
 -- the page ends with an entry, and behind it is what starts with its id behind a parenthesis
-pub record IsBehind (page : List StreamPendingId) (start : List ℕ) : Type 0 where
-  pub before : List StreamPendingId
-  pub last : StreamPendingId
+pub record IsBehind (page : List Waiting) (start : List ℕ) : Type 0 where
+  pub before : List Waiting
+  pub last : Waiting
   pub page_is : page ≡ before ++ last ∷ []
   pub start_is : start ≡ codes "(" ++ string_bytes last.id
 

@@ -2,14 +2,12 @@
 ghost use Rattle.std.specs.Prelude.{◌≡◌, ◌<◌, ◌≤◌, ◌%◌, ◌∷◌, [], IfOk, IsTrue, MatchOption, Ok, OnErr, OnOk, false};
 ghost use Rattle.std.specs.Prelude.{filter, length, map, nat_le, string_bytes};
 ghost use Rattle.std.specs.List.{flat_map};
-ghost use Rattle.redis_streams.specs.PendingMeaning.{pending_id_meaning, pending_ids_meaning};
-ghost use Rattle.stream_drain.specs.Dead.{Delivers, DeliversSome, IsBehind};
+ghost use Rattle.stream_drain.specs.Dead.{Delivers, DeliversSome, IsBehind, row_of, waiting_of};
 ghost use Rattle.stream_worker.specs.Letters.{desk_of, names_of};
 
 use anyhow::{Error, Result, bail};
 use redis_connection::{AskError, Connection, ConnectionError};
-use redis_resp::{RawBytes, ToRedisArgs, WriteError};
-use redis_streams::{StreamPendingCountReply, StreamPendingId};
+use redis_resp::{RawBytes, ToRedisArgs, Value, WriteError};
 use std::alloc::{AllocError, Global};
 use std::io::{Read, Write};
 use stream_commands::{AtLeastOne, xclaim, xpending_consumer_count, xpending_idle_count};
@@ -23,6 +21,19 @@ const PAGES: usize = 1000;
 
 /// What XCLAIM answers: the ids, each with its fields in order; or nil for what was deleted.
 type Claimed = Vec<Option<(String, Vec<RawBytes>)>>;
+
+/// A row that XPENDING answers: the id, the consumer, for how long it is idle, and how often it was
+/// delivered. The name of a consumer is any bytes, so it is not read.
+type Row = (String, Value, Value, usize);
+
+/// An entry that is pending.
+#[derive(Drop)]
+pub struct Waiting {
+    /// Its id.
+    id: String,
+    /// How often it was delivered.
+    deliveries: usize,
+}
 
 /// Which entries are given up, and where their letters go.
 #[derive(Drop)]
@@ -139,7 +150,7 @@ impl Dead {
         own: bool,
     ) -> Result<Option<String>> {
         let page = self.page(alloc, connection, start, own)?;
-        let next = next_start(alloc, &page.ids)?;
+        let next = next_start(alloc, &page)?;
         let entries = too_often(page, self.deliveries);
         let min_idle = if own { 0 } else { self.min_idle };
         self.give_up(alloc, connection, &entries, min_idle)?;
@@ -153,7 +164,7 @@ impl Dead {
         connection: &mut Connection<R, W>,
         start: &str,
         own: bool,
-    ) -> Result<StreamPendingCountReply> {
+    ) -> Result<Vec<Waiting>> {
         let key = self.key.as_str();
         let group = self.group.as_str();
         if own {
@@ -171,7 +182,7 @@ impl Dead {
         &mut self,
         alloc: Global,
         connection: &mut Connection<R, W>,
-        entries: &[StreamPendingId],
+        entries: &[Waiting],
         min_idle: usize,
     ) -> Result<()> {
         let mut desk = self.desk(alloc)?;
@@ -192,7 +203,7 @@ impl Dead {
         alloc: Global,
         connection: &mut Connection<R, W>,
         desk: &mut DeadLetters,
-        entries: &[StreamPendingId],
+        entries: &[Waiting],
         min_idle: usize,
     ) -> Result<()> {
         for entry in entries {
@@ -238,21 +249,32 @@ fn ask_page<T: ToRedisArgs, R: Read + Drop, W: Write + Drop>(
     alloc: Global,
     connection: &mut Connection<R, W>,
     command: &T,
-) -> Result<StreamPendingCountReply> {
+) -> Result<Vec<Waiting>> {
     match connection.ask_as(alloc, command) {
-        Ok(page) => Ok(page),
+        Ok(rows) => Ok(waiting_in(alloc, rows)?),
         Err(AskError::Server(error)) if error.code() == b"NOGROUP".as_slice() => {
-            Ok(StreamPendingCountReply::empty(alloc)?)
+            Ok(Vec::new(alloc))
         }
         Err(error) => Err(error.into()),
     }
+}
+
+/// The entries of these rows, in order.
+fn waiting_in(alloc: Global, rows: Vec<Row>) -> Result<Vec<Waiting>, AllocError>
+    ensures { IfOk result (λ all. map waiting_of all.items ≡ map row_of rows.items) }
+{
+    let mut all = Vec::with_capacity(alloc, rows.len())?;
+    for (id, _consumer, _idle, deliveries) in rows {
+        all.push(Waiting { id, deliveries })?;
+    }
+    Ok(all)
 }
 
 /// Gives an entry up, as it was claimed; not where another consumer has it, or it was deleted.
 fn post(
     alloc: Global,
     desk: &mut DeadLetters,
-    entry: &StreamPendingId,
+    entry: &Waiting,
     rows: &[Option<(String, Vec<RawBytes>)>],
 ) -> Result<()>
     ensures names { names_of desk.new ≡ names_of desk.old }
@@ -271,7 +293,7 @@ fn post(
 fn post_fields(
     alloc: Global,
     desk: &mut DeadLetters,
-    entry: &StreamPendingId,
+    entry: &Waiting,
     texts: &[RawBytes],
 ) -> Result<()>
     ensures names { names_of desk.new ≡ names_of desk.old }
@@ -283,25 +305,23 @@ fn post_fields(
     let Some(fields) = AtLeastOne::new(&fields) else {
         return Ok(());
     };
-    match desk.give_up(alloc, entry.id.as_str(), entry.times_delivered, &fields) {
+    match desk.give_up(alloc, entry.id.as_str(), entry.deliveries, &fields) {
         Ok(()) => Ok(()),
         Err(error) => Err(not_written(error)),
     }
 }
 
 /// Those of these pending entries that were delivered so often or more, in order.
-fn too_often(page: StreamPendingCountReply, deliveries: usize) -> Vec<StreamPendingId>
-    ensures { map pending_id_meaning result.items
-        ≡ filter (λ p. nat_le deliveries p.times_delivered) (pending_ids_meaning page) }
+fn too_often(mut page: Vec<Waiting>, deliveries: usize) -> Vec<Waiting>
+    ensures { result.items ≡ filter (λ w. nat_le deliveries w.deliveries) page.items }
 {
-    let mut ids = page.ids;
-    ids.retain(|entry| entry.times_delivered >= deliveries);
-    ids
+    page.retain(|entry| entry.deliveries >= deliveries);
+    page
 }
 
 /// Where the page behind this one starts, which is behind its last id; None where this one is not
 /// full.
-fn next_start(alloc: Global, page: &[StreamPendingId]) -> Result<Option<String>, AllocError>
+fn next_start(alloc: Global, page: &[Waiting]) -> Result<Option<String>, AllocError>
     ensures { IfOk result (λ next. MatchOption next (length page.now < PAGE)
         (λ start. (PAGE ≤ length page.now) × IsBehind page.now (string_bytes start))) }
 {

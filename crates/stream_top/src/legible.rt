@@ -4,6 +4,7 @@ use redis_resp::Value;
 use std::alloc::{AllocError, Global};
 
 // A copy of a value in which each text is UTF-8.
+#[cycle(legible)]
 pub fn legible(alloc: Global, value: &Value) -> Result<Value, AllocError> {
     match value {
         Value::BulkString(bytes) => Ok(Value::BulkString(escaped(alloc, bytes)?.into_bytes())),
@@ -15,6 +16,7 @@ pub fn legible(alloc: Global, value: &Value) -> Result<Value, AllocError> {
     }
 }
 
+#[cycle(legible)]
 fn legible_all(alloc: Global, values: &Vec<Value>) -> Result<Vec<Value>, AllocError> {
     let mut copies = Vec::with_capacity(alloc, values.len())?;
     for value in values {
@@ -23,6 +25,7 @@ fn legible_all(alloc: Global, values: &Vec<Value>) -> Result<Vec<Value>, AllocEr
     Ok(copies)
 }
 
+#[cycle(legible)]
 fn legible_pairs(
     alloc: Global,
     pairs: &Vec<(Value, Value)>,
