@@ -1,6 +1,6 @@
 -- Names and values that are laid out one behind the other, and where they stand.
 use Rattle.std.proofs.Common.{◌≡◌, ◌≤◌, ◌+◌, ◌∙◌, ℕ, List, [], ◌∷◌, ◌++◌, map, flat_map, length, take, drop, sym}
-use Rattle.std.proofs.Common.{ap, arith, append_assoc, append-nil, drop-drop}
+use Rattle.std.proofs.Common.{ap, arith, append_assoc, drop-drop}
 use Rattle.std.specs.List.{AllByRecursion}
 use Rattle.std.proofs.lemmas.List.{length-append, length-drop}
 use Rattle.std.proofs.Math.Seq.{take-append_seam, drop-append_seam}
@@ -17,15 +17,6 @@ use Rattle.stream_refs.proofs.FillLemmas.{map_more}
 abbrev pub laid_bytes : List (Octets × Octets) → List ℕ
 laid_bytes ps = flat_map joined_pair (map octet_pair ps)
 
--- one more pair is copied
-pub copied_more : (done more : List ℕ) (items left all : List (Octets × Octets)) (p : Octets × Octets) → items ≡ p ∷ left
-    → more ≡ (done ++ p.0.0.items) ++ p.1.0.items → done ++ laid_bytes items ≡ laid_bytes all
-    → more ++ laid_bytes left ≡ laid_bytes all
-copied_more done more items left all p next is h =
-    let at : done ++ ((p.0.0.items ++ p.1.0.items) ++ laid_bytes left) ≡ laid_bytes all = rw next at h in
-    ap (λ (x : List ℕ). x ++ laid_bytes left) (is ∙ append_assoc done p.0.0.items p.1.0.items)
-    ∙ append_assoc done (p.0.0.items ++ p.1.0.items) (laid_bytes left) ∙ at
-
 -- The fields found so far, with those whose bytes stand from `at` on, are all.
 pub record IsLaid (bytes : List ℕ) (all : Pairs) (fields : List FieldPlace) (left : List (Octets × Octets))
     (at : ℕ) : Type 0 where
@@ -35,21 +26,6 @@ pub record IsLaid (bytes : List ℕ) (all : Pairs) (fields : List FieldPlace) (l
   pub each : AllByRecursion (IsField bytes) fields
 
 module _ (bytes : List ℕ) (all : Pairs) where
-  pub laid_starts : (pairs : List (Octets × Octets)) (fields : List FieldPlace) → fields ≡ []
-      → bytes ≡ laid_bytes pairs → all ≡ map octet_pair pairs → IsLaid bytes all fields pairs 0
-  laid_starts pairs fields none is are = rw none (record {
-    are = sym are;
-    rest = is;
-    within = omega arith;
-    each = tt;
-  })
-
-  pub laid_ends : (left : List (Octets × Octets)) (fields : List FieldPlace) (at : ℕ) → left ≡ []
-      → IsLaid bytes all fields left at → map (field_in bytes) fields ≡ all
-  laid_ends left fields at none h =
-      let done : map (field_in bytes) fields ++ [] ≡ all = rw none at h.are in
-      sym (append-nil (map (field_in bytes) fields)) ∙ done
-
   module _ (items left : List (Octets × Octets)) (p : Octets × Octets) (next : items ≡ p ∷ left)
       (fields : List FieldPlace) (at : ℕ) (h : IsLaid bytes all fields items at) where
     name_and_rest : drop at bytes ≡ p.0.0.items ++ (p.1.0.items ++ laid_bytes left)
