@@ -1,13 +1,12 @@
 -- Items that are looked at one by one, each of a kind, and why no record is made of them.
-use Rattle.std.proofs.Common.{◌≡◌, ◌<◌, ◌+◌, ◌∙◌, ℕ, List, [], ◌∷◌, map, length, drop, Option, Some, None, inl, inr}
+use Rattle.std.proofs.Common.{◌≡◌, ◌<◌, ◌+◌, ◌∙◌, ℕ, List, [], ◌∷◌, map, length, drop, inl, inr}
 use Rattle.std.proofs.Common.{⊎_elim, ap, sym, add-one}
 use Rattle.std.specs.List.{AllByRecursion}
 use Rattle.std.proofs.Math.ListN.{get_or}
 use Rattle.std.proofs.Math.Seq.{drop-cons}
 use Rattle.redis_resp.specs.declared.value.error.ParsingError.{ParsingError}
 use Rattle.stream_refs.specs.declared.places.FieldPlace.{FieldPlace}
-use Rattle.stream_refs.specs.Sent.{Pairs, AreTextFields}
-use Rattle.stream_refs.specs.Copied.{NotOwned, pairs_or_none}
+use Rattle.stream_refs.specs.Copied.{NotOwned}
 use Rattle.stream_refs.specs.Placed.{field_in}
 
 -- what refuses a part refuses the whole
@@ -38,15 +37,6 @@ module _ {A : Type 0} (P : A → Type 0) where
   left_stops items left all x error next r h =
       let at : AllIfLeft P (x ∷ left) all = rw next at h in
       not_owned_whole (P x) (AllByRecursion P all) error (λ each. (at.part each).0) r
-
--- no field says the same as no name
-pub named_none : (o : Option Pairs) → AreTextFields (Some (pairs_or_none o)) → AreTextFields o
-named_none None h = tt
-named_none (Some ps) h = h
-
-pub none_named : (o : Option Pairs) → AreTextFields o → AreTextFields (Some (pairs_or_none o))
-none_named None h = tt
-none_named (Some ps) h = h
 
 -- the field that comes next
 pub next_field : (bytes : List ℕ) (places : List FieldPlace) (i : ℕ) (d : FieldPlace) → i < length places

@@ -1,8 +1,7 @@
 -- What decoded entries mean.
 use Rattle.std.specs.Prelude.{ℕ, List, ◌++◌, map, option_map, string_bytes, Vec}
 use Rattle.std.specs.declared.alloc.Global.{Global}
-use Rattle.stream_refs.specs.Sent.{SentAutoClaim}
-use Rattle.stream_refs.specs.Sent.{Pairs, SentEntry}
+use Rattle.stream_refs.specs.Sent.{Pairs, SentEntry, SentAutoClaim}
 use Rattle.stream_refs.specs.declared.sent.Octets.{Octets}
 use Rattle.stream_refs.specs.declared.sent.OctetPairs.{OctetPairs}
 use Rattle.stream_refs.specs.declared.sent.SentRow.{SentRow}
@@ -22,7 +21,11 @@ octet_pairs ps = map octet_pair ps.0.items
 
 -- the entry that a row is
 abbrev pub sent_of : SentRow → SentEntry
-sent_of r = record { id = string_bytes r.id; fields = option_map octet_pairs r.fields; delivery = option_map (λ d. (d.elapsed, d.count)) r.delivery }
+sent_of r = record {
+  id = string_bytes r.id;
+  fields = option_map octet_pairs r.fields;
+  delivery = option_map (λ d. (d.elapsed, d.count)) r.delivery;
+}
 
 -- what rows mean, in order
 abbrev pub sent_all : Vec SentRow Global → List SentEntry
@@ -30,4 +33,8 @@ sent_all rows = map sent_of rows.items
 
 -- the answer that a claim is
 abbrev pub claim_of : SentClaim → SentAutoClaim
-claim_of c = record { next = string_bytes c.next; claimed = sent_all c.claimed; deleted = map string_bytes c.deleted.items }
+claim_of c = record {
+  next = string_bytes c.next;
+  claimed = sent_all c.claimed;
+  deleted = map string_bytes c.deleted.items;
+}

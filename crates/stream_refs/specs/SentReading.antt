@@ -9,8 +9,7 @@ use Rattle.redis_resp.specs.Table.{pairs_reading}
 use Rattle.redis_resp.specs.Text.{text_reading}
 use Rattle.redis_resp.specs.Tree.{Tree, pairs_in}
 use Rattle.stream_entries.specs.Rows.{joined}
-use Rattle.stream_refs.specs.Sent.{SentAutoClaim}
-use Rattle.stream_refs.specs.Sent.{Pairs, SentEntry, SentStream}
+use Rattle.stream_refs.specs.Sent.{Pairs, SentEntry, SentStream, SentAutoClaim}
 
 -- the bytes of a bulk string, whatever they are, and else the text that the value reads as
 abbrev pub octets_reading : Tree → Option (List ℕ)
@@ -72,7 +71,8 @@ claim_of_three q = record { next = q.0; claimed = there q.1; deleted = q.2 }
 -- an array of two is a claim that tells no deleted ids, and one of three a claim that does
 abbrev pub claim_by : Option (Tree × Tree) → Tree → Option SentAutoClaim
 claim_by (Some q) t = option_map claim_of_two (two_of text_reading claimed_rows_reading q)
-claim_by None t = option_map claim_of_three (three_reading text_reading claimed_rows_reading (list_reading text_reading) t)
+claim_by None t =
+    option_map claim_of_three (three_reading text_reading claimed_rows_reading (list_reading text_reading) t)
 
 -- what XAUTOCLAIM answers
 unfoldable pub sent_autoclaim_reading : Tree → Option SentAutoClaim

@@ -7,8 +7,7 @@ use Rattle.redis_wire.specs.declared.limits.Limits.{Limits}
 use Rattle.redis_wire.specs.Packed.{bulk_bytes}
 use Rattle.redis_wire.specs.Written.{line_bytes, count_bytes}
 use Rattle.stream_entries.specs.JustId.{JustId}
-use Rattle.stream_refs.specs.Sent.{Pairs, SentEntry, SentStream}
-use Rattle.stream_refs.specs.Sent.{SentAutoClaim}
+use Rattle.stream_refs.specs.Sent.{Pairs, SentEntry, SentStream, SentAutoClaim}
 use Rattle.stream_refs.specs.AddedIds.{deleted_count}
 
 -- the three ways to write that there is no value

@@ -40,7 +40,7 @@ pub streams_read : (t : Tree) (lists : Vec (PairList (Vec SentRow Global)) Globa
     → list_reading (pairs_reading (list_reading sent_row_reading)) t
     ≡ Some (map (λ l. entries_meaning sent_all l.0.items) lists.items)
     → sent_streams_reading t ≡ Some (streams_named lists)
-  unfolding sent_streams_reading
+unfolding sent_streams_reading
 streams_read t lists h =
     ap (option_map (λ ls. map sent_stream (joined ls))) h ∙ ap Some (named_all lists.items)
 
@@ -48,7 +48,7 @@ streams_read t lists h =
 pub streams_refused : (t : Tree) (p : ParsingError)
     → Refuses (list_reading (pairs_reading (list_reading sent_row_reading))) RefusesSentStreams t p
     → Refuses sent_streams_reading RefusesSentStreams t p
-  unfolding sent_streams_reading
+unfolding sent_streams_reading
 streams_refused t p h = (h.0, λ other. ap (option_map (λ ls. map sent_stream (joined ls))) (h.1 other))
 
 -- ---- entries with fields
