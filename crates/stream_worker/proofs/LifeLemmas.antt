@@ -218,6 +218,7 @@ module _ (settings : Settings) where
     failed_sound faults.NotAnAnswer f = stays f.2 f.3
     failed_sound (faults.Parsing e) f = starts_over f.2 f.3
     failed_sound faults.OtherStream f = starts_over f.2 f.3
+    failed_sound faults.NilFields f = starts_over f.2 f.3
     failed_sound faults.Memory f = elim f.2 [
       | inl p ↦ starts_over p.0 p.1
       | inr c ↦ was_cut f.0 f.1 c

@@ -28,10 +28,7 @@ pub fn read_entries(alloc: Global, key: &str, value: Value) -> Result<Vec<SentRo
 }
 
 /// The streams that an XREADGROUP answers.
-fn read_streams(
-    alloc: Global,
-    value: Value,
-) -> Result<Vec<(String, Vec<SentRow>)>, WorkerError>
+fn read_streams(alloc: Global, value: Value) -> Result<Vec<(String, Vec<SentRow>)>, WorkerError>
     ensures ok { IfOk result (λ r. sent_streams_reading (tree value) ≡ Some (map named r.items)) }
     ensures err { IfErr result (NoStreams (tree value)) }
 {

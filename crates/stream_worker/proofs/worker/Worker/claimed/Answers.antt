@@ -1,9 +1,8 @@
-use Rattle.std.proofs.Common.{refl}
+use Rattle.std.proofs.Common.{refl, []}
 use Rattle.redis_resp.specs.Value.{tree}
 use Rattle.stream_refs.specs.SentMeaning.{claim_of}
-use Rattle.stream_worker.specs.Errors.{read_error}
 use Rattle.stream_worker.specs.Machine.{machine_of}
-use Rattle.stream_worker.proofs.WorkerLemmas.{claim_cut, claim_unread, claim_went, err_is, memory_err}
+use Rattle.stream_worker.proofs.WorkerLemmas.{claim_cut, claim_refused, claim_went, err_is, memory_err}
 use Rattle.stream_worker.proofs.worker.Worker.claimed.Goals as goal
 
 pub returns-in_err-take-clause-err : goal.returns-in_err-take-clause-err
@@ -22,6 +21,6 @@ returns-clause-ok g c =
 
 pub returns-in_err-claim-clause-err : goal.returns-in_err-claim-clause-err
 returns-in_err-claim-clause-err g c =
-    err_is c.from_residual.result _ (read_error c.in_err-claim.field-0.0) c.from_residual.ensures.1
-    (claim_unread g.H.Handler.with_verdict c.args.self.now.settings (tree c.args.value) (machine_of c.args.self.now) _ _ _
-    (read_error c.in_err-claim.field-0.0) (c.in_err-claim.field-0.0, refl, c.in_err-claim.ensures.err) refl refl)
+    err_is c.from_residual.result _ c.in_err-claim.field-0.0 c.from_residual.ensures.1
+    (claim_refused g.H.Handler.with_verdict c.args.self.now.settings (tree c.args.value) (machine_of c.args.self.now) _ _ _
+    [] c.in_err-claim.field-0.0 c.in_err-claim.ensures.err refl refl)

@@ -1,7 +1,7 @@
 use Rattle.std.proofs.Common.{refl}
 use Rattle.redis_resp.specs.Value.{tree}
 use Rattle.stream_worker.specs.Machine.{machine_of}
-use Rattle.stream_worker.proofs.WorkerLemmas.{err_is, memory_err, news_cut, news_not_read, news_went}
+use Rattle.stream_worker.proofs.WorkerLemmas.{err_is, memory_err, news_cut, news_refused, news_went}
 use Rattle.stream_worker.proofs.worker.Worker.news.Goals as goal
 
 pub returns-in_err-take-clause-err : goal.returns-in_err-take-clause-err
@@ -28,5 +28,5 @@ returns-in_err-entries-clause-err g c =
     let said = rw c.deref.ensures at c.in_err-entries.ensures.err in
     rw c.replace-phase.ensures.after
     (err_is c.from_residual.result _ c.in_err-entries.field-0.0 c.from_residual.ensures.1
-    (news_not_read g.H.Handler.with_verdict c.args.self.now.settings (tree c.args.value)
+    (news_refused g.H.Handler.with_verdict c.args.self.now.settings (tree c.args.value)
     (machine_of c.args.self.now) _ _ _ c.in_err-entries.field-0.0 said refl refl))
