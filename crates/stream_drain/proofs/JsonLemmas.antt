@@ -1,6 +1,6 @@
 -- What a writer gives for brackets, keys and texts has no end of a line in it.
 use Rattle.std.proofs.Common.{◌≡◌, ◌≢◌, ◌+◌, ◌/◌, ◌%◌, ◌<◌, inl, inr, ℕ, Bool, true, false, cond, List, [], ◌∷◌, ◌++◌}
-use Rattle.std.proofs.Common.{refl, sym, subst, arith, ap, ◌∙◌}
+use Rattle.std.proofs.Common.{refl, sym, subst, arith, ap, ◌∙◌, flat_map, if◌then◌else◌}
 use Rattle.std.specs.Prelude.{◌||◌, ◌&&◌, ◌==◌, nat_lt}
 use Rattle.std.specs.Char.{digit_char}
 use Rattle.std.specs.List.{AllByRecursion}
@@ -9,7 +9,10 @@ use Rattle.std.proofs.lemmas.List.Folds.{list_all-append}
 use Rattle.json.specs.Token.{Token, begin_object, end_object, begin_array, end_array}
 use Rattle.json.specs.Token.{key, string, number, boolean, null, bad}
 use Rattle.json.specs.Print.{begins, ends, escape, escape_byte, escape_letter, print, print_from, separator, token_text}
+use Rattle.line_log.specs.EntryLine.{Entry}
+use Rattle.std.specs.Str.{is_utf8}
 use Rattle.stream_drain.specs.Json.{are_texts, is_text_or_bracket}
+use Rattle.stream_drain.specs.Line.{base64_tokens, bytes_tokens, end_tokens, entry_tokens, field_tokens}
 
 -- no line ends in these bytes
 abbrev HasNoEnd : List ℕ → Type 0
@@ -98,12 +101,28 @@ no_end after (t ∷ ts) are =
     (both (token_text t) (print_from (ends t) ts) (token t parts.0) (no_end (ends t) ts parts.1))
 
 -- the same of a line that holds nothing else
-pub line_end : (items before : List ℕ) (ts : List Token) → items ≡ before ++ print ts → before ≡ []
-    → are_texts ts ≡ true → HasNoEnd items
-line_end items before ts is none are =
-    subst HasNoEnd (sym (is ∙ ap (λ xs. xs ++ print ts) none)) (no_end false ts are)
+pub no_line_end : (items : List ℕ) (ts : List Token) → items ≡ print ts → are_texts ts ≡ true → HasNoEnd items
+no_line_end items ts is are = subst HasNoEnd (sym is) (no_end false ts are)
 
--- one token more
-pub text_more : (old new : List Token) (t : Token) → new ≡ old ++ t ∷ [] → is_text_or_bracket t ≡ true
-    → are_texts old ≡ true → are_texts new ≡ true
-text_more old new t is one are = grind (arith, list_all-append is_text_or_bracket old (t ∷ []), is, one, are)
+-- two lists of such tokens
+both_texts : (xs ys : List Token) → are_texts xs ≡ true → are_texts ys ≡ true → are_texts (xs ++ ys) ≡ true
+both_texts xs ys p q = grind (arith, list_all-append is_text_or_bracket xs ys, p, q)
+
+bytes_texts : (bytes : List ℕ) → are_texts (bytes_tokens bytes) ≡ true
+bytes_texts bytes = by (is_utf8 bytes)
+  where
+    by : (b : Bool) → are_texts (if b then string bytes ∷ [] else base64_tokens bytes) ≡ true
+    by true = refl
+    by false = refl
+
+field_texts : (p : List ℕ × List ℕ) → are_texts (field_tokens p) ≡ true
+field_texts p = both_texts (bytes_tokens p.0) (bytes_tokens p.1 ++ end_array ∷ []) (bytes_texts p.0)
+    (both_texts (bytes_tokens p.1) (end_array ∷ []) (bytes_texts p.1) refl)
+
+fields_texts : (ps : List (List ℕ × List ℕ)) → are_texts (flat_map field_tokens ps) ≡ true
+fields_texts [] = refl
+fields_texts (p ∷ ps) = both_texts (field_tokens p) (flat_map field_tokens ps) (field_texts p) (fields_texts ps)
+
+-- the tokens of an entry are such
+pub entry_texts : (e : Entry) → are_texts (entry_tokens e) ≡ true
+entry_texts e = both_texts (flat_map field_tokens e.1) end_tokens (fields_texts e.1) refl

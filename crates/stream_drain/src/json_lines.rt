@@ -1,7 +1,11 @@
 //! Entries as lines of JSON.
-ghost use Rattle.std.specs.Prelude.{◌≡◌, ◌≢◌, IfOk, OnOk};
+ghost use Rattle.std.specs.Prelude.{◌≡◌, ◌≢◌, ◌++◌, ◌∷◌, [], IfOk, OnOk, codes, flat_map};
 ghost use Rattle.std.specs.List.{AllByRecursion};
-ghost use Rattle.stream_drain.specs.Json.{are_texts};
+ghost use Rattle.json.specs.Print.{print};
+ghost use Rattle.json.specs.Token.{begin_object, end_object, key, string};
+ghost use Rattle.stream_drain.specs.Line.{base64_tokens, begin_tokens, bytes_tokens, end_tokens};
+ghost use Rattle.stream_drain.specs.Line.{entry_tokens, field_tokens};
+ghost use Rattle.stream_worker.specs.Handling.{pair_of};
 
 use base64::engine::general_purpose::STANDARD;
 use json::Writer;
@@ -12,6 +16,7 @@ use stream_worker::EntryRef;
 /// The line of an entry: `{"id":"1-0","fields":[["name","value"],..]}`, where a name or a value that
 /// is not UTF-8 is `{"base64":"..."}`.
 pub fn json_line(alloc: Global, entry: &EntryRef<'_>) -> Result<Vec<u8>, AllocError>
+    ensures line { IfOk result (λ line. line.items ≡ print (entry_tokens (pair_of entry.now))) }
     ensures one_line { IfOk result (λ line. AllByRecursion (λ b. b ≢ 10) line.items) }
 {
     let mut out = Writer::new(Vec::with_capacity(alloc, 128)?);
@@ -22,7 +27,7 @@ pub fn json_line(alloc: Global, entry: &EntryRef<'_>) -> Result<Vec<u8>, AllocEr
 /// An entry as an object.
 fn push_entry(alloc: Global, out: &mut Writer, entry: &EntryRef<'_>) -> Result<(), AllocError>
     ensures before { out.new.before ≡ out.old.before }
-    ensures texts { OnOk result (are_texts out.new.tokens ≡ are_texts out.old.tokens) }
+    ensures tokens { OnOk result (out.new.tokens ≡ out.old.tokens ++ entry_tokens (pair_of entry.now)) }
 {
     begin(out, entry.id())?;
     push_fields(alloc, out, entry.fields())?;
@@ -32,7 +37,7 @@ fn push_entry(alloc: Global, out: &mut Writer, entry: &EntryRef<'_>) -> Result<(
 /// The beginning of an entry, with its id, up to its fields.
 fn begin(out: &mut Writer, id: &str) -> Result<(), AllocError>
     ensures before { out.new.before ≡ out.old.before }
-    ensures texts { OnOk result (are_texts out.new.tokens ≡ are_texts out.old.tokens) }
+    ensures tokens { OnOk result (out.new.tokens ≡ out.old.tokens ++ begin_tokens id.now) }
 {
     out.begin_object()?;
     out.key("id")?;
@@ -44,7 +49,7 @@ fn begin(out: &mut Writer, id: &str) -> Result<(), AllocError>
 /// The end of an entry, behind its fields.
 fn end(out: &mut Writer) -> Result<(), AllocError>
     ensures before { out.new.before ≡ out.old.before }
-    ensures texts { OnOk result (are_texts out.new.tokens ≡ are_texts out.old.tokens) }
+    ensures tokens { OnOk result (out.new.tokens ≡ out.old.tokens ++ end_tokens) }
 {
     out.end_array()?;
     out.end_object()
@@ -53,7 +58,7 @@ fn end(out: &mut Writer) -> Result<(), AllocError>
 /// Fields, in order.
 fn push_fields(alloc: Global, out: &mut Writer, fields: FieldsRef<'_>) -> Result<(), AllocError>
     ensures before { out.new.before ≡ out.old.before }
-    ensures texts { OnOk result (are_texts out.new.tokens ≡ are_texts out.old.tokens) }
+    ensures tokens { OnOk result (out.new.tokens ≡ out.old.tokens ++ flat_map field_tokens fields.entry) }
 {
     for (name, value) in fields {
         push_field(alloc, out, name, value)?;
@@ -64,7 +69,7 @@ fn push_fields(alloc: Global, out: &mut Writer, fields: FieldsRef<'_>) -> Result
 /// A name and its value, as an array of two.
 fn push_field(alloc: Global, out: &mut Writer, name: &[u8], value: &[u8]) -> Result<(), AllocError>
     ensures before { out.new.before ≡ out.old.before }
-    ensures texts { OnOk result (are_texts out.new.tokens ≡ are_texts out.old.tokens) }
+    ensures tokens { OnOk result (out.new.tokens ≡ out.old.tokens ++ field_tokens (name.now, value.now)) }
 {
     out.begin_array()?;
     push_text(alloc, out, name)?;
@@ -75,7 +80,7 @@ fn push_field(alloc: Global, out: &mut Writer, name: &[u8], value: &[u8]) -> Res
 /// A text as a string, or, where it is not UTF-8, as an object of its Base64.
 fn push_text(alloc: Global, out: &mut Writer, bytes: &[u8]) -> Result<(), AllocError>
     ensures before { out.new.before ≡ out.old.before }
-    ensures texts { OnOk result (are_texts out.new.tokens ≡ are_texts out.old.tokens) }
+    ensures tokens { OnOk result (out.new.tokens ≡ out.old.tokens ++ bytes_tokens bytes.now) }
 {
     match str::from_utf8(bytes) {
         Ok(text) => out.string(text),
@@ -86,7 +91,7 @@ fn push_text(alloc: Global, out: &mut Writer, bytes: &[u8]) -> Result<(), AllocE
 /// Bytes as an object of their Base64.
 fn push_base64(alloc: Global, out: &mut Writer, bytes: &[u8]) -> Result<(), AllocError>
     ensures before { out.new.before ≡ out.old.before }
-    ensures texts { OnOk result (are_texts out.new.tokens ≡ are_texts out.old.tokens) }
+    ensures tokens { OnOk result (out.new.tokens ≡ out.old.tokens ++ base64_tokens bytes.now) }
 {
     let text = STANDARD.encode(alloc, bytes)?;
     push_object(out, "base64", &text)
@@ -95,7 +100,8 @@ fn push_base64(alloc: Global, out: &mut Writer, bytes: &[u8]) -> Result<(), Allo
 /// An object of one name and its text.
 fn push_object(out: &mut Writer, name: &str, text: &str) -> Result<(), AllocError>
     ensures before { out.new.before ≡ out.old.before }
-    ensures texts { OnOk result (are_texts out.new.tokens ≡ are_texts out.old.tokens) }
+    ensures tokens { OnOk result (out.new.tokens
+        ≡ out.old.tokens ++ begin_object ∷ key name.now ∷ string text.now ∷ end_object ∷ []) }
 {
     out.begin_object()?;
     out.key(name)?;

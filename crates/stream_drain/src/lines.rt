@@ -1,9 +1,14 @@
 //! Entries as lines of a file.
-ghost use Rattle.std.specs.Prelude.{◌≡◌};
+ghost use Rattle.std.specs.Prelude.{◌≡◌, ◌≢◌, ◌++◌, ◌∷◌, [], List, ℕ, OnErr, OnOk, flat_map};
+ghost use Rattle.line_log.specs.EntryLine.{field_text, line_of};
+ghost use Rattle.line_log.specs.Holds.{Holds};
+ghost use Rattle.stream_drain.specs.Line.{line_in};
+ghost use Rattle.stream_worker.specs.Handling.{pair_of};
 
 use crate::json_lines::json_line;
-use line_log::{LineLog, LogError, LogFile, push_escaped};
+use line_log::{LineLog, LogError, LogFile, push_escaped, push_field};
 use std::alloc::{AllocError, Global};
+use stream_refs::FieldsRef;
 use stream_worker::{EntryRef, Handler, NotCommitted, Verdict};
 
 /// A handler that writes each entry as a line.
@@ -39,8 +44,15 @@ impl<D: LogFile + Drop> Lines<D> {
         }
     }
 
-    // Adds the line of an entry to the log.
-    fn add(&mut self, alloc: Global, entry: &EntryRef<'_>) -> Result<(), LogError> {
+    /// Adds the line of an entry to the log.
+    fn add(&mut self, alloc: Global, entry: &EntryRef<'_>) -> Result<(), LogError>
+        ensures ok { OnOk result (self.new.log.batch.items ≡ self.old.log.batch.items
+            ++ (line_in self.old.json (pair_of entry.now) ++ 10 ∷ [])) }
+        ensures err { OnErr result (self.new.log.batch.items ≡ self.old.log.batch.items) }
+        ensures file { (self.new.log.file ≡ self.old.log.file) × (self.new.log.len ≡ self.old.log.len)
+            × (self.new.log.is_broken ≡ self.old.log.is_broken) }
+        ensures json { self.new.json ≡ self.old.json }
+    {
         match put(alloc, &mut self.text, entry, self.json) {
             Ok(()) => self.log.add_line(&self.text),
             Err(_) => Err(LogError::Memory),
@@ -57,7 +69,15 @@ impl<D: LogFile + Drop> Handler for Lines<D> {
 
     ghost history = { λ handler. tt };
 
-    fn handle(&mut self, alloc: Global, entry: &EntryRef<'_>) -> Verdict {
+    /// Gathers the line of the entry, which is done then; if it cannot, the worker stops.
+    fn handle(&mut self, alloc: Global, entry: &EntryRef<'_>) -> Verdict
+        ensures gathered { result ≡ Verdict.Done → self.new.log.batch.items ≡ self.old.log.batch.items
+            ++ (line_in self.old.json (pair_of entry.now) ++ 10 ∷ []) }
+        ensures stopped { result ≢ Verdict.Done → self.new.log.batch.items ≡ self.old.log.batch.items }
+        ensures file { (self.new.log.file ≡ self.old.log.file) × (self.new.log.len ≡ self.old.log.len)
+            × (self.new.log.is_broken ≡ self.old.log.is_broken) }
+        ensures json { self.new.json ≡ self.old.json }
+    {
         self.seen = self.seen.saturating_add(1);
         match self.add(alloc, entry) {
             Ok(()) => {
@@ -71,7 +91,22 @@ impl<D: LogFile + Drop> Handler for Lines<D> {
         }
     }
 
-    fn commit(&mut self, _alloc: Global) -> Result<(), NotCommitted> {
+    /// Writes the lines that were gathered, and has the disk take them in. After an Ok every crash leaves a
+    /// file that begins with what was committed before and these lines; after an `Err` what was committed
+    /// before stays, and the next commit writes these lines too.
+    fn commit(&mut self, _alloc: Global) -> Result<(), NotCommitted>
+        ensures holds { OnOk result ((lines : List ℕ)
+            → Holds D.seen D.may_leave D.is_sound lines self.old.log.file self.old.log.len self.old.log.is_broken
+            → Holds D.seen D.may_leave D.is_sound (lines ++ self.old.log.batch.items)
+            self.new.log.file self.new.log.len self.new.log.is_broken) }
+        ensures held { OnErr result ((lines : List ℕ)
+            → Holds D.seen D.may_leave D.is_sound lines self.old.log.file self.old.log.len self.old.log.is_broken
+            → Holds D.seen D.may_leave D.is_sound lines
+            self.new.log.file self.new.log.len self.new.log.is_broken) }
+        ensures written { OnOk result (self.new.log.batch.items ≡ []) }
+        ensures kept { OnErr result (self.new.log.batch.items ≡ self.old.log.batch.items) }
+        ensures json { self.new.json ≡ self.old.json }
+    {
         match self.log.commit() {
             Ok(()) => {
                 self.committed = self.done;
@@ -85,13 +120,15 @@ impl<D: LogFile + Drop> Handler for Lines<D> {
     }
 }
 
-// Puts the line of an entry in place of this text.
+/// Puts the line of an entry in place of this text.
 fn put(
     alloc: Global,
     text: &mut Vec<u8>,
     entry: &EntryRef<'_>,
     json: bool,
-) -> Result<(), AllocError> {
+) -> Result<(), AllocError>
+    ensures { OnOk result (text.new.items ≡ line_in json (pair_of entry.now)) }
+{
     if json {
         *text = json_line(alloc, entry)?;
         Ok(())
@@ -101,18 +138,20 @@ fn put(
     }
 }
 
-// Appends the line of an entry: its id, and its names and values in order, separated by tabs.
-fn push_line(text: &mut Vec<u8>, entry: &EntryRef<'_>) -> Result<(), AllocError> {
+/// Appends the line of an entry: its id, and its names and values in order, separated by tabs.
+fn push_line(text: &mut Vec<u8>, entry: &EntryRef<'_>) -> Result<(), AllocError>
+    ensures { OnOk result (text.new.items ≡ text.old.items ++ line_of (pair_of entry.now)) }
+{
     push_escaped(text, entry.id().as_bytes())?;
-    for (name, value) in entry.fields() {
-        push_behind_tab(text, name)?;
-        push_behind_tab(text, value)?;
-    }
-    Ok(())
+    push_fields(text, entry.fields())
 }
 
-// A text behind a tab.
-fn push_behind_tab(text: &mut Vec<u8>, more: &[u8]) -> Result<(), AllocError> {
-    text.push(b'\t')?;
-    push_escaped(text, more)
+/// Appends names and values, each behind a tab.
+fn push_fields(text: &mut Vec<u8>, fields: FieldsRef<'_>) -> Result<(), AllocError>
+    ensures { OnOk result (text.new.items ≡ text.old.items ++ flat_map field_text fields.entry) }
+{
+    for (name, value) in fields {
+        push_field(text, name, value)?;
+    }
+    Ok(())
 }

@@ -1,10 +1,11 @@
-use Rattle.std.proofs.Common.{◌≡◌}
-use Rattle.stream_drain.specs.Json.{are_texts}
+use Rattle.std.proofs.Common.{◌≡◌, ◌++◌, flat_map}
+use Rattle.stream_drain.specs.Line.{field_tokens}
 use Rattle.stream_drain.proofs.json_lines.push_fields.Given as goal
 
--- nothing but texts and brackets was added
+-- the tokens so far, and behind them those that are left, are all
 abbrev pub invariant-loop-name : goal.invariant-loop-name
 invariant-loop-name l = record {
   before : l.out.before ≡ l.fn.out.before;
-  texts : are_texts l.out.tokens ≡ are_texts l.fn.out.tokens;
+  tokens : l.out.tokens ++ flat_map field_tokens l.name-iterator
+      ≡ l.fn.out.tokens ++ flat_map field_tokens l.fn.fields;
 }
