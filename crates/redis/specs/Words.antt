@@ -140,17 +140,22 @@ pub use Rattle.stream_options.specs.TrimCalls.{final_trim}
 pub use Rattle.stream_options.specs.View.{idempotency_of, maxlen_of, mode_of, nack_of, policy_of, strategy_of}
 pub use Rattle.stream_options.specs.Words.{IsFree, among}
 pub use Rattle.stream_refs.specs.AutoClaim.{copied_autoclaim, IsAutoClaim, IsJustId}
-pub use Rattle.stream_refs.specs.Sent.{SentAutoClaim}
 pub use Rattle.stream_refs.specs.ClaimOutcome.{IsAutoClaimInPlace, IsAutoClaimOutcome, IsJustIdInPlace, IsJustIdOutcome}
 pub use Rattle.stream_refs.specs.ClaimPlaced.{AreClaimPlaces, AreJustIdPlaces, autoclaim_in, justid_in}
-pub use Rattle.stream_refs.specs.Copied.{copied, copied_stream, copied_streams, pairs_or_none}
+pub use Rattle.stream_refs.specs.Copied.{NotOwned, copied, copied_stream, copied_streams, pairs_or_none}
 pub use Rattle.stream_refs.specs.FieldValue.{signed_value, text_value, unsigned_value}
 pub use Rattle.stream_refs.specs.Held.{Held as HeldPlaces, none_held}
 pub use Rattle.stream_refs.specs.IdParts.{behind_text, id_in, id_number, id_text}
 pub use Rattle.stream_refs.specs.Outcome.{IsRangeInPlace, IsRangeOutcome, IsReadInPlace, IsReadOutcome}
 pub use Rattle.stream_refs.specs.Placed.{IsEntry, IsField, IsStream, entry_in, field_in, fields_if, stream_in}
 pub use Rattle.stream_refs.specs.Range.{IsRange, IsRead}
-pub use Rattle.stream_refs.specs.Sent.{Pairs, SentEntry, SentStream, is_none}
+pub use Rattle.stream_refs.specs.Sent.{AreAllNamed, AreNamed, AreTextFields, Pairs, SentAutoClaim, SentEntry}
+pub use Rattle.stream_refs.specs.Sent.{SentStream, is_none}
+pub use Rattle.stream_refs.specs.SentMeaning.{claim_of, octet_pair, octet_pairs, sent_all, sent_of}
+pub use Rattle.stream_refs.specs.SentReading.{octet_pairs_reading, octets_reading, sent_autoclaim_reading}
+pub use Rattle.stream_refs.specs.SentReading.{sent_fields_reading, sent_row_reading, sent_streams_reading}
+pub use Rattle.stream_refs.specs.SentRefusal.{RefusesOctetPairs, RefusesOctets, RefusesSentAutoClaim}
+pub use Rattle.stream_refs.specs.SentRefusal.{RefusesSentFields, RefusesSentRow, RefusesSentStreams}
 pub use Rattle.stream_refs.specs.Shapes.{BeginsWithAutoClaim, BeginsWithJustId, BeginsWithRange, BeginsWithStreams}
 pub use Rattle.stream_sentences.specs.Split.{HasNoSplit, IsOneSplit, IsSplit, arguments}
 pub use Rattle.stream_sentences.specs.Told.{WroteAnswer, WroteAnswerBeginning}

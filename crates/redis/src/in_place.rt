@@ -2,9 +2,9 @@
 //! their order, and one that comes twice is there twice.
 pub use stream_refs::{
     AutoClaimJustIdRef, AutoClaimOutcome, AutoClaimPlace, AutoClaimRef, Delivery, EntriesRef,
-    EntryPlace, EntryRef, EntryTables, EntryTape, FieldError, FieldPlace, FieldsRef, Full, IdsRef,
-    JustIdOutcome, Places, RangeOutcome, RangeRef, ReadOutcome, ReadRef, StreamIdParts,
-    StreamPlace, StreamRef, StreamsRef, find_autoclaim, find_claimed_streams, find_justid,
-    find_range, find_streams, read_any_autoclaim, read_any_justid, read_any_range,
-    read_any_streams,
+    EntryPlace, EntryRef, EntryRoom, EntryTables, EntryTape, FieldError, FieldPlace, FieldsRef,
+    Full, IdsRef, JustIdOutcome, OctetPairs, Octets, Places, RangeOutcome, RangeRef, ReadOutcome,
+    ReadRef, SentClaim, SentRow, StreamIdParts, StreamPlace, StreamRef, StreamsRef, find_autoclaim,
+    find_claimed_streams, find_justid, find_range, find_streams, read_any_autoclaim,
+    read_any_justid, read_any_range, read_any_streams,
 };
