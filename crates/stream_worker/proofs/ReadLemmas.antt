@@ -12,7 +12,7 @@ use Rattle.redis_resp.specs.declared.value.pair.PairList.{PairList}
 use Rattle.redis_resp.specs.Refusal.{Refuses}
 use Rattle.redis_resp.specs.declared.value.error.ParsingError.{ParsingError}
 use Rattle.stream_entries.specs.Rows.{joined}
-use Rattle.stream_refs.specs.Sent.{SentEntry, SentStream, is_none}
+use Rattle.stream_refs.specs.Sent.{SentEntry, is_none}
 use Rattle.stream_refs.specs.SentMeaning.{octet_pairs, sent_all, sent_of}
 use Rattle.stream_refs.specs.declared.sent.OctetPairs.{OctetPairs}
 use Rattle.stream_refs.specs.SentReading.{sent_row_reading, sent_stream, sent_streams_reading}

@@ -1,7 +1,7 @@
 -- What the loop over entries keeps.
 use Rattle.std.proofs.Common.{◌≡◌, refl, sym, ap, subst, ◌∙◌, ℕ, Bool, true, false, ◌+◌, zero, suc, get_or}
 use Rattle.std.proofs.Common.{arith, Result, Ok, Err, List, [], ◌∷◌, ◌++◌, map, take, length, ◌<◌, append_assoc, Option}
-use Rattle.std.proofs.Common.{Some, None, if◌then◌else◌}
+use Rattle.std.proofs.Common.{if◌then◌else◌}
 use Rattle.stream_group.specs.Worker.{Id, Delivered, Verdict, follows, acks_one, told_one, of_each, acks_in, told_in}
 use Rattle.stream_group.specs.Worker.{ending, went_through, stopped, cut_off}
 use Rattle.stream_refs.specs.Sent.{Pairs, SentEntry}
