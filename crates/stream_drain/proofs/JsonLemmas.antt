@@ -10,7 +10,8 @@ use Rattle.json.specs.Token.{Token, begin_object, end_object, begin_array, end_a
 use Rattle.json.specs.Token.{key, string, number, boolean, null, bad}
 use Rattle.json.specs.Print.{begins, ends, escape, escape_byte, escape_letter, print, print_from, separator, token_text}
 use Rattle.line_log.specs.EntryLine.{Entry}
-use Rattle.std.specs.Str.{is_utf8}
+use Rattle.std.specs.Str.{IsUtf8, is_utf8}
+use Rattle.std.proofs.lemmas.Str.{IsUtf8-from_is_utf8}
 use Rattle.stream_drain.specs.Json.{are_texts, is_text_or_bracket}
 use Rattle.stream_drain.specs.Line.{base64_tokens, bytes_tokens, end_tokens, entry_tokens, field_tokens}
 
@@ -126,3 +127,15 @@ fields_texts (p ∷ ps) = both_texts (field_tokens p) (flat_map field_tokens ps)
 -- the tokens of an entry are such
 pub entry_texts : (e : Entry) → are_texts (entry_tokens e) ≡ true
 entry_texts e = both_texts (flat_map field_tokens e.1) end_tokens (fields_texts e.1) refl
+
+-- the tokens of a text
+pub text_tokens : (bytes : List ℕ) → is_utf8 bytes ≡ true → bytes_tokens bytes ≡ string bytes ∷ []
+text_tokens bytes is = ap (λ (b : Bool). if b then string bytes ∷ [] else base64_tokens bytes) is
+
+-- and of bytes that are none
+pub other_tokens : (bytes : List ℕ) → (IsUtf8 bytes → ⊥) → bytes_tokens bytes ≡ base64_tokens bytes
+other_tokens bytes no_text = by (is_utf8 bytes) refl
+  where
+    by : (b : Bool) → is_utf8 bytes ≡ b → bytes_tokens bytes ≡ base64_tokens bytes
+    by true is = absurd (no_text (IsUtf8-from_is_utf8 bytes is))
+    by false is = ap (λ (b : Bool). if b then string bytes ∷ [] else base64_tokens bytes) is

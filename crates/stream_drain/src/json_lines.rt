@@ -2,7 +2,7 @@
 ghost use Rattle.std.specs.Prelude.{◌≡◌, ◌≢◌, ◌++◌, ◌∷◌, [], IfOk, OnOk, codes, flat_map};
 ghost use Rattle.std.specs.List.{AllByRecursion};
 ghost use Rattle.json.specs.Print.{print};
-ghost use Rattle.json.specs.Token.{begin_object, end_object, key, string};
+ghost use Rattle.json.specs.Token.{begin_array, begin_object, end_object, key, string};
 ghost use Rattle.stream_drain.specs.Line.{base64_tokens, begin_tokens, bytes_tokens, end_tokens};
 ghost use Rattle.stream_drain.specs.Line.{entry_tokens, field_tokens};
 ghost use Rattle.stream_worker.specs.Handling.{pair_of};
@@ -39,11 +39,29 @@ fn begin(out: &mut Writer, id: &str) -> Result<(), AllocError>
     ensures before { out.new.before ≡ out.old.before }
     ensures tokens { OnOk result (out.new.tokens ≡ out.old.tokens ++ begin_tokens id.now) }
 {
-    out.begin_object()?;
-    out.key("id")?;
-    out.string(id)?;
+    begin_id(out, id)?;
+    begin_fields(out)
+}
+
+/// The beginning of the fields.
+fn begin_fields(out: &mut Writer) -> Result<(), AllocError>
+    ensures before { out.new.before ≡ out.old.before }
+    ensures tokens { OnOk result (out.new.tokens
+        ≡ out.old.tokens ++ key (codes "fields") ∷ begin_array ∷ []) }
+{
     out.key("fields")?;
     out.begin_array()
+}
+
+/// The beginning of an object, with the id.
+fn begin_id(out: &mut Writer, id: &str) -> Result<(), AllocError>
+    ensures before { out.new.before ≡ out.old.before }
+    ensures tokens { OnOk result (out.new.tokens
+        ≡ out.old.tokens ++ begin_object ∷ key (codes "id") ∷ string id.now ∷ []) }
+{
+    out.begin_object()?;
+    out.key("id")?;
+    out.string(id)
 }
 
 /// The end of an entry, behind its fields.
