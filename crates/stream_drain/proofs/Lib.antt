@@ -1,3 +1,4 @@
 -- Lemmas on lines of JSON and on dead letters.
 pub mod DeadLemmas
 pub mod JsonLemmas
+pub mod WrittenLemmas

@@ -3,3 +3,4 @@ pub mod Dead
 pub mod Json
 pub mod Line
 pub mod Report
+pub mod Written

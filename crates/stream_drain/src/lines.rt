@@ -1,9 +1,10 @@
 //! Entries as lines of a file.
-ghost use Rattle.std.specs.Prelude.{◌≡◌, ◌≢◌, ◌++◌, ◌∷◌, [], List, ℕ, OnErr, OnOk, flat_map};
+ghost use Rattle.std.specs.Prelude.{◌≡◌, ◌++◌, ◌∷◌, [], List, ℕ, OnErr, OnOk, flat_map};
 ghost use Rattle.line_log.specs.EntryLine.{field_text, line_of};
 ghost use Rattle.line_log.specs.Holds.{Holds};
 ghost use Rattle.stream_drain.specs.Line.{line_in};
-ghost use Rattle.stream_worker.specs.Handling.{pair_of};
+ghost use Rattle.stream_drain.specs.Written.{Written, committed_with, written_too};
+ghost use Rattle.stream_worker.specs.Handling.{pair_of, verdict_of};
 
 use crate::json_lines::json_line;
 use line_log::{LineLog, LogError, LogFile, push_escaped, push_field};
@@ -61,22 +62,20 @@ impl<D: LogFile + Drop> Lines<D> {
 }
 
 impl<D: LogFile + Drop> Handler for Lines<D> {
-    ghost History = { Unit {0} };
+    ghost History = { Written };
 
-    ghost with_verdict = { λ history e verdict. history };
+    ghost with_verdict = { written_too };
 
-    ghost with_commit = { λ history. history };
+    ghost with_commit = { committed_with };
 
-    ghost history = { λ handler. tt };
+    ghost history = { λ h. record { json = h.json; loose = h.log.batch.items } };
 
     /// Gathers the line of the entry, which is done then; if it cannot, the worker stops.
     fn handle(&mut self, alloc: Global, entry: &EntryRef<'_>) -> Verdict
-        ensures gathered { result ≡ Verdict.Done → self.new.log.batch.items ≡ self.old.log.batch.items
-            ++ (line_in self.old.json (pair_of entry.now) ++ 10 ∷ []) }
-        ensures stopped { result ≢ Verdict.Done → self.new.log.batch.items ≡ self.old.log.batch.items }
+        ensures history { ⟦<Lines<D> as Handler>⟧.history self.new
+            ≡ written_too (⟦<Lines<D> as Handler>⟧.history self.old) (pair_of entry.now) (verdict_of result) }
         ensures file { (self.new.log.file ≡ self.old.log.file) × (self.new.log.len ≡ self.old.log.len)
             × (self.new.log.is_broken ≡ self.old.log.is_broken) }
-        ensures json { self.new.json ≡ self.old.json }
     {
         self.seen = self.seen.saturating_add(1);
         match self.add(alloc, entry) {
@@ -103,9 +102,10 @@ impl<D: LogFile + Drop> Handler for Lines<D> {
             → Holds D.seen D.may_leave D.is_sound lines self.old.log.file self.old.log.len self.old.log.is_broken
             → Holds D.seen D.may_leave D.is_sound lines
             self.new.log.file self.new.log.len self.new.log.is_broken) }
-        ensures written { OnOk result (self.new.log.batch.items ≡ []) }
-        ensures kept { OnErr result (self.new.log.batch.items ≡ self.old.log.batch.items) }
-        ensures json { self.new.json ≡ self.old.json }
+        ensures history { OnOk result (⟦<Lines<D> as Handler>⟧.history self.new
+            ≡ committed_with (⟦<Lines<D> as Handler>⟧.history self.old)) }
+        ensures history_kept { OnErr result (⟦<Lines<D> as Handler>⟧.history self.new
+            ≡ ⟦<Lines<D> as Handler>⟧.history self.old) }
     {
         match self.log.commit() {
             Ok(()) => {

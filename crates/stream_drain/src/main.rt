@@ -21,6 +21,7 @@ mod backlog;
 mod dead;
 mod drain;
 mod json_lines;
+mod laws;
 mod lines;
 mod options;
 mod report;
