@@ -2,3 +2,4 @@
 pub mod DeadLemmas
 pub mod JsonLemmas
 pub mod WrittenLemmas
+pub mod LivedLemmas

@@ -17,7 +17,7 @@ lines_more json (d ∷ es) e = ap (λ (ls : List ℕ). (line_in json d ++ 10 ∷
 abbrev gathered : Bool → List ℕ → Written
 gathered json ls = record { json = json; loose = ls }
 
-each_verdict : (json : Bool) (d : Doings) (e : Entry) (v : Verdict)
+pub each_verdict : (json : Bool) (d : Doings) (e : Entry) (v : Verdict)
     → written_of json (done_too d e v) ≡ written_too (written_of json d) e v
 each_verdict json d e done = ap (gathered json) (lines_more json d.loose e)
 each_verdict json d e left_pending = refl

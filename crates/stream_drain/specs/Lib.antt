@@ -4,3 +4,4 @@ pub mod Json
 pub mod Line
 pub mod Report
 pub mod Written
+pub mod Lived

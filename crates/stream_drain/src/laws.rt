@@ -1,8 +1,16 @@
-//! The lines that are gathered, beside what a handler did.
+//! What holds of the lines that are gathered, over the rounds of a worker.
+ghost use Rattle.stream_drain.specs.Lived.{RoundsAreLived};
 ghost use Rattle.stream_drain.specs.Written.{GathersItsLines};
 
 /// What is gathered is the lines of the entries that were done and not committed, in order: each verdict and
 /// each commit changes the two alike.
 pub fn gathers_its_lines()
     ensures { GathersItsLines }
+{}
+
+/// Each round over the lines is a round of a worker's life, in which some entries were done and the lines of
+/// those that are not committed are what is gathered. So the laws of `stream_worker` hold of it: before an id
+/// is acknowledged its entry was done and that was committed, or the server said that it was deleted.
+pub fn rounds_are_lived()
+    ensures { RoundsAreLived }
 {}
