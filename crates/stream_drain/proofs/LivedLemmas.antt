@@ -1,6 +1,6 @@
 -- Rounds of one history seen as rounds of another, of which it is a picture.
 use Rattle.std.proofs.Common.{◌≡◌, ◌∙◌, refl, sym, ap, subst, inl, inr, ℕ, Bool, true, false, List, [], ◌∷◌, ◌++◌}
-use Rattle.std.proofs.Common.{Option, Some, None, if◌then◌else◌}
+use Rattle.std.proofs.Common.{Option, Some, None, if◌then◌else◌, append_assoc, append-nil}
 use Rattle.redis_connection.specs.Link.{Link}
 use Rattle.redis_wire.specs.Reply as wire
 use Rattle.stream_group.specs.Worker.{Id, Verdict, Machine, after, entries_in, told_in}
@@ -26,7 +26,7 @@ use Rattle.stream_worker.specs.declared.state.Asked.TheVariants.{Nothing}
 use Rattle.stream_worker.specs.declared.state.GroupState.{GroupState}
 use Rattle.stream_worker.specs.declared.state.Settings.{Settings}
 use Rattle.stream_worker.specs.declared.worker.Progress.{Progress}
-use Rattle.stream_drain.specs.Lived.{LivesOnSo, LivesSo, RoundsAreLived, newborn_with, with_doings}
+use Rattle.stream_drain.specs.Lived.{LivesFrom, LivesOnSo, LivesSo, RoundsAreLived, with_doings}
 use Rattle.stream_drain.specs.Written.{Written, committed_with, written_of, written_too}
 use Rattle.stream_drain.proofs.WrittenLemmas.{each_verdict}
 
@@ -67,7 +67,7 @@ module _ {R S : Type 0} (vR : R → List ℕ × Pairs → Verdict → R) (cR : R
   turn_map : (w : Standing R) (t : Turn) → after_turn vS cS settings (seen w) t ≡ seen (after_turn vR cR settings w t)
   turn_map w t =
       ap (λ (x : Standing S). having_heard vS x (group_after settings x.group x.asked t.answer)
-          (hears settings x.asked t.answer) t.verdicts) (asking_map w)
+      (hears settings x.asked t.answer) t.verdicts) (asking_map w)
       ∙ heard_map (asking cR settings w) _ _ t.verdicts
 
   no_answer_back : (a : wire.Answer) → IsNoAnswer vS a → IsNoAnswer vR a
@@ -88,23 +88,23 @@ module _ {R S : Type 0} (vR : R → List ℕ × Pairs → Verdict → R) (cR : R
   failed_back q a m n r s faults.Memory h = elim h.2 [
     | inl p ↦ (r, p.1, (h.0, h.1, inl (p.0, refl)))
     | inr c ↦ (
-        with_all vR r (told_in (entries_in c.answer) c.took.verdicts),
-        c.took.history ∙ all_map r (told_in (entries_in c.answer) c.took.verdicts),
-        (
-          h.0,
-          h.1,
-          inr (record {
-            answer = c.answer;
-            said = c.said;
-            took = record {
-              verdicts = c.took.verdicts;
-              machine = c.took.machine;
-              history = refl;
-              ended = c.took.ended;
-            };
-          }),
-        ),
-      )
+      with_all vR r (told_in (entries_in c.answer) c.took.verdicts),
+      c.took.history ∙ all_map r (told_in (entries_in c.answer) c.took.verdicts),
+      (
+        h.0,
+        h.1,
+        inr (record {
+          answer = c.answer;
+          said = c.said;
+          took = record {
+            verdicts = c.took.verdicts;
+            machine = c.took.machine;
+            history = refl;
+            ended = c.took.ended;
+          };
+        }),
+      ),
+    )
   ]
 
   unasked_back : (m n : Machine) (r : R) (s : S) (e : RequestError) → Unasked cS m n (f r) s e
@@ -167,8 +167,7 @@ module _ (settings : Settings) (json : Bool) where
       let b = turned_back done_too committed_too written_too committed_with (written_of json) (each_verdict json)
       (λ d. refl) settings old new v x q p
       (subst (λ (s : Standing Written). Turned written_too committed_with settings old new s x q p)
-      (drawn_is w deleted l) t) in
-      (
+      (drawn_is w deleted l) t) in (
         deleted_told settings v b.0.answer,
         lives_so x (after_turn done_too committed_too settings v b.0) _ b.1 (goes_on v deleted b.0 l.lives),
       )
@@ -180,14 +179,39 @@ module _ (settings : Settings) (json : Bool) where
       let b = fails_back done_too committed_too written_too committed_with (written_of json) (each_verdict json)
       (λ d. refl) settings old new v x e
       (subst (λ (s : Standing Written). Fails written_too committed_with settings old new s x e)
-      (drawn_is w deleted l) h) in
-      (
+      (drawn_is w deleted l) h) in (
         deleted_at settings old new v b.0 e b.2,
         lives_so x b.0 _ b.1 (fails v b.0 deleted old new e b.2 l.lives),
       )
 
+-- a round that goes on
+pub round_goes_on : (settings : Settings) (old new : Link) (w x : Standing Written) (q : Asked) (p : Progress)
+    → Turned written_too committed_with settings old new w x q p → LivesFrom settings w x
+round_goes_on settings old new w x q p t json deleted l = turn_lived settings json old new w x deleted l q p t
+
+-- and one that fails
+pub round_fails : (settings : Settings) (old new : Link) (w x : Standing Written) (e : RunError)
+    → Fails written_too committed_with settings old new w x e → LivesFrom settings w x
+round_fails settings old new w x e h json deleted l = failure_lived settings json old new w x deleted l e h
+
 pub lived : RoundsAreLived
-lived settings json = (
-  record { doings = record { loose = []; committed = [] }; lives = begins; written = refl },
-  λ old new w x deleted l. (turn_lived settings json old new w x deleted l, failure_lived settings json old new w x deleted l),
+lived settings = (
+  λ json. record { doings = record { loose = []; committed = [] }; lives = begins; written = refl },
+  round_goes_on settings,
+  round_fails settings,
 )
+
+-- nothing happened
+pub from_same : (settings : Settings) (w : Standing Written) → LivesFrom settings w w
+from_same settings w json deleted l =
+    ([], subst (λ (ids : List Id). LivesSo settings json w ids) (sym (append-nil deleted)) l)
+
+-- one after the other
+pub from_both : (settings : Settings) (w x y : Standing Written) → LivesFrom settings w x → LivesFrom settings x y
+    → LivesFrom settings w y
+from_both settings w x y a b json deleted l =
+    let c = a json deleted l in
+    let d = b json (deleted ++ c.0) c.1 in (
+      c.0 ++ d.0,
+      subst (λ (ids : List Id). LivesSo settings json y ids) (append_assoc deleted c.0 d.0) d.1,
+    )

@@ -1,10 +1,10 @@
 -- The lines of doings.
-use Rattle.std.proofs.Common.{◌≡◌, ◌∙◌, refl, sym, ap, ℕ, Bool, List, [], ◌∷◌, ◌++◌, append_assoc, append-nil, flat_map}
+use Rattle.std.proofs.Common.{◌≡◌, ◌∙◌, refl, sym, ap, ℕ, Bool, List, [], ◌∷◌, ◌++◌, append_assoc, append-nil}
 use Rattle.line_log.specs.EntryLine.{Entry}
 use Rattle.stream_group.specs.Worker.{Verdict, done, left_pending, stop}
-use Rattle.stream_worker.specs.Gathered.{Doings, done_too, committed_too}
+use Rattle.stream_worker.specs.Gathered.{Doings, done_too}
 use Rattle.stream_drain.specs.Line.{line_in}
-use Rattle.stream_drain.specs.Written.{GathersItsLines, Written, committed_with, lines_in, written_of, written_too}
+use Rattle.stream_drain.specs.Written.{GathersItsLines, Written, lines_in, written_of, written_too}
 
 -- the lines of entries and one more
 lines_more : (json : Bool) (es : List Entry) (e : Entry)

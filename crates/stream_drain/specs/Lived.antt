@@ -28,6 +28,11 @@ pub record LivesSo (settings : Settings) (json : Bool) (w : Standing Written) (d
 abbrev pub LivesOnSo : Settings → Bool → Standing Written → List Id → Type 0
 LivesOnSo settings json w deleted = (more : List Id) × LivesSo settings json w (deleted ++ more)
 
+-- wherever it lives so at first, it lives on so in the end
+abbrev pub LivesFrom : Settings → Standing Written → Standing Written → Type 0
+LivesFrom settings w x = (json : Bool) (deleted : List Id) → LivesSo settings json w deleted
+    → LivesOnSo settings json x deleted
+
 -- a new worker, whose handler has gathered nothing
 abbrev pub newborn_with : Settings → Bool → Standing Written
 newborn_with settings json = record {
@@ -39,8 +44,8 @@ newborn_with settings json = record {
 
 -- the law: so a worker begins; and where it lives so it lives on so, after a round that goes on and after one that fails
 abbrev pub RoundsAreLived : Type 0
-RoundsAreLived = (settings : Settings) (json : Bool) → LivesSo settings json (newborn_with settings json) []
-    × ((old new : Link) (w x : Standing Written) (deleted : List Id) → LivesSo settings json w deleted
-    → ((q : Asked) (p : Progress) → Turned written_too committed_with settings old new w x q p
-    → LivesOnSo settings json x deleted)
-    × ((e : RunError) → Fails written_too committed_with settings old new w x e → LivesOnSo settings json x deleted))
+RoundsAreLived = (settings : Settings) → ((json : Bool) → LivesSo settings json (newborn_with settings json) [])
+    × ((old new : Link) (w x : Standing Written) (q : Asked) (p : Progress)
+    → Turned written_too committed_with settings old new w x q p → LivesFrom settings w x)
+    × ((old new : Link) (w x : Standing Written) (e : RunError)
+    → Fails written_too committed_with settings old new w x e → LivesFrom settings w x)

@@ -1,5 +1,7 @@
 //! The loop of the program: it asks, and takes the answers.
-ghost use Rattle.std.specs.Prelude.{IfOk, IsTrue};
+ghost use Rattle.std.specs.Prelude.{◌≡◌, IfOk, IsTrue};
+ghost use Rattle.stream_drain.specs.Lived.{LivesFrom};
+ghost use Rattle.stream_worker.specs.Session.{standing_of};
 
 use crate::backlog::{Backlog, Watched, backlog_of};
 use crate::dead::Dead;
@@ -15,7 +17,7 @@ use std::fmt;
 use std::io::{Read, Write};
 use std::rt::Clock;
 use stream_commands::xinfo_groups;
-use stream_worker::{Asked, Progress, RequestError, RunError, Worker};
+use stream_worker::{Asked, Handler, Progress, RequestError, RunError, Worker};
 
 /// The limit on what a connection holds, as `Limits::default` has it.
 const LARGEST: &str = "1 GiB";
@@ -30,21 +32,43 @@ pub fn drain<R: Read + Drop, W: Write + Drop, D: LogFile + Drop, T: Clock + Epri
     dead: &mut Option<Dead>,
     until_empty: bool,
 ) -> Result<()>
-    ensures { IfOk result (λ _. IsTrue until_empty) }
+    ensures ended { IfOk result (λ _. IsTrue until_empty) }
+    ensures lives { LivesFrom worker.old.settings
+        (standing_of worker.old (⟦<Lines<D> as Handler>⟧.history lines.old))
+        (standing_of worker.new (⟦<Lines<D> as Handler>⟧.history lines.new)) }
 {
     let mut asked = Asked::Nothing;
     for _ in 0..u64::MAX {
-        look(rt.alloc(), connection, lines, dead, asked)?;
         let seen = lines.seen;
-        asked = round(rt.alloc(), connection, worker, lines)?;
-        if asked == Asked::Acknowledgement {
-            count(rt, connection, report, lines.committed)?;
-        }
+        asked = turn(rt, connection, worker, lines, report, dead, asked)?;
         if until_empty && asked == Asked::News && lines.seen == seen {
             return Ok(());
         }
     }
     bail!("the last turn came")
+}
+
+/// Looks for entries to give up, makes a round, and counts: what was asked.
+fn turn<R: Read + Drop, W: Write + Drop, D: LogFile + Drop, T: Clock + Eprint + AllocGlobal>(
+    rt: &T,
+    connection: &mut Connection<R, W>,
+    worker: &mut Worker,
+    lines: &mut Lines<D>,
+    report: &mut Report,
+    dead: &mut Option<Dead>,
+    asked: Asked,
+) -> Result<Asked>
+    ensures settings { worker.new.settings ≡ worker.old.settings }
+    ensures lives { LivesFrom worker.old.settings
+        (standing_of worker.old (⟦<Lines<D> as Handler>⟧.history lines.old))
+        (standing_of worker.new (⟦<Lines<D> as Handler>⟧.history lines.new)) }
+{
+    look(rt.alloc(), connection, lines, dead, asked)?;
+    let asked = round(rt.alloc(), connection, worker, lines)?;
+    if asked == Asked::Acknowledgement {
+        count(rt, connection, report, lines.committed)?;
+    }
+    Ok(asked)
 }
 
 // Looks for entries that were delivered too often, where they are given up.
@@ -61,13 +85,18 @@ fn look<R: Read + Drop, W: Write + Drop, D: LogFile + Drop>(
     }
 }
 
-// Makes a round, after which the worker goes on: what was asked.
+/// Makes a round, after which the worker goes on: what was asked.
 fn round<R: Read + Drop, W: Write + Drop, D: LogFile + Drop>(
     alloc: Global,
     connection: &mut Connection<R, W>,
     worker: &mut Worker,
     lines: &mut Lines<D>,
-) -> Result<Asked> {
+) -> Result<Asked>
+    ensures settings { worker.new.settings ≡ worker.old.settings }
+    ensures lives { LivesFrom worker.old.settings
+        (standing_of worker.old (⟦<Lines<D> as Handler>⟧.history lines.old))
+        (standing_of worker.new (⟦<Lines<D> as Handler>⟧.history lines.new)) }
+{
     match worker.round(alloc, connection, lines) {
         Ok(round) => match round.progress {
             Progress::GoesOn => Ok(round.asked),
