@@ -13,7 +13,7 @@
 #![tactic(auto)]
 
 use anyhow::{Result, anyhow};
-use redis_resp::{FromRedisValue, ToRedisArgs, Value, from_redis_value};
+use redis_resp::{FromRedisValue, RawBytes, ToRedisArgs, Value, from_redis_value};
 use redis_streams::{StreamInfoFullConsumer, StreamInfoFullGroup, StreamInfoFullReply};
 use redis_wire::{Limits, Reply, ReplyError, ReplyStream, from_reply, pack_command};
 use std::alloc::{AllocError, Global};
@@ -35,7 +35,7 @@ const WAIT: usize = 1000;
 fn ask<R: Read, W: Write>(
     alloc: Global,
     connection: &mut Connection<R, W>,
-    key: &[u8],
+    key: &RawBytes,
 ) -> Result<(StreamInfoFullReply, usize)> {
     connection.send(alloc, &"TIME")?;
     connection.send(alloc, &xinfo_stream_full_count(key, COUNT))?;
@@ -50,7 +50,7 @@ fn ask<R: Read, W: Write>(
 fn wait<R: Read, W: Write>(
     alloc: Global,
     connection: &mut Connection<R, W>,
-    key: &[u8],
+    key: &RawBytes,
     last_id: &str,
 ) -> Result<()> {
     let options = StreamReadOptions::default().block(WAIT).count(1);
@@ -67,11 +67,12 @@ fn main(rt: HostRuntime) -> Result<()> {
     let (Some(key), Some(rounds)) = (word_at(alloc, &rt, 1)?, word_at(alloc, &rt, 2)?) else {
         return Err(anyhow!("wanted: KEY ROUNDS"));
     };
+    let key = RawBytes(key);
     let rounds: u32 = escaped(alloc, &rounds)?.parse()?;
     let mut connection = Connection::new(alloc, rt.reader(), io::writer(&rt));
     for round in 0..rounds {
         let (stream, now) = ask(alloc, &mut connection, &key)?;
-        let text = page(alloc, &escaped(alloc, &key)?, &stream, now)?;
+        let text = page(alloc, &escaped(alloc, &key.0)?, &stream, now)?;
         eprint!(rt; "{text}")?;
         if round + 1 < rounds {
             wait(alloc, &mut connection, &key, &stream.last_generated_id)?;
