@@ -1,0 +1,115 @@
+-- What each event does to the stream, the files and the letters.
+use Rattle.std.proofs.Common.{◌≡◌, refl, sym, ap, subst, ◌∙◌, ℕ, Bool, true, false, List, [], ◌∷◌, ◌++◌, map, Option}
+use Rattle.std.proofs.Common.{Some, None, if◌then◌else◌, ◌&&◌, append-nil}
+use Rattle.std.proofs.lemmas.Slice.Eq.{bytes_eq-Decides}
+use Rattle.std.specs.Str.{bytes_eq}
+use Rattle.line_log.specs.EntryLine.{Entry}
+use Rattle.line_log.specs.Lines.{StartsWith}
+use Rattle.stream_group.specs.Worker.{Id, Verdict}
+use Rattle.stream_group.specs.Group.{Name, Numbers, id_text, is_below, fits, listed, ids_of}
+use Rattle.stream_group.specs.World.{World, Reply, Append, Delete, Read, Reread, Claim, Claim_ids, Comes, Commit}
+use Rattle.stream_group.specs.World.{Acknowledge, Ack_comes, Go_back, Crash, item, comes, ack_comes, with_one, log_of}
+use Rattle.stream_group.specs.World as group
+use Rattle.stream_files.specs.Files.{Form, Fields, Files, Event, Goes, Commits, Reopens, commits, reopens, happens, run}
+
+-- the event of the group that an event is
+abbrev pub of_group : Event → group.Event Fields
+of_group (Goes event) = event
+of_group (Commits consumer gives_up) = Commit consumer
+of_group (Reopens consumer every torn) = Crash consumer every
+
+goes_alone : (form : Form) (f : Files) (e : group.Event Fields)
+    → (happens form f (Goes e)).stream ≡ group.happens f.stream e
+goes_alone form f (Append n fields) = refl
+goes_alone form f (Delete id) = refl
+goes_alone form f (Read c n) = refl
+goes_alone form f (Reread c pick) = refl
+goes_alone form f (Claim c pick next) = refl
+goes_alone form f (Claim_ids c pick) = refl
+goes_alone form f (Comes k vs) = refl
+goes_alone form f (Commit c) = refl
+goes_alone form f (Acknowledge c) = refl
+goes_alone form f (Ack_comes k) = refl
+goes_alone form f (Go_back c) = refl
+goes_alone form f (Crash c every) = refl
+
+-- the stream goes on as if there were no files
+pub one_alone : (form : Form) (f : Files) (e : Event) → (happens form f e).stream ≡ group.happens f.stream (of_group e)
+one_alone form f (Goes e) = goes_alone form f e
+one_alone form f (Commits c g) = refl
+one_alone form f (Reopens c every torn) = refl
+
+pub alone : (form : Form) (es : List Event) (f : Files)
+    → (run form es f).stream ≡ group.run (map of_group es) f.stream
+alone form [] f = refl
+alone form (e ∷ es) f =
+    alone form es (happens form f e) ∙ ap (λ w. group.run (map of_group es) w) (one_alone form f e)
+
+-- ---- what commits
+
+Same : World Fields → World Fields → Type 0
+Same w v = v.committed ≡ w.committed
+
+appends : (w : World Fields) (n : Numbers) (fields : Fields) (b : Bool)
+    → (if b then record w { fresh = w.fresh ++ (id_text n, fields) ∷ []; last = n } else w).committed ≡ w.committed
+appends w n fields true = refl
+appends w n fields false = refl
+
+deletes : (w : World Fields) (id : Id) (b : Bool)
+    → (if b then record w { deleted = id ∷ w.deleted } else w).committed ≡ w.committed
+deletes w id true = refl
+deletes w id false = refl
+
+answers : (w : World Fields) (k : ℕ) (vs : List Verdict) (r : Option (Reply Fields))
+    → (comes w k r vs).committed ≡ w.committed
+answers w k vs None = refl
+answers w k vs (Some r) = refl
+
+acks : (w : World Fields) (a : Option (Name × List Id)) → (ack_comes w a).committed ≡ w.committed
+acks w None = refl
+acks w (Some a) = refl
+
+-- an event is a commit, or a crash, or one that changes no file, no letter, and nothing that is committed
+module _ (form : Form) (f : Files) (P : Files → Type 0)
+    (on_commit : (c : Name) (gives_up : Entry → Bool) → P (commits form f c gives_up))
+    (on_crash : (c : Name) (every : ℕ) → P (reopens f c every []))
+    (other : (e : group.Event Fields) → (group.happens f.stream e).committed ≡ f.stream.committed
+    → P (record f { stream = group.happens f.stream e })) where
+  pub by_kind : (e : group.Event Fields) → P (happens form f (Goes e))
+  by_kind (Append n fields) =
+      other (Append n fields) (appends f.stream n fields (is_below f.stream.last n && fits n))
+  by_kind (Delete id) = other (Delete id) (deletes f.stream id (listed (ids_of (log_of f.stream)) id))
+  by_kind (Read c n) = other (Read c n) refl
+  by_kind (Reread c pick) = other (Reread c pick) refl
+  by_kind (Claim c pick next) = other (Claim c pick next) refl
+  by_kind (Claim_ids c pick) = other (Claim_ids c pick) refl
+  by_kind (Comes k vs) = other (Comes k vs) (answers f.stream k vs (item f.stream.replies k))
+  by_kind (Commit c) = on_commit c (λ e. false)
+  by_kind (Acknowledge c) = other (Acknowledge c) refl
+  by_kind (Ack_comes k) = other (Ack_comes k) (acks f.stream (item f.stream.acks k))
+  by_kind (Go_back c) = other (Go_back c) refl
+  by_kind (Crash c every) = on_crash c every
+
+-- ---- one of the files
+
+-- what is there for the one
+pub at_one : {A : Type 0} (each : Name → A) (name : Name) (a : A) → with_one each name a name ≡ a
+at_one each name a =
+    ap (λ b. if b then a else each name) ((bytes_eq-Decides name name).1 refl)
+
+-- what is said of each is still so, where it is so of the one
+pub at_each : {A : Type 0} (each : Name → A) (name : Name) (a : A) (P : Name → A → Type 0)
+    → ((other : Name) → P other (each other)) → P name a → (other : Name) → P other (with_one each name a other)
+at_each each name a P old new other =
+    let case : (b : Bool) → bytes_eq name other ≡ b → P other (if b then a else each other)
+    = λ b. elim b as (λ b. bytes_eq name other ≡ b → P other (if b then a else each other)) [
+      | true ↦ λ q. subst (λ n. P n a) ((bytes_eq-Decides name other).0 q) new
+      | false ↦ λ q. old other
+    ] in
+    case (bytes_eq name other) refl
+
+-- if the one begins with what it was, each does
+pub each_starts : (each : Name → List ℕ) (name : Name) (a : List ℕ) → StartsWith (each name) a
+    → (other : Name) → StartsWith (each other) (with_one each name a other)
+each_starts each name a starts other =
+    at_each each name a (λ n x. StartsWith (each n) x) (λ n. ([], sym (append-nil (each n)))) starts other

@@ -1,0 +1,89 @@
+-- A stream with its group, the file of each worker, and the letters of what was given up; and what may happen.
+use Rattle.std.specs.Prelude.{◌≡◌, ℕ, List, [], ◌∷◌, ◌++◌, ◌==◌, ◌||◌, Bool, true, false, not, filter, flat_map}
+use Rattle.std.specs.Prelude.{if◌then◌else◌}
+use Rattle.line_log.specs.EntryLine.{Entry}
+use Rattle.line_log.specs.Lines.{HasNoEnd}
+use Rattle.stream_group.specs.Group.{Name}
+use Rattle.stream_group.specs.World.{World, Commit, Crash, empty_world, with_one}
+use Rattle.stream_group.specs.World as group
+
+-- names and values, in order
+abbrev pub Fields : Type 0
+Fields = List (List ℕ × List ℕ)
+
+-- how an entry is written as a line: no line ends within it, and two entries with the same line are the same
+pub record Form : Type 0 where
+  pub line : Entry → List ℕ
+  pub whole : (e : Entry) → HasNoEnd (line e)
+  pub tells : (a b : Entry) → line a ≡ line b → a ≡ b
+
+-- the lines of entries, each with its end
+abbrev pub lines : Form → List Entry → List ℕ
+lines form es = flat_map (λ e. form.line e ++ 10 ∷ []) es
+
+-- a line ends among these bytes
+abbrev pub has_end : List ℕ → Bool
+has_end [] = false
+has_end (b ∷ bs) = b == 10 || has_end bs
+
+-- the bytes up to the last line feed: what is left once a file is opened and repaired
+abbrev pub whole_lines : List ℕ → List ℕ
+whole_lines [] = []
+whole_lines (b ∷ bs) = if has_end (b ∷ bs) then b ∷ whole_lines bs else []
+
+pub record Files : Type 0 where
+  pub stream : World Fields  -- the stream, its group and its workers
+  pub file : Name → List ℕ  -- of each worker's file the bytes that no crash takes back
+  pub letters : List Entry  -- the entries whose letter was added, and the reply to that came
+
+-- nothing was added yet, and each worker has opened its file, which had these bytes before
+abbrev pub first_files : (Name → List ℕ) → Files
+first_files before = record { stream = empty_world; file = λ name. whole_lines (before name); letters = [] }
+
+-- what may happen next. A commit that fails is no event: no byte of it is committed
+pub data Event : Type 0 where
+  -- something of `stream_group`
+  Goes : (event : group.Event Fields) → Event
+  -- a worker commits what its handler did. Each of these entries was given up: its letter was added, and the reply
+  -- came. Of each other entry a line is written and synced
+  Commits : (consumer : Name) (gives_up : Entry → Bool) → Event
+  -- a worker crashes, and is started again. Its file has what was committed and any bytes after it, and is cut after
+  -- its last line feed
+  Reopens : (consumer : Name) (every : ℕ) (torn : List ℕ) → Event
+
+-- the lines that a commit writes
+abbrev pub batch : Form → Files → Name → (Entry → Bool) → List ℕ
+batch form f consumer gives_up = lines form (filter (λ e. not (gives_up e)) (f.stream.loose consumer))
+
+-- a worker's lines are committed, and its letters were added
+abbrev pub commits : Form → Files → Name → (Entry → Bool) → Files
+commits form f consumer gives_up = record {
+  stream = group.happens f.stream (Commit consumer);
+  file = with_one f.file consumer (f.file consumer ++ batch form f consumer gives_up);
+  letters = f.letters ++ filter gives_up (f.stream.loose consumer);
+}
+
+-- a worker knows nothing, and has the whole lines of what a crash left
+abbrev pub reopens : Files → Name → ℕ → List ℕ → Files
+reopens f consumer every torn = record {
+  stream = group.happens f.stream (Crash consumer every);
+  file = with_one f.file consumer (whole_lines (f.file consumer ++ torn));
+  letters = f.letters;
+}
+
+-- an event of `stream_group`: a commit gives up nothing, and a crash leaves nothing but what is committed
+abbrev pub goes : Form → Files → group.Event Fields → Files
+goes form f (Commit consumer) = commits form f consumer (λ e. false)
+goes form f (Crash consumer every) = reopens f consumer every []
+goes form f event = record f { stream = group.happens f.stream event }
+
+-- what an event makes of the files
+abbrev pub happens : Form → Files → Event → Files
+happens form f (Goes event) = goes form f event
+happens form f (Commits consumer gives_up) = commits form f consumer gives_up
+happens form f (Reopens consumer every torn) = reopens f consumer every torn
+
+-- a whole schedule
+abbrev pub run : Form → List Event → Files → Files
+run form [] f = f
+run form (e ∷ es) f = run form es (happens form f e)

@@ -1,0 +1,3 @@
+-- Workers of a group, each with a file of lines of its own.
+pub mod Files
+pub mod Law
