@@ -11,9 +11,9 @@ use Rattle.stream_group.specs.Law as group_law
 use Rattle.stream_group.specs.Law.{Among}
 use Rattle.stream_group.proofs.Among.{among_left, among_right, among_split, among_filter, among_filtered}
 use Rattle.stream_group.proofs.Lost as lost
-use Rattle.stream_files.specs.Files.{Form, Fields, Files, Event, Goes, Commits, Reopens, first_files, lines, batch, commits}
+use Rattle.stream_files.specs.Files.{Form, Fields, Files, Event, Goes, Commits, Reopens, first_files, batch, commits}
 use Rattle.stream_files.specs.Files.{reopens, happens, run, whole_lines}
-use Rattle.stream_files.specs.Law.{after, log, IsLineIn, IsInAFile, HasLetter, IsKept, EachEntryIsKept, IsSettled}
+use Rattle.stream_files.specs.Law.{after, IsLineIn, IsInAFile, HasLetter, IsKept, EachEntryIsKept, IsSettled}
 use Rattle.stream_files.specs.Law.{AcknowledgedIsInAFile, FilesGrow, LettersStay, LettersAreOfTheLog}
 use Rattle.stream_files.proofs.Whole.{lines_join, whole_are_lines, whole_behind}
 use Rattle.stream_files.proofs.LineLemmas.{line_stays, line_behind, are_lines, line_among}

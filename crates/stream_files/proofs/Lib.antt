@@ -4,4 +4,5 @@ pub mod Whole
 pub mod Step
 pub mod Kept
 pub mod OfLog
+mod BoundLemmas
 mod Sample

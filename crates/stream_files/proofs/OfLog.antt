@@ -1,5 +1,5 @@
 -- If each crash leaves only first bytes, a file has only lines of entries that were added.
-use Rattle.std.proofs.Common.{◌≡◌, ◌⊎◌, inl, inr, refl, sym, ap, subst, ◌∙◌, ℕ, Bool, false, not, List, [], ◌∷◌, ◌++◌}
+use Rattle.std.proofs.Common.{◌≡◌, inl, inr, refl, sym, ap, subst, ◌∙◌, ℕ, Bool, false, not, List, [], ◌∷◌, ◌++◌}
 use Rattle.std.proofs.Common.{filter, append_assoc, append-nil}
 use Rattle.line_log.specs.EntryLine.{Entry}
 use Rattle.line_log.specs.Lines.{StartsWith}
@@ -7,15 +7,15 @@ use Rattle.stream_group.specs.Group.{Name}
 use Rattle.stream_group.specs.World.{World, log_of}
 use Rattle.stream_group.specs.World as group
 use Rattle.stream_group.specs.Law.{Among}
-use Rattle.stream_group.proofs.Among.{among_left, among_right, among_split, among_filtered}
+use Rattle.stream_group.proofs.Among.{among_split, among_filtered}
 use Rattle.stream_group.proofs.Lost as lost
 use Rattle.stream_group.proofs.Unique.{log_grows}
 use Rattle.stream_files.specs.Files.{Form, Fields, Files, Event, Goes, Commits, Reopens, first_files, lines, batch, commits}
 use Rattle.stream_files.specs.Files.{reopens, happens, run, whole_lines}
-use Rattle.stream_files.specs.Law.{after, log, IsLineIn, LeavesFront, AllLeaveFronts, FilesAreOfTheLog}
+use Rattle.stream_files.specs.Law.{after, IsLineIn, LeavesFront, AllLeaveFronts, FilesAreOfTheLog}
 use Rattle.stream_files.specs.Law.{LinesAreOfTheLog}
 use Rattle.stream_files.proofs.Whole.{whole_behind}
-use Rattle.stream_files.proofs.LineLemmas.{FirstOf, first_of, lines_append, entry_told}
+use Rattle.stream_files.proofs.LineLemmas.{first_of, lines_append, entry_told}
 use Rattle.stream_files.proofs.Step.{of_group, one_alone, by_kind, at_each}
 use Rattle.stream_files.proofs.Kept as kept
 

@@ -1,12 +1,11 @@
 -- Schedules of a worker with a file: once it committed, its line is there after each crash; before, it may be there
 -- or not; and an entry that is given up has a letter in its place.
-use Rattle.std.proofs.Common.{◌≡◌, refl, ℕ, Bool, true, false, List, [], ◌∷◌, ◌++◌, codes}
+use Rattle.std.proofs.Common.{◌≡◌, refl, ℕ, true, false, List, [], ◌∷◌, ◌++◌, codes}
 use Rattle.std.specs.Fmt.{digits}
 use Rattle.line_log.specs.EntryLine.{Entry}
 use Rattle.stream_group.specs.Worker.{done}
 use Rattle.stream_group.specs.Group.{Name, id_text}
 use Rattle.stream_group.specs.World.{Append, Read, Reread, Comes, Commit, Acknowledge, Ack_comes, Crash}
-use Rattle.stream_group.specs.Law.{IsPending}
 use Rattle.stream_files.specs.Files.{Fields, Files, Event, Goes, Commits, Reopens, first_files}
 use Rattle.stream_files.specs.Law.{after, AllLeaveFronts}
 use Rattle.stream_files.proofs.Whole.{text}

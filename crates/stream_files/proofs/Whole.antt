@@ -1,8 +1,8 @@
 -- The whole lines of bytes.
-use Rattle.std.proofs.Common.{◌≡◌, ◌≢◌, ◌⊎◌, inl, inr, refl, sym, ap, subst, ◌∙◌, ℕ, Bool, true, false, ◌||◌, ◌==◌, arith}
-use Rattle.std.proofs.Common.{List, [], ◌∷◌, ◌++◌, append_assoc, append-nil, Option, Some, if◌then◌else◌}
+use Rattle.std.proofs.Common.{◌≡◌, ◌≢◌, inl, inr, refl, sym, ap, subst, ◌∙◌, ℕ, Bool, true, false, ◌||◌, ◌==◌, arith}
+use Rattle.std.proofs.Common.{List, [], ◌∷◌, ◌++◌, append_assoc, append-nil, Some, if◌then◌else◌}
 use Rattle.std.proofs.lemmas.Bool.Decides.{nat_tests}
-use Rattle.line_log.specs.Lines.{HasNoEnd, AreLines, IsLinesAnd}
+use Rattle.line_log.specs.Lines.{HasNoEnd, AreLines}
 use Rattle.line_log.specs.EntryLine.{line_of}
 use Rattle.line_log.proofs.EndLemmas.{split}
 use Rattle.line_log.proofs.EntryLineLemmas.{line_whole, line_tells}

@@ -1,5 +1,5 @@
 -- A stream with its group, the file of each worker, and the letters of what was given up; and what may happen.
-use Rattle.std.specs.Prelude.{◌≡◌, ℕ, List, [], ◌∷◌, ◌++◌, ◌==◌, ◌||◌, Bool, true, false, not, filter, flat_map}
+use Rattle.std.specs.Prelude.{◌≡◌, ℕ, List, [], ◌∷◌, ◌++◌, ◌==◌, ◌||◌, Bool, false, not, filter, flat_map}
 use Rattle.std.specs.Prelude.{if◌then◌else◌}
 use Rattle.line_log.specs.EntryLine.{Entry}
 use Rattle.line_log.specs.Lines.{HasNoEnd}

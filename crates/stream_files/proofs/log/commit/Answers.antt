@@ -1,0 +1,16 @@
+use Rattle.std.proofs.lemmas.Result.{on_ok_weaker}
+use Rattle.stream_files.proofs.BoundLemmas.{commits_so, leaves_so}
+use Rattle.stream_files.proofs.log.commit.Goals as goal
+
+pub returns-clause-committed : goal.returns-clause-committed
+returns-clause-committed g c =
+    on_ok_weaker c.commit.result
+    (commits_so g.D.LogFile.seen g.D.LogFile.may_leave g.D.LogFile.is_sound c.args.log.now.batch.items
+    c.args.log.now.file c.args.log.now.len c.args.log.now.is_broken c.commit.new.self.file c.commit.new.self.len
+    c.commit.new.self.is_broken)
+    c.commit.ensures.holds
+
+pub returns-clause-any_moment : goal.returns-clause-any_moment
+returns-clause-any_moment g c =
+    leaves_so g.D.LogFile.seen g.D.LogFile.may_leave g.D.LogFile.is_sound g.D.LogFile.moment g.D.LogFile.left_since
+    c.args.log.now.file c.args.log.now.len c.args.log.now.is_broken c.commit.new.self.file c.commit.ensures.keeps

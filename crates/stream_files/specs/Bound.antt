@@ -1,0 +1,34 @@
+-- What the calls of `line_log` do to a worker's file, in the words of the model.
+use Rattle.std.specs.Prelude.{◌≡◌, ℕ, List, ◌++◌, Bool, Option, Some}
+use Rattle.line_log.specs.Device.{LeavesOnly}
+use Rattle.line_log.specs.Holds.{Holds}
+use Rattle.line_log.specs.EntryLine.{Entry}
+use Rattle.stream_group.specs.Group.{Name}
+use Rattle.stream_files.specs.Files.{Form, Files, batch, commits, reopens}
+use Rattle.stream_files.specs.Law.{MayLeave}
+
+module _ {D : Type 0} (seen : D → Option (List ℕ)) (may_leave : D → List ℕ → Type 0) (is_sound : D → Type 0) where
+  -- a log with this file, so many committed bytes, and whether a commit failed, holds the worker's file
+  abbrev pub HoldsFile : D → ℕ → Bool → Files → Name → Type 0
+  HoldsFile file len is_broken f name = Holds seen may_leave is_sound (f.file name) file len is_broken
+
+  -- opened on what a crash left, it holds the file that the worker has after `Reopens`
+  abbrev pub OpensSo : D → D → ℕ → Bool → Type 0
+  OpensSo old new len is_broken = (f : Files) (name : Name) (every : ℕ) (torn : List ℕ)
+      → seen old ≡ Some (f.file name ++ torn) → HoldsFile new len is_broken (reopens f name every torn) name
+
+  -- if it held the file and gathered the lines of a commit, it holds the file that the worker has after `Commits`
+  abbrev pub CommitsSo : List ℕ → D → ℕ → Bool → D → ℕ → Bool → Type 0
+  CommitsSo gathered old old_len was_broken new len is_broken =
+      (form : Form) (f : Files) (name : Name) (gives_up : Entry → Bool) → gathered ≡ batch form f name gives_up
+      → HoldsFile old old_len was_broken f name → HoldsFile new len is_broken (commits form f name gives_up) name
+
+  -- if it held the file, it holds the same
+  abbrev pub KeepsSo : D → ℕ → Bool → D → ℕ → Bool → Type 0
+  KeepsSo old old_len was_broken new len is_broken = (f : Files) (name : Name)
+      → HoldsFile old old_len was_broken f name → HoldsFile new len is_broken f name
+
+  -- if it held the file, a crash at any moment of the call leaves what the model says
+  abbrev pub LeavesSo : (D → ℕ) → (D → ℕ → List ℕ → Type 0) → D → ℕ → Bool → D → Type 0
+  LeavesSo moment left_since old old_len was_broken new = (f : Files) (name : Name)
+      → HoldsFile old old_len was_broken f name → LeavesOnly moment left_since old new (MayLeave f name)
