@@ -6,3 +6,4 @@ pub mod Kept
 pub mod OfLog
 mod BoundLemmas
 mod Sample
+mod Wrong
