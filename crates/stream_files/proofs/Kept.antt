@@ -5,7 +5,7 @@ use Rattle.line_log.specs.EntryLine.{Entry}
 use Rattle.line_log.specs.Lines.{AreLines, StartsWith}
 use Rattle.stream_group.specs.Worker.{Id}
 use Rattle.stream_group.specs.Group.{Name}
-use Rattle.stream_group.specs.World.{World, log_of, empty_world, with_one}
+use Rattle.stream_group.specs.World.{World, log_of, empty_world}
 use Rattle.stream_group.specs.World as group
 use Rattle.stream_group.specs.Law as group_law
 use Rattle.stream_group.specs.Law.{Among}

@@ -1,7 +1,6 @@
 -- Schedules that refute the wrong definitions of planted/: after each, a file lacks a line that it has to have.
-use Rattle.std.proofs.Common.{◌≡◌, refl, ℕ, true, false, List, [], ◌∷◌, ◌++◌, filter, codes}
+use Rattle.std.proofs.Common.{◌≡◌, refl, ℕ, false, List, [], ◌∷◌, ◌++◌, filter, codes}
 use Rattle.std.specs.Fmt.{digits}
-use Rattle.line_log.specs.EntryLine.{Entry}
 use Rattle.stream_group.specs.Worker.{done}
 use Rattle.stream_group.specs.Group.{Name, id_text}
 use Rattle.stream_group.specs.World.{Append, Read, Comes, Commit, with_one}

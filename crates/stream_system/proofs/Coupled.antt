@@ -1,0 +1,312 @@
+-- Each move of the system is some events of `stream_files`.
+use Rattle.std.proofs.Common.{◌≡◌, refl, sym, ap, subst, ◌∙◌, ℕ, Bool, true, false, List, [], ◌∷◌, ◌++◌, filter}
+use Rattle.std.proofs.Common.{append-nil, Option, Some, None, if◌then◌else◌}
+use Rattle.std.proofs.lemmas.Slice.Eq.{bytes_eq-Decides}
+use Rattle.std.specs.Str.{bytes_eq}
+use Rattle.line_log.specs.EntryLine.{Entry}
+use Rattle.stream_group.specs.Worker.{Verdict, Machine, Delivered, entries_in, handled_in, start}
+use Rattle.stream_group.specs.Worker.{after, after_commit, begins_again}
+use Rattle.stream_group.specs.Group.{Name}
+use Rattle.stream_group.specs.World.{World, Reply, Append, Delete, Read, Reread, Claim, Claim_ids, Comes, Commit}
+use Rattle.stream_group.specs.World.{Acknowledge, Ack_comes, Go_back, Crash, item, but, comes, with_one}
+use Rattle.stream_group.specs.World as group
+use Rattle.stream_files.specs.Files.{Fields, Form, Files, Goes, Reopens, first_files, lines, whole_lines}
+use Rattle.stream_files.specs.Files as files
+use Rattle.stream_worker.specs.Answers.{Heard, told, no_group, group_made}
+use Rattle.stream_worker.specs.Gathered.{Doings, done_too, committed_too}
+use Rattle.stream_worker.specs.Machine.{commits}
+use Rattle.stream_worker.specs.Session.{Standing, having_heard}
+use Rattle.stream_worker.specs.declared.state.Asked.{Asked}
+use Rattle.stream_worker.specs.declared.state.GroupState.{GroupState}
+use Rattle.stream_worker.specs.declared.state.Settings.{Settings}
+use Rattle.stream_worker.proofs.StepLemmas.{all_done}
+use Rattle.stream_system.specs.System.{Server, System, Move, Serves, Commits, Sends, Hears, Breaks, Restarts, server_of}
+use Rattle.stream_system.specs.System.{world_with, first_system, with_worker, waiting, heard, still_coming, new_worker}
+use Rattle.stream_system.specs.System.{moves, run}
+use Rattle.stream_system.specs.Law.{IsReplyTo, HearsTruly, AllHearTruly}
+use Rattle.stream_system.proofs.Served.{IsServed, append, delete, read, reread, claim, claim_ids, ack_came}
+
+-- ---- one of many
+
+-- both change at the same place
+both_one : {A B C : Type 0} (fs : Name → A) (gs : Name → B) (q : A → C) (p : B → C) (name : Name) (a : A) (b : B)
+    → ((n : Name) → q (fs n) ≡ p (gs n)) → q a ≡ p b → (n : Name) → q (with_one fs name a n) ≡ p (with_one gs name b n)
+both_one fs gs q p name a b old new n =
+    let case : (t : Bool) → q (if t then a else fs n) ≡ p (if t then b else gs n)
+    = λ t. elim t as (λ t. q (if t then a else fs n) ≡ p (if t then b else gs n)) [ true ↦ new | false ↦ old n ] in
+    case (bytes_eq name n)
+
+-- one of the two changes, and what is said of it stays
+one_side : {A B : Type 0} (fs : Name → A) (gs : Name → B) (p : B → A) (name : Name) (b : B)
+    → ((n : Name) → fs n ≡ p (gs n)) → fs name ≡ p b → (n : Name) → fs n ≡ p (with_one gs name b n)
+one_side fs gs p name b old new n =
+    let case : (t : Bool) → bytes_eq name n ≡ t → fs n ≡ p (if t then b else gs n)
+    = λ t. elim t as (λ t. bytes_eq name n ≡ t → fs n ≡ p (if t then b else gs n)) [
+      | true ↦ λ q. subst (λ m. fs m ≡ p b) ((bytes_eq-Decides name n).0 q) new
+      | false ↦ λ q. old n
+    ] in
+    case (bytes_eq name n) refl
+
+filter_all : {A : Type 0} (xs : List A) → filter (λ x. true) xs ≡ xs
+filter_all [] = refl
+filter_all (x ∷ xs) = ap (λ ys. x ∷ ys) (filter_all xs)
+
+filter_none : {A : Type 0} (xs : List A) → filter (λ x. false) xs ≡ []
+filter_none [] = refl
+filter_none (x ∷ xs) = filter_none xs
+
+-- ---- the system and the model side by side
+
+abbrev machine_in : Standing Doings → Machine
+machine_in w = w.machine
+
+abbrev loose_in : Standing Doings → List Entry
+loose_in w = w.history.loose
+
+pub record Coupled (s : System) (f : Files) : Type 0 where
+  pub server : server_of f.stream ≡ s.server
+  pub file : (n : Name) → f.file n ≡ s.file n
+  pub machine : (n : Name) → f.stream.workers n ≡ (s.workers n).machine
+  pub loose : (n : Name) → f.stream.loose n ≡ (s.workers n).history.loose
+  pub no_letters : f.letters ≡ []
+
+module _ (form : Form) where
+  -- some events lead there
+  pub record Follows (s : System) (f : Files) : Type 0 where
+    pub events : List files.Event
+    pub coupled : Coupled s (files.run form events f)
+
+  nothing_happens : (s : System) (f : Files) → Coupled s f → Follows s f
+  nothing_happens s f c = record { events = []; coupled = c }
+
+  -- ---- the server
+
+  served : (s : System) (f : Files) → Coupled s f → (e : group.Event Fields) → IsServed f.stream e
+      → Coupled (record s { server = server_of (group.happens (world_with s.server) e) })
+      (record f { stream = group.happens f.stream e })
+  served s f c e i = record {
+    server = i.server ∙ ap (λ sv. server_of (group.happens (world_with sv) e)) c.server;
+    file = c.file;
+    machine = λ n. i.workers n ∙ c.machine n;
+    loose = λ n. i.loose n ∙ c.loose n;
+    no_letters = c.no_letters;
+  }
+
+  serve : (s : System) (f : Files) → Coupled s f → (e : group.Event Fields) → Follows (moves form s (Serves e)) f
+  serve s f c (Append n fields) = record {
+    events = Goes (Append n fields) ∷ [];
+    coupled = served s f c (Append n fields) (append f.stream n fields);
+  }
+  serve s f c (Delete id) = record {
+    events = Goes (Delete id) ∷ [];
+    coupled = served s f c (Delete id) (delete f.stream id);
+  }
+  serve s f c (Read name n) = record {
+    events = Goes (Read name n) ∷ [];
+    coupled = served s f c (Read name n) (read f.stream name n);
+  }
+  serve s f c (Reread name pick) = record {
+    events = Goes (Reread name pick) ∷ [];
+    coupled = served s f c (Reread name pick) (reread f.stream name pick);
+  }
+  serve s f c (Claim name pick next) = record {
+    events = Goes (Claim name pick next) ∷ [];
+    coupled = served s f c (Claim name pick next) (claim f.stream name pick next);
+  }
+  serve s f c (Claim_ids name pick) = record {
+    events = Goes (Claim_ids name pick) ∷ [];
+    coupled = served s f c (Claim_ids name pick) (claim_ids f.stream name pick);
+  }
+  serve s f c (Ack_comes k) = record {
+    events = Goes (Ack_comes k) ∷ [];
+    coupled = served s f c (Ack_comes k) (ack_came f.stream k);
+  }
+  serve s f c (Comes k vs) = nothing_happens s f c
+  serve s f c (Commit name) = nothing_happens s f c
+  serve s f c (Acknowledge name) = nothing_happens s f c
+  serve s f c (Go_back name) = nothing_happens s f c
+  serve s f c (Crash name every) = nothing_happens s f c
+
+  -- ---- a worker
+
+  -- it commits, if it does
+  abbrev having_committed : System → Name → Bool → System
+  having_committed s name b = record (with_worker s name (record (s.workers name) {
+    machine = if b then after_commit (s.workers name).machine else (s.workers name).machine;
+    history = if b then committed_too (s.workers name).history else (s.workers name).history;
+  })) {
+    file = with_one s.file name
+        (s.file name ++ (if b then lines form (s.workers name).history.loose else []));
+  }
+
+  commit : (s : System) (f : Files) → Coupled s f → (name : Name) (b : Bool) → Follows (having_committed s name b) f
+  commit s f c name true =
+      let w : Standing Doings = s.workers name in
+      let now : Standing Doings = record w { machine = after_commit w.machine; history = committed_too w.history } in
+      let batch : files.batch form f name (λ e. false) ≡ lines form w.history.loose =
+      ap (λ es. lines form es) (filter_all (f.stream.loose name)) ∙ ap (λ es. lines form es) (c.loose name) in
+      record {
+        events = Goes (Commit name) ∷ [];
+        coupled = record {
+          server = c.server;
+          file = both_one f.file s.file (λ xs. xs) (λ xs. xs) name (f.file name ++ files.batch form f name (λ e. false))
+              (s.file name ++ lines form w.history.loose) c.file
+              (ap (λ xs. xs ++ files.batch form f name (λ e. false)) (c.file name) ∙ ap (λ xs. s.file name ++ xs) batch);
+          machine = both_one f.stream.workers s.workers (λ m. m) machine_in name (after_commit (f.stream.workers name)) now
+              c.machine (ap after_commit (c.machine name));
+          loose = both_one f.stream.loose s.workers (λ es. es) loose_in name [] now c.loose refl;
+          no_letters = ap (λ es. f.letters ++ es) (filter_none (f.stream.loose name)) ∙ append-nil f.letters ∙ c.no_letters;
+        };
+      }
+  commit s f c name false = record {
+    events = [];
+    coupled = record {
+      server = c.server;
+      file = one_side f.file s.file (λ xs. xs) name (s.file name ++ []) c.file
+          (c.file name ∙ sym (append-nil (s.file name)));
+      machine = one_side f.stream.workers s.workers machine_in name (s.workers name) c.machine (c.machine name);
+      loose = one_side f.stream.loose s.workers loose_in name (s.workers name) c.loose (c.loose name);
+      no_letters = c.no_letters;
+    };
+  }
+
+  send : (s : System) (f : Files) → Coupled s f → (name : Name) (settings : Settings)
+      → Follows (moves form s (Sends name settings)) f
+  send s f c name settings =
+      let w : Standing Doings = s.workers name in
+      record {
+        events = Goes (Acknowledge name) ∷ [];
+        coupled = record {
+          server =
+              ap (λ sv. let x : Server = record sv { acks = (name, (f.stream.workers name).to_acknowledge) ∷ sv.acks } in x) c.server
+              ∙ ap (λ (m : Machine). let x : Server = record s.server { acks = (name, m.to_acknowledge) ∷ s.server.acks } in x)
+              (c.machine name);
+          file = c.file;
+          machine = one_side f.stream.workers s.workers machine_in name (waiting settings w) c.machine (c.machine name);
+          loose = one_side f.stream.loose s.workers loose_in name (waiting settings w) c.loose (c.loose name);
+          no_letters = c.no_letters;
+        };
+      }
+
+  -- it hears this
+  abbrev having_told : System → Name → GroupState → ℕ → Option Heard → List Verdict → System
+  having_told s name state which o vs = record (with_worker s name (having_heard done_too (s.workers name) state o vs)) {
+    server = record s.server { replies = still_coming s.server.replies which o };
+  }
+
+  -- nothing that the machine hears
+  unmoved : (s : System) (f : Files) → Coupled s f → (name : Name) (x : Standing Doings)
+      → x.machine ≡ (s.workers name).machine → x.history ≡ (s.workers name).history → Follows (with_worker s name x) f
+  unmoved s f c name x machine history = record {
+    events = [];
+    coupled = record {
+      server = c.server;
+      file = c.file;
+      machine = one_side f.stream.workers s.workers machine_in name x c.machine (c.machine name ∙ sym machine);
+      loose = one_side f.stream.loose s.workers loose_in name x c.loose
+          (c.loose name ∙ sym (ap (λ (d : Doings). d.loose) history));
+      no_letters = c.no_letters;
+    };
+  }
+
+  hear : (s : System) (f : Files) → Coupled s f → (name : Name) (state : GroupState) (which : ℕ) (o : Option Heard)
+      (vs : List Verdict) → IsReplyTo s name which o → Follows (having_told s name state which o vs) f
+  hear s f c name state which None vs h =
+      unmoved s f c name (having_heard done_too (s.workers name) state None vs) refl refl
+  hear s f c name state which (Some no_group) vs h =
+      unmoved s f c name (having_heard done_too (s.workers name) state (Some no_group) vs) refl refl
+  hear s f c name state which (Some group_made) vs h =
+      unmoved s f c name (having_heard done_too (s.workers name) state (Some group_made) vs) refl refl
+  hear s f c name state which (Some (told a)) vs h =
+      let w : Standing Doings = s.workers name in
+      let r : Reply Fields = record { consumer = name; answer = a } in
+      let o : Option Heard = Some (told a) in
+      let x : Standing Doings = having_heard done_too w state o vs in
+      let es : List (Delivered Fields) = entries_in a in
+      let here : item f.stream.replies which ≡ Some r = ap (λ (sv : Server). item sv.replies which) c.server ∙ h in
+      let there : group.happens f.stream (Comes which vs) ≡ comes f.stream which (Some r) vs =
+      ap (λ q. comes f.stream which q vs) here in
+      let P : World Fields → Type 0 = λ v. Coupled (having_told s name state which o vs) (record f { stream = v }) in
+      let did : x.history.loose ≡ w.history.loose ++ handled_in es vs =
+      ap (λ (d : Doings). d.loose) (all_done w.history es vs) in
+      record {
+        events = Goes (Comes which vs) ∷ [];
+        coupled = subst P (sym there) (record {
+          server = ap (λ sv. let y : Server = record sv { replies = but sv.replies which } in y) c.server;
+          file = c.file;
+          machine = both_one f.stream.workers s.workers (λ m. m) machine_in name (after (f.stream.workers name) a vs) x
+              c.machine (ap (λ m. after m a vs) (c.machine name));
+          loose = both_one f.stream.loose s.workers (λ l. l) loose_in name (f.stream.loose name ++ handled_in es vs) x
+              c.loose (ap (λ l. l ++ handled_in es vs) (c.loose name) ∙ sym did);
+          no_letters = c.no_letters;
+        });
+      }
+
+  begin_again : (s : System) (f : Files) → Coupled s f → (name : Name) (state : GroupState) (question : Asked)
+      → Follows (moves form s (Breaks name state question)) f
+  begin_again s f c name state question =
+      let w : Standing Doings = s.workers name in
+      let x : Standing Doings = record w { machine = begins_again w.machine; group = state; asked = question } in
+      record {
+        events = Goes (Go_back name) ∷ [];
+        coupled = record {
+          server = c.server;
+          file = c.file;
+          machine = both_one f.stream.workers s.workers (λ m. m) machine_in name (begins_again (f.stream.workers name)) x
+              c.machine (ap begins_again (c.machine name));
+          loose = one_side f.stream.loose s.workers loose_in name x c.loose (c.loose name);
+          no_letters = c.no_letters;
+        };
+      }
+
+  restart : (s : System) (f : Files) → Coupled s f → (name : Name) (settings : Settings) (torn : List ℕ)
+      → Follows (moves form s (Restarts name settings torn)) f
+  restart s f c name settings torn =
+      let x : Standing Doings = new_worker settings.every in
+      record {
+        events = Reopens name settings.every torn ∷ [];
+        coupled = record {
+          server = c.server;
+          file = both_one f.file s.file (λ xs. xs) (λ xs. xs) name (whole_lines (f.file name ++ torn))
+              (whole_lines (s.file name ++ torn)) c.file (ap (λ xs. whole_lines (xs ++ torn)) (c.file name));
+          machine = both_one f.stream.workers s.workers (λ m. m) machine_in name (start settings.every) x c.machine refl;
+          loose = both_one f.stream.loose s.workers (λ l. l) loose_in name [] x c.loose refl;
+          no_letters = c.no_letters;
+        };
+      }
+
+  each : (s : System) (f : Files) → Coupled s f → (m : Move) → HearsTruly s m → Follows (moves form s m) f
+  each s f c (Serves e) h = serve s f c e
+  each s f c (Commits name) h = commit s f c name (commits (s.workers name).machine)
+  each s f c (Sends name settings) h = send s f c name settings
+  each s f c (Hears name settings which reply vs) h =
+      hear s f c name _ which (heard settings (s.workers name) reply) vs h
+  each s f c (Breaks name state question) h = begin_again s f c name state question
+  each s f c (Restarts name settings torn) h = restart s f c name settings torn
+
+  -- ---- all moves
+
+  run_more : (es more : List files.Event) (f : Files)
+      → files.run form (es ++ more) f ≡ files.run form more (files.run form es f)
+  run_more [] more f = refl
+  run_more (e ∷ es) more f = run_more es more (files.happens form f e)
+
+  pub over : (ms : List Move) (s : System) (f : Files) → Coupled s f → AllHearTruly form s ms
+      → Follows (run form ms s) f
+  over [] s f c h = nothing_happens s f c
+  over (m ∷ ms) s f c h =
+      let one = each s f c m h.0 in
+      let rest = over ms (moves form s m) (files.run form one.events f) one.coupled h.1 in
+      record {
+        events = one.events ++ rest.events;
+        coupled = subst (λ g. Coupled (run form ms (moves form s m)) g) (sym (run_more one.events rest.events f)) rest.coupled;
+      }
+
+  pub at_first : (before : Name → List ℕ) → Coupled (first_system before) (first_files before)
+  at_first before = record {
+    server = refl;
+    file = λ n. refl;
+    machine = λ n. refl;
+    loose = λ n. refl;
+    no_letters = refl;
+  }

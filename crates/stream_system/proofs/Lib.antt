@@ -1,0 +1,5 @@
+-- That each entry is in a file, whatever happens.
+pub mod Served
+pub mod Coupled
+pub mod Kept
+pub mod RoundLemmas

@@ -1,0 +1,168 @@
+-- The rounds of a worker as moves.
+use Rattle.std.proofs.Common.{◌≡◌, inl, inr, refl, sym, ap, ◌∙◌, ℕ, List, [], ◌∷◌, Some}
+use Rattle.redis_connection.specs.Link.{Link}
+use Rattle.redis_resp.specs.Tree.{Tree}
+use Rattle.redis_wire.specs.Reply as wire
+use Rattle.stream_group.specs.Worker.{Verdict, Machine, begins_again}
+use Rattle.stream_group.specs.Group.{Name}
+use Rattle.stream_files.specs.Files.{Form}
+use Rattle.stream_files.proofs.Step.{at_one}
+use Rattle.stream_worker.specs.Answers.{told, group_after, hears}
+use Rattle.stream_worker.specs.Answered.{Failed, WasCut}
+use Rattle.stream_worker.specs.Gathered.{Doings, done_too, committed_too}
+use Rattle.stream_worker.specs.Requested.{Unasked}
+use Rattle.stream_worker.specs.Session.{Standing, Breaks, asking, after_failure, having_heard}
+use Rattle.stream_worker.specs.declared.error.RequestError.{RequestError}
+use Rattle.stream_worker.specs.declared.error.RequestError.TheVariants.{NotCommitted, TooLong, Memory}
+use Rattle.stream_worker.specs.declared.error.RunError.{RunError}
+use Rattle.stream_worker.specs.declared.error.RunError.TheVariants as causes
+use Rattle.stream_worker.specs.declared.error.WorkerError.{WorkerError}
+use Rattle.stream_worker.specs.declared.error.WorkerError.TheVariants as faults
+use Rattle.stream_worker.specs.declared.state.Asked.{Asked}
+use Rattle.stream_worker.specs.declared.state.GroupState.{GroupState}
+use Rattle.stream_worker.specs.declared.state.Settings.{Settings}
+use Rattle.stream_system.specs.System.{System, Move, committed, waiting, having, moves, run}
+use Rattle.stream_system.specs.System as system
+use Rattle.stream_system.specs.Rounds.{round_of, RoundsAreMoves, AreOf, FailuresAreMoves}
+
+-- two standings that are the same in each part
+as_parts : (y w : Standing Doings) → y.machine ≡ w.machine → y.group ≡ w.group → y.asked ≡ w.asked
+    → y.history ≡ w.history → y ≡ w
+as_parts y w m g a h =
+    ap (λ (v : Machine). let u : Standing Doings = record y { machine = v } in u) m
+    ∙ ap (λ (v : GroupState). let u : Standing Doings = record y { machine = w.machine; group = v } in u) g
+    ∙ ap (λ (v : Asked). let u : Standing Doings = record y { machine = w.machine; group = w.group; asked = v } in u) a
+    ∙ ap (λ (v : Doings). let u : Standing Doings = record w { history = v } in u) h
+
+module _ (form : Form) (name : Name) (settings : Settings) where
+  -- after it committed
+  has_committed : (s : System) → (moves form s (system.Commits name)).workers name ≡ committed (s.workers name)
+  has_committed s = at_one s.workers name (committed (s.workers name))
+
+  -- after it sent its command
+  has_asked : (s : System) → (run form (system.Commits name ∷ system.Sends name settings ∷ []) s).workers name
+      ≡ asking committed_too settings (s.workers name)
+  has_asked s =
+      let t : System = moves form s (system.Commits name) in
+      at_one t.workers name (waiting settings (t.workers name)) ∙ ap (λ w. waiting settings w) (has_committed s)
+
+  -- after it heard a reply
+  has_heard : (s : System) (which : ℕ) (reply : wire.Answer) (vs : List Verdict)
+      → (run form (round_of name settings which (record { answer = reply; verdicts = vs })) s).workers name
+      ≡ having settings (asking committed_too settings (s.workers name)) reply vs
+  has_heard s which reply vs =
+      let t : System = run form (system.Commits name ∷ system.Sends name settings ∷ []) s in
+      at_one t.workers name (having settings (t.workers name) reply vs)
+      ∙ ap (λ w. having settings w reply vs) (has_asked s)
+
+  -- as it begins again
+  abbrev again : Standing Doings → Standing Doings
+  again y = record y { machine = begins_again y.machine }
+
+  begun_again : (s : System) (y v : Standing Doings) → s.workers name ≡ v → begins_again v.machine ≡ begins_again y.machine
+      → v.history ≡ y.history → (moves form s (system.Breaks name y.group y.asked)).workers name ≡ again y
+  begun_again s y v is machine history =
+      let now : Standing Doings → Standing Doings =
+      λ u. record u { machine = begins_again u.machine; group = y.group; asked = y.asked } in
+      at_one s.workers name (now (s.workers name)) ∙ ap now is
+      ∙ as_parts (now v) (again y) machine refl refl history
+
+  -- ---- a round that fails
+
+  abbrev Led : System → Standing Doings → Type 0
+  Led s x = (ms : List Move) × AreOf name settings ms × ((run form ms s).workers name ≡ x)
+
+  module _ (s : System) (y : Standing Doings) where
+    abbrev was : Standing Doings
+    was = s.workers name
+
+    unasked : (r : RequestError) → Unasked committed_too was.machine y.machine was.history y.history r
+        → y.group ≡ was.group → y.asked ≡ was.asked → Led s y
+    unasked NotCommitted u g a = ([], tt, sym (as_parts y was u.1 g a u.2))
+    unasked TooLong u g a = (
+      system.Commits name ∷ [],
+      (refl, tt),
+      has_committed s ∙ sym (as_parts y (committed was) u.0 g a u.1),
+    )
+    unasked Memory u g a = (
+      system.Commits name ∷ [],
+      (refl, tt),
+      has_committed s ∙ sym (as_parts y (committed was) u.0 g a u.1),
+    )
+
+    abbrev asking_now : Standing Doings
+    asking_now = asking committed_too settings was
+
+    -- it asked, and then its round failed
+    broke_off : begins_again asking_now.machine ≡ begins_again y.machine → asking_now.history ≡ y.history
+        → Led s (again y)
+    broke_off machine history = (
+      system.Commits name ∷ system.Sends name settings ∷ system.Breaks name y.group y.asked ∷ [],
+      (refl, ((refl, refl), (refl, tt))),
+      begun_again (run form (system.Commits name ∷ system.Sends name settings ∷ []) s) y asking_now (has_asked s)
+          machine history,
+    )
+
+    -- it asked, and no reply came
+    no_reply : y ≡ asking_now → Led s (again y)
+    no_reply is = broke_off (ap (λ (v : Standing Doings). begins_again v.machine) (sym is))
+        (ap (λ (v : Standing Doings). v.history) (sym is))
+
+    module _ (which : ℕ) (a : wire.Answer) where
+      cut : (t : Tree) → a ≡ wire.value t
+          → WasCut done_too settings asking_now.asked t asking_now.machine y.machine asking_now.history y.history
+          → Led s (again y)
+      cut t is c =
+          let told_so : hears settings asking_now.asked a ≡ Some (told c.answer) =
+          ap (hears settings asking_now.asked) is ∙ c.said in
+          let state : GroupState = group_after settings asking_now.group asking_now.asked a in
+          let v : Standing Doings = having settings asking_now a c.took.verdicts in
+          let machine : v.machine ≡ y.machine =
+          ap (λ o. (having_heard done_too asking_now state o c.took.verdicts).machine) told_so
+          ∙ sym c.took.machine in
+          let history : v.history ≡ y.history =
+          ap (λ o. (having_heard done_too asking_now state o c.took.verdicts).history) told_so
+          ∙ sym c.took.history in (
+            system.Commits name ∷ system.Sends name settings ∷ system.Hears name settings which a c.took.verdicts
+                ∷ system.Breaks name y.group y.asked ∷ [],
+            (refl, ((refl, refl), ((refl, refl), (refl, tt)))),
+            begun_again (run form (round_of name settings which (record { answer = a; verdicts = c.took.verdicts })) s) y v
+                (has_heard s which a c.took.verdicts) (ap begins_again machine) history,
+          )
+
+      stays : y.machine ≡ asking_now.machine → y.history ≡ asking_now.history → Led s (again y)
+      stays em eh = broke_off (ap begins_again (sym em)) (sym eh)
+
+      starts_over : y.machine ≡ begins_again asking_now.machine → y.history ≡ asking_now.history → Led s (again y)
+      starts_over em eh = broke_off (ap begins_again (sym em)) (sym eh)
+
+      refused : (e : WorkerError)
+          → Failed done_too settings asking_now.asked a asking_now.machine y.machine asking_now.history y.history e
+          → Led s (again y)
+      refused faults.NotAsked f = stays f.1 f.2
+      refused (faults.Server e) f = stays f.4 f.5
+      refused (faults.GroupIsGone e) f = stays f.3 f.4
+      refused faults.NotAnAnswer f = stays f.2 f.3
+      refused (faults.Parsing e) f = starts_over f.2 f.3
+      refused faults.OtherStream f = starts_over f.2 f.3
+      refused faults.NilFields f = starts_over f.2 f.3
+      refused faults.Memory f = elim f.2 [
+        | inl p ↦ starts_over p.0 p.1
+        | inr c ↦ cut f.0 f.1 c
+      ]
+
+  broken : (s : System) (old new : Link) (y : Standing Doings) (e : RunError)
+      → Breaks done_too committed_too settings old new (s.workers name) y e → ℕ → Led s (after_failure e y)
+  broken s old new y (causes.Request r) f which = unasked s y r f.1 f.2 f.3
+  broken s old new y (causes.Send r) f which = no_reply s y f.0
+  broken s old new y (causes.Receive r) f which = no_reply s y f.0
+  broken s old new y (causes.Answer r) f which = refused s y which f.0 r f.2
+
+pub rounds_are_moves : RoundsAreMoves
+rounds_are_moves form s name settings old new x question p t =
+    (t.turn, λ which. has_heard form name settings s which t.turn.answer t.turn.verdicts ∙ sym t.stands)
+
+pub failures_are_moves : FailuresAreMoves
+failures_are_moves form s name settings old new x e f which =
+    let led = broken form name settings s old new f.0 e f.1 which in
+    (led.0, led.1, led.2 ∙ sym f.2)

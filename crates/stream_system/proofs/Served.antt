@@ -1,0 +1,96 @@
+-- What the server does is what `stream_group` says, and changes no worker.
+use Rattle.std.proofs.Common.{◌≡◌, refl, ℕ, Bool, true, false, ◌&&◌, List, [], ◌∷◌, ◌++◌, Option, Some, None}
+use Rattle.std.proofs.Common.{if◌then◌else◌}
+use Rattle.stream_group.specs.Worker.{Id}
+use Rattle.stream_group.specs.Group.{Name, Numbers, id_text, is_below, fits, listed, ids_of}
+use Rattle.stream_group.specs.World.{World, Append, Delete, Read, Reread, Claim, Claim_ids, Ack_comes, item, ack_comes}
+use Rattle.stream_group.specs.World.{log_of}
+use Rattle.stream_group.specs.World as group
+use Rattle.stream_files.specs.Files.{Fields}
+use Rattle.stream_system.specs.System.{server_of, world_with}
+
+module _ (w : World Fields) where
+  -- the event does to the server what it does to any world with this server, and changes no worker
+  pub record IsServed (e : group.Event Fields) : Type 0 where
+    pub server : server_of (group.happens w e) ≡ server_of (group.happens (world_with (server_of w)) e)
+    pub workers : (n : Name) → (group.happens w e).workers n ≡ w.workers n
+    pub loose : (n : Name) → (group.happens w e).loose n ≡ w.loose n
+
+  abbrev with_entry : World Fields → Numbers → Fields → Bool → World Fields
+  with_entry v n fields b = if b then record v { fresh = v.fresh ++ (id_text n, fields) ∷ []; last = n } else v
+
+  abbrev with_deleted : World Fields → Id → Bool → World Fields
+  with_deleted v id b = if b then record v { deleted = id ∷ v.deleted } else v
+
+  added_server : (n : Numbers) (fields : Fields) (b : Bool)
+      → server_of (with_entry w n fields b) ≡ server_of (with_entry (world_with (server_of w)) n fields b)
+  added_server n fields true = refl
+  added_server n fields false = refl
+
+  added_workers : (n : Numbers) (fields : Fields) (b : Bool) (c : Name)
+      → (with_entry w n fields b).workers c ≡ w.workers c
+  added_workers n fields true c = refl
+  added_workers n fields false c = refl
+
+  added_loose : (n : Numbers) (fields : Fields) (b : Bool) (c : Name) → (with_entry w n fields b).loose c ≡ w.loose c
+  added_loose n fields true c = refl
+  added_loose n fields false c = refl
+
+  deleted_server : (id : Id) (b : Bool)
+      → server_of (with_deleted w id b) ≡ server_of (with_deleted (world_with (server_of w)) id b)
+  deleted_server id true = refl
+  deleted_server id false = refl
+
+  deleted_workers : (id : Id) (b : Bool) (c : Name) → (with_deleted w id b).workers c ≡ w.workers c
+  deleted_workers id true c = refl
+  deleted_workers id false c = refl
+
+  deleted_loose : (id : Id) (b : Bool) (c : Name) → (with_deleted w id b).loose c ≡ w.loose c
+  deleted_loose id true c = refl
+  deleted_loose id false c = refl
+
+  acked_server : (a : Option (Name × List Id))
+      → server_of (ack_comes w a) ≡ server_of (ack_comes (world_with (server_of w)) a)
+  acked_server None = refl
+  acked_server (Some a) = refl
+
+  acked_workers : (a : Option (Name × List Id)) (c : Name) → (ack_comes w a).workers c ≡ w.workers c
+  acked_workers None c = refl
+  acked_workers (Some a) c = refl
+
+  acked_loose : (a : Option (Name × List Id)) (c : Name) → (ack_comes w a).loose c ≡ w.loose c
+  acked_loose None c = refl
+  acked_loose (Some a) c = refl
+
+  pub append : (n : Numbers) (fields : Fields) → IsServed (Append n fields)
+  append n fields =
+      let b : Bool = is_below w.last n && fits n in
+      record {
+        server = added_server n fields b;
+        workers = added_workers n fields b;
+        loose = added_loose n fields b;
+      }
+
+  pub delete : (id : Id) → IsServed (Delete id)
+  delete id =
+      let b : Bool = listed (ids_of (log_of w)) id in
+      record { server = deleted_server id b; workers = deleted_workers id b; loose = deleted_loose id b }
+
+  pub read : (c : Name) (n : ℕ) → IsServed (Read c n)
+  read c n = record { server = refl; workers = λ m. refl; loose = λ m. refl }
+
+  pub reread : (c : Name) (pick : Id → Bool) → IsServed (Reread c pick)
+  reread c pick = record { server = refl; workers = λ m. refl; loose = λ m. refl }
+
+  pub claim : (c : Name) (pick : Id → Bool) (next : Id) → IsServed (Claim c pick next)
+  claim c pick next = record { server = refl; workers = λ m. refl; loose = λ m. refl }
+
+  pub claim_ids : (c : Name) (pick : Id → Bool) → IsServed (Claim_ids c pick)
+  claim_ids c pick = record { server = refl; workers = λ m. refl; loose = λ m. refl }
+
+  pub ack_came : (k : ℕ) → IsServed (Ack_comes k)
+  ack_came k = record {
+    server = acked_server (item w.acks k);
+    workers = acked_workers (item w.acks k);
+    loose = acked_loose (item w.acks k);
+  }

@@ -1,0 +1,9 @@
+use Rattle.stream_system.proofs.RoundLemmas.{failures_are_moves}
+use Rattle.stream_system.proofs.RoundLemmas as rounds
+use Rattle.stream_system.proofs.laws.rounds_are_moves.Goals as goal
+
+pub returns-clause-rounds : goal.returns-clause-rounds
+returns-clause-rounds c = rounds.rounds_are_moves
+
+pub returns-clause-failures : goal.returns-clause-failures
+returns-clause-failures c = failures_are_moves

@@ -1,0 +1,64 @@
+-- That each entry is in a file, whatever happens.
+use Rattle.std.specs.Prelude.{◌≡◌, ◌⊎◌, ℕ, List, [], ◌∷◌, ◌++◌, Option, Some, None}
+use Rattle.line_log.specs.EntryLine.{Entry}
+use Rattle.line_log.specs.Lines.{StartsWith}
+use Rattle.stream_group.specs.Worker.{Id}
+use Rattle.stream_group.specs.Group.{Name, pending_ids}
+use Rattle.stream_group.specs.World.{item}
+use Rattle.stream_group.specs.Law.{Among}
+use Rattle.stream_files.specs.Files.{Fields, Form}
+use Rattle.stream_files.specs.Law.{IsLineIn}
+use Rattle.stream_worker.specs.Answers.{Heard, told, no_group, group_made}
+use Rattle.stream_system.specs.System.{System, Move, Hears, first_system, heard}
+use Rattle.stream_system.specs.System.{moves, run}
+
+-- what tells a worker of entries is the reply of that number, which is on its way to it
+abbrev pub IsReplyTo : System → Name → ℕ → Option Heard → Type 0
+IsReplyTo s name which None = Unit {0}
+IsReplyTo s name which (Some (told answer)) =
+    item s.server.replies which ≡ Some (record { consumer = name; answer = answer })
+IsReplyTo s name which (Some no_group) = Unit {0}
+IsReplyTo s name which (Some group_made) = Unit {0}
+
+-- a worker that hears something hears a reply that is on its way to it
+abbrev pub HearsTruly : System → Move → Type 0
+HearsTruly s (Hears name settings which reply verdicts) =
+    IsReplyTo s name which (heard settings (s.workers name) reply)
+HearsTruly s move = Unit {0}
+
+-- so it is in each of these moves, from this system on
+abbrev pub AllHearTruly : Form → System → List Move → Type 0
+AllHearTruly form s [] = Unit {0}
+AllHearTruly form s (m ∷ ms) = HearsTruly s m × AllHearTruly form (moves form s m) ms
+
+-- each entry that was ever added
+abbrev pub log : System → List Entry
+log s = s.server.seen ++ s.server.fresh
+
+-- the entry is a line of some worker's file, whatever a crash leaves of it
+abbrev pub IsInAFile : Form → System → Entry → Type 0
+IsInAFile form s e =
+    (name : Name) × ((bytes : List ℕ) → StartsWith (s.file name) bytes → IsLineIn (form.line e) bytes)
+
+-- the entry is still to come; or it is pending; or it is in a file; or it was deleted
+abbrev pub IsKept : Form → System → Entry → Type 0
+IsKept form s e = Among e s.server.fresh
+    ⊎ (Among e.0 (pending_ids s.server.pending) ⊎ (IsInAFile form s e ⊎ Among e.0 s.server.deleted))
+
+-- the system after these moves
+abbrev pub after : Form → (Name → List ℕ) → List Move → System
+after form before ms = run form ms (first_system before)
+
+-- each entry that was ever added is kept, whatever happened before and happens after
+abbrev pub EachEntryIsKept : Type 0
+EachEntryIsKept = (form : Form) (before : Name → List ℕ) (ms more : List Move)
+    → AllHearTruly form (first_system before) ms → AllHearTruly form (after form before ms) more → (e : Entry)
+    → Among e (log (after form before ms)) → IsKept form (run form more (after form before ms)) e
+
+-- an entry that is acknowledged is in a file, or was deleted
+abbrev pub AcknowledgedIsInAFile : Type 0
+AcknowledgedIsInAFile = (form : Form) (before : Name → List ℕ) (ms : List Move)
+    → AllHearTruly form (first_system before) ms → (id : Id)
+    → Among id (after form before ms).server.acknowledged_ids
+    → ((fields : Fields) × IsInAFile form (after form before ms) (id, fields))
+    ⊎ Among id (after form before ms).server.deleted

@@ -1,0 +1,4 @@
+-- Workers over one server, each with a file of lines.
+pub mod System
+pub mod Law
+pub mod Rounds

@@ -1,0 +1,45 @@
+-- The rounds of a worker as moves.
+use Rattle.std.specs.Prelude.{◌≡◌, ℕ, List, [], ◌∷◌}
+use Rattle.redis_connection.specs.Link.{Link}
+use Rattle.stream_group.specs.Group.{Name}
+use Rattle.stream_files.specs.Files.{Form}
+use Rattle.stream_worker.specs.Gathered.{Doings, done_too, committed_too}
+use Rattle.stream_worker.specs.Session.{Standing, Turn, Turned, Fails}
+use Rattle.stream_worker.specs.declared.error.RunError.{RunError}
+use Rattle.stream_worker.specs.declared.state.Asked.{Asked}
+use Rattle.stream_worker.specs.declared.state.Settings.{Settings}
+use Rattle.stream_worker.specs.declared.worker.Progress.{Progress}
+use Rattle.stream_system.specs.System.{System, Move, Serves, Commits, Sends, Hears, Breaks, Restarts, run}
+
+-- a round: it commits, sends its command, and hears the reply, which is the one of this number
+abbrev pub round_of : Name → Settings → ℕ → Turn → List Move
+round_of name settings which turn =
+    Commits name ∷ Sends name settings ∷ Hears name settings which turn.answer turn.verdicts ∷ []
+
+-- after a round of its contract the worker is where these moves lead
+abbrev pub RoundsAreMoves : Type 0
+RoundsAreMoves = (form : Form) (s : System) (name : Name) (settings : Settings) (old new : Link) (x : Standing Doings)
+    (question : Asked) (p : Progress)
+    → Turned done_too committed_too settings old new (s.workers name) x question p
+    → (turn : Turn) × ((which : ℕ) → (run form (round_of name settings which turn) s).workers name ≡ x)
+
+-- the move is one of this worker
+abbrev pub IsOf : Name → Settings → Move → Type 0
+IsOf name settings (Serves event) = ⊥
+IsOf name settings (Commits other) = other ≡ name
+IsOf name settings (Sends other with_settings) = (other ≡ name) × (with_settings ≡ settings)
+IsOf name settings (Hears other with_settings which reply verdicts) = (other ≡ name) × (with_settings ≡ settings)
+IsOf name settings (Breaks other state question) = other ≡ name
+IsOf name settings (Restarts other with_settings torn) = ⊥
+
+-- each of these is
+abbrev pub AreOf : Name → Settings → List Move → Type 0
+AreOf name settings [] = Unit {0}
+AreOf name settings (m ∷ ms) = IsOf name settings m × AreOf name settings ms
+
+-- after a round that fails, by its contract, the worker is where some moves of it lead
+abbrev pub FailuresAreMoves : Type 0
+FailuresAreMoves = (form : Form) (s : System) (name : Name) (settings : Settings) (old new : Link)
+    (x : Standing Doings) (e : RunError)
+    → Fails done_too committed_too settings old new (s.workers name) x e → (which : ℕ)
+    → (ms : List Move) × AreOf name settings ms × ((run form ms s).workers name ≡ x)

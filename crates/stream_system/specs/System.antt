@@ -1,0 +1,167 @@
+-- A server, workers that do what their contracts say, and their files; and what may happen.
+use Rattle.std.specs.Prelude.{ℕ, List, [], ◌∷◌, ◌++◌, Option, Some, None, if◌then◌else◌}
+use Rattle.redis_wire.specs.Reply as wire
+use Rattle.line_log.specs.EntryLine.{Entry}
+use Rattle.stream_group.specs.Worker.{Id, Verdict, start, begins_again}
+use Rattle.stream_group.specs.Group.{Name, Numbers, Pending}
+use Rattle.stream_group.specs.World.{World, Reply, Comes, Commit, Acknowledge, Go_back, Crash, empty_world, but, with_one}
+use Rattle.stream_group.specs.World as group
+use Rattle.stream_files.specs.Files.{Fields, Form, lines, whole_lines}
+use Rattle.stream_worker.specs.Answers.{Heard, told, no_group, group_made, group_after, hears}
+use Rattle.stream_worker.specs.Gathered.{Doings, done_too, committed_too}
+use Rattle.stream_worker.specs.Machine.{commits, at_request, history_at_request}
+use Rattle.stream_worker.specs.Questions.{asks}
+use Rattle.stream_worker.specs.Session.{Standing, having_heard}
+use Rattle.stream_worker.specs.declared.state.Asked.{Asked}
+use Rattle.stream_worker.specs.declared.state.Asked.TheVariants.{Nothing}
+use Rattle.stream_worker.specs.declared.state.GroupState.{GroupState}
+use Rattle.stream_worker.specs.declared.state.GroupState.TheVariants.{Unknown}
+use Rattle.stream_worker.specs.declared.state.Settings.{Settings}
+
+-- the server: a stream and its group, the replies on their way to workers, and the acknowledgements on their way to it
+pub record Server : Type 0 where
+  pub seen : List Entry
+  pub fresh : List Entry
+  pub last : Numbers
+  pub deleted : List Id
+  pub pending : List Pending
+  pub acknowledged_ids : List Id
+  pub replies : List (Reply Fields)
+  pub acks : List (Name × List Id)
+
+-- the server of a world of `stream_group`
+abbrev pub server_of : World Fields → Server
+server_of w = record {
+  seen = w.seen;
+  fresh = w.fresh;
+  last = w.last;
+  deleted = w.deleted;
+  pending = w.pending;
+  acknowledged_ids = w.acknowledged_ids;
+  replies = w.replies;
+  acks = w.acks;
+}
+
+-- a world with this server
+abbrev pub world_with : Server → World Fields
+world_with s = record (empty_world {F = Fields}) {
+  seen = s.seen;
+  fresh = s.fresh;
+  last = s.last;
+  deleted = s.deleted;
+  pending = s.pending;
+  acknowledged_ids = s.acknowledged_ids;
+  replies = s.replies;
+  acks = s.acks;
+}
+
+-- what the server does; what a worker does is no event of the server
+abbrev pub serves : Server → group.Event Fields → Server
+serves s (Comes which verdicts) = s
+serves s (Commit consumer) = s
+serves s (Acknowledge consumer) = s
+serves s (Go_back consumer) = s
+serves s (Crash consumer every) = s
+serves s event = server_of (group.happens (world_with s) event)
+
+pub record System : Type 0 where
+  pub server : Server
+  pub workers : Name → Standing Doings
+  pub file : Name → List ℕ  -- of each worker's file the bytes that no crash takes back
+
+-- a worker that knows nothing and did nothing
+abbrev pub new_worker : ℕ → Standing Doings
+new_worker every = record {
+  machine = start every;
+  group = Unknown;
+  asked = Nothing;
+  history = record { loose = []; committed = [] };
+}
+
+-- nothing was added, and each worker opened its file, which had these bytes before
+abbrev pub first_system : (Name → List ℕ) → System
+first_system before = record {
+  server = server_of empty_world;
+  workers = λ name. new_worker 1;
+  file = λ name. whole_lines (before name);
+}
+
+-- what may happen next
+pub data Move : Type 0 where
+  -- the server does something of itself, or since a worker asked it to
+  Serves : (event : group.Event Fields) → Move
+  -- a worker commits, if there is something to commit and nothing to acknowledge
+  Commits : (name : Name) → Move
+  -- a worker sends its next command; an XACK of what is committed may come to the server from then on
+  Sends : (name : Name) (settings : Settings) → Move
+  -- a reply to its command comes to a worker, whose handler says this of the entries
+  Hears : (name : Name) (settings : Settings) (which : ℕ) (reply : wire.Answer) (verdicts : List Verdict) → Move
+  -- a round of a worker fails: it begins again with what is pending for it, and knows this of the group
+  Breaks : (name : Name) (state : GroupState) (question : Asked) → Move
+  -- a worker crashes, or is killed, and is started again. Its file has what was committed and any bytes after it, and
+  -- is cut after its last line feed
+  Restarts : (name : Name) (settings : Settings) (torn : List ℕ) → Move
+
+-- a worker after its commit
+abbrev pub committed : Standing Doings → Standing Doings
+committed w = record w {
+  machine = at_request w.machine;
+  history = history_at_request committed_too w.machine w.history;
+}
+
+-- the lines that it commits
+abbrev pub written : Form → Standing Doings → List ℕ
+written form w = if commits w.machine then lines form w.history.loose else []
+
+-- a worker that waits for the reply to its command
+abbrev pub waiting : Settings → Standing Doings → Standing Doings
+waiting settings w = record w { asked = asks w.group w.machine.phase w.machine.to_acknowledge }
+
+-- what a reply tells it
+abbrev pub heard : Settings → Standing Doings → wire.Answer → Option Heard
+heard settings w reply = hears settings w.asked reply
+
+-- a worker that this was told
+abbrev pub having : Settings → Standing Doings → wire.Answer → List Verdict → Standing Doings
+having settings w reply verdicts =
+    having_heard done_too w (group_after settings w.group w.asked reply) (heard settings w reply) verdicts
+
+-- the replies that are still on their way, if the one of that number told this
+abbrev pub still_coming : List (Reply Fields) → ℕ → Option Heard → List (Reply Fields)
+still_coming replies which None = replies
+still_coming replies which (Some (told answer)) = but replies which
+still_coming replies which (Some no_group) = replies
+still_coming replies which (Some group_made) = replies
+
+-- the system with this worker
+abbrev pub with_worker : System → Name → Standing Doings → System
+with_worker s name w = record s { workers = with_one s.workers name w }
+
+-- what a move makes of the system
+abbrev pub moves : Form → System → Move → System
+moves form s (Serves event) = record s { server = serves s.server event }
+moves form s (Commits name) = record (with_worker s name (committed (s.workers name))) {
+  file = with_one s.file name (s.file name ++ written form (s.workers name));
+}
+moves form s (Sends name settings) = record (with_worker s name (waiting settings (s.workers name))) {
+  server = record s.server { acks = (name, (s.workers name).machine.to_acknowledge) ∷ s.server.acks };
+}
+moves form s (Hears name settings which reply verdicts) =
+    record (with_worker s name (having settings (s.workers name) reply verdicts)) {
+      server = record s.server {
+        replies = still_coming s.server.replies which (heard settings (s.workers name) reply);
+      };
+    }
+moves form s (Breaks name state question) = with_worker s name (record (s.workers name) {
+  machine = begins_again (s.workers name).machine;
+  group = state;
+  asked = question;
+})
+moves form s (Restarts name settings torn) = record (with_worker s name (new_worker settings.every)) {
+  file = with_one s.file name (whole_lines (s.file name ++ torn));
+}
+
+-- a whole schedule
+abbrev pub run : Form → List Move → System → System
+run form [] s = s
+run form (m ∷ ms) s = run form ms (moves form s m)

@@ -1,0 +1,19 @@
+//! What holds of workers over one server, each with a file of lines, after every schedule.
+ghost use Rattle.stream_system.specs.Law.{AcknowledgedIsInAFile, EachEntryIsKept};
+ghost use Rattle.stream_system.specs.Rounds.{FailuresAreMoves, RoundsAreMoves};
+
+/// After any moves each entry that was ever added is still to come, or pending, or is a line of some
+/// worker's file, whatever a crash leaves of it; or it was deleted. So is each entry that is
+/// acknowledged a line of some file, or it was deleted. The premise is that a worker hears only
+/// replies that are on their way to it (`AllHearTruly`).
+pub fn each_entry_is_kept()
+    ensures kept { EachEntryIsKept }
+    ensures acknowledged { AcknowledgedIsInAFile }
+{}
+
+/// What `Worker::round` promises is a list of moves of the worker: after a round that returns Ok, and
+/// after one that fails, it is where these moves lead.
+pub fn rounds_are_moves()
+    ensures rounds { RoundsAreMoves }
+    ensures failures { FailuresAreMoves }
+{}
