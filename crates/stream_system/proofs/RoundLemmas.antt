@@ -1,10 +1,14 @@
 -- The rounds of a worker as moves.
-use Rattle.std.proofs.Common.{◌≡◌, inl, inr, refl, sym, ap, ◌∙◌, ℕ, List, [], ◌∷◌, Some}
+use Rattle.std.proofs.Common.{◌≡◌, ◌≢◌, inl, inr, refl, sym, ap, ◌∙◌, ℕ, Bool, true, false, List, [], ◌∷◌, ◌++◌, Some}
+use Rattle.std.proofs.Common.{if◌then◌else◌}
+use Rattle.std.proofs.lemmas.Slice.Eq.{bytes_eq-Decides}
+use Rattle.std.specs.Str.{bytes_eq}
 use Rattle.redis_connection.specs.Link.{Link}
 use Rattle.redis_resp.specs.Tree.{Tree}
 use Rattle.redis_wire.specs.Reply as wire
 use Rattle.stream_group.specs.Worker.{Verdict, Machine, begins_again}
 use Rattle.stream_group.specs.Group.{Name}
+use Rattle.stream_group.specs.World.{with_one}
 use Rattle.stream_files.specs.Files.{Form}
 use Rattle.stream_files.proofs.Step.{at_one}
 use Rattle.stream_worker.specs.Answers.{told, group_after, hears}
@@ -23,7 +27,7 @@ use Rattle.stream_worker.specs.declared.state.GroupState.{GroupState}
 use Rattle.stream_worker.specs.declared.state.Settings.{Settings}
 use Rattle.stream_system.specs.System.{System, Move, committed, waiting, having, moves, run}
 use Rattle.stream_system.specs.System as system
-use Rattle.stream_system.specs.Rounds.{round_of, RoundsAreMoves, AreOf, FailuresAreMoves}
+use Rattle.stream_system.specs.Rounds.{round_of, RoundsAreMoves, AreOf, AreOthers, FailuresAreMoves, OthersChangeNothing}
 
 -- two standings that are the same in each part
 as_parts : (y w : Standing Doings) → y.machine ≡ w.machine → y.group ≡ w.group → y.asked ≡ w.asked
@@ -33,6 +37,38 @@ as_parts y w m g a h =
     ∙ ap (λ (v : GroupState). let u : Standing Doings = record y { machine = w.machine; group = v } in u) g
     ∙ ap (λ (v : Asked). let u : Standing Doings = record y { machine = w.machine; group = w.group; asked = v } in u) a
     ∙ ap (λ (v : Doings). let u : Standing Doings = record w { history = v } in u) h
+
+-- ---- moves of others
+
+elsewhere : (ws : Name → Standing Doings) (other : Name) (w : Standing Doings) (name : Name) → other ≢ name
+    → with_one ws other w name ≡ ws name
+elsewhere ws other w name apart =
+    let case : (t : Bool) → bytes_eq other name ≡ t → (if t then w else ws name) ≡ ws name
+    = λ t. elim t as (λ t. bytes_eq other name ≡ t → (if t then w else ws name) ≡ ws name) [
+      | true ↦ λ q. absurd (apart ((bytes_eq-Decides other name).0 q))
+      | false ↦ λ q. refl
+    ] in
+    case (bytes_eq other name) refl
+
+pub others_change_nothing : OthersChangeNothing
+others_change_nothing form s name (system.Serves event) h = refl
+others_change_nothing form s name (system.Commits other) h = elsewhere s.workers other _ name h
+others_change_nothing form s name (system.Sends other settings) h = elsewhere s.workers other _ name h
+others_change_nothing form s name (system.Hears other settings which reply vs) h =
+    elsewhere s.workers other _ name h
+others_change_nothing form s name (system.Breaks other state question) h = elsewhere s.workers other _ name h
+others_change_nothing form s name (system.Restarts other settings torn) h = elsewhere s.workers other _ name h
+
+others_leave : (form : Form) (name : Name) (ms : List Move) (s : System) → AreOthers name ms
+    → (run form ms s).workers name ≡ s.workers name
+others_leave form name [] s h = refl
+others_leave form name (m ∷ ms) s h =
+    others_leave form name ms (moves form s m) h.1 ∙ others_change_nothing form s name m h.0
+
+run_more : (form : Form) (ms : List Move) (last : Move) (s : System)
+    → run form (ms ++ last ∷ []) s ≡ moves form (run form ms s) last
+run_more form [] last s = refl
+run_more form (m ∷ ms) last s = run_more form ms last (moves form s m)
 
 module _ (form : Form) (name : Name) (settings : Settings) where
   -- after it committed
@@ -47,13 +83,17 @@ module _ (form : Form) (name : Name) (settings : Settings) where
       at_one t.workers name (waiting settings (t.workers name)) ∙ ap (λ w. waiting settings w) (has_committed s)
 
   -- after it heard a reply
-  has_heard : (s : System) (which : ℕ) (reply : wire.Answer) (vs : List Verdict)
-      → (run form (round_of name settings which (record { answer = reply; verdicts = vs })) s).workers name
+  has_heard : (s : System) (others : List Move) (which : ℕ) (reply : wire.Answer) (vs : List Verdict)
+      → AreOthers name others
+      → (run form (round_of name settings others which (record { answer = reply; verdicts = vs })) s).workers name
       ≡ having settings (asking committed_too settings (s.workers name)) reply vs
-  has_heard s which reply vs =
+  has_heard s others which reply vs h =
       let t : System = run form (system.Commits name ∷ system.Sends name settings ∷ []) s in
-      at_one t.workers name (having settings (t.workers name) reply vs)
-      ∙ ap (λ w. having settings w reply vs) (has_asked s)
+      let u : System = run form others t in
+      let hears_it : Move = system.Hears name settings which reply vs in
+      ap (λ (v : System). v.workers name) (run_more form others hears_it t)
+      ∙ at_one u.workers name (having settings (u.workers name) reply vs)
+      ∙ ap (λ w. having settings w reply vs) (others_leave form name others t h ∙ has_asked s)
 
   -- as it begins again
   abbrev again : Standing Doings → Standing Doings
@@ -126,8 +166,8 @@ module _ (form : Form) (name : Name) (settings : Settings) where
             system.Commits name ∷ system.Sends name settings ∷ system.Hears name settings which a c.took.verdicts
                 ∷ system.Breaks name y.group y.asked ∷ [],
             (refl, ((refl, refl), ((refl, refl), (refl, tt)))),
-            begun_again (run form (round_of name settings which (record { answer = a; verdicts = c.took.verdicts })) s) y v
-                (has_heard s which a c.took.verdicts) (ap begins_again machine) history,
+            begun_again (run form (round_of name settings [] which (record { answer = a; verdicts = c.took.verdicts })) s) y v
+                (has_heard s [] which a c.took.verdicts tt) (ap begins_again machine) history,
           )
 
       stays : y.machine ≡ asking_now.machine → y.history ≡ asking_now.history → Led s (again y)
@@ -159,8 +199,11 @@ module _ (form : Form) (name : Name) (settings : Settings) where
   broken s old new y (causes.Answer r) f which = refused s y which f.0 r f.2
 
 pub rounds_are_moves : RoundsAreMoves
-rounds_are_moves form s name settings old new x question p t =
-    (t.turn, λ which. has_heard form name settings s which t.turn.answer t.turn.verdicts ∙ sym t.stands)
+rounds_are_moves form s name settings old new x question p t = (
+  t.turn,
+  λ others which h.
+      has_heard form name settings s others which t.turn.answer t.turn.verdicts h ∙ sym t.stands,
+)
 
 pub failures_are_moves : FailuresAreMoves
 failures_are_moves form s name settings old new x e f which =

@@ -1,5 +1,5 @@
 -- The rounds of a worker as moves.
-use Rattle.std.specs.Prelude.{◌≡◌, ℕ, List, [], ◌∷◌}
+use Rattle.std.specs.Prelude.{◌≡◌, ◌≢◌, ℕ, List, [], ◌∷◌, ◌++◌}
 use Rattle.redis_connection.specs.Link.{Link}
 use Rattle.stream_group.specs.Group.{Name}
 use Rattle.stream_files.specs.Files.{Form}
@@ -9,19 +9,39 @@ use Rattle.stream_worker.specs.declared.error.RunError.{RunError}
 use Rattle.stream_worker.specs.declared.state.Asked.{Asked}
 use Rattle.stream_worker.specs.declared.state.Settings.{Settings}
 use Rattle.stream_worker.specs.declared.worker.Progress.{Progress}
-use Rattle.stream_system.specs.System.{System, Move, Serves, Commits, Sends, Hears, Breaks, Restarts, run}
+use Rattle.stream_system.specs.System.{System, Move, Serves, Commits, Sends, Hears, Breaks, Restarts, moves, run}
 
--- a round: it commits, sends its command, and hears the reply, which is the one of this number
-abbrev pub round_of : Name → Settings → ℕ → Turn → List Move
-round_of name settings which turn =
-    Commits name ∷ Sends name settings ∷ Hears name settings which turn.answer turn.verdicts ∷ []
+-- the move is the server's, or another worker's
+abbrev pub IsOther : Name → Move → Type 0
+IsOther name (Serves event) = Unit {0}
+IsOther name (Commits other) = other ≢ name
+IsOther name (Sends other settings) = other ≢ name
+IsOther name (Hears other settings which reply verdicts) = other ≢ name
+IsOther name (Breaks other state question) = other ≢ name
+IsOther name (Restarts other settings torn) = other ≢ name
+
+-- so is each of these
+abbrev pub AreOthers : Name → List Move → Type 0
+AreOthers name [] = Unit {0}
+AreOthers name (m ∷ ms) = IsOther name m × AreOthers name ms
+
+-- such a move does not change this worker
+abbrev pub OthersChangeNothing : Type 0
+OthersChangeNothing = (form : Form) (s : System) (name : Name) (m : Move) → IsOther name m
+    → (moves form s m).workers name ≡ s.workers name
+
+-- a round: it commits and sends its command, and after moves of others it hears the reply of this number
+abbrev pub round_of : Name → Settings → List Move → ℕ → Turn → List Move
+round_of name settings others which turn = Commits name ∷ Sends name settings
+    ∷ (others ++ Hears name settings which turn.answer turn.verdicts ∷ [])
 
 -- after a round of its contract the worker is where these moves lead
 abbrev pub RoundsAreMoves : Type 0
 RoundsAreMoves = (form : Form) (s : System) (name : Name) (settings : Settings) (old new : Link) (x : Standing Doings)
     (question : Asked) (p : Progress)
     → Turned done_too committed_too settings old new (s.workers name) x question p
-    → (turn : Turn) × ((which : ℕ) → (run form (round_of name settings which turn) s).workers name ≡ x)
+    → (turn : Turn) × ((others : List Move) (which : ℕ) → AreOthers name others
+    → (run form (round_of name settings others which turn) s).workers name ≡ x)
 
 -- the move is one of this worker
 abbrev pub IsOf : Name → Settings → Move → Type 0

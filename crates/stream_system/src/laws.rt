@@ -1,6 +1,6 @@
 //! What holds of workers over one server, each with a file of lines, after every schedule.
 ghost use Rattle.stream_system.specs.Law.{AcknowledgedIsInAFile, EachEntryIsKept};
-ghost use Rattle.stream_system.specs.Rounds.{FailuresAreMoves, RoundsAreMoves};
+ghost use Rattle.stream_system.specs.Rounds.{FailuresAreMoves, OthersChangeNothing, RoundsAreMoves};
 
 /// After any moves each entry that was ever added is still to come, or pending, or is a line of some
 /// worker's file, whatever a crash leaves of it; or it was deleted. So is each entry that is
@@ -12,8 +12,10 @@ pub fn each_entry_is_kept()
 {}
 
 /// What `Worker::round` promises is a list of moves of the worker: after a round that returns Ok, and
-/// after one that fails, it is where these moves lead.
+/// after one that fails, it is where these moves lead. Moves of the server and of other workers do
+/// not change it.
 pub fn rounds_are_moves()
+    ensures others { OthersChangeNothing }
     ensures rounds { RoundsAreMoves }
     ensures failures { FailuresAreMoves }
 {}

@@ -1,6 +1,9 @@
-use Rattle.stream_system.proofs.RoundLemmas.{failures_are_moves}
+use Rattle.stream_system.proofs.RoundLemmas.{others_change_nothing, failures_are_moves}
 use Rattle.stream_system.proofs.RoundLemmas as rounds
 use Rattle.stream_system.proofs.laws.rounds_are_moves.Goals as goal
+
+pub returns-clause-others : goal.returns-clause-others
+returns-clause-others c = others_change_nothing
 
 pub returns-clause-rounds : goal.returns-clause-rounds
 returns-clause-rounds c = rounds.rounds_are_moves
