@@ -38,7 +38,7 @@ module _ (form : Form) where
   are_lines [] = inl refl
   are_lines (e ∷ es) = lines_join (form.line e ++ 10 ∷ []) (lines form es) (one_line e) (are_lines es)
 
-  -- the first line, and those behind it
+  -- the first line, and those after it
   pub first_line : (e : Entry) (es : List Entry) → lines form (e ∷ es) ≡ form.line e ++ 10 ∷ lines form es
   first_line e es = append_assoc (form.line e) (10 ∷ []) (lines form es)
 

@@ -23,7 +23,7 @@ entry = (id_text (1, 0), fields)
 abbrev line : List ℕ
 line = codes "1-0" ++ 9 ∷ 97 ∷ 9 ∷ 98 ∷ 10 ∷ []
 
--- the file had one line, and behind it an `x` that a crash left
+-- the file had one line, and after it an `x` that a crash left
 abbrev before : Name → List ℕ
 before name = 121 ∷ 10 ∷ 120 ∷ []
 

@@ -9,7 +9,7 @@ use Rattle.line_log.proofs.EntryLineLemmas.{line_whole, line_tells}
 use Rattle.stream_files.specs.Files.{Form, has_end, whole_lines}
 use Rattle.stream_files.specs.Law.{RepairsToWholeLines, TextIsAForm}
 
--- ---- whole lines, one behind the other
+-- ---- whole lines, one after the other
 
 pub lines_join : (xs ys : List ℕ) → AreLines xs → AreLines ys → AreLines (xs ++ ys)
 lines_join xs ys p (inl none) = subst AreLines (sym (ap (λ zs. xs ++ zs) none ∙ append-nil xs)) p
@@ -62,7 +62,7 @@ whole_are_lines bytes =
     let s = split bytes in
     subst AreLines (sym (ap whole_lines s.is.split ∙ whole_of s.lines s.torn s.is.whole s.is.torn_line)) s.is.whole
 
--- whole lines stay, whatever bytes are behind them
+-- whole lines stay, whatever bytes are after them
 pub whole_behind : (ls torn : List ℕ) → AreLines ls → whole_lines (ls ++ torn) ≡ ls ++ whole_lines torn
 whole_behind ls torn are =
     let s = split torn in

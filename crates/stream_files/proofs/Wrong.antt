@@ -18,7 +18,7 @@ fields b = (b ∷ [], []) ∷ []
 abbrev line : ℕ → ℕ → List ℕ
 line n b = lines text ((id_text (n, 0), fields b) ∷ [])
 
--- a schedule, where an event makes this of the files
+-- a schedule, if an event makes this of the files
 abbrev run_by : (Files → Event → Files) → List Event → Files → Files
 run_by next [] f = f
 run_by next (e ∷ es) f = run_by next es (next f e)
@@ -66,7 +66,7 @@ begins_a_new_file f e = happens text f e
 pub lost_with_the_crash : file_by begins_a_new_file (one 1 97 (Reopens ann 1 [] ∷ [])) ≡ []
 lost_with_the_crash = refl
 
--- bytes without an end are kept, and the next line goes on behind them
+-- bytes without an end are kept, and the next line goes on after them
 abbrev keeps_all_bytes : Files → Event → Files
 keeps_all_bytes f (Reopens c every torn) =
     record (reopens f c every torn) { file = with_one f.file c (f.file c ++ torn) }

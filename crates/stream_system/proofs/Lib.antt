@@ -3,3 +3,4 @@ pub mod Served
 pub mod Coupled
 pub mod Kept
 pub mod RoundLemmas
+mod Sample

@@ -35,7 +35,7 @@ abbrev pub round_of : Name → Settings → List Move → ℕ → Turn → List 
 round_of name settings others which turn = Commits name ∷ Sends name settings
     ∷ (others ++ Hears name settings which turn.answer turn.verdicts ∷ [])
 
--- after a round of its contract the worker is where these moves lead
+-- these moves lead to the worker after a round of its contract
 abbrev pub RoundsAreMoves : Type 0
 RoundsAreMoves = (form : Form) (s : System) (name : Name) (settings : Settings) (old new : Link) (x : Standing Doings)
     (question : Asked) (p : Progress)
@@ -57,7 +57,7 @@ abbrev pub AreOf : Name → Settings → List Move → Type 0
 AreOf name settings [] = Unit {0}
 AreOf name settings (m ∷ ms) = IsOf name settings m × AreOf name settings ms
 
--- after a round that fails, by its contract, the worker is where some moves of it lead
+-- some moves of a worker lead to it after a round that fails, by its contract
 abbrev pub FailuresAreMoves : Type 0
 FailuresAreMoves = (form : Form) (s : System) (name : Name) (settings : Settings) (old new : Link)
     (x : Standing Doings) (e : RunError)

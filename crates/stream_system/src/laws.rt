@@ -12,8 +12,8 @@ pub fn each_entry_is_kept()
 {}
 
 /// What `Worker::round` promises is a list of moves of the worker: after a round that returns Ok, and
-/// after one that fails, it is where these moves lead. Moves of the server and of other workers do
-/// not change it.
+/// after one that fails, these moves lead to it. Moves of the server and of other workers
+/// do not change it.
 pub fn rounds_are_moves()
     ensures others { OthersChangeNothing }
     ensures rounds { RoundsAreMoves }
