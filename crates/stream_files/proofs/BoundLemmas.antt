@@ -5,7 +5,7 @@ use Rattle.line_log.specs.Device.{LeavesOnly}
 use Rattle.line_log.specs.Holds.{Holds}
 use Rattle.line_log.specs.Lines.{EachStartsWith, StartsWith, IsRepaired}
 use Rattle.stream_files.specs.Files.{batch, whole_lines}
-use Rattle.stream_files.specs.Bound.{CommitsSo, LeavesSo, OpensSo}
+use Rattle.stream_files.specs.Bound.{CommitsSo, HeldLeavesSo, LeavesSo, OpensSo}
 use Rattle.stream_files.proofs.Step.{at_one}
 use Rattle.stream_files.proofs.Whole.{repairs_to_whole_lines}
 
@@ -15,6 +15,9 @@ if_ok_of_three (Ok x) P Q R S f p q r = f x p q r
 if_ok_of_three (Err e) P Q R S f p q r = tt
 
 module _ {D : Type 0} (seen : D → Option (List ℕ)) (may_leave : D → List ℕ → Type 0) (is_sound : D → Type 0) where
+  pub held_leaves_so : HeldLeavesSo seen may_leave is_sound
+  held_leaves_so file len is_broken f name h bytes left = h.left bytes left
+
   pub opens_so : (old new : D) (len : ℕ) (is_broken : Bool) → IsRepaired (seen old) (seen new)
       → (is_sound old → IfSome (seen old) (λ bytes. Holds seen may_leave is_sound (take len bytes) new len is_broken))
       → is_broken ≡ false → is_sound old → OpensSo seen may_leave is_sound old new len is_broken

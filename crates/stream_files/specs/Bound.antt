@@ -12,6 +12,11 @@ module _ {D : Type 0} (seen : D → Option (List ℕ)) (may_leave : D → List �
   abbrev pub HoldsFile : D → ℕ → Bool → Files → Name → Type 0
   HoldsFile file len is_broken f name = Holds seen may_leave is_sound (f.file name) file len is_broken
 
+  -- all that a crash may leave of a log that holds the file is what the model says
+  abbrev pub HeldLeavesSo : Type 0
+  HeldLeavesSo = (file : D) (len : ℕ) (is_broken : Bool) (f : Files) (name : Name)
+      → HoldsFile file len is_broken f name → (bytes : List ℕ) → may_leave file bytes → MayLeave f name bytes
+
   -- opened on what a crash left, it holds the file that the worker has after `Reopens`
   abbrev pub OpensSo : D → D → ℕ → Bool → Type 0
   OpensSo old new len is_broken = (f : Files) (name : Name) (every : ℕ) (torn : List ℕ)

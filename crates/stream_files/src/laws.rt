@@ -1,8 +1,11 @@
 //! What holds after every schedule of additions, deletions, reads, claims, lost replies, commits
 //! and crashes of workers that have a file each.
+ghost use Rattle.stream_files.specs.Bound.{HeldLeavesSo};
 ghost use Rattle.stream_files.specs.Law.{AcknowledgedIsInAFile, EachEntryIsKept, FilesAreOfTheLog, FilesGrow};
 ghost use Rattle.stream_files.specs.Law.{LettersAreOfTheLog, LettersStay, LinesAreOfTheLog};
 ghost use Rattle.stream_files.specs.Law.{RepairsToWholeLines, TextIsAForm};
+
+use line_log::LogFile;
 
 /// After any list of events each entry that was ever added is still to come, or pending, or is a
 /// line of some worker's file, or has a letter, or was deleted. A line of a file is in whatever a
@@ -36,4 +39,10 @@ pub fn nothing_is_made_up()
 pub fn files_are_those_of_line_log()
     ensures repaired { RepairsToWholeLines }
     ensures text { TextIsAForm }
+{}
+
+/// All that a crash may leave of a log that holds a worker's file is what `MayLeave` says. So it has
+/// the line of each entry that is in this file.
+pub fn a_log_leaves_what_the_model_says<D: LogFile>()
+    ensures { HeldLeavesSo D.seen D.may_leave D.is_sound }
 {}
