@@ -5,3 +5,5 @@ pub mod ServerLemmas
 pub mod ErrorLemmas
 pub mod CursorLemmas
 pub mod CursorReadLemmas
+pub mod CursorTrimLemmas
+pub mod CursorAddLemmas

@@ -1,16 +1,19 @@
 -- What a cursor finds in front of the arguments that are left, which are the texts at places.
 use Rattle.std.specs.Prelude.{◌≡◌, ℕ, Bool, false, List, [], ◌∷◌, drop, codes, Option, Some, None, option_map}
-use Rattle.std.specs.Prelude.{option_and_then}
+use Rattle.std.specs.Prelude.{option_and_then, nat_eq}
 use Rattle.std.specs.Prelude.{if◌then◌else◌}
 use Rattle.std.specs.Str.{bytes_eq}
 use Rattle.redis_resp.specs.Reading.{both_read}
 use Rattle.stream_options.specs.Read.{Group}
 use Rattle.stream_options.specs.ReadBack.{ReadsAs, number_of, both, number_clause, flag_clause, single_group}
+use Rattle.stream_options.specs.ReadBack.{optional, bound_words, bound_at}
+use Rattle.stream_options.specs.Trim.{Bound}
 use Rattle.redis_wire.specs.declared.place.Span.{Span}
 use Rattle.redis_c.specs.declared.commands.ReadSettings.{ReadSettings}
 use Rattle.redis_c.specs.declared.server.GroupPlace.{GroupPlace}
 use Rattle.redis_c.specs.Placed.{text_at, texts_at}
-use Rattle.redis_c.specs.Settings.{if_set}
+use Rattle.redis_c.specs.declared.settings.TrimSettings.{TrimSettings}
+use Rattle.redis_c.specs.Settings.{if_set, bound_in}
 
 -- whether a text that is there is the word
 abbrev pub is_word : List ℕ → Option (List ℕ) → Bool
@@ -57,6 +60,14 @@ group_by names = Some (single_group names.0 names.1)
 abbrev pub group_in : List ℕ → GroupPlace → Option (Option Group)
 group_in bytes place = if place.names
     then option_map group_by (both_read (text_at bytes place.group) (text_at bytes place.consumer)) else Some None
+
+-- `[MAXLEN mode n]` or `[MINID mode id]`
+abbrev pub bound_clause : ReadsAs (Option Bound)
+bound_clause = optional bound_words bound_at
+
+-- the bound that the settings name, if they name one
+abbrev pub any_bound_in : List ℕ → TrimSettings → Option (Option Bound)
+any_bound_in bytes s = if nat_eq s.bound 0 then Some None else option_map Some (bound_in bytes s)
 
 -- If the arguments read as a value and a rest, then it is the value that was found, and the rest is left.
 abbrev pub Finds : {T : Type 0} → ReadsAs T → (T → Type 0) → List ℕ → List Span → List Span → Type 0

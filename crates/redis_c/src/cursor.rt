@@ -1,11 +1,12 @@
 //! Arguments one after the other, as settings. What is made of them here is compared with what they are by
 //! who asks.
-ghost use Rattle.std.specs.Prelude.{◌≡◌, ◌≤◌, ◌∷◌, [], ℕ, true, Some, length, drop, codes};
+ghost use Rattle.std.specs.Prelude.{◌≡◌, ◌≤◌, ◌∷◌, [], ℕ, true, false, Some, length, drop, codes};
 ghost use Rattle.stream_options.specs.ReadBack.{number_clause, optional, argument_at, mode_of, policy_clause, claim_at};
-ghost use Rattle.stream_options.specs.ReadBack.{autoclaim_at, group_at};
+ghost use Rattle.stream_options.specs.ReadBack.{autoclaim_at, group_at, idempotency_clause, strategy_clause, trim_at, add_at};
 ghost use Rattle.redis_c.specs.Cursor.{is_next, after_word, after_both, first_place, number_at, Finds};
-ghost use Rattle.redis_c.specs.Cursor.{reading_at, asked_by, group_in};
-ghost use Rattle.redis_c.specs.Settings.{if_set, claim_in, autoclaim_of, policy_by, mode_by};
+ghost use Rattle.redis_c.specs.Cursor.{reading_at, asked_by, group_in, bound_clause, any_bound_in};
+ghost use Rattle.redis_c.specs.Settings.{if_set, claim_in, autoclaim_of, policy_by, mode_by, any_strategy_in, trim_in, add_in};
+ghost use Rattle.redis_c.specs.Settings.{idempotency_by};
 
 use crate::commands::ReadSettings;
 use crate::placed::text_at;
@@ -98,34 +99,34 @@ impl<'a> Cursor<'a> {
     fn strategy(&mut self) -> TrimSettings
         ensures fewer { length self.new.places.now ≤ length self.old.places.now }
         ensures bytes { self.new.bytes.now ≡ self.old.bytes.now }
+        ensures is { Finds strategy_clause (λ o. any_strategy_in self.old.bytes.now result ≡ Some o)
+            self.old.bytes.now self.old.places.now self.new.places.now }
     {
-        let (bound, about, maxlen, minid) = self.bound();
-        let (limits, limit) = self.number_behind(b"LIMIT");
-        TrimSettings {
-            bound,
-            references: 0,
-            about,
-            limits,
-            maxlen,
-            minid,
-            limit,
+        let mut settings = self.bound();
+        if settings.bound != 0 {
+            (settings.limits, settings.limit) = self.number_behind(b"LIMIT");
         }
+        settings
     }
 
-    /// Which bound it is, whether it is about the bound alone, how many entries stay, and from which id on.
-    fn bound(&mut self) -> (u32, bool, usize, Span)
+    /// The bound of a trimming, if one is next. Nothing else is set.
+    fn bound(&mut self) -> TrimSettings
         ensures fewer { length self.new.places.now ≤ length self.old.places.now }
         ensures bytes { self.new.bytes.now ≡ self.old.bytes.now }
+        ensures is { Finds bound_clause (λ b. any_bound_in self.old.bytes.now result ≡ Some b)
+            self.old.bytes.now self.old.places.now self.new.places.now }
     {
+        let mut settings = untrimmed();
         if self.takes(b"MAXLEN") {
-            let about = self.about();
-            (1, about, self.number(), nowhere())
+            settings.bound = 1;
+            settings.about = self.about();
+            settings.maxlen = self.number();
         } else if self.takes(b"MINID") {
-            let about = self.about();
-            (2, about, 0, self.place())
-        } else {
-            (0, false, 0, nowhere())
+            settings.bound = 2;
+            settings.about = self.about();
+            settings.minid = self.place();
         }
+        settings
     }
 
     /// Takes `~` or `=`: whether it is `~`.
@@ -142,6 +143,8 @@ impl<'a> Cursor<'a> {
     pub fn trim(&mut self) -> TrimSettings
         ensures fewer { length self.new.places.now ≤ length self.old.places.now }
         ensures bytes { self.new.bytes.now ≡ self.old.bytes.now }
+        ensures is { Finds trim_at (λ t. trim_in self.old.bytes.now result ≡ Some t)
+            self.old.bytes.now self.old.places.now self.new.places.now }
     {
         let mut settings = self.strategy();
         settings.references = self.references();
@@ -152,6 +155,8 @@ impl<'a> Cursor<'a> {
     pub fn add(&mut self) -> AddSettings
         ensures fewer { length self.new.places.now ≤ length self.old.places.now }
         ensures bytes { self.new.bytes.now ≡ self.old.bytes.now }
+        ensures is { Finds add_at (λ a. add_in self.old.bytes.now result ≡ Some a)
+            self.old.bytes.now self.old.places.now self.new.places.now }
     {
         let nomkstream = self.takes(b"NOMKSTREAM");
         let references = self.references();
@@ -171,6 +176,9 @@ impl<'a> Cursor<'a> {
     fn idempotency(&mut self) -> (u32, Span, Span)
         ensures fewer { length self.new.places.now ≤ length self.old.places.now }
         ensures bytes { self.new.bytes.now ≡ self.old.bytes.now }
+        ensures is { Finds idempotency_clause
+            (λ i. idempotency_by self.old.bytes.now result.0 result.1 result.2 ≡ Some i)
+            self.old.bytes.now self.old.places.now self.new.places.now }
     {
         if self.takes(b"IDMP") {
             let producer = self.place();
@@ -299,4 +307,21 @@ fn nowhere() -> Span
     ensures { result ≡ record { start = 0; len = 0 } }
 {
     Span { start: 0, len: 0 }
+}
+
+/// No bound, no limit, and no word on references.
+fn untrimmed() -> TrimSettings
+    ensures bound { result.bound ≡ 0 }
+    ensures limits { result.limits ≡ false }
+    ensures references { result.references ≡ 0 }
+{
+    TrimSettings {
+        bound: 0,
+        references: 0,
+        about: false,
+        limits: false,
+        maxlen: 0,
+        minid: nowhere(),
+        limit: 0,
+    }
 }
