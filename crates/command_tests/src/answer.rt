@@ -2,7 +2,7 @@
 use redis_resp::{ParsingError, Value};
 use redis_wire::{Reply, ReplyError, ServerError};
 use std::process::Abort;
-use stream_commands::{AtLeastOne, xadd_options, xlen, xread};
+use stream_commands::{AtLeastOne, xack, xadd_options, xlen, xread};
 use stream_options::StreamAddOptions;
 
 #[test]
@@ -15,6 +15,20 @@ fn a_length_is_read(rt: HostRuntime) {
         matches!(&borrowed, Err(ParsingError::NotNumber)),
         "{borrowed:?}"
     );
+}
+
+#[test]
+fn many_acknowledged_entries_are_counted(rt: HostRuntime) {
+    let acknowledged = xack("orders", "g", AtLeastOne::one(&"1-0"));
+    for count in [0i64, 1, 255, 256, 65_536, 4_294_967_296] {
+        let read = acknowledged.read(rt.alloc(), Value::Int(count));
+        let as_text = match &read {
+            Ok(read) => format!(in rt.alloc(); "{read}").expect(&rt, "memory"),
+            Err(error) => format!(in rt.alloc(); "{error:?}").expect(&rt, "memory"),
+        };
+        let wanted = format!(in rt.alloc(); "{count}").expect(&rt, "memory");
+        assert!(rt; as_text.as_str() == wanted.as_str(), "{count}: {as_text}");
+    }
 }
 
 #[test]

@@ -7,3 +7,4 @@ pub mod Placed
 pub mod Settings
 pub mod Commands
 pub mod Server
+pub mod Cursor

@@ -1,5 +1,5 @@
 -- What C is told of a command that is packed.
-use Rattle.std.specs.Prelude.{◌≡◌, ℕ, List, [], length, take, Option, Some, None}
+use Rattle.std.specs.Prelude.{◌≡◌, ◌<◌, ℕ, List, [], length, take, Option, Some, None}
 use Rattle.redis_wire.specs.Packed.{command_bytes}
 use Rattle.redis_wire.specs.PackedArgs.{IsTooLarge}
 use Rattle.redis_c.specs.declared.packing.Packing.{Packing}
@@ -25,10 +25,10 @@ len_of packings.Outside = 0
 len_of packings.Nothing = 0
 len_of packings.Refused = 0
 
--- the buffer begins with the bytes, and they are so many; or so many are wanted
+-- the buffer begins with the bytes, and they are so many; or so many are wanted, and it has room for fewer
 abbrev pub IsWritten : List ℕ → List ℕ → Packing → Type 0
 IsWritten bytes out (packings.Written len) = (length bytes ≡ len) × (take len out ≡ bytes)
-IsWritten bytes out (packings.Room len) = length bytes ≡ len
+IsWritten bytes out (packings.Room len) = (length bytes ≡ len) × (length out < len)
 IsWritten bytes out _ = ⊥
 
 -- The buffer begins with the command of these arguments, or so many bytes are wanted for it; memory ran

@@ -76,12 +76,15 @@ manual_by x = Some (manual x.0 x.1)
 abbrev pub automatic_by : List ℕ → Option Idempotency
 automatic_by producer = Some (automatic producer)
 
+-- how a duplicate entry is recognized by the number and the texts at these places, if it is
+abbrev pub idempotency_by : List ℕ → ℕ → Span → Span → Option (Option Idempotency)
+idempotency_by bytes recognizes producer item = if nat_eq recognizes 0 then Some None
+    else if nat_eq recognizes 1 then option_map manual_by (both_read (utf8_at bytes producer) (utf8_at bytes item))
+    else if nat_eq recognizes 2 then option_map automatic_by (utf8_at bytes producer) else None
+
 -- how a duplicate entry is recognized, if it is
 abbrev pub idempotency_in : List ℕ → AddSettings → Option (Option Idempotency)
-idempotency_in bytes s = if nat_eq s.recognizes 0 then Some None
-    else if nat_eq s.recognizes 1
-    then option_map manual_by (both_read (utf8_at bytes s.producer) (utf8_at bytes s.item))
-    else if nat_eq s.recognizes 2 then option_map automatic_by (utf8_at bytes s.producer) else None
+idempotency_in bytes s = idempotency_by bytes s.recognizes s.producer s.item
 
 -- the settings in their order
 abbrev pub add_with : Bool → Option Policy × (Option Idempotency × Option Strategy) → Add

@@ -3,8 +3,11 @@ use Rattle.std.specs.Prelude.{◌≡◌, ◌≤◌, ◌++◌, ℕ, List, length,
 use Rattle.redis_wire.specs.Limits.{default_limits}
 use Rattle.redis_wire.specs.Reply.{Answer, refused}
 use Rattle.redis_wire.specs.Grammar.{IsReply}
-use Rattle.redis_wire.specs.Decoded.{NoReply}
-use Rattle.redis_wire.specs.Place.{text_in}
+use Rattle.redis_wire.specs.Decoded.{NoReply, EndTooEarly, IsFirstFault}
+use Rattle.redis_wire.specs.Place.{text_in, IsSpan}
+use Rattle.redis_wire.specs.declared.fault.Fault.{Fault}
+use Rattle.redis_wire.specs.declared.fault.WireError.TheVariants as errors
+use Rattle.redis_wire.specs.declared.place.Span.{Span}
 use Rattle.stream_refs.specs.declared.places.FieldPlace.{FieldPlace}
 use Rattle.stream_refs.specs.declared.places.EntryPlace.{EntryPlace}
 use Rattle.stream_refs.specs.declared.places.StreamPlace.{StreamPlace}
@@ -57,14 +60,40 @@ pub record IsAnswered (bytes : List ℕ) (len : ℕ) (a : Answer) : Type 0 where
   pub within : len ≤ length bytes
   pub reply : IsReply default_limits (take len bytes) a
 
--- Where no entries stand in place: no reply, now or whatever comes behind; an error of the server,
--- whose text stands there; or a reply of another shape.
+-- an answer that is no error
+abbrev pub IsNoError : Answer → Type 0
+IsNoError (refused text) = ⊥
+IsNoError _ = Unit {0}
+
+-- The first `len` bytes are an error of the server, and its text is at that place within the bytes.
+pub record IsErrorAt (bytes : List ℕ) (len : ℕ) (text : Span) : Type 0 where
+  pub answered : IsAnswered bytes len (refused (text_in bytes text))
+  pub within : IsSpan bytes text
+
+-- The first `len` bytes are an answer that is no error.
+pub record IsShape (bytes : List ℕ) (len : ℕ) : Type 0 where
+  pub a : Answer
+  pub answered : IsAnswered bytes len a
+  pub no_error : IsNoError a
+
+-- The bytes end before a reply does, and reading them from the left meets no fault.
+pub record IsUnfinished (bytes : List ℕ) : Type 0 where
+  pub none : NoReply default_limits bytes
+  pub early : EndTooEarly default_limits bytes
+
+-- No reply comes of the bytes, whatever follows them, and this fault is the first that reading them meets.
+pub record IsFaulty (bytes : List ℕ) (fault : Fault) : Type 0 where
+  pub none : (more : List ℕ) → NoReply default_limits (bytes ++ more)
+  pub first : IsFirstFault default_limits bytes (errors.Fault fault)
+
+-- Where no entries stand in place: the bytes end too early, or have a fault; an error of the server, wherever its
+-- text is; or a reply of another shape, which is no error.
 abbrev pub IsOther : List ℕ → Outcome → Type 0
-IsOther bytes outcomes.Incomplete = NoReply default_limits bytes
-IsOther bytes (outcomes.ServerError len text) = IsAnswered bytes len (refused (text_in bytes text))
-IsOther bytes (outcomes.OtherShape len) = (a : Answer) × IsAnswered bytes len a
+IsOther bytes outcomes.Incomplete = IsUnfinished bytes
+IsOther bytes (outcomes.ServerError len text) = IsErrorAt bytes len text
+IsOther bytes (outcomes.OtherShape len) = IsShape bytes len
 IsOther bytes outcomes.Memory = Unit {0}
-IsOther bytes (outcomes.Fault fault) = (more : List ℕ) → NoReply default_limits (bytes ++ more)
+IsOther bytes (outcomes.Fault fault) = IsFaulty bytes fault
 IsOther bytes _ = ⊥
 
 -- the first places of tables

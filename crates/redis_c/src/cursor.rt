@@ -1,6 +1,12 @@
 //! Arguments one after the other, as settings. What is made of them here is compared with what they are by
 //! who asks.
-ghost use Rattle.std.specs.Prelude.{◌≤◌, length};
+ghost use Rattle.std.specs.Prelude.{◌≡◌, ◌≤◌, ◌∷◌, [], ℕ, true, false, Some, length, drop, codes};
+ghost use Rattle.stream_options.specs.ReadBack.{number_clause, optional, argument_at, mode_of, policy_clause, claim_at};
+ghost use Rattle.stream_options.specs.ReadBack.{autoclaim_at, group_at, idempotency_clause, strategy_clause, trim_at, add_at};
+ghost use Rattle.redis_c.specs.Cursor.{is_next, after_word, after_both, first_place, number_at, Finds};
+ghost use Rattle.redis_c.specs.Cursor.{reading_at, asked_by, group_in, bound_clause, any_bound_in};
+ghost use Rattle.redis_c.specs.Settings.{if_set, claim_in, autoclaim_of, policy_by, mode_by, any_strategy_in, trim_in, add_in};
+ghost use Rattle.redis_c.specs.Settings.{idempotency_by};
 
 use crate::commands::ReadSettings;
 use crate::placed::text_at;
@@ -19,7 +25,10 @@ pub struct Cursor<'a> {
 impl<'a> Cursor<'a> {
     /// Takes the word, where it is the next argument.
     fn takes(&mut self, word: &[u8]) -> bool
-        ensures { length self.new.places.now ≤ length self.old.places.now }
+        ensures fewer { length self.new.places.now ≤ length self.old.places.now }
+        ensures bytes { self.new.bytes.now ≡ self.old.bytes.now }
+        ensures is { result ≡ is_next self.old.bytes.now self.old.places.now word.now }
+        ensures left { self.new.places.now ≡ after_word result self.old.places.now }
     {
         let [first, rest @ ..] = self.places else {
             return false;
@@ -35,7 +44,10 @@ impl<'a> Cursor<'a> {
 
     /// Takes the next argument, whatever it is.
     fn place(&mut self) -> Span
-        ensures { length self.new.places.now ≤ length self.old.places.now }
+        ensures fewer { length self.new.places.now ≤ length self.old.places.now }
+        ensures bytes { self.new.bytes.now ≡ self.old.bytes.now }
+        ensures is { result ≡ first_place self.old.places.now }
+        ensures left { self.new.places.now ≡ drop 1 self.old.places.now }
     {
         let [first, rest @ ..] = self.places else {
             return nowhere();
@@ -46,7 +58,11 @@ impl<'a> Cursor<'a> {
 
     /// Takes the next argument as a number.
     fn number(&mut self) -> usize
-        ensures { length self.new.places.now ≤ length self.old.places.now }
+        ensures fewer { length self.new.places.now ≤ length self.old.places.now }
+        ensures bytes { self.new.bytes.now ≡ self.old.bytes.now }
+        ensures is { (n : ℕ) → number_at self.old.bytes.now (first_place self.old.places.now) ≡ Some n
+            → result ≡ n }
+        ensures left { self.new.places.now ≡ drop 1 self.old.places.now }
     {
         let place = self.place();
         let Some(text) = text_at(self.bytes, place) else {
@@ -63,7 +79,10 @@ impl<'a> Cursor<'a> {
 
     /// What becomes of references, as a number.
     fn references(&mut self) -> u32
-        ensures { length self.new.places.now ≤ length self.old.places.now }
+        ensures fewer { length self.new.places.now ≤ length self.old.places.now }
+        ensures bytes { self.new.bytes.now ≡ self.old.bytes.now }
+        ensures is { Finds policy_clause (λ p. policy_by result ≡ Some p)
+            self.old.bytes.now self.old.places.now self.new.places.now }
     {
         if self.takes(b"KEEPREF") {
             1
@@ -78,46 +97,54 @@ impl<'a> Cursor<'a> {
 
     /// How a stream is trimmed, but for the references.
     fn strategy(&mut self) -> TrimSettings
-        ensures { length self.new.places.now ≤ length self.old.places.now }
+        ensures fewer { length self.new.places.now ≤ length self.old.places.now }
+        ensures bytes { self.new.bytes.now ≡ self.old.bytes.now }
+        ensures is { Finds strategy_clause (λ o. any_strategy_in self.old.bytes.now result ≡ Some o)
+            self.old.bytes.now self.old.places.now self.new.places.now }
     {
-        let (bound, about, maxlen, minid) = self.bound();
-        let (limits, limit) = self.number_behind(b"LIMIT");
-        TrimSettings {
-            bound,
-            references: 0,
-            about,
-            limits,
-            maxlen,
-            minid,
-            limit,
+        let mut settings = self.bound();
+        if settings.bound != 0 {
+            (settings.limits, settings.limit) = self.number_behind(b"LIMIT");
         }
+        settings
     }
 
-    /// Which bound it is, whether it is about the bound alone, how many entries stay, and from which id on.
-    fn bound(&mut self) -> (u32, bool, usize, Span)
-        ensures { length self.new.places.now ≤ length self.old.places.now }
+    /// The bound of a trimming, if one is next. Nothing else is set.
+    fn bound(&mut self) -> TrimSettings
+        ensures fewer { length self.new.places.now ≤ length self.old.places.now }
+        ensures bytes { self.new.bytes.now ≡ self.old.bytes.now }
+        ensures is { Finds bound_clause (λ b. any_bound_in self.old.bytes.now result ≡ Some b)
+            self.old.bytes.now self.old.places.now self.new.places.now }
     {
+        let mut settings = untrimmed();
         if self.takes(b"MAXLEN") {
-            let about = self.about();
-            (1, about, self.number(), nowhere())
+            settings.bound = 1;
+            settings.about = self.about();
+            settings.maxlen = self.number();
         } else if self.takes(b"MINID") {
-            let about = self.about();
-            (2, about, 0, self.place())
-        } else {
-            (0, false, 0, nowhere())
+            settings.bound = 2;
+            settings.about = self.about();
+            settings.minid = self.place();
         }
+        settings
     }
 
     /// Takes `~` or `=`: whether it is `~`.
     fn about(&mut self) -> bool
-        ensures { length self.new.places.now ≤ length self.old.places.now }
+        ensures fewer { length self.new.places.now ≤ length self.old.places.now }
+        ensures bytes { self.new.bytes.now ≡ self.old.bytes.now }
+        ensures is { Finds (argument_at mode_of) (λ m. mode_by result ≡ m)
+            self.old.bytes.now self.old.places.now self.new.places.now }
     {
         self.takes(b"~") || !self.takes(b"=")
     }
 
     /// How a stream is trimmed.
     pub fn trim(&mut self) -> TrimSettings
-        ensures { length self.new.places.now ≤ length self.old.places.now }
+        ensures fewer { length self.new.places.now ≤ length self.old.places.now }
+        ensures bytes { self.new.bytes.now ≡ self.old.bytes.now }
+        ensures is { Finds trim_at (λ t. trim_in self.old.bytes.now result ≡ Some t)
+            self.old.bytes.now self.old.places.now self.new.places.now }
     {
         let mut settings = self.strategy();
         settings.references = self.references();
@@ -126,7 +153,10 @@ impl<'a> Cursor<'a> {
 
     /// How an entry is added.
     pub fn add(&mut self) -> AddSettings
-        ensures { length self.new.places.now ≤ length self.old.places.now }
+        ensures fewer { length self.new.places.now ≤ length self.old.places.now }
+        ensures bytes { self.new.bytes.now ≡ self.old.bytes.now }
+        ensures is { Finds add_at (λ a. add_in self.old.bytes.now result ≡ Some a)
+            self.old.bytes.now self.old.places.now self.new.places.now }
     {
         let nomkstream = self.takes(b"NOMKSTREAM");
         let references = self.references();
@@ -144,7 +174,11 @@ impl<'a> Cursor<'a> {
 
     /// How a duplicate entry is recognized, and where its texts stand.
     fn idempotency(&mut self) -> (u32, Span, Span)
-        ensures { length self.new.places.now ≤ length self.old.places.now }
+        ensures fewer { length self.new.places.now ≤ length self.old.places.now }
+        ensures bytes { self.new.bytes.now ≡ self.old.bytes.now }
+        ensures is { Finds idempotency_clause
+            (λ i. idempotency_by self.old.bytes.now result.0 result.1 result.2 ≡ Some i)
+            self.old.bytes.now self.old.places.now self.new.places.now }
     {
         if self.takes(b"IDMP") {
             let producer = self.place();
@@ -158,7 +192,10 @@ impl<'a> Cursor<'a> {
 
     /// How entries are claimed by their ids.
     pub fn claim(&mut self) -> ClaimSettings
-        ensures { length self.new.places.now ≤ length self.old.places.now }
+        ensures fewer { length self.new.places.now ≤ length self.old.places.now }
+        ensures bytes { self.new.bytes.now ≡ self.old.bytes.now }
+        ensures is { Finds claim_at (λ c. claim_in self.old.bytes.now result ≡ Some c)
+            self.old.bytes.now self.old.places.now self.new.places.now }
     {
         let (idles, idle) = self.number_behind(b"IDLE");
         let (times, time) = self.number_behind(b"TIME");
@@ -182,7 +219,10 @@ impl<'a> Cursor<'a> {
 
     /// How idle entries are claimed, whichever they are.
     pub fn autoclaim(&mut self) -> AutoClaimSettings
-        ensures { length self.new.places.now ≤ length self.old.places.now }
+        ensures fewer { length self.new.places.now ≤ length self.old.places.now }
+        ensures bytes { self.new.bytes.now ≡ self.old.bytes.now }
+        ensures is { Finds autoclaim_at (λ a. autoclaim_of result ≡ a)
+            self.old.bytes.now self.old.places.now self.new.places.now }
     {
         let (counts, count) = self.number_behind(b"COUNT");
         let justid = self.takes(b"JUSTID");
@@ -195,7 +235,11 @@ impl<'a> Cursor<'a> {
 
     /// The group and the consumer, where they are named.
     pub fn group(&mut self) -> GroupPlace
-        ensures { length self.new.places.now ≤ length self.old.places.now }
+        ensures fewer { length self.new.places.now ≤ length self.old.places.now }
+        ensures bytes { self.new.bytes.now ≡ self.old.bytes.now }
+        ensures is { Finds (optional (codes "GROUP" ∷ []) group_at)
+            (λ g. group_in self.old.bytes.now result ≡ Some g)
+            self.old.bytes.now self.old.places.now self.new.places.now }
     {
         let (names, group) = self.place_behind(b"GROUP");
         let consumer = if names { self.place() } else { nowhere() };
@@ -208,7 +252,10 @@ impl<'a> Cursor<'a> {
 
     /// What a read asks for behind the group.
     pub fn read(&mut self) -> ReadSettings
-        ensures { length self.new.places.now ≤ length self.old.places.now }
+        ensures fewer { length self.new.places.now ≤ length self.old.places.now }
+        ensures bytes { self.new.bytes.now ≡ self.old.bytes.now }
+        ensures is { Finds reading_at (λ x. x ≡ asked_by result)
+            self.old.bytes.now self.old.places.now self.new.places.now }
     {
         let (blocks, block) = self.number_behind(b"BLOCK");
         let (counts, count) = self.number_behind(b"COUNT");
@@ -227,7 +274,10 @@ impl<'a> Cursor<'a> {
 
     /// Takes the word and a number behind it, where the word is the next argument; else the number is 0.
     fn number_behind(&mut self, word: &[u8]) -> (bool, usize)
-        ensures { length self.new.places.now ≤ length self.old.places.now }
+        ensures fewer { length self.new.places.now ≤ length self.old.places.now }
+        ensures bytes { self.new.bytes.now ≡ self.old.bytes.now }
+        ensures is { Finds (number_clause word.now) (λ n. n ≡ if_set result.0 result.1)
+            self.old.bytes.now self.old.places.now self.new.places.now }
     {
         if self.takes(word) {
             (true, self.number())
@@ -238,7 +288,11 @@ impl<'a> Cursor<'a> {
 
     /// Takes the word and the argument behind it, where the word is the next argument.
     fn place_behind(&mut self, word: &[u8]) -> (bool, Span)
-        ensures { length self.new.places.now ≤ length self.old.places.now }
+        ensures fewer { length self.new.places.now ≤ length self.old.places.now }
+        ensures bytes { self.new.bytes.now ≡ self.old.bytes.now }
+        ensures is { result.0 ≡ is_next self.old.bytes.now self.old.places.now word.now }
+        ensures at { result.0 ≡ true → result.1 ≡ first_place (drop 1 self.old.places.now) }
+        ensures left { self.new.places.now ≡ after_both result.0 self.old.places.now }
     {
         if self.takes(word) {
             (true, self.place())
@@ -249,6 +303,25 @@ impl<'a> Cursor<'a> {
 }
 
 /// No place.
-fn nowhere() -> Span {
+fn nowhere() -> Span
+    ensures { result ≡ record { start = 0; len = 0 } }
+{
     Span { start: 0, len: 0 }
+}
+
+/// No bound, no limit, and no word on references.
+fn untrimmed() -> TrimSettings
+    ensures bound { result.bound ≡ 0 }
+    ensures limits { result.limits ≡ false }
+    ensures references { result.references ≡ 0 }
+{
+    TrimSettings {
+        bound: 0,
+        references: 0,
+        about: false,
+        limits: false,
+        maxlen: 0,
+        minid: nowhere(),
+        limit: 0,
+    }
 }

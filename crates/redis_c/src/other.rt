@@ -1,6 +1,7 @@
 //! What bytes are in which no entries stand in place.
-ghost use Rattle.std.specs.Prelude.{◌≡◌, IfSome};
-ghost use Rattle.redis_wire.specs.Place.{text_in};
+ghost use Rattle.std.specs.Prelude.{◌≡◌, ◌≤◌, ◌++◌, ℕ, List, None, IfSome, length, take};
+ghost use Rattle.redis_wire.specs.Packed.{crlf};
+ghost use Rattle.redis_wire.specs.Place.{text_in, IsSpan};
 ghost use Rattle.redis_wire.specs.Reply.{answer};
 ghost use Rattle.redis_c.specs.Told.{IsAnswered, IsOther};
 
@@ -12,7 +13,10 @@ use std::alloc::Global;
 /// Where a text of an error stands in the bytes of a reply of this length: two bytes, CR and LF, end
 /// the reply behind it.
 fn place_of(bytes: &[u8], len: usize, text: &[u8]) -> Option<Span>
-    ensures { IfSome result (λ span. text_in bytes.now span ≡ text.now) }
+    ensures is { IfSome result (λ span. text_in bytes.now span ≡ text.now) }
+    ensures within { IfSome result (λ span. IsSpan bytes.now span) }
+    ensures found { result ≡ None → len ≤ length bytes.now → (front : List ℕ)
+        → take len bytes.now ≡ front ++ (text.now ++ crlf) → ⊥ }
 {
     let start = len.checked_sub(2)?.checked_sub(text.len())?;
     let there = bytes.get(start..start + text.len())?;

@@ -111,3 +111,39 @@ fn failed(outcome: io::Result<usize>) -> Option<ErrorKind> {
         Err(error) => Some(error.kind()),
     }
 }
+
+// A writer that holds what it takes until it is flushed.
+#[derive(Drop)]
+struct Holding {
+    held: Vec<u8>,
+    writer: LoopbackWriter,
+}
+
+impl Write for Holding {
+    fn write(&mut self, buf: &[u8]) -> io::Result<usize> {
+        self.held.extend_from_slice(buf)?;
+        Ok(buf.len())
+    }
+
+    fn flush(&mut self) -> io::Result<()> {
+        self.writer.write_all(self.held.as_slice())?;
+        self.held.clear();
+        Ok(())
+    }
+}
+
+#[test]
+fn a_command_is_flushed_before_its_reply_is_awaited(rt: HostRuntime) -> Result<(), Fail> {
+    let alloc = rt.alloc();
+    let loopback = Loopback::new(alloc, Server::new(alloc))?;
+    let (reader, writer) = loopback.connect()?;
+    let holding = Holding {
+        held: Vec::new(alloc),
+        writer,
+    };
+    let mut connection = Connection::new(alloc, reader, holding, Limits::default())?;
+    add_three(alloc, &mut connection)?;
+    let length = connection.ask_as::<usize, _>(alloc, &("XLEN", "k"))?;
+    assert_eq!(rt; length, 3);
+    Ok(())
+}
