@@ -142,13 +142,13 @@ impl Worker {
     }
 
     /// Waits for the answer to this.
-    pub(crate) fn wait_for(&mut self, asked: Asked)
+    pub(crate) fn wait_for(&mut self, question: Asked)
         ensures machine { machine_of self.new ≡ machine_of self.old }
         ensures group { self.new.group ≡ self.old.group }
-        ensures asked { self.new.asked ≡ asked }
+        ensures asked { self.new.asked ≡ question }
         ensures settings { self.new.settings ≡ self.old.settings }
     {
-        self.asked = asked;
+        self.asked = question;
     }
 
     /// Has the handler commit what is to be acknowledged next.
