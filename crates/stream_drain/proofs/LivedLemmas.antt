@@ -11,6 +11,7 @@ use Rattle.stream_worker.specs.Gathered.{Doings, done_too, committed_too}
 use Rattle.stream_worker.specs.Handling.{with_all}
 use Rattle.stream_worker.specs.Life.{Lives, begins, goes_on, fails, deleted_told, deleted_at}
 use Rattle.stream_worker.specs.Machine.{commits, at_request, history_at_request}
+use Rattle.stream_worker.specs.Pipelined.{FailsPipelined, WentPipelined}
 use Rattle.stream_worker.specs.Questions.{asks}
 use Rattle.stream_worker.specs.Requested.{Unasked}
 use Rattle.stream_worker.specs.Session.{Standing, Turn, Turned, Breaks, Fails, after_failure, after_turn, asking}
@@ -22,10 +23,11 @@ use Rattle.stream_worker.specs.declared.error.RunError.TheVariants as causes
 use Rattle.stream_worker.specs.declared.error.WorkerError.{WorkerError}
 use Rattle.stream_worker.specs.declared.error.WorkerError.TheVariants as faults
 use Rattle.stream_worker.specs.declared.state.Asked.{Asked}
-use Rattle.stream_worker.specs.declared.state.Asked.TheVariants.{Nothing}
+use Rattle.stream_worker.specs.declared.state.Asked.TheVariants.{Acknowledgement, Nothing}
 use Rattle.stream_worker.specs.declared.state.GroupState.{GroupState}
 use Rattle.stream_worker.specs.declared.state.Settings.{Settings}
 use Rattle.stream_worker.specs.declared.worker.Progress.{Progress}
+use Rattle.stream_worker.specs.declared.worker.Progress.TheVariants.{GoesOn}
 use Rattle.stream_drain.specs.Lived.{LivesFrom, LivesOnSo, LivesSo, RoundsAreLived, with_doings}
 use Rattle.stream_drain.specs.Written.{Written, committed_with, written_of, written_too}
 use Rattle.stream_drain.proofs.WrittenLemmas.{each_verdict}
@@ -215,3 +217,20 @@ from_both settings w x y a b json deleted l =
       c.0 ++ d.0,
       subst (λ (ids : List Id). LivesSo settings json y ids) (append_assoc deleted c.0 d.0) d.1,
     )
+
+-- one round, or two with one write
+pub pipelined_goes_on : (settings : Settings) (old new : Link) (w x : Standing Written) (both : Bool) (q : Asked)
+    (p : Progress) → WentPipelined written_too committed_with settings old new w x both q p → LivesFrom settings w x
+pipelined_goes_on settings old new w x false q p t = round_goes_on settings old new w x q p t
+pipelined_goes_on settings old new w x true q p (m, y, first, second) =
+    from_both settings w y x (round_goes_on settings old m w y Acknowledgement GoesOn first)
+    (round_goes_on settings m new y x q p second)
+
+-- and one of them that fails
+pub pipelined_fails : (settings : Settings) (old new : Link) (w x : Standing Written) (e : RunError)
+    → FailsPipelined written_too committed_with settings old new w x e → LivesFrom settings w x
+pipelined_fails settings old new w x e (inl f) = round_fails settings old new w x e f
+pipelined_fails settings old new w x e (inr (inl (m, c, f, leaves))) = round_fails settings old m w x c f
+pipelined_fails settings old new w x e (inr (inr (m, y, t, f))) =
+    from_both settings w y x (round_goes_on settings old m w y Acknowledgement GoesOn t)
+    (round_fails settings m new y x e f)

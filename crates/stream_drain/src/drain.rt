@@ -17,7 +17,7 @@ use std::fmt;
 use std::io::{Read, Write};
 use std::rt::Clock;
 use stream_commands::xinfo_groups;
-use stream_worker::{Asked, Handler, Progress, RequestError, RunError, Worker};
+use stream_worker::{Asked, Handler, Pipelined, Progress, RequestError, RunError, Worker};
 
 /// The limit on what a connection holds, as `Limits::default` has it.
 const LARGEST: &str = "1 GiB";
@@ -48,7 +48,7 @@ pub fn drain<R: Read + Drop, W: Write + Drop, D: LogFile + Drop, T: Clock + Epri
     bail!("the last turn came")
 }
 
-/// Looks for entries to give up, makes a round, and counts: what was asked.
+/// Looks for entries to give up, makes a round, or two with one write, and counts: what was asked last.
 fn turn<R: Read + Drop, W: Write + Drop, D: LogFile + Drop, T: Clock + Eprint + AllocGlobal>(
     rt: &T,
     connection: &mut Connection<R, W>,
@@ -64,11 +64,11 @@ fn turn<R: Read + Drop, W: Write + Drop, D: LogFile + Drop, T: Clock + Eprint + 
         (standing_of worker.new (⟦<Lines<D> as Handler>⟧.history lines.new)) }
 {
     look(rt.alloc(), connection, lines, dead, asked)?;
-    let asked = round(rt.alloc(), connection, worker, lines)?;
-    if asked == Asked::Acknowledgement {
+    let made = round(rt.alloc(), connection, worker, lines)?;
+    if made.acknowledged || made.round.asked == Asked::Acknowledgement {
         count(rt, connection, report, lines.committed)?;
     }
-    Ok(asked)
+    Ok(made.round.asked)
 }
 
 // Looks for entries that were delivered too often, where they are given up.
@@ -85,21 +85,21 @@ fn look<R: Read + Drop, W: Write + Drop, D: LogFile + Drop>(
     }
 }
 
-/// Makes a round, after which the worker goes on: what was asked.
+/// Makes a round, or two with one write, after which the worker goes on.
 fn round<R: Read + Drop, W: Write + Drop, D: LogFile + Drop>(
     alloc: Global,
     connection: &mut Connection<R, W>,
     worker: &mut Worker,
     lines: &mut Lines<D>,
-) -> Result<Asked>
+) -> Result<Pipelined>
     ensures settings { worker.new.settings ≡ worker.old.settings }
     ensures lives { LivesFrom worker.old.settings
         (standing_of worker.old (⟦<Lines<D> as Handler>⟧.history lines.old))
         (standing_of worker.new (⟦<Lines<D> as Handler>⟧.history lines.new)) }
 {
-    match worker.round(alloc, connection, lines) {
-        Ok(round) => match round.progress {
-            Progress::GoesOn => Ok(round.asked),
+    match worker.round_pipelined(alloc, connection, lines) {
+        Ok(made) => match made.round.progress {
+            Progress::GoesOn => Ok(made),
             Progress::Stopped => Err(stopped(&lines.fault)),
         },
         Err(error) => Err(broken_off(error, &lines.fault)),

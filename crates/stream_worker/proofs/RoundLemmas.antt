@@ -11,15 +11,17 @@ use Rattle.redis_wire.specs.declared.limits.Limits.{Limits}
 use Rattle.redis_wire.proofs.FitsLemmas.{reply_fits}
 use Rattle.redis_connection.specs.Ask.{Exchanges}
 use Rattle.redis_connection.specs.Link.{Link, Receives, Stands}
-use Rattle.redis_connection.specs.Passing.{ReceivesAnswer}
+use Rattle.redis_connection.specs.Passing.{IsAnswerInPlace, ReceivesAnswer}
 use Rattle.redis_connection.specs.declared.error.ConnectionError.TheVariants.{Memory}
 use Rattle.stream_group.specs.Worker.{Verdict}
 use Rattle.stream_refs.specs.Sent.{Pairs}
 use Rattle.stream_worker.specs.Answered.{Failed}
 use Rattle.stream_worker.specs.Answers.{group_after, hears}
 use Rattle.stream_worker.specs.InPlace.{Heads, WentInPlace, FailedInPlace}
-use Rattle.stream_worker.specs.Session.{Standing, Breaks, Turned, Waited, EndsBy, command, having_heard}
+use Rattle.stream_worker.specs.Session.{Standing, Breaks, HasAsked, Turned, EndsBy, command, having_heard}
+use Rattle.stream_worker.specs.Taken.{Takes, TakesNot}
 use Rattle.stream_worker.specs.declared.error.InPlaceError.TheVariants as in_place
+use Rattle.stream_worker.specs.declared.error.RunError.{RunError}
 use Rattle.stream_worker.specs.declared.error.RunError.TheVariants as causes
 use Rattle.stream_worker.specs.declared.error.WorkerError.{WorkerError}
 use Rattle.stream_worker.specs.declared.state.Asked.{Asked}
@@ -41,19 +43,19 @@ same_answer limits bytes a b r h =
     ap (λ (x : Read wire.Answer). answer_in x a) (sym (f.again h.text h.rest b h.reply)
     ∙ ap (reply_at limits) (sym joined) ∙ f.again bytes [] a r.reply)
 
--- the reply to its command is held, and this is what is read of it
-module _ {R : Type 0} (with_verdict : R → List ℕ × Pairs → Verdict → R) (with_commit : R → R)
-    (settings : Settings) (old here : Link) (w y x : Standing R) (len : ℕ)
-    (waited : Waited with_commit settings old here w y len) (limits : Limits) (text : List ℕ)
+-- the next answer is held, and this is what is read of it
+module _ {R : Type 0} (with_verdict : R → List ℕ × Pairs → Verdict → R)
+    (settings : Settings) (old here : Link) (y x : Standing R) (len : ℕ)
+    (stood : IsAnswerInPlace old here len) (limits : Limits) (text : List ℕ)
     (within : limits ≡ here.held.limits) (received : len ≤ here.in_place → text ≡ take len here.held.bytes) where
   abbrev answer : wire.Answer
-  answer = waited.2.0
+  answer = stood.0
 
   abbrev before_it : Link
-  before_it = waited.2.1.between
+  before_it = stood.1.between
 
   abbrev stands : Stands before_it here len answer
-  stands = waited.2.1.stands
+  stands = stood.1.stands
 
   is_reply : IsReply limits text answer
   is_reply =
@@ -68,62 +70,77 @@ module _ {R : Type 0} (with_verdict : R → List ℕ × Pairs → Verdict → R)
   not_short none = none (length text) answer
       (subst (λ (t : List ℕ). IsReply limits t answer) (sym (take-length text)) is_reply)
 
-  pub held : x ≡ y → Breaks with_verdict with_commit settings old here w x (causes.Receive Memory)
+  pub held : x ≡ y → TakesNot with_verdict settings old here y x (causes.Receive Memory)
   held same = (
-    same ∙ waited.1.0,
+    same,
     (
-      waited.0,
-      waited.1.1,
       record {
-        count = waited.2.1.count;
+        count = stood.1.count;
         between = before_it;
-        passes = waited.2.1.passes;
+        passes = stood.1.passes;
         waits = (stands.taken, stands.takes);
       },
+      tt,
+      tt,
     ),
-    tt,
-    tt,
   )
 
   module _ (new : Link) (given : (before : Link) (a : wire.Answer) → Stands before here len a → Receives before new a)
     where
-      exchanged : (b : wire.Answer) → Heads limits text b → Exchanges old new (command settings w) b
-      exchanged b h = record {
-        between = waited.0;
-        sends = waited.1.1;
-        receives = subst (λ (a : wire.Answer). ReceivesAnswer waited.0 new a)
-            (sym (same_answer limits text answer b is_reply h)) (record {
-              count = waited.2.1.count;
-              between = before_it;
-              passes = waited.2.1.passes;
-              receives = given before_it answer stands;
-              is_answer = waited.2.1.is_answer;
-            });
+      came : (b : wire.Answer) → Heads limits text b → ReceivesAnswer old new b
+      came b h =
+          subst (λ (a : wire.Answer). ReceivesAnswer old new a)
+          (sym (same_answer limits text answer b is_reply h)) (record {
+            count = stood.1.count;
+            between = before_it;
+            passes = stood.1.passes;
+            receives = given before_it answer stands;
+            is_answer = stood.1.is_answer;
+          })
+
+      pub taken : (p : Progress) → WentInPlace with_verdict settings limits text y x p
+          → Takes with_verdict settings old new y x p
+      taken p g = (g.0, came g.0 g.1, g.2, g.3, g.4)
+
+      pub refused : (e : WorkerError) → FailedInPlace with_verdict settings limits text y x (in_place.Answer e)
+          → TakesNot with_verdict settings old new y x (causes.Answer e)
+      refused e g = (g.0, came g.0 g.1, g.2, g.3, g.4)
+
+-- a command that went out, and what was made of the next answer
+module _ {R : Type 0} (with_verdict : R → List ℕ × Pairs → Verdict → R) (with_commit : R → R)
+    (settings : Settings) (old mid new : Link) (w y x : Standing R) (asked : HasAsked with_commit settings old mid w y)
+    (s : Settings) (same : s ≡ settings) where
+  exchanged : (a : wire.Answer) → ReceivesAnswer mid new a → Exchanges old new (command settings w) a
+  exchanged a r = record { between = mid; sends = asked.1; receives = r }
+
+  pub turned : (q : Asked) (p : Progress) → q ≡ y.asked → Takes with_verdict s mid new y x p
+      → Turned with_verdict with_commit settings old new w x q p
+  turned q p is took =
+      let g = subst (λ (v : Settings). Takes with_verdict v mid new y x p) same took in
+      let t = turn_of with_verdict with_commit settings y x g.0 p g.2 g.3 g.4 in
+      record {
+        turn = record { answer = g.0; verdicts = t.0 };
+        asked = is ∙ ap (λ (v : Standing R). v.asked) asked.0;
+        exchanges = exchanged g.0 g.1;
+        stands = subst (λ (v : Standing R). x ≡ having_heard with_verdict v
+            (group_after settings v.group v.asked g.0) (hears settings v.asked g.0) t.0) asked.0 t.1;
+        ends = subst (λ (v : Standing R). EndsBy (hears settings v.asked g.0) t.0 p) asked.0 t.2;
       }
 
-      pub turned : (s : Settings) → s ≡ settings → (q : Asked) (p : Progress) → q ≡ y.asked
-          → WentInPlace with_verdict s limits text y x p → Turned with_verdict with_commit settings old new w x q p
-      turned s same q p is went =
-          let g = subst (λ (v : Settings). WentInPlace with_verdict v limits text y x p) same went in
-          let t = turn_of with_verdict with_commit settings y x g.0 p g.2 g.3 g.4 in
-          record {
-            turn = record { answer = g.0; verdicts = t.0 };
-            asked = is ∙ ap (λ (v : Standing R). v.asked) waited.1.0;
-            exchanges = exchanged g.0 g.1;
-            stands = subst (λ (v : Standing R). x ≡ having_heard with_verdict v
-                (group_after settings v.group v.asked g.0) (hears settings v.asked g.0) t.0) waited.1.0 t.1;
-            ends = subst (λ (v : Standing R). EndsBy (hears settings v.asked g.0) t.0 p) waited.1.0 t.2;
-          }
+  broken : (e : RunError) → TakesNot with_verdict settings mid new y x e
+      → Breaks with_verdict with_commit settings old new w x e
+  broken (causes.Request e) n = absurd n
+  broken (causes.Send e) n = absurd n
+  broken (causes.Receive e) n = (n.0 ∙ asked.0, (mid, asked.1, n.1.0), n.1.1, n.1.2)
+  broken (causes.Answer e) n = (
+    n.0,
+    exchanged n.0 n.1,
+    subst (λ (v : Standing R). Failed with_verdict settings v.asked n.0 v.machine x.machine v.history x.history e)
+        asked.0 n.2,
+    n.3 ∙ ap (λ (v : Standing R). group_after settings v.group v.asked n.0) asked.0,
+    n.4,
+  )
 
-      pub refused : (s : Settings) → s ≡ settings → (e : WorkerError)
-          → FailedInPlace with_verdict s limits text y x (in_place.Answer e)
-          → Breaks with_verdict with_commit settings old new w x (causes.Answer e)
-      refused s same e failed =
-          let g = subst (λ (v : Settings). FailedInPlace with_verdict v limits text y x (in_place.Answer e)) same failed in (
-            g.0,
-            exchanged g.0 g.1,
-            subst (λ (v : Standing R). Failed with_verdict settings v.asked g.0 v.machine x.machine v.history x.history e)
-                waited.1.0 g.2,
-            g.3 ∙ ap (λ (v : Standing R). group_after settings v.group v.asked g.0) waited.1.0,
-            g.4,
-          )
+  pub breaks_so : (e : RunError) → TakesNot with_verdict s mid new y x e
+      → Breaks with_verdict with_commit settings old new w x e
+  breaks_so e n = broken e (subst (λ (v : Settings). TakesNot with_verdict v mid new y x e) same n)

@@ -160,7 +160,7 @@ before_some : (turns : List Turn) → ends_before turns GoesOn ≡ GoesOn
 before_some [] = refl
 before_some (u ∷ turns) = refl
 
-standing_is : {R : Type 0} (x : Standing R) (m : Machine) (b : GroupState) (q : Asked) (r : R) → x.machine ≡ m
+pub standing_is : {R : Type 0} (x : Standing R) (m : Machine) (b : GroupState) (q : Asked) (r : R) → x.machine ≡ m
     → x.group ≡ b → x.asked ≡ q → x.history ≡ r
     → x ≡ (let y : Standing R = record { machine = m; group = b; asked = q; history = r } in y)
 standing_is {R = R} x m b q r im ib iq ir =

@@ -14,5 +14,7 @@ pub mod Step
 pub mod Gathered
 pub mod Letters
 pub mod Session
+pub mod Taken
+pub mod Pipelined
 pub mod InPlace
 pub mod Life

@@ -8,7 +8,7 @@ use Rattle.redis_wire.specs.Reply as wire
 use Rattle.redis_wire.specs.declared.limits.Limits.{Limits}
 use Rattle.redis_connection.specs.Ask.{Exchanges}
 use Rattle.redis_connection.specs.Link.{Link, Sends, SendsFront, IsEnded, IsFaulty}
-use Rattle.redis_connection.specs.Passing.{IsMessage, AwaitsAnswer, IsAnswerInPlace}
+use Rattle.redis_connection.specs.Passing.{IsMessage, AwaitsAnswer}
 use Rattle.redis_connection.specs.declared.error.ConnectionError.TheVariants.{TooLong}
 use Rattle.stream_group.specs.Worker.{Verdict, Machine, ending, entries_in, told_in, after, begins_again, own}
 use Rattle.stream_refs.specs.Sent.{Pairs}
@@ -135,10 +135,6 @@ module _ {R : Type 0} (with_commit : R → R) (settings : Settings) where
   -- it asked, and its command went out
   abbrev pub HasAsked : Link → Link → Standing R → Standing R → Type 0
   HasAsked old new w x = (x ≡ asking w) × Sends old new (command_bytes (command settings w))
-
-  -- it asked, and the reply to it is held whole, in so many bytes
-  abbrev pub Waited : Link → Link → Standing R → Standing R → ℕ → Type 0
-  Waited old new w x len = (between : Link) × HasAsked old between w x × IsAnswerInPlace between new len
 
 -- where a worker stands by what it heard, where this is known of its group then, and its handler said this of the
 -- entries

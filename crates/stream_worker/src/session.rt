@@ -2,8 +2,10 @@
 ghost use Rattle.std.specs.Prelude.{◌≡◌, IfErr, IfOk, OnOk};
 ghost use Rattle.redis_wire.specs.Reply.{answer};
 ghost use Rattle.stream_worker.specs.Machine.{machine_of};
+ghost use Rattle.redis_connection.specs.Passing.{IsAnswerInPlace};
 ghost use Rattle.stream_worker.specs.Session.{Breaks, Broke, Fails, FailsUnanswered, HasAsked, IsAsked, IsUnanswered};
-ghost use Rattle.stream_worker.specs.Session.{Ran, Turned, Waited, machine_after, standing_of};
+ghost use Rattle.stream_worker.specs.Session.{Ran, Turned, machine_after, standing_of};
+ghost use Rattle.stream_worker.specs.Taken.{Awaited, Takes, TakesNot};
 
 use crate::error::{InPlaceError, RunError};
 use crate::handler::Handler;
@@ -25,7 +27,7 @@ pub struct Round {
 
 impl Worker {
     /// Requests the next command, and sends it.
-    fn send_next<H: Handler, R: Read + Drop, W: Write + Drop>(
+    pub(crate) fn send_next<H: Handler, R: Read + Drop, W: Write + Drop>(
         &mut self,
         alloc: Global,
         connection: &mut Connection<R, W>,
@@ -93,7 +95,7 @@ impl Worker {
     }
 
     /// Begins again with what is pending for it, if a command may have gone out.
-    fn failed(&mut self, error: RunError) -> RunError
+    pub(crate) fn failed(&mut self, error: RunError) -> RunError
         ensures same { result ≡ error }
         ensures machine { machine_of self.new ≡ machine_after error (machine_of self.old) }
         ensures group { self.new.group ≡ self.old.group }
@@ -107,26 +109,38 @@ impl Worker {
         error
     }
 
-    /// Requests the next command, sends it, and waits until the reply to it is held whole: how many
-    /// bytes it has.
-    fn ask_in_place<H: Handler, R: Read + Drop, W: Write + Drop>(
+    /// Receives the next answer, and takes it where it is in the bytes that came, which are given out then.
+    /// If memory runs out before the answer is read, it is `Receive`, and the answer is held.
+    pub(crate) fn take_next<H: Handler, R: Read + Drop, W: Write + Drop>(
         &mut self,
         alloc: Global,
         connection: &mut Connection<R, W>,
         handler: &mut H,
-    ) -> Result<usize, RunError>
-        ensures ok { IfOk result (Waited H.with_commit self.old.settings connection.old
+    ) -> Result<Progress, RunError>
+        ensures ok { IfOk result (Takes H.with_verdict self.old.settings connection.old
             connection.new (standing_of self.old (H.history handler.old))
             (standing_of self.new (H.history handler.new))) }
-        ensures err { IfErr result (IsUnanswered H.with_commit self.old.settings connection.old
+        ensures err { IfErr result (TakesNot H.with_verdict self.old.settings connection.old
             connection.new (standing_of self.old (H.history handler.old))
             (standing_of self.new (H.history handler.new))) }
         ensures settings { self.new.settings ≡ self.old.settings }
     {
-        self.send_next(alloc, connection, handler)?;
-        match connection.receive_in_place(alloc) {
-            Ok(len) => Ok(len),
-            Err(error) => Err(RunError::Receive(error)),
+        let len = received_len(alloc, connection)?;
+        let limits = connection.limits();
+        match self.answered_in_place(alloc, connection.received(len), limits, handler) {
+            Ok(progress) => {
+                connection.give_out(len);
+                Ok(progress)
+            }
+            Err(InPlaceError::Answer(error)) => {
+                connection.give_out(len);
+                Err(RunError::Answer(error))
+            }
+            Err(InPlaceError::Unread(WireError::Memory)) => {
+                Err(RunError::Receive(ConnectionError::Memory))
+            }
+            Err(InPlaceError::Unread(WireError::Fault(_))) => unreachable!(),
+            Err(InPlaceError::Incomplete) => unreachable!(),
         }
     }
 
@@ -145,24 +159,10 @@ impl Worker {
             (standing_of self.new (H.history handler.new))) }
         ensures settings { self.new.settings ≡ self.old.settings }
     {
-        let len = self.ask_in_place(alloc, connection, handler)?;
+        self.send_next(alloc, connection, handler)?;
         let asked = self.asked();
-        let limits = connection.limits();
-        match self.answered_in_place(alloc, connection.received(len), limits, handler) {
-            Ok(progress) => {
-                connection.give_out(len);
-                Ok(Round { asked, progress })
-            }
-            Err(InPlaceError::Answer(error)) => {
-                connection.give_out(len);
-                Err(RunError::Answer(error))
-            }
-            Err(InPlaceError::Unread(WireError::Memory)) => {
-                Err(RunError::Receive(ConnectionError::Memory))
-            }
-            Err(InPlaceError::Unread(WireError::Fault(_))) => unreachable!(),
-            Err(InPlaceError::Incomplete) => unreachable!(),
-        }
+        let progress = self.take_next(alloc, connection, handler)?;
+        Ok(Round { asked, progress })
     }
 
     /// Makes one round of `run`, in which it asks, and takes the answer where it stands in the bytes that
@@ -218,5 +218,19 @@ impl Worker {
             }
         }
         Ok(Progress::GoesOn)
+    }
+}
+
+/// Waits until the next answer is held whole: how many bytes it has.
+fn received_len<R: Read + Drop, W: Write + Drop>(
+    alloc: Global,
+    connection: &mut Connection<R, W>,
+) -> Result<usize, RunError>
+    ensures ok { IfOk result (IsAnswerInPlace connection.old connection.new) }
+    ensures err { IfErr result (Awaited connection.old connection.new) }
+{
+    match connection.receive_in_place(alloc) {
+        Ok(len) => Ok(len),
+        Err(error) => Err(RunError::Receive(error)),
     }
 }

@@ -1,5 +1,5 @@
 //! A worker of a consumer group.
-ghost use Rattle.std.specs.Prelude.{◌≡◌, ◌≢◌, ◌++◌, None, IfErr, IfOk, OnOk, OnErr, map, true};
+ghost use Rattle.std.specs.Prelude.{◌≡◌, ◌≢◌, ◌++◌, [], None, IfErr, IfOk, IfSome, OnOk, OnErr, map, true};
 ghost use Rattle.redis_resp.specs.Number.{unsigned_reading};
 ghost use Rattle.redis_resp.specs.Refusal.{RefusesNumber};
 ghost use Rattle.redis_resp.specs.Value.{tree};
@@ -120,6 +120,35 @@ impl Worker {
         )?;
         self.asked = asked;
         Ok(())
+    }
+
+    /// Appends the command that follows on the acknowledgement that was requested, unless something is to
+    /// be committed before it: what it asks. With `None` nothing is appended, also if memory runs out.
+    pub(crate) fn append_following(&self, alloc: Global, out: &mut Vec<u8>) -> Option<Asked>
+        ensures some { IfSome result (λ next. (self.now.asked ≡ Asked.Acknowledgement)
+            × ((machine_of self.now).to_commit ≡ [])
+            × (next ≡ asks self.now.group (machine_of self.now).phase [])
+            × (out.new.items ≡ out.old.items ++ command_bytes
+            (sentence self.now.settings self.now.group (machine_of self.now).phase []))) }
+        ensures none { result ≡ None → out.new.items ≡ out.old.items }
+    {
+        if self.asked != Asked::Acknowledgement || !self.to_commit.is_empty() {
+            return None;
+        }
+        match append_question(alloc, out, &self.settings, self.group, &self.phase, &[]) {
+            Ok(asked) => Some(asked),
+            Err(_) => None,
+        }
+    }
+
+    /// Waits for the answer to this.
+    pub(crate) fn wait_for(&mut self, question: Asked)
+        ensures machine { machine_of self.new ≡ machine_of self.old }
+        ensures group { self.new.group ≡ self.old.group }
+        ensures asked { self.new.asked ≡ question }
+        ensures settings { self.new.settings ≡ self.old.settings }
+    {
+        self.asked = question;
     }
 
     /// Has the handler commit what is to be acknowledged next.

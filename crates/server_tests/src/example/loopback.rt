@@ -62,6 +62,37 @@ fn my_worker_drains_what_another_connection_adds(rt: HostRuntime) -> Result<(), 
     Ok(())
 }
 
+// How many of eight ways to the server and back brought an acknowledgement and a question.
+fn pipelined<R: Read + Drop, W: Write + Drop>(
+    alloc: Global,
+    connection: &mut Connection<R, W>,
+    handler: &mut Count,
+) -> Result<usize, Fail> {
+    let mut worker = worker_of(alloc, "ann")?;
+    let mut both = 0usize;
+    for _way in 0..8u64 {
+        let made = worker.round_pipelined(alloc, connection, handler)?;
+        if made.acknowledged {
+            both = both.saturating_add(1);
+        }
+    }
+    Ok(both)
+}
+
+#[test]
+fn an_acknowledgement_goes_out_with_the_next_question(rt: HostRuntime) -> Result<(), Fail> {
+    let alloc = rt.alloc();
+    let loopback = Loopback::new(alloc, Server::new(alloc))?;
+    let mut producer = connected(alloc, &loopback)?;
+    add_three(alloc, &mut producer)?;
+    let mut connection = connected(alloc, &loopback)?;
+    let mut handler = Count { done: 0 };
+    assert_eq!(rt; pipelined(alloc, &mut connection, &mut handler)?, 1);
+    assert_eq!(rt; handler.done, 3);
+    assert_eq!(rt; pending(alloc, &mut producer)?, 0);
+    Ok(())
+}
+
 #[test]
 fn an_end_that_breaks_says_so(rt: HostRuntime) -> Result<(), Fail> {
     let alloc = rt.alloc();

@@ -14,6 +14,7 @@
 //! | `any`, `passed` | a reply of any kind is received; how many messages were passed over |
 //! | `show 5`, `give 5` | so many bytes in place are shown, are given out |
 //! | `run 7` | the worker makes so many rounds |
+//! | `pipeline` | it makes a round, or two with one write |
 ghost use Rattle.std.specs.Prelude.{◌≡◌, IfOk, IsTrue};
 ghost use Rattle.sessions.specs.Scripts.{is_connection_script};
 
@@ -26,7 +27,7 @@ use std::alloc::{AllocError, Global};
 use std::fmt::Display;
 use std::io;
 use std::io::{ErrorKind, Read, Write};
-use stream_worker::{Progress, RequestError, RunError};
+use stream_worker::{Pipelined, Progress, RequestError, RunError};
 
 /// Plays a connection; false if the script is another one.
 pub fn play(
@@ -293,6 +294,33 @@ fn ran<R: Read + Drop, W: Write + Drop>(
     Ok(text)
 }
 
+/// The worker makes a round, or two with one write.
+fn pipelined<R: Read + Drop, W: Write + Drop>(
+    alloc: Global,
+    link: &mut Connection<R, W>,
+    side: &mut Side,
+) -> Result<String, AllocError> {
+    let mut text = match side.worker.round_pipelined(alloc, link, &mut side.doer) {
+        Ok(made) => made_text(alloc, made)?,
+        Err(error) => run_text(alloc, &Err(error))?,
+    };
+    text.push_str(side.doer.standing(alloc)?.as_str())?;
+    Ok(text)
+}
+
+/// What was asked, whether an acknowledgement went before, and how the handler goes on.
+fn made_text(alloc: Global, made: Pipelined) -> Result<String, AllocError> {
+    let round = made.round;
+    if made.acknowledged {
+        format!(in alloc;
+            "Acknowledgement and {:?}, {:?}",
+            round.asked, round.progress
+        )
+    } else {
+        format!(in alloc; "{:?}, {:?}", round.asked, round.progress)
+    }
+}
+
 /// So many rounds as a word says.
 fn rounds_of(word: &str) -> u64 {
     word.parse::<u64>().unwrap_or(0)
@@ -315,7 +343,7 @@ fn subject_of(verb: &str) -> Subject {
         "comes" | "reads" | "writes" => Subject::Ends,
         "send" | "text" | "number" => Subject::Question,
         "receive" | "place" | "any" | "passed" | "show" | "give" => Subject::Reply,
-        "run" => Subject::Rounds,
+        "run" | "pipeline" => Subject::Rounds,
         _ => Subject::Worker,
     }
 }
@@ -366,7 +394,8 @@ fn do_line<R: Read + Drop, W: Write + Drop>(
         Subject::Ends => Ok(String::new(alloc)),
         Subject::Question => ask(alloc, link, verb, rest),
         Subject::Reply => take(alloc, link, verb, number_of(rest)),
-        Subject::Rounds => ran(alloc, link, side, rounds_of(rest)),
+        Subject::Rounds if verb == "run" => ran(alloc, link, side, rounds_of(rest)),
+        Subject::Rounds => pipelined(alloc, link, side),
         Subject::Worker => done(alloc, side, verb, rest),
     }
 }

@@ -1,49 +1,26 @@
+use Rattle.std.proofs.lemmas.Result.{err_from_is_err_and}
 use Rattle.stream_worker.specs.Session.{standing_of}
-use Rattle.stream_worker.proofs.RoundLemmas.{no_fault, not_short, refused, turned}
+use Rattle.stream_worker.proofs.RoundLemmas.{breaks_so, turned}
 use Rattle.stream_worker.proofs.worker.Worker.try_round.Goals as goal
 
-pub returns-in-Ok-clause-ok : goal.returns-in-Ok-clause-ok
-returns-in-Ok-clause-ok g c =
+pub returns-in_err-progress-clause-err : goal.returns-in_err-progress-clause-err
+returns-in_err-progress-clause-err g c =
+    let h = g.H.Handler.history in
+    let p = err_from_is_err_and c.from_residual-in_err-progress.result c.from_residual-in_err-progress.ensures.1 in
+    rw (p.1, p.2)
+    (breaks_so g.H.Handler.with_verdict g.H.Handler.with_commit c.args.self.now.settings c.args.connection.now
+    c.send_next.new.connection c.take_next.new.connection (standing_of c.args.self.now (h c.args.handler.now))
+    (standing_of c.send_next.new.self (h c.send_next.new.handler))
+    (standing_of c.take_next.new.self (h c.take_next.new.handler)) c.in_ok-send_next.ensures.ok
+    c.send_next.new.self.settings c.send_next.ensures.settings c.in_err-progress.field-0.0
+    c.in_err-progress.ensures.err)
+
+pub returns-clause-ok : goal.returns-clause-ok
+returns-clause-ok g c =
     let h = g.H.Handler.history in
     turned g.H.Handler.with_verdict g.H.Handler.with_commit c.args.self.now.settings c.args.connection.now
-    c.ask_in_place.new.connection (standing_of c.args.self.now (h c.args.handler.now))
-    (standing_of c.ask_in_place.new.self (h c.ask_in_place.new.handler))
-    (standing_of c.answered_in_place.new.self (h c.answered_in_place.new.handler)) c.in_ok-len.len
-    c.in_ok-len.ensures.ok c.limits-limits.result c.received.result.now c.limits-limits.ensures
-    c.received.ensures.within c.give_out.new.self c.give_out.ensures.receives c.ask_in_place.new.self.settings
-    c.ask_in_place.ensures.settings c.asked-asked.result c.in-Ok.progress c.asked-asked.ensures c.in-Ok.ensures.ok
-
-pub returns-in-Err-Answer-clause-err : goal.returns-in-Err-Answer-clause-err
-returns-in-Err-Answer-clause-err g c =
-    let h = g.H.Handler.history in
-    rw c.in-Err-Answer.field-0-is
-    (refused g.H.Handler.with_verdict g.H.Handler.with_commit c.args.self.now.settings c.args.connection.now
-    c.ask_in_place.new.connection (standing_of c.args.self.now (h c.args.handler.now))
-    (standing_of c.ask_in_place.new.self (h c.ask_in_place.new.handler))
-    (standing_of c.answered_in_place.new.self (h c.answered_in_place.new.handler)) c.in_ok-len.len
-    c.in_ok-len.ensures.ok c.limits-limits.result c.received.result.now c.limits-limits.ensures
-    c.received.ensures.within c.give_out-in-Err-Answer.new.self c.give_out-in-Err-Answer.ensures.receives
-    c.ask_in_place.new.self.settings c.ask_in_place.ensures.settings c.in-Err-Answer.error
-    (rw c.in-Err-Answer.field-0-is at c.in-Err-Answer.ensures.err))
-
-pub unreachable-requires-in-Err-Incomplete : goal.unreachable-requires-in-Err-Incomplete
-unreachable-requires-in-Err-Incomplete g c =
-    let h = g.H.Handler.history in
-    not_short g.H.Handler.with_verdict g.H.Handler.with_commit c.args.self.now.settings c.args.connection.now
-    c.ask_in_place.new.connection (standing_of c.args.self.now (h c.args.handler.now))
-    (standing_of c.ask_in_place.new.self (h c.ask_in_place.new.handler))
-    (standing_of c.answered_in_place.new.self (h c.answered_in_place.new.handler)) c.in_ok-len.len
-    c.in_ok-len.ensures.ok c.limits-limits.result c.received.result.now c.limits-limits.ensures
-    c.received.ensures.within (rw c.in-Err-Incomplete.field-0-is at c.in-Err-Incomplete.ensures.err).1
-
-pub unreachable-requires : goal.unreachable-requires
-unreachable-requires g c =
-    let h = g.H.Handler.history in
-    let said = rw c.in-Err-Unread-Fault.field-0-is at c.in-Err-Unread-Fault.ensures.err in
-    let deep = rw c.in-Err-Unread-Fault.field-0-is at c.in-Err-Unread-Fault.field-0-0-is in
-    no_fault g.H.Handler.with_verdict g.H.Handler.with_commit c.args.self.now.settings c.args.connection.now
-    c.ask_in_place.new.connection (standing_of c.args.self.now (h c.args.handler.now))
-    (standing_of c.ask_in_place.new.self (h c.ask_in_place.new.handler))
-    (standing_of c.answered_in_place.new.self (h c.answered_in_place.new.handler)) c.in_ok-len.len
-    c.in_ok-len.ensures.ok c.limits-limits.result c.received.result.now c.limits-limits.ensures
-    c.received.ensures.within (rw deep at said).1
+    c.send_next.new.connection c.take_next.new.connection (standing_of c.args.self.now (h c.args.handler.now))
+    (standing_of c.send_next.new.self (h c.send_next.new.handler))
+    (standing_of c.take_next.new.self (h c.take_next.new.handler)) c.in_ok-send_next.ensures.ok
+    c.send_next.new.self.settings c.send_next.ensures.settings c.asked-asked.result c.in_ok-progress.progress
+    c.asked-asked.ensures c.in_ok-progress.ensures.ok

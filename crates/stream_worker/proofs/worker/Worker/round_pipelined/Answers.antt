@@ -1,0 +1,15 @@
+use Rattle.stream_worker.specs.Session.{standing_of}
+use Rattle.stream_worker.proofs.PipelinedLemmas.{failed_pipelined}
+use Rattle.stream_worker.proofs.SessionLemmas.{stands_failed}
+use Rattle.stream_worker.proofs.worker.Worker.round_pipelined.Goals as goal
+
+pub returns-in-Err-clause-err : goal.returns-in-Err-clause-err
+returns-in-Err-clause-err g c =
+    let h = g.H.Handler.history in
+    let r = h c.try_pipelined.new.handler in
+    failed_pipelined g.H.Handler.with_verdict g.H.Handler.with_commit c.args.self.now.settings c.args.connection.now
+    c.try_pipelined.new.connection (standing_of c.args.self.now (h c.args.handler.now))
+    (standing_of c.try_pipelined.new.self r) (standing_of c.failed.new.self r) c.in-Err.error c.failed.result
+    c.failed.ensures.same
+    (stands_failed c.try_pipelined.new.self c.failed.new.self r c.in-Err.error c.failed.ensures.machine
+    c.failed.ensures.group c.failed.ensures.asked) c.in-Err.ensures.err

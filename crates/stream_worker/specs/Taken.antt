@@ -1,0 +1,38 @@
+-- The next answer on a connection, and what a worker makes of it.
+use Rattle.std.specs.Prelude.{◌≡◌, ℕ, List}
+use Rattle.redis_connection.specs.Link.{Link, IsEnded, IsFaulty}
+use Rattle.redis_connection.specs.Passing.{AwaitsAnswer, ReceivesAnswer}
+use Rattle.redis_wire.specs.Reply as wire
+use Rattle.stream_group.specs.Worker.{Verdict}
+use Rattle.stream_refs.specs.Sent.{Pairs}
+use Rattle.stream_worker.specs.Answered.{Failed, Went}
+use Rattle.stream_worker.specs.Answers.{group_after}
+use Rattle.stream_worker.specs.Session.{Standing}
+use Rattle.stream_worker.specs.declared.error.RunError.{RunError}
+use Rattle.stream_worker.specs.declared.error.RunError.TheVariants as causes
+use Rattle.stream_worker.specs.declared.state.Asked.TheVariants.{Nothing}
+use Rattle.stream_worker.specs.declared.state.Settings.{Settings}
+use Rattle.stream_worker.specs.declared.worker.Progress.{Progress}
+
+-- no answer came, and this is why
+abbrev pub Awaited : Link → Link → RunError → Type 0
+Awaited old new (causes.Receive e) = AwaitsAnswer old new × IsEnded new e × IsFaulty new.held e
+Awaited old new (causes.Request e) = ⊥
+Awaited old new (causes.Send e) = ⊥
+Awaited old new (causes.Answer e) = ⊥
+
+module _ {R : Type 0} (with_verdict : R → List ℕ × Pairs → Verdict → R) (settings : Settings) where
+  -- an answer came, which brought the worker on
+  abbrev pub Takes : Link → Link → Standing R → Standing R → Progress → Type 0
+  Takes old new w x p = (a : wire.Answer) × ReceivesAnswer old new a
+      × Went with_verdict settings w.asked a w.machine x.machine w.history x.history p
+      × (x.group ≡ group_after settings w.group w.asked a) × (x.asked ≡ Nothing)
+
+  -- no answer came, and nothing changed; or one that does not bring it on
+  abbrev pub TakesNot : Link → Link → Standing R → Standing R → RunError → Type 0
+  TakesNot old new w x (causes.Receive e) = (x ≡ w) × Awaited old new (causes.Receive e)
+  TakesNot old new w x (causes.Answer e) = (a : wire.Answer) × ReceivesAnswer old new a
+      × Failed with_verdict settings w.asked a w.machine x.machine w.history x.history e
+      × (x.group ≡ group_after settings w.group w.asked a) × (x.asked ≡ Nothing)
+  TakesNot old new w x (causes.Request e) = ⊥
+  TakesNot old new w x (causes.Send e) = ⊥
