@@ -1,12 +1,13 @@
 -- What a log holds before and after the calls of its file.
-use Rattle.std.proofs.Common.{◌≡◌, ◌≤◌, ◌+◌, ◌-◌, ℕ, List, [], ◌∷◌, ◌++◌, length, take, Bool, true, false, true≢false}
-use Rattle.std.proofs.Common.{Option, Some, None, IfSome, IsSome, is_some, Result, Ok, Err, OnErr, refl, sym, ◌∙◌, ap, subst, arith, append-nil, append_assoc}
-use Rattle.std.proofs.Common.{length-append, inl, inr, ⊎_elim}
+use Rattle.std.proofs.Common.{◌≡◌, ◌≤◌, ◌+◌, ℕ, List, [], ◌++◌, length, take, Bool, true, false, true≢false}
+use Rattle.std.proofs.Common.{Option, Some, None, IfSome, IsSome, IsNone, is_some, option_map, Result, Ok, Err, OnErr}
+use Rattle.std.proofs.Common.{refl, sym, ◌∙◌, ap, subst, arith, append-nil, append_assoc}
+use Rattle.std.proofs.Common.{length-append, inr, ⊎_elim}
 use Rattle.std.proofs.Math.Seq.{take-append_seam}
 use Rattle.std.proofs.lemmas.List.{length-take-le}
 use Rattle.std.specs.Io.KnownBytes.{Appends}
 use Rattle.line_log.specs.Device.{Only, IsOnDisk, Follows, IsCut, IsTorn, Elapses, LeavesOnly}
-use Rattle.line_log.specs.Holds.{Holds, IsWhole}
+use Rattle.line_log.specs.Holds.{Holds, IsHeld, committed_in}
 use Rattle.line_log.specs.Lines.{EachStartsWith, EndsAt, StartsWith}
 use Rattle.line_log.specs.Log.{BeginsWith}
 use Rattle.line_log.proofs.EndLemmas.{front_stays}
@@ -53,6 +54,16 @@ module _ {D : Type 0} (seen : D → Option (List ℕ)) (may_leave : D → List �
       → EachStartsWith lines (may_leave file) → Holds seen may_leave is_sound lines file len true
   holds_broken lines file len is known left =
       record { committed = is; known = known; left = left; whole = λ e. absurd (true≢false e) }
+
+  -- after a write that failed
+  pub holds_failed : (old mid new : D) (n len : ℕ) (a b : Bool)
+      → ((lines : List ℕ) → Holds seen may_leave is_sound lines old n a → Holds seen may_leave is_sound lines mid len b)
+      → (IsSome (seen mid) → IsSome (seen new))
+      → ((front : List ℕ) → EachStartsWith front (may_leave mid) → EachStartsWith front (may_leave new))
+      → (lines : List ℕ) → Holds seen may_leave is_sound lines old n a → Holds seen may_leave is_sound lines new len true
+  holds_failed old mid new n len a b step known left lines holds =
+      let held = step lines holds in
+      holds_broken lines new len held.committed (known held.known) (left lines held.left)
 
   -- after a cut behind what is committed
   pub cut_holds : (lines : List ℕ) (old new : D) (len : ℕ) (is_broken : Bool) → is_broken ≡ true
@@ -110,6 +121,70 @@ module _ {D : Type 0} (seen : D → Option (List ℕ)) (may_leave : D → List �
         left = only_starts lines (may_leave file) only;
         whole = λ e. record { all = all; disk = only; sound = sound };
       }
+
+-- ---- what is committed
+
+starts_is : (lines : List ℕ) (known : Option (List ℕ)) (len : ℕ) → len ≡ length lines → IsSome known
+    → IfSome known (StartsWith lines) → committed_in known len ≡ Some lines
+starts_is lines None len is some starts = absurd (true≢false (sym some))
+starts_is lines (Some bytes) len is some starts =
+    ap Some (ap (λ n. take n bytes) is ∙ ap (λ xs. take (length lines) xs) starts.1
+    ∙ take-append_seam lines starts.0)
+
+none_is : (known : Option (List ℕ)) (len : ℕ) → IsNone known → committed_in known len ≡ None
+none_is None len none = refl
+none_is (Some bytes) len none = absurd (true≢false none)
+
+pub same_is : (known : Option (List ℕ)) → option_map (λ (lines : List ℕ). lines) known ≡ known
+same_is None = refl
+same_is (Some lines) = refl
+
+if_mapped : (P : List ℕ → Type 0) (f : List ℕ → List ℕ) (known : Option (List ℕ))
+    → IfSome known (λ lines. P (f lines)) → IfSome (option_map f known) P
+if_mapped P f None p = tt
+if_mapped P f (Some lines) p = p
+
+if_more : (P Q : List ℕ → Type 0) (known : Option (List ℕ)) → ((lines : List ℕ) → P lines → Q lines)
+    → IfSome known P → IfSome known Q
+if_more P Q None more p = tt
+if_more P Q (Some lines) more p = more lines p
+
+module _ {D : Type 0} (seen : D → Option (List ℕ)) (may_leave : D → List ℕ → Type 0) (is_sound : D → Type 0)
+    (seen_is_left : (file : D) → IfSome (seen file) (may_leave file)) where
+  -- what a log holds is what is committed in its file
+  pub holds_is : (lines : List ℕ) (file : D) (len : ℕ) (is_broken : Bool)
+      → Holds seen may_leave is_sound lines file len is_broken → committed_in (seen file) len ≡ Some lines
+  holds_is lines file len is_broken holds = starts_is lines (seen file) len holds.committed holds.known
+      (seen_starts seen may_leave is_sound lines (seen file) (may_leave file) (seen_is_left file) holds.left)
+
+  module _ (f : List ℕ → List ℕ) (old new : D) (n m : ℕ) (a b : Bool) (unknown : IsNone (seen old) → IsNone (seen new))
+      (step : (lines : List ℕ) → Holds seen may_leave is_sound lines old n a
+      → Holds seen may_leave is_sound (f lines) new m b) where
+    committed_by : (known : Option (List ℕ)) → (IsNone known → IsNone (seen new))
+        → IfSome (committed_in known n) (λ lines. Holds seen may_leave is_sound lines old n a)
+        → committed_in (seen new) m ≡ option_map f (committed_in known n)
+    committed_by None none held = none_is (seen new) m (none refl)
+    committed_by (Some bytes) none held = holds_is (f (take n bytes)) new m b (step (take n bytes) held)
+
+    -- a call that changes what is held changes what is committed alike
+    pub committed_is : IsHeld seen may_leave is_sound old n a
+        → committed_in (seen new) m ≡ option_map f (committed_in (seen old) n)
+    committed_is held = committed_by (seen old) unknown held
+
+    pub held_is : IsHeld seen may_leave is_sound old n a → IsHeld seen may_leave is_sound new m b
+    held_is held = subst (λ known. IfSome known (λ lines. Holds seen may_leave is_sound lines new m b))
+        (sym (committed_is held))
+        (if_mapped (λ lines. Holds seen may_leave is_sound lines new m b) f (committed_in (seen old) n)
+        (if_more (λ lines. Holds seen may_leave is_sound lines old n a)
+        (λ lines. Holds seen may_leave is_sound (f lines) new m b) (committed_in (seen old) n) step held))
+
+  -- and one that leaves what is held leaves it
+  pub committed_stays : (old new : D) (n m : ℕ) (a b : Bool) → (IsNone (seen old) → IsNone (seen new))
+      → ((lines : List ℕ) → Holds seen may_leave is_sound lines old n a
+      → Holds seen may_leave is_sound lines new m b) → IsHeld seen may_leave is_sound old n a
+      → committed_in (seen new) m ≡ committed_in (seen old) n
+  committed_stays old new n m a b unknown step held =
+      committed_is (λ lines. lines) old new n m a b unknown step held ∙ same_is (committed_in (seen old) n)
 
 -- ---- a cut
 

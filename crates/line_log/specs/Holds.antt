@@ -1,7 +1,16 @@
 -- What a log holds: the lines that are committed, whatever crash comes.
-use Rattle.std.specs.Prelude.{◌≡◌, ℕ, List, length, Bool, true, false, Option, Some, IsSome, option_map, take, if◌then◌else◌}
+use Rattle.std.specs.Prelude.{◌≡◌, ℕ, List, ◌++◌, length, Bool, false, Option, Some, IsSome, IfSome, option_map}
+use Rattle.std.specs.Prelude.{take, if◌then◌else◌}
 use Rattle.line_log.specs.Device.{Only}
 use Rattle.line_log.specs.Lines.{EachStartsWith}
+
+-- what is committed, where the file is known
+abbrev pub committed_in : Option (List ℕ) → ℕ → Option (List ℕ)
+committed_in known len = option_map (λ bytes. take len bytes) known
+
+-- with these lines too
+abbrev pub with_more : List ℕ → Option (List ℕ) → Option (List ℕ)
+with_more more known = option_map (λ lines. lines ++ more) known
 
 module _ {D : Type 0} (seen : D → Option (List ℕ)) (may_leave : D → List ℕ → Type 0) (is_sound : D → Type 0) where
   -- the file is these lines and nothing else, here and on the disk
@@ -17,6 +26,11 @@ module _ {D : Type 0} (seen : D → Option (List ℕ)) (may_leave : D → List �
     pub known : IsSome (seen file)
     pub left : EachStartsWith lines (may_leave file)
     pub whole : is_broken ≡ false → IsWhole file lines
+
+  -- where the file is known, it holds what is committed
+  abbrev pub IsHeld : D → ℕ → Bool → Type 0
+  IsHeld file len is_broken =
+      IfSome (committed_in (seen file) len) (λ lines. Holds lines file len is_broken)
 
 -- what a read returns once what a failed commit left is cut off
 abbrev pub cut_back : Bool → ℕ → Option (List ℕ) → Option (List ℕ)

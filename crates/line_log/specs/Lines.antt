@@ -18,6 +18,14 @@ StartsWith front bytes = (behind : List ℕ) × (bytes ≡ front ++ behind)
 abbrev pub EachStartsWith : List ℕ → (List ℕ → Type 0) → Type 0
 EachStartsWith front outcomes = (c : List ℕ) → outcomes c → StartsWith front c
 
+-- the bytes have this line: whole lines before it, and its end after it
+pub record HasLine (line bytes : List ℕ) : Type 0 where
+  pub before : List ℕ
+  pub rest : List ℕ
+  pub split : bytes ≡ before ++ (line ++ 10 ∷ rest)
+  pub whole : AreLines before
+  pub one_line : HasNoEnd line
+
 -- the file is these whole lines, and behind them a last line that has no end
 pub record IsLinesAnd (file lines torn : List ℕ) : Type 0 where
   pub split : file ≡ lines ++ torn

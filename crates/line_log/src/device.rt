@@ -1,5 +1,5 @@
 //! A file as a log sees it: what a read returns, and what a crash may leave.
-ghost use Rattle.std.specs.Prelude.{◌≡◌, ◌≤◌, List, ℕ, Option, Some, length, take, drop, IfOk, OnOk, IfSome, IsSome};
+ghost use Rattle.std.specs.Prelude.{◌≡◌, ◌≤◌, List, ℕ, Option, Some, length, take, drop, IfOk, OnOk, IfSome, IsSome, IsNone};
 ghost use Rattle.std.specs.Io.KnownBytes.{Appends};
 ghost use Rattle.line_log.specs.Device.{Only, Follows, IsTorn, IsCut, Elapses};
 ghost use Rattle.line_log.specs.Lines.{EachStartsWith};
@@ -45,6 +45,7 @@ pub trait LogFile {
         ensures crash { Follows (IsTorn (length bytes.now)) (may_leave self.old) (may_leave self.new) }
         ensures sound { is_sound self.old → is_sound self.new }
         ensures known { IsSome (seen self.old) → IsSome (seen self.new) }
+        ensures unknown { IsNone (seen self.old) → IsNone (seen self.new) }
         ensures time { Elapses (moment self.old) (moment self.new)
             (left_since self.old) (left_since self.new) (may_leave self.new) };
 
@@ -55,6 +56,7 @@ pub trait LogFile {
         ensures crash { Follows (IsCut len) (may_leave self.old) (may_leave self.new) }
         ensures sound { is_sound self.old → is_sound self.new }
         ensures known { IsSome (seen self.old) → IsSome (seen self.new) }
+        ensures unknown { IsNone (seen self.old) → IsNone (seen self.new) }
         ensures mended { OnOk result ((front : List ℕ) → length front ≡ len
             → EachStartsWith front (may_leave self.old) → is_sound self.new) }
         ensures time { Elapses (moment self.old) (moment self.new)

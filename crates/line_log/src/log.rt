@@ -1,8 +1,8 @@
 //! Lines that are gathered, and committed at once.
-ghost use Rattle.std.specs.Prelude.{◌≡◌, ◌≤◌, ◌++◌, [], ◌∷◌, ℕ, List, Some, length, take, true, false, IfOk, IfSome, IsSome, OnOk, OnErr};
+ghost use Rattle.std.specs.Prelude.{◌≡◌, ◌≤◌, ◌++◌, [], ◌∷◌, ℕ, List, Some, length, take, true, false, IfOk, IfSome, IsSome, IsNone, OnOk, OnErr};
 ghost use Rattle.std.specs.Io.KnownBytes.{Appends};
 ghost use Rattle.line_log.specs.Device.{IsOnDisk, LeavesOnly};
-ghost use Rattle.line_log.specs.Holds.{Holds, cut_back};
+ghost use Rattle.line_log.specs.Holds.{Holds, IsHeld, committed_in, cut_back, with_more};
 ghost use Rattle.line_log.specs.Lines.{AreLines, EachStartsWith, HasTheLines, IsRepaired, StartsWith};
 ghost use Rattle.line_log.specs.Log.{BeginsWith};
 
@@ -37,6 +37,9 @@ impl<D: LogFile + Drop> LineLog<D> {
         ensures holds { IfOk result (λ log. D.is_sound file → IfSome (D.seen file)
             (λ bytes. Holds D.seen D.may_leave D.is_sound (take log.len bytes)
             log.file log.len log.is_broken)) }
+        ensures held { IfOk result (λ log. D.is_sound file
+            → IsHeld D.seen D.may_leave D.is_sound log.file log.len log.is_broken) }
+        ensures whole { IfOk result (λ log. IfSome (committed_in (D.seen log.file) log.len) AreLines) }
         ensures batch { IfOk result (λ log. log.batch.items ≡ []) }
         ensures works { IfOk result (λ log. log.is_broken ≡ false) }
         ensures any_moment { IfOk result (λ log. IsOnDisk D.seen D.may_leave file
@@ -82,6 +85,16 @@ impl<D: LogFile + Drop> LineLog<D> {
             → Holds D.seen D.may_leave D.is_sound lines self.old.file self.old.len self.old.is_broken
             → Holds D.seen D.may_leave D.is_sound lines
             self.new.file self.new.len self.new.is_broken) }
+        ensures still_held { IsHeld D.seen D.may_leave D.is_sound self.old.file self.old.len self.old.is_broken
+            → IsHeld D.seen D.may_leave D.is_sound self.new.file self.new.len self.new.is_broken }
+        ensures more { OnOk result (
+            IsHeld D.seen D.may_leave D.is_sound self.old.file self.old.len self.old.is_broken
+            → committed_in (D.seen self.new.file) self.new.len
+            ≡ with_more self.old.batch.items (committed_in (D.seen self.old.file) self.old.len)) }
+        ensures no_more { OnErr result (
+            IsHeld D.seen D.may_leave D.is_sound self.old.file self.old.len self.old.is_broken
+            → committed_in (D.seen self.new.file) self.new.len
+            ≡ committed_in (D.seen self.old.file) self.old.len) }
         ensures appended { OnOk result
             (Appends (cut_back self.old.is_broken self.old.len (D.seen self.old.file))
             (D.seen self.new.file) self.old.batch.items) }
@@ -120,6 +133,7 @@ impl<D: LogFile + Drop> LineLog<D> {
         ensures held { (lines : List ℕ)
             → Holds D.seen D.may_leave D.is_sound lines self.old.file self.old.len self.old.is_broken
             → Holds D.seen D.may_leave D.is_sound lines self.new.file self.new.len self.new.is_broken }
+        ensures unknown { IsNone (D.seen self.old.file) → IsNone (D.seen self.new.file) }
         ensures fails { OnErr result (self.old.is_broken ≡ true) }
         ensures ready { OnOk result ((lines : List ℕ)
             → Holds D.seen D.may_leave D.is_sound lines self.old.file self.old.len self.old.is_broken
@@ -165,6 +179,7 @@ fn write_through<D: LogFile>(file: &mut D, bytes: &[u8]) -> Result<(), LogError>
     ensures on_disk { OnOk result (D.is_sound file.old → IsOnDisk D.seen D.may_leave file.new) }
     ensures sound { OnOk result (D.is_sound file.old → D.is_sound file.new) }
     ensures known { IsSome (D.seen file.old) → IsSome (D.seen file.new) }
+    ensures unknown { IsNone (D.seen file.old) → IsNone (D.seen file.new) }
     ensures any_moment { IsOnDisk D.seen D.may_leave file.old
         → LeavesOnly D.moment D.left_since file.old file.new (BeginsWith (D.seen file.old) bytes.now) }
     ensures left { (front : List ℕ) → EachStartsWith front (D.may_leave file.old)

@@ -1,5 +1,5 @@
 //! The end of a file that a crash may have left.
-ghost use Rattle.std.specs.Prelude.{◌≡◌, ◌≤◌, ◌++◌, ℕ, List, Some, IfOk, IfSome, OnOk, length, take, drop};
+ghost use Rattle.std.specs.Prelude.{◌≡◌, ◌≤◌, ◌++◌, ℕ, List, Some, IfOk, IfSome, IsNone, OnOk, length, take, drop};
 ghost use Rattle.line_log.specs.Device.{IsOnDisk, LeavesOnly};
 ghost use Rattle.line_log.specs.Lines.{AreLines, EachStartsWith, EndsAt, HasNoEnd, HasTheLines, IsRepaired, StartsWith};
 
@@ -47,6 +47,7 @@ pub fn repaired_len<D: LogFile>(alloc: Global, file: &mut D) -> Result<usize, Lo
     ensures end { IfOk result (EndsAt (D.seen file.old)) }
     ensures cut { IfOk result (λ end. IfSome (D.seen file.old)
         (λ bytes. D.seen file.new ≡ Some (take end bytes))) }
+    ensures unknown { IsNone (D.seen file.old) → IsNone (D.seen file.new) }
     ensures on_disk { OnOk result (D.is_sound file.old → IsOnDisk D.seen D.may_leave file.new) }
     ensures sound { OnOk result (D.is_sound file.old → D.is_sound file.new) }
     ensures any_moment { IsOnDisk D.seen D.may_leave file.old
