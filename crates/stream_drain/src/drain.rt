@@ -17,7 +17,7 @@ use std::fmt;
 use std::io::{Read, Write};
 use std::rt::Clock;
 use stream_commands::xinfo_groups;
-use stream_worker::{Asked, Handler, Pipelined, Progress, RequestError, RunError, Worker};
+use stream_worker::{Asked, Handler, Pipelined, Progress, RequestError, Round, RunError, Worker};
 
 /// The limit on what a connection holds, as `Limits::default` has it.
 const LARGEST: &str = "1 GiB";
@@ -64,7 +64,7 @@ fn turn<R: Read + Drop, W: Write + Drop, D: LogFile + Drop, T: Clock + Eprint + 
         (standing_of worker.new (⟦<Lines<D> as Handler>⟧.history lines.new)) }
 {
     look(rt.alloc(), connection, lines, dead, asked)?;
-    let made = round(rt.alloc(), connection, worker, lines)?;
+    let made = round(rt.alloc(), connection, worker, lines, dead.is_none())?;
     if made.acknowledged || made.round.asked == Asked::Acknowledgement {
         count(rt, connection, report, lines.committed)?;
     }
@@ -85,24 +85,47 @@ fn look<R: Read + Drop, W: Write + Drop, D: LogFile + Drop>(
     }
 }
 
-/// Makes a round, or two with one write, after which the worker goes on.
+/// Makes a round, or two with one write if they may go together, after which the worker goes on.
+///
+/// They may not if entries are given up: these are looked for between an acknowledgement and a claim.
 fn round<R: Read + Drop, W: Write + Drop, D: LogFile + Drop>(
     alloc: Global,
     connection: &mut Connection<R, W>,
     worker: &mut Worker,
     lines: &mut Lines<D>,
+    together: bool,
 ) -> Result<Pipelined>
     ensures settings { worker.new.settings ≡ worker.old.settings }
     ensures lives { LivesFrom worker.old.settings
         (standing_of worker.old (⟦<Lines<D> as Handler>⟧.history lines.old))
         (standing_of worker.new (⟦<Lines<D> as Handler>⟧.history lines.new)) }
 {
-    match worker.round_pipelined(alloc, connection, lines) {
-        Ok(made) => match made.round.progress {
-            Progress::GoesOn => Ok(made),
-            Progress::Stopped => Err(stopped(&lines.fault)),
-        },
-        Err(error) => Err(broken_off(error, &lines.fault)),
+    if together {
+        match worker.round_pipelined(alloc, connection, lines) {
+            Ok(made) => going_on(made, &lines.fault),
+            Err(error) => Err(broken_off(error, &lines.fault)),
+        }
+    } else {
+        match worker.round(alloc, connection, lines) {
+            Ok(round) => going_on(alone(round), &lines.fault),
+            Err(error) => Err(broken_off(error, &lines.fault)),
+        }
+    }
+}
+
+// A round that had a write of its own.
+fn alone(round: Round) -> Pipelined {
+    Pipelined {
+        acknowledged: false,
+        round,
+    }
+}
+
+// What was made, unless the handler said to stop.
+fn going_on(made: Pipelined, fault: &Option<LogError>) -> Result<Pipelined> {
+    match made.round.progress {
+        Progress::GoesOn => Ok(made),
+        Progress::Stopped => Err(stopped(fault)),
     }
 }
 
