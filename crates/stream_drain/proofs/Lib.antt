@@ -3,3 +3,4 @@ pub mod DeadLemmas
 pub mod JsonLemmas
 pub mod WrittenLemmas
 pub mod LivedLemmas
+pub mod FiledLemmas

@@ -30,7 +30,7 @@ use Rattle.stream_worker.specs.declared.worker.Progress.{Progress}
 use Rattle.stream_worker.specs.declared.worker.Progress.TheVariants.{GoesOn}
 use Rattle.stream_drain.specs.Lived.{LivesFrom, LivesOnSo, LivesSo, RoundsAreLived, with_doings}
 use Rattle.stream_drain.specs.Written.{Written, committed_with, written_of, written_too}
-use Rattle.stream_drain.proofs.WrittenLemmas.{each_verdict}
+use Rattle.stream_drain.proofs.WrittenLemmas.{each_commit, each_verdict, with_none}
 
 -- where a worker stands
 abbrev standing : {H : Type 0} → Machine → GroupState → Asked → H → Standing H
@@ -144,12 +144,18 @@ module _ {R S : Type 0} (vR : R → List ℕ × Pairs → Verdict → R) (cR : R
 
 -- ---- of lines
 
-module _ (settings : Settings) (json : Bool) where
+module _ (settings : Settings) (json : Bool) (first : Option (List ℕ)) where
   abbrev drawn : Standing Doings → Standing Written
-  drawn v = standing v.machine v.group v.asked (written_of json v.history)
+  drawn v = standing v.machine v.group v.asked (written_of json first v.history)
+
+  -- what is written as a worker asks
+  pub commit_of : (m : Machine) (d : Doings) → history_at_request committed_with m (written_of json first d)
+      ≡ written_of json first (history_at_request committed_too m d)
+  commit_of m d = commit_map done_too committed_too written_too committed_with (written_of json first)
+      (each_verdict json first) (each_commit json first) settings m d
 
   lives_so : (x : Standing Written) (y : Standing Doings) (deleted : List Id) → x ≡ drawn y → Lives settings y deleted
-      → LivesSo settings json x deleted
+      → LivesSo settings json first x deleted
   lives_so x y deleted is l = record {
     doings = y.history;
     lives = subst (λ (z : Standing Doings). Lives settings z deleted)
@@ -157,29 +163,29 @@ module _ (settings : Settings) (json : Bool) where
     written = ap (λ (s : Standing Written). s.history) is;
   }
 
-  drawn_is : (w : Standing Written) (deleted : List Id) (l : LivesSo settings json w deleted)
+  drawn_is : (w : Standing Written) (deleted : List Id) (l : LivesSo settings json first w deleted)
       → w ≡ drawn (with_doings w l.doings)
   drawn_is w deleted l = ap (standing w.machine w.group w.asked) l.written
 
-  turn_lived : (old new : Link) (w x : Standing Written) (deleted : List Id) (l : LivesSo settings json w deleted)
+  turn_lived : (old new : Link) (w x : Standing Written) (deleted : List Id) (l : LivesSo settings json first w deleted)
       (q : Asked) (p : Progress) → Turned written_too committed_with settings old new w x q p
-      → LivesOnSo settings json x deleted
+      → LivesOnSo settings json first x deleted
   turn_lived old new w x deleted l q p t =
       let v = with_doings w l.doings in
-      let b = turned_back done_too committed_too written_too committed_with (written_of json) (each_verdict json)
-      (λ d. refl) settings old new v x q p
+      let b = turned_back done_too committed_too written_too committed_with (written_of json first)
+      (each_verdict json first) (each_commit json first) settings old new v x q p
       (subst (λ (s : Standing Written). Turned written_too committed_with settings old new s x q p)
       (drawn_is w deleted l) t) in (
         deleted_told settings v b.0.answer,
         lives_so x (after_turn done_too committed_too settings v b.0) _ b.1 (goes_on v deleted b.0 l.lives),
       )
 
-  failure_lived : (old new : Link) (w x : Standing Written) (deleted : List Id) (l : LivesSo settings json w deleted)
-      (e : RunError) → Fails written_too committed_with settings old new w x e → LivesOnSo settings json x deleted
+  failure_lived : (old new : Link) (w x : Standing Written) (deleted : List Id) (l : LivesSo settings json first w deleted)
+      (e : RunError) → Fails written_too committed_with settings old new w x e → LivesOnSo settings json first x deleted
   failure_lived old new w x deleted l e h =
       let v = with_doings w l.doings in
-      let b = fails_back done_too committed_too written_too committed_with (written_of json) (each_verdict json)
-      (λ d. refl) settings old new v x e
+      let b = fails_back done_too committed_too written_too committed_with (written_of json first)
+      (each_verdict json first) (each_commit json first) settings old new v x e
       (subst (λ (s : Standing Written). Fails written_too committed_with settings old new s x e)
       (drawn_is w deleted l) h) in (
         deleted_at settings old new v b.0 e b.2,
@@ -189,33 +195,37 @@ module _ (settings : Settings) (json : Bool) where
 -- a round that goes on
 pub round_goes_on : (settings : Settings) (old new : Link) (w x : Standing Written) (q : Asked) (p : Progress)
     → Turned written_too committed_with settings old new w x q p → LivesFrom settings w x
-round_goes_on settings old new w x q p t json deleted l = turn_lived settings json old new w x deleted l q p t
+round_goes_on settings old new w x q p t json first deleted l = turn_lived settings json first old new w x deleted l q p t
 
 -- and one that fails
 pub round_fails : (settings : Settings) (old new : Link) (w x : Standing Written) (e : RunError)
     → Fails written_too committed_with settings old new w x e → LivesFrom settings w x
-round_fails settings old new w x e h json deleted l = failure_lived settings json old new w x deleted l e h
+round_fails settings old new w x e h json first deleted l = failure_lived settings json first old new w x deleted l e h
 
 pub lived : RoundsAreLived
 lived settings = (
-  λ json. record { doings = record { loose = []; committed = [] }; lives = begins; written = refl },
+  λ json first. record {
+    doings = record { loose = []; committed = [] };
+    lives = begins;
+    written = ap (λ (c : Option (List ℕ)). record { json = json; loose = []; committed = c }) (sym (with_none first));
+  },
   round_goes_on settings,
   round_fails settings,
 )
 
 -- nothing happened
 pub from_same : (settings : Settings) (w : Standing Written) → LivesFrom settings w w
-from_same settings w json deleted l =
-    ([], subst (λ (ids : List Id). LivesSo settings json w ids) (sym (append-nil deleted)) l)
+from_same settings w json first deleted l =
+    ([], subst (λ (ids : List Id). LivesSo settings json first w ids) (sym (append-nil deleted)) l)
 
 -- one after the other
 pub from_both : (settings : Settings) (w x y : Standing Written) → LivesFrom settings w x → LivesFrom settings x y
     → LivesFrom settings w y
-from_both settings w x y a b json deleted l =
-    let c = a json deleted l in
-    let d = b json (deleted ++ c.0) c.1 in (
+from_both settings w x y a b json first deleted l =
+    let c = a json first deleted l in
+    let d = b json first (deleted ++ c.0) c.1 in (
       c.0 ++ d.0,
-      subst (λ (ids : List Id). LivesSo settings json y ids) (append_assoc deleted c.0 d.0) d.1,
+      subst (λ (ids : List Id). LivesSo settings json first y ids) (append_assoc deleted c.0 d.0) d.1,
     )
 
 -- one round, or two with one write

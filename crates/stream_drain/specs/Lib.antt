@@ -5,3 +5,4 @@ pub mod Line
 pub mod Report
 pub mod Written
 pub mod Lived
+pub mod Filed

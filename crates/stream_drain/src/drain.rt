@@ -1,5 +1,6 @@
 //! The loop of the program: it asks, and takes the answers.
 ghost use Rattle.std.specs.Prelude.{◌≡◌, IfOk, IsTrue};
+ghost use Rattle.stream_drain.specs.Filed.{FiledFrom};
 ghost use Rattle.stream_drain.specs.Lived.{LivesFrom};
 ghost use Rattle.stream_worker.specs.Session.{standing_of};
 
@@ -36,6 +37,10 @@ pub fn drain<R: Read + Drop, W: Write + Drop, D: LogFile + Drop, T: Clock + Epri
     ensures lives { LivesFrom worker.old.settings
         (standing_of worker.old (⟦<Lines<D> as Handler>⟧.history lines.old))
         (standing_of worker.new (⟦<Lines<D> as Handler>⟧.history lines.new)) }
+    ensures filed { FiledFrom worker.old.settings
+        (standing_of worker.old (⟦<Lines<D> as Handler>⟧.history lines.old))
+        (standing_of worker.new (⟦<Lines<D> as Handler>⟧.history lines.new))
+        (D.may_leave lines.new.log.file) }
 {
     let mut asked = Asked::Nothing;
     for _ in 0..u64::MAX {

@@ -1,9 +1,11 @@
-//! What holds of the lines that are gathered, over the rounds of a worker.
+//! What holds of the lines that are gathered and committed, over the rounds of a worker.
+ghost use Rattle.stream_drain.specs.Filed.{AcknowledgedIsFiled};
 ghost use Rattle.stream_drain.specs.Lived.{RoundsAreLived};
 ghost use Rattle.stream_drain.specs.Written.{GathersItsLines};
 
-/// What is gathered is the lines of the entries that were done and not committed, in order: each verdict and
-/// each commit changes the two alike.
+/// What is gathered is the lines of the entries that were done and not committed, in order; what is committed
+/// is what the file had first, and the lines of those that were committed, in order. Each verdict and each
+/// commit changes the two alike.
 pub fn gathers_its_lines()
     ensures { GathersItsLines }
 {}
@@ -13,4 +15,10 @@ pub fn gathers_its_lines()
 /// is acknowledged its entry was done and that was committed, or the server said that it was deleted.
 pub fn rounds_are_lived()
     ensures { RoundsAreLived }
+{}
+
+/// Before an id is acknowledged, its entry is a line of whatever a crash leaves of the file, or the server said
+/// that it was deleted.
+pub fn acknowledged_is_filed()
+    ensures { AcknowledgedIsFiled }
 {}

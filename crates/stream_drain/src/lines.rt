@@ -1,9 +1,10 @@
 //! Entries as lines of a file.
-ghost use Rattle.std.specs.Prelude.{◌≡◌, ◌++◌, ◌∷◌, [], List, ℕ, OnErr, OnOk, flat_map};
+ghost use Rattle.std.specs.Prelude.{◌≡◌, ◌++◌, ◌∷◌, [], List, ℕ, IfOk, IfSome, OnErr, OnOk, flat_map};
 ghost use Rattle.line_log.specs.EntryLine.{field_text, line_of};
-ghost use Rattle.line_log.specs.Holds.{Holds};
+ghost use Rattle.line_log.specs.Holds.{Holds, IsHeld, committed_in};
+ghost use Rattle.line_log.specs.Lines.{AreLines, IsRepaired};
 ghost use Rattle.stream_drain.specs.Line.{line_in};
-ghost use Rattle.stream_drain.specs.Written.{Written, committed_with, written_too};
+ghost use Rattle.stream_drain.specs.Written.{Written, committed_with, written_by, written_too};
 ghost use Rattle.stream_worker.specs.Handling.{pair_of, verdict_of};
 
 use crate::json_lines::json_line;
@@ -26,23 +27,29 @@ pub struct Lines<D: LogFile + Drop> {
     pub committed: u64,
     /// Why it stopped, or did not commit: the log did not take a line, or memory ran out for one.
     pub fault: Option<LogError>,
+    ghost held: { ∥ IsHeld D.seen D.may_leave D.is_sound log.file log.len log.is_broken ∥₁ },
 }
 
 impl<D: LogFile + Drop> Lines<D> {
-    /// It writes into this log, lines of tabs or of JSON.
-    pub fn new(alloc: Global, log: LineLog<D>, json: bool) -> Lines<D>
-        ensures { (result.log ≡ log) × (result.json ≡ json) × (result.seen ≡ 0) × (result.done ≡ 0)
-            × (result.committed ≡ 0) }
+    /// Opens the log in this file, and writes into it, lines of tabs or of JSON. What is committed at first
+    /// is the whole lines that the file has.
+    pub fn open(alloc: Global, file: D, json: bool) -> Result<Lines<D>, LogError>
+        requires { D.is_sound file }
+        ensures new { IfOk result (λ lines. (lines.json ≡ json) × (lines.log.batch.items ≡ [])
+            × (lines.seen ≡ 0) × (lines.done ≡ 0) × (lines.committed ≡ 0)) }
+        ensures repaired { IfOk result (λ lines. IsRepaired (D.seen file) (D.seen lines.log.file)) }
+        ensures whole { IfOk result (λ lines.
+            IfSome (committed_in (D.seen lines.log.file) lines.log.len) AreLines) }
     {
-        Lines {
-            log,
+        Ok(Lines {
+            log: LineLog::open(alloc, file)?,
             json,
             text: Vec::new(alloc),
             seen: 0,
             done: 0,
             committed: 0,
             fault: None,
-        }
+        })
     }
 
     /// Adds the line of an entry to the log.
@@ -68,7 +75,7 @@ impl<D: LogFile + Drop> Handler for Lines<D> {
 
     ghost with_commit = { committed_with };
 
-    ghost history = { λ h. record { json = h.json; loose = h.log.batch.items } };
+    ghost history = { λ h. written_by h.json h.log.batch.items (D.seen h.log.file) h.log.len };
 
     /// Gathers the line of the entry, which is done then; if it cannot, the worker stops.
     fn handle(&mut self, alloc: Global, entry: &EntryRef<'_>) -> Verdict

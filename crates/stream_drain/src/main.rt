@@ -33,7 +33,7 @@ use crate::lines::Lines;
 use crate::options::{Options, options_of};
 use crate::report::Report;
 use anyhow::{Context, Error, Result, anyhow};
-use line_log::{LineLog, LogError, SystemFile};
+use line_log::{LogError, SystemFile};
 use redis_connection::Connection;
 use redis_wire::Limits;
 use std::alloc::{AllocError, Global};
@@ -92,9 +92,8 @@ fn drain_by(rt: &HostRuntime, options: Options) -> Result<()> {
         dead,
     } = options;
     let alloc = rt.alloc();
-    let log = log_at(rt, &path)?;
+    let mut lines = lines_at(rt, &path, json)?;
     let mut connection = Connection::new(alloc, rt.reader(), io::writer(rt), Limits::default())?;
-    let mut lines = Lines::new(alloc, log, json);
     let mut dead = dead_of(&settings, dead)?;
     let mut report = report_of(rt, &settings, quiet)?;
     let mut worker = Worker::new(alloc, settings);
@@ -112,13 +111,13 @@ fn drain_by(rt: &HostRuntime, options: Options) -> Result<()> {
     ended
 }
 
-// The log in the file of this path.
-fn log_at(rt: &HostRuntime, path: &str) -> Result<LineLog<SystemFile>> {
+// The lines in the file of this path.
+fn lines_at(rt: &HostRuntime, path: &str, json: bool) -> Result<Lines<SystemFile>> {
     let file = match SystemFile::open(rt, path) {
         Ok(file) => file,
         Err(error) => return Err(not_opened(path, error)),
     };
-    LineLog::open(rt.alloc(), file).context(format_args!("cannot open {path}"))
+    Lines::open(rt.alloc(), file, json).context(format_args!("cannot open {path}"))
 }
 
 // Why a file was not opened.

@@ -1,6 +1,7 @@
 use Rattle.std.proofs.Common.{◌≡◌}
 use Rattle.stream_worker.specs.Session.{standing_of}
 use Rattle.stream_drain.specs.Lived.{LivesFrom}
+use Rattle.stream_drain.specs.Written.{written_by}
 use Rattle.stream_drain.proofs.drain.drain.Given as goal
 
 -- wherever the worker lived so at first, it lives on so now
@@ -8,6 +9,8 @@ abbrev pub invariant-loop : goal.invariant-loop
 invariant-loop g l = record {
   settings : l.worker.settings ≡ l.fn.worker.settings;
   lives : LivesFrom l.fn.worker.settings
-      (standing_of l.fn.worker (record { json = l.fn.lines.json; loose = l.fn.lines.log.batch.items }))
-      (standing_of l.worker (record { json = l.lines.json; loose = l.lines.log.batch.items }));
+      (standing_of l.fn.worker (written_by l.fn.lines.json l.fn.lines.log.batch.items
+      (g.D.LogFile.seen l.fn.lines.log.file) l.fn.lines.log.len))
+      (standing_of l.worker (written_by l.lines.json l.lines.log.batch.items
+      (g.D.LogFile.seen l.lines.log.file) l.lines.log.len));
 }

@@ -1,0 +1,39 @@
+-- What a crash leaves of the file: the lines of the entries that were committed.
+use Rattle.std.specs.Prelude.{◌⊎◌, ℕ, List, ◌++◌, Bool, Some, IfSome}
+use Rattle.line_log.specs.EntryLine.{Entry}
+use Rattle.line_log.specs.Lines.{AreLines, EachStartsWith, HasLine, StartsWith}
+use Rattle.stream_group.specs.Law.{Among}
+use Rattle.stream_group.specs.Worker.{Id}
+use Rattle.stream_refs.specs.Sent.{Pairs}
+use Rattle.stream_worker.specs.Session.{Standing, asking}
+use Rattle.stream_worker.specs.declared.state.Settings.{Settings}
+use Rattle.stream_drain.specs.Line.{line_in}
+use Rattle.stream_drain.specs.Lived.{LivesSo}
+use Rattle.stream_drain.specs.Written.{Written, committed_with, lines_in}
+
+-- whatever a crash leaves begins with what was there first and the lines of these entries, in order; and each of them is
+-- a line of it
+pub record AreFiled (json : Bool) (first : List ℕ) (es : List Entry) (may_leave : List ℕ → Type 0) : Type 0 where
+  pub in_order : EachStartsWith (first ++ lines_in json es) may_leave
+  pub each : (e : Entry) → Among e es → (c : List ℕ) → may_leave c → HasLine (line_in json e) c
+
+-- wherever a worker lives so at first, after whole lines, it lives on so in the end, and what was committed is in
+-- whatever a crash leaves
+abbrev pub FiledFrom : Settings → Standing Written → Standing Written → (List ℕ → Type 0) → Type 0
+FiledFrom settings w x may_leave = (json : Bool) (first : List ℕ) (deleted : List Id) → AreLines first
+    → LivesSo settings json (Some first) w deleted
+    → (more : List Id) × (l : LivesSo settings json (Some first) x (deleted ++ more))
+    × AreFiled json first l.doings.committed may_leave
+
+-- an entry of this id is a line of what a crash left
+abbrev pub IsFiled : Bool → Id → List ℕ → Type 0
+IsFiled json id c = (fields : Pairs) × HasLine (line_in json (id, fields)) c
+
+-- the law: before a worker asks to acknowledge an id, its entry is a line of whatever a crash leaves that begins with what
+-- is committed then; or the server said that it was deleted
+abbrev pub AcknowledgedIsFiled : Type 0
+AcknowledgedIsFiled = (settings : Settings) (json : Bool) (first : List ℕ) (w : Standing Written) (deleted : List Id)
+    (c : List ℕ) → AreLines first → LivesSo settings json (Some first) w deleted
+    → IfSome (asking committed_with settings w).history.committed (λ lines. StartsWith lines c)
+    → (id : Id) → Among id (asking committed_with settings w).machine.to_acknowledge
+    → IsFiled json id c ⊎ Among id deleted
