@@ -1,4 +1,5 @@
 pub mod AscendLemmas
+pub mod ConsumerLemmas
 pub mod CountLemmas
 pub mod LawLemmas
 pub mod OrderLemmas
