@@ -3,3 +3,4 @@ pub mod ConsumerLemmas
 pub mod CountLemmas
 pub mod LawLemmas
 pub mod OrderLemmas
+pub mod WithoutLemmas

@@ -5,7 +5,7 @@ ghost use Rattle.std.specs.List.{Contains, HoldsAt};
 ghost use Rattle.std.specs.List.Sorted.{IsSearchInRange};
 ghost use Rattle.stream_store.specs.Order.{IsAscending, IsGapFor, IsNowhere, IsSplitBefore};
 ghost use Rattle.stream_store.specs.Consumers.{IsNewcomer, IsRemoved, IsSeen};
-ghost use Rattle.stream_store.specs.Pending.{IsAcknowledged, IsGiven, with_less, with_more};
+ghost use Rattle.stream_store.specs.Pending.{IsAcknowledged, IsGiven, pending_without, with_less, with_more};
 
 use crate::entry_id::EntryId;
 use crate::room::Room;
@@ -253,6 +253,10 @@ impl Group {
 
     /// The entry is no longer pending; tells whether it was.
     pub fn acknowledge(&mut self, id: EntryId) -> bool
+        ensures without { IsAscending (λ pending. pending.id) self.old.pending.items
+            → self.new.pending.items ≡ pending_without id self.old.pending.items }
+        ensures order { IsAscending (λ pending. pending.id) self.old.pending.items
+            → IsAscending (λ pending. pending.id) self.new.pending.items }
         ensures gone { OnTrue result (IsAcknowledged id self.old self.new) }
         ensures same { OnFalse result (self.new ≡ self.old) }
         ensures none { OnFalse result (IsAscending (λ pending. pending.id) self.old.pending.items
