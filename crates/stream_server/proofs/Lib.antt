@@ -1,5 +1,9 @@
 pub mod StreamLemmas
 pub mod SentLemmas
 pub mod SentReadLemmas
+mod AcknowledgeLemmas
+mod AddLemmas
 mod CommandLemmas
+mod NameLemmas
 mod ServingLemmas
+mod StalledLemmas

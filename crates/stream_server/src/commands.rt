@@ -1,7 +1,8 @@
 //! The commands by their names, and what they share.
 ghost use Rattle.std.specs.Prelude.{◌≡◌, ◌≤◌, ◌<◌, length as length_of, IfOk, OnErr, take};
-ghost use Rattle.std.specs.List.{prefix_len};
+ghost use Rattle.std.specs.List.{HoldsAt, prefix_len};
 ghost use Rattle.std.specs.List.Sorted.{IsSearchInRange};
+ghost use Rattle.stream_server.specs.Acknowledging.{count_answer};
 ghost use Rattle.stream_server.specs.Shown.{is_not_nul, text_before_nul};
 ghost use Rattle.stream_server.specs.Streams.{seen_streams};
 
@@ -224,7 +225,8 @@ fn len_of(streams: &[Stream], arguments: &[Vec<u8>]) -> Result<Answer, Refusal> 
 
 /// The index of the stream of this key, or of the first behind it.
 fn place_of(streams: &[Stream], key: &[u8]) -> Result<usize, usize>
-    ensures { IsSearchInRange result (length_of streams.now) }
+    ensures bound { IsSearchInRange result (length_of streams.now) }
+    ensures found { IfOk result (HoldsAt (λ stream. stream.key.items ≡ key.now) streams.now) }
 {
     streams.binary_search_by(|stream| stream.key.as_slice().cmp(&key))
 }
@@ -239,7 +241,8 @@ fn stream_of<'a>(streams: &'a [Stream], key: &[u8]) -> Option<&'a Stream> {
 
 /// The index of the group of this name, or of the first behind it.
 fn place_of_group(stream: &Stream, name: &[u8]) -> Result<usize, usize>
-    ensures { IsSearchInRange result (length_of stream.now.groups.items) }
+    ensures bound { IsSearchInRange result (length_of stream.now.groups.items) }
+    ensures found { IfOk result (HoldsAt (λ group. group.name.items ≡ name.now) stream.now.groups.items) }
 {
     stream
         .groups
@@ -291,12 +294,16 @@ fn name_of(group: &Group, number: u64) -> &[u8] {
 }
 
 /// A count as an answer.
-fn number(n: u64) -> Answer {
+fn number(n: u64) -> Answer
+    ensures { result ≡ count_answer n }
+{
     Answer::Int(i64::try_from(n).unwrap_or(i64::MAX))
 }
 
 /// A length as an answer.
-fn length(n: usize) -> Answer {
+fn length(n: usize) -> Answer
+    ensures { result ≡ count_answer n }
+{
     Answer::Int(i64::try_from(n).unwrap_or(i64::MAX))
 }
 
@@ -914,7 +921,9 @@ fn id(argument: &[u8]) -> Result<EntryId, Refusal> {
 }
 
 /// The ids that the arguments are.
-fn ids(alloc: Global, arguments: &[Vec<u8>]) -> Result<Vec<EntryId>, Refusal> {
+fn ids(alloc: Global, arguments: &[Vec<u8>]) -> Result<Vec<EntryId>, Refusal>
+    ensures { IfOk result (λ ids. length_of ids.items ≡ length_of arguments.now) }
+{
     let mut ids = Vec::new(alloc);
     for argument in arguments {
         ids.push(id(argument)?)?;

@@ -22,7 +22,7 @@ same a b equal = grind (arith, nat_tests)
 not_both : (o : Ordering) → o ≡ Greater → o ≡ Less → ⊥
 not_both o greater less = grind (arith, nat_tests)
 
-not_itself : (a : EntryId) → id_order a a ≡ Less → ⊥
+pub not_itself : (a : EntryId) → id_order a a ≡ Less → ⊥
 not_itself a less = grind (arith, nat_tests)
 
 not_before : (a b : EntryId) → id_order a b ≡ Less → id_order b a ≡ Less → ⊥

@@ -1,3 +1,4 @@
+pub mod Consumers
 pub mod EntryId
 pub mod Laws
 pub mod Order

@@ -1,7 +1,8 @@
 -- What is pending in a group, and for whom.
-use Rattle.std.specs.Prelude.{◌≡◌, ◌≤◌, ◌<◌, ◌+◌, ◌-◌, ◌==◌, ◌⊎◌, if◌then◌else◌, ℕ, length, map, min}
+use Rattle.std.specs.Prelude.{◌≡◌, ◌≤◌, ◌<◌, ◌+◌, ◌-◌, ◌==◌, ◌⊎◌, if◌then◌else◌, ℕ, List, not, filter, length, map, min}
 use Rattle.std.specs.Prelude.{slice_index_or, slice_set, insert, remove}
-use Rattle.stream_store.specs.Order.{IsAscending, IsGapFor}
+use Rattle.std.specs.Ordering.{is_eq}
+use Rattle.stream_store.specs.Order.{id_order, IsAscending, IsGapFor}
 use Rattle.stream_store.specs.declared.entry_id.EntryId.{EntryId}
 use Rattle.stream_store.specs.declared.group.Consumer.{Consumer}
 use Rattle.stream_store.specs.declared.group.Group.{Group}
@@ -37,6 +38,10 @@ pub record IsGivenNew (p : Pending) (old new : Group) : Type 0 where
 -- it is pending, what was pending beside it stays, and one more is pending for its consumer
 abbrev pub IsGiven : Pending → Group → Group → Type 0
 IsGiven p old new = IsRegiven p old new ⊎ IsGivenNew p old new
+
+-- what is pending with other ids than this one, in order
+abbrev pub pending_without : EntryId → List Pending → List Pending
+pending_without id = filter (λ p. not (is_eq (id_order p.id id)))
 
 -- what was pending with this id is taken out, and the others stay; one less is pending for its consumer
 pub record IsAcknowledged (id : EntryId) (old new : Group) : Type 0 where

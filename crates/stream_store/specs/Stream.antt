@@ -1,5 +1,6 @@
 -- What a stream and a group show, and how they change.
-use Rattle.std.specs.Prelude.{◌≡◌, ◌≢◌, ◌<◌, ℕ, ℤ, List, [], ◌∷◌, length, remove}
+use Rattle.std.specs.Prelude.{◌≡◌, ◌≢◌, ◌<◌, ℕ, ℤ, pos, ◌+ℤ◌, List, [], ◌∷◌, ◌++◌, length, remove}
+use Rattle.std.specs.Int.{w64, saturate_signed}
 use Rattle.std.specs.declared.cmp.Ordering.TheVariants.{Greater}
 use Rattle.std.specs.List.{HoldsAt}
 use Rattle.stream_store.specs.Order.{id_order}
@@ -30,6 +31,18 @@ seen_stream s = record {
   entries_added = s.entries_added;
   groups = s.groups.items;
 }
+
+-- this entry is the newest, and the others stay
+pub record IsLonger (entry : Entry) (old new : Stream) : Type 0 where
+  pub entries : new.entries.items ≡ old.entries.items ++ entry ∷ []
+  pub last_id : new.last_id ≡ entry.id
+  pub added : new.entries_added ≡ saturate_signed w64 (old.entries_added +ℤ pos 1)
+  pub others : new ≡ record old {
+    entries = new.entries;
+    nodes = new.nodes;
+    last_id = new.last_id;
+    entries_added = new.entries_added;
+  }
 
 -- one entry with this id is taken out, and the others stay
 pub record IsWithoutOne (id : EntryId) (old new : List Entry) : Type 0 where

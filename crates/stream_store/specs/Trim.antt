@@ -1,9 +1,10 @@
 -- How many entries a trim takes away.
-use Rattle.std.specs.Prelude.{◌≡◌, ◌+◌, ◌-◌, ◌==◌, ◌||◌, ◌&&◌, ℕ, Bool, List, [], ◌∷◌, cond, length, nat_le, nat_lt}
+use Rattle.std.specs.Prelude.{◌≡◌, ◌+◌, ◌-◌, ◌==◌, ◌||◌, ◌&&◌, ℕ, Bool, true, false, List, [], ◌∷◌, cond, drop, length, nat_le, nat_lt}
 use Rattle.std.specs.Ordering.{is_lt}
 use Rattle.stream_store.specs.Order.{id_order, IsAscending, IsSplitBefore}
 use Rattle.stream_store.specs.declared.stream.Entry.{Entry}
 use Rattle.stream_store.specs.declared.stream.Node.{Node}
+use Rattle.stream_store.specs.declared.stream.Stream.{Stream}
 use Rattle.stream_store.specs.declared.trim.Bound.{Bound}
 use Rattle.stream_store.specs.declared.trim.Bound.TheVariants.{Length, Below}
 use Rattle.stream_store.specs.declared.trim.Trim.{Trim}
@@ -30,3 +31,10 @@ abbrev pub whole_from : Trim → ℕ → ℕ → List Node → ℕ
 whole_from trim len taken [] = taken
 whole_from trim len taken (node ∷ nodes) =
     cond (goes trim len taken node) (whole_from trim len (taken + node.live) nodes) taken
+
+-- so many of the oldest entries go, as many as the trim names, and the others stay
+pub record IsTrimmed (trim : Trim) (count : ℕ) (old new : Stream) : Type 0 where
+  pub entries : new.entries.items ≡ drop count old.entries.items
+  pub exact : trim.is_approximate ≡ false → IsExactCount trim.bound old.entries.items count
+  pub whole : trim.is_approximate ≡ true → count ≡ whole_from trim (length old.entries.items) 0 old.nodes.items
+  pub others : new ≡ record old { entries = new.entries; nodes = new.nodes }

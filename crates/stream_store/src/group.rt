@@ -1,10 +1,11 @@
 //! A group of consumers.
 ghost use Rattle.std.specs.Prelude.{◌≡◌, ◌≤◌, [], length, map, IfErr, IfNone, IfOk, IfSome, OnOk, OnErr};
 ghost use Rattle.std.specs.Bool.{OnTrue, OnFalse};
-ghost use Rattle.std.specs.List.{HoldsAt};
+ghost use Rattle.std.specs.List.{Contains, HoldsAt};
 ghost use Rattle.std.specs.List.Sorted.{IsSearchInRange};
 ghost use Rattle.stream_store.specs.Order.{IsAscending, IsGapFor, IsNowhere, IsSplitBefore};
-ghost use Rattle.stream_store.specs.Pending.{IsAcknowledged, IsGiven, with_less, with_more};
+ghost use Rattle.stream_store.specs.Consumers.{IsNewcomer, IsRemoved, IsSeen};
+ghost use Rattle.stream_store.specs.Pending.{IsAcknowledged, IsGiven, pending_without, with_less, with_more};
 
 use crate::entry_id::EntryId;
 use crate::room::Room;
@@ -95,6 +96,7 @@ impl Group {
     /// What is pending with this id.
     pub fn get(&self, id: EntryId) -> Option<&Pending>
         ensures some { IfSome result (λ pending. pending.now.id ≡ id) }
+        ensures there { IfSome result (λ pending. Contains self.now.pending.items pending.now) }
         ensures none { IfNone result (IsAscending (λ pending. pending.id) self.now.pending.items
             → IsNowhere (λ pending. pending.id) id self.now.pending.items) }
     {
@@ -106,7 +108,8 @@ impl Group {
 
     /// The consumer of this name.
     pub fn consumer(&self, name: &[u8]) -> Option<&Consumer>
-        ensures { IfSome result (λ consumer. consumer.now.name.items ≡ name.now) }
+        ensures named { IfSome result (λ consumer. consumer.now.name.items ≡ name.now) }
+        ensures there { IfSome result (λ consumer. Contains self.now.consumers.items consumer.now) }
     {
         match self.place_of(name) {
             Ok(index) => self.consumers.get(index),
@@ -159,8 +162,13 @@ impl Group {
     /// The number of the consumer, who was seen now and is made where it is new. What is pending
     /// stays.
     pub fn see(&mut self, alloc: Global, name: &[u8], now: u64) -> Result<u64, AllocError>
-        ensures pending { self.new.pending ≡ self.old.pending }
-        ensures last_id { self.new.last_id ≡ self.old.last_id }
+        ensures ok { IfOk result (λ number. IsSeen name.now now number self.old self.new) }
+        ensures err { OnErr result (self.new ≡ record self.old { consumers = self.new.consumers }) }
+        ensures err_consumers { OnErr result (self.new.consumers.items ≡ self.old.consumers.items) }
+        ensures others { self.new ≡ record self.old {
+          consumers = self.new.consumers;
+          next_number = self.new.next_number;
+        } }
     {
         match self.place_of(name) {
             Ok(index) => {
@@ -175,8 +183,15 @@ impl Group {
     /// The same of the consumer that the room is for, which is the group's from now on: where it is
     /// the one that `room_for` took of this group, no memory is asked for.
     pub fn see_in(&mut self, room: Room, now: u64) -> Result<u64, AllocError>
+        ensures ok { IfOk result (λ number. IsSeen room.name.items now number self.old self.new) }
+        ensures err_consumers { OnErr result (self.new.consumers.items ≡ self.old.consumers.items) }
+        ensures err_number { OnErr result (self.new.next_number ≡ self.old.next_number) }
         ensures pending { self.new.pending.items ≡ self.old.pending.items }
-        ensures last_id { self.new.last_id ≡ self.old.last_id }
+        ensures others { self.new ≡ record self.old {
+          pending = self.new.pending;
+          consumers = self.new.consumers;
+          next_number = self.new.next_number;
+        } }
     {
         move_pending(&mut self.pending, room.pending);
         match self.place_of(&room.name) {
@@ -195,8 +210,13 @@ impl Group {
     /// Makes a consumer, whose place is at this index, and gives its number.
     fn make(&mut self, index: usize, name: Vec<u8>, now: u64) -> Result<u64, AllocError>
         requires { index ≤ length self.old.consumers.items }
-        ensures pending { self.new.pending ≡ self.old.pending }
-        ensures last_id { self.new.last_id ≡ self.old.last_id }
+        ensures ok { IfOk result (λ number. IsNewcomer name.items now number self.old self.new) }
+        ensures err { OnErr result (self.new ≡ record self.old { consumers = self.new.consumers }) }
+        ensures err_consumers { OnErr result (self.new.consumers.items ≡ self.old.consumers.items) }
+        ensures others { self.new ≡ record self.old {
+          consumers = self.new.consumers;
+          next_number = self.new.next_number;
+        } }
     {
         let number = self.next_number;
         self.consumers.insert(
@@ -233,6 +253,10 @@ impl Group {
 
     /// The entry is no longer pending; tells whether it was.
     pub fn acknowledge(&mut self, id: EntryId) -> bool
+        ensures without { IsAscending (λ pending. pending.id) self.old.pending.items
+            → self.new.pending.items ≡ pending_without id self.old.pending.items }
+        ensures order { IsAscending (λ pending. pending.id) self.old.pending.items
+            → IsAscending (λ pending. pending.id) self.new.pending.items }
         ensures gone { OnTrue result (IsAcknowledged id self.old self.new) }
         ensures same { OnFalse result (self.new ≡ self.old) }
         ensures none { OnFalse result (IsAscending (λ pending. pending.id) self.old.pending.items
@@ -251,7 +275,8 @@ impl Group {
 
     /// Takes the consumer out, with what is pending for it, and tells how many entries that was.
     pub fn remove_consumer(&mut self, name: &[u8]) -> u64
-        ensures last_id { self.new.last_id ≡ self.old.last_id }
+        ensures removed { IsRemoved name.now result self.old self.new }
+        ensures others { self.new ≡ record self.old { pending = self.new.pending; consumers = self.new.consumers } }
     {
         let Ok(index) = self.place_of(name) else {
             return 0;

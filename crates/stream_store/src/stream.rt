@@ -2,11 +2,11 @@
 ghost use Rattle.std.specs.Prelude.{◌≡◌, ◌≤◌, ◌+◌, ◌++◌, ◌∷◌, [], false, true, Some, drop, length};
 ghost use Rattle.std.specs.Prelude.{IfErr, IfNone, IfOk, IfSome, OnOk, OnErr};
 ghost use Rattle.std.specs.Bool.{OnTrue, OnFalse};
-ghost use Rattle.std.specs.List.{HoldsAt};
+ghost use Rattle.std.specs.List.{Contains, HoldsAt};
 ghost use Rattle.std.specs.List.Sorted.{IsSearchInRange};
 ghost use Rattle.stream_store.specs.Order.{IsAscending, IsGapFor, IsNowhere, IsSplitBefore};
-ghost use Rattle.stream_store.specs.Trim.{IsExactCount, goes, lets_go, whole_from};
-ghost use Rattle.stream_store.specs.Stream.{seen_stream, first_id_of, IsWithoutOne, IsTombstoneFrom};
+ghost use Rattle.stream_store.specs.Trim.{IsExactCount, IsTrimmed, goes, lets_go, whole_from};
+ghost use Rattle.stream_store.specs.Stream.{seen_stream, first_id_of, IsLonger, IsWithoutOne, IsTombstoneFrom};
 
 use crate::entry_id::EntryId;
 use crate::group::Group;
@@ -74,10 +74,7 @@ impl Stream {
 
     /// Appends an entry. An `Err` changes nothing.
     pub fn append(&mut self, id: EntryId, fields: Vec<Vec<u8>>) -> Result<(), AllocError>
-        ensures entries { OnOk result (self.new.entries.items
-            ≡ self.old.entries.items ++ record { id = id; fields = fields } ∷ []) }
-        ensures last_id { OnOk result (self.new.last_id ≡ id) }
-        ensures groups { OnOk result (self.new.groups ≡ self.old.groups) }
+        ensures ok { OnOk result (IsLonger (record { id = id; fields = fields }) self.old self.new) }
         ensures err { OnErr result (seen_stream self.new ≡ seen_stream self.old) }
     {
         let is_open = match self.nodes.back() {
@@ -129,6 +126,7 @@ impl Stream {
     /// The entry with this id.
     pub fn get(&self, id: EntryId) -> Option<&Entry>
         ensures some { IfSome result (λ entry. entry.now.id ≡ id) }
+        ensures there { IfSome result (λ entry. Contains self.now.entries.items entry.now) }
         ensures none { IfNone result (IsAscending (λ entry. entry.id) self.now.entries.items
             → IsNowhere (λ entry. entry.id) id self.now.entries.items) }
     {
@@ -166,12 +164,7 @@ impl Stream {
 
     /// Takes away the oldest entries, as many as the trim names, and tells how many these were.
     pub fn trim(&mut self, trim: Trim) -> usize
-        ensures entries { self.new.entries.items ≡ drop result self.old.entries.items }
-        ensures exact { trim.is_approximate ≡ false
-            → IsExactCount trim.bound self.old.entries.items result }
-        ensures whole { trim.is_approximate ≡ true
-            → result ≡ whole_from trim (length self.old.entries.items) 0 self.old.nodes.items }
-        ensures others { self.new ≡ record self.old { entries = self.new.entries; nodes = self.new.nodes } }
+        ensures { IsTrimmed trim result self.old self.new }
     {
         let (nodes, whole) = whole_nodes(&self.nodes, self.entries.len(), trim);
         let count = if trim.is_approximate {

@@ -1,6 +1,9 @@
 //! `XADD`.
-ghost use Rattle.std.specs.Prelude.{◌≡◌, OnErr};
+ghost use Rattle.std.specs.Prelude.{◌≡◌, IfOk, IfSome, OnErr};
+ghost use Rattle.std.specs.declared.cmp.Ordering.TheVariants.{Less};
+ghost use Rattle.stream_server.specs.Adding.{IsAdded, IsIdFor, IsXadd};
 ghost use Rattle.stream_server.specs.Streams.{seen_streams};
+ghost use Rattle.stream_store.specs.Order.{id_order};
 ghost use Rattle.stream_store.specs.Stream.{seen_stream};
 
 use super::retention::{Retention, retention_in};
@@ -21,7 +24,9 @@ pub(super) fn add(
     now: u64,
     mut command: Vec<Vec<u8>>,
 ) -> Result<Answer, Refusal>
-    ensures { OnErr result (seen_streams streams.new ≡ seen_streams streams.old) }
+    ensures ok { IfOk result (λ answer. IsXadd command.items now answer streams.old.items
+        streams.new.items) }
+    ensures err { OnErr result (seen_streams streams.new ≡ seen_streams streams.old) }
 {
     let [_, key, words @ ..] = command.as_slice() else {
         return Err(SYNTAX);
@@ -29,7 +34,7 @@ pub(super) fn add(
     let options = retention_in(words, true)?;
     let first = 2usize.saturating_add(options.len);
     check(&options, command.len().saturating_sub(first))?;
-    let key = key.clone()?;
+    let key = Vec::from_slice(alloc, key)?;
     if first > command.len() {
         return Err(SYNTAX);
     }
@@ -66,7 +71,8 @@ fn append(
     now: u64,
     fields: Vec<Vec<u8>>,
 ) -> Result<Answer, Refusal>
-    ensures { OnErr result (seen_stream stream.new ≡ seen_stream stream.old) }
+    ensures ok { IfOk result (λ answer. IsAdded fields options.now now answer stream.old stream.new) }
+    ensures err { OnErr result (seen_stream stream.new ≡ seen_stream stream.old) }
 {
     if stream.last_id == EntryId::LAST {
         return Err(Refusal::Fixed(
@@ -84,7 +90,10 @@ fn append(
 }
 
 /// The id that a new entry gets, where there is one behind the last one.
-fn id_for(last: EntryId, wanted: NewId, now: u64) -> Option<EntryId> {
+fn id_for(last: EntryId, wanted: NewId, now: u64) -> Option<EntryId>
+    ensures above { IfSome result (λ id. id_order last id ≡ Less) }
+    ensures wanted { IfSome result (IsIdFor last wanted now) }
+{
     let id = match wanted {
         NewId::Automatic if now > last.milliseconds => EntryId {
             milliseconds: now,

@@ -1,5 +1,6 @@
 //! `XDEL`, `XTRIM`, `XACK`, `XSETID`, `DEL`.
-ghost use Rattle.std.specs.Prelude.{◌≡◌, ◌-◌, vec_len, OnErr};
+ghost use Rattle.std.specs.Prelude.{◌≡◌, ◌-◌, vec_len, IfOk, OnErr};
+ghost use Rattle.stream_server.specs.Acknowledging.{AcknowledgesIn, AreAcknowledged};
 
 use super::retention::retention_in;
 use super::{SYNTAX, id, ids, integer, is_word, number, place_of, place_of_group};
@@ -74,7 +75,8 @@ pub(super) fn acknowledge(
     streams: &mut [Stream],
     arguments: &[Vec<u8>],
 ) -> Result<Answer, Refusal>
-    ensures { OnErr result (streams.new ≡ streams.old) }
+    ensures ok { IfOk result (λ answer. AcknowledgesIn arguments.now answer streams.old streams.new) }
+    ensures err { OnErr result (streams.new ≡ streams.old) }
 {
     let [key, name, words @ ..] = arguments else {
         return Err(SYNTAX);
@@ -86,18 +88,18 @@ pub(super) fn acknowledge(
         return Ok(Answer::Int(0));
     };
     let ids = ids(alloc, words)?;
-    Ok(number(acknowledge_all(&mut streams[index].groups[place], &ids)))
+    Ok(super::length(acknowledge_all(&mut streams[index].groups[place], &ids)))
 }
 
 /// Acknowledges the entries, and counts those that were pending.
-fn acknowledge_all(group: &mut Group, ids: &[EntryId]) -> u64 {
-    let mut count = 0u64;
+fn acknowledge_all(group: &mut Group, ids: &[EntryId]) -> usize
+    ensures { AreAcknowledged ids.now result group.old group.new }
+{
+    let before = group.pending.len();
     for id in ids {
-        if group.acknowledge(*id) {
-            count = count.saturating_add(1);
-        }
+        let _was_pending = group.acknowledge(*id);
     }
-    count
+    before.saturating_sub(group.pending.len())
 }
 
 /// What XSETID sets.

@@ -1,5 +1,6 @@
 //! `XAUTOCLAIM`.
-ghost use Rattle.std.specs.Prelude.{◌≡◌, OnErr};
+ghost use Rattle.std.specs.Prelude.{◌≡◌, ◌*◌, ◌-◌, ◌^◌, min, IfOk, OnErr};
+ghost use Rattle.stream_server.specs.Stalled.{IsFound};
 
 use super::{
     SYNTAX, array, claimed_answer, group_for, integer_in, interval_start, is_word, place_of,
@@ -199,7 +200,10 @@ fn stalled_in(
     stream: &Stream,
     group: &Group,
     claim: &Claim<'_>,
-) -> Result<Stalled, AllocError> {
+) -> Result<Stalled, AllocError>
+    ensures { IfOk result (IsFound stream.now group.now claim.entry.now
+        (min (claim.entry.now.most * 10) (2 ^ 64 - 1))) }
+{
     let mut claimed = Vec::new(alloc);
     let mut gone = Vec::new(alloc);
     let mut next = EntryId::ZERO;

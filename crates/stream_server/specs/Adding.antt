@@ -1,0 +1,60 @@
+-- What XADD does.
+use Rattle.std.specs.Prelude.{◌≡◌, ◌+◌, ◌==◌, ◌⊎◌, ℕ, List, Option, Some, None, false, drop, nat_lt, if◌then◌else◌}
+use Rattle.std.specs.Bool.{MatchBool}
+use Rattle.std.specs.Global.{Vec}
+use Rattle.std.specs.List.{HoldsAt}
+use Rattle.std.specs.declared.cmp.Ordering.TheVariants.{Less}
+use Rattle.stream_store.specs.EntryId.{id_number}
+use Rattle.stream_store.specs.Order.{id_order}
+use Rattle.stream_store.specs.Stream.{IsLonger}
+use Rattle.stream_store.specs.Trim.{IsTrimmed}
+use Rattle.stream_store.specs.declared.entry_id.EntryId.{EntryId}
+use Rattle.stream_store.specs.declared.stream.Entry.{Entry}
+use Rattle.stream_store.specs.declared.stream.Stream.{Stream}
+use Rattle.stream_store.specs.declared.trim.Trim.{Trim}
+use Rattle.stream_server.specs.Changed.{IsChangedAt, IsMade}
+use Rattle.stream_server.specs.declared.answer.Answer.{Answer}
+use Rattle.stream_server.specs.declared.answer.Answer.TheVariants.{Id, Nil}
+use Rattle.stream_server.specs.declared.commands.NewId.{NewId}
+use Rattle.stream_server.specs.declared.commands.NewId.TheVariants.{Automatic, Within, Given}
+use Rattle.stream_server.specs.declared.commands.retention.Retention.{Retention}
+
+-- the id that a new entry gets: the one that is given; the next one of a millisecond; or one of now, or the next one
+abbrev pub IsIdFor : EntryId → NewId → ℕ → EntryId → Type 0
+IsIdFor last (Given wanted) now id = id ≡ wanted
+IsIdFor last (Within ms) now id =
+    id ≡ record { milliseconds = ms; sequence = if ms == last.milliseconds then last.sequence + 1 else 0 }
+IsIdFor last Automatic now id = MatchBool (nat_lt last.milliseconds now)
+    (id ≡ record { milliseconds = now; sequence = 0 }) (id_number id ≡ id_number last + 1)
+
+-- a trim that is asked for is made
+abbrev pub IsTrimmedBy : Option Trim → Stream → Stream → Type 0
+IsTrimmedBy None old new = new ≡ old
+IsTrimmedBy (Some trim) old new = (count : ℕ) × IsTrimmed trim count old new
+
+-- an entry of these fields is the newest of the stream, which is trimmed then; its id, which is the answer, is above
+pub record IsAdded (fields : Vec (Vec ℕ)) (options : Retention) (now : ℕ) (answer : Answer) (old new : Stream) : Type 0 where
+  pub entry : Entry
+  pub longer : Stream
+  pub fielded : entry.fields ≡ fields
+  pub above : id_order old.last_id entry.id ≡ Less
+  pub wanted : IsIdFor old.last_id options.id now entry.id
+  pub added : IsLonger entry old longer
+  pub trimmed : IsTrimmedBy options.trim longer new
+  pub answered : answer ≡ Id entry.id
+
+-- no stream is made, as is asked
+pub record IsNotMade (options : Retention) (answer : Answer) (old new : List Stream) : Type 0 where
+  pub asked : options.makes_stream ≡ false
+  pub same : new ≡ old
+  pub answered : answer ≡ Nil
+
+-- the entry, whose fields are the words behind the options, is added to the stream of the key, or to a new one
+pub record IsXadd (words : List (Vec ℕ)) (now : ℕ) (answer : Answer) (old new : List Stream) : Type 0 where
+  pub key : List ℕ
+  pub options : Retention
+  pub fields : Vec (Vec ℕ)
+  pub keyed : HoldsAt (λ word. word.items ≡ key) words 1
+  pub fielded : fields.items ≡ drop (2 + options.len) words
+  pub how : IsChangedAt key (IsAdded fields options now answer) old new
+      ⊎ (IsMade key (IsAdded fields options now answer) old new ⊎ IsNotMade options answer old new)
