@@ -1,4 +1,4 @@
-use Rattle.std.proofs.lemmas.Result.{on_ok_weaker}
+use Rattle.std.proofs.lemmas.Result.{on_err_weaker, on_ok_weaker}
 use Rattle.stream_files.proofs.BoundLemmas.{commits_so, leaves_so}
 use Rattle.stream_files.proofs.log.commit.Goals as goal
 
@@ -14,3 +14,6 @@ pub returns-clause-any_moment : goal.returns-clause-any_moment
 returns-clause-any_moment g c =
     leaves_so g.D.LogFile.seen g.D.LogFile.may_leave g.D.LogFile.is_sound g.D.LogFile.moment g.D.LogFile.left_since
     c.args.log.now.file c.args.log.now.len c.args.log.now.is_broken c.commit.new.self.file c.commit.ensures.keeps
+
+pub returns-clause-failed : goal.returns-clause-failed
+returns-clause-failed g c = on_err_weaker c.commit.result (λ held f name h. held (f.file name) h) c.commit.ensures.held
