@@ -103,7 +103,7 @@ module _ (entries : List Entry) (now idle attempts left : ℕ) where
         → ahead claimed gone (found_in entries now idle (attempts - 1) left pending) ≡ total
     goes_past there short =
         let step : found_in entries now idle attempts left (p ∷ pending) ≡ found_in entries now idle (attempts - 1) left pending =
-            rw (some, room, there, short) refl in
+        rw (some, room, there, short) refl in
         ap (ahead claimed gone) (sym step) ∙ before
 
   -- no more is pending

@@ -43,8 +43,8 @@ module _ (entries : List Entry) (now least_idle : ℕ) where
       if attempts == 0 || left == 0 then nothing_until p.id
       else if has_entry p.id entries
       then (if nat_le least_idle (now - p.given_at)
-        then with_claimed p (found_in (attempts - 1) (left - 1) pending)
-        else found_in (attempts - 1) left pending)
+      then with_claimed p (found_in (attempts - 1) (left - 1) pending)
+      else found_in (attempts - 1) left pending)
       else with_gone p.id (found_in (attempts - 1) (left - 1) pending)
 
 -- what is found of a stalled claim

@@ -46,13 +46,13 @@ module _ (id : EntryId) where
   without_one [] i lt named up = absurd (omega (arith, lt))
   without_one (x ∷ xs) zero lt named up =
       let after : IsNowhere (λ p. p.id) id xs =
-          λ k d bound is. not_itself id (rw (named x, is) at (up 0 (suc k) d (omega arith) (omega (arith, bound)))) in
+      λ k d bound is. not_itself id (rw (named x, is) at (up 0 (suc k) d (omega arith) (omega (arith, bound)))) in
       rw (equal x.id id (named x)) (sym (without_none xs after))
   without_one (x ∷ xs) (suc i) lt named up =
       let below : id_order x.id id ≡ Less = rw (named x) at (up 0 (suc i) x (omega arith) lt) in
       let differs : is_eq (id_order x.id id) ≡ false = rw below refl in
       let rest = without_one xs i (omega (arith, lt)) (λ d. named d)
-          (λ a b d less bound. up (suc a) (suc b) d (omega (arith, less)) (omega (arith, bound))) in
+      (λ a b d less bound. up (suc a) (suc b) d (omega (arith, less)) (omega (arith, bound))) in
       rw differs (ap (λ (ys : List Pending). x ∷ ys) rest)
 
   -- there is a gap for it

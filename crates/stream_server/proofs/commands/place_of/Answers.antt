@@ -9,5 +9,5 @@ use Rattle.stream_server.proofs.commands.place_of.Goals as goal
 pub returns-clause-found : goal.returns-clause-found
 returns-clause-found c =
     found_by_name (λ stream. stream.key.items) c.args.streams.now c.args.key.now _
-        (c.binary_search_by.ensures.position (λ stream. slice_cmp nat_cmp stream.key.items c.args.key.now)
-        (always_returns_same _ _ _ (λ a r g called. search rules)))
+    (c.binary_search_by.ensures.position (λ stream. slice_cmp nat_cmp stream.key.items c.args.key.now)
+    (always_returns_same _ _ _ (λ a r g called. search rules)))

@@ -9,5 +9,5 @@ use Rattle.stream_server.proofs.commands.place_of_group.Goals as goal
 pub returns-clause-found : goal.returns-clause-found
 returns-clause-found c =
     rw (sym c.deref.ensures.value) (found_by_name (λ group. group.name.items) c.deref.result.now c.args.name.now _
-        (c.binary_search_by.ensures.position (λ group. slice_cmp nat_cmp group.name.items c.args.name.now)
-        (always_returns_same _ _ _ (λ a r g called. search rules))))
+    (c.binary_search_by.ensures.position (λ group. slice_cmp nat_cmp group.name.items c.args.name.now)
+    (always_returns_same _ _ _ (λ a r g called. search rules))))

@@ -47,22 +47,22 @@ returns c = record {
   is = λ up.
       let same : c.into_iter-pending-iterator.result ≡ c.range-pending-items.result = search rules in
       let rest : deque_iter_rest c.into_iter-pending-iterator.result ≡ drop c.start.result c.args.group.now.pending.items =
-          ap deque_iter_rest same
-          ∙ c.range-pending-items.ensures.rest
-          ∙ take_all _ _ (omega (arith, length-drop c.start.result c.args.group.now.pending.items, c.args.group.now.pending.ok.0)) in
+      ap deque_iter_rest same
+      ∙ c.range-pending-items.ensures.rest
+      ∙ take_all _ _ (omega (arith, length-drop c.start.result c.args.group.now.pending.items, c.args.group.now.pending.ok.0)) in
       let ends : found_in c.args.stream.now.entries.items c.args.claim.now.now c.args.claim.now.least_idle
-          c.loop-pending.attempts c.loop-pending.left (deque_iter_rest c.loop-pending.pending-iterator)
-          ≡ nothing_until c.match-next.next = elim c.match-next.branch [
+      c.loop-pending.attempts c.loop-pending.left (deque_iter_rest c.loop-pending.pending-iterator)
+      ≡ nothing_until c.match-next.next = elim c.match-next.branch [
         | in-None w ↦
             ends_empty c.args.stream.now.entries.items c.args.claim.now.now c.args.claim.now.least_idle c.loop-pending.attempts
             c.loop-pending.left _ w.in-None.ensures.steps.0
             ∙ ap nothing_until (sym (w.next-is ∙ c.loop-pending.invariant.no_next))
         | in-Some+then-attempts-eq0 w ↦
             let stops : ((c.loop-pending.attempts == 0) || (c.loop-pending.left == 0)) ≡ true =
-                elim w.then-attempts-eq0.branch [
-                  | then-attempts-eq0-via-then-attempts-eq0 v ↦ grind (arith, nat_tests, v.if-attempts-eq0.true)
-                  | then-attempts-eq0-via-else-attempts-eq0+then-left-eq0 v ↦ grind (arith, nat_tests, v.if-left-eq0.true)
-                ] in
+            elim w.then-attempts-eq0.branch [
+              | then-attempts-eq0-via-then-attempts-eq0 v ↦ grind (arith, nat_tests, v.if-attempts-eq0.true)
+              | then-attempts-eq0-via-else-attempts-eq0+then-left-eq0 v ↦ grind (arith, nat_tests, v.if-left-eq0.true)
+            ] in
             ends_at c.args.stream.now.entries.items c.args.claim.now.now c.args.claim.now.least_idle c.loop-pending.attempts
             c.loop-pending.left w.in-Some.pending.now _ _ w.in-Some.ensures.steps stops
             ∙ ap nothing_until (sym w.next-is)
