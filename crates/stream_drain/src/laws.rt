@@ -1,6 +1,7 @@
 //! What holds of the lines that are gathered and committed, over the rounds of a worker.
 ghost use Rattle.stream_drain.specs.Filed.{AcknowledgedIsFiled};
 ghost use Rattle.stream_drain.specs.Lived.{RoundsAreLived};
+ghost use Rattle.stream_drain.specs.Tell.{LinesTellEntries};
 ghost use Rattle.stream_drain.specs.Written.{GathersItsLines};
 
 /// What is gathered is the lines of the entries that were done and not committed, in order; what is committed
@@ -21,4 +22,10 @@ pub fn rounds_are_lived()
 /// that it was deleted.
 pub fn acknowledged_is_filed()
     ensures { AcknowledgedIsFiled }
+{}
+
+/// A line tells its entry, in text and in JSON: two entries with the same line have the same id, and the same
+/// fields in the same order.
+pub fn lines_tell_entries()
+    ensures { LinesTellEntries }
 {}

@@ -1,0 +1,6 @@
+use Rattle.line_log.proofs.EntryLineLemmas.{line_tells}
+use Rattle.stream_drain.proofs.TellLemmas.{tell}
+use Rattle.stream_drain.proofs.laws.lines_tell_entries.Goals as goal
+
+pub returns : goal.returns
+returns c = tell line_tells

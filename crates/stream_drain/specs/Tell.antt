@@ -1,0 +1,17 @@
+-- That a line tells its entry.
+use Rattle.std.specs.Prelude.{◌≡◌, ◌<◌, ℕ, List, Bool}
+use Rattle.std.specs.List.{AllByRecursion}
+use Rattle.line_log.specs.EntryLine.{Entry}
+use Rattle.stream_drain.specs.Line.{line_in}
+
+-- these are bytes
+abbrev pub AreBytes : List ℕ → Type 0
+AreBytes xs = AllByRecursion (λ b. b < 256) xs
+
+-- so are the names and the values of an entry
+abbrev pub IsOfBytes : Entry → Type 0
+IsOfBytes e = AllByRecursion (λ p. AreBytes p.0 × AreBytes p.1) e.1
+
+-- the law: two entries with the same line, of tabs or of JSON, are the same
+abbrev pub LinesTellEntries : Type 0
+LinesTellEntries = (json : Bool) (a b : Entry) → IsOfBytes a → IsOfBytes b → line_in json a ≡ line_in json b → a ≡ b
