@@ -11,7 +11,7 @@ ghost use Rattle.stream_refs.specs.SentMeaning.{sent_of};
 ghost use Rattle.stream_worker.specs.Answered.{Failed, Went};
 ghost use Rattle.stream_worker.specs.Answers.{by_error, by_value, group_after, is_gone, means};
 ghost use Rattle.stream_worker.specs.Machine.{Moved, at_request, commits, ending_said};
-ghost use Rattle.stream_worker.specs.Machine.{history_at_request, machine_of};
+ghost use Rattle.stream_worker.specs.Machine.{history_at_request, ids_of, machine_of};
 ghost use Rattle.stream_worker.specs.Parts.{IsAcknowledged, IsOfGroup, IsRefused, Unread, state_by};
 ghost use Rattle.stream_worker.specs.Questions.{asks, phase_of, sentence};
 ghost use Rattle.stream_worker.specs.Requested.{Unasked};
@@ -65,12 +65,26 @@ impl Worker {
         ensures group { result.group ≡ GroupState.Unknown }
         ensures asked { result.asked ≡ Asked.Nothing }
     {
+        Worker::resumed(alloc, settings, Vec::new(alloc))
+    }
+
+    /// A worker that acknowledges these entries first, whose handling was committed before it was
+    /// started, as the last lines of its file say; and then begins with what is pending for it. It takes
+    /// no memory.
+    pub fn resumed(alloc: Global, settings: Settings, committed: Vec<String>) -> Worker
+        ensures machine { machine_of result ≡ record (start settings.every) {
+          to_acknowledge = ids_of committed;
+        } }
+        ensures settings { result.settings ≡ settings }
+        ensures group { result.group ≡ GroupState.Unknown }
+        ensures asked { result.asked ≡ Asked.Nothing }
+    {
         Worker {
             settings,
             group: GroupState::Unknown,
             phase: Phase::Start,
             to_commit: Vec::new(alloc),
-            to_acknowledge: Vec::new(alloc),
+            to_acknowledge: committed,
             asked: Asked::Nothing,
             tape: EntryTape::new(alloc),
         }
