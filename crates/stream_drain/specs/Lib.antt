@@ -6,3 +6,4 @@ pub mod Report
 pub mod Written
 pub mod Lived
 pub mod Filed
+pub mod Resumed
