@@ -214,10 +214,10 @@ more_append t (x ∷ xs) ys = more_append (byte_more t x) xs ys
 abbrev begun : List (List ℕ) → List ℕ → Begun
 begun ended line = record { ended = ended; line = line }
 
-one_line : (line : List ℕ) → HasNoEnd line → (rest : List ℕ) → lines_of (line ++ 10 ∷ rest) ≡ line ∷ lines_of rest
-one_line [] none rest = refl
-one_line (x ∷ xs) none rest =
-    within_line x (xs ++ 10 ∷ rest) none.0 ∙ ap (before_first x) (one_line xs none.1 rest)
+pub line_before : (line : List ℕ) → HasNoEnd line → (rest : List ℕ) → lines_of (line ++ 10 ∷ rest) ≡ line ∷ lines_of rest
+line_before [] none rest = refl
+line_before (x ∷ xs) none rest =
+    within_line x (xs ++ 10 ∷ rest) none.0 ∙ ap (before_first x) (line_before xs none.1 rest)
 
 no_line : (line : List ℕ) → HasNoEnd line → lines_of line ≡ []
 no_line [] none = refl
@@ -231,7 +231,7 @@ ended_are ended line [] none =
 ended_are ended line (b ∷ bs) none = elim (cases_eq b 10) [
   | inl end ↦ subst (λ x. (bytes_more (begun ended line) (x ∷ bs)).ended ≡ ended ++ lines_of (line ++ x ∷ bs)) (sym end)
       (ended_are (ended ++ line ∷ []) [] bs tt ∙ append_assoc ended (line ∷ []) (lines_of bs)
-      ∙ ap (λ ls. ended ++ ls) (sym (one_line line none bs)))
+      ∙ ap (λ ls. ended ++ ls) (sym (line_before line none bs)))
   | inr other ↦
       let step : byte_more (begun ended line) b ≡ begun ended (line ++ b ∷ []) = grind (arith, nat_tests) in
       ap (λ t. (bytes_more t bs).ended) step

@@ -4,3 +4,4 @@ pub mod JsonLemmas
 pub mod WrittenLemmas
 pub mod LivedLemmas
 pub mod FiledLemmas
+pub mod ResumedLemmas

@@ -1,6 +1,7 @@
 //! What holds of the lines that are gathered and committed, over the rounds of a worker.
 ghost use Rattle.stream_drain.specs.Filed.{AcknowledgedIsFiled};
 ghost use Rattle.stream_drain.specs.Lived.{RoundsAreLived};
+ghost use Rattle.stream_drain.specs.Resumed.{ResumedIsLived};
 ghost use Rattle.stream_drain.specs.Written.{GathersItsLines};
 
 /// What is gathered is the lines of the entries that were done and not committed, in order; what is committed
@@ -21,4 +22,10 @@ pub fn rounds_are_lived()
 /// that it was deleted.
 pub fn acknowledged_is_filed()
     ensures { AcknowledgedIsFiled }
+{}
+
+/// So a worker begins that is to acknowledge first the ids of entries whose lines are the last of its file: it lives
+/// as one that committed them. So the laws above hold from there on too.
+pub fn resumed_is_lived()
+    ensures { ResumedIsLived }
 {}

@@ -16,6 +16,7 @@ use Rattle.stream_worker.specs.Answered.{Took, Failed, WasCut}
 use Rattle.stream_worker.specs.Gathered.{Doings, done_too, committed_too}
 use Rattle.stream_worker.specs.Handling.{with_all}
 use Rattle.stream_worker.specs.Life.{deleted_one, deleted_in, deleted_by, deleted_told, deleted_at, Lives, begins}
+use Rattle.stream_worker.specs.Life.{resumes}
 use Rattle.stream_worker.specs.Life.{goes_on, fails, OnlyCommittedIsAcknowledged, LivesOn, SessionsAreLived}
 use Rattle.stream_worker.specs.Machine.{commits, at_request, history_at_request}
 use Rattle.stream_worker.specs.Requested.{Unasked}
@@ -254,6 +255,10 @@ module _ (settings : Settings) where
 
   lives_stands : (w : Standing Doings) (deleted : List Id) → Lives settings w deleted → Stands w deleted
   lives_stands w deleted begins = record { held = λ id h. absurd h; loose = λ id h. absurd h }
+  lives_stands w deleted (resumes ids before each) = record {
+    held = λ id h. inl (each id h);
+    loose = λ id h. absurd h;
+  }
   lives_stands w deleted (goes_on v before t lived) =
       stands_heard (asking committed_too settings v) _ before
       (hears settings (asking committed_too settings v).asked t.answer) t.verdicts

@@ -3,7 +3,7 @@ use Rattle.std.specs.Prelude.{◌⊎◌, ℕ, List, [], ◌∷◌, ◌++◌, Opt
 use Rattle.redis_wire.specs.Reply as wire
 use Rattle.redis_connection.specs.Link.{Link}
 use Rattle.stream_group.specs.Law.{Among}
-use Rattle.stream_group.specs.Worker.{Id, Delivered, start, entries_in}
+use Rattle.stream_group.specs.Worker.{Id, Delivered, Entry, start, entries_in}
 use Rattle.stream_refs.specs.Sent.{Pairs}
 use Rattle.stream_worker.specs.Answers.{Heard, told, no_group, group_made, hears}
 use Rattle.stream_worker.specs.declared.state.GroupState.TheVariants.{Unknown}
@@ -32,14 +32,26 @@ deleted_by (Some (told answer)) = deleted_in (entries_in answer)
 deleted_by (Some no_group) = []
 deleted_by (Some group_made) = []
 
--- a new worker, whose handler did nothing yet
-abbrev pub newborn : Settings → Standing Doings
-newborn settings = record {
-  machine = start settings.every;
+-- an entry of this id was done, and that was committed
+abbrev pub IsCommitted : Doings → Id → Type 0
+IsCommitted d id = (fields : Pairs) × Among (id, fields) d.committed
+
+-- what was committed before a worker was started, and nothing that is to be committed
+abbrev pub done_before : List (Entry Pairs) → Doings
+done_before es = record { loose = []; committed = es }
+
+-- a worker that is started to acknowledge these ids first, where these entries were committed before
+abbrev pub resumed_with : Settings → List Id → List (Entry Pairs) → Standing Doings
+resumed_with settings ids before = record {
+  machine = record (start settings.every) { to_acknowledge = ids };
   group = Unknown;
   asked = Nothing;
-  history = record { loose = []; committed = [] };
+  history = done_before before;
 }
+
+-- a new worker, whose handler did nothing yet
+abbrev pub newborn : Settings → Standing Doings
+newborn settings = resumed_with settings [] []
 
 module _ (settings : Settings) where
   -- the ids of entries that this answer to its question brought without fields
@@ -54,10 +66,14 @@ module _ (settings : Settings) where
   deleted_at old new w x (causes.Receive e) f = []
   deleted_at old new w x (causes.Answer e) f = deleted_told w f.1.0
 
-  -- where a worker may stand, and of which entries it was told that they were deleted: at first it is new; in each
-  -- round an answer brings it on, or the round fails, and it goes on over this connection or another one
+  -- where a worker may stand, and of which entries it was told that they were deleted: at first it is new, or it was
+  -- started with ids whose entries were committed before; in each round an answer brings it on, or the round fails, and
+  -- it goes on over this connection or another one
   pub data Lives : Standing Doings → List Id → Type 0 where
     begins : Lives (newborn settings) []
+    resumes : (ids : List Id) (before : List (Entry Pairs))
+        → ((id : Id) → Among id ids → IsCommitted (done_before before) id)
+        → Lives (resumed_with settings ids before) []
     goes_on : (w : Standing Doings) (deleted : List Id) (t : Turn) → Lives w deleted
         → Lives (after_turn done_too committed_too settings w t) (deleted ++ deleted_told w t.answer)
     fails : (w x : Standing Doings) (deleted : List Id) (old new : Link) (e : RunError)
@@ -68,12 +84,8 @@ module _ (settings : Settings) where
 abbrev pub acknowledges : Settings → Standing Doings → List Id
 acknowledges settings w = (asking committed_too settings w).machine.to_acknowledge
 
--- an entry of this id was done, and that was committed
-abbrev pub IsCommitted : Doings → Id → Type 0
-IsCommitted d id = (fields : Pairs) × Among (id, fields) d.committed
-
 -- the law: wherever a worker stands, before it asks to acknowledge an id its handler said that this entry is done,
--- and committed that; or the server said that it was deleted
+-- and committed that, maybe before the worker was started; or the server said that it was deleted
 abbrev pub OnlyCommittedIsAcknowledged : Type 0
 OnlyCommittedIsAcknowledged = (settings : Settings) (w : Standing Doings) (deleted : List Id)
     → Lives settings w deleted → (id : Id) → Among id (acknowledges settings w)
