@@ -11,6 +11,7 @@
 //! | `fronts` and bytes | it is told each front of them |
 //! | `says done leave stop` | what the handler says of the next entries; `done` after these |
 //! | `refuses yes` | commits fail, until `refuses no` |
+//! | `resumes 1-1 2-1` | in its place comes a worker that acknowledges these first, with no settings |
 //!
 //! All is done twice: by a worker that is told replies by value, and by one that is told them in
 //! place. Where they differ, both are shown.
@@ -258,12 +259,23 @@ fn instructed(
     Ok(String::new(alloc))
 }
 
+/// In place of a side's worker comes one that acknowledges these entries first.
+fn resumed(alloc: Global, side: &mut Side, ids: &str) -> Result<String, AllocError> {
+    let mut committed = Vec::new(alloc);
+    for id in ids.split(' ') {
+        committed.push(String::from_str(alloc, id)?)?;
+    }
+    side.worker = Worker::resumed(alloc, settings_of(alloc, "")?, committed);
+    Ok(String::new(alloc))
+}
+
 /// Does what a line says.
 fn done(alloc: Global, side: &mut Side, verb: &str, rest: &str) -> Result<String, AllocError> {
     match verb {
         "ask" => asked(alloc, &mut side.worker, &mut side.doer),
         "tell" => told_text(alloc, side, rest),
         "fronts" => told_fronts(alloc, side, rest),
+        "resumes" => resumed(alloc, side, rest),
         _ => instructed(alloc, &mut side.doer, verb, rest),
     }
 }

@@ -15,13 +15,13 @@ use Rattle.stream_worker.specs.Answers.{Heard, told, no_group, group_made, hears
 use Rattle.stream_worker.specs.Answered.{Took, Failed, WasCut}
 use Rattle.stream_worker.specs.Gathered.{Doings, done_too, committed_too}
 use Rattle.stream_worker.specs.Handling.{with_all}
-use Rattle.stream_worker.specs.Life.{deleted_one, deleted_in, deleted_by, deleted_told, deleted_at, Lives, begins}
-use Rattle.stream_worker.specs.Life.{resumes}
-use Rattle.stream_worker.specs.Life.{goes_on, fails, OnlyCommittedIsAcknowledged, LivesOn, SessionsAreLived}
+use Rattle.stream_worker.specs.Life.{deleted_one, deleted_in, deleted_by, deleted_told, deleted_at, deleted_turns}
+use Rattle.stream_worker.specs.Life.{Lives, begins, resumes, goes_on, fails}
+use Rattle.stream_worker.specs.Life.{OnlyCommittedIsAcknowledged, SessionsAreLived}
 use Rattle.stream_worker.specs.Machine.{commits, at_request, history_at_request}
 use Rattle.stream_worker.specs.Requested.{Unasked}
 use Rattle.stream_worker.specs.Session.{Standing, Turn, asking, having_heard, after_turn, after_turns}
-use Rattle.stream_worker.specs.Session.{Rounds, Breaks, Fails, Broke, after_failure}
+use Rattle.stream_worker.specs.Session.{Rounds, Breaks, Fails, after_failure}
 use Rattle.stream_worker.specs.declared.error.RequestError.{RequestError}
 use Rattle.stream_worker.specs.declared.error.RequestError.TheVariants.{NotCommitted, TooLong, Memory}
 use Rattle.stream_worker.specs.declared.error.RunError.{RunError}
@@ -267,42 +267,30 @@ module _ (settings : Settings) where
       failed_stands old new v x before e (lives_stands v before lived) f
 
   turns_lived : (w : Standing Doings) (turns : List Turn) (deleted : List Id) → Lives settings w deleted
-      → (gone : List Id) × Lives settings (after_turns done_too committed_too settings w turns) (deleted ++ gone)
+      → Lives settings (after_turns done_too committed_too settings w turns) (deleted ++ deleted_turns settings w turns)
   turns_lived w [] deleted l =
-      ([], subst (λ (ids : List Id). Lives settings w ids) (sym (nothing_behind deleted)) l)
+      subst (λ (ids : List Id). Lives settings w ids) (sym (nothing_behind deleted)) l
   turns_lived w (t ∷ turns) deleted l =
       let x : Standing Doings = after_turn done_too committed_too settings w t in
       let first : List Id = deleted_told settings w t.answer in
-      let rest = turns_lived x turns (deleted ++ first) (goes_on w deleted t l) in (
-        first ++ rest.0,
-        subst (λ (ids : List Id). Lives settings (after_turns done_too committed_too settings x turns) ids)
-            (append_assoc deleted first rest.0) rest.1,
-      )
+      subst (λ (ids : List Id). Lives settings (after_turns done_too committed_too settings x turns) ids)
+      (append_assoc deleted first (deleted_turns settings x turns))
+      (turns_lived x turns (deleted ++ first) (goes_on w deleted t l))
 
 pub only_committed : OnlyCommittedIsAcknowledged
 only_committed settings w deleted l id h =
     let s = asking_stands settings w deleted (lives_stands settings w deleted l) in s.held id h
 
 rounds_lived : (settings : Settings) (old new : Link) (w x : Standing Doings) (n : ℕ) (p : Progress)
-    (deleted : List Id) → Lives settings w deleted → Rounds done_too committed_too settings old new w x n p
-    → LivesOn settings x deleted
+    (deleted : List Id) → Lives settings w deleted → (r : Rounds done_too committed_too settings old new w x n p)
+    → Lives settings x (deleted ++ deleted_turns settings w r.turns)
 rounds_lived settings old new w x n p deleted l r =
-    let t = turns_lived settings w r.turns deleted l in
-    (t.0, subst (λ (v : Standing Doings). Lives settings v (deleted ++ t.0)) (sym r.stands) t.1)
-
-broke_lived : (settings : Settings) (old new : Link) (w x : Standing Doings) (rounds : ℕ) (e : RunError)
-    (deleted : List Id) → Lives settings w deleted → Broke done_too committed_too settings old new w x rounds e
-    → LivesOn settings x deleted
-broke_lived settings old new w x rounds e deleted l b =
-    let t = rounds_lived settings old b.link w b.before b.n GoesOn deleted l b.made in
-    let last : List Id = deleted_at settings b.link new b.before x e b.fails in (
-      t.0 ++ last,
-      subst (λ (ids : List Id). Lives settings x ids) (append_assoc deleted t.0 last)
-          (fails b.before x (deleted ++ t.0) b.link new e b.fails t.1),
-    )
+    subst (λ (v : Standing Doings). Lives settings v (deleted ++ deleted_turns settings w r.turns)) (sym r.stands)
+    (turns_lived settings w r.turns deleted l)
 
 pub sessions_lived : SessionsAreLived
 sessions_lived settings old new w x rounds deleted l = (
   λ p r. rounds_lived settings old new w x r.0 p deleted l r.2,
-  λ e b. broke_lived settings old new w x rounds e deleted l b,
+  λ e b. fails b.before x _ b.link new e b.fails
+      (rounds_lived settings old b.link w b.before b.n GoesOn deleted l b.made),
 )

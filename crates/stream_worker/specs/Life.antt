@@ -66,6 +66,12 @@ module _ (settings : Settings) where
   deleted_at old new w x (causes.Receive e) f = []
   deleted_at old new w x (causes.Answer e) f = deleted_told w f.1.0
 
+  -- and of those that came in turns, one after the other
+  abbrev pub deleted_turns : Standing Doings → List Turn → List Id
+  deleted_turns w [] = []
+  deleted_turns w (t ∷ turns) =
+      deleted_told w t.answer ++ deleted_turns (after_turn done_too committed_too settings w t) turns
+
   -- where a worker may stand, and of which entries it was told that they were deleted: at first it is new, or it was
   -- started with ids whose entries were committed before; in each round an answer brings it on, or the round fails, and
   -- it goes on over this connection or another one
@@ -91,13 +97,13 @@ OnlyCommittedIsAcknowledged = (settings : Settings) (w : Standing Doings) (delet
     → Lives settings w deleted → (id : Id) → Among id (acknowledges settings w)
     → IsCommitted (asking committed_too settings w).history id ⊎ Among id deleted
 
--- it may stand there later, after some more entries were deleted
-abbrev pub LivesOn : Settings → Standing Doings → List Id → Type 0
-LivesOn settings x deleted = (more : List Id) × Lives settings x (deleted ++ more)
-
--- where `run` leaves a worker is a standing of its life: a session that came to its end, and one that broke off
+-- the law: where `run` leaves a worker is a standing of its life, after a session that came to its end and after one that
+-- broke off; and just those entries were deleted meanwhile of which the answers of this session said so
 abbrev pub SessionsAreLived : Type 0
 SessionsAreLived = (settings : Settings) (old new : Link) (w x : Standing Doings) (rounds : ℕ) (deleted : List Id)
     → Lives settings w deleted
-    → ((p : Progress) → Ran done_too committed_too settings old new w x rounds p → LivesOn settings x deleted)
-    × ((e : RunError) → Broke done_too committed_too settings old new w x rounds e → LivesOn settings x deleted)
+    → ((p : Progress) (r : Ran done_too committed_too settings old new w x rounds p)
+    → Lives settings x (deleted ++ deleted_turns settings w r.2.turns))
+    × ((e : RunError) (b : Broke done_too committed_too settings old new w x rounds e)
+    → Lives settings x ((deleted ++ deleted_turns settings w b.made.turns)
+    ++ deleted_at settings b.link new b.before x e b.fails))

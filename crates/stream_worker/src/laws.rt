@@ -27,7 +27,8 @@ pub fn stays_in_step()
 
 /// Over its whole life, in sessions that come to their end and in those that break off, a worker
 /// acknowledges an entry only after its handler said that it is done, and committed that; or after
-/// the server said that the entry was deleted from the stream.
+/// the server said that the entry was deleted from the stream. The commit may be one before the worker was
+/// started. Of deleted entries a session tells just those that its answers told.
 pub fn acknowledges_what_is_committed()
     ensures acknowledged { OnlyCommittedIsAcknowledged }
     ensures sessions { SessionsAreLived }
