@@ -99,6 +99,8 @@ fn answer_of(alloc: Global, word: &str, value: Value) -> Result<String> {
         "repairs" => repairs(alloc, value),
         "commits" => commits(alloc, value),
         "crashes" => crashes(alloc, value),
+        "last-lines" => last_lines(alloc, value),
+        "lines-of-fronts" => lines_of_fronts(alloc, value),
         "escapes" => escapes(alloc, value),
         "line" => line(alloc, value),
         "protocols" => protocols(alloc, value),
@@ -355,6 +357,48 @@ fn repairs(alloc: Global, before: Value) -> Result<String> {
     let mut file = MemoryFile::new(alloc, before.0);
     repair(alloc, &mut file)?;
     Ok(format!(in alloc; "{:?}", str::from_utf8(file.bytes())?)?)
+}
+
+/// The last lines of each number, from none to one more than there are, of a file of these bytes.
+fn last_lines(alloc: Global, bytes: Value) -> Result<String> {
+    let bytes: RawBytes = from_redis_value(alloc, bytes)?;
+    let log = LineLog::open(alloc, MemoryFile::new(alloc, bytes.0))?;
+    let most = log.last_lines(alloc, usize::MAX)?.len();
+    let mut shown = String::new(alloc);
+    for number in 0..=most.saturating_add(1) {
+        if number > 0 {
+            shown.push_str(" | ")?;
+        }
+        shown.push_str(&lines_text(alloc, &log.last_lines(alloc, number)?)?)?;
+    }
+    Ok(shown)
+}
+
+/// The last two lines of each front of these bytes.
+fn lines_of_fronts(alloc: Global, bytes: Value) -> Result<String> {
+    let bytes: RawBytes = from_redis_value(alloc, bytes)?;
+    let mut shown = String::new(alloc);
+    for len in 0..=bytes.0.len() {
+        let front = bytes.0.get(..len).unwrap_or(&bytes.0);
+        let log = LineLog::open(alloc, MemoryFile::new(alloc, front.to_vec(alloc)?))?;
+        if len > 0 {
+            shown.push_str(" | ")?;
+        }
+        shown.push_str(&lines_text(alloc, &log.last_lines(alloc, 2)?)?)?;
+    }
+    Ok(shown)
+}
+
+// Lines, with a space between two.
+fn lines_text(alloc: Global, lines: &[Vec<u8>]) -> Result<String> {
+    let mut shown = String::new(alloc);
+    for line in lines {
+        if !shown.is_empty() {
+            shown.push(' ')?;
+        }
+        write!(shown, "{:?}", str::from_utf8(line)?)?;
+    }
+    Ok(shown)
 }
 
 /// A file that takes so many bytes, and then fails, as a full disk does. Then it has room for ten more.

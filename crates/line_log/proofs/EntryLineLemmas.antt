@@ -1,5 +1,5 @@
 -- The line of an entry tells the entry.
-use Rattle.std.proofs.Common.{◌≡◌, ◌≢◌, ℕ, List, [], ◌∷◌, ◌++◌, flat_map, refl, sym, ◌∙◌, ap, subst, arith, append-nil}
+use Rattle.std.proofs.Common.{◌≡◌, ℕ, List, [], ◌∷◌, ◌++◌, flat_map, refl, sym, ◌∙◌, ap, arith, append-nil}
 use Rattle.std.proofs.Common.{append_assoc}
 use Rattle.std.specs.List.{AllByRecursion}
 use Rattle.line_log.specs.Escape.{escaped, unescaped, IsPlain}

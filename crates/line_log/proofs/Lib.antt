@@ -4,6 +4,7 @@ pub mod EntryLineLemmas
 pub mod EscapeLemmas
 mod HoldLemmas
 mod Kept
+pub mod LastLinesLemmas
 pub mod LineLemmas
 pub mod LineTextsLemmas
 mod Moments

@@ -1,5 +1,5 @@
 -- What a crash leaves while the end of a file is repaired.
-use Rattle.std.proofs.Common.{◌≡◌, ◌≤◌, ◌-◌, ℕ, List, ◌++◌, length, take, Option, Some, None, IfSome, ◌∙◌, ap, subst}
+use Rattle.std.proofs.Common.{◌≡◌, ℕ, List, ◌++◌, take, Option, Some, None, IfSome, ◌∙◌, ap, subst}
 use Rattle.line_log.specs.Device.{Only, IsOnDisk, Follows, IsCut, Elapses, LeavesOnly}
 use Rattle.line_log.specs.Lines.{AreLines, EachStartsWith, EndsAt, HasTheLines, StartsWith}
 use Rattle.line_log.proofs.EndLemmas.{same_lines, cut_lines, front_ends_before, front_stays}

@@ -1,5 +1,5 @@
 -- An entry as a line of text.
-use Rattle.std.specs.Prelude.{◌≡◌, ◌≢◌, ℕ, List, [], ◌∷◌, ◌++◌, flat_map, Option, Some, None}
+use Rattle.std.specs.Prelude.{◌≡◌, ◌≢◌, ℕ, List, ◌∷◌, ◌++◌, flat_map, Option, Some, None}
 use Rattle.line_log.specs.Escape.{escaped}
 use Rattle.line_log.specs.Lines.{HasNoEnd}
 

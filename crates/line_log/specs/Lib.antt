@@ -6,5 +6,6 @@ pub mod EntryLine
 pub mod EntryLineMeaning
 pub mod LineTexts
 pub mod Holds
+pub mod LastLines
 pub mod Log
 pub mod Past

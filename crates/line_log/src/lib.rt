@@ -13,6 +13,7 @@ mod device;
 mod entry_line;
 mod error;
 mod escape;
+mod last_lines;
 pub mod laws;
 mod log;
 mod memory;

@@ -3,11 +3,14 @@ ghost use Rattle.std.specs.Prelude.{◌≡◌, ◌≤◌, ◌++◌, [], ◌∷�
 ghost use Rattle.std.specs.Io.KnownBytes.{Appends};
 ghost use Rattle.line_log.specs.Device.{IsOnDisk, LeavesOnly};
 ghost use Rattle.line_log.specs.Holds.{Holds, IsHeld, committed_in, cut_back, with_more};
+ghost use Rattle.line_log.specs.LastLines.{last_of, lines_of};
+ghost use Rattle.line_log.specs.LineTexts.{bytes_of};
 ghost use Rattle.line_log.specs.Lines.{AreLines, EachStartsWith, HasTheLines, IsRepaired, StartsWith};
 ghost use Rattle.line_log.specs.Log.{BeginsWith};
 
 use crate::device::LogFile;
 use crate::error::LogError;
+use crate::last_lines::last_lines_in;
 use crate::opening::repaired_len;
 use std::alloc::Global;
 use std::io::{self, ErrorKind};
@@ -149,6 +152,15 @@ impl<D: LogFile + Drop> LineLog<D> {
             self.file.cut(self.len)?;
         }
         Ok(())
+    }
+
+    /// The last so many lines of what is committed, in order, each without its end; all of them if there
+    /// are fewer. It changes nothing. Besides these lines it takes the room of one piece of the file.
+    pub fn last_lines(&self, alloc: Global, number: usize) -> Result<Vec<Vec<u8>>, LogError>
+        ensures { IfOk result (λ lines. IfSome (committed_in (D.seen self.now.file) self.now.len)
+            (λ bytes. bytes_of lines.items ≡ last_of number (lines_of bytes))) }
+    {
+        last_lines_in(alloc, &self.file, self.len, number)
     }
 
     /// The file. Lines that were not committed are not in it.

@@ -22,7 +22,7 @@ use Rattle.stream_drain.proofs.JsonLemmas.{entry_texts, no_end}
 use Rattle.stream_drain.proofs.LivedLemmas.{commit_of}
 
 -- the line of an entry has no end in it
-one_line : (json : Bool) (e : Entry) → HasNoEnd (line_in json e)
+pub one_line : (json : Bool) (e : Entry) → HasNoEnd (line_in json e)
 one_line true e = no_end false (entry_tokens e) (entry_texts e)
 one_line false e = line_whole e
 

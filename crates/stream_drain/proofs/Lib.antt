@@ -5,3 +5,4 @@ pub mod WrittenLemmas
 pub mod LivedLemmas
 pub mod FiledLemmas
 pub mod TellLemmas
+pub mod ResumedLemmas

@@ -7,3 +7,4 @@ pub mod Written
 pub mod Lived
 pub mod Filed
 pub mod Tell
+pub mod Resumed

@@ -10,6 +10,7 @@ use redis_connection::{AskError, Connection, ConnectionError};
 use redis_resp::{RawBytes, ToRedisArgs, Value, WriteError};
 use std::alloc::{AllocError, Global};
 use std::io::{Read, Write};
+use std::mem;
 use stream_commands::{AtLeastOne, xclaim, xpending_consumer_count, xpending_idle_count};
 use stream_worker::{Asked, DeadLetters, LetterAsked, Settings};
 
@@ -57,6 +58,8 @@ pub struct Dead {
     every: usize,
     /// So many reads were made since.
     reads: usize,
+    /// The worker is to acknowledge first what is in its file, and has not begun.
+    pub waits: bool,
     /// It looked before the worker began.
     begun: bool,
     /// So many entries have a letter, and were acknowledged.
@@ -71,7 +74,7 @@ impl Dead {
             × (string_bytes d.consumer ≡ string_bytes settings.now.consumer)) }
         ensures given_up { IfOk result (λ d. (d.deliveries ≡ to.deliveries) × (d.stream ≡ to.stream)
             × (d.min_idle ≡ settings.now.min_idle)) }
-        ensures begins { IfOk result (λ d. (d.begun ≡ false) × (d.reads ≡ 0) × (d.letters ≡ 0)) }
+        ensures begins { IfOk result (λ d. (d.waits ≡ false) × (d.begun ≡ false) × (d.reads ≡ 0) × (d.letters ≡ 0)) }
     {
         Ok(Dead {
             key: settings.key.clone()?,
@@ -82,14 +85,15 @@ impl Dead {
             stream: to.stream,
             every: settings.every.max(1),
             reads: 0,
+            waits: false,
             begun: false,
             letters: 0,
         })
     }
 
     /// Before the next command of a worker, whose last one asked this: looks before the first one,
-    /// and before each claim. It waits while the worker has entries in hand, since these are
-    /// pending too.
+    /// and before each claim. It waits while the worker has entries in hand, or is to acknowledge what
+    /// is in its file, since these are pending too.
     pub fn turn<R: Read + Drop, W: Write + Drop>(
         &mut self,
         alloc: Global,
@@ -98,9 +102,12 @@ impl Dead {
         in_hand: bool,
     ) -> Result<()>
         ensures waits { IsTrue in_hand → (result ≡ Ok tt) × (connection.new ≡ connection.old) }
+        ensures waits_once { IsTrue self.old.waits → (result ≡ Ok tt) × (connection.new ≡ connection.old)
+            × (self.new.waits ≡ false) }
     {
         self.reads = reads_after(self.reads, asked);
-        if in_hand {
+        let waits = mem::replace(&mut self.waits, false);
+        if in_hand || waits {
             return Ok(());
         }
         self.look_if_due(alloc, connection)

@@ -1,6 +1,7 @@
 //! What holds of the lines that are gathered and committed, over the rounds of a worker.
 ghost use Rattle.stream_drain.specs.Filed.{AcknowledgedIsFiled};
 ghost use Rattle.stream_drain.specs.Lived.{RoundsAreLived};
+ghost use Rattle.stream_drain.specs.Resumed.{ResumedIsLived};
 ghost use Rattle.stream_drain.specs.Tell.{LinesTellEntries};
 ghost use Rattle.stream_drain.specs.Written.{GathersItsLines};
 
@@ -22,6 +23,12 @@ pub fn rounds_are_lived()
 /// that it was deleted.
 pub fn acknowledged_is_filed()
     ensures { AcknowledgedIsFiled }
+{}
+
+/// So a worker begins that is to acknowledge first the ids of entries whose lines are the last of its file: it lives
+/// as one that committed them. So the laws above hold from there on too.
+pub fn resumed_is_lived()
+    ensures { ResumedIsLived }
 {}
 
 /// A line tells its entry, in text and in JSON: two entries with the same line have the same id, and the same

@@ -2,12 +2,17 @@
 ghost use Rattle.std.specs.Prelude.{◌≡◌, ◌++◌, ◌∷◌, [], List, ℕ, IfOk, IfSome, OnErr, OnOk, flat_map};
 ghost use Rattle.line_log.specs.EntryLine.{field_text, line_of};
 ghost use Rattle.line_log.specs.Holds.{Holds, IsHeld, committed_in};
+ghost use Rattle.line_log.specs.LastLines.{last_of, lines_of};
 ghost use Rattle.line_log.specs.Lines.{AreLines, IsRepaired};
 ghost use Rattle.stream_drain.specs.Line.{line_in};
+ghost use Rattle.stream_drain.specs.Resumed.{TellEach};
 ghost use Rattle.stream_drain.specs.Written.{Written, committed_with, written_by, written_too};
 ghost use Rattle.stream_worker.specs.Handling.{pair_of, verdict_of};
+ghost use Rattle.stream_worker.specs.Machine.{ids_of};
 
 use crate::json_lines::json_line;
+use crate::resume::ids_told;
+use anyhow::Result as AnyResult;
 use line_log::{LineLog, LogError, LogFile, push_escaped, push_field};
 use std::alloc::{AllocError, Global};
 use stream_refs::FieldsRef;
@@ -50,6 +55,16 @@ impl<D: LogFile + Drop> Lines<D> {
             committed: 0,
             fault: None,
         })
+    }
+
+    /// The ids of the last so many lines of what is committed, in order; of all if there are fewer. It
+    /// fails where one of these lines tells no id.
+    pub fn last_ids(&self, alloc: Global, number: usize) -> AnyResult<Vec<String>>
+        ensures { IfOk result (λ ids. IfSome (committed_in (D.seen self.now.log.file) self.now.log.len)
+            (λ bytes. TellEach self.now.json (last_of number (lines_of bytes)) (ids_of ids))) }
+    {
+        let lines = self.log.last_lines(alloc, number)?;
+        ids_told(alloc, &lines, self.json)
     }
 
     /// Adds the line of an entry to the log.

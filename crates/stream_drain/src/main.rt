@@ -25,6 +25,7 @@ mod laws;
 mod lines;
 mod options;
 mod report;
+mod resume;
 
 use crate::backlog::Watched;
 use crate::dead::{Dead, GiveUp};
@@ -32,6 +33,7 @@ use crate::drain::drain;
 use crate::lines::Lines;
 use crate::options::{Options, options_of};
 use crate::report::Report;
+use crate::resume::{Start, begun};
 use anyhow::{Context, Error, Result, anyhow};
 use line_log::{LogError, SystemFile};
 use redis_connection::Connection;
@@ -39,7 +41,7 @@ use redis_wire::Limits;
 use std::alloc::{AllocError, Global};
 use std::io::ErrorKind;
 use std::{env, io};
-use stream_worker::{Settings, Worker};
+use stream_worker::Settings;
 
 fn main(rt: HostRuntime) -> Result<()> {
     let words = words_of(&rt)?;
@@ -94,9 +96,16 @@ fn drain_by(rt: &HostRuntime, options: Options) -> Result<()> {
     let alloc = rt.alloc();
     let mut lines = lines_at(rt, &path, json)?;
     let mut connection = Connection::new(alloc, rt.reader(), io::writer(rt), Limits::default())?;
-    let mut dead = dead_of(&settings, dead)?;
     let mut report = report_of(rt, &settings, quiet)?;
-    let mut worker = Worker::new(alloc, settings);
+    let mut dead = dead_of(&settings, dead)?;
+    let Start {
+        mut worker,
+        acknowledges,
+    } = begun(alloc, settings, &lines).context(format_args!("cannot go on with {path}"))?;
+    report.resumes = acknowledges;
+    if let Some(dead) = &mut dead {
+        dead.waits = acknowledges;
+    }
     let ended = drain(
         rt,
         &mut connection,

@@ -2,6 +2,7 @@
 ghost use Rattle.std.specs.Prelude.{◌≤◌, length, IfOk};
 
 use crate::dead::GiveUp;
+use crate::resume::LARGEST_COUNT;
 use anyhow::{Result, bail};
 use std::alloc::{AllocError, Global};
 use stream_worker::{MakeGroup, Settings};
@@ -126,7 +127,7 @@ fn set(
 ) -> Result<Option<Valued>> {
     match option {
         Valued::From => options.settings.make_group = make_group(value)?,
-        Valued::Count => options.settings.count = number(value)?,
+        Valued::Count => options.settings.count = count(value)?,
         Valued::Block => options.settings.block = number(value)?,
         Valued::Idle => options.settings.min_idle = number(value)?,
         Valued::Every => options.settings.every = number(value)?,
@@ -154,6 +155,17 @@ fn give_up(alloc: Global, key: &str, deliveries: usize, stream: &str) -> Result<
     }
     let stream = String::from_str(alloc, stream)?;
     Ok(GiveUp { deliveries, stream })
+}
+
+// How many entries at most are asked for at once: not more than what is acknowledged at the beginning.
+fn count(value: &str) -> Result<usize>
+    ensures { IfOk result (λ n. n ≤ LARGEST_COUNT) }
+{
+    let count = number(value)?;
+    if count > LARGEST_COUNT {
+        bail!("--count {count}: at most {LARGEST_COUNT}");
+    }
+    Ok(count)
 }
 
 fn number(value: &str) -> Result<usize> {

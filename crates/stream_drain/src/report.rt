@@ -5,6 +5,7 @@ ghost use Rattle.stream_drain.specs.Report.{report_text};
 use crate::backlog::Watched;
 use anyhow::Result;
 use std::fmt;
+use std::mem;
 use std::rt::Clock;
 use std::time::{Duration, Instant};
 
@@ -14,6 +15,8 @@ pub struct Report {
     shown: Instant,
     entries: u64,
     batches: u64,
+    /// The first acknowledgement is of what was in the file at the beginning, which is no batch.
+    pub resumes: bool,
     /// So many dead letters were sent, where any may be.
     pub letters: Option<u64>,
     /// Nothing is shown before the end.
@@ -26,13 +29,15 @@ pub struct Report {
 impl Report {
     /// Nothing was done yet.
     pub fn new<R: Clock>(rt: &R, quiet: bool) -> Result<Report>
-        ensures counts { IfOk result (λ r. (r.entries ≡ 0) × (r.batches ≡ 0) × (r.letters ≡ None)) }
+        ensures counts { IfOk result (λ r. (r.entries ≡ 0) × (r.batches ≡ 0) × (r.letters ≡ None)
+            × (r.resumes ≡ false)) }
         ensures quiet { IfOk result (λ r. r.quiet ≡ quiet) }
     {
         Ok(Report {
             shown: Instant::now(rt)?,
             entries: 0,
             batches: 0,
+            resumes: false,
             letters: None,
             quiet,
             watched: None,
@@ -46,6 +51,9 @@ impl Report {
         ensures quiet { IsTrue self.old.quiet → result ≡ Ok false }
     {
         self.entries = entries;
+        if mem::replace(&mut self.resumes, false) {
+            return Ok(false);
+        }
         self.batches = self.batches.saturating_add(1);
         if self.quiet || self.shown.elapsed(rt)? < Duration::from_secs(1) {
             return Ok(false);

@@ -1,4 +1,4 @@
-use Rattle.std.proofs.Common.{◌≡◌, ◌≢◌, rules, sym, ◌∙◌, Some, None}
+use Rattle.std.proofs.Common.{◌≡◌, ◌≢◌, rules, ◌∙◌, Some, None}
 use Rattle.line_log.specs.EntryLine.{line_of}
 use Rattle.line_log.specs.EntryLineMeaning.{entry_of}
 use Rattle.line_log.specs.LineTexts.{entry_of_list, texts_of}

@@ -1,4 +1,4 @@
-use Rattle.std.proofs.Common.{◌≡◌, sym, ◌∙◌, ap, get_or, add-one}
+use Rattle.std.proofs.Common.{sym, ◌∙◌, ap, get_or, add-one}
 use Rattle.line_log.specs.LineTexts.{one_more}
 use Rattle.line_log.proofs.LineTextsLemmas.{more_at}
 use Rattle.line_log.proofs.entry_line.split_line.Goals as goal

@@ -1,4 +1,3 @@
-use Rattle.std.proofs.Common.{◌≡◌, ◌≤◌, length, take, refl, sym, ◌∙◌, arith}
 use Rattle.line_log.proofs.Kept.{elapses_to}
 use Rattle.line_log.proofs.memory.MemoryFileLogFile.append.Goals as goal
 

@@ -1,0 +1,56 @@
+-- Where a worker begins that acknowledges first what the last lines of its file say.
+use Rattle.std.specs.Prelude.{◌≡◌, ◌≤◌, ◌⊎◌, ◌&&◌, ◌||◌, ◌==◌, ℕ, nat_le, List, [], ◌∷◌, ◌++◌, length, map, Bool, true, false, Some, codes}
+use Rattle.std.specs.List.{list_all}
+use Rattle.line_log.specs.EntryLine.{Entry}
+use Rattle.line_log.specs.Lines.{AreLines}
+use Rattle.stream_group.specs.Worker.{Id, start}
+use Rattle.stream_worker.specs.Session.{Standing}
+use Rattle.stream_worker.specs.declared.state.Asked.TheVariants.{Nothing}
+use Rattle.stream_worker.specs.declared.state.GroupState.TheVariants.{Unknown}
+use Rattle.stream_worker.specs.declared.state.Settings.{Settings}
+use Rattle.stream_drain.specs.Line.{line_in}
+use Rattle.stream_drain.specs.Lived.{LivesSo}
+use Rattle.stream_drain.specs.Written.{Written, lines_in}
+
+-- the ids of entries, in order
+abbrev pub ids_in : List Entry → List Id
+ids_in es = map (λ e. e.0) es
+
+-- a digit or a hyphen
+abbrev pub is_of_id : ℕ → Bool
+is_of_id b = (nat_le 48 b && nat_le b 57) || (b == 45)
+
+-- the line tells this id: wherever it is the line of an entry, that is the id of the entry
+abbrev pub Tells : Bool → List ℕ → Id → Type 0
+Tells json line id = (e : Entry) → line_in json e ≡ line → e.0 ≡ id
+
+-- each line tells the id at its place
+abbrev pub TellEach : Bool → List (List ℕ) → List Id → Type 0
+TellEach json [] [] = Unit {0}
+TellEach json [] (id ∷ ids) = ⊥
+TellEach json (line ∷ lines) [] = ⊥
+TellEach json (line ∷ lines) (id ∷ ids) = Tells json line id × TellEach json lines ids
+
+-- so many lines stand last, or fewer, and nothing before them
+abbrev pub AreLast : ℕ → List ℕ → List Entry → Type 0
+AreLast number first es = (length es ≡ number) ⊎ ((first ≡ []) × (length es ≤ number))
+
+-- a worker that is to acknowledge these ids first, whose handler has gathered nothing, with so much in its file
+abbrev pub resumed_so : Settings → Bool → List Id → List ℕ → Standing Written
+resumed_so settings json ids committed = record {
+  machine = record (start settings.every) { to_acknowledge = ids };
+  group = Unknown;
+  asked = Nothing;
+  history = record { json = json; loose = []; committed = Some committed };
+}
+
+-- a worker begins so with its file: wherever the file is whole lines, of which the last so many are those of entries, it
+-- lives so as one that committed these entries
+abbrev pub BeginsSo : ℕ → Settings → Bool → List ℕ → Standing Written → Type 0
+BeginsSo number settings json committed w = (first : List ℕ) (es : List Entry) → AreLines first
+    → committed ≡ first ++ lines_in json es → AreLast number first es → LivesSo settings json (Some first) w []
+
+-- the law: so a worker begins that is to acknowledge the ids of these entries, whose lines are the last of its file
+abbrev pub ResumedIsLived : Type 0
+ResumedIsLived = (settings : Settings) (json : Bool) (first : List ℕ) (es : List Entry)
+    → LivesSo settings json (Some first) (resumed_so settings json (ids_in es) (first ++ lines_in json es)) []

@@ -1,0 +1,124 @@
+//! How the program begins: with the ids that the last lines of its file tell.
+ghost use Rattle.std.specs.Prelude.{◌≡◌, ◌≤◌, ◌++◌, ◌∷◌, [], ℕ, List, IfOk, IfSome, IsTrue, codes, length, string_bytes, take};
+ghost use Rattle.std.specs.List.{list_all};
+ghost use Rattle.line_log.specs.Holds.{committed_in};
+ghost use Rattle.line_log.specs.LineTexts.{bytes_of};
+ghost use Rattle.stream_drain.specs.Resumed.{BeginsSo, Tells, TellEach, is_of_id};
+ghost use Rattle.stream_worker.specs.Machine.{ids_of};
+ghost use Rattle.stream_worker.specs.Session.{standing_of};
+
+use crate::lines::Lines;
+use anyhow::{Result, bail};
+use line_log::{LogFile, entry_in};
+use std::alloc::{AllocError, Global};
+use stream_worker::{Handler, Settings, Worker};
+
+/// So many entries at most are asked for at once, so no commit has more lines.
+pub const LARGEST_COUNT: usize = 10_000;
+
+/// A worker at its beginning.
+#[derive(Drop)]
+pub struct Start {
+    pub worker: Worker,
+    /// It acknowledges first what is in its file.
+    pub acknowledges: bool,
+}
+
+/// A worker that first acknowledges the entries of the last lines of its file, as many as a commit may
+/// have: those that stand there but were not acknowledged do not come again. It fails where one of these
+/// lines tells no id.
+pub fn begun<D: LogFile + Drop>(alloc: Global, settings: Settings, lines: &Lines<D>) -> Result<Start>
+    ensures settings { IfOk result (λ b. b.worker.settings ≡ settings) }
+    ensures lives { IfOk result (λ b. lines.now.log.batch.items ≡ []
+        → IfSome (committed_in (D.seen lines.now.log.file) lines.now.log.len)
+        (λ bytes. BeginsSo LARGEST_COUNT settings lines.now.json bytes
+        (standing_of b.worker (⟦<Lines<D> as Handler>⟧.history lines.now)))) }
+{
+    let ids = lines.last_ids(alloc, LARGEST_COUNT)?;
+    let acknowledges = !ids.is_empty();
+    let worker = Worker::resumed(alloc, settings, ids);
+    Ok(Start {
+        worker,
+        acknowledges,
+    })
+}
+
+/// The ids of the entries of these lines, in order. It fails where a line tells none.
+pub fn ids_told(alloc: Global, lines: &[Vec<u8>], json: bool) -> Result<Vec<String>>
+    ensures { IfOk result (λ ids. TellEach json (bytes_of lines.now) (ids_of ids)) }
+{
+    let mut ids = Vec::with_capacity(alloc, lines.len())?;
+    for line in lines {
+        match id_told(alloc, line, json)? {
+            Some(id) => ids.push(id)?,
+            None => return untold(lines.len() - ids.len()),
+        }
+    }
+    Ok(ids)
+}
+
+// No id, since the line at this place from the end tells none.
+fn untold(place: usize) -> Result<Vec<String>>
+    ensures { IfOk result (λ _. ⊥) }
+{
+    bail!("line {place} from its end is of no entry: correct the file, or take another one")
+}
+
+/// The id of the entry of a line; none where the line is of no entry, or of one without an id of a
+/// stream.
+fn id_told(alloc: Global, line: &[u8], json: bool) -> Result<Option<String>, AllocError>
+    ensures { IfOk result (λ o. IfSome o (λ id. Tells json line.now (string_bytes id))) }
+{
+    if json {
+        match id_of_json(line) {
+            Some(id) => id_text(alloc, id),
+            None => Ok(None),
+        }
+    } else {
+        match entry_in(alloc, line)? {
+            Some(entry) => id_text(alloc, &entry.id),
+            None => Ok(None),
+        }
+    }
+}
+
+/// These bytes as an id, where each is a digit or a hyphen, and there is a hyphen.
+fn id_text(alloc: Global, id: &[u8]) -> Result<Option<String>, AllocError>
+    ensures { IfOk result (λ o. IfSome o (λ text. string_bytes text ≡ id.now)) }
+{
+    if of_id(id) < id.len() || !id.contains(&b'-') {
+        return Ok(None);
+    }
+    match str::from_utf8(id) {
+        Ok(text) => Ok(Some(String::from_str(alloc, text)?)),
+        Err(_) => Ok(None),
+    }
+}
+
+/// The id that stands in a line `{"id":"..","fields":[..`, where each of its bytes is a digit or a
+/// hyphen.
+fn id_of_json(line: &[u8]) -> Option<&[u8]>
+    ensures { IfSome result (λ id. (rest : List ℕ) × (line.now ≡ codes "{\"id\":\"" ++ (id.now ++ (34 ∷ rest)))
+        × IsTrue (list_all is_of_id id.now)) }
+{
+    let rest = line.strip_prefix(b"{\"id\":\"")?;
+    let len = of_id(rest);
+    let id = rest.get(..len)?;
+    if rest.get(len..)?.starts_with(b"\",\"fields\":[") {
+        Some(id)
+    } else {
+        None
+    }
+}
+
+/// How many bytes at the head are digits and hyphens.
+fn of_id(text: &[u8]) -> usize
+    ensures within { result ≤ length text.now }
+    ensures all { IsTrue (list_all is_of_id (take result text.now)) }
+{
+    let mut len = 0;
+    while len < text.len() && (text[len].is_ascii_digit() || text[len] == b'-') {
+        len += 1;
+    }
+    len
+}
