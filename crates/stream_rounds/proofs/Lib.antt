@@ -1,0 +1,9 @@
+-- That all is drained where nothing fails.
+pub mod Lists
+pub mod Measure
+pub mod View
+pub mod Good
+pub mod Parts
+pub mod Still
+pub mod Step
+mod Sample
