@@ -5,5 +5,7 @@ pub mod View
 pub mod Good
 pub mod Parts
 pub mod Still
-pub mod Step
+pub mod Left
+pub mod OwnStep
+pub mod ClaimStep
 mod Sample

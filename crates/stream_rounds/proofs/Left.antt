@@ -1,8 +1,8 @@
--- Each round lowers the measure by one, or all is drained.
+-- What is left, by the parts of a round; and an acknowledgement leaves one round less.
 use Rattle.std.proofs.Common.{◌≡◌, ◌⊎◌, inl, inr, refl, sym, ap, subst, ◌∙◌, ℕ, zero, suc, ◌+◌, ◌-◌, ◌≤◌, ◌<◌}
 use Rattle.std.proofs.Common.{arith, nat_lt, Bool, true, false, not, ◌&&◌, List, [], ◌∷◌, ◌++◌, map, filter, length, codes}
 use Rattle.std.proofs.Common.{if◌then◌else◌}
-use mathlib.Core.Path.{fun_ext}
+use Rattle.std.proofs.Math.Path.{fun_ext}
 use Rattle.std.proofs.lemmas.Bool.{cases_lt, ltb-true, lt-ltb}
 use Rattle.std.proofs.lemmas.Slice.Eq.{bytes_eq-Decides}
 use Rattle.std.specs.Str.{bytes_eq}
@@ -60,7 +60,7 @@ module _ {F : Type 0} (n : ℕ) (name : Name) where
       ap (λ (z : Id → Bool). left every phase z o seen fresh) e ∙ ap (λ (z : Id → Bool). left every phase q z seen fresh) f
 
   -- what a commit held, an acknowledgement names
-  after_commit_acked : (every : ℕ) (phase : Phase) (i : Id) (ids : List Id) (ps : List Pending)
+  pub after_commit_acked : (every : ℕ) (phase : Phase) (i : Id) (ids : List Id) (ps : List Pending)
       (seen fresh : List (Entry F))
       → measure_of every phase [] [] (pending_after (i ∷ ids) ps) seen fresh
       ≤ measure_of every phase [] (i ∷ ids) ps seen fresh - 1
@@ -74,7 +74,7 @@ module _ {F : Type 0} (n : ℕ) (name : Name) where
       omega (arith, same_left every phase (still_pending [] (pending_after (i ∷ ids) ps)) (still_pending (i ∷ ids) ps)
           (still_mine [] name (pending_after (i ∷ ids) ps)) (still_mine (i ∷ ids) name ps) seen fresh all mine)
 
-  acked : (every : ℕ) (phase : Phase) (i : Id) (ids to_commit : List Id) (ps : List Pending)
+  pub acked : (every : ℕ) (phase : Phase) (i : Id) (ids to_commit : List Id) (ps : List Pending)
       (seen fresh : List (Entry F))
       → measure_of every phase [] (to_commit ++ []) (pending_after (i ∷ ids) ps) seen fresh
       ≤ measure_of every phase (i ∷ ids) to_commit ps seen fresh - 1
@@ -93,11 +93,11 @@ module _ {F : Type 0} (n : ℕ) (name : Name) where
           (still_mine (to_commit ++ []) name (pending_after (i ∷ ids) ps))
           (still_mine ((i ∷ ids) ++ to_commit) name ps) seen fresh all mine)
 
-  abbrev NoEnd : List (Entry F) → Type 0
+  abbrev pub NoEnd : List (Entry F) → Type 0
   NoEnd es = listed (ids_of es) (codes "0-0") ≡ false
 
   -- a claim from the first on means all that is pending
-  from_the_first : (every : ℕ) (all mine : Id → Bool) (seen fresh : List (Entry F)) → NoEnd seen
+  pub from_the_first : (every : ℕ) (all mine : Id → Bool) (seen fresh : List (Entry F)) → NoEnd seen
       → left every (claiming (codes "0-0")) all mine seen fresh
       ≡ left_claiming every false (pages n (how_many all seen)) (pages n (how_many all seen)) (pages n (length fresh))
   from_the_first every all mine seen fresh h =
@@ -108,18 +108,10 @@ module _ {F : Type 0} (n : ℕ) (name : Name) where
       (not_less (how_many all seen) (how_many all seen) (omega arith))
 
   -- the measure after an answer, where its entries are gone through and done
-  gone_through : (every : ℕ) (next : Phase) (ds : List (Delivered F)) (ps : List Pending) (seen fresh : List (Entry F))
+  pub gone_through : (every : ℕ) (next : Phase) (ds : List (Delivered F)) (ps : List Pending) (seen fresh : List (Entry F))
       → measure_of every (phase_at (ending ds (all_done ds)) next) [] (acks_in ds (all_done ds)) ps seen fresh
       ≡ measure_of every next [] (ids_in ds) ps seen fresh
   gone_through every next ds ps seen fresh =
       ap (λ (e : Ending). measure_of every (phase_at e next) [] (acks_in ds (all_done ds)) ps seen fresh)
       (parts.all_through ds)
       ∙ ap (λ (l : List Id). measure_of every next [] l ps seen fresh) (parts.all_acked ds)
-
-  module _ (some : 1 ≤ n) (every : ℕ) (ps : List Pending) (seen fresh : List (Entry F)) (deleted : List Id)
-      (good : IsGood ps seen fresh) (no_end : NoEnd seen) where
-    all : Id → Bool
-    all = listed (pending_ids ps)
-
-    mine : Id → Bool
-    mine = listed (own name ps)
