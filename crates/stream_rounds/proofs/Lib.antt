@@ -8,4 +8,6 @@ pub mod Still
 pub mod Left
 pub mod OwnStep
 pub mod ClaimStep
+pub mod ReadStep
+pub mod Drained
 mod Sample
