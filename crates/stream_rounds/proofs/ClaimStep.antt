@@ -1,20 +1,20 @@
 -- A round that claims leaves one round less.
-use Rattle.std.proofs.Common.{◌≡◌, ◌⊎◌, inl, inr, refl, sym, ap, subst, ◌∙◌, ℕ, zero, suc, ◌+◌, ◌-◌, ◌≤◌, arith, nat_lt}
+use Rattle.std.proofs.Common.{◌≡◌, refl, sym, ap, subst, ◌∙◌, ℕ, ◌+◌, ◌-◌, ◌≤◌, arith, nat_lt}
 use Rattle.std.proofs.Common.{Bool, true, false, not, ◌&&◌, List, [], ◌∷◌, filter, length, codes, if◌then◌else◌}
 use Rattle.std.proofs.lemmas.Slice.Eq.{bytes_eq-Decides}
 use Rattle.std.specs.Str.{bytes_eq}
-use Rattle.stream_group.specs.Worker.{Id, Entry, Delivered, Phase, claiming, reading, ending, phase_at, acks_in}
+use Rattle.stream_group.specs.Worker.{Id, Entry, Delivered, claiming, reading, ending, phase_at, acks_in}
 use Rattle.stream_group.specs.Worker.{after_claim}
-use Rattle.stream_group.specs.Group.{Name, Pending, listed, ids_of, own, claimed, claim_answer, pending_ids}
-use Rattle.stream_group.proofs.Among.{and_left, and_right, listed_among}
-use Rattle.stream_rounds.specs.Page.{from_id, first_of, beyond, how_many, claim_page, next_claim, first_id}
+use Rattle.stream_group.specs.Group.{Name, Pending, listed, ids_of, claimed, claim_answer, pending_ids}
+use Rattle.stream_group.proofs.Among.{and_left, listed_among}
+use Rattle.stream_rounds.specs.Page.{from_id, beyond, how_many, claim_page, next_claim, first_id}
 use Rattle.stream_rounds.specs.Rounds.{all_done}
 use Rattle.stream_rounds.specs.Bound.{pages, held_for}
 use Rattle.stream_rounds.proofs.Lists as lists
 use Rattle.stream_rounds.proofs.Lists.{AreDistinct, clash, not_true, LeavesPage, among_listed}
 use Rattle.stream_rounds.proofs.Measure as measure
 use Rattle.stream_rounds.proofs.Measure.{left_claiming, left_reading, pages_less, pages_fall}
-use Rattle.stream_rounds.proofs.Still.{still_pending, still_mine, held_not, not_less, is_less, is_no_less}
+use Rattle.stream_rounds.proofs.Still.{still_pending, held_not, not_less, is_less, is_no_less}
 use Rattle.stream_rounds.proofs.Good.{claimed_of}
 use Rattle.stream_rounds.proofs.Left.{measure_of, NoEnd, gone_through}
 use Rattle.stream_rounds.proofs.Parts as parts
@@ -220,6 +220,8 @@ module _ {F : Type 0} (n : ℕ) (name : Name) (some : 1 ≤ n) (every : ℕ) (ps
       (phase_at (ending answer (all_done answer)) (after_claim (next_claim n id ps seen))) []
       (acks_in answer (all_done answer)) left_pending seen fresh ≤ before - 1
   claim_step =
-      omega (arith,
-          gone_through n name every (after_claim (next_claim n id ps seen)) answer left_pending seen fresh,
-          by_rest (beyond n all here) refl)
+      omega (
+        arith,
+        gone_through n name every (after_claim (next_claim n id ps seen)) answer left_pending seen fresh,
+        by_rest (beyond n all here) refl,
+      )

@@ -1,11 +1,10 @@
 -- After enough rounds all is drained.
-use Rattle.std.proofs.Common.{◌≡◌, ◌⊎◌, inl, inr, refl, sym, ap, subst, ◌∙◌, ℕ, zero, suc, ◌+◌, ◌-◌, ◌≤◌, arith, nat_lt}
+use Rattle.std.proofs.Common.{◌≡◌, refl, sym, subst, ◌∙◌, ℕ, zero, suc, ◌+◌, ◌-◌, ◌≤◌, arith, nat_lt}
 use Rattle.std.proofs.Common.{Bool, true, false, List, [], ◌∷◌, ◌++◌, length, codes}
 use Rattle.stream_group.specs.Worker.{Id, Entry, Machine, Phase, claiming, reading}
 use Rattle.stream_group.specs.Worker as worker
 use Rattle.stream_group.specs.Group.{Name, Pending, listed, ids_of, own, pending_ids}
 use Rattle.stream_group.specs.World.{World, Event, run, empty_world}
-use Rattle.stream_group.specs.Law.{Among}
 use Rattle.stream_group.proofs.Among.{listed_among, among_of_map, among_left}
 use Rattle.stream_rounds.specs.Page.{from_id, behind_id, how_many}
 use Rattle.stream_rounds.specs.Rounds.{events_of_round, round, rounds, events_of_rounds}
@@ -139,8 +138,7 @@ module _ {F : Type 0} (n : ℕ) (name : Name) (some : 1 ≤ n) where
       (seen fresh : List (Entry F)) → IsGood ps seen fresh
       → measure_of n name every phase to_acknowledge to_commit ps seen fresh ≡ 0 → (ps ≡ []) × (fresh ≡ [])
   drained_at every phase [] [] ps seen fresh good h =
-      let none = none_by_phase every phase (listed (pending_ids ps)) (listed (own name ps)) seen fresh (omega (arith, h)) in
-      (
+      let none = none_by_phase every phase (listed (pending_ids ps)) (listed (own name ps)) seen fresh (omega (arith, h)) in (
         none_pending ps seen fresh good (measure.pages_none n (how_many (listed (pending_ids ps)) seen) some none.0),
         empty_list fresh (measure.pages_none n (length fresh) some none.1),
       )
@@ -163,8 +161,12 @@ module _ {F : Type 0} (n : ℕ) (name : Name) (some : 1 ≤ n) where
       (omega (arith, lists.count_less q mine here k, lists.end_count mine here seen (lists.behind_end id seen))) in
       let less : a ≤ pages n (how_many all seen) =
       pages_less n (how_many p seen) (how_many all seen) some (lists.count_less p all seen h) in
-      omega (arith, measure.at_most a f (own_for o + claims_for a + reads_for f), fewer,
-          measure.claims_less a (pages n (how_many all seen)) less)
+      omega (
+        arith,
+        measure.at_most a f (own_for o + claims_for a + reads_for f),
+        fewer,
+        measure.claims_less a (pages n (how_many all seen)) less,
+      )
   left_within every (claiming id) p q all mine seen fresh h k =
       let here : List (Entry F) = from_id id seen in
       let t : ℕ = pages n (how_many p here) in
@@ -178,8 +180,12 @@ module _ {F : Type 0} (n : ℕ) (name : Name) (some : 1 ≤ n) where
       ≤ claims_for b + reads_before every + claims_for b + reads_for f
       = λ only. elim only as (λ v. measure.left_claiming every v t a f
       ≤ claims_for b + reads_before every + claims_for b + reads_for f) [
-        | true ↦ omega (arith, measure.at_most a f (claims_for t + reads_before every + claims_for a + reads_for f),
-            measure.claims_less a b less, measure.claims_less t b (omega (arith, part, less)))
+        | true ↦ omega (
+          arith,
+          measure.at_most a f (claims_for t + reads_before every + claims_for a + reads_for f),
+          measure.claims_less a b less,
+          measure.claims_less t b (omega (arith, part, less)),
+        )
         | false ↦ omega (arith, measure.at_most a f (claims_for a + reads_for f), measure.claims_less a b less)
       ] in
       by_only (nat_lt (how_many p here) (how_many p seen))
@@ -196,9 +202,12 @@ module _ {F : Type 0} (n : ℕ) (name : Name) (some : 1 ≤ n) where
   measure_within w =
       let m : Machine = w.workers name in
       let held : List Id = m.to_acknowledge ++ m.to_commit in
-      omega (arith, left_within m.every m.phase (still_pending held w.pending) (still_mine held name w.pending)
-          (listed (pending_ids w.pending)) (listed (own name w.pending)) w.seen w.fresh
-          (λ x h. (held_not held w.pending x h).1) (λ x h. (mine_not name held w.pending x h).1))
+      omega (
+        arith,
+        left_within m.every m.phase (still_pending held w.pending) (still_mine held name w.pending)
+            (listed (pending_ids w.pending)) (listed (own name w.pending)) w.seen w.fresh
+            (λ x h. (held_not held w.pending x h).1) (λ x h. (mine_not name held w.pending x h).1),
+      )
 
 pub all_is_drained : {F : Type 0} → AllIsDrained F
 all_is_drained {F} events name n some so_many l =

@@ -1,12 +1,12 @@
 -- What holds of every world that a schedule leads to: no two entries of the log have one id, none has the id `0-0`,
 -- and what is pending is of the log up to the last delivered id.
-use Rattle.std.proofs.Common.{◌≡◌, ◌⊎◌, inl, inr, refl, sym, ap, subst, ◌∙◌, ℕ, zero, suc, arith, Bool, true, false, not}
-use Rattle.std.proofs.Common.{◌&&◌, ◌||◌, ◌+◌, ◌<◌, nat_lt, nat_eq, IsTrue, List, [], ◌∷◌, ◌++◌, map, filter, codes, Option, Some, None, if◌then◌else◌}
+use Rattle.std.proofs.Common.{◌≡◌, inl, inr, refl, sym, ap, subst, ◌∙◌, ℕ, zero, suc, arith, Bool, true, false, not}
+use Rattle.std.proofs.Common.{◌&&◌, ◌||◌, ◌+◌, nat_lt, nat_eq, List, [], ◌∷◌, ◌++◌, map, codes, Option, Some, None, if◌then◌else◌}
 use Rattle.std.proofs.lemmas.Bool.{ltb-true}
 use Rattle.std.specs.Fmt.{digits}
 use Rattle.stream_group.specs.Worker.{Id, Entry, Verdict}
 use Rattle.stream_group.specs.Group.{Name, Pending, Numbers, id_text, is_below, fits, listed, ids_of, given, passed}
-use Rattle.stream_group.specs.Group.{behind, newly_pending, raised, claimed, claimed_one, pending_after, pending_ids}
+use Rattle.stream_group.specs.Group.{behind, newly_pending, claimed, claimed_one, pending_after, pending_ids}
 use Rattle.stream_group.specs.World.{World, Reply, Event, Append, Delete, Read, Reread, Claim, Claim_ids, Comes, Commit}
 use Rattle.stream_group.specs.World.{Acknowledge, Ack_comes, Go_back, Crash, item, comes, ack_comes, happens, run}
 use Rattle.stream_group.specs.World.{empty_world, log_of}

@@ -1,30 +1,20 @@
 -- What is left, by the parts of a round; and an acknowledgement leaves one round less.
-use Rattle.std.proofs.Common.{◌≡◌, ◌⊎◌, inl, inr, refl, sym, ap, subst, ◌∙◌, ℕ, zero, suc, ◌+◌, ◌-◌, ◌≤◌, ◌<◌}
-use Rattle.std.proofs.Common.{arith, nat_lt, Bool, true, false, not, ◌&&◌, List, [], ◌∷◌, ◌++◌, map, filter, length, codes}
-use Rattle.std.proofs.Common.{if◌then◌else◌}
+use Rattle.std.proofs.Common.{◌≡◌, ap, ◌∙◌, ℕ, ◌+◌, ◌-◌, ◌≤◌}
+use Rattle.std.proofs.Common.{arith, nat_lt, Bool, false, List, [], ◌∷◌, ◌++◌, length, codes}
 use Rattle.std.proofs.Math.Path.{fun_ext}
-use Rattle.std.proofs.lemmas.Bool.{cases_lt, ltb-true, lt-ltb}
-use Rattle.std.proofs.lemmas.Slice.Eq.{bytes_eq-Decides}
-use Rattle.std.specs.Str.{bytes_eq}
 use Rattle.stream_group.specs.Worker.{Id, Entry, Delivered, Machine, Phase, Ending, went_through, ending, claiming, reading}
 use Rattle.stream_group.specs.Worker.{phase_at, acks_in, after_own, after_claim, after_news, last_id}
 use Rattle.stream_group.specs.Worker as worker
-use Rattle.stream_group.specs.Group.{Name, Pending, listed, ids_of, own, given, passed, behind, newly_pending, whole}
-use Rattle.stream_group.specs.Group.{raised, claimed, pending_after, pending_ids}
-use Rattle.stream_group.proofs.Among.{listed_among, among_split}
-use Rattle.stream_group.proofs.Steps.{given_passed, raised_ids, ids_append}
-use Rattle.stream_rounds.specs.Page.{from_id, behind_id, first_of, beyond, how_many, own_page, claim_page, next_claim}
-use Rattle.stream_rounds.specs.Page.{first_id}
+use Rattle.stream_group.specs.Group.{Name, Pending, listed, ids_of}
+use Rattle.stream_group.specs.Group.{pending_after}
+use Rattle.stream_rounds.specs.Page.{from_id, behind_id, how_many}
 use Rattle.stream_rounds.specs.Rounds.{all_done}
 use Rattle.stream_rounds.specs.Bound.{pages, held_for}
 use Rattle.stream_rounds.proofs.Lists as lists
 use Rattle.stream_rounds.proofs.Lists.{clash, not_true}
-use Rattle.stream_rounds.proofs.Measure as measure
-use Rattle.stream_rounds.proofs.Measure.{left_own, left_claiming, left_reading, Brings, pages_less, pages_fall}
-use Rattle.stream_rounds.proofs.View.{View, own_again, claimed_now, new_ones, commit_step, asks_step, step}
-use Rattle.stream_rounds.proofs.Good.{IsGood, claimed_of, newly_of, within_passed}
-use Rattle.stream_rounds.proofs.Still.{still_pending, still_mine, acked_pending, acked_mine, held_less, not_less, is_less}
-use Rattle.stream_rounds.proofs.Still.{is_no_less, held_not, mine_not}
+use Rattle.stream_rounds.proofs.Measure.{left_own, left_claiming, left_reading}
+use Rattle.stream_rounds.proofs.View.{View}
+use Rattle.stream_rounds.proofs.Still.{still_pending, still_mine, acked_pending, acked_mine, held_less, not_less}
 use Rattle.stream_rounds.proofs.Parts as parts
 use Rattle.stream_rounds.proofs.Parts.{ids_in}
 
@@ -71,8 +61,11 @@ module _ {F : Type 0} (n : ℕ) (name : Name) where
       let mine : (x : Id) → still_mine [] name (pending_after (i ∷ ids) ps) x ≡ still_mine (i ∷ ids) name ps x
       = λ x. acked_mine name (i ∷ ids) [] ps x
       ∙ ap (λ l. still_mine l name ps x) (parts.none_more (i ∷ ids)) in
-      omega (arith, same_left every phase (still_pending [] (pending_after (i ∷ ids) ps)) (still_pending (i ∷ ids) ps)
-          (still_mine [] name (pending_after (i ∷ ids) ps)) (still_mine (i ∷ ids) name ps) seen fresh all mine)
+      omega (
+        arith,
+        same_left every phase (still_pending [] (pending_after (i ∷ ids) ps)) (still_pending (i ∷ ids) ps)
+            (still_mine [] name (pending_after (i ∷ ids) ps)) (still_mine (i ∷ ids) name ps) seen fresh all mine,
+      )
 
   pub acked : (every : ℕ) (phase : Phase) (i : Id) (ids to_commit : List Id) (ps : List Pending)
       (seen fresh : List (Entry F))
@@ -87,11 +80,14 @@ module _ {F : Type 0} (n : ℕ) (name : Name) where
       ≡ still_mine ((i ∷ ids) ++ to_commit) name ps x
       = λ x. ap (λ l. still_mine l name (pending_after (i ∷ ids) ps) x) (parts.none_more to_commit)
       ∙ acked_mine name (i ∷ ids) to_commit ps x in
-      omega (arith, held_less i ids to_commit,
-          same_left every phase (still_pending (to_commit ++ []) (pending_after (i ∷ ids) ps))
-          (still_pending ((i ∷ ids) ++ to_commit) ps)
-          (still_mine (to_commit ++ []) name (pending_after (i ∷ ids) ps))
-          (still_mine ((i ∷ ids) ++ to_commit) name ps) seen fresh all mine)
+      omega (
+        arith,
+        held_less i ids to_commit,
+        same_left every phase (still_pending (to_commit ++ []) (pending_after (i ∷ ids) ps))
+            (still_pending ((i ∷ ids) ++ to_commit) ps)
+            (still_mine (to_commit ++ []) name (pending_after (i ∷ ids) ps))
+            (still_mine ((i ∷ ids) ++ to_commit) name ps) seen fresh all mine,
+      )
 
   abbrev pub NoEnd : List (Entry F) → Type 0
   NoEnd es = listed (ids_of es) (codes "0-0") ≡ false

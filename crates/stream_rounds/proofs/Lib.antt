@@ -11,3 +11,4 @@ pub mod ClaimStep
 pub mod ReadStep
 pub mod Drained
 mod Sample
+mod Wrong

@@ -1,12 +1,11 @@
 -- Entries of a list that are meant, pages of them, and what is left.
 use Rattle.std.proofs.Common.{◌≡◌, ◌⊎◌, inl, inr, refl, sym, ap, subst, ◌∙◌, ℕ, zero, suc, ◌+◌, ◌-◌, ◌≤◌, arith, Bool, true}
-use Rattle.std.proofs.Common.{false, List, [], ◌∷◌, ◌++◌, map, if◌then◌else◌}
+use Rattle.std.proofs.Common.{false, List, [], ◌∷◌, ◌++◌, if◌then◌else◌}
 use Rattle.std.proofs.lemmas.Slice.Eq.{bytes_eq-Decides}
 use Rattle.std.specs.Str.{bytes_eq}
 use Rattle.stream_group.specs.Worker.{Id, Entry}
 use Rattle.stream_group.specs.Group.{listed, ids_of}
 use Rattle.stream_group.specs.Law.{Among}
-use Rattle.stream_group.proofs.Among.{listed_among}
 use Rattle.stream_rounds.specs.Page.{from_id, behind_id, first_of, beyond, how_many}
 
 pub not_true : (b : Bool) → (b ≡ true → ⊥) → b ≡ false
@@ -160,12 +159,16 @@ module _ {F : Type 0} where
       → ((x : Id) → listed (ids_of (if v then e ∷ first_of n p es else first_of (suc n) p es)) x ≡ true
       → q x ≡ false)
       → how_many q (e ∷ es) ≤ (if v then 1 + how_many p es else how_many p es) - suc n) [
-        | true ↦ λ y z. omega (arith,
-            plus_none (q e.0) (how_many q es) (z e.0 (listed_here e.0 (ids_of (first_of n p es)))),
-            page_taken n p q es h (λ x w. z x (listed_more e.0 x (ids_of (first_of n p es)) w)))
-        | false ↦ λ y z. omega (arith,
-            plus_none (q e.0) (how_many q es) (not_true (q e.0) (λ w. clash (p e.0) (h e.0 w) y)),
-            page_taken (suc n) p q es h z)
+        | true ↦ λ y z. omega (
+          arith,
+          plus_none (q e.0) (how_many q es) (z e.0 (listed_here e.0 (ids_of (first_of n p es)))),
+          page_taken n p q es h (λ x w. z x (listed_more e.0 x (ids_of (first_of n p es)) w)),
+        )
+        | false ↦ λ y z. omega (
+          arith,
+          plus_none (q e.0) (how_many q es) (not_true (q e.0) (λ w. clash (p e.0) (h e.0 w) y)),
+          page_taken (suc n) p q es h z,
+        )
       ] in
       case (p e.0) refl k
 
@@ -176,9 +179,11 @@ module _ {F : Type 0} where
       let case : (b : Bool) → p e.0 ≡ b → how_many q (e ∷ es) ≤ how_many q (if b then e ∷ es else beyond zero p es)
       = λ b. elim b as (λ v. p e.0 ≡ v → how_many q (e ∷ es) ≤ how_many q (if v then e ∷ es else beyond zero p es)) [
         | true ↦ λ y. omega arith
-        | false ↦ λ y. omega (arith,
-            plus_none (q e.0) (how_many q es) (not_true (q e.0) (λ w. clash (p e.0) (h e.0 w) y)),
-            beyond_first p q es h)
+        | false ↦ λ y. omega (
+          arith,
+          plus_none (q e.0) (how_many q es) (not_true (q e.0) (λ w. clash (p e.0) (h e.0 w) y)),
+          beyond_first p q es h,
+        )
       ] in
       case (p e.0) refl
 
@@ -196,12 +201,16 @@ module _ {F : Type 0} where
       → ((x : Id) → listed (ids_of (if v then e ∷ first_of n p es else first_of (suc n) p es)) x ≡ true
       → q x ≡ false)
       → how_many q (e ∷ es) ≤ how_many q (if v then beyond n p es else beyond (suc n) p es)) [
-        | true ↦ λ y z. omega (arith,
-            plus_none (q e.0) (how_many q es) (z e.0 (listed_here e.0 (ids_of (first_of n p es)))),
-            all_beyond n p q es h (λ x w. z x (listed_more e.0 x (ids_of (first_of n p es)) w)))
-        | false ↦ λ y z. omega (arith,
-            plus_none (q e.0) (how_many q es) (not_true (q e.0) (λ w. clash (p e.0) (h e.0 w) y)),
-            all_beyond (suc n) p q es h z)
+        | true ↦ λ y z. omega (
+          arith,
+          plus_none (q e.0) (how_many q es) (z e.0 (listed_here e.0 (ids_of (first_of n p es)))),
+          all_beyond n p q es h (λ x w. z x (listed_more e.0 x (ids_of (first_of n p es)) w)),
+        )
+        | false ↦ λ y z. omega (
+          arith,
+          plus_none (q e.0) (how_many q es) (not_true (q e.0) (λ w. clash (p e.0) (h e.0 w) y)),
+          all_beyond (suc n) p q es h z,
+        )
       ] in
       case (p e.0) refl k
 
@@ -351,5 +360,8 @@ module _ {F : Type 0} where
       let less = end_count p fs es k in
       let no : p e.0 ≡ false
       = not_true (p e.0) (λ y. absurd (omega (arith, plus_one (p e.0) (how_many p es) y, l, less))) in
-      omega (arith, plus_none (q e.0) (how_many q es) (not_true (q e.0) (λ w. clash (p e.0) (h e.0 w) no)),
-          stays_swept p q fs es h k (omega (arith, plus_none (p e.0) (how_many p es) no, l)))
+      omega (
+        arith,
+        plus_none (q e.0) (how_many q es) (not_true (q e.0) (λ w. clash (p e.0) (h e.0 w) no)),
+        stays_swept p q fs es h k (omega (arith, plus_none (p e.0) (how_many p es) no, l)),
+      )

@@ -1,5 +1,5 @@
 -- A number that falls with each round, by where the worker stands and how many pages are left.
-use Rattle.std.proofs.Common.{◌≡◌, ◌⊎◌, inl, inr, refl, ap, ◌∙◌, ℕ, zero, suc, ◌+◌, ◌-◌, ◌*◌, ◌/◌, ◌≤◌, arith, Bool, true, false}
+use Rattle.std.proofs.Common.{◌≡◌, inl, inr, refl, ap, ◌∙◌, ℕ, zero, suc, ◌+◌, ◌-◌, ◌/◌, ◌≤◌, arith, Bool, true, false}
 use Rattle.std.proofs.Math.Nat.{add-div_right, div-eq_of_lt, div-mul-le_self}
 use Rattle.std.proofs.lemmas.Bool.{cases_lt}
 use Rattle.std.proofs.lemmas.Nat.{le-div}
@@ -108,11 +108,17 @@ pub part_falls : (every c these k f these2 k2 : ℕ) (only : Bool) → c ≤ 1 �
 part_falls every c zero k f these2 k2 only d h g l m = omega arith
 part_falls every c (suc these) zero f these2 k2 only d h g l m = omega arith
 part_falls every c (suc these) (suc k) f zero k2 true d h g l m =
-    omega (arith, at_most k2 f (claims_for zero + reads_before every + claims_for k2 + reads_for f),
-        claims_less k2 (suc k) m)
+    omega (
+      arith,
+      at_most k2 f (claims_for zero + reads_before every + claims_for k2 + reads_for f),
+      claims_less k2 (suc k) m,
+    )
 part_falls every c (suc these) (suc k) f (suc these2) k2 true d h g l m =
-    omega (arith, at_most k2 f (claims_for (suc these2) + reads_before every + claims_for k2 + reads_for f),
-        claims_less k2 (suc k) m)
+    omega (
+      arith,
+      at_most k2 f (claims_for (suc these2) + reads_before every + claims_for k2 + reads_for f),
+      claims_less k2 (suc k) m,
+    )
 part_falls every c (suc these) (suc k) f these2 k2 false d h g l m =
     omega (arith, at_most k2 f (claims_for k2 + reads_for f), claims_less k2 (suc k) m)
 
@@ -165,11 +171,26 @@ read_claims every r c these zero (suc (suc f)) zero zero b m = omega (arith, b.o
 read_claims every r c these zero (suc (suc f)) zero (suc f2) b m = omega (arith, b.one, b.less)
 read_claims every r c these zero f (suc k2) f2 b m = omega arith
 read_claims every r c these (suc k) zero k2 f2 b m =
-    omega (arith, b.none refl, at_most k2 f2 (claims_for k2 + reads_for f2), claims_less k2 (suc k) m,
-        reads_less f2 0 b.less)
+    omega (
+      arith,
+      b.none refl,
+      at_most k2 f2 (claims_for k2 + reads_for f2),
+      claims_less k2 (suc k) m,
+      reads_less f2 0 b.less,
+    )
 read_claims every r c these (suc k) (suc zero) k2 f2 b m =
-    omega (arith, b.one, at_most k2 f2 (claims_for k2 + reads_for f2), claims_less k2 (suc k) m,
-        reads_less f2 0 (omega (arith, b.less)))
+    omega (
+      arith,
+      b.one,
+      at_most k2 f2 (claims_for k2 + reads_for f2),
+      claims_less k2 (suc k) m,
+      reads_less f2 0 (omega (arith, b.less)),
+    )
 read_claims every r c these (suc k) (suc (suc f)) k2 f2 b m =
-    omega (arith, b.one, at_most k2 f2 (claims_for k2 + reads_for f2), claims_less k2 (suc k) m,
-        reads_less f2 (suc f) (omega (arith, b.less)))
+    omega (
+      arith,
+      b.one,
+      at_most k2 f2 (claims_for k2 + reads_for f2),
+      claims_less k2 (suc k) m,
+      reads_less f2 (suc f) (omega (arith, b.less)),
+    )

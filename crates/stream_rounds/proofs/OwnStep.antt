@@ -1,12 +1,12 @@
 -- A round that reads its own pending entries again leaves one round less.
-use Rattle.std.proofs.Common.{◌≡◌, ◌⊎◌, inl, inr, refl, sym, ap, subst, ◌∙◌, ℕ, zero, suc, ◌+◌, ◌-◌, ◌≤◌, arith, Bool, true}
-use Rattle.std.proofs.Common.{false, ◌&&◌, List, [], ◌∷◌, filter, length, codes, if◌then◌else◌}
+use Rattle.std.proofs.Common.{◌≡◌, refl, sym, ap, ◌∙◌, ℕ, ◌+◌, ◌-◌, ◌≤◌, arith, Bool, true}
+use Rattle.std.proofs.Common.{false, ◌&&◌, List, [], ◌∷◌, filter, length}
 use Rattle.stream_group.specs.Worker.{Id, Entry, Delivered, Phase, ending, phase_at, acks_in, after_own, last_id}
 use Rattle.stream_group.specs.Worker as worker
 use Rattle.stream_group.specs.Group.{Name, Pending, listed, ids_of, own, raised, reread, pending_ids}
-use Rattle.stream_group.proofs.Among.{and_left, and_right}
+use Rattle.stream_group.proofs.Among.{and_left}
 use Rattle.stream_group.proofs.Steps.{raised_ids}
-use Rattle.stream_rounds.specs.Page.{behind_id, first_of, how_many, own_page}
+use Rattle.stream_rounds.specs.Page.{behind_id, how_many, own_page}
 use Rattle.stream_rounds.specs.Rounds.{all_done}
 use Rattle.stream_rounds.specs.Bound.{pages}
 use Rattle.stream_rounds.proofs.Lists as lists
@@ -99,8 +99,7 @@ module _ {F : Type 0} (n : ℕ) (name : Name) (some : 1 ≤ n) (every : ℕ) (ps
       let g : Id → Bool = λ x. page x && mine x in
       let same : ids_in answer ≡ ids_of (filter (λ e. g e.0) seen) =
       parts.as_it_is_ids deleted (filter (λ e. g e.0) seen) in
-      let here : List (Entry F) = behind_id id seen in
-      (
+      let here : List (Entry F) = behind_id id seen in (
         λ x h. and_left (page x) (mine x)
             (parts.listed_filtered g seen x (ap (λ (l : List Id). listed l x) (sym same) ∙ h)).0,
         λ x h. ap (λ (l : List Id). listed l x) same ∙ parts.filtered_listed g seen x

@@ -1,18 +1,17 @@
 -- What the parts of a round do to what is pending and not held.
-use Rattle.std.proofs.Common.{◌≡◌, ◌⊎◌, inl, inr, refl, sym, ap, subst, ◌∙◌, ℕ, zero, suc, ◌+◌, ◌-◌, ◌≤◌, arith, Bool, true}
+use Rattle.std.proofs.Common.{◌≡◌, inl, inr, refl, sym, ap, subst, ◌∙◌, ℕ, zero, suc, ◌+◌, ◌-◌, ◌≤◌, arith, Bool, true}
 use Rattle.std.proofs.Common.{false, not, ◌&&◌, List, [], ◌∷◌, ◌++◌, map, filter, length, Option, Some, None, if◌then◌else◌}
 use Rattle.std.proofs.lemmas.Slice.Eq.{bytes_eq-Decides}
 use Rattle.std.specs.Str.{bytes_eq}
-use Rattle.stream_group.specs.Worker.{Id, Entry, Delivered, Verdict, done, Ending, went_through, ending, acks_in, acks_one}
+use Rattle.stream_group.specs.Worker.{Id, Entry, Delivered, done, Ending, went_through, ending, acks_in, acks_one}
 use Rattle.stream_group.specs.Worker.{follows, last_id}
-use Rattle.stream_group.specs.Group.{Name, Pending, listed, ids_of, given, passed, behind, newly_pending, whole}
-use Rattle.stream_group.specs.Group.{as_it_is, own, raised, raised_one, claimed, claimed_one, pending_after, pending_ids}
+use Rattle.stream_group.specs.Group.{Name, Pending, listed, ids_of, behind, whole}
+use Rattle.stream_group.specs.Group.{as_it_is, own, raised, claimed, claimed_one, pending_after, pending_ids}
 use Rattle.stream_group.specs.Law.{Among}
-use Rattle.stream_group.proofs.Among.{listed_among, among_split}
+use Rattle.stream_group.proofs.Among.{among_split}
 use Rattle.stream_group.proofs.Steps.{ids_append}
-use Rattle.stream_rounds.specs.Page.{how_many}
 use Rattle.stream_rounds.specs.Rounds.{all_done}
-use Rattle.stream_rounds.proofs.Lists.{AreDistinct, clash, not_true, listed_here, listed_more, among_listed, same_id}
+use Rattle.stream_rounds.proofs.Lists.{AreDistinct, clash, not_true, listed_here, listed_more}
 
 -- the two tests of what is listed in two lists
 pub listed_both : (xs ys : List Id) (x : Id) → listed (xs ++ ys) x ≡ (if listed xs x then true else listed ys x)
@@ -146,6 +145,7 @@ mine_raised pick name deleted (p ∷ ps) =
         ≡ pending_ids (if b then p ∷ rest else rest)
     raised_here true p rest = refl
     raised_here false p rest = refl
+
     both : (b : Bool) (p : Pending) (rest more : List Pending) → pending_ids rest ≡ pending_ids more
         → pending_ids (if b then p ∷ rest else rest) ≡ pending_ids (if b then p ∷ more else more)
     both true p rest more h = ap (λ l. p.id ∷ l) h
@@ -280,9 +280,10 @@ module _ {F : Type 0} where
 
   pub distinct_left : (es fs : List (Entry F)) → AreDistinct (es ++ fs) → AreDistinct es
   distinct_left [] fs d = tt
-  distinct_left (e ∷ es) fs d =
-      (not_true (listed (ids_of es) e.0) (λ h. clash (listed (ids_of (es ++ fs)) e.0) (listed_left es e.0 h) d.0),
-      distinct_left es fs d.1)
+  distinct_left (e ∷ es) fs d = (
+    not_true (listed (ids_of es) e.0) (λ h. clash (listed (ids_of (es ++ fs)) e.0) (listed_left es e.0 h) d.0),
+    distinct_left es fs d.1,
+  )
     where
       listed_left : (gs : List (Entry F)) (x : Id) → listed (ids_of gs) x ≡ true → listed (ids_of (gs ++ fs)) x ≡ true
       listed_left [] x h = absurd (clash false h refl)

@@ -1,5 +1,5 @@
 -- A round that reads new entries leaves one round less.
-use Rattle.std.proofs.Common.{◌≡◌, ◌⊎◌, inl, inr, refl, sym, ap, subst, ◌∙◌, ℕ, zero, suc, ◌+◌, ◌-◌, ◌≤◌, arith, nat_lt}
+use Rattle.std.proofs.Common.{◌≡◌, inl, inr, refl, ap, subst, ◌∙◌, ℕ, zero, suc, ◌+◌, ◌-◌, ◌≤◌, arith, nat_lt}
 use Rattle.std.proofs.Common.{Bool, true, false, List, [], ◌∷◌, ◌++◌, map, length, codes, if◌then◌else◌}
 use Rattle.stream_group.specs.Worker.{Id, Entry, Delivered, Phase, claiming, reading, ending, phase_at, acks_in}
 use Rattle.stream_group.specs.Worker.{after_news}
@@ -126,16 +126,24 @@ module _ {F : Type 0} (n : ℕ) (name : Name) (some : 1 ≤ n) (every : ℕ) (ps
   by_count : (b : Bool) → nat_lt (rounds + 1) every ≡ b
       → next_is (if b then reading (rounds + 1) else claiming (codes "0-0")) ≤ before - 1
   by_count true h =
-      omega (arith, measure.read_goes_on every rounds (held_for [] ids) now to_come later to_come_later
-          (omega (arith, is_less (rounds + 1) every h)) brings no_more)
+      omega (
+        arith,
+        measure.read_goes_on every rounds (held_for [] ids) now to_come later to_come_later
+            (omega (arith, is_less (rounds + 1) every h)) brings no_more,
+      )
   by_count false h =
-      omega (arith, measure.read_claims every rounds (held_for [] ids) later now to_come later to_come_later brings no_more,
-          from_the_first n name every still (still_mine ids name more) (seen ++ by) (behind deleted n fresh) no_end_then)
+      omega (
+        arith,
+        measure.read_claims every rounds (held_for [] ids) later now to_come later to_come_later brings no_more,
+        from_the_first n name every still (still_mine ids name more) (seen ++ by) (behind deleted n fresh) no_end_then,
+      )
 
   pub read_step : measure_of n name every
       (phase_at (ending answer (all_done answer)) (after_news every (reading rounds))) []
       (acks_in answer (all_done answer)) more (seen ++ by) (behind deleted n fresh) ≤ before - 1
   read_step =
-      omega (arith,
-          gone_through n name every (after_news every (reading rounds)) answer more (seen ++ by) (behind deleted n fresh),
-          by_count (nat_lt (rounds + 1) every) refl)
+      omega (
+        arith,
+        gone_through n name every (after_news every (reading rounds)) answer more (seen ++ by) (behind deleted n fresh),
+        by_count (nat_lt (rounds + 1) every) refl,
+      )

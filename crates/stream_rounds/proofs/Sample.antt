@@ -1,23 +1,22 @@
 -- A world where one round less is not enough.
-use Rattle.std.proofs.Common.{◌≡◌, refl, ℕ, List, [], ◌∷◌, ◌++◌, codes, length}
+use Rattle.std.proofs.Common.{◌≡◌, refl, ℕ, [], ◌∷◌, codes}
 use Rattle.std.specs.Fmt.{digits}
-use Rattle.stream_group.specs.Worker.{done}
-use Rattle.stream_group.specs.Group.{Name, Pending, pending_ids}
-use Rattle.stream_group.specs.World.{World, Event, Append, Read, Comes, Commit, Crash, run, empty_world}
+use Rattle.stream_group.specs.Group.{Name, pending_ids}
+use Rattle.stream_group.specs.World.{World, Append, Read, Crash, run, empty_world}
 use Rattle.stream_rounds.specs.Rounds.{rounds}
 use Rattle.stream_rounds.specs.Bound.{enough_rounds}
 
-abbrev ann : Name
+abbrev pub ann : Name
 ann = codes "ann"
 
-abbrev bob : Name
+abbrev pub bob : Name
 bob = codes "bob"
 
 -- three entries were added; bob was handed two of them and is gone; ann is new
-abbrev before : World ℕ
+abbrev pub before : World ℕ
 before = run (
     Append (1, 0) 7 ∷ Append (1, 1) 8 ∷ Append (2, 0) 9 ∷ Read bob 2 ∷ Crash ann 10 ∷ []
-) empty_world
+    ) empty_world
 
 -- with a COUNT of 1 they need one round of their own, four of claims, and two of reads
 pub the_bound : enough_rounds 1 ann before ≡ 7

@@ -1,5 +1,5 @@
 -- What is pending and not held, before and after an acknowledgement.
-use Rattle.std.proofs.Common.{◌≡◌, ◌⊎◌, inl, inr, refl, sym, ap, ◌∙◌, ℕ, zero, suc, ◌+◌, ◌≤◌, ◌<◌, arith, nat_lt, Bool}
+use Rattle.std.proofs.Common.{◌≡◌, ◌⊎◌, inl, inr, refl, sym, ap, ◌∙◌, ℕ, suc, ◌+◌, ◌≤◌, ◌<◌, arith, nat_lt, Bool}
 use Rattle.std.proofs.Common.{true, false, List, [], ◌∷◌, ◌++◌, if◌then◌else◌}
 use Rattle.std.proofs.lemmas.Bool.{cases_lt, ltb-true, lt-ltb}
 use Rattle.stream_group.specs.Worker.{Id}
@@ -65,6 +65,7 @@ is_no_less a b h = first (nat_lt_or a b)
   where
     nat_lt_or : (c d : ℕ) → (c < d) ⊎ (d ≤ c)
     nat_lt_or c d = cases_lt c d
+
     first : (a < b) ⊎ (b ≤ a) → b ≤ a
     first (inl l) = absurd (clash (nat_lt a b) (lt-ltb a b l) h)
     first (inr l) = l

@@ -1,13 +1,12 @@
 -- What a round makes of the parts of the world that it depends on.
-use Rattle.std.proofs.Common.{◌≡◌, refl, ap, ◌∙◌, ℕ, zero, suc, Bool, true, false, List, [], ◌∷◌, ◌++◌, map, if◌then◌else◌}
-use Rattle.std.specs.Str.{bytes_eq}
+use Rattle.std.proofs.Common.{◌≡◌, refl, ap, ◌∙◌, ℕ, List, [], ◌∷◌, ◌++◌, map, if◌then◌else◌}
 use Rattle.stream_group.specs.Worker.{Id, Entry, Delivered, Machine, Phase, own, claiming, reading, acknowledged}
 use Rattle.stream_group.specs.Worker.{own_pending, taken_over, news, after, after_commit}
 use Rattle.stream_group.specs.Group.{Name, Pending, listed, ids_of, given, passed, behind, newly_pending, whole, reread}
 use Rattle.stream_group.specs.Group.{raised, claimed, claim_answer, pending_after}
 use Rattle.stream_group.specs.World.{World, Event, with_one, happens, run}
 use Rattle.stream_rounds.specs.Page.{own_page, claim_page, next_claim}
-use Rattle.stream_rounds.specs.Rounds.{all_done, commit_of, asks, commit_in, asked_in, events_of_round, round}
+use Rattle.stream_rounds.specs.Rounds.{all_done, commit_of, asks, commit_in, asked_in, round}
 use Rattle.stream_rounds.proofs.Lists.{same_id}
 
 -- the worker, and of the server what it may hand out

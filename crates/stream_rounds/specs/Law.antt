@@ -1,5 +1,5 @@
 -- That all is drained where nothing fails.
-use Rattle.std.specs.Prelude.{◌≡◌, ℕ, ◌≤◌, List, [], ◌∷◌}
+use Rattle.std.specs.Prelude.{◌≡◌, ℕ, ◌≤◌, List, []}
 use Rattle.stream_group.specs.Group.{Name}
 use Rattle.stream_group.specs.World.{World, Event, run, empty_world}
 use Rattle.stream_rounds.specs.Rounds.{rounds, events_of_rounds}

@@ -1,7 +1,7 @@
 -- A round of a worker where nothing fails: the events of the model that it is.
 use Rattle.std.specs.Prelude.{ℕ, zero, suc, Bool, List, [], ◌∷◌, ◌++◌, map}
 use Rattle.stream_group.specs.Worker.{Id, Delivered, Verdict, done, Phase, own, claiming, reading}
-use Rattle.stream_group.specs.Group.{Name, Pending, listed, ids_of, given, whole, reread, claim_answer}
+use Rattle.stream_group.specs.Group.{Name, listed, ids_of, given, whole, reread, claim_answer}
 use Rattle.stream_group.specs.World.{World, Event, Read, Reread, Claim, Comes, Commit, Acknowledge, Ack_comes, run}
 use Rattle.stream_rounds.specs.Page.{own_page, claim_page, next_claim}
 
