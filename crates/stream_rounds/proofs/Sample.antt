@@ -1,0 +1,37 @@
+-- A world where one round less is not enough.
+use Rattle.std.proofs.Common.{◌≡◌, refl, ℕ, [], ◌∷◌, codes}
+use Rattle.std.specs.Fmt.{digits}
+use Rattle.stream_group.specs.Group.{Name, pending_ids}
+use Rattle.stream_group.specs.World.{World, Append, Read, Crash, run, empty_world}
+use Rattle.stream_rounds.specs.Rounds.{rounds}
+use Rattle.stream_rounds.specs.Bound.{enough_rounds}
+
+abbrev pub ann : Name
+ann = codes "ann"
+
+abbrev pub bob : Name
+bob = codes "bob"
+
+-- three entries were added; bob was handed two of them and is gone; ann is new
+abbrev pub before : World ℕ
+before = run (
+    Append (1, 0) 7 ∷ Append (1, 1) 8 ∷ Append (2, 0) 9 ∷ Read bob 2 ∷ Crash ann 10 ∷ []
+    ) empty_world
+
+-- with a COUNT of 1 they need one round of their own, four of claims, and two of reads
+pub the_bound : enough_rounds 1 ann before ≡ 7
+unfolding digits
+the_bound = refl
+
+pub is_enough : (rounds 7 1 ann before).pending ≡ []
+unfolding digits
+is_enough = refl
+
+pub none_to_come : (rounds 7 1 ann before).fresh ≡ []
+unfolding digits
+none_to_come = refl
+
+-- one less is not enough
+pub one_less : pending_ids (rounds 6 1 ann before).pending ≡ codes "2-0" ∷ []
+unfolding digits
+one_less = refl

@@ -1,0 +1,62 @@
+-- How many rounds a worker needs until all is drained.
+use Rattle.std.specs.Prelude.{ℕ, zero, suc, ◌+◌, ◌-◌, ◌*◌, ◌/◌, List, [], ◌∷◌, length}
+use Rattle.stream_group.specs.Worker.{Id, Machine, Phase, own, claiming, reading}
+use Rattle.stream_group.specs.Group.{Name, listed, pending_ids}
+use Rattle.stream_group.specs.Group as group
+use Rattle.stream_group.specs.World.{World}
+use Rattle.stream_rounds.specs.Page.{how_many}
+
+-- how many pages of n so many entries fill, the last of them perhaps not whole
+abbrev pub pages : ℕ → ℕ → ℕ
+pages n so_many = (so_many + (n - 1)) / n
+
+-- what is to be acknowledged takes a round, and what is to be committed then takes one more
+abbrev pub held_for : (to_acknowledge to_commit : List Id) → ℕ
+held_for [] [] = 0
+held_for [] (id ∷ ids) = 1
+held_for (id ∷ ids) [] = 1
+held_for (id ∷ ids) (x ∷ xs) = 2
+
+-- so many pages of its own take two rounds each, and one more finds that none is left
+abbrev pub own_for : ℕ → ℕ
+own_for pages = 2 * pages + 1
+
+-- so many pages that it claims take two rounds each, and none takes one
+abbrev pub claims_for : ℕ → ℕ
+claims_for zero = 1
+claims_for (suc pages) = 2 * pages + 2
+
+-- so many pages of new entries take two rounds each, and one more between them that claims
+abbrev pub reads_for : ℕ → ℕ
+reads_for zero = 0
+reads_for (suc pages) = 3 * pages + 2
+
+-- the reads before it claims again, at most
+abbrev pub reads_before : ℕ → ℕ
+reads_before every = 1 + (every - 1)
+
+-- by where it stands, with so many pages pending for it, pending for anyone, and still to come. Where it claims or
+-- reads, it may have to claim from the first once more
+abbrev pub from_phase : (every : ℕ) → Phase → (mine all fresh : ℕ) → ℕ
+from_phase every (own id) mine all fresh = own_for mine + claims_for all + reads_for fresh
+from_phase every (claiming id) mine all fresh =
+    claims_for all + reads_before every + claims_for all + reads_for fresh
+from_phase every (reading rounds) mine all fresh = reads_before every + claims_for all + reads_for fresh
+
+-- so many rounds are enough where so many entries are pending for it, pending for anyone, and still to come
+abbrev pub rounds_for : ℕ → Machine → (mine all fresh : ℕ) → ℕ
+rounds_for n m mine all fresh =
+    held_for m.to_acknowledge m.to_commit + from_phase m.every m.phase (pages n mine) (pages n all) (pages n fresh)
+
+module _ {F : Type 0} where
+  -- how many entries of the log are pending for this consumer
+  abbrev pub mine_in : Name → World F → ℕ
+  mine_in name w = how_many (listed (group.own name w.pending)) w.seen
+
+  -- how many are pending for anyone
+  abbrev pub pending_in : World F → ℕ
+  pending_in w = how_many (listed (pending_ids w.pending)) w.seen
+
+  -- the same in a world
+  abbrev pub enough_rounds : ℕ → Name → World F → ℕ
+  enough_rounds n name w = rounds_for n (w.workers name) (mine_in name w) (pending_in w) (length w.fresh)
