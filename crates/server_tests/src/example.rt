@@ -6,7 +6,9 @@ use redis_wire::{Decoded, Limits, Reply, decode};
 use std::alloc::{AllocError, Global};
 use std::test::Fail;
 use stream_server::{Protocol, Server, Session, append_reply};
-use stream_worker::{EntryRef, Handler, MakeGroup, NotCommitted, Settings, Verdict, Worker};
+use stream_worker::{
+    EntryRef, Handler, MakeGroup, NotCommitted, Settings, SettingsError, Verdict, Worker,
+};
 
 /// Counts the entries that it is given.
 #[derive(Drop)]
@@ -34,13 +36,13 @@ impl Handler for Count {
 }
 
 // A worker that begins.
-fn worker_of(alloc: Global, consumer: &str) -> Result<Worker, AllocError> {
+fn worker_of(alloc: Global, consumer: &str) -> Result<Worker, Fail> {
     let mut settings = Settings::new(
         String::from_str(alloc, "k")?,
         String::from_str(alloc, "g")?,
         String::from_str(alloc, consumer)?,
-    );
-    settings.make_group = MakeGroup::FromTheFirst;
+    )?;
+    settings.set_make_group(MakeGroup::FromTheFirst);
     Ok(Worker::new(alloc, settings))
 }
 
@@ -107,5 +109,46 @@ fn my_worker_takes_each_entry(rt: HostRuntime) -> Result<(), Fail> {
     assert_eq!(rt; handler.done, 2);
     let pending = told(alloc, &mut server, &mut session, "XPENDING k g")?;
     assert_eq!(rt; pending.as_str(), "*4\r\n:0\r\n$-1\r\n$-1\r\n*-1\r\n");
+    Ok(())
+}
+
+// What settings with these names are refused for, None if they are made.
+fn refusal_of(
+    alloc: Global,
+    key: &str,
+    group: &str,
+    consumer: &str,
+) -> Result<Option<SettingsError>, AllocError> {
+    let key = String::from_str(alloc, key)?;
+    let group = String::from_str(alloc, group)?;
+    let consumer = String::from_str(alloc, consumer)?;
+    Ok(Settings::new(key, group, consumer).err())
+}
+
+#[test]
+fn empty_names_are_refused(rt: HostRuntime) -> Result<(), Fail> {
+    let alloc = rt.alloc();
+    assert_eq!(rt; refusal_of(alloc, "k", "g", "ann")?, None);
+    assert_eq!(rt; refusal_of(alloc, "", "", "")?, Some(SettingsError::NoKey));
+    assert_eq!(rt;
+        refusal_of(alloc, "k", "", "")?,
+        Some(SettingsError::NoGroup)
+    );
+    assert_eq!(rt;
+        refusal_of(alloc, "k", "g", "")?,
+        Some(SettingsError::NoConsumer)
+    );
+    Ok(())
+}
+
+#[test]
+fn a_count_is_from_1_to_10000(rt: HostRuntime) -> Result<(), Fail> {
+    let alloc = rt.alloc();
+    let name = String::from_str(alloc, "k")?;
+    let mut settings = Settings::new(name.clone()?, name.clone()?, name)?;
+    assert_eq!(rt; settings.set_count(0), Err(SettingsError::NoCount));
+    assert_eq!(rt; settings.set_count(1), Ok(()));
+    assert_eq!(rt; settings.set_count(10_000), Ok(()));
+    assert_eq!(rt; settings.set_count(10_001), Err(SettingsError::LargeCount));
     Ok(())
 }

@@ -32,6 +32,7 @@ use std::io;
 use std::io::{Read, Write};
 use std::process::ExitCode;
 use stream_server::{Client, Protocol, Server, Session, append_reply};
+use stream_worker::Settings;
 
 /// Memory ran out, or standard input or output failed.
 const FAILED: u8 = 2;
@@ -97,6 +98,19 @@ fn parted(text: &str, mark: char) -> (&str, &str) {
     match text.split_once(mark) {
         Some(parts) => parts,
         None => (text, ""),
+    }
+}
+
+/// The settings of a worker of the group `g`. A script has no empty name; one that has is not played.
+fn settings_for(alloc: Global, key: &str, consumer: &str) -> Result<Settings, AllocError> {
+    let settings = Settings::new(
+        String::from_str(alloc, key)?,
+        String::from_str(alloc, "g")?,
+        String::from_str(alloc, consumer)?,
+    );
+    match settings {
+        Ok(settings) => Ok(settings),
+        Err(_) => Err(AllocError),
     }
 }
 

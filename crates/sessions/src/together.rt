@@ -15,14 +15,14 @@
 ghost use Rattle.std.specs.Prelude.{◌≡◌, IfOk, IsTrue};
 ghost use Rattle.sessions.specs.Scripts.{is_together_script};
 
-use crate::{answered, number_of, parted, protocol_of, push_line, told, words_of};
+use crate::{answered, number_of, parted, protocol_of, push_line, settings_for, told, words_of};
 use redis_wire::{Decoded, Limits, ReplyStream, WireError, append_answer, decode};
 use std::alloc::{AllocError, Global};
 use std::mem;
 use stream_server::{Protocol, Server, Session};
 use stream_worker::{
-    EntryRef, Handler, InPlaceError, MakeGroup, NotCommitted, RequestError, Settings, Verdict,
-    Worker, WorkerError,
+    EntryRef, Handler, InPlaceError, MakeGroup, NotCommitted, RequestError, Verdict, Worker,
+    WorkerError,
 };
 
 /// Plays workers over a server in memory; false if the script is another one.
@@ -459,15 +459,11 @@ fn is_committed(lines: &[Line], number: usize) -> bool {
 
 /// A worker that begins.
 fn worker_of(alloc: Global, consumer: &str) -> Result<Worker, AllocError> {
-    let mut settings = Settings::new(
-        String::from_str(alloc, "k")?,
-        String::from_str(alloc, "g")?,
-        String::from_str(alloc, consumer)?,
-    );
-    settings.count = 2;
-    settings.every = 2;
-    settings.min_idle = IDLE;
-    settings.make_group = MakeGroup::FromTheFirst;
+    let mut settings = settings_for(alloc, "k", consumer)?;
+    settings.set_count(2).unwrap_or(());
+    settings.set_every(2);
+    settings.set_min_idle(IDLE);
+    settings.set_make_group(MakeGroup::FromTheFirst);
     Ok(Worker::new(alloc, settings))
 }
 

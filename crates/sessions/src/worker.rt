@@ -22,7 +22,9 @@ pub mod connection;
 pub mod letters;
 pub mod streams;
 
-use crate::{bytes_of, commands_text, number_of, parted, push_bytes, push_exchange, push_line};
+use crate::{
+    bytes_of, commands_text, number_of, parted, push_bytes, push_exchange, push_line, settings_for,
+};
 use redis_wire::{Decoded, Limits, WireError, decode};
 use std::alloc::{AllocError, Global};
 use stream_worker::{
@@ -86,11 +88,7 @@ impl Side {
 
 /// The settings that words say.
 fn settings_of(alloc: Global, words: &str) -> Result<Settings, AllocError> {
-    let mut settings = Settings::new(
-        String::from_str(alloc, "k")?,
-        String::from_str(alloc, "g")?,
-        String::from_str(alloc, "c")?,
-    );
+    let mut settings = settings_for(alloc, "k", "c")?;
     let mut rest = words;
     for _ in 0..words.len() {
         let (name, behind) = parted(rest, ' ');
@@ -104,12 +102,12 @@ fn settings_of(alloc: Global, words: &str) -> Result<Settings, AllocError> {
 /// Sets the setting of this name.
 fn set(settings: &mut Settings, name: &str, word: &str) {
     match name {
-        "count" => settings.count = number_of(word),
-        "block" => settings.block = number_of(word),
-        "idle" => settings.min_idle = number_of(word),
-        "every" => settings.every = number_of(word),
-        "group" if word == "first" => settings.make_group = MakeGroup::FromTheFirst,
-        "group" => settings.make_group = MakeGroup::FromNow,
+        "count" => settings.set_count(number_of(word)).unwrap_or(()),
+        "block" => settings.set_block(number_of(word)),
+        "idle" => settings.set_min_idle(number_of(word)),
+        "every" => settings.set_every(number_of(word)),
+        "group" if word == "first" => settings.set_make_group(MakeGroup::FromTheFirst),
+        "group" => settings.set_make_group(MakeGroup::FromNow),
         _ => {}
     }
 }

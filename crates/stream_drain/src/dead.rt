@@ -68,7 +68,7 @@ pub struct Dead {
 
 impl Dead {
     /// For the group and the consumer of a worker. Nothing was looked at yet.
-    pub fn new(settings: &Settings, to: GiveUp) -> Result<Dead, AllocError>
+    pub fn new(alloc: Global, settings: &Settings, to: GiveUp) -> Result<Dead, AllocError>
         ensures names { IfOk result (λ d. (string_bytes d.key ≡ string_bytes settings.now.key)
             × (string_bytes d.group ≡ string_bytes settings.now.group)
             × (string_bytes d.consumer ≡ string_bytes settings.now.consumer)) }
@@ -77,13 +77,13 @@ impl Dead {
         ensures begins { IfOk result (λ d. (d.waits ≡ false) × (d.begun ≡ false) × (d.reads ≡ 0) × (d.letters ≡ 0)) }
     {
         Ok(Dead {
-            key: settings.key.clone()?,
-            group: settings.group.clone()?,
-            consumer: settings.consumer.clone()?,
-            min_idle: settings.min_idle,
+            key: String::from_str(alloc, settings.key())?,
+            group: String::from_str(alloc, settings.group())?,
+            consumer: String::from_str(alloc, settings.consumer())?,
+            min_idle: settings.min_idle(),
             deliveries: to.deliveries,
             stream: to.stream,
-            every: settings.every.max(1),
+            every: settings.every().max(1),
             reads: 0,
             waits: false,
             begun: false,

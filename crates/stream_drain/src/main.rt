@@ -97,7 +97,7 @@ fn drain_by(rt: &HostRuntime, options: Options) -> Result<()> {
     let mut lines = lines_at(rt, &path, json)?;
     let mut connection = Connection::new(alloc, rt.reader(), io::writer(rt), Limits::default())?;
     let mut report = report_of(rt, &settings, quiet)?;
-    let mut dead = dead_of(&settings, dead)?;
+    let mut dead = dead_of(alloc, &settings, dead)?;
     let Start {
         mut worker,
         acknowledges,
@@ -144,9 +144,13 @@ fn not_opened(path: &str, error: LogError) -> Error {
 }
 
 // What looks for entries that were delivered too often, where they are given up.
-fn dead_of(settings: &Settings, to: Option<GiveUp>) -> Result<Option<Dead>, AllocError> {
+fn dead_of(
+    alloc: Global,
+    settings: &Settings,
+    to: Option<GiveUp>,
+) -> Result<Option<Dead>, AllocError> {
     match to {
-        Some(to) => Ok(Some(Dead::new(settings, to)?)),
+        Some(to) => Ok(Some(Dead::new(alloc, settings, to)?)),
         None => Ok(None),
     }
 }
@@ -155,14 +159,14 @@ fn dead_of(settings: &Settings, to: Option<GiveUp>) -> Result<Option<Dead>, Allo
 fn report_of(rt: &HostRuntime, settings: &Settings, quiet: bool) -> Result<Report> {
     let mut report = Report::new(rt, quiet)?;
     if !quiet {
-        report.watched = Some(watched(settings)?);
+        report.watched = Some(watched(rt.alloc(), settings)?);
     }
     Ok(report)
 }
 
 // The group that is watched.
-fn watched(settings: &Settings) -> Result<Watched, AllocError> {
-    let key = settings.key.clone()?;
-    let group = settings.group.clone()?;
+fn watched(alloc: Global, settings: &Settings) -> Result<Watched, AllocError> {
+    let key = String::from_str(alloc, settings.key())?;
+    let group = String::from_str(alloc, settings.group())?;
     Ok(Watched { key, group })
 }

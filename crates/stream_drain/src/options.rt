@@ -66,8 +66,8 @@ pub fn options_of(alloc: Global, words: &[String]) -> Result<Options>
 }
 
 // The settings of a worker for these names.
-fn settings_of(key: &String, group: &String, consumer: &String) -> Result<Settings, AllocError> {
-    Ok(Settings::new(key.clone()?, group.clone()?, consumer.clone()?))
+fn settings_of(key: &String, group: &String, consumer: &String) -> Result<Settings> {
+    Ok(Settings::new(key.clone()?, group.clone()?, consumer.clone()?)?)
 }
 
 // Takes options and their values, in order.
@@ -126,14 +126,14 @@ fn set(
     value: &str,
 ) -> Result<Option<Valued>> {
     match option {
-        Valued::From => options.settings.make_group = make_group(value)?,
-        Valued::Count => options.settings.count = count(value)?,
-        Valued::Block => options.settings.block = number(value)?,
-        Valued::Idle => options.settings.min_idle = number(value)?,
-        Valued::Every => options.settings.every = number(value)?,
+        Valued::From => options.settings.set_make_group(make_group(value)?),
+        Valued::Count => options.settings.set_count(count(value)?)?,
+        Valued::Block => options.settings.set_block(number(value)?),
+        Valued::Idle => options.settings.set_min_idle(number(value)?),
+        Valued::Every => options.settings.set_every(number(value)?),
         Valued::Dead => return Ok(Some(Valued::DeadStream(number(value)?))),
         Valued::DeadStream(deliveries) => {
-            options.dead = Some(give_up(alloc, &options.settings.key, deliveries, value)?);
+            options.dead = Some(give_up(alloc, options.settings.key(), deliveries, value)?);
         }
     }
     Ok(None)

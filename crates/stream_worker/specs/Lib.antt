@@ -1,4 +1,5 @@
 -- What a worker's contracts speak of.
+pub mod Checked
 pub mod Handed
 pub mod Handling
 pub mod Read

@@ -24,6 +24,6 @@ pub use handler::{Handler, NotCommitted, Verdict};
 pub use letters::{DeadLetters, LetterAsked, LetterError};
 pub use pipelined::Pipelined;
 pub use session::Round;
-pub use state::{Asked, MakeGroup, Phase, Settings};
+pub use state::{Asked, MakeGroup, Phase, Settings, SettingsError};
 pub use stream_refs::EntryRef;
 pub use worker::{Progress, Worker};

@@ -1,5 +1,8 @@
 //! What a worker knows.
-ghost use Rattle.std.specs.Prelude.{◌≡◌};
+ghost use Rattle.std.specs.Prelude.{◌≡◌, OnOk, OnErr, string_bytes};
+ghost use Rattle.stream_worker.specs.Checked.{checked, counted};
+
+use thiserror::Error;
 
 /// Where a group begins that a worker makes.
 #[derive(Clone, Copy, Debug, PartialEq, Eq)]
@@ -12,53 +15,160 @@ pub enum MakeGroup {
     FromNow,
 }
 
+/// Why settings are none.
+#[derive(Clone, Copy, Debug, PartialEq, Eq, Error)]
+pub enum SettingsError {
+    /// The key is empty.
+    #[error("the key is empty")]
+    NoKey,
+    /// The group has no name.
+    #[error("the group has no name")]
+    NoGroup,
+    /// The consumer has no name.
+    #[error("the consumer has no name")]
+    NoConsumer,
+    /// No entry is asked for at once.
+    #[error("the count is 1 at least")]
+    NoCount,
+    /// More than 10,000 entries are asked for at once.
+    #[error("the count is 10,000 at most")]
+    LargeCount,
+}
+
 /// What a worker is asked to do.
+///
+/// A stream, a group and a consumer have names, and from 1 to 10,000 entries are asked for at once.
 #[derive(Debug, Drop)]
 pub struct Settings {
     /// The stream.
-    pub key: String,
+    pub(crate) key: String,
     /// The group of consumers.
-    pub group: String,
+    pub(crate) group: String,
     /// A name of its own for each worker, the same after a restart.
-    pub consumer: String,
+    pub(crate) consumer: String,
     /// At most so many entries are asked for at once, `COUNT`.
-    pub count: usize,
+    pub(crate) count: usize,
     /// For so many milliseconds the server waits for new entries, `BLOCK`; 0 for as long as it
     /// takes.
-    pub block: usize,
+    pub(crate) block: usize,
     /// Entries that others left for so many milliseconds are claimed.
-    pub min_idle: usize,
+    pub(crate) min_idle: usize,
     /// It claims after so many reads of new entries; after each for 0 and 1.
-    pub every: usize,
+    pub(crate) every: usize,
     /// Whether it makes the group if the server has none as it asks first.
-    pub make_group: MakeGroup,
+    pub(crate) make_group: MakeGroup,
 }
 
 impl Settings {
-    /// At most 100 entries at once, up to five seconds of waiting, claims of what was left for a
-    /// minute, after every tenth read; and no group is made.
-    pub fn new(key: String, group: String, consumer: String) -> Settings
-        ensures { result ≡ record {
-          key = key;
-          group = group;
-          consumer = consumer;
-          count = 100;
-          block = 5000;
-          min_idle = 60000;
-          every = 10;
-          make_group = MakeGroup.Never;
-        } }
+    /// For the stream `key`, the group and a consumer, whose name is its own and the same after a restart.
+    ///
+    /// At most 1,000 entries at once, up to five seconds of waiting, claims of what was left for a
+    /// minute, after every tenth read; and no group is made. A name that is empty is refused, the
+    /// first one by its cause.
+    pub fn new(key: String, group: String, consumer: String) -> Result<Settings, SettingsError>
+        ensures { result ≡ checked key group consumer }
     {
-        Settings {
+        if key.is_empty() {
+            return Err(SettingsError::NoKey);
+        }
+        if group.is_empty() {
+            return Err(SettingsError::NoGroup);
+        }
+        if consumer.is_empty() {
+            return Err(SettingsError::NoConsumer);
+        }
+        Ok(Settings {
             key,
             group,
             consumer,
-            count: 100,
+            count: 1_000,
             block: 5_000,
             min_idle: 60_000,
             every: 10,
             make_group: MakeGroup::Never,
+        })
+    }
+
+    /// At most so many entries are asked for at once, `COUNT`: from 1 to 10,000. Another number is refused,
+    /// and changes nothing.
+    ///
+    /// A commit of a file costs one sync, whatever the count; a reply has room for all its entries.
+    pub fn set_count(&mut self, count: usize) -> Result<(), SettingsError>
+        ensures counted { result ≡ counted count }
+        ensures ok { OnOk result (self.new ≡ record self.old { count = count }) }
+        ensures err { OnErr result (self.new ≡ self.old) }
+    {
+        if count == 0 {
+            return Err(SettingsError::NoCount);
         }
+        if count > 10_000 {
+            return Err(SettingsError::LargeCount);
+        }
+        self.count = count;
+        Ok(())
+    }
+
+    /// For so many milliseconds the server waits for new entries, `BLOCK`; 0 for as long as it takes.
+    pub fn set_block(&mut self, block: usize)
+        ensures { self.new ≡ record self.old { block = block } }
+    {
+        self.block = block;
+    }
+
+    /// Entries that others left for so many milliseconds are claimed.
+    pub fn set_min_idle(&mut self, min_idle: usize)
+        ensures { self.new ≡ record self.old { min_idle = min_idle } }
+    {
+        self.min_idle = min_idle;
+    }
+
+    /// It claims after so many reads of new entries; after each for 0 and 1.
+    pub fn set_every(&mut self, every: usize)
+        ensures { self.new ≡ record self.old { every = every } }
+    {
+        self.every = every;
+    }
+
+    /// Whether it makes the group if the server has none as it asks first.
+    pub fn set_make_group(&mut self, make_group: MakeGroup)
+        ensures { self.new ≡ record self.old { make_group = make_group } }
+    {
+        self.make_group = make_group;
+    }
+
+    /// The stream.
+    pub fn key(&self) -> &str
+        ensures { result.now ≡ string_bytes self.now.key }
+    {
+        self.key.as_str()
+    }
+
+    /// The group of consumers.
+    pub fn group(&self) -> &str
+        ensures { result.now ≡ string_bytes self.now.group }
+    {
+        self.group.as_str()
+    }
+
+    /// The name of the consumer.
+    pub fn consumer(&self) -> &str
+        ensures { result.now ≡ string_bytes self.now.consumer }
+    {
+        self.consumer.as_str()
+    }
+
+    /// How many milliseconds others may leave an entry before it is claimed.
+    pub fn min_idle(&self) -> usize
+        ensures { result ≡ self.now.min_idle }
+    {
+        self.min_idle
+    }
+
+    /// After how many reads it claims.
+    pub fn every(&self) -> usize
+        ensures { result ≡ self.now.every }
+    {
+        self.every
     }
 }
 

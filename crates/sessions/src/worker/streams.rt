@@ -6,13 +6,13 @@ ghost use Rattle.sessions.specs.Scripts.{is_streams_script};
 
 use crate::worker::{Doer, Way, told};
 use crate::{
-    answered, commands_text, number_of, parted, protocol_of, push_exchange, push_line, tell_all,
-    words_of,
+    answered, commands_text, number_of, parted, protocol_of, push_exchange, push_line,
+    settings_for, tell_all, words_of,
 };
 use redis_wire::{Decoded, Limits, decode};
 use std::alloc::{AllocError, Global};
 use stream_server::{Server, Session};
-use stream_worker::{MakeGroup, Settings, Worker};
+use stream_worker::{MakeGroup, Worker};
 
 /// Plays workers of several streams; false if the script is another one.
 pub fn play(
@@ -44,12 +44,8 @@ struct Peer {
 fn workers_of(alloc: Global, keys: &str) -> Result<Vec<Worker>, AllocError> {
     let mut workers = Vec::new(alloc);
     for key in keys.split(' ') {
-        let mut settings = Settings::new(
-            String::from_str(alloc, key)?,
-            String::from_str(alloc, "g")?,
-            String::from_str(alloc, "ann")?,
-        );
-        settings.make_group = MakeGroup::FromTheFirst;
+        let mut settings = settings_for(alloc, key, "ann")?;
+        settings.set_make_group(MakeGroup::FromTheFirst);
         workers.push(Worker::new(alloc, settings))?;
     }
     Ok(workers)
