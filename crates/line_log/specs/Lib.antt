@@ -8,3 +8,4 @@ pub mod LineTexts
 pub mod Holds
 pub mod Log
 pub mod Past
+pub mod Torn

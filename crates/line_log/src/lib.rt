@@ -18,6 +18,7 @@ mod log;
 mod memory;
 mod opening;
 mod system;
+mod torn;
 
 pub use device::LogFile;
 pub use entry_line::{LineEntry, entry_in, push_field};
@@ -27,3 +28,4 @@ pub use log::LineLog;
 pub use memory::MemoryFile;
 pub use opening::repair;
 pub use system::SystemFile;
+pub use torn::TornFile;
