@@ -9,3 +9,4 @@ pub mod LineLemmas
 pub mod LineTextsLemmas
 mod Moments
 pub mod RepairLemmas
+mod TornLemmas

@@ -9,3 +9,4 @@ pub mod Holds
 pub mod LastLines
 pub mod Log
 pub mod Past
+pub mod Torn

@@ -19,6 +19,7 @@ mod log;
 mod memory;
 mod opening;
 mod system;
+mod torn;
 
 pub use device::LogFile;
 pub use entry_line::{LineEntry, entry_in, push_field};
@@ -28,3 +29,4 @@ pub use log::LineLog;
 pub use memory::MemoryFile;
 pub use opening::repair;
 pub use system::SystemFile;
+pub use torn::TornFile;
