@@ -43,13 +43,26 @@ all_listed es ids h = all_pass (listed (ids_of es)) ids (λ id k. among_listed (
 listed_there : (es : List Entry) (ids : List Id) (id : Id) → Among id (among_ids es ids) → Among id (ids_of es)
 listed_there es ids id h = listed_among (ids_of es) id (filtered_passes (listed (ids_of es)) id ids h)
 
+-- ids of entries that are all lines of these bytes
+pub all_read : (form : Form) (bytes : List ℕ) (all es : List Entry) → ((e : Entry) → Among e es → Among e all)
+    → ((e : Entry) → Among e es → IsLineIn (form.line e) bytes)
+    → among_ids (filter (is_in form bytes) all) (ids_of es) ≡ ids_of es
+all_read form bytes all es within there =
+    let back : List Entry = filter (is_in form bytes) all in
+    all_listed back (ids_of es) (λ id h.
+    (let s = among_of_map (λ (e : Entry). e.0) id es h in
+    subst (λ i. Among i (ids_of back)) s.is
+    (among_map (λ (e : Entry). e.0) s.x back
+    (among_filter (is_in form bytes) s.x all (within s.x s.within)
+    (test_finds (form.line s.x) bytes (there s.x s.within))))))
+
 -- ---- a worker that is started again
 
 module _ (form : Form) (f : Files) (c : Name) (every : ℕ) (torn : List ℕ) where
   abbrev is_there : Entry → Bool
   is_there = is_in form (repaired f c torn)
 
-  abbrev then_committed : List Entry
+  abbrev pub then_committed : List Entry
   then_committed = committed_after f.stream c is_there
 
   back_committed : (id : Id) → Among id (ids_of (read_back form f c torn)) → Among id (ids_of then_committed)
@@ -58,27 +71,28 @@ module _ (form : Form) (f : Files) (c : Name) (every : ℕ) (torn : List ℕ) wh
       subst (λ i. Among i (ids_of then_committed)) s.is
       (among_map (λ (e : Entry). e.0) s.x then_committed (among_filtered is_there s.x then_committed s.within))
 
+  -- all ids of what is read back are committed
+  pub all_its_own : (ids : List Id) → among_ids then_committed (among_ids (read_back form f c torn) ids)
+      ≡ among_ids (read_back form f c torn) ids
+  all_its_own ids =
+      all_listed then_committed (among_ids (read_back form f c torn) ids)
+      (λ id h. back_committed id (listed_there (read_back form f c torn) ids id h))
+
   -- it begins with those of the ids that are in its file
   pub begins : (ids : List Id)
       → (reopens form f c every torn ids).stream.workers c ≡ begins_with every (among_ids (read_back form f c torn) ids)
   begins ids =
-      let mine : List Id = among_ids (read_back form f c torn) ids in
-      at_one f.stream.workers c (begins_with every (among_ids then_committed mine))
-      ∙ ap (λ l. begins_with every l)
-      (all_listed then_committed mine (λ id h. back_committed id (listed_there (read_back form f c torn) ids id h)))
+      at_one f.stream.workers c
+      (begins_with every (among_ids then_committed (among_ids (read_back form f c torn) ids)))
+      ∙ ap (λ l. begins_with every l) (all_its_own ids)
 
   -- it begins with all, if each is that of an entry that is committed and a line of the file
   pub begins_with_all : (es : List Entry) → ((e : Entry) → Among e es → Among e then_committed)
       → ((e : Entry) → Among e es → IsLineIn (form.line e) (repaired f c torn))
       → (reopens form f c every torn (ids_of es)).stream.workers c ≡ begins_with every (ids_of es)
   begins_with_all es committed there =
-      let back : (id : Id) → Among id (ids_of es) → Among id (ids_of (read_back form f c torn))
-      = λ id h. (let s = among_of_map (λ (e : Entry). e.0) id es h in
-      subst (λ i. Among i (ids_of (read_back form f c torn))) s.is
-      (among_map (λ (e : Entry). e.0) s.x (read_back form f c torn)
-      (among_filter is_there s.x then_committed (committed s.x s.within)
-      (test_finds (form.line s.x) (repaired f c torn) (there s.x s.within))))) in
-      begins (ids_of es) ∙ ap (λ l. begins_with every l) (all_listed (read_back form f c torn) (ids_of es) back)
+      begins (ids_of es)
+      ∙ ap (λ l. begins_with every l) (all_read form (repaired f c torn) then_committed es committed there)
 
   -- an id of what is read back is that of a line of the file
   record OfItsFile (id : Id) : Type 0 where
