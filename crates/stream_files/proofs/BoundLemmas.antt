@@ -21,7 +21,7 @@ module _ {D : Type 0} (seen : D → Option (List ℕ)) (may_leave : D → List �
   pub opens_so : (old new : D) (len : ℕ) (is_broken : Bool) → IsRepaired (seen old) (seen new)
       → (is_sound old → IfSome (seen old) (λ bytes. Holds seen may_leave is_sound (take len bytes) new len is_broken))
       → is_broken ≡ false → is_sound old → OpensSo seen may_leave is_sound old new len is_broken
-  opens_so old new len is_broken repaired holds works sound f name every torn known =
+  opens_so old new len is_broken repaired holds works sound form f name every torn ids known =
       let bytes : List ℕ = f.file name ++ torn in
       let P : List ℕ → Type 0 = λ xs. Holds seen may_leave is_sound xs new len is_broken in
       let h : P (take len bytes) = subst (λ o. IfSome o (λ xs. P (take len xs))) known (holds sound) in

@@ -1,6 +1,6 @@
 -- What is committed is in a file or has a letter, at any moment.
 use Rattle.std.proofs.Common.{◌≡◌, ◌⊎◌, inl, inr, refl, sym, ap, subst, ◌∙◌, ℕ, Bool, true, false, not, List, [], ◌∷◌, ◌++◌}
-use Rattle.std.proofs.Common.{map, filter, append_assoc, append-nil}
+use Rattle.std.proofs.Common.{filter, append_assoc, append-nil}
 use Rattle.line_log.specs.EntryLine.{Entry}
 use Rattle.line_log.specs.Lines.{AreLines, StartsWith}
 use Rattle.stream_group.specs.Worker.{Id}
@@ -10,14 +10,16 @@ use Rattle.stream_group.specs.World as group
 use Rattle.stream_group.specs.Law as group_law
 use Rattle.stream_group.specs.Law.{Among}
 use Rattle.stream_group.proofs.Among.{among_left, among_right, among_split, among_filter, among_filtered}
+use Rattle.stream_group.proofs.Among.{filtered_passes}
 use Rattle.stream_group.proofs.Lost as lost
 use Rattle.stream_files.specs.Files.{Form, Fields, Files, Event, Goes, Commits, Reopens, first_files, batch, commits}
-use Rattle.stream_files.specs.Files.{reopens, happens, run, whole_lines}
+use Rattle.stream_files.specs.Files.{is_in, repaired, reopens, happens, run, whole_lines}
 use Rattle.stream_files.specs.Law.{after, IsLineIn, IsInAFile, HasLetter, IsKept, EachEntryIsKept, IsSettled}
 use Rattle.stream_files.specs.Law.{AcknowledgedIsInAFile, FilesGrow, LettersStay, LettersAreOfTheLog}
 use Rattle.stream_files.proofs.Whole.{lines_join, whole_are_lines, whole_behind}
 use Rattle.stream_files.proofs.LineLemmas.{line_stays, line_behind, are_lines, line_among}
-use Rattle.stream_files.proofs.Step.{of_group, alone, by_kind, at_one, at_each, each_starts}
+use Rattle.stream_files.proofs.HasLine.{is_line}
+use Rattle.stream_files.proofs.Step.{of_all, alone, by_kind, at_one, at_each, each_starts}
 
 module _ (form : Form) where
   -- the line of the entry is committed to some file
@@ -55,8 +57,9 @@ module _ (form : Form) where
     letters = λ e h. among_left e f.letters (filter g (f.stream.loose c)) h;
   }
 
-  reopen_grows : (f : Files) → Inv f → (c : Name) (every : ℕ) (torn : List ℕ) → Grows f (reopens f c every torn)
-  reopen_grows f i c every torn = record {
+  reopen_grows : (f : Files) → Inv f → (c : Name) (every : ℕ) (torn : List ℕ) (ids : List Id)
+      → Grows f (reopens form f c every torn ids)
+  reopen_grows f i c every torn ids = record {
     file = each_starts f.file c (whole_lines (f.file c ++ torn))
         (whole_lines torn, whole_behind (f.file c) torn (i.are_lines c));
     letters = λ e h. h;
@@ -98,13 +101,28 @@ module _ (form : Form) where
         ];
       }
 
-  on_reopen : (f : Files) → Inv f → (c : Name) (every : ℕ) (torn : List ℕ) → Inv (reopens f c every torn)
-  on_reopen f i c every torn = record {
-    are_lines = at_each f.file c (whole_lines (f.file c ++ torn)) (λ n xs. AreLines xs) i.are_lines
-        (whole_are_lines (f.file c ++ torn));
-    placed = λ e h. still_placed f (reopens f c every torn) (reopen_grows f i c every torn) e (i.placed e h);
-    letters = i.letters;
-  }
+  -- what a crash kept is written
+  kept_written : (f : Files) (c : Name) (every : ℕ) (torn : List ℕ) (ids : List Id) (e : Entry)
+      → is_in form (repaired f c torn) e ≡ true → IsWritten (reopens form f c every torn ids) e
+  kept_written f c every torn ids e h = (
+    c,
+    subst (λ xs. IsLineIn (form.line e) xs) (sym (at_one f.file c (repaired f c torn)))
+        (is_line (form.line e) (repaired f c torn) (form.whole e) h),
+  )
+
+  on_reopen : (f : Files) → Inv f → (c : Name) (every : ℕ) (torn : List ℕ) (ids : List Id)
+      → Inv (reopens form f c every torn ids)
+  on_reopen f i c every torn ids =
+      let is_there : Entry → Bool = is_in form (repaired f c torn) in
+      record {
+        are_lines = at_each f.file c (repaired f c torn) (λ n xs. AreLines xs) i.are_lines
+            (whole_are_lines (f.file c ++ torn));
+        placed = λ e h. elim (among_split e f.stream.committed (filter is_there (f.stream.loose c)) h) [
+          | inl a ↦ still_placed f (reopens form f c every torn ids) (reopen_grows f i c every torn ids) e (i.placed e a)
+          | inr a ↦ inl (kept_written f c every torn ids e (filtered_passes is_there e (f.stream.loose c) a))
+        ];
+        letters = λ e h. among_left e f.stream.committed (filter is_there (f.stream.loose c)) (i.letters e h);
+      }
 
   on_other : (f : Files) → Inv f → (e : group.Event Fields) → (group.happens f.stream e).committed ≡ f.stream.committed
       → Inv (record f { stream = group.happens f.stream e })
@@ -115,16 +133,16 @@ module _ (form : Form) where
   }
 
   pub each : (f : Files) → Inv f → (e : Event) → Inv (happens form f e)
-  each f i (Goes e) = by_kind form f Inv (on_commit f i) (λ c every. on_reopen f i c every []) (on_other f i) e
+  each f i (Goes e) = by_kind form f Inv (on_commit f i) (λ c every ids. on_reopen f i c every [] ids) (on_other f i) e
   each f i (Commits c g) = on_commit f i c g
-  each f i (Reopens c every torn) = on_reopen f i c every torn
+  each f i (Reopens c every torn ids) = on_reopen f i c every torn ids
 
   each_grows : (f : Files) → Inv f → (e : Event) → Grows f (happens form f e)
   each_grows f i (Goes e) =
-      by_kind form f (Grows f) (commit_grows f) (λ c every. reopen_grows f i c every [])
+      by_kind form f (Grows f) (commit_grows f) (λ c every ids. reopen_grows f i c every [] ids)
       (λ x same. record { file = as_it_was f; letters = λ x h. h }) e
   each_grows f i (Commits c g) = commit_grows f c g
-  each_grows f i (Reopens c every torn) = reopen_grows f i c every torn
+  each_grows f i (Reopens c every torn ids) = reopen_grows f i c every torn ids
 
   pub over : (es : List Event) (f : Files) → Inv f → Inv (run form es f)
   over [] f i = i
@@ -182,20 +200,20 @@ module _ (form : Form) where
 
 -- the stream after these events is one of `stream_group`
 pub stream_after : (form : Form) (before : Name → List ℕ) (es : List Event)
-    → (after form before es).stream ≡ group.run (map of_group es) empty_world
+    → (after form before es).stream ≡ group.run (of_all form (first_files before) es) empty_world
 stream_after form before es = alone form es (first_files before)
 
 pub each_entry_is_kept : EachEntryIsKept
 each_entry_is_kept form before es more e h =
     let f : Files = after form before es in
     let g : Files = run form more f in
-    let one : f.stream ≡ group.run (map of_group es) empty_world = stream_after form before es in
-    let both : g.stream ≡ group.run (map of_group more) (group.run (map of_group es) empty_world) =
-    alone form more f ∙ ap (λ w. group.run (map of_group more) w) one in
+    let one : f.stream ≡ group.run (of_all form (first_files before) es) empty_world = stream_after form before es in
+    let both : g.stream ≡ group.run (of_all form (after form before es) more) (group.run (of_all form (first_files before) es) empty_world) =
+    alone form more f ∙ ap (λ w. group.run (of_all form (after form before es) more) w) one in
     let P : World Fields → Type 0 = λ w. Among e (log_of w) in
     let Q : World Fields → Type 0 = λ w. group_law.IsKept w e in
     kept_at form g (over form more f (always form before es)) e
-    (subst Q (sym both) (lost.each_kept (map of_group es) (map of_group more) e (subst P one h)))
+    (subst Q (sym both) (lost.each_kept (of_all form (first_files before) es) (of_all form (after form before es) more) e (subst P one h)))
 
 pub acknowledged_is_in_a_file : AcknowledgedIsInAFile
 acknowledged_is_in_a_file form before es id h =
@@ -203,7 +221,7 @@ acknowledged_is_in_a_file form before es id h =
     let P : World Fields → Type 0 = λ w. Among id w.acknowledged_ids in
     let Q : World Fields → Type 0 = λ w. group_law.IsSettled w id in
     settled_at form (after form before es) (always form before es) id
-    (subst Q (sym one) (lost.acked_settled (map of_group es) id (subst P one h)))
+    (subst Q (sym one) (lost.acked_settled (of_all form (first_files before) es) id (subst P one h)))
 
 pub files_grow : FilesGrow
 files_grow form before es more name =
@@ -216,7 +234,7 @@ letters_stay form before es more e h =
 pub group_inv : (form : Form) (before : Name → List ℕ) (es : List Event) → lost.Inv (after form before es).stream
 group_inv form before es =
     let P : World Fields → Type 0 = λ w. lost.Inv w in
-    subst P (sym (stream_after form before es)) (lost.always (map of_group es))
+    subst P (sym (stream_after form before es)) (lost.always (of_all form (first_files before) es))
 
 -- what was handled is of the log
 pub handled_logged : (w : World Fields) → lost.Inv w → (e : Entry) → Among e w.handled → Among e (log_of w)

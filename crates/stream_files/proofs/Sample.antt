@@ -39,28 +39,28 @@ unfolding digits
 committed = refl
 
 -- a crash leaves a line more without its end
-pub committed_and_torn : file_after (Goes (Commit ann) ∷ Reopens ann 1 (122 ∷ []) ∷ []) ≡ 121 ∷ 10 ∷ line
+pub committed_and_torn : file_after (Goes (Commit ann) ∷ Reopens ann 1 (122 ∷ []) [] ∷ []) ≡ 121 ∷ 10 ∷ line
 unfolding digits
 committed_and_torn = refl
 
 -- or any other line, and one without its end
-pub committed_and_more : file_after (Goes (Commit ann) ∷ Reopens ann 1 (122 ∷ 10 ∷ 122 ∷ []) ∷ [])
+pub committed_and_more : file_after (Goes (Commit ann) ∷ Reopens ann 1 (122 ∷ 10 ∷ 122 ∷ []) [] ∷ [])
     ≡ 121 ∷ 10 ∷ (line ++ 122 ∷ 10 ∷ [])
 unfolding digits
 committed_and_more = refl
 
 -- no commit came: the file is what it was
-pub handled_only : file_after (Goes (Crash ann 1) ∷ []) ≡ 121 ∷ 10 ∷ []
+pub handled_only : file_after (Goes (Crash ann 1 (λ e. true) []) ∷ []) ≡ 121 ∷ 10 ∷ []
 handled_only = refl
 
 -- a crash in the commit leaves half of the line
-pub cut_off : file_after (Reopens ann 1 (codes "1-0") ∷ []) ≡ 121 ∷ 10 ∷ []
+pub cut_off : file_after (Reopens ann 1 (codes "1-0") [] ∷ []) ≡ 121 ∷ 10 ∷ []
 cut_off = refl
 
--- or all of it: the entry is still pending, comes again, and is written twice
+-- or all of it: a worker that reads nothing back takes the entry again, which is still pending, and writes it twice
 abbrev again : List Event
 again =
-    Reopens ann 1 line ∷ Goes (Reread ann (λ id. true)) ∷ Goes (Comes 0 (done ∷ [])) ∷ Goes (Commit ann) ∷
+    Reopens ann 1 line [] ∷ Goes (Reread ann (λ id. true)) ∷ Goes (Comes 0 (done ∷ [])) ∷ Goes (Commit ann) ∷
     Goes (Acknowledge ann) ∷ Goes (Ack_comes 0) ∷ []
 
 pub written_twice : file_after again ≡ 121 ∷ 10 ∷ (line ++ line)
@@ -74,6 +74,26 @@ acknowledged = refl
 pub fronts : AllLeaveFronts text (first_files before) (handled again)
 unfolding digits
 fronts = (tt, (tt, (tt, ((λ e. false, ([], refl)), (tt, (tt, (tt, (tt, (tt, tt)))))))))
+
+-- one that reads its last line back acknowledges it first: the entry does not come again, and is written once
+abbrev reads_back : List Event
+reads_back =
+    Reopens ann 1 line (entry.0 ∷ []) ∷ Goes (Acknowledge ann) ∷ Goes (Ack_comes 0) ∷ Goes (Reread ann (λ id. true)) ∷
+    Goes (Comes 0 (done ∷ [])) ∷ Goes (Commit ann) ∷ []
+
+pub written_once : file_after reads_back ≡ 121 ∷ 10 ∷ line
+unfolding digits
+written_once = refl
+
+pub acknowledged_first : (after text before (handled reads_back)).stream.acknowledged_ids ≡ entry.0 ∷ []
+unfolding digits
+acknowledged_first = refl
+
+-- it acknowledges nothing that is no line of its file
+pub not_in_the_file : (after text before (handled
+    (Reopens ann 1 (codes "1-0") (entry.0 ∷ []) ∷ Goes (Acknowledge ann) ∷ Goes (Ack_comes 0) ∷ []))).stream.acknowledged_ids ≡ []
+unfolding digits
+not_in_the_file = refl
 
 -- given up: there is a letter and no line
 abbrev given_up : Files

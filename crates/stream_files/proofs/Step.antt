@@ -1,5 +1,5 @@
 -- What each event does to the stream, the files and the letters.
-use Rattle.std.proofs.Common.{◌≡◌, refl, sym, ap, subst, ◌∙◌, ℕ, Bool, true, false, List, [], ◌∷◌, ◌++◌, map, Option}
+use Rattle.std.proofs.Common.{◌≡◌, refl, sym, ap, subst, ◌∙◌, ℕ, Bool, true, false, List, [], ◌∷◌, ◌++◌, Option}
 use Rattle.std.proofs.Common.{Some, None, if◌then◌else◌, ◌&&◌, append-nil}
 use Rattle.std.proofs.lemmas.Slice.Eq.{bytes_eq-Decides}
 use Rattle.std.specs.Str.{bytes_eq}
@@ -10,16 +10,26 @@ use Rattle.stream_group.specs.Group.{Name, Numbers, id_text, is_below, fits, lis
 use Rattle.stream_group.specs.World.{World, Reply, Append, Delete, Read, Reread, Claim, Claim_ids, Comes, Commit}
 use Rattle.stream_group.specs.World.{Acknowledge, Ack_comes, Go_back, Crash, item, comes, ack_comes, with_one, log_of}
 use Rattle.stream_group.specs.World as group
-use Rattle.stream_files.specs.Files.{Form, Fields, Files, Event, Goes, Commits, Reopens, commits, reopens, happens, run}
+use Rattle.stream_files.specs.Files.{Form, Fields, Files, Event, Goes, Commits, Reopens, commits, crash_of, reopens}
+use Rattle.stream_files.specs.Files.{happens, run}
 
 -- the event of the group that an event is
-abbrev pub of_group : Event → group.Event Fields
-of_group (Goes event) = event
-of_group (Commits consumer gives_up) = Commit consumer
-of_group (Reopens consumer every torn) = Crash consumer every
+abbrev pub of_goes : Form → Files → group.Event Fields → group.Event Fields
+of_goes form f (Crash consumer every keeps ids) = crash_of form f consumer every [] ids
+of_goes form f event = event
+
+abbrev pub of_group : Form → Files → Event → group.Event Fields
+of_group form f (Goes event) = of_goes form f event
+of_group form f (Commits consumer gives_up) = Commit consumer
+of_group form f (Reopens consumer every torn ids) = crash_of form f consumer every torn ids
+
+-- the same of a whole schedule
+abbrev pub of_all : Form → Files → List Event → List (group.Event Fields)
+of_all form f [] = []
+of_all form f (e ∷ es) = of_group form f e ∷ of_all form (happens form f e) es
 
 goes_alone : (form : Form) (f : Files) (e : group.Event Fields)
-    → (happens form f (Goes e)).stream ≡ group.happens f.stream e
+    → (happens form f (Goes e)).stream ≡ group.happens f.stream (of_goes form f e)
 goes_alone form f (Append n fields) = refl
 goes_alone form f (Delete id) = refl
 goes_alone form f (Read c n) = refl
@@ -31,19 +41,21 @@ goes_alone form f (Commit c) = refl
 goes_alone form f (Acknowledge c) = refl
 goes_alone form f (Ack_comes k) = refl
 goes_alone form f (Go_back c) = refl
-goes_alone form f (Crash c every) = refl
+goes_alone form f (Crash c every keeps ids) = refl
 
 -- the stream goes on as if there were no files
-pub one_alone : (form : Form) (f : Files) (e : Event) → (happens form f e).stream ≡ group.happens f.stream (of_group e)
+pub one_alone : (form : Form) (f : Files) (e : Event)
+    → (happens form f e).stream ≡ group.happens f.stream (of_group form f e)
 one_alone form f (Goes e) = goes_alone form f e
 one_alone form f (Commits c g) = refl
-one_alone form f (Reopens c every torn) = refl
+one_alone form f (Reopens c every torn ids) = refl
 
 pub alone : (form : Form) (es : List Event) (f : Files)
-    → (run form es f).stream ≡ group.run (map of_group es) f.stream
+    → (run form es f).stream ≡ group.run (of_all form f es) f.stream
 alone form [] f = refl
 alone form (e ∷ es) f =
-    alone form es (happens form f e) ∙ ap (λ w. group.run (map of_group es) w) (one_alone form f e)
+    alone form es (happens form f e)
+    ∙ ap (λ w. group.run (of_all form (happens form f e) es) w) (one_alone form f e)
 
 -- ---- what commits
 
@@ -72,7 +84,7 @@ acks w (Some a) = refl
 -- an event is a commit, or a crash, or one that changes no file, no letter, and nothing that is committed
 module _ (form : Form) (f : Files) (P : Files → Type 0)
     (on_commit : (c : Name) (gives_up : Entry → Bool) → P (commits form f c gives_up))
-    (on_crash : (c : Name) (every : ℕ) → P (reopens f c every []))
+    (on_crash : (c : Name) (every : ℕ) (ids : List Id) → P (reopens form f c every [] ids))
     (other : (e : group.Event Fields) → (group.happens f.stream e).committed ≡ f.stream.committed
     → P (record f { stream = group.happens f.stream e })) where
   pub by_kind : (e : group.Event Fields) → P (happens form f (Goes e))
@@ -88,7 +100,7 @@ module _ (form : Form) (f : Files) (P : Files → Type 0)
   by_kind (Acknowledge c) = other (Acknowledge c) refl
   by_kind (Ack_comes k) = other (Ack_comes k) (acks f.stream (item f.stream.acks k))
   by_kind (Go_back c) = other (Go_back c) refl
-  by_kind (Crash c every) = on_crash c every
+  by_kind (Crash c every keeps ids) = on_crash c every ids
 
 -- ---- one of the files
 

@@ -3,6 +3,7 @@ use Rattle.std.specs.Prelude.{◌≡◌, ℕ, List, ◌++◌, Bool, Option, Some
 use Rattle.line_log.specs.Device.{LeavesOnly}
 use Rattle.line_log.specs.Holds.{Holds}
 use Rattle.line_log.specs.EntryLine.{Entry}
+use Rattle.stream_group.specs.Worker.{Id}
 use Rattle.stream_group.specs.Group.{Name}
 use Rattle.stream_files.specs.Files.{Form, Files, batch, commits, reopens}
 use Rattle.stream_files.specs.Law.{MayLeave}
@@ -19,8 +20,8 @@ module _ {D : Type 0} (seen : D → Option (List ℕ)) (may_leave : D → List �
 
   -- opened on what a crash left, it holds the file that the worker has after `Reopens`
   abbrev pub OpensSo : D → D → ℕ → Bool → Type 0
-  OpensSo old new len is_broken = (f : Files) (name : Name) (every : ℕ) (torn : List ℕ)
-      → seen old ≡ Some (f.file name ++ torn) → HoldsFile new len is_broken (reopens f name every torn) name
+  OpensSo old new len is_broken = (form : Form) (f : Files) (name : Name) (every : ℕ) (torn : List ℕ) (ids : List Id)
+      → seen old ≡ Some (f.file name ++ torn) → HoldsFile new len is_broken (reopens form f name every torn ids) name
 
   -- if it held the file and gathered the lines of a commit, it holds the file that the worker has after `Commits`
   abbrev pub CommitsSo : List ℕ → D → ℕ → Bool → D → ℕ → Bool → Type 0

@@ -1,10 +1,11 @@
 -- A stream with its group, the file of each worker, and the letters of what was given up; and what may happen.
-use Rattle.std.specs.Prelude.{◌≡◌, ℕ, List, [], ◌∷◌, ◌++◌, ◌==◌, ◌||◌, Bool, false, not, filter, flat_map}
+use Rattle.std.specs.Prelude.{◌≡◌, ℕ, List, [], ◌∷◌, ◌++◌, ◌==◌, ◌&&◌, ◌||◌, Bool, true, false, not, filter, flat_map}
 use Rattle.std.specs.Prelude.{if◌then◌else◌}
 use Rattle.line_log.specs.EntryLine.{Entry}
 use Rattle.line_log.specs.Lines.{HasNoEnd}
+use Rattle.stream_group.specs.Worker.{Id}
 use Rattle.stream_group.specs.Group.{Name}
-use Rattle.stream_group.specs.World.{World, Commit, Crash, empty_world, with_one}
+use Rattle.stream_group.specs.World.{World, Commit, Crash, empty_world, with_one, committed_after, among_ids}
 use Rattle.stream_group.specs.World as group
 
 -- names and values, in order
@@ -31,6 +32,22 @@ abbrev pub whole_lines : List ℕ → List ℕ
 whole_lines [] = []
 whole_lines (b ∷ bs) = if has_end (b ∷ bs) then b ∷ whole_lines bs else []
 
+-- these bytes begin with those
+abbrev pub begins : List ℕ → List ℕ → Bool
+begins [] bytes = true
+begins (x ∷ xs) [] = false
+begins (x ∷ xs) (b ∷ bs) = x == b && begins xs bs
+
+-- a line of these bytes is this one, where the first line begins at once, or behind the next line feed
+abbrev pub has_line_from : Bool → List ℕ → List ℕ → Bool
+has_line_from at_once line [] = false
+has_line_from at_once line (b ∷ bs) =
+    (at_once && begins (line ++ 10 ∷ []) (b ∷ bs)) || has_line_from (b == 10) line bs
+
+-- a line of these bytes is that of the entry
+abbrev pub is_in : Form → List ℕ → Entry → Bool
+is_in form bytes e = has_line_from true (form.line e) bytes
+
 pub record Files : Type 0 where
   pub stream : World Fields  -- the stream, its group and its workers
   pub file : Name → List ℕ  -- of each worker's file the bytes that no crash takes back
@@ -48,8 +65,9 @@ pub data Event : Type 0 where
   -- came. Of each other entry a line is written and synced
   Commits : (consumer : Name) (gives_up : Entry → Bool) → Event
   -- a worker crashes, and is started again. Its file has what was committed and any bytes after it, and is cut after
-  -- its last line feed
-  Reopens : (consumer : Name) (every : ℕ) (torn : List ℕ) → Event
+  -- its last line feed. What its handler did and is a line of the file is committed. It reads lines of its file back,
+  -- and begins to acknowledge those of these ids that they name
+  Reopens : (consumer : Name) (every : ℕ) (torn : List ℕ) (ids : List Id) → Event
 
 -- the lines that a commit writes
 abbrev pub batch : Form → Files → Name → (Entry → Bool) → List ℕ
@@ -63,25 +81,40 @@ commits form f consumer gives_up = record {
   letters = f.letters ++ filter gives_up (f.stream.loose consumer);
 }
 
--- a worker knows nothing, and has the whole lines of what a crash left
-abbrev pub reopens : Files → Name → ℕ → List ℕ → Files
-reopens f consumer every torn = record {
-  stream = group.happens f.stream (Crash consumer every);
-  file = with_one f.file consumer (whole_lines (f.file consumer ++ torn));
+-- the file of a worker after a crash that left these bytes behind what is committed
+abbrev pub repaired : Files → Name → List ℕ → List ℕ
+repaired f consumer torn = whole_lines (f.file consumer ++ torn)
+
+-- of all that is committed then, what is a line of that file
+abbrev pub read_back : Form → Files → Name → List ℕ → List Entry
+read_back form f consumer torn =
+    let is_there : Entry → Bool = is_in form (repaired f consumer torn) in
+    filter is_there (committed_after f.stream consumer is_there)
+
+-- the crash of `stream_group` that this is
+abbrev pub crash_of : Form → Files → Name → ℕ → List ℕ → List Id → group.Event Fields
+crash_of form f consumer every torn ids =
+    Crash consumer every (is_in form (repaired f consumer torn)) (among_ids (read_back form f consumer torn) ids)
+
+-- a worker has the whole lines of what a crash left, and begins to acknowledge those of these ids that are in it
+abbrev pub reopens : Form → Files → Name → ℕ → List ℕ → List Id → Files
+reopens form f consumer every torn ids = record {
+  stream = group.happens f.stream (crash_of form f consumer every torn ids);
+  file = with_one f.file consumer (repaired f consumer torn);
   letters = f.letters;
 }
 
 -- an event of `stream_group`: a commit gives up nothing, and a crash leaves nothing but what is committed
 abbrev pub goes : Form → Files → group.Event Fields → Files
 goes form f (Commit consumer) = commits form f consumer (λ e. false)
-goes form f (Crash consumer every) = reopens f consumer every []
+goes form f (Crash consumer every keeps ids) = reopens form f consumer every [] ids
 goes form f event = record f { stream = group.happens f.stream event }
 
 -- what an event makes of the files
 abbrev pub happens : Form → Files → Event → Files
 happens form f (Goes event) = goes form f event
 happens form f (Commits consumer gives_up) = commits form f consumer gives_up
-happens form f (Reopens consumer every torn) = reopens f consumer every torn
+happens form f (Reopens consumer every torn ids) = reopens form f consumer every torn ids
 
 -- a whole schedule
 abbrev pub run : Form → List Event → Files → Files

@@ -2,8 +2,8 @@
 use Rattle.std.specs.Prelude.{◌≡◌, ◌⊎◌, ℕ, List, [], ◌∷◌, ◌++◌, Bool, Option, Some}
 use Rattle.line_log.specs.EntryLine.{Entry, line_of}
 use Rattle.line_log.specs.Lines.{HasNoEnd, AreLines, StartsWith, IsRepaired}
-use Rattle.stream_group.specs.Worker.{Id}
-use Rattle.stream_group.specs.Group.{Name}
+use Rattle.stream_group.specs.Worker.{Id, begins_with}
+use Rattle.stream_group.specs.Group.{Name, ids_of}
 use Rattle.stream_group.specs.World.{log_of}
 use Rattle.stream_group.specs.Law.{Among, IsPending}
 use Rattle.stream_files.specs.Files.{Form, Fields, Files, Event, Goes, Commits, Reopens, first_files, lines, batch}
@@ -78,7 +78,7 @@ LettersAreOfTheLog = (form : Form) (before : Name → List ℕ) (events : List E
 abbrev pub LeavesFront : Form → Files → Event → Type 0
 LeavesFront form f (Goes event) = Unit {0}
 LeavesFront form f (Commits consumer gives_up) = Unit {0}
-LeavesFront form f (Reopens consumer every torn) =
+LeavesFront form f (Reopens consumer every torn ids) =
     (gives_up : Entry → Bool) × StartsWith torn (batch form f consumer gives_up)
 
 -- so does each of these, from these files on
@@ -100,6 +100,32 @@ LinesAreOfTheLog = (form : Form) (before : Name → List ℕ) (events : List Eve
     → AllLeaveFronts form (first_files before) events → (name : Name) → before name ≡ []
     → (e : Entry) → IsLineIn (form.line e) ((after form before events).file name)
     → Among e (log (after form before events))
+
+-- the world after these events, and a crash of this worker
+abbrev pub restarted : Form → (Name → List ℕ) → List Event → Name → ℕ → List ℕ → List Id → Files
+restarted form before events name every torn ids =
+    happens form (after form before events) (Reopens name every torn ids)
+
+-- what a worker that is started again begins to acknowledge is of these ids, and each is that of a line of its file,
+-- of an entry that was added, with its own fields
+abbrev pub BeginsWithItsLines : Type 0
+BeginsWithItsLines = (form : Form) (before : Name → List ℕ) (events : List Event) (name : Name) (every : ℕ)
+    (torn : List ℕ) (ids : List Id) (id : Id)
+    → Among id ((restarted form before events name every torn ids).stream.workers name).to_acknowledge
+    → Among id ids × ((fields : Fields)
+    × IsLineIn (form.line (id, fields)) ((restarted form before events name every torn ids).file name)
+    × Among (id, fields) (log (after form before events)))
+
+-- if each crash leaves only first bytes, and its file was new, it begins with all that it reads back: if those are ids
+-- of lines of its file, then it acknowledges each, in this order
+abbrev pub BeginsWithAllItReads : Type 0
+BeginsWithAllItReads = (form : Form) (before : Name → List ℕ) (events : List Event) (name : Name) (every : ℕ)
+    (torn : List ℕ) (es : List Entry)
+    → AllLeaveFronts form (first_files before) events
+    → LeavesFront form (after form before events) (Reopens name every torn (ids_of es)) → before name ≡ []
+    → ((e : Entry) → Among e es
+    → IsLineIn (form.line e) ((restarted form before events name every torn (ids_of es)).file name))
+    → (restarted form before events name every torn (ids_of es)).stream.workers name ≡ begins_with every (ids_of es)
 
 -- a file that `line_log` says it repaired has the whole lines of what it had
 abbrev pub RepairsToWholeLines : Type 0

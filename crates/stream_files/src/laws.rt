@@ -1,7 +1,8 @@
 //! What holds after every schedule of additions, deletions, reads, claims, lost replies, commits
 //! and crashes of workers that have a file each.
 ghost use Rattle.stream_files.specs.Bound.{HeldLeavesSo};
-ghost use Rattle.stream_files.specs.Law.{AcknowledgedIsInAFile, EachEntryIsKept, FilesAreOfTheLog, FilesGrow};
+ghost use Rattle.stream_files.specs.Law.{AcknowledgedIsInAFile, BeginsWithAllItReads, BeginsWithItsLines};
+ghost use Rattle.stream_files.specs.Law.{EachEntryIsKept, FilesAreOfTheLog, FilesGrow};
 ghost use Rattle.stream_files.specs.Law.{LettersAreOfTheLog, LettersStay, LinesAreOfTheLog};
 ghost use Rattle.stream_files.specs.Law.{RepairsToWholeLines, TextIsAForm};
 
@@ -32,6 +33,14 @@ pub fn nothing_is_made_up()
     ensures letters { LettersAreOfTheLog }
     ensures files { FilesAreOfTheLog }
     ensures lines { LinesAreOfTheLog }
+{}
+
+/// A worker that is started again begins to acknowledge only ids of lines of its own file, of entries
+/// that were added. If each crash leaves only first bytes, and its file was new, it begins with all
+/// ids that it reads back, in their order.
+pub fn a_started_worker_acknowledges_its_lines()
+    ensures only { BeginsWithItsLines }
+    ensures all { BeginsWithAllItReads }
 {}
 
 /// The model's file is one of `line_log`: it is repaired to the same lines, and its lines of text

@@ -542,7 +542,7 @@ module _ {F : Type 0} where
   else_held m o (Acknowledge c) fair i = i
   else_held m o (Ack_comes k) fair i = late_held m.stream m.consumers (item m.stream.acks k) i
   else_held m o (Go_back c) fair i = i
-  else_held m o (Crash c every) fair i = i
+  else_held m o (Crash c every keeps ids) fair i = i
 
   asked_held : (m : Many F) → Distinct m.stream → (name : Name) (n : ℕ) (pick : Id → Bool) (next : Id)
       → FairAsk m name pick (m.consumers name).machine.phase → (b : Bool)

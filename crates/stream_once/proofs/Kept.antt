@@ -256,7 +256,7 @@ module _ {F : Type 0} where
   else_all w cs (Acknowledge c) h i = absurd h
   else_all w cs (Ack_comes k) h i = late_all w cs k (item w.acks k) refl i
   else_all w cs (Go_back c) h i = i
-  else_all w cs (Crash c every) h i = i
+  else_all w cs (Crash c every keeps ids) h i = i
 
   abbrev AllOf : Many F → Type 0
   AllOf m = AllIn m.stream m.consumers

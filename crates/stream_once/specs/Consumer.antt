@@ -4,7 +4,7 @@ use Rattle.std.specs.Prelude.{Option, Some, None, if◌then◌else◌}
 use Rattle.std.specs.Option.{is_none}
 use Rattle.stream_group.specs.Worker.{Id, Entry, Verdict, Machine, Phase, own, claiming, reading, Answer}
 use Rattle.stream_group.specs.Worker.{own_pending, taken_over, news, entries_in, handled_in, start, after, after_commit}
-use Rattle.stream_group.specs.Worker.{begins_again}
+use Rattle.stream_group.specs.Worker.{begins_again, begins_with}
 use Rattle.stream_group.specs.Group.{Name, ids_of, given, whole, reread, claim_answer}
 use Rattle.stream_group.specs.World.{read, read_again, claim}
 use Rattle.stream_group.specs.World as group
@@ -70,7 +70,7 @@ last_lines n file = drop (length file - n) file
 
 -- a worker that begins with what is pending for it, and acknowledges these ids before that
 abbrev pub resumes : List Id → Machine
-resumes ids = record (start 1) { to_acknowledge = ids }
+resumes ids = begins_with 1 ids
 
 -- how many lines the last commit added: where a crash cut a commit off, those lines of it that are in the file
 abbrev pub last_added : {F : Type 0} → ℕ → List (Entry F) → ℕ

@@ -4,13 +4,14 @@ use Rattle.std.proofs.Common.{append-nil, Option, Some, None, if◌then◌else�
 use Rattle.std.proofs.lemmas.Slice.Eq.{bytes_eq-Decides}
 use Rattle.std.specs.Str.{bytes_eq}
 use Rattle.line_log.specs.EntryLine.{Entry}
-use Rattle.stream_group.specs.Worker.{Verdict, Machine, Delivered, entries_in, handled_in, start}
+use Rattle.stream_group.specs.Worker.{Id, Verdict, Machine, Delivered, entries_in, handled_in, begins_with}
 use Rattle.stream_group.specs.Worker.{after, after_commit, begins_again}
 use Rattle.stream_group.specs.Group.{Name}
 use Rattle.stream_group.specs.World.{World, Reply, Append, Delete, Read, Reread, Claim, Claim_ids, Comes, Commit}
 use Rattle.stream_group.specs.World.{Acknowledge, Ack_comes, Go_back, Crash, item, but, comes, with_one}
+use Rattle.stream_group.specs.World.{committed_after, among_ids}
 use Rattle.stream_group.specs.World as group
-use Rattle.stream_files.specs.Files.{Fields, Form, Files, Goes, Reopens, first_files, lines, whole_lines}
+use Rattle.stream_files.specs.Files.{Fields, Form, Files, Goes, Reopens, first_files, lines, whole_lines, is_in}
 use Rattle.stream_files.specs.Files as files
 use Rattle.stream_worker.specs.Answers.{Heard, told, no_group, group_made}
 use Rattle.stream_worker.specs.Gathered.{Doings, done_too, committed_too}
@@ -19,10 +20,11 @@ use Rattle.stream_worker.specs.Session.{Standing, having_heard}
 use Rattle.stream_worker.specs.declared.state.Asked.{Asked}
 use Rattle.stream_worker.specs.declared.state.GroupState.{GroupState}
 use Rattle.stream_worker.specs.declared.state.Settings.{Settings}
+use Rattle.stream_files.proofs.Started.{then_committed, all_its_own}
 use Rattle.stream_worker.proofs.StepLemmas.{all_done}
 use Rattle.stream_system.specs.System.{Server, System, Move, Serves, Commits, Sends, Hears, Breaks, Restarts, server_of}
 use Rattle.stream_system.specs.System.{world_with, first_system, with_worker, waiting, heard, still_coming, new_worker}
-use Rattle.stream_system.specs.System.{moves, run}
+use Rattle.stream_system.specs.System.{repaired, filed_then, read_back, moves, run}
 use Rattle.stream_system.specs.Law.{IsReplyTo, HearsTruly, AllHearTruly}
 use Rattle.stream_system.proofs.Served.{IsServed, append, delete, read, reread, claim, claim_ids, ack_came}
 
@@ -68,6 +70,7 @@ pub record Coupled (s : System) (f : Files) : Type 0 where
   pub file : (n : Name) → f.file n ≡ s.file n
   pub machine : (n : Name) → f.stream.workers n ≡ (s.workers n).machine
   pub loose : (n : Name) → f.stream.loose n ≡ (s.workers n).history.loose
+  pub filed : f.stream.committed ≡ s.filed
   pub no_letters : f.letters ≡ []
 
 module _ (form : Form) where
@@ -89,6 +92,7 @@ module _ (form : Form) where
     file = c.file;
     machine = λ n. i.workers n ∙ c.machine n;
     loose = λ n. i.loose n ∙ c.loose n;
+    filed = i.committed ∙ c.filed;
     no_letters = c.no_letters;
   }
 
@@ -125,7 +129,7 @@ module _ (form : Form) where
   serve s f c (Commit name) = nothing_happens s f c
   serve s f c (Acknowledge name) = nothing_happens s f c
   serve s f c (Go_back name) = nothing_happens s f c
-  serve s f c (Crash name every) = nothing_happens s f c
+  serve s f c (Crash name every keeps ids) = nothing_happens s f c
 
   -- ---- a worker
 
@@ -136,7 +140,8 @@ module _ (form : Form) where
     history = if b then committed_too (s.workers name).history else (s.workers name).history;
   })) {
     file = with_one s.file name
-        (s.file name ++ (if b then lines form (s.workers name).history.loose else []));
+        (s.file name ++ lines form (if b then (s.workers name).history.loose else []));
+    filed = s.filed ++ (if b then (s.workers name).history.loose else []);
   }
 
   commit : (s : System) (f : Files) → Coupled s f → (name : Name) (b : Bool) → Follows (having_committed s name b) f
@@ -155,6 +160,7 @@ module _ (form : Form) where
           machine = both_one f.stream.workers s.workers (λ m. m) machine_in name (after_commit (f.stream.workers name)) now
               c.machine (ap after_commit (c.machine name));
           loose = both_one f.stream.loose s.workers (λ es. es) loose_in name [] now c.loose refl;
+          filed = ap (λ es. es ++ f.stream.loose name) c.filed ∙ ap (λ es. s.filed ++ es) (c.loose name);
           no_letters = ap (λ es. f.letters ++ es) (filter_none (f.stream.loose name)) ∙ append-nil f.letters ∙ c.no_letters;
         };
       }
@@ -166,6 +172,7 @@ module _ (form : Form) where
           (c.file name ∙ sym (append-nil (s.file name)));
       machine = one_side f.stream.workers s.workers machine_in name (s.workers name) c.machine (c.machine name);
       loose = one_side f.stream.loose s.workers loose_in name (s.workers name) c.loose (c.loose name);
+      filed = c.filed ∙ sym (append-nil s.filed);
       no_letters = c.no_letters;
     };
   }
@@ -184,6 +191,7 @@ module _ (form : Form) where
           file = c.file;
           machine = one_side f.stream.workers s.workers machine_in name (waiting settings w) c.machine (c.machine name);
           loose = one_side f.stream.loose s.workers loose_in name (waiting settings w) c.loose (c.loose name);
+          filed = c.filed;
           no_letters = c.no_letters;
         };
       }
@@ -205,6 +213,7 @@ module _ (form : Form) where
       machine = one_side f.stream.workers s.workers machine_in name x c.machine (c.machine name ∙ sym machine);
       loose = one_side f.stream.loose s.workers loose_in name x c.loose
           (c.loose name ∙ sym (ap (λ (d : Doings). d.loose) history));
+      filed = c.filed;
       no_letters = c.no_letters;
     };
   }
@@ -238,6 +247,7 @@ module _ (form : Form) where
               c.machine (ap (λ m. after m a vs) (c.machine name));
           loose = both_one f.stream.loose s.workers (λ l. l) loose_in name (f.stream.loose name ++ handled_in es vs) x
               c.loose (ap (λ l. l ++ handled_in es vs) (c.loose name) ∙ sym did);
+          filed = c.filed;
           no_letters = c.no_letters;
         });
       }
@@ -255,22 +265,39 @@ module _ (form : Form) where
           machine = both_one f.stream.workers s.workers (λ m. m) machine_in name (begins_again (f.stream.workers name)) x
               c.machine (ap begins_again (c.machine name));
           loose = one_side f.stream.loose s.workers loose_in name x c.loose (c.loose name);
+          filed = c.filed;
           no_letters = c.no_letters;
         };
       }
 
-  restart : (s : System) (f : Files) → Coupled s f → (name : Name) (settings : Settings) (torn : List ℕ)
-      → Follows (moves form s (Restarts name settings torn)) f
-  restart s f c name settings torn =
-      let x : Standing Doings = new_worker settings.every in
+  restart : (s : System) (f : Files) → Coupled s f → (name : Name) (settings : Settings) (torn : List ℕ) (ids : List Id)
+      (before : List Entry) → Follows (moves form s (Restarts name settings torn ids before)) f
+  restart s f c name settings torn ids before =
+      let now : List ℕ = repaired s name torn in
+      let file : whole_lines (f.file name ++ torn) ≡ now = ap (λ xs. whole_lines (xs ++ torn)) (c.file name) in
+      let after_crash : List ℕ → List Entry → List Entry → List Entry =
+      λ xs es did. es ++ filter (is_in form xs) did in
+      let filed : committed_after f.stream name (is_in form (whole_lines (f.file name ++ torn)))
+      ≡ filed_then form s name torn =
+      ap (λ xs. after_crash xs f.stream.committed (f.stream.loose name)) file
+      ∙ ap (λ es. after_crash now es (f.stream.loose name)) c.filed
+      ∙ ap (λ es. after_crash now s.filed es) (c.loose name) in
+      let back : files.read_back form f name torn ≡ read_back form s name torn =
+      ap (λ xs. filter (is_in form xs) (committed_after f.stream name (is_in form (whole_lines (f.file name ++ torn))))) file
+      ∙ ap (λ es. filter (is_in form now) es) filed in
+      let x : Standing Doings = new_worker settings.every (among_ids (read_back form s name torn) ids) before in
       record {
-        events = Reopens name settings.every torn ∷ [];
+        events = Reopens name settings.every torn ids ∷ [];
         coupled = record {
           server = c.server;
-          file = both_one f.file s.file (λ xs. xs) (λ xs. xs) name (whole_lines (f.file name ++ torn))
-              (whole_lines (s.file name ++ torn)) c.file (ap (λ xs. whole_lines (xs ++ torn)) (c.file name));
-          machine = both_one f.stream.workers s.workers (λ m. m) machine_in name (start settings.every) x c.machine refl;
+          file = both_one f.file s.file (λ xs. xs) (λ xs. xs) name (whole_lines (f.file name ++ torn)) now c.file file;
+          machine = both_one f.stream.workers s.workers (λ m. m) machine_in name
+              (begins_with settings.every (among_ids (then_committed form f name settings.every torn)
+              (among_ids (files.read_back form f name torn) ids))) x c.machine
+              (ap (λ l. begins_with settings.every l) (all_its_own form f name settings.every torn ids)
+              ∙ ap (λ es. begins_with settings.every (among_ids es ids)) back);
           loose = both_one f.stream.loose s.workers (λ l. l) loose_in name [] x c.loose refl;
+          filed = filed;
           no_letters = c.no_letters;
         };
       }
@@ -282,7 +309,7 @@ module _ (form : Form) where
   each s f c (Hears name settings which reply vs) h =
       hear s f c name _ which (heard settings (s.workers name) reply) vs h
   each s f c (Breaks name state question) h = begin_again s f c name state question
-  each s f c (Restarts name settings torn) h = restart s f c name settings torn
+  each s f c (Restarts name settings torn ids before) h = restart s f c name settings torn ids before
 
   -- ---- all moves
 
@@ -308,5 +335,6 @@ module _ (form : Form) where
     file = λ n. refl;
     machine = λ n. refl;
     loose = λ n. refl;
+    filed = refl;
     no_letters = refl;
   }

@@ -1,4 +1,4 @@
--- The rounds of a worker as moves.
+-- The rounds of a worker as moves, and its start.
 use Rattle.std.proofs.Common.{◌≡◌, ◌≢◌, inl, inr, refl, sym, ap, ◌∙◌, ℕ, Bool, true, false, List, [], ◌∷◌, ◌++◌, Some}
 use Rattle.std.proofs.Common.{if◌then◌else◌}
 use Rattle.std.proofs.lemmas.Slice.Eq.{bytes_eq-Decides}
@@ -7,15 +7,16 @@ use Rattle.redis_connection.specs.Link.{Link}
 use Rattle.redis_resp.specs.Tree.{Tree}
 use Rattle.redis_wire.specs.Reply as wire
 use Rattle.stream_group.specs.Worker.{Verdict, Machine, begins_again}
-use Rattle.stream_group.specs.Group.{Name}
-use Rattle.stream_group.specs.World.{with_one}
+use Rattle.stream_group.specs.Group.{Name, ids_of}
+use Rattle.stream_group.specs.World.{with_one, among_ids}
 use Rattle.stream_files.specs.Files.{Form}
 use Rattle.stream_files.proofs.Step.{at_one}
+use Rattle.stream_files.proofs.Started.{all_read}
 use Rattle.stream_worker.specs.Answers.{told, group_after, hears}
 use Rattle.stream_worker.specs.Answered.{Failed, WasCut}
 use Rattle.stream_worker.specs.Gathered.{Doings, done_too, committed_too}
 use Rattle.stream_worker.specs.Requested.{Unasked}
-use Rattle.stream_worker.specs.Session.{Standing, Breaks, asking, after_failure, having_heard}
+use Rattle.stream_worker.specs.Session.{Standing, standing_of, Breaks, asking, after_failure, having_heard}
 use Rattle.stream_worker.specs.declared.error.RequestError.{RequestError}
 use Rattle.stream_worker.specs.declared.error.RequestError.TheVariants.{NotCommitted, TooLong, Memory}
 use Rattle.stream_worker.specs.declared.error.RunError.{RunError}
@@ -25,9 +26,11 @@ use Rattle.stream_worker.specs.declared.error.WorkerError.TheVariants as faults
 use Rattle.stream_worker.specs.declared.state.Asked.{Asked}
 use Rattle.stream_worker.specs.declared.state.GroupState.{GroupState}
 use Rattle.stream_worker.specs.declared.state.Settings.{Settings}
-use Rattle.stream_system.specs.System.{System, Move, committed, waiting, having, moves, run}
+use Rattle.stream_system.specs.System.{System, Move, new_worker, committed, waiting, repaired, filed_then, read_back}
+use Rattle.stream_system.specs.System.{having, moves, run}
 use Rattle.stream_system.specs.System as system
 use Rattle.stream_system.specs.Rounds.{round_of, RoundsAreMoves, AreOf, AreOthers, FailuresAreMoves, OthersChangeNothing}
+use Rattle.stream_system.specs.Rounds.{StartsAreMoves}
 
 -- two standings that are the same in each part
 as_parts : (y w : Standing Doings) → y.machine ≡ w.machine → y.group ≡ w.group → y.asked ≡ w.asked
@@ -57,7 +60,7 @@ others_change_nothing form s name (system.Sends other settings) h = elsewhere s.
 others_change_nothing form s name (system.Hears other settings which reply vs) h =
     elsewhere s.workers other _ name h
 others_change_nothing form s name (system.Breaks other state question) h = elsewhere s.workers other _ name h
-others_change_nothing form s name (system.Restarts other settings torn) h = elsewhere s.workers other _ name h
+others_change_nothing form s name (system.Restarts other settings torn ids before) h = elsewhere s.workers other _ name h
 
 others_leave : (form : Form) (name : Name) (ms : List Move) (s : System) → AreOthers name ms
     → (run form ms s).workers name ≡ s.workers name
@@ -209,3 +212,12 @@ pub failures_are_moves : FailuresAreMoves
 failures_are_moves form s name settings old new x e f which =
     let led = broken form name settings s old new f.0 e f.1 which in
     (led.0, led.1, led.2 ∙ sym f.2)
+
+pub starts_are_moves : StartsAreMoves
+starts_are_moves form s name settings torn es before w there started =
+    let mine : among_ids (read_back form s name torn) (ids_of es) ≡ ids_of es =
+    all_read form (repaired s name torn) (filed_then form s name torn) es (λ e h. (there e h).0) (λ e h. (there e h).1) in
+    at_one s.workers name (new_worker settings.every (among_ids (read_back form s name torn) (ids_of es)) before)
+    ∙ ap (λ l. new_worker settings.every l before) mine
+    ∙ as_parts (new_worker settings.every (ids_of es) before) (standing_of w (record { loose = []; committed = before }))
+    (sym started.machine) (sym started.group) (sym started.asked) refl

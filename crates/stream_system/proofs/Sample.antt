@@ -1,20 +1,34 @@
--- Moves that meet the premise: a worker hears the reply that the server gave it, with an entry in it.
-use Rattle.std.proofs.Common.{◌≡◌, refl, sym, ap, subst, ◌∙◌, ℕ, true, List, [], ◌∷◌, ◌++◌, codes, string_bytes, Option, Some}
+-- Moves that meet the premises: a worker hears the reply that the server gave it, with an entry in it. It commits that,
+-- crashes, and reads its line back.
+use Rattle.std.proofs.Common.{◌≡◌, inl, inr, refl, sym, ap, subst, ◌∙◌, ℕ, true, List, [], ◌∷◌, ◌++◌, codes, string_bytes}
+use Rattle.std.proofs.Common.{Option, Some}
 use Rattle.std.specs.Fmt.{digits}
 use Rattle.std.specs.Str.{chars, is_utf8}
 use Rattle.std.specs.Char.{encode_utf8}
 use Rattle.redis_resp.specs.Tree.{Tree, bulk, array, trees}
 use Rattle.redis_wire.specs.Reply as wire
+use Rattle.line_log.specs.EntryLine.{Entry}
+use Rattle.line_log.specs.Lines.{AreLines}
 use Rattle.stream_group.specs.Worker.{done, own_pending}
 use Rattle.stream_group.specs.Group.{Name}
 use Rattle.stream_group.specs.World.{Append, Read, Reread, Ack_comes}
+use Rattle.stream_group.specs.Law.{Among}
+use Rattle.stream_group.proofs.Among.{among_left}
 use Rattle.stream_refs.specs.SentReading.{sent_streams_reading}
-use Rattle.stream_files.specs.Files.{Fields, Form}
-use Rattle.stream_worker.specs.Answers.{Heard, told, says, hears}
+use Rattle.stream_files.specs.Files.{Fields, Form, lines, whole_lines}
+use Rattle.stream_files.specs.Law.{IsLineIn}
+use Rattle.stream_files.proofs.LineLemmas.{line_stays, line_behind, are_lines, line_among}
+use Rattle.stream_files.proofs.Whole.{lines_join, whole_are_lines, whole_behind}
+use Rattle.stream_worker.specs.Answers.{Heard, told, says, group_after, hears}
+use Rattle.stream_worker.specs.Gathered.{Doings, done_too}
+use Rattle.stream_worker.specs.Session.{Standing, having_heard}
+use Rattle.stream_worker.specs.declared.state.GroupState.{GroupState}
 use Rattle.stream_worker.specs.declared.state.Asked.TheVariants as asked
 use Rattle.stream_worker.specs.declared.state.Settings.{Settings}
-use Rattle.stream_system.specs.System.{System, Move, Serves, Commits, Sends, Hears, first_system, run}
+use Rattle.stream_system.specs.System.{System, Move, Serves, Commits, Sends, Hears, first_system, with_worker}
+use Rattle.stream_system.specs.System.{still_coming, repaired, filed_then, moves, run}
 use Rattle.stream_system.specs.Law.{IsReplyTo, AllHearTruly}
+use Rattle.stream_system.specs.Rounds.{AreReadBack}
 
 abbrev ann : Name
 ann = codes "ann"
@@ -52,3 +66,52 @@ module _ (settings : Settings) (key : string_bytes settings.key ≡ codes "s") (
       let s : System = run form moves_before (first_system before) in
       let P : Option Heard → Type 0 = λ o. IsReplyTo s ann 0 o in
       (tt, (tt, (tt, (tt, (subst P (sym it_hears) refl, (tt, (tt, (tt, tt))))))))
+
+  -- it hears this, and commits
+  abbrev hears_and_commits : Option Heard → System
+  hears_and_commits o =
+      let s : System = run form moves_before (first_system before) in
+      let w : Standing Doings = s.workers ann in
+      let state : GroupState = group_after settings w.group w.asked (wire.value sent) in
+      moves form (record (with_worker s ann (having_heard done_too w state o (done ∷ []))) {
+        server = record s.server { replies = still_coming s.server.replies 0 o };
+      }) (Commits ann)
+
+  abbrev then_it_commits : System
+  then_it_commits = run form (Hears ann settings 0 (wire.value sent) (done ∷ []) ∷ Commits ann ∷ [])
+      (run form moves_before (first_system before))
+
+  abbrev entry : Entry
+  entry = (codes "1-0", fields)
+
+  pub filed : then_it_commits.filed ≡ entry ∷ []
+  filed = let P : Option Heard → Type 0 = λ o. (hears_and_commits o).filed ≡ entry ∷ [] in subst P (sym it_hears) refl
+
+  pub file : then_it_commits.file ann ≡ whole_lines (before ann) ++ lines form (entry ∷ [])
+  file =
+      let P : Option Heard → Type 0 =
+      λ o. (hears_and_commits o).file ann ≡ whole_lines (before ann) ++ lines form (entry ∷ []) in
+      subst P (sym it_hears) refl
+
+  has_it : (torn : List ℕ) → IsLineIn (form.line entry) (repaired then_it_commits ann torn)
+  has_it torn =
+      let first : List ℕ = whole_lines (before ann) in
+      let mine : List ℕ = lines form (entry ∷ []) in
+      let whole : AreLines (first ++ mine) =
+      lines_join first mine (whole_are_lines (before ann)) (are_lines form (entry ∷ [])) in
+      let is : repaired then_it_commits ann torn ≡ (first ++ mine) ++ whole_lines torn =
+      ap (λ xs. whole_lines (xs ++ torn)) file ∙ whole_behind (first ++ mine) torn whole in
+      subst (λ xs. IsLineIn (form.line entry) xs) (sym is)
+      (line_stays (form.line entry) (first ++ mine) (whole_lines torn)
+      (line_behind (form.line entry) first mine (whole_are_lines (before ann)) (line_among form entry (entry ∷ []) (inl refl))))
+
+  -- whatever the crash leaves, its line is one that it may read back
+  pub are_read_back : (torn : List ℕ) → AreReadBack form then_it_commits ann torn (entry ∷ [])
+  are_read_back torn e (inr h) = absurd h
+  are_read_back torn e (inl q) =
+      let P : Entry → Type 0 = λ x. Among x (filed_then form then_it_commits ann torn)
+      × IsLineIn (form.line x) (repaired then_it_commits ann torn) in
+      subst P q (
+        among_left entry then_it_commits.filed _ (subst (λ es. Among entry es) (sym filed) (inl refl)),
+        has_it torn,
+      )

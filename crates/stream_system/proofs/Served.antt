@@ -15,6 +15,7 @@ module _ (w : World Fields) where
     pub server : server_of (group.happens w e) ≡ server_of (group.happens (world_with (server_of w)) e)
     pub workers : (n : Name) → (group.happens w e).workers n ≡ w.workers n
     pub loose : (n : Name) → (group.happens w e).loose n ≡ w.loose n
+    pub committed : (group.happens w e).committed ≡ w.committed
 
   abbrev with_entry : World Fields → Numbers → Fields → Bool → World Fields
   with_entry v n fields b = if b then record v { fresh = v.fresh ++ (id_text n, fields) ∷ []; last = n } else v
@@ -36,6 +37,10 @@ module _ (w : World Fields) where
   added_loose n fields true c = refl
   added_loose n fields false c = refl
 
+  added_committed : (n : Numbers) (fields : Fields) (b : Bool) → (with_entry w n fields b).committed ≡ w.committed
+  added_committed n fields true = refl
+  added_committed n fields false = refl
+
   deleted_server : (id : Id) (b : Bool)
       → server_of (with_deleted w id b) ≡ server_of (with_deleted (world_with (server_of w)) id b)
   deleted_server id true = refl
@@ -48,6 +53,10 @@ module _ (w : World Fields) where
   deleted_loose : (id : Id) (b : Bool) (c : Name) → (with_deleted w id b).loose c ≡ w.loose c
   deleted_loose id true c = refl
   deleted_loose id false c = refl
+
+  deleted_committed : (id : Id) (b : Bool) → (with_deleted w id b).committed ≡ w.committed
+  deleted_committed id true = refl
+  deleted_committed id false = refl
 
   acked_server : (a : Option (Name × List Id))
       → server_of (ack_comes w a) ≡ server_of (ack_comes (world_with (server_of w)) a)
@@ -62,6 +71,10 @@ module _ (w : World Fields) where
   acked_loose None c = refl
   acked_loose (Some a) c = refl
 
+  acked_committed : (a : Option (Name × List Id)) → (ack_comes w a).committed ≡ w.committed
+  acked_committed None = refl
+  acked_committed (Some a) = refl
+
   pub append : (n : Numbers) (fields : Fields) → IsServed (Append n fields)
   append n fields =
       let b : Bool = is_below w.last n && fits n in
@@ -69,28 +82,35 @@ module _ (w : World Fields) where
         server = added_server n fields b;
         workers = added_workers n fields b;
         loose = added_loose n fields b;
+        committed = added_committed n fields b;
       }
 
   pub delete : (id : Id) → IsServed (Delete id)
   delete id =
       let b : Bool = listed (ids_of (log_of w)) id in
-      record { server = deleted_server id b; workers = deleted_workers id b; loose = deleted_loose id b }
+      record {
+        server = deleted_server id b;
+        workers = deleted_workers id b;
+        loose = deleted_loose id b;
+        committed = deleted_committed id b;
+      }
 
   pub read : (c : Name) (n : ℕ) → IsServed (Read c n)
-  read c n = record { server = refl; workers = λ m. refl; loose = λ m. refl }
+  read c n = record { server = refl; workers = λ m. refl; loose = λ m. refl; committed = refl }
 
   pub reread : (c : Name) (pick : Id → Bool) → IsServed (Reread c pick)
-  reread c pick = record { server = refl; workers = λ m. refl; loose = λ m. refl }
+  reread c pick = record { server = refl; workers = λ m. refl; loose = λ m. refl; committed = refl }
 
   pub claim : (c : Name) (pick : Id → Bool) (next : Id) → IsServed (Claim c pick next)
-  claim c pick next = record { server = refl; workers = λ m. refl; loose = λ m. refl }
+  claim c pick next = record { server = refl; workers = λ m. refl; loose = λ m. refl; committed = refl }
 
   pub claim_ids : (c : Name) (pick : Id → Bool) → IsServed (Claim_ids c pick)
-  claim_ids c pick = record { server = refl; workers = λ m. refl; loose = λ m. refl }
+  claim_ids c pick = record { server = refl; workers = λ m. refl; loose = λ m. refl; committed = refl }
 
   pub ack_came : (k : ℕ) → IsServed (Ack_comes k)
   ack_came k = record {
     server = acked_server (item w.acks k);
     workers = acked_workers (item w.acks k);
     loose = acked_loose (item w.acks k);
+    committed = acked_committed (item w.acks k);
   }

@@ -1,15 +1,24 @@
--- The rounds of a worker as moves.
+-- The rounds of a worker as moves, and its start.
 use Rattle.std.specs.Prelude.{◌≡◌, ◌≢◌, ℕ, List, [], ◌∷◌, ◌++◌}
 use Rattle.redis_connection.specs.Link.{Link}
-use Rattle.stream_group.specs.Group.{Name}
+use Rattle.line_log.specs.EntryLine.{Entry}
+use Rattle.stream_group.specs.Worker.{Id, begins_with}
+use Rattle.stream_group.specs.Group.{Name, ids_of}
+use Rattle.stream_group.specs.Law.{Among}
 use Rattle.stream_files.specs.Files.{Form}
+use Rattle.stream_files.specs.Law.{IsLineIn}
 use Rattle.stream_worker.specs.Gathered.{Doings, done_too, committed_too}
-use Rattle.stream_worker.specs.Session.{Standing, Turn, Turned, Fails}
+use Rattle.stream_worker.specs.Machine.{machine_of}
+use Rattle.stream_worker.specs.Session.{Standing, standing_of, Turn, Turned, Fails}
 use Rattle.stream_worker.specs.declared.error.RunError.{RunError}
 use Rattle.stream_worker.specs.declared.state.Asked.{Asked}
+use Rattle.stream_worker.specs.declared.state.Asked.TheVariants.{Nothing}
+use Rattle.stream_worker.specs.declared.state.GroupState.TheVariants.{Unknown}
 use Rattle.stream_worker.specs.declared.state.Settings.{Settings}
 use Rattle.stream_worker.specs.declared.worker.Progress.{Progress}
-use Rattle.stream_system.specs.System.{System, Move, Serves, Commits, Sends, Hears, Breaks, Restarts, moves, run}
+use Rattle.stream_worker.specs.declared.worker.Worker.{Worker}
+use Rattle.stream_system.specs.System.{System, Move, Serves, Commits, Sends, Hears, Breaks, Restarts, repaired}
+use Rattle.stream_system.specs.System.{filed_then, moves, run}
 
 -- the move is the server's, or another worker's
 abbrev pub IsOther : Name → Move → Type 0
@@ -18,7 +27,7 @@ IsOther name (Commits other) = other ≢ name
 IsOther name (Sends other settings) = other ≢ name
 IsOther name (Hears other settings which reply verdicts) = other ≢ name
 IsOther name (Breaks other state question) = other ≢ name
-IsOther name (Restarts other settings torn) = other ≢ name
+IsOther name (Restarts other settings torn ids before) = other ≢ name
 
 -- so is each of these
 abbrev pub AreOthers : Name → List Move → Type 0
@@ -50,7 +59,7 @@ IsOf name settings (Commits other) = other ≡ name
 IsOf name settings (Sends other with_settings) = (other ≡ name) × (with_settings ≡ settings)
 IsOf name settings (Hears other with_settings which reply verdicts) = (other ≡ name) × (with_settings ≡ settings)
 IsOf name settings (Breaks other state question) = other ≡ name
-IsOf name settings (Restarts other with_settings torn) = ⊥
+IsOf name settings (Restarts other with_settings torn ids before) = ⊥
 
 -- each of these is
 abbrev pub AreOf : Name → Settings → List Move → Type 0
@@ -63,3 +72,22 @@ FailuresAreMoves = (form : Form) (s : System) (name : Name) (settings : Settings
     (x : Standing Doings) (e : RunError)
     → Fails done_too committed_too settings old new (s.workers name) x e → (which : ℕ)
     → (ms : List Move) × AreOf name settings ms × ((run form ms s).workers name ≡ x)
+
+-- what a call promises of a worker that it gives out: it begins to acknowledge these ids. `Worker::new` promises that of
+-- none
+pub record IsStarted (settings : Settings) (ids : List Id) (w : Worker) : Type 0 where
+  pub machine : machine_of w ≡ begins_with settings.every ids
+  pub group : w.group ≡ Unknown
+  pub asked : w.asked ≡ Nothing
+
+-- the entries are committed after a crash that left these bytes, and lines of the worker's file then
+abbrev pub AreReadBack : Form → System → Name → List ℕ → List Entry → Type 0
+AreReadBack form s name torn es = (e : Entry) → Among e es
+    → Among e (filed_then form s name torn) × IsLineIn (form.line e) (repaired s name torn)
+
+-- a crash, and a worker that is started so with the ids of such entries, whose handler did nothing since, are a move
+abbrev pub StartsAreMoves : Type 0
+StartsAreMoves = (form : Form) (s : System) (name : Name) (settings : Settings) (torn : List ℕ)
+    (es before : List Entry) (w : Worker) → AreReadBack form s name torn es → IsStarted settings (ids_of es) w
+    → (moves form s (Restarts name settings torn (ids_of es) before)).workers name
+    ≡ standing_of w (record { loose = []; committed = before })

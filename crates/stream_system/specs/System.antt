@@ -1,12 +1,13 @@
 -- A server, workers that do what their contracts say, and their files; and what may happen.
-use Rattle.std.specs.Prelude.{ℕ, List, [], ◌∷◌, ◌++◌, Option, Some, None, if◌then◌else◌}
+use Rattle.std.specs.Prelude.{ℕ, List, [], ◌∷◌, ◌++◌, filter, Option, Some, None, if◌then◌else◌}
 use Rattle.redis_wire.specs.Reply as wire
 use Rattle.line_log.specs.EntryLine.{Entry}
-use Rattle.stream_group.specs.Worker.{Id, Verdict, start, begins_again}
+use Rattle.stream_group.specs.Worker.{Id, Verdict, begins_again, begins_with}
 use Rattle.stream_group.specs.Group.{Name, Numbers, Pending}
 use Rattle.stream_group.specs.World.{World, Reply, Comes, Commit, Acknowledge, Go_back, Crash, empty_world, but, with_one}
+use Rattle.stream_group.specs.World.{among_ids}
 use Rattle.stream_group.specs.World as group
-use Rattle.stream_files.specs.Files.{Fields, Form, lines, whole_lines}
+use Rattle.stream_files.specs.Files.{Fields, Form, lines, whole_lines, is_in}
 use Rattle.stream_worker.specs.Answers.{Heard, told, no_group, group_made, group_after, hears}
 use Rattle.stream_worker.specs.Gathered.{Doings, done_too, committed_too}
 use Rattle.stream_worker.specs.Machine.{commits, at_request, history_at_request}
@@ -61,29 +62,32 @@ serves s (Comes which verdicts) = s
 serves s (Commit consumer) = s
 serves s (Acknowledge consumer) = s
 serves s (Go_back consumer) = s
-serves s (Crash consumer every) = s
+serves s (Crash consumer every keeps ids) = s
 serves s event = server_of (group.happens (world_with s) event)
 
 pub record System : Type 0 where
   pub server : Server
   pub workers : Name → Standing Doings
   pub file : Name → List ℕ  -- of each worker's file the bytes that no crash takes back
+  pub filed : List Entry  -- what workers did and committed, which no crash undoes
 
--- a worker that knows nothing and did nothing
-abbrev pub new_worker : ℕ → Standing Doings
-new_worker every = record {
-  machine = start every;
+-- a worker that did nothing, and knows no more than ids that it is to acknowledge. Its handler says that these entries
+-- were committed before
+abbrev pub new_worker : ℕ → List Id → List Entry → Standing Doings
+new_worker every ids before = record {
+  machine = begins_with every ids;
   group = Unknown;
   asked = Nothing;
-  history = record { loose = []; committed = [] };
+  history = record { loose = []; committed = before };
 }
 
 -- nothing was added, and each worker opened its file, which had these bytes before
 abbrev pub first_system : (Name → List ℕ) → System
 first_system before = record {
   server = server_of empty_world;
-  workers = λ name. new_worker 1;
+  workers = λ name. new_worker 1 [] [];
   file = λ name. whole_lines (before name);
+  filed = [];
 }
 
 -- what may happen next
@@ -99,8 +103,10 @@ pub data Move : Type 0 where
   -- a round of a worker fails: it begins again with what is pending for it, and knows this of the group
   Breaks : (name : Name) (state : GroupState) (question : Asked) → Move
   -- a worker crashes, or is killed, and is started again. Its file has what was committed and any bytes after it, and
-  -- is cut after its last line feed
-  Restarts : (name : Name) (settings : Settings) (torn : List ℕ) → Move
+  -- is cut after its last line feed. What its handler did and is a line of the file is committed. It reads lines of its
+  -- file back, and begins to acknowledge those of these ids that they name. Its handler may say of any entries that
+  -- they were committed before
+  Restarts : (name : Name) (settings : Settings) (torn : List ℕ) (ids : List Id) (before : List Entry) → Move
 
 -- a worker after its commit
 abbrev pub committed : Standing Doings → Standing Doings
@@ -109,9 +115,9 @@ committed w = record w {
   history = history_at_request committed_too w.machine w.history;
 }
 
--- the lines that it commits
-abbrev pub written : Form → Standing Doings → List ℕ
-written form w = if commits w.machine then lines form w.history.loose else []
+-- what it commits
+abbrev pub files_now : Standing Doings → List Entry
+files_now w = if commits w.machine then w.history.loose else []
 
 -- a worker that waits for the reply to its command
 abbrev pub waiting : Settings → Standing Doings → Standing Doings
@@ -133,6 +139,18 @@ still_coming replies which (Some (told answer)) = but replies which
 still_coming replies which (Some no_group) = replies
 still_coming replies which (Some group_made) = replies
 
+-- the file of a worker after a crash that left these bytes behind what is committed
+abbrev pub repaired : System → Name → List ℕ → List ℕ
+repaired s name torn = whole_lines (s.file name ++ torn)
+
+-- what is committed then
+abbrev pub filed_then : Form → System → Name → List ℕ → List Entry
+filed_then form s name torn = s.filed ++ filter (is_in form (repaired s name torn)) (s.workers name).history.loose
+
+-- of that, what is a line of the file
+abbrev pub read_back : Form → System → Name → List ℕ → List Entry
+read_back form s name torn = filter (is_in form (repaired s name torn)) (filed_then form s name torn)
+
 -- the system with this worker
 abbrev pub with_worker : System → Name → Standing Doings → System
 with_worker s name w = record s { workers = with_one s.workers name w }
@@ -141,7 +159,8 @@ with_worker s name w = record s { workers = with_one s.workers name w }
 abbrev pub moves : Form → System → Move → System
 moves form s (Serves event) = record s { server = serves s.server event }
 moves form s (Commits name) = record (with_worker s name (committed (s.workers name))) {
-  file = with_one s.file name (s.file name ++ written form (s.workers name));
+  file = with_one s.file name (s.file name ++ lines form (files_now (s.workers name)));
+  filed = s.filed ++ files_now (s.workers name);
 }
 moves form s (Sends name settings) = record (with_worker s name (waiting settings (s.workers name))) {
   server = record s.server { acks = (name, (s.workers name).machine.to_acknowledge) ∷ s.server.acks };
@@ -157,9 +176,11 @@ moves form s (Breaks name state question) = with_worker s name (record (s.worker
   group = state;
   asked = question;
 })
-moves form s (Restarts name settings torn) = record (with_worker s name (new_worker settings.every)) {
-  file = with_one s.file name (whole_lines (s.file name ++ torn));
-}
+moves form s (Restarts name settings torn ids before) =
+    record (with_worker s name (new_worker settings.every (among_ids (read_back form s name torn) ids) before)) {
+      file = with_one s.file name (repaired s name torn);
+      filed = filed_then form s name torn;
+    }
 
 -- a whole schedule
 abbrev pub run : Form → List Move → System → System

@@ -1,6 +1,6 @@
 //! What holds of workers over one server, each with a file of lines, after every schedule.
 ghost use Rattle.stream_system.specs.Law.{AcknowledgedIsInAFile, EachEntryIsKept};
-ghost use Rattle.stream_system.specs.Rounds.{FailuresAreMoves, OthersChangeNothing, RoundsAreMoves};
+ghost use Rattle.stream_system.specs.Rounds.{FailuresAreMoves, OthersChangeNothing, RoundsAreMoves, StartsAreMoves};
 
 /// After any moves each entry that was ever added is still to come, or pending, or is a line of some
 /// worker's file, whatever a crash leaves of it; or it was deleted. So is each entry that is
@@ -18,4 +18,11 @@ pub fn rounds_are_moves()
     ensures others { OthersChangeNothing }
     ensures rounds { RoundsAreMoves }
     ensures failures { FailuresAreMoves }
+{}
+
+/// What `Worker::resumed` and `Worker::new` promise is a move of the worker, after a crash that left
+/// any bytes behind what its file had. The premise is that it is given ids of entries that are
+/// committed, and lines of that file.
+pub fn starts_are_moves()
+    ensures { StartsAreMoves }
 {}
