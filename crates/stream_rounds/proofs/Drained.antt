@@ -31,7 +31,8 @@ module _ {F : Type 0} (n : ℕ) (name : Name) (some : 1 ≤ n) where
       good.no_end s.x (among_left s.x seen fresh s.within) s.is)
 
   lowers : (every : ℕ) (phase : Phase) (to_commit to_acknowledge : List Id) (ps : List Pending)
-      (seen fresh : List (Entry F)) (deleted : List Id) → IsGood ps seen fresh →
+      (seen fresh : List (Entry F)) (deleted : List Id) (handled : List (Entry F)) (acknowledged_ids : List Id)
+      → IsGood ps seen fresh →
       let v : View F = record {
         machine = record {
           every = every;
@@ -43,17 +44,19 @@ module _ {F : Type 0} (n : ℕ) (name : Name) (some : 1 ≤ n) where
         seen = seen;
         fresh = fresh;
         deleted = deleted;
+        handled = handled;
+        acknowledged_ids = acknowledged_ids;
       } in
       measure_at n name (step n name v) ≤ measure_at n name v - 1
-  lowers every (worker.own id) [] [] ps seen fresh deleted good =
+  lowers every (worker.own id) [] [] ps seen fresh deleted handled acknowledged_ids good =
       own_step n name some every ps seen fresh deleted (no_end_seen ps seen fresh good) id
-  lowers every (claiming id) [] [] ps seen fresh deleted good =
+  lowers every (claiming id) [] [] ps seen fresh deleted handled acknowledged_ids good =
       claim_step n name some every ps seen fresh deleted (no_end_seen ps seen fresh good)
       (parts.distinct_left seen fresh good.distinct) id
-  lowers every (reading rounds) [] [] ps seen fresh deleted good =
+  lowers every (reading rounds) [] [] ps seen fresh deleted handled acknowledged_ids good =
       read_step n name some every ps seen fresh deleted good rounds
-  lowers every phase (i ∷ ids) [] ps seen fresh deleted good = after_commit_acked n name every phase i ids ps seen fresh
-  lowers every phase to_commit (i ∷ ids) ps seen fresh deleted good =
+  lowers every phase (i ∷ ids) [] ps seen fresh deleted handled acknowledged_ids good = after_commit_acked n name every phase i ids ps seen fresh
+  lowers every phase to_commit (i ∷ ids) ps seen fresh deleted handled acknowledged_ids good =
       acked n name every phase i ids to_commit ps seen fresh
 
   abbrev measure_in : World F → ℕ
@@ -66,9 +69,9 @@ module _ {F : Type 0} (n : ℕ) (name : Name) (some : 1 ≤ n) where
       let w : World F = run es empty_world in
       let m : Machine = w.workers name in
       subst (λ (v : View F). measure_at n name v ≤ measure_in w - 1) (sym (round_seen n name w))
-      (lowers m.every m.phase m.to_commit m.to_acknowledge w.pending w.seen w.fresh w.deleted (always_good es))
+      (lowers m.every m.phase m.to_commit m.to_acknowledge w.pending w.seen w.fresh w.deleted w.handled w.acknowledged_ids (always_good es))
 
-  round_reached : (es : List (Event F)) →
+  pub round_reached : (es : List (Event F)) →
       let w : World F = run es empty_world in
       round n name w ≡ run (es ++ events_of_round n name w) empty_world
   round_reached es = sym (run_more es (events_of_round n name (run es empty_world)) empty_world)
