@@ -24,7 +24,7 @@ use Rattle.stream_rounds.proofs.ClaimStep.{claim_step}
 use Rattle.stream_rounds.proofs.ReadStep.{read_step}
 
 module _ {F : Type 0} (n : ℕ) (name : Name) (some : 1 ≤ n) where
-  no_end_seen : (ps : List Pending) (seen fresh : List (Entry F)) → IsGood ps seen fresh → NoEnd {F = F} n name seen
+  pub no_end_seen : (ps : List Pending) (seen fresh : List (Entry F)) → IsGood ps seen fresh → NoEnd {F = F} n name seen
   no_end_seen ps seen fresh good =
       not_true (listed (ids_of seen) (codes "0-0")) (λ h.
       let s = among_of_map (λ (e : Entry F). e.0) (codes "0-0") seen (listed_among (ids_of seen) (codes "0-0") h) in

@@ -10,5 +10,6 @@ pub mod OwnStep
 pub mod ClaimStep
 pub mod ReadStep
 pub mod Drained
+pub mod Again
 mod Sample
 mod Wrong

@@ -60,3 +60,8 @@ module _ {F : Type 0} where
   -- the same in a world
   abbrev pub enough_rounds : ℕ → Name → World F → ℕ
   enough_rounds n name w = rounds_for n (w.workers name) (mine_in name w) (pending_in w) (length w.fresh)
+
+  -- so many rounds hand out again all that is pending for a worker that begins again
+  abbrev pub again_rounds : ℕ → Name → World F → ℕ
+  again_rounds n name w =
+      held_for (w.workers name).to_acknowledge (w.workers name).to_commit + 2 * pages n (mine_in name w)

@@ -1,5 +1,5 @@
 //! What holds after enough rounds of a worker where nothing fails.
-ghost use Rattle.stream_rounds.specs.Law.{AllIsDrained, RoundsAreASchedule};
+ghost use Rattle.stream_rounds.specs.Law.{AllIsDrained, LostIsHandedOutAgain, RoundsAreASchedule};
 
 /// Whatever happened before, after `enough_rounds` of one worker, and after any more, nothing is
 /// pending and nothing is still to come. Between these rounds nothing else happens: no other worker
@@ -11,4 +11,11 @@ pub fn all_is_drained<F>()
 /// Rounds are a schedule of `stream_group`, so each of its laws holds of them.
 pub fn rounds_are_a_schedule<F>()
     ensures { RoundsAreASchedule F }
+{}
+
+/// After `again_rounds` of a worker that begins again, and after any more, each entry that was
+/// pending for it, and that it did not hold as done, was handled with its own fields since, unless
+/// it was deleted; and it is acknowledged.
+pub fn lost_is_handed_out_again<F>()
+    ensures { LostIsHandedOutAgain F }
 {}
