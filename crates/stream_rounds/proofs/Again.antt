@@ -1,6 +1,6 @@
 -- What was pending for a worker that begins again is handed out to it, and acknowledged.
 use Rattle.std.proofs.Common.{◌≡◌, ◌⊎◌, inl, inr, refl, sym, ap, subst, ◌∙◌, ℕ, zero, suc, ◌+◌, ◌-◌, ◌*◌, ◌≤◌, arith}
-use Rattle.std.proofs.Common.{Bool, true, false, ◌&&◌, List, [], ◌∷◌, ◌++◌, map, filter, append_assoc, codes, Option, Some}
+use Rattle.std.proofs.Common.{Bool, true, false, ◌&&◌, List, [], ◌∷◌, ◌++◌, map, filter, append_assoc, codes, Some}
 use Rattle.std.proofs.Common.{None, if◌then◌else◌}
 use Rattle.std.specs.Str.{bytes_eq}
 use Rattle.stream_group.specs.Worker.{Id, Entry, Delivered, Machine, Phase, claiming, reading, ending, phase_at, acks_in}
@@ -12,13 +12,13 @@ use Rattle.stream_group.specs.World.{World, Event, run, empty_world, log_of}
 use Rattle.stream_group.specs.Law.{Among}
 use Rattle.stream_group.proofs.Among.{listed_among, among_of_map, among_left, among_right, among_filter, among_map}
 use Rattle.stream_group.proofs.Unique.{placed}
-use Rattle.stream_rounds.specs.Page.{behind_id, beyond, first_of, how_many, own_page}
+use Rattle.stream_rounds.specs.Page.{behind_id, beyond, how_many, own_page}
 use Rattle.stream_rounds.specs.Rounds.{all_done, events_of_round, round, rounds}
-use Rattle.stream_rounds.specs.Bound.{pages, held_for, again_rounds}
-use Rattle.stream_rounds.specs.Law.{IsHandledSince, LostIsHandedOutAgain}
+use Rattle.stream_rounds.specs.Bound.{pages, held_for}
+use Rattle.stream_rounds.specs.Law.{LostIsHandedOutAgain}
 use Rattle.stream_rounds.proofs.Lists as lists
 use Rattle.stream_rounds.proofs.Lists.{AreDistinct, clash, not_true, among_listed}
-use Rattle.stream_rounds.proofs.Measure.{pages_less, pages_fall, one_page}
+use Rattle.stream_rounds.proofs.Measure.{pages_less, one_page}
 use Rattle.stream_rounds.proofs.Still.{still_mine, acked_mine, held_less, mine_not}
 use Rattle.stream_rounds.proofs.View.{View, view, step, round_seen}
 use Rattle.stream_rounds.proofs.Good.{IsGood, always_good}
@@ -123,10 +123,12 @@ module _ {F : Type 0} (n : ℕ) (name : Name) (some : 1 ≤ n) (e : Entry F) (ol
   stays : (deleted : List Id) (handled more : List (Entry F)) → WasHandled deleted handled
       → WasHandled deleted (handled ++ more)
   stays deleted handled more (inl g) =
-      inl (g.0 ++ more, ap (λ (l : List (Entry F)). l ++ more) g.1 ∙ append_assoc old g.0 more,
-      among_left e g.0 more g.2)
+      inl (
+        g.0 ++ more,
+        ap (λ (l : List (Entry F)). l ++ more) g.1 ∙ append_assoc old g.0 more,
+        among_left e g.0 more g.2,
+      )
   stays deleted handled more (inr d) = inr d
-
 
   -- what is acknowledged is pending for it no more, and all else is
   fewer_behind : (named kept : List Id) (ps : List Pending) (es : List (Entry F))
@@ -165,9 +167,18 @@ module _ {F : Type 0} (n : ℕ) (name : Name) (some : 1 ≤ n) (e : Entry F) (ol
       ≤ how_many (still_mine (i ∷ ids) name ps) (behind_id id seen) =
       subst (λ (l : List Id). how_many (still_mine [] name (pending_after (i ∷ ids) ps)) (behind_id id seen)
       ≤ how_many (still_mine l name ps) (behind_id id seen)) same (fewer_behind (i ∷ ids) [] ps (behind_id id seen)) in
-      inl (w.0, there.0, refl, grows handled [] w.3,
-      omega (arith, w.4, pages_less n (how_many (still_mine [] name (pending_after (i ∷ ids) ps)) (behind_id id seen))
-      (how_many (still_mine (i ∷ ids) name ps) (behind_id id seen)) some count))
+      inl (
+        w.0,
+        there.0,
+        refl,
+        grows handled [] w.3,
+        omega (
+          arith,
+          w.4,
+          pages_less n (how_many (still_mine [] name (pending_after (i ∷ ids) ps)) (behind_id id seen))
+              (how_many (still_mine (i ∷ ids) name ps) (behind_id id seen)) some count,
+        ),
+      )
   committed_step (claiming id) i ids ps seen deleted handled acks k (inl w) = absurd w
   committed_step (reading r) i ids ps seen deleted handled acks k (inl w) = absurd w
   committed_step phase i ids ps seen deleted handled acks k (inr (inl h)) =
@@ -187,10 +198,19 @@ module _ {F : Type 0} (n : ℕ) (name : Name) (some : 1 ≤ n) (e : Entry F) (ol
       ≤ how_many (still_mine ((i ∷ ids) ++ c) name ps) here =
       subst (λ (l : List Id). how_many (still_mine l name (pending_after (i ∷ ids) ps)) here
       ≤ how_many (still_mine ((i ∷ ids) ++ c) name ps) here) (sym same) (fewer_behind (i ∷ ids) c ps here) in
-      inl (w.0, there.0, ap (λ (l : List Id). listed l e.0) same ∙ there.1, grows handled [] w.3,
-      omega (arith, w.4, held_less i ids c,
+      inl (
+        w.0,
+        there.0,
+        ap (λ (l : List Id). listed l e.0) same ∙ there.1,
+        grows handled [] w.3,
+        omega (
+          arith,
+          w.4,
+          held_less i ids c,
           pages_less n (how_many (still_mine (c ++ []) name (pending_after (i ∷ ids) ps)) here)
-          (how_many (still_mine ((i ∷ ids) ++ c) name ps) here) some count))
+              (how_many (still_mine ((i ∷ ids) ++ c) name ps) here) some count,
+        ),
+      )
   acked_step (claiming id) i ids c ps seen deleted handled acks k (inl w) = absurd w
   acked_step (reading r) i ids c ps seen deleted handled acks k (inl w) = absurd w
   acked_step phase i ids c ps seen deleted handled acks k (inr (inl h)) =
@@ -203,8 +223,11 @@ module _ {F : Type 0} (n : ℕ) (name : Name) (some : 1 ≤ n) (e : Entry F) (ol
         | true ↦ λ q z.
             inr (inr (stays deleted handled [] h.0, among_right e.0 acks (i ∷ ids) (listed_among (i ∷ ids) e.0 q)))
         | false ↦ λ q z.
-            inr (inl (stays deleted handled [] h.0, ap (λ (l : List Id). listed l e.0) (parts.none_more c) ∙ z,
-            omega (arith, h.2, held_less i ids c)))
+            inr (inl (
+              stays deleted handled [] h.0,
+              ap (λ (l : List Id). listed l e.0) (parts.none_more c) ∙ z,
+              omega (arith, h.2, held_less i ids c),
+            ))
       ] in
       case (listed (i ∷ ids) e.0) refl both
   acked_step phase i ids c ps seen deleted handled acks k (inr (inr h)) =
@@ -253,8 +276,12 @@ module _ {F : Type 0} (n : ℕ) (name : Name) (some : 1 ≤ n) (e : Entry F) (ol
           | true ↦ λ q. inr q
           | false ↦ λ q.
               let more = grows handled (handled_in answer (all_done answer)) w.3 in
-              inl (more.0, more.1, among_right e w.3.0 (handled_in answer (all_done answer))
-              (handled_of deleted e out is_out q))
+              inl (
+                more.0,
+                more.1,
+                among_right e w.3.0 (handled_in answer (all_done answer))
+                    (handled_of deleted e out is_out q),
+              )
         ] in
         let one : 1 ≤ pages n (how_many mine here) = one_page n (how_many mine here) some
         (lists.count_some mine here e.0 (among_listed e.0 (ids_of here)
@@ -408,8 +435,7 @@ lost_is_handed_out_again {F} es name n some k begins l e is_seen is_mine not_hel
     let fewer : how_many q (behind_id (codes "0") w.seen) ≤ how_many mine w.seen =
     subst (λ (z : List (Entry F)). how_many q z ≤ how_many mine w.seen) (sym all)
     (lists.count_less q mine w.seen (λ x h. (mine_not name (a ++ c) w.pending x h).1)) in
-    let waits : Waits n name some e w.handled (worker.own (codes "0")) a c w.pending w.seen w.handled k =
-    (
+    let waits : Waits n name some e w.handled (worker.own (codes "0")) a c w.pending w.seen w.handled k = (
       behind_it,
       among_listed e.0 (own name w.pending) is_mine,
       not_true (listed (a ++ c) e.0) (λ h. not_held (listed_among (a ++ c) e.0 h)),
