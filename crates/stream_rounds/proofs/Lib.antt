@@ -11,5 +11,6 @@ pub mod ClaimStep
 pub mod ReadStep
 pub mod Drained
 pub mod Again
+pub mod Counted
 mod Sample
 mod Wrong

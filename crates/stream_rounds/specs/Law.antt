@@ -1,12 +1,12 @@
 -- That all is drained where nothing fails.
-use Rattle.std.specs.Prelude.{◌≡◌, ◌⊎◌, ℕ, ◌≤◌, List, [], ◌++◌, codes}
+use Rattle.std.specs.Prelude.{◌≡◌, ◌⊎◌, ℕ, ◌≤◌, List, [], ◌++◌, length, codes}
 use Rattle.stream_group.specs.Worker.{Id, Entry}
 use Rattle.stream_group.specs.Worker as worker
 use Rattle.stream_group.specs.Group.{Name, own}
 use Rattle.stream_group.specs.World.{World, Event, run, empty_world}
 use Rattle.stream_group.specs.Law.{Among}
 use Rattle.stream_rounds.specs.Rounds.{rounds, events_of_rounds}
-use Rattle.stream_rounds.specs.Bound.{enough_rounds, again_rounds}
+use Rattle.stream_rounds.specs.Bound.{enough_rounds, again_rounds, mine_in, pending_in}
 
 -- nothing is pending, and nothing is still to come
 abbrev pub IsDrained : {F : Type 0} → World F → Type 0
@@ -44,3 +44,9 @@ HandsOutAgain {F} w name n so_many =
 abbrev pub LostIsHandedOutAgain : Type 0 → Type 0
 LostIsHandedOutAgain F = (events : List (Event F)) (name : Name) (n : ℕ) → 1 ≤ n → (so_many : ℕ)
     → HandsOutAgain (run events empty_world) name n so_many
+
+-- no more entries of the log are pending, for anyone or for this consumer, than the group has as pending
+abbrev pub CountsWhatIsPending : Type 0 → Type 0
+CountsWhatIsPending F = (events : List (Event F)) (name : Name)
+    → (pending_in (run events empty_world) ≤ length (run events empty_world).pending)
+    × (mine_in name (run events empty_world) ≤ length (own name (run events empty_world).pending))

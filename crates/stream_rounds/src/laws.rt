@@ -1,5 +1,5 @@
 //! What holds after enough rounds of a worker where nothing fails.
-ghost use Rattle.stream_rounds.specs.Law.{AllIsDrained, LostIsHandedOutAgain, RoundsAreASchedule};
+ghost use Rattle.stream_rounds.specs.Law.{AllIsDrained, CountsWhatIsPending, LostIsHandedOutAgain, RoundsAreASchedule};
 
 /// Whatever happened before, after `enough_rounds` of one worker, and after any more, nothing is
 /// pending and nothing is still to come. Between these rounds nothing else happens: no other worker
@@ -18,4 +18,9 @@ pub fn rounds_are_a_schedule<F>()
 /// it was deleted; and it is acknowledged.
 pub fn lost_is_handed_out_again<F>()
     ensures { LostIsHandedOutAgain F }
+{}
+
+/// The entries that the bounds count are no more than those that the group has as pending.
+pub fn what_is_pending_is_counted<F>()
+    ensures { CountsWhatIsPending F }
 {}
