@@ -2,8 +2,8 @@
 ghost use Rattle.stream_rounds.specs.Law.{AllIsDrained, CountsWhatIsPending, LostIsHandedOutAgain, RoundsAreASchedule};
 
 /// Whatever happened before, after `enough_rounds` of one worker, and after any more, nothing is
-/// pending and nothing is still to come. Between these rounds nothing else happens: no other worker
-/// asks, no reply of before comes, and the handler says of each entry that it is done.
+/// pending and nothing is still to come. Between these rounds nothing else happens. No other
+/// worker asks, no reply of before comes, and each entry is done by the handler.
 pub fn all_is_drained<F>()
     ensures { AllIsDrained F }
 {}
@@ -13,9 +13,8 @@ pub fn rounds_are_a_schedule<F>()
     ensures { RoundsAreASchedule F }
 {}
 
-/// After `again_rounds` of a worker that begins again, and after any more, each entry that was
-/// pending for it, and that it did not hold as done, was handled with its own fields since, unless
-/// it was deleted; and it is acknowledged.
+/// A worker begins again. After `again_rounds`, and after any more, each entry that was pending for
+/// it and not held as done is acknowledged. It was handled since with its own fields, or deleted.
 pub fn lost_is_handed_out_again<F>()
     ensures { LostIsHandedOutAgain F }
 {}
