@@ -108,9 +108,9 @@ reading_none every r (suc k) f h = absurd (omega (arith, h))
 
 claiming_none : (every : ℕ) (only : Bool) (these k f : ℕ) → measure.left_claiming every only these k f ≡ 0
     → (k ≡ 0) × (f ≡ 0)
-claiming_none every false these k f h = unless_none k f (claims_for k + reads_for f) (omega (arith, one_claim k)) h
+claiming_none every false these k f h = unless_none k f (claims_for k + reads_for every f) (omega (arith, one_claim k)) h
 claiming_none every true these k f h =
-    unless_none k f (claims_for these + reads_before every + claims_for k + reads_for f) (omega arith) h
+    unless_none k f (claims_for these + reads_before every + claims_for k + reads_for every f) (omega arith) h
 
 empty_list : {A : Type 0} (xs : List A) → length xs ≡ 0 → xs ≡ []
 empty_list [] h = refl
@@ -123,7 +123,7 @@ module _ {F : Type 0} (n : ℕ) (name : Name) (some : 1 ≤ n) where
   none_by_phase every (worker.own id) all mine seen fresh h =
       unless_none (pages n (how_many all seen)) (pages n (length fresh))
       (own_for (pages n (how_many mine (behind_id id seen))) + claims_for (pages n (how_many all seen))
-      + reads_for (pages n (length fresh))) (omega arith) h
+      + reads_for every (pages n (length fresh))) (omega arith) h
   none_by_phase every (claiming id) all mine seen fresh h =
       claiming_none every (nat_lt (how_many all (from_id id seen)) (how_many all seen))
       (pages n (how_many all (from_id id seen))) (pages n (how_many all seen)) (pages n (length fresh)) h
@@ -166,7 +166,7 @@ module _ {F : Type 0} (n : ℕ) (name : Name) (some : 1 ≤ n) where
       pages_less n (how_many p seen) (how_many all seen) some (lists.count_less p all seen h) in
       omega (
         arith,
-        measure.at_most a f (own_for o + claims_for a + reads_for f),
+        measure.at_most a f (own_for o + claims_for a + reads_for every f),
         fewer,
         measure.claims_less a (pages n (how_many all seen)) less,
       )
@@ -180,16 +180,16 @@ module _ {F : Type 0} (n : ℕ) (name : Name) (some : 1 ≤ n) where
       let part : t ≤ a = pages_less n (how_many p here) (how_many p seen) some
       (lists.end_count p here seen (lists.from_end id seen)) in
       let by_only : (only : Bool) → measure.left_claiming every only t a f
-      ≤ claims_for b + reads_before every + claims_for b + reads_for f
+      ≤ claims_for b + reads_before every + claims_for b + reads_for every f
       = λ only. elim only as (λ v. measure.left_claiming every v t a f
-      ≤ claims_for b + reads_before every + claims_for b + reads_for f) [
+      ≤ claims_for b + reads_before every + claims_for b + reads_for every f) [
         | true ↦ omega (
           arith,
-          measure.at_most a f (claims_for t + reads_before every + claims_for a + reads_for f),
+          measure.at_most a f (claims_for t + reads_before every + claims_for a + reads_for every f),
           measure.claims_less a b less,
           measure.claims_less t b (omega (arith, part, less)),
         )
-        | false ↦ omega (arith, measure.at_most a f (claims_for a + reads_for f), measure.claims_less a b less)
+        | false ↦ omega (arith, measure.at_most a f (claims_for a + reads_for every f), measure.claims_less a b less)
       ] in
       by_only (nat_lt (how_many p here) (how_many p seen))
   left_within every (reading r) p q all mine seen fresh h k =
@@ -197,8 +197,8 @@ module _ {F : Type 0} (n : ℕ) (name : Name) (some : 1 ≤ n) where
       (pages_less n (how_many p seen) (how_many all seen) some (lists.count_less p all seen h))
     where
       reads_within : (every r a b f : ℕ) → a ≤ b
-          → measure.left_reading every r a f ≤ reads_before every + claims_for b + reads_for f
-      reads_within every r zero b f l = omega arith
+          → measure.left_reading every r a f ≤ reads_before every + claims_for b + reads_for every f
+      reads_within every r zero b f l = omega (arith, measure.at_near every r f)
       reads_within every r (suc a) b f l = omega (arith, measure.claims_less (suc a) b l)
 
   measure_within : (w : World F) → measure_at n name (view name w) ≤ enough_rounds n name w

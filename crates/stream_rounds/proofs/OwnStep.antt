@@ -79,7 +79,7 @@ module _ {F : Type 0} (n : ℕ) (name : Name) (some : 1 ≤ n) (every : ℕ) (ps
       let f : ℕ = pages n (length fresh) in
       let less : k2 ≤ k = pages_less n (how_many p seen) (how_many (listed (pending_ids ps)) seen) some
       (lists.count_less p (listed (pending_ids ps)) seen (fewer [])) in
-      let ends : left_claiming every false k2 k2 f ≤ left_own o k f - 1 = measure.own_ends every o k f k2 k2 less in
+      let ends : left_claiming every false k2 k2 f ≤ left_own every o k f - 1 = measure.own_ends every o k f k2 k2 less in
       omega (arith, ends, from_the_first n name every p (still_mine [] name again) seen fresh no_end)
   by_answer (d ∷ ds) e =
       let ids : List Id = ids_in (d ∷ ds) in
@@ -102,7 +102,7 @@ module _ {F : Type 0} (n : ℕ) (name : Name) (some : 1 ≤ n) (every : ℕ) (ps
       let less : k2 ≤ k = pages_less n (how_many p seen) (how_many (listed (pending_ids ps)) seen) some
       (lists.count_less p (listed (pending_ids ps)) seen (fewer ids)) in
       let falls : o2 + 1 ≤ o = page_falls d ds e in
-      let all : 1 + left_own o2 k2 f ≤ left_own o k f - 1 = measure.own_falls o k f o2 k2 one falls less in
+      let all : 1 + left_own every o2 k2 f ≤ left_own every o k f - 1 = measure.own_falls every o k f o2 k2 one falls less in
       omega (arith, all)
 
   abbrev pub answer : List (Delivered F)

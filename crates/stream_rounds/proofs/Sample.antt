@@ -68,3 +68,19 @@ both_are_acknowledged = refl
 pub one_of_them : (rounds 3 1 ann begun).acknowledged_ids ≡ codes "1-0" ∷ []
 unfolding digits
 one_of_them = refl
+
+-- three new entries, and a worker that claims after each read
+abbrev new_ones : World ℕ
+new_ones = run (Append (1, 0) 7 ∷ Append (1, 1) 8 ∷ Append (2, 0) 9 ∷ Crash ann 1 ∷ []) empty_world
+
+pub claims_between : enough_rounds 1 ann new_ones ≡ 10
+unfolding digits
+claims_between = refl
+
+pub all_are_done : (rounds 10 1 ann new_ones).acknowledged_ids ≡ codes "1-0" ∷ codes "1-1" ∷ codes "2-0" ∷ []
+unfolding digits
+all_are_done = refl
+
+pub one_is_not : (rounds 9 1 ann new_ones).acknowledged_ids ≡ codes "1-0" ∷ codes "1-1" ∷ []
+unfolding digits
+one_is_not = refl
