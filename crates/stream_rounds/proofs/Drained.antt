@@ -24,14 +24,15 @@ use Rattle.stream_rounds.proofs.ClaimStep.{claim_step}
 use Rattle.stream_rounds.proofs.ReadStep.{read_step}
 
 module _ {F : Type 0} (n : ℕ) (name : Name) (some : 1 ≤ n) where
-  no_end_seen : (ps : List Pending) (seen fresh : List (Entry F)) → IsGood ps seen fresh → NoEnd {F = F} n name seen
+  pub no_end_seen : (ps : List Pending) (seen fresh : List (Entry F)) → IsGood ps seen fresh → NoEnd {F = F} n name seen
   no_end_seen ps seen fresh good =
       not_true (listed (ids_of seen) (codes "0-0")) (λ h.
       let s = among_of_map (λ (e : Entry F). e.0) (codes "0-0") seen (listed_among (ids_of seen) (codes "0-0") h) in
       good.no_end s.x (among_left s.x seen fresh s.within) s.is)
 
   lowers : (every : ℕ) (phase : Phase) (to_commit to_acknowledge : List Id) (ps : List Pending)
-      (seen fresh : List (Entry F)) (deleted : List Id) → IsGood ps seen fresh →
+      (seen fresh : List (Entry F)) (deleted : List Id) (handled : List (Entry F)) (acknowledged_ids : List Id)
+      → IsGood ps seen fresh →
       let v : View F = record {
         machine = record {
           every = every;
@@ -43,17 +44,19 @@ module _ {F : Type 0} (n : ℕ) (name : Name) (some : 1 ≤ n) where
         seen = seen;
         fresh = fresh;
         deleted = deleted;
+        handled = handled;
+        acknowledged_ids = acknowledged_ids;
       } in
       measure_at n name (step n name v) ≤ measure_at n name v - 1
-  lowers every (worker.own id) [] [] ps seen fresh deleted good =
+  lowers every (worker.own id) [] [] ps seen fresh deleted handled acknowledged_ids good =
       own_step n name some every ps seen fresh deleted (no_end_seen ps seen fresh good) id
-  lowers every (claiming id) [] [] ps seen fresh deleted good =
+  lowers every (claiming id) [] [] ps seen fresh deleted handled acknowledged_ids good =
       claim_step n name some every ps seen fresh deleted (no_end_seen ps seen fresh good)
       (parts.distinct_left seen fresh good.distinct) id
-  lowers every (reading rounds) [] [] ps seen fresh deleted good =
+  lowers every (reading rounds) [] [] ps seen fresh deleted handled acknowledged_ids good =
       read_step n name some every ps seen fresh deleted good rounds
-  lowers every phase (i ∷ ids) [] ps seen fresh deleted good = after_commit_acked n name every phase i ids ps seen fresh
-  lowers every phase to_commit (i ∷ ids) ps seen fresh deleted good =
+  lowers every phase (i ∷ ids) [] ps seen fresh deleted handled acknowledged_ids good = after_commit_acked n name every phase i ids ps seen fresh
+  lowers every phase to_commit (i ∷ ids) ps seen fresh deleted handled acknowledged_ids good =
       acked n name every phase i ids to_commit ps seen fresh
 
   abbrev measure_in : World F → ℕ
@@ -66,9 +69,9 @@ module _ {F : Type 0} (n : ℕ) (name : Name) (some : 1 ≤ n) where
       let w : World F = run es empty_world in
       let m : Machine = w.workers name in
       subst (λ (v : View F). measure_at n name v ≤ measure_in w - 1) (sym (round_seen n name w))
-      (lowers m.every m.phase m.to_commit m.to_acknowledge w.pending w.seen w.fresh w.deleted (always_good es))
+      (lowers m.every m.phase m.to_commit m.to_acknowledge w.pending w.seen w.fresh w.deleted w.handled w.acknowledged_ids (always_good es))
 
-  round_reached : (es : List (Event F)) →
+  pub round_reached : (es : List (Event F)) →
       let w : World F = run es empty_world in
       round n name w ≡ run (es ++ events_of_round n name w) empty_world
   round_reached es = sym (run_more es (events_of_round n name (run es empty_world)) empty_world)
@@ -105,9 +108,9 @@ reading_none every r (suc k) f h = absurd (omega (arith, h))
 
 claiming_none : (every : ℕ) (only : Bool) (these k f : ℕ) → measure.left_claiming every only these k f ≡ 0
     → (k ≡ 0) × (f ≡ 0)
-claiming_none every false these k f h = unless_none k f (claims_for k + reads_for f) (omega (arith, one_claim k)) h
+claiming_none every false these k f h = unless_none k f (claims_for k + reads_for every f) (omega (arith, one_claim k)) h
 claiming_none every true these k f h =
-    unless_none k f (claims_for these + reads_before every + claims_for k + reads_for f) (omega arith) h
+    unless_none k f (claims_for these + reads_before every + claims_for k + reads_for every f) (omega arith) h
 
 empty_list : {A : Type 0} (xs : List A) → length xs ≡ 0 → xs ≡ []
 empty_list [] h = refl
@@ -120,7 +123,7 @@ module _ {F : Type 0} (n : ℕ) (name : Name) (some : 1 ≤ n) where
   none_by_phase every (worker.own id) all mine seen fresh h =
       unless_none (pages n (how_many all seen)) (pages n (length fresh))
       (own_for (pages n (how_many mine (behind_id id seen))) + claims_for (pages n (how_many all seen))
-      + reads_for (pages n (length fresh))) (omega arith) h
+      + reads_for every (pages n (length fresh))) (omega arith) h
   none_by_phase every (claiming id) all mine seen fresh h =
       claiming_none every (nat_lt (how_many all (from_id id seen)) (how_many all seen))
       (pages n (how_many all (from_id id seen))) (pages n (how_many all seen)) (pages n (length fresh)) h
@@ -163,7 +166,7 @@ module _ {F : Type 0} (n : ℕ) (name : Name) (some : 1 ≤ n) where
       pages_less n (how_many p seen) (how_many all seen) some (lists.count_less p all seen h) in
       omega (
         arith,
-        measure.at_most a f (own_for o + claims_for a + reads_for f),
+        measure.at_most a f (own_for o + claims_for a + reads_for every f),
         fewer,
         measure.claims_less a (pages n (how_many all seen)) less,
       )
@@ -177,16 +180,16 @@ module _ {F : Type 0} (n : ℕ) (name : Name) (some : 1 ≤ n) where
       let part : t ≤ a = pages_less n (how_many p here) (how_many p seen) some
       (lists.end_count p here seen (lists.from_end id seen)) in
       let by_only : (only : Bool) → measure.left_claiming every only t a f
-      ≤ claims_for b + reads_before every + claims_for b + reads_for f
+      ≤ claims_for b + reads_before every + claims_for b + reads_for every f
       = λ only. elim only as (λ v. measure.left_claiming every v t a f
-      ≤ claims_for b + reads_before every + claims_for b + reads_for f) [
+      ≤ claims_for b + reads_before every + claims_for b + reads_for every f) [
         | true ↦ omega (
           arith,
-          measure.at_most a f (claims_for t + reads_before every + claims_for a + reads_for f),
+          measure.at_most a f (claims_for t + reads_before every + claims_for a + reads_for every f),
           measure.claims_less a b less,
           measure.claims_less t b (omega (arith, part, less)),
         )
-        | false ↦ omega (arith, measure.at_most a f (claims_for a + reads_for f), measure.claims_less a b less)
+        | false ↦ omega (arith, measure.at_most a f (claims_for a + reads_for every f), measure.claims_less a b less)
       ] in
       by_only (nat_lt (how_many p here) (how_many p seen))
   left_within every (reading r) p q all mine seen fresh h k =
@@ -194,8 +197,8 @@ module _ {F : Type 0} (n : ℕ) (name : Name) (some : 1 ≤ n) where
       (pages_less n (how_many p seen) (how_many all seen) some (lists.count_less p all seen h))
     where
       reads_within : (every r a b f : ℕ) → a ≤ b
-          → measure.left_reading every r a f ≤ reads_before every + claims_for b + reads_for f
-      reads_within every r zero b f l = omega arith
+          → measure.left_reading every r a f ≤ reads_before every + claims_for b + reads_for every f
+      reads_within every r zero b f l = omega (arith, measure.at_near every r f)
       reads_within every r (suc a) b f l = omega (arith, measure.claims_less (suc a) b l)
 
   measure_within : (w : World F) → measure_at n name (view name w) ≤ enough_rounds n name w

@@ -22,7 +22,7 @@ module _ {F : Type 0} (n : ℕ) (name : Name) where
   -- what is left, where it stands here and this is pending
   abbrev pub left : ℕ → Phase → (all mine : Id → Bool) (seen fresh : List (Entry F)) → ℕ
   left every (worker.own id) all mine seen fresh =
-      left_own (pages n (how_many mine (behind_id id seen))) (pages n (how_many all seen)) (pages n (length fresh))
+      left_own every (pages n (how_many mine (behind_id id seen))) (pages n (how_many all seen)) (pages n (length fresh))
   left every (claiming id) all mine seen fresh =
       left_claiming every (nat_lt (how_many all (from_id id seen)) (how_many all seen))
       (pages n (how_many all (from_id id seen))) (pages n (how_many all seen)) (pages n (length fresh))

@@ -10,5 +10,7 @@ pub mod OwnStep
 pub mod ClaimStep
 pub mod ReadStep
 pub mod Drained
+pub mod Again
+pub mod Counted
 mod Sample
 mod Wrong

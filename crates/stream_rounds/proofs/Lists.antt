@@ -365,3 +365,96 @@ module _ {F : Type 0} where
         plus_none (q e.0) (how_many q es) (not_true (q e.0) (λ w. clash (p e.0) (h e.0 w) no)),
         stays_swept p q fs es h k (omega (arith, plus_none (p e.0) (how_many p es) no, l)),
       )
+
+  pub end_among : (e : Entry F) (fs es : List (Entry F)) → IsEnd fs es → Among e fs → Among e es
+  end_among e fs [] h k = let P : List (Entry F) → Type 0 = λ l. Among e l in subst P h k
+  end_among e fs (x ∷ es) (inl h) k = let P : List (Entry F) → Type 0 = λ l. Among e l in subst P h k
+  end_among e fs (x ∷ es) (inr h) k = inr (end_among e fs es h k)
+
+  pub end_distinct : (fs es : List (Entry F)) → IsEnd fs es → AreDistinct es → AreDistinct fs
+  end_distinct fs [] h d = let P : List (Entry F) → Type 0 = λ l. AreDistinct l in subst P (sym h) tt
+  end_distinct fs (x ∷ es) (inl h) d = let P : List (Entry F) → Type 0 = λ l. AreDistinct l in subst P (sym h) d
+  end_distinct fs (x ∷ es) (inr h) d = end_distinct fs es h d.1
+
+  behind_skips : (x : Id) (e : Entry F) (es : List (Entry F)) → listed (ids_of es) x ≡ true
+      → behind_id x (e ∷ es) ≡ behind_id x es
+  behind_skips x e es k = ap (λ b. if b then behind_id x es else (if bytes_eq e.0 x then es else e ∷ es)) k
+
+  pub behind_in_end : (x : Id) (fs es : List (Entry F)) → IsEnd fs es → listed (ids_of fs) x ≡ true
+      → behind_id x es ≡ behind_id x fs
+  behind_in_end x fs [] h k = ap (behind_id x) (sym h)
+  behind_in_end x fs (e ∷ es) (inl h) k = ap (behind_id x) (sym h)
+  behind_in_end x fs (e ∷ es) (inr h) k =
+      behind_skips x e es (end_listed fs es x h k) ∙ behind_in_end x fs es h k
+
+  -- what is beyond a page lies behind each entry on it
+  pub beyond_behind : (n : ℕ) (p : Id → Bool) (es : List (Entry F)) (x : Id) → AreDistinct es
+      → listed (ids_of (first_of n p es)) x ≡ true → IsEnd (beyond n p es) (behind_id x es)
+  beyond_behind n p [] x d h = refl
+  beyond_behind zero p (e ∷ es) x d h = absurd (clash false h refl)
+  beyond_behind (suc n) p (e ∷ es) x d h =
+      let onward : listed (ids_of es) x ≡ true → (fs : List (Entry F)) → IsEnd fs (behind_id x es)
+      → IsEnd fs (behind_id x (e ∷ es))
+      = λ k fs z. subst (λ (l : List (Entry F)). IsEnd fs l) (sym (behind_skips x e es k)) z in
+      let first : bytes_eq e.0 x ≡ true → behind_id x (e ∷ es) ≡ es
+      = λ q. let no : listed (ids_of es) x ≡ false = ap (listed (ids_of es)) (sym ((bytes_eq-Decides e.0 x).0 q)) ∙ d.0 in
+      ap (λ b. if b then behind_id x es else (if bytes_eq e.0 x then es else e ∷ es)) no
+      ∙ ap (λ b. if b then es else e ∷ es) q in
+      let here : (b : Bool) → bytes_eq e.0 x ≡ b
+      → (if b then true else listed (ids_of (first_of n p es)) x) ≡ true
+      → IsEnd (beyond n p es) (behind_id x (e ∷ es))
+      = λ b. elim b as (λ v. bytes_eq e.0 x ≡ v
+      → (if v then true else listed (ids_of (first_of n p es)) x) ≡ true
+      → IsEnd (beyond n p es) (behind_id x (e ∷ es))) [
+        | true ↦ λ q z. subst (λ (l : List (Entry F)). IsEnd (beyond n p es) l) (sym (first q)) (beyond_end n p es)
+        | false ↦ λ q z. onward (page_within n p es x z) (beyond n p es) (beyond_behind n p es x d.1 z)
+      ] in
+      let case : (b : Bool) → listed (ids_of (if b then e ∷ first_of n p es else first_of (suc n) p es)) x ≡ true
+      → IsEnd (if b then beyond n p es else beyond (suc n) p es) (behind_id x (e ∷ es))
+      = λ b. elim b as (λ v. listed (ids_of (if v then e ∷ first_of n p es else first_of (suc n) p es)) x ≡ true
+      → IsEnd (if v then beyond n p es else beyond (suc n) p es) (behind_id x (e ∷ es))) [
+        | true ↦ λ z. here (bytes_eq e.0 x) refl z
+        | false ↦ λ z. onward (page_within (suc n) p es x z) (beyond (suc n) p es) (beyond_behind (suc n) p es x d.1 z)
+      ] in
+      case (p e.0) h
+
+  beyond_starts : (p : Id → Bool) (es : List (Entry F)) (e : Entry F) → Among e es → p e.0 ≡ true
+      → Among e (beyond zero p es)
+  beyond_starts p [] e h k = absurd h
+  beyond_starts p (x ∷ es) e h k =
+      let case : (b : Bool) → p x.0 ≡ b → Among e (if b then x ∷ es else beyond zero p es)
+      = λ b. elim b as (λ v. p x.0 ≡ v → Among e (if v then x ∷ es else beyond zero p es)) [
+        | true ↦ λ q. h
+        | false ↦ λ q. elim h [
+          | inl i ↦ absurd (clash (p e.0) k (ap (λ (z : Entry F). p z.0) (sym i) ∙ q))
+          | inr i ↦ beyond_starts p es e i k
+        ]
+      ] in
+      case (p x.0) refl
+
+  -- what is meant and not on the page is beyond it
+  pub beyond_has : (n : ℕ) (p : Id → Bool) (es : List (Entry F)) (e : Entry F) → Among e es → p e.0 ≡ true
+      → listed (ids_of (first_of n p es)) e.0 ≡ false → Among e (beyond n p es)
+  beyond_has n p [] e h k l = absurd h
+  beyond_has zero p (x ∷ es) e h k l = beyond_starts p (x ∷ es) e h k
+  beyond_has (suc n) p (x ∷ es) e h k l =
+      let case : (b : Bool) → p x.0 ≡ b
+      → listed (ids_of (if b then x ∷ first_of n p es else first_of (suc n) p es)) e.0 ≡ false
+      → Among e (if b then beyond n p es else beyond (suc n) p es)
+      = λ b. elim b as (λ v. p x.0 ≡ v
+      → listed (ids_of (if v then x ∷ first_of n p es else first_of (suc n) p es)) e.0 ≡ false
+      → Among e (if v then beyond n p es else beyond (suc n) p es)) [
+        | true ↦ λ q z. elim h [
+          | inl i ↦ absurd (clash (listed (x.0 ∷ ids_of (first_of n p es)) e.0)
+              (ap (λ (y : Entry F). listed (x.0 ∷ ids_of (first_of n p es)) y.0) (sym i)
+              ∙ listed_here x.0 (ids_of (first_of n p es))) z)
+          | inr i ↦ beyond_has n p es e i k (not_true (listed (ids_of (first_of n p es)) e.0)
+              (λ y. clash (listed (x.0 ∷ ids_of (first_of n p es)) e.0)
+              (listed_more x.0 e.0 (ids_of (first_of n p es)) y) z))
+        ]
+        | false ↦ λ q z. elim h [
+          | inl i ↦ absurd (clash (p e.0) k (ap (λ (y : Entry F). p y.0) (sym i) ∙ q))
+          | inr i ↦ beyond_has (suc n) p es e i k z
+        ]
+      ] in
+      case (p x.0) refl l

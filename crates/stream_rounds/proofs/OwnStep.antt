@@ -24,28 +24,50 @@ and_both false b h k = absurd (clash false h refl)
 
 module _ {F : Type 0} (n : ℕ) (name : Name) (some : 1 ≤ n) (every : ℕ) (ps : List Pending)
     (seen fresh : List (Entry F)) (deleted : List Id) (no_end : NoEnd {F = F} n name seen) (id : Id) where
-  abbrev mine : Id → Bool
+  abbrev pub mine : Id → Bool
   mine = listed (own name ps)
 
-  abbrev page : Id → Bool
+  abbrev pub page : Id → Bool
   page = listed (ids_of (own_page n name id ps seen))
 
-  abbrev again : List Pending
+  abbrev pub again : List Pending
   again = raised page name deleted ps
 
   abbrev before : ℕ
   before = measure_of n name every (worker.own id) [] [] ps seen fresh
 
-  abbrev AreThePage : List Id → Type 0
+  abbrev pub AreThePage : List Id → Type 0
   AreThePage ids = ((x : Id) → listed ids x ≡ true → page x ≡ true) × ((x : Id) → page x ≡ true → listed ids x ≡ true)
 
   fewer : (ids : List Id) (x : Id) → still_pending ids again x ≡ true → listed (pending_ids ps) x ≡ true
   fewer ids x h =
       ap (λ (l : List Id). listed l x) (sym (raised_ids page name deleted ps)) ∙ (held_not ids again x h).1
 
-  fewer_mine : (ids : List Id) (x : Id) → still_mine ids name again x ≡ true → mine x ≡ true
+  pub fewer_mine : (ids : List Id) (x : Id) → still_mine ids name again x ≡ true → mine x ≡ true
   fewer_mine ids x h =
       ap (λ (l : List Id). listed l x) (sym (parts.mine_raised page name deleted ps)) ∙ (mine_not name ids again x h).1
+
+  -- a page of its own less is left
+  pub page_falls : (d : Delivered F) (ds : List (Delivered F)) → AreThePage (ids_in (d ∷ ds))
+      → pages n (how_many (still_mine (ids_in (d ∷ ds)) name again) (behind_id (last_id ds d.0) seen)) + 1
+      ≤ pages n (how_many mine (behind_id id seen))
+  page_falls d ds e =
+      let ids : List Id = ids_in (d ∷ ds) in
+      let last : Id = last_id ds d.0 in
+      let q : Id → Bool = still_mine ids name again in
+      let here : List (Entry F) = behind_id id seen in
+      let on_page : page last ≡ true = e.0 last (parts.last_listed ds d.0) in
+      let is_mine : mine last ≡ true = lists.page_meant n mine here last on_page in
+      let is_here : listed (ids_of here) last ≡ true = lists.page_within n mine here last on_page in
+      let one_mine : 1 ≤ how_many mine here = lists.count_some mine here last is_here is_mine in
+      let leaves : LeavesPage n mine q here
+      = λ x h. not_true (q x) (λ z. clash (listed ids x) (e.1 x h) (mine_not name ids again x z).0) in
+      let taken : how_many q here ≤ how_many mine here - n =
+      lists.page_taken n mine q here (fewer_mine ids) leaves in
+      let further : how_many q (behind_id last seen) ≤ how_many q here =
+      lists.end_count q (behind_id last seen) here (lists.behind_further id last seen is_here) in
+      pages_fall n (how_many q (behind_id last seen)) (how_many mine here) some one_mine
+      (omega (arith, taken, further))
 
   by_answer : (ds : List (Delivered F)) → AreThePage (ids_in ds)
       → measure_of n name every (after_own ds) [] (ids_in ds) again seen fresh ≤ before - 1
@@ -57,7 +79,7 @@ module _ {F : Type 0} (n : ℕ) (name : Name) (some : 1 ≤ n) (every : ℕ) (ps
       let f : ℕ = pages n (length fresh) in
       let less : k2 ≤ k = pages_less n (how_many p seen) (how_many (listed (pending_ids ps)) seen) some
       (lists.count_less p (listed (pending_ids ps)) seen (fewer [])) in
-      let ends : left_claiming every false k2 k2 f ≤ left_own o k f - 1 = measure.own_ends every o k f k2 k2 less in
+      let ends : left_claiming every false k2 k2 f ≤ left_own every o k f - 1 = measure.own_ends every o k f k2 k2 less in
       omega (arith, ends, from_the_first n name every p (still_mine [] name again) seen fresh no_end)
   by_answer (d ∷ ds) e =
       let ids : List Id = ids_in (d ∷ ds) in
@@ -75,26 +97,18 @@ module _ {F : Type 0} (n : ℕ) (name : Name) (some : 1 ≤ n) (every : ℕ) (ps
       let is_here : listed (ids_of here) last ≡ true = lists.page_within n mine here last on_page in
       let is_seen : listed (ids_of seen) last ≡ true =
       lists.end_listed here seen last (lists.behind_end id seen) is_here in
-      let one_mine : 1 ≤ how_many mine here = lists.count_some mine here last is_here is_mine in
       let one : 1 ≤ k = measure.one_page n (how_many (listed (pending_ids ps)) seen) some
       (lists.count_some (listed (pending_ids ps)) seen last is_seen (parts.mine_is_pending name ps last is_mine)) in
       let less : k2 ≤ k = pages_less n (how_many p seen) (how_many (listed (pending_ids ps)) seen) some
       (lists.count_less p (listed (pending_ids ps)) seen (fewer ids)) in
-      let leaves : LeavesPage n mine q here
-      = λ x h. not_true (q x) (λ z. clash (listed ids x) (e.1 x h) (mine_not name ids again x z).0) in
-      let taken : how_many q here ≤ how_many mine here - n =
-      lists.page_taken n mine q here (fewer_mine ids) leaves in
-      let further : how_many q (behind_id last seen) ≤ how_many q here =
-      lists.end_count q (behind_id last seen) here (lists.behind_further id last seen is_here) in
-      let falls : o2 + 1 ≤ o = pages_fall n (how_many q (behind_id last seen)) (how_many mine here) some one_mine
-      (omega (arith, taken, further)) in
-      let all : 1 + left_own o2 k2 f ≤ left_own o k f - 1 = measure.own_falls o k f o2 k2 one falls less in
+      let falls : o2 + 1 ≤ o = page_falls d ds e in
+      let all : 1 + left_own every o2 k2 f ≤ left_own every o k f - 1 = measure.own_falls every o k f o2 k2 one falls less in
       omega (arith, all)
 
-  abbrev answer : List (Delivered F)
+  abbrev pub answer : List (Delivered F)
   answer = reread page name ps deleted seen
 
-  are_the_page : AreThePage (ids_in answer)
+  pub are_the_page : AreThePage (ids_in answer)
   are_the_page =
       let g : Id → Bool = λ x. page x && mine x in
       let same : ids_in answer ≡ ids_of (filter (λ e. g e.0) seen) =

@@ -15,7 +15,7 @@ use Rattle.stream_rounds.proofs.Lists as lists
 use Rattle.stream_rounds.proofs.Lists.{clash, not_true, among_listed}
 use Rattle.stream_rounds.proofs.Measure as measure
 use Rattle.stream_rounds.proofs.Measure.{left_claiming, left_reading, Brings, pages_less, pages_fall}
-use Rattle.stream_rounds.proofs.Still.{still_pending, still_mine, held_not, is_less}
+use Rattle.stream_rounds.proofs.Still.{still_pending, still_mine, held_not, is_less, is_no_less}
 use Rattle.stream_rounds.proofs.Good.{IsGood, newly_of, within_passed}
 use Rattle.stream_rounds.proofs.Left.{measure_of, NoEnd, from_the_first, gone_through}
 use Rattle.stream_rounds.proofs.Parts as parts
@@ -134,7 +134,7 @@ module _ {F : Type 0} (n : ℕ) (name : Name) (some : 1 ≤ n) (every : ℕ) (ps
   by_count false h =
       omega (
         arith,
-        measure.read_claims every rounds (held_for [] ids) later now to_come later to_come_later brings no_more,
+        measure.read_claims every rounds (held_for [] ids) later now to_come later to_come_later (is_no_less (rounds + 1) every h) brings no_more,
         from_the_first n name every still (still_mine ids name more) (seen ++ by) (behind deleted n fresh) no_end_then,
       )
 

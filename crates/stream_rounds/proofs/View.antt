@@ -1,7 +1,7 @@
 -- What a round makes of the parts of the world that it depends on.
 use Rattle.std.proofs.Common.{◌≡◌, refl, ap, ◌∙◌, ℕ, List, [], ◌∷◌, ◌++◌, map, if◌then◌else◌}
 use Rattle.stream_group.specs.Worker.{Id, Entry, Delivered, Machine, Phase, own, claiming, reading, acknowledged}
-use Rattle.stream_group.specs.Worker.{own_pending, taken_over, news, after, after_commit}
+use Rattle.stream_group.specs.Worker.{handled_in, own_pending, taken_over, news, after, after_commit}
 use Rattle.stream_group.specs.Group.{Name, Pending, listed, ids_of, given, passed, behind, newly_pending, whole, reread}
 use Rattle.stream_group.specs.Group.{raised, claimed, claim_answer, pending_after}
 use Rattle.stream_group.specs.World.{World, Event, with_one, happens, run}
@@ -16,6 +16,8 @@ pub record View (F : Type 0) : Type 0 where
   pub seen : List (Entry F)
   pub fresh : List (Entry F)
   pub deleted : List Id
+  pub handled : List (Entry F)
+  pub acknowledged_ids : List Id
 
 with_itself : {A : Type 0} (each : Name → A) (name : Name) (a : A) → with_one each name a name ≡ a
 with_itself each name a = ap (λ b. if b then a else each name) (same_id name)
@@ -28,6 +30,8 @@ module _ {F : Type 0} where
     seen = w.seen;
     fresh = w.fresh;
     deleted = w.deleted;
+    handled = w.handled;
+    acknowledged_ids = w.acknowledged_ids;
   }
 
   abbrev pub own_again : ℕ → Name → Id → View F → List (Delivered F)
@@ -48,21 +52,26 @@ module _ {F : Type 0} where
   asks_step n name (i ∷ ids) phase v = record v {
     machine = after {F = F} v.machine acknowledged [];
     pending = pending_after v.machine.to_acknowledge v.pending;
+    handled = v.handled ++ [];
+    acknowledged_ids = v.acknowledged_ids ++ v.machine.to_acknowledge;
   }
   asks_step n name [] (own id) v = record v {
     machine = after v.machine (own_pending (own_again n name id v)) (all_done (own_again n name id v));
     pending = raised (listed (ids_of (own_page n name id v.pending v.seen))) name v.deleted v.pending;
+    handled = v.handled ++ handled_in (own_again n name id v) (all_done (own_again n name id v));
   }
   asks_step n name [] (claiming id) v = record v {
     machine = after v.machine (taken_over (next_claim n id v.pending v.seen) (claimed_now n id v))
         (all_done (claimed_now n id v));
     pending = claimed 1 (listed (ids_of (claim_page n id v.pending v.seen))) name v.deleted v.pending;
+    handled = v.handled ++ handled_in (claimed_now n id v) (all_done (claimed_now n id v));
   }
   asks_step n name [] (reading rounds) v = record v {
     machine = after v.machine (news (new_ones n v)) (all_done (new_ones n v));
     pending = v.pending ++ newly_pending name (given v.deleted n v.fresh);
     seen = v.seen ++ passed v.deleted n v.fresh;
     fresh = behind v.deleted n v.fresh;
+    handled = v.handled ++ handled_in (new_ones n v) (all_done (new_ones n v));
   }
 
   abbrev pub asked_of : ℕ → Name → View F → View F

@@ -26,22 +26,22 @@ abbrev pub claims_for : ℕ → ℕ
 claims_for zero = 1
 claims_for (suc pages) = 2 * pages + 2
 
--- so many pages of new entries take two rounds each, and one more between them that claims
-abbrev pub reads_for : ℕ → ℕ
-reads_for zero = 0
-reads_for (suc pages) = 3 * pages + 2
-
 -- the reads before it claims again, at most
 abbrev pub reads_before : ℕ → ℕ
 reads_before every = 1 + (every - 1)
 
+-- so many pages of new entries take two rounds each; after so many reads it claims, which takes one more
+abbrev pub reads_for : (every pages : ℕ) → ℕ
+reads_for every zero = 0
+reads_for every (suc pages) = 2 * pages + 2 + pages / reads_before every
+
 -- by where it stands, with so many pages pending for it, pending for anyone, and still to come. Where it claims or
 -- reads, it may have to claim from the first once more
 abbrev pub from_phase : (every : ℕ) → Phase → (mine all fresh : ℕ) → ℕ
-from_phase every (own id) mine all fresh = own_for mine + claims_for all + reads_for fresh
+from_phase every (own id) mine all fresh = own_for mine + claims_for all + reads_for every fresh
 from_phase every (claiming id) mine all fresh =
-    claims_for all + reads_before every + claims_for all + reads_for fresh
-from_phase every (reading rounds) mine all fresh = reads_before every + claims_for all + reads_for fresh
+    claims_for all + reads_before every + claims_for all + reads_for every fresh
+from_phase every (reading rounds) mine all fresh = reads_before every + claims_for all + reads_for every fresh
 
 -- so many rounds are enough where so many entries are pending for it, pending for anyone, and still to come
 abbrev pub rounds_for : ℕ → Machine → (mine all fresh : ℕ) → ℕ
@@ -60,3 +60,8 @@ module _ {F : Type 0} where
   -- the same in a world
   abbrev pub enough_rounds : ℕ → Name → World F → ℕ
   enough_rounds n name w = rounds_for n (w.workers name) (mine_in name w) (pending_in w) (length w.fresh)
+
+  -- so many rounds hand out again all that is pending for a worker that begins again
+  abbrev pub again_rounds : ℕ → Name → World F → ℕ
+  again_rounds n name w =
+      held_for (w.workers name).to_acknowledge (w.workers name).to_commit + 2 * pages n (mine_in name w)
