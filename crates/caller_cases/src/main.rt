@@ -16,7 +16,7 @@
 ghost use Rattle.std.specs.Prelude.{ℕ, List, None};
 
 use anyhow::{Result, bail};
-use line_log::{LineLog, LogError, LogFile, MemoryFile, entry_in, push_escaped, repair};
+use line_log::{LineLog, LogError, LogFile, MemoryFile, TornFile, entry_in, push_escaped, repair};
 use redis::sentences::SentenceError;
 use redis::streams::{
     StreamInfoFullReply, StreamInfoGroupsReply, StreamPendingCountReply, StreamRangeReply,
@@ -29,6 +29,7 @@ use std::fmt::Debug;
 use std::io;
 use std::io::{BufRead, BufReader, BufWriter, ErrorKind, Write};
 use std::process::ExitCode;
+use stream_files::log;
 use stream_text::read_value;
 use uses::batch::sort_out;
 use uses::caller::{order_bytes, order_id};
@@ -101,6 +102,8 @@ fn answer_of(alloc: Global, word: &str, value: Value) -> Result<String> {
         "crashes" => crashes(alloc, value),
         "last-lines" => last_lines(alloc, value),
         "lines-of-fronts" => lines_of_fronts(alloc, value),
+        "tears" => tears(alloc, value),
+        "files" => files(alloc, value),
         "escapes" => escapes(alloc, value),
         "line" => line(alloc, value),
         "protocols" => protocols(alloc, value),
@@ -483,7 +486,7 @@ fn commits(alloc: Global, batches: Value) -> Result<String> {
 }
 
 // Commits the lines of a batch; whether they were taken.
-fn commit(log: &mut LineLog<Small>, batch: &[RawBytes]) -> Result<&'static str> {
+fn commit<D: LogFile + Drop>(log: &mut LineLog<D>, batch: &[RawBytes]) -> Result<&'static str> {
     for line in batch {
         log.add_line(&line.0)?;
     }
@@ -603,6 +606,45 @@ fn crashes(alloc: Global, batches: Value) -> Result<String> {
         }
     }
     Ok(format!(in alloc; "{} crashes, {lost} lost a line", file.crashes.len())?)
+}
+
+/// What a log over a file that tears says to each batch of lines, if the sync of a number fails, the
+/// first of which is that of its opening; then the file after two crashes.
+///
+/// The first crash leaves these bytes for those that were not synced. The second comes while the file is
+/// opened again, and leaves so many of the bytes that were cut off. Then it is opened once more.
+fn tears(alloc: Global, case: Value) -> Result<String> {
+    type Case = (Vec<Vec<RawBytes>>, (usize, usize), RawBytes);
+    let (batches, (failing, uncut), behind): Case = from_redis_value(alloc, case)?;
+    let mut file = TornFile::new(alloc, Vec::new(alloc));
+    file.fail_sync(failing);
+    let mut log = LineLog::open(alloc, file)?;
+    let mut said = String::new(alloc);
+    for batch in &batches {
+        said.push_str(commit(&mut log, batch)?)?;
+    }
+    let mut file = log.into_file();
+    file.crash(0, &behind.0)?;
+    file.fail_sync(1);
+    match repair(alloc, &mut file) {
+        Err(LogError::File(_)) => file.crash(uncut, b"")?,
+        Err(LogError::Memory) => return Err(AllocError.into()),
+        Ok(()) => bail!("a sync that did not fail"),
+    }
+    let file = LineLog::open(alloc, file)?.into_file();
+    Ok(format!(in alloc; "{said}{:?}", str::from_utf8(file.on_disk())?)?)
+}
+
+/// A worker's file of these bytes, once it was opened and these lines were committed, by the calls that bind a
+/// log to the model of the files.
+fn files(alloc: Global, case: Value) -> Result<String> {
+    let (before, lines): (RawBytes, Vec<RawBytes>) = from_redis_value(alloc, case)?;
+    let mut log = log::open(alloc, MemoryFile::new(alloc, before.0))?;
+    for line in &lines {
+        log.add_line(&line.0)?;
+    }
+    log::commit(&mut log)?;
+    Ok(format!(in alloc; "{:?}", str::from_utf8(log.into_file().bytes())?)?)
 }
 
 /// The bytes of a text as they stand in a line.
