@@ -5,3 +5,4 @@ pub mod WrittenLemmas
 pub mod LivedLemmas
 pub mod FiledLemmas
 pub mod ResumedLemmas
+pub mod TellLemmas
