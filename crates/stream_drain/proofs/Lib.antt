@@ -6,3 +6,4 @@ pub mod LivedLemmas
 pub mod FiledLemmas
 pub mod TellLemmas
 pub mod ResumedLemmas
+pub mod SameLineLemmas

@@ -1,117 +1,97 @@
--- A line tells its entry, in JSON too.
-use Rattle.std.proofs.Common.{◌≡◌, ◌<◌, ℕ, zero, suc, Bool, true, false, List, [], ◌∷◌, ◌++◌, flat_map, slice_index, refl, sym}
-use Rattle.std.proofs.Common.{◌∙◌, ap, ap₂, arith, append_assoc, if◌then◌else◌, codes}
-use Rattle.std.specs.List.{AllByRecursion, list_all}
-use Rattle.std.specs.Str.{is_utf8}
+-- What the lines of entries tell: their ids.
+use Rattle.std.proofs.Common.{◌≡◌, ◌≢◌, ◌∙◌, ◌⊎◌, ◌/◌, ◌%◌, inl, inr, refl, sym, ap, subst, ℕ, Bool, true, false, cond, List, [], ◌∷◌}
+use Rattle.std.proofs.Common.{◌++◌, Some, codes, arith, flat_map, drop}
+use Rattle.std.specs.Prelude.{nat_lt}
+use Rattle.std.specs.Char.{digit_char}
+use Rattle.std.specs.List.{list_all}
 use Rattle.std.proofs.lemmas.Bool.{and_parts, true≢false}
-use Rattle.base64.proofs.RoundTrip.{decode-encode}
-use Rattle.base64.specs.Decode.{decoded_bytes}
-use Rattle.base64.specs.Engines as named
-use Rattle.base64.specs.GeneralPurpose.{encode_of}
-use Rattle.base64.specs.declared.engine.DecodePaddingMode.TheVariants.{RequireCanonical}
-use Rattle.json.specs.Token.{Token, begin_object, end_object, begin_array, end_array}
-use Rattle.json.specs.Token.{key, string, number, boolean, null, bad}
-use Rattle.json.specs.Lex.{tokens}
-use Rattle.json.specs.Print.{print, ArePrintable}
-use Rattle.json.proofs.Printed.Tokens.{tokens-print}
-use Rattle.line_log.specs.EntryLine.{Entry}
-use Rattle.line_log.specs.EntryLine as tabs
-use Rattle.stream_drain.specs.Json.{are_texts, is_text_or_bracket}
-use Rattle.stream_drain.specs.Line.{base64_tokens, begin_tokens, bytes_tokens, end_tokens, entry_tokens, field_tokens, line_in}
-use Rattle.stream_drain.specs.Tell.{AreBytes, IsOfBytes, LinesTellEntries}
-use Rattle.stream_drain.proofs.JsonLemmas.{entry_texts}
+use Rattle.json.specs.Token.{begin_array, key}
+use Rattle.json.specs.Print.{escape, escape_byte, escape_letter, print_from}
+use Rattle.line_log.specs.EntryLine.{Entry, IsEntryIn}
+use Rattle.line_log.proofs.EntryLineLemmas.{line_tells}
+use Rattle.stream_group.specs.Worker.{Id}
+use Rattle.stream_drain.specs.Line.{end_tokens, field_tokens, line_in}
+use Rattle.stream_drain.specs.Resumed.{TellEach, Tells, is_of_id}
 
--- ---- the tokens of a line
+-- one line more
+pub tell_more : (json : Bool) (lines : List (List ℕ)) (ids : List Id) (line : List ℕ) (id : Id) → TellEach json lines ids
+    → Tells json line id → TellEach json (lines ++ line ∷ []) (ids ++ id ∷ [])
+tell_more json [] [] line id each tells = (tells, tt)
+tell_more json [] (i ∷ ids) line id each tells = absurd each
+tell_more json (l ∷ lines) [] line id each tells = absurd each
+tell_more json (l ∷ lines) (i ∷ ids) line id each tells = (each.0, tell_more json lines ids line id each.1 tells)
 
-printable : (ts : List Token) → are_texts ts ≡ true → ArePrintable ts
-unfolding ArePrintable
-printable [] are = tt
-printable (begin_object ∷ ts) are = (tt, printable ts are)
-printable (end_object ∷ ts) are = (tt, printable ts are)
-printable (begin_array ∷ ts) are = (tt, printable ts are)
-printable (end_array ∷ ts) are = (tt, printable ts are)
-printable (key s ∷ ts) are = (tt, printable ts are)
-printable (string s ∷ ts) are = (tt, printable ts are)
-printable (number s ∷ ts) are = absurd (true≢false (sym are))
-printable (boolean b ∷ ts) are = absurd (true≢false (sym are))
-printable (null ∷ ts) are = absurd (true≢false (sym are))
-printable (bad ∷ ts) are = absurd (true≢false (sym are))
+-- the line of an entry tells its id
+pub text_tells : (line : List ℕ) (e : Entry) → IsEntryIn line (Some e) → Tells false line e.0
+text_tells line e is f same = ap (λ (g : Entry). g.0) (line_tells f e (same ∙ sym is))
 
-same_tokens : (a b : Entry) → print (entry_tokens a) ≡ print (entry_tokens b) → entry_tokens a ≡ entry_tokens b
-same_tokens a b same =
-    sym (tokens-print (entry_tokens a) (printable (entry_tokens a) (entry_texts a)))
-    ∙ (ap tokens same ∙ tokens-print (entry_tokens b) (printable (entry_tokens b) (entry_texts b)))
+-- ---- the id of a line of JSON
 
--- ---- Base64
+heads : (a b : ℕ) (xs ys : List ℕ) → a ∷ xs ≡ b ∷ ys → a ≡ b
+heads a b xs ys same = cc same
 
-each_byte : (m : List ℕ) → AreBytes m → (i : ℕ) → slice_index m i < 256
-each_byte [] are i = omega arith
-each_byte (x ∷ xs) are zero = are.0
-each_byte (x ∷ xs) are (suc i) = each_byte xs are.1 i
+tails : (a b : ℕ) (xs ys : List ℕ) → a ∷ xs ≡ b ∷ ys → xs ≡ ys
+tails a b xs ys same = cc same
 
-decoded : (m : List ℕ) → AreBytes m → decoded_bytes named.standard.decode_table 61 (encode_of named.standard m) ≡ m
-decoded m are =
-    (decode-encode named.standard.encode_table named.standard.decode_table m 61 false RequireCanonical true refl (each_byte m are) refl).1
+-- a byte stands as itself or behind a backslash
+abbrev StandsSo : ℕ → List ℕ → Type 0
+StandsSo b text = ((rest : List ℕ) × (text ≡ 92 ∷ rest)) ⊎ ((text ≡ b ∷ []) × (b ≢ 34))
 
-same_bytes : (a b : List ℕ) → AreBytes a → AreBytes b → encode_of named.standard a ≡ encode_of named.standard b → a ≡ b
-same_bytes a b are-a are-b same =
-    sym (decoded a are-a) ∙ (ap (decoded_bytes named.standard.decode_table 61) same ∙ decoded b are-b)
-
--- ---- a text, and what comes after it
-
-record Same {A : Type 0} (xs ys : List ℕ) (us vs : List A) : Type 0 where
-  front : xs ≡ ys
-  after : us ≡ vs
-
-text_once : (a b : List ℕ) (us vs : List Token) → AreBytes a → AreBytes b
-    → bytes_tokens a ++ us ≡ bytes_tokens b ++ vs → Same a b us vs
-text_once a b us vs are-a are-b same = by (is_utf8 a) (is_utf8 b) same
+stands_so : (b : ℕ) → StandsSo b (escape_byte b)
+unfolding escape_byte
+stands_so b = by (nat_lt 0 (escape_letter b)) (nat_lt b 32) refl
   where
-    by : (p q : Bool)
-        → (if p then string a ∷ [] else base64_tokens a) ++ us ≡ (if q then string b ∷ [] else base64_tokens b) ++ vs
-        → Same a b us vs
-    by true true e = record { front = cc e; after = cc e }
-    by true false e = absurd (cc e)
-    by false true e = absurd (cc e)
-    by false false e = record { front = same_bytes a b are-a are-b (cc e); after = cc e }
+    by : (p q : Bool) → nat_lt 0 (escape_letter b) ≡ p → StandsSo b (cond p (92 ∷ escape_letter b ∷ [])
+        (cond q (92 ∷ 117 ∷ 48 ∷ 48 ∷ digit_char (b / 16) ∷ digit_char (b % 16) ∷ []) (b ∷ [])))
+    by true q is = inl (_, refl)
+    by false true is = inl (_, refl)
+    by false false is = inr (
+      refl,
+      λ e. absurd (true≢false (subst (λ x. nat_lt 0 (escape_letter x) ≡ false) e is)),
+    )
 
--- ---- the fields
+-- no backslash and no quotation mark is of an id
+not_of_id : (x y : ℕ) (xs : List ℕ) → y ≡ x → is_of_id y ≡ false → list_all is_of_id (x ∷ xs) ≡ true → ⊥
+not_of_id x y xs is other all = true≢false (sym (and_parts (is_of_id x) (list_all is_of_id xs) all).0
+    ∙ ap is_of_id (sym is) ∙ other)
 
-joined : (p : List ℕ × List ℕ) (us : List Token)
-    → field_tokens p ++ us ≡ begin_array ∷ (bytes_tokens p.0 ++ (bytes_tokens p.1 ++ end_array ∷ us))
-joined p us = ap (λ ts. begin_array ∷ ts)
-    (append_assoc (bytes_tokens p.0) (bytes_tokens p.1 ++ end_array ∷ []) us
-    ∙ ap (λ ts. bytes_tokens p.0 ++ ts) (append_assoc (bytes_tokens p.1) (end_array ∷ []) us))
+same_text : (s id rest more : List ℕ) → (escape s ++ 34 ∷ []) ++ more ≡ id ++ 34 ∷ rest → list_all is_of_id id ≡ true
+    → s ≡ id
+same_text [] [] rest more same all = refl
+same_text [] (x ∷ xs) rest more same all =
+    absurd (not_of_id x 34 xs (heads 34 x more (xs ++ 34 ∷ rest) same) refl all)
+same_text (b ∷ bs) [] rest more same all = elim (stands_so b) [
+  | inl behind ↦
+      let is = subst (λ (t : List ℕ). ((t ++ escape bs) ++ 34 ∷ []) ++ more ≡ 34 ∷ rest) behind.1 same in
+      let wrong = heads 92 34 (((behind.0 ++ escape bs) ++ 34 ∷ []) ++ more) rest is in absurd (omega (arith, wrong))
+  | inr plain ↦
+      let is = subst (λ (t : List ℕ). ((t ++ escape bs) ++ 34 ∷ []) ++ more ≡ 34 ∷ rest) plain.0 same in
+      absurd (plain.1 (heads b 34 ((escape bs ++ 34 ∷ []) ++ more) rest is))
+]
+same_text (b ∷ bs) (x ∷ xs) rest more same all = elim (stands_so b) [
+  | inl behind ↦
+      let is = subst (λ (t : List ℕ). ((t ++ escape bs) ++ 34 ∷ []) ++ more ≡ x ∷ (xs ++ 34 ∷ rest)) behind.1 same in
+      let first = heads 92 x (((behind.0 ++ escape bs) ++ 34 ∷ []) ++ more) (xs ++ 34 ∷ rest) is in
+      absurd (not_of_id x 92 xs first refl all)
+  | inr plain ↦
+      let is = subst (λ (t : List ℕ). ((t ++ escape bs) ++ 34 ∷ []) ++ more ≡ x ∷ (xs ++ 34 ∷ rest)) plain.0 same in
+      let first = heads b x ((escape bs ++ 34 ∷ []) ++ more) (xs ++ 34 ∷ rest) is in
+      let later = same_text bs xs rest more (tails b x ((escape bs ++ 34 ∷ []) ++ more) (xs ++ 34 ∷ rest) is)
+      (and_parts (is_of_id x) (list_all is_of_id xs) all).1 in
+      ap (λ (y : ℕ). y ∷ bs) first ∙ ap (λ (ys : List ℕ). x ∷ ys) later
+]
 
-field_once : (p q : List ℕ × List ℕ) (us vs : List Token) → (AreBytes p.0 × AreBytes p.1) → (AreBytes q.0 × AreBytes q.1)
-    → field_tokens p ++ us ≡ field_tokens q ++ vs → (p ≡ q) × (us ≡ vs)
-field_once p q us vs are-p are-q same =
-    let e : bytes_tokens p.0 ++ (bytes_tokens p.1 ++ end_array ∷ us) ≡ bytes_tokens q.0 ++ (bytes_tokens q.1 ++ end_array ∷ vs) =
-    cc (sym (joined p us) ∙ (same ∙ joined q vs)) in
-    let name = text_once p.0 q.0 (bytes_tokens p.1 ++ end_array ∷ us) (bytes_tokens q.1 ++ end_array ∷ vs) are-p.0 are-q.0 e in
-    let value = text_once p.1 q.1 (end_array ∷ us) (end_array ∷ vs) are-p.1 are-q.1 name.after in
-    (ap₂ (λ x y. (x, y)) name.front value.front, cc value.after)
+-- what stands behind the id in the line of an entry
+abbrev behind_id : Entry → List ℕ
+behind_id e = print_from true (key (codes "fields") ∷ begin_array ∷ (flat_map field_tokens e.1 ++ end_tokens))
 
-fields_once : (ps qs : List (List ℕ × List ℕ)) → AllByRecursion (λ p. AreBytes p.0 × AreBytes p.1) ps
-    → AllByRecursion (λ p. AreBytes p.0 × AreBytes p.1) qs
-    → flat_map field_tokens ps ++ end_tokens ≡ flat_map field_tokens qs ++ end_tokens → ps ≡ qs
-fields_once [] [] are-p are-q same = refl
-fields_once [] (q ∷ qs) are-p are-q same = absurd (cc same)
-fields_once (p ∷ ps) [] are-p are-q same = absurd (cc same)
-fields_once (p ∷ ps) (q ∷ qs) are-p are-q same =
-    let e = sym (append_assoc (field_tokens p) (flat_map field_tokens ps) end_tokens)
-    ∙ (same ∙ append_assoc (field_tokens q) (flat_map field_tokens qs) end_tokens) in
-    let one = field_once p q (flat_map field_tokens ps ++ end_tokens) (flat_map field_tokens qs ++ end_tokens) are-p.0 are-q.0 e in
-    ap₂ (λ x xs. x ∷ xs) one.0 (fields_once ps qs are-p.1 are-q.1 one.1)
+begins_with_id : (e : Entry) → line_in true e ≡ codes "{\"id\":\"" ++ ((escape e.0 ++ 34 ∷ []) ++ behind_id e)
+unfolding print_from, escape_byte
+begins_with_id e = refl
 
-entry_once : (a b : Entry) → IsOfBytes a → IsOfBytes b → entry_tokens a ≡ entry_tokens b → a ≡ b
-entry_once a b are-a are-b same =
-    let id : a.0 ≡ b.0 = cc same in
-    let rest : flat_map field_tokens a.1 ++ end_tokens ≡ flat_map field_tokens b.1 ++ end_tokens = cc same in
-    ap₂ (λ x y. (x, y)) id (fields_once a.1 b.1 are-a are-b rest)
-
--- ---- the law
-
-pub tell : tabs.LinesTellEntries → LinesTellEntries
-tell text true a b are-a are-b same = entry_once a b are-a are-b (same_tokens a b same)
-tell text false a b are-a are-b same = text a b same
+pub json_tells : (line id rest : List ℕ) → line ≡ codes "{\"id\":\"" ++ (id ++ 34 ∷ rest) → list_all is_of_id id ≡ true
+    → Tells true line id
+json_tells line id rest is all e same =
+    let both : codes "{\"id\":\"" ++ ((escape e.0 ++ 34 ∷ []) ++ behind_id e) ≡ codes "{\"id\":\"" ++ (id ++ 34 ∷ rest) =
+    sym (begins_with_id e) ∙ same ∙ is in
+    same_text e.0 id rest (behind_id e) (ap (λ (xs : List ℕ). drop 7 xs) both) all

@@ -229,7 +229,7 @@ module _ {F : Type 0} where
   each w i (Acknowledge c) = record { handed_out = i.handed_out; no_end = i.no_end }
   each w i (Ack_comes k) = acks w i (item w.acks k)
   each w i (Go_back c) = record { handed_out = i.handed_out; no_end = i.no_end }
-  each w i (Crash c every) = record { handed_out = i.handed_out; no_end = i.no_end }
+  each w i (Crash c every keeps ids) = record { handed_out = i.handed_out; no_end = i.no_end }
 
   over : (es : List (Event F)) (w : World F) → Held w → Held (run es w)
   over [] w i = i

@@ -1,5 +1,5 @@
 -- A world where one round less is not enough.
-use Rattle.std.proofs.Common.{◌≡◌, refl, ℕ, [], ◌∷◌, codes}
+use Rattle.std.proofs.Common.{◌≡◌, refl, ℕ, false, [], ◌∷◌, codes}
 use Rattle.std.specs.Fmt.{digits}
 use Rattle.stream_group.specs.Group.{Name, pending_ids}
 use Rattle.stream_group.specs.Group as group
@@ -17,7 +17,7 @@ bob = codes "bob"
 -- three entries were added; bob was handed two of them and is gone; ann is new
 abbrev pub before : World ℕ
 before = run (
-    Append (1, 0) 7 ∷ Append (1, 1) 8 ∷ Append (2, 0) 9 ∷ Read bob 2 ∷ Crash ann 10 ∷ []
+    Append (1, 0) 7 ∷ Append (1, 1) 8 ∷ Append (2, 0) 9 ∷ Read bob 2 ∷ Crash ann 10 (λ e. false) [] ∷ []
     ) empty_world
 
 -- with a COUNT of 1 they need one round of their own, four of claims, and two of reads
@@ -41,7 +41,7 @@ one_less = refl
 -- ann was handed two of three entries, did neither, and begins again
 abbrev begun : World ℕ
 begun = run (
-    Append (1, 0) 7 ∷ Append (1, 1) 8 ∷ Append (2, 0) 9 ∷ Read ann 2 ∷ Crash ann 10 ∷ []
+    Append (1, 0) 7 ∷ Append (1, 1) 8 ∷ Append (2, 0) 9 ∷ Read ann 2 ∷ Crash ann 10 (λ e. false) [] ∷ []
     ) empty_world
 
 pub it_begins : (begun.workers ann).phase ≡ own (codes "0")
@@ -71,7 +71,7 @@ one_of_them = refl
 
 -- three new entries, and a worker that claims after each read
 abbrev new_ones : World ℕ
-new_ones = run (Append (1, 0) 7 ∷ Append (1, 1) 8 ∷ Append (2, 0) 9 ∷ Crash ann 1 ∷ []) empty_world
+new_ones = run (Append (1, 0) 7 ∷ Append (1, 1) 8 ∷ Append (2, 0) 9 ∷ Crash ann 1 (λ e. false) [] ∷ []) empty_world
 
 pub claims_between : enough_rounds 1 ann new_ones ≡ 10
 unfolding digits

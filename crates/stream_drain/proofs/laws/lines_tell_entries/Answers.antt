@@ -1,5 +1,5 @@
 use Rattle.line_log.proofs.EntryLineLemmas.{line_tells}
-use Rattle.stream_drain.proofs.TellLemmas.{tell}
+use Rattle.stream_drain.proofs.SameLineLemmas.{tell}
 use Rattle.stream_drain.proofs.laws.lines_tell_entries.Goals as goal
 
 pub returns : goal.returns
