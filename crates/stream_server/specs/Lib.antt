@@ -1,6 +1,7 @@
 pub mod Acknowledging
 pub mod Adding
 pub mod Changed
+pub mod Creating
 pub mod Delivering
 pub mod Incoming
 pub mod Kinds
