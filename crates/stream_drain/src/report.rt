@@ -4,10 +4,9 @@ ghost use Rattle.stream_drain.specs.Report.{report_text};
 
 use crate::backlog::Watched;
 use anyhow::Result;
-use std::fmt;
-use std::mem;
 use std::rt::Clock;
 use std::time::{Duration, Instant};
+use std::{fmt, mem};
 
 /// Counts, which are shown at the end, and also once a second where it is not quiet.
 #[derive(Drop)]

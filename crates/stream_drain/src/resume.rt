@@ -27,7 +27,11 @@ pub struct Start {
 /// A worker that first acknowledges the entries of the last lines of its file, as many as a commit may
 /// have: those that stand there but were not acknowledged do not come again. It fails where one of these
 /// lines tells no id.
-pub fn begun<D: LogFile + Drop>(alloc: Global, settings: Settings, lines: &Lines<D>) -> Result<Start>
+pub fn begun<D: LogFile + Drop>(
+    alloc: Global,
+    settings: Settings,
+    lines: &Lines<D>,
+) -> Result<Start>
     ensures settings { IfOk result (λ b. b.worker.settings ≡ settings) }
     ensures lives { IfOk result (λ b. lines.now.log.batch.items ≡ []
         → IfSome (committed_in (D.seen lines.now.log.file) lines.now.log.len)

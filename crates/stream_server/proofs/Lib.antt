@@ -4,6 +4,7 @@ pub mod SentReadLemmas
 mod AcknowledgeLemmas
 mod AddLemmas
 mod CommandLemmas
+mod DeliveringLemmas
 mod NameLemmas
 mod ServingLemmas
 mod StalledLemmas

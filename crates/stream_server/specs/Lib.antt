@@ -1,6 +1,8 @@
 pub mod Acknowledging
 pub mod Adding
 pub mod Changed
+pub mod Creating
+pub mod Delivering
 pub mod Incoming
 pub mod Kinds
 pub mod Loopback

@@ -1,5 +1,7 @@
 //! `XGROUP`.
-ghost use Rattle.std.specs.Prelude.{◌≡◌, ◌<◌, length, IfOk, OnErr};
+ghost use Rattle.std.specs.Prelude.{◌≡◌, ◌<◌, length, IfOk, OnErr, OnOk};
+ghost use Rattle.std.specs.List.{HoldsAt};
+ghost use Rattle.stream_server.specs.Creating.{IsStartIn, IsXgroupCreate, start_id};
 ghost use Rattle.stream_server.specs.Streams.{seen_streams};
 ghost use Rattle.stream_store.specs.Stream.{seen_stream};
 
@@ -182,15 +184,39 @@ fn entries_read_in(text: &[u8]) -> Result<Option<i64>, Refusal> {
     if n == -1 { Ok(None) } else { Ok(Some(n)) }
 }
 
-/// The id at which a group begins: `$`, the last one, or an id.
-fn start_of(words: &[Vec<u8>], last_id: EntryId) -> Result<EntryId, Refusal> {
+/// Where a group begins.
+#[derive(Clone, Copy)]
+enum Start {
+    /// `$`: at the last id of the stream.
+    Last,
+    /// At this id.
+    At(EntryId),
+}
+
+impl Start {
+    /// The id at which it begins, of a stream with this last id.
+    fn id(self, last_id: EntryId) -> EntryId
+        ensures { result ≡ start_id self last_id }
+    {
+        match self {
+            Start::Last => last_id,
+            Start::At(id) => id,
+        }
+    }
+}
+
+/// Where the first of the words has a group begin.
+fn start_in(words: &[Vec<u8>]) -> Result<Start, Refusal>
+    ensures { IfOk result (λ start. HoldsAt (IsStartIn start) words.now 0) }
+{
     let [text, ..] = words else {
         return Err(SYNTAX);
     };
     if text.as_slice() == b"$".as_slice() {
-        return Ok(last_id);
+        return Ok(Start::Last);
     }
-    strict_id(text, 0).ok_or(INVALID_ID)
+    let id = strict_id(text, 0).ok_or(INVALID_ID)?;
+    Ok(Start::At(id))
 }
 
 /// `CREATE` on a stream that is not there yet.
@@ -223,13 +249,16 @@ fn create(
     words: &[Vec<u8>],
     options: GroupOptions,
 ) -> Result<Answer, Refusal>
-    ensures { OnErr result (seen_stream stream.new ≡ seen_stream stream.old) }
+    ensures ok { OnOk result (IsXgroupCreate words.now name.now options.entries_read
+        stream.old stream.new) }
+    ensures err { OnErr result (seen_stream stream.new ≡ seen_stream stream.old) }
 {
-    let last_id = start_of(words, stream.last_id)?;
+    let start = start_in(words)?;
     let Err(place) = place_of_group(stream, name) else {
         return Err(Refusal::Fixed("BUSYGROUP Consumer Group name already exists"));
     };
     let name = Vec::from_slice(alloc, name)?;
+    let last_id = start.id(stream.last_id);
     let group = Group::new(alloc, name, last_id, options.entries_read);
     stream.groups.insert(place, group)?;
     Ok(Answer::Okay)

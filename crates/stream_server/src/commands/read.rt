@@ -1,6 +1,8 @@
 //! `XREAD`, `XREADGROUP`.
-ghost use Rattle.std.specs.Prelude.{◌≡◌, IfOk, OnErr};
+ghost use Rattle.std.specs.Prelude.{◌≡◌, ◌≤◌, drop, length, IfOk, OnErr, OnOk};
+ghost use Rattle.stream_server.specs.Delivering.{HandsOut, IsDelivered, entries_behind};
 ghost use Rattle.stream_server.specs.Kinds.{IsRows};
+ghost use Rattle.stream_store.specs.Laws.{AreInOrder};
 
 use super::draft::Draft;
 use super::{
@@ -493,43 +495,71 @@ fn given_again(
     Ok(answer)
 }
 
-/// New entries are the consumer's, and pending unless they are acknowledged at once.
+/// What is new is the consumer's: the first entries behind the last one that the group delivered.
 fn hand_out(
     alloc: Global,
     stream: &Stream,
     group: &mut Group,
     reader: Reader<'_>,
-) -> Result<(), AllocError> {
+) -> Result<(), AllocError>
+    ensures { OnOk result (HandsOut reader.entry.consumer.now reader.entry.now reader.entry.most
+        reader.entry.acknowledges stream.now.entries.items group.old group.new) }
+{
+    let start = start_behind(stream, group.last_id);
     let number = group.see(alloc, reader.consumer, reader.now)?;
-    let Some(first) = group.last_id.next() else {
-        return Ok(());
-    };
     let mut left = reader.most;
-    for entry in stream.entries.range(stream.start(first)..) {
+    for entry in stream.entries.range(start..) {
         if left == 0 {
             break;
         }
         left -= 1;
-        let id = entry.id;
-        match group.entries_read {
-            Some(n) if !stream.has_tombstone_from(id) => {
-                group.entries_read = Some(n.wrapping_add(1));
-            }
-            _ => {
-                if stream.entries_added != 0 {
-                    group.entries_read = stream.distance(id);
-                }
-            }
-        }
-        group.last_id = id;
-        if !reader.acknowledges {
-            group.give(Pending {
-                id,
-                consumer: number,
-                given_at: reader.now,
-                deliveries: 1,
-            })?;
-        }
+        deliver(stream, group, entry.id, number, reader)?;
     }
     Ok(())
+}
+
+/// The index of the first entry behind this id.
+fn start_behind(stream: &Stream, id: EntryId) -> usize
+    ensures bound { result ≤ length stream.now.entries.items }
+    ensures behind { AreInOrder stream.now.entries.items
+        → drop result stream.now.entries.items ≡ entries_behind id stream.now.entries.items }
+{
+    match stream.place(id) {
+        Ok(index) => index + 1,
+        Err(index) => index,
+    }
+}
+
+/// The entry with this id is the last one that the group delivered, and pending for the consumer
+/// of this number unless it is acknowledged at once.
+fn deliver(
+    stream: &Stream,
+    group: &mut Group,
+    id: EntryId,
+    number: u64,
+    reader: Reader<'_>,
+) -> Result<(), AllocError>
+    ensures { OnOk result (IsDelivered number reader.entry.now reader.entry.acknowledges id
+        group.old group.new) }
+{
+    group.entries_read = read_up_to(stream, group.entries_read, id);
+    group.last_id = id;
+    if reader.acknowledges {
+        return Ok(());
+    }
+    group.give(Pending {
+        id,
+        consumer: number,
+        given_at: reader.now,
+        deliveries: 1,
+    })
+}
+
+/// How many entries were read with the one of this id, where that is known, of as many before it.
+fn read_up_to(stream: &Stream, before: Option<i64>, id: EntryId) -> Option<i64> {
+    match before {
+        Some(n) if !stream.has_tombstone_from(id) => Some(n.wrapping_add(1)),
+        _ if stream.entries_added != 0 => stream.distance(id),
+        _ => before,
+    }
 }
