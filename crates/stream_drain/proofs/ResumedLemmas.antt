@@ -43,7 +43,7 @@ lines_are json (e ∷ es) =
 
 same_count : (json : Bool) (es : List Entry) → length (map (line_in json) es) ≡ length es
 same_count json [] = refl
-same_count json (e ∷ es) = ap (λ (n : ℕ). n + 1) (same_count json es)
+same_count json (e ∷ es) = omega (arith, same_count json es)
 
 last_are : (number : ℕ) (json : Bool) (first : List ℕ) (es : List Entry) → AreLines first → AreLast number first es
     → last_of number (lines_of (first ++ lines_in json es)) ≡ map (line_in json) es

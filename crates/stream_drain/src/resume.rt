@@ -55,7 +55,7 @@ pub fn ids_told(alloc: Global, lines: &[Vec<u8>], json: bool) -> Result<Vec<Stri
     for line in lines {
         match id_told(alloc, line, json)? {
             Some(id) => ids.push(id)?,
-            None => return untold(lines.len() - ids.len()),
+            None => return untold(lines.len().saturating_sub(ids.len())),
         }
     }
     Ok(ids)
