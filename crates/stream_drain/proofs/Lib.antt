@@ -7,3 +7,4 @@ pub mod FiledLemmas
 pub mod TellLemmas
 pub mod ResumedLemmas
 pub mod SameLineLemmas
+pub mod ResumeLemmas

@@ -86,7 +86,7 @@ abbrev behind_id : Entry → List ℕ
 behind_id e = print_from true (key (codes "fields") ∷ begin_array ∷ (flat_map field_tokens e.1 ++ end_tokens))
 
 begins_with_id : (e : Entry) → line_in true e ≡ codes "{\"id\":\"" ++ ((escape e.0 ++ 34 ∷ []) ++ behind_id e)
-unfolding print_from, escape_byte
+unfolding print_from escape_byte
 begins_with_id e = refl
 
 pub json_tells : (line id rest : List ℕ) → line ≡ codes "{\"id\":\"" ++ (id ++ 34 ∷ rest) → list_all is_of_id id ≡ true

@@ -105,14 +105,15 @@ fn id_of_json(line: &[u8]) -> Option<&[u8]>
     ensures { IfSome result (λ id. (rest : List ℕ) × (line.now ≡ codes "{\"id\":\"" ++ (id.now ++ (34 ∷ rest)))
         × IsTrue (list_all is_of_id id.now)) }
 {
-    let rest = line.strip_prefix(b"{\"id\":\"")?;
+    let head = line.get(..7)?;
+    let rest = line.get(7..)?;
     let len = of_id(rest);
     let id = rest.get(..len)?;
-    if rest.get(len..)?.starts_with(b"\",\"fields\":[") {
-        Some(id)
-    } else {
-        None
-    }
+    let behind = rest.get(len..)?;
+    let next = behind.get(..12)?;
+    let is_head = head == b"{\"id\":\"".as_slice();
+    let is_next = next == b"\",\"fields\":[".as_slice();
+    if is_head && is_next { Some(id) } else { None }
 }
 
 /// How many bytes at the head are digits and hyphens.
