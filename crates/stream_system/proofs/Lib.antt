@@ -3,4 +3,5 @@ pub mod Served
 pub mod Coupled
 pub mod Kept
 pub mod RoundLemmas
+pub mod DrainedLemmas
 mod Sample

@@ -9,9 +9,11 @@ use Rattle.redis_resp.specs.Tree.{Tree, bulk, array, trees}
 use Rattle.redis_wire.specs.Reply as wire
 use Rattle.line_log.specs.EntryLine.{Entry}
 use Rattle.line_log.specs.Lines.{AreLines}
-use Rattle.stream_group.specs.Worker.{done, own_pending}
+use Rattle.stream_group.specs.Worker.{done, own_pending, entries_in}
 use Rattle.stream_group.specs.Group.{Name}
-use Rattle.stream_group.specs.World.{Append, Read, Reread, Ack_comes}
+use Rattle.stream_group.specs.World.{World, Append, Read, Reread, Ack_comes, empty_world}
+use Rattle.stream_group.specs.World as group
+use Rattle.stream_rounds.specs.Rounds.{all_done}
 use Rattle.stream_group.specs.Law.{Among}
 use Rattle.stream_group.proofs.Among.{among_left}
 use Rattle.stream_refs.specs.SentReading.{sent_streams_reading}
@@ -26,9 +28,10 @@ use Rattle.stream_worker.specs.declared.state.GroupState.{GroupState}
 use Rattle.stream_worker.specs.declared.state.Asked.TheVariants as asked
 use Rattle.stream_worker.specs.declared.state.Settings.{Settings}
 use Rattle.stream_system.specs.System.{System, Move, Serves, Commits, Sends, Hears, first_system, with_worker}
-use Rattle.stream_system.specs.System.{still_coming, repaired, filed_then, moves, run}
+use Rattle.stream_system.specs.System.{new_worker, still_coming, repaired, filed_then, moves, run}
 use Rattle.stream_system.specs.Law.{IsReplyTo, AllHearTruly}
 use Rattle.stream_system.specs.Rounds.{AreReadBack}
+use Rattle.stream_system.specs.Drained.{page_for, HearsThePage}
 
 abbrev ann : Name
 ann = codes "ann"
@@ -115,3 +118,15 @@ module _ (settings : Settings) (key : string_bytes settings.key ≡ codes "s") (
         among_left entry then_it_commits.filed _ (subst (λ es. Among entry es) (sym filed) (inl refl)),
         has_it torn,
       )
+
+  -- a page that was read before, and the worker that asks for it first
+  abbrev read_before : World Fields
+  read_before = group.run (Append (1, 0) fields ∷ Read ann 1 ∷ []) empty_world
+
+  pub hears_the_page : settings.count ≡ 1
+      → HearsThePage settings ann read_before (new_worker 1 [] []) (record { answer = wire.value sent; verdicts = done ∷ [] })
+  unfolding digits
+  hears_the_page count = record {
+    heard = it_hears ∙ ap (λ n. Some (told (page_for n ann read_before))) (sym count);
+    all = ap (λ n. all_done (entries_in (page_for n ann read_before))) (sym count);
+  }

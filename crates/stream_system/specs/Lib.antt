@@ -2,3 +2,4 @@
 pub mod System
 pub mod Law
 pub mod Rounds
+pub mod Drained

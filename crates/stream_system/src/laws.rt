@@ -1,4 +1,5 @@
 //! What holds of workers over one server, each with a file of lines, after every schedule.
+ghost use Rattle.stream_system.specs.Drained.{EnoughRoundsDrain, OneRoundIsOne};
 ghost use Rattle.stream_system.specs.Law.{AcknowledgedIsInAFile, EachEntryIsKept};
 ghost use Rattle.stream_system.specs.Rounds.{FailuresAreMoves, OthersChangeNothing, RoundsAreMoves, StartsAreMoves};
 
@@ -25,4 +26,12 @@ pub fn rounds_are_moves()
 /// committed, and lines of that file.
 pub fn starts_are_moves()
     ensures { StartsAreMoves }
+{}
+
+/// A worker's round that returns Ok is a round of `stream_rounds`, where its server hands out its
+/// page and its handler says `done` of each entry. Enough of such rounds, with nothing between them,
+/// lead to a world where nothing is pending and nothing is still to come.
+pub fn rounds_that_hear_the_page_are_rounds()
+    ensures round { OneRoundIsOne }
+    ensures drains { EnoughRoundsDrain }
 {}
