@@ -23,6 +23,8 @@ PLACED = re.compile(rb"(MOVED|ASK) (0|[1-9][0-9]*) ([^ ]*):([1-9][0-9]*)", re.S)
 CODES = (b"TRYAGAIN", b"CLUSTERDOWN", b"LOADING", b"MASTERDOWN", b"READONLY", b"NOREPLICAS")
 # After these, and after those above, another try helps, as redis_client says (`Reconnect`, `Later`).
 PASSING = (*CODES, b"UNBLOCKED", b"BUSY", b"OOM", b"MISCONF")
+# After these it helps at the same node.
+THERE_AGAIN = (b"TRYAGAIN", b"UNBLOCKED", b"BUSY", b"OOM", b"MISCONF")
 
 ClusterError = collections.namedtuple("ClusterError", "code slot host port", defaults=(None, None, None))
 
