@@ -4,9 +4,11 @@ ghost use Rattle.std.specs.Prelude.{◌≡◌, None, IfOk};
 use crate::json_records::record_of_json;
 use anyhow::{Context, Error, Result, anyhow, bail};
 use json::Scratch;
+use memchr::{memchr, memchr_iter};
 use std::alloc::{AllocError, Global};
 use std::fs::File;
 use std::io::{BufRead, BufReader, Seek, SeekFrom};
+use std::mem;
 use std::rt::Files;
 use stream_feed::{NotRead, Record, Source};
 
@@ -38,6 +40,8 @@ pub struct Lines {
     /// The line that was read last; it keeps its room for the next one.
     line: Vec<u8>,
     scratch: Scratch,
+    /// Records that were read ahead, behind so many.
+    ahead: Option<(u64, Vec<Record>)>,
     /// How many lines there are.
     pub count: u64,
     /// Behind them stands a line without an end.
@@ -64,6 +68,7 @@ impl Lines {
             before: None,
             line: Vec::new(alloc),
             scratch: Scratch::new(alloc),
+            ahead: None,
             count: 0,
             is_torn: false,
             fault: None,
@@ -75,21 +80,36 @@ impl Lines {
 
     // Counts the lines, and keeps places.
     fn count_all(&mut self) -> Result<()> {
+        self.places.push(0)?;
         let mut place = 0u64;
         for _ in 0..u64::MAX {
-            if self.count % STEP == 0 {
-                self.places.push(place)?;
+            match self.count_piece(place)? {
+                0 => return Ok(()),
+                len => place = place.saturating_add(len),
             }
-            if !self.next_line()? {
-                self.is_torn = !self.line.is_empty();
-                return Ok(());
-            }
-            place = place
-                .saturating_add(self.line.len() as u64)
-                .saturating_add(1);
-            self.count = self.count.saturating_add(1);
         }
         bail!("the file has no end")
+    }
+
+    // Counts the lines that end in the next piece of the file, which begins at this place. So many
+    // bytes it has, and none where the file ends.
+    fn count_piece(&mut self, place: u64) -> Result<u64> {
+        let piece = match self.file.fill_buf() {
+            Ok(piece) => piece,
+            Err(error) => bail!("cannot read the file: {error}"),
+        };
+        for end in memchr_iter(b'\n', piece) {
+            self.count = self.count.saturating_add(1);
+            if self.count % STEP == 0 {
+                self.places.push(place.saturating_add(end as u64).saturating_add(1))?;
+            }
+        }
+        let len = piece.len();
+        if let Some(last) = piece.last() {
+            self.is_torn = *last != b'\n';
+        }
+        self.file.consume(len);
+        Ok(len as u64)
     }
 
     // Reads the next line, without its end. False where none has an end.
@@ -128,7 +148,7 @@ impl Lines {
         Ok(())
     }
 
-    // Reads the next lines as records, at most so many.
+    // Reads the next lines as records, so many.
     fn read_records(
         &mut self,
         alloc: Global,
@@ -136,27 +156,62 @@ impl Lines {
         behind: u64,
         most: u64,
     ) -> Result<()> {
-        let mut before = behind;
+        let mut left = most;
         for _ in 0..most {
+            left = left.saturating_sub(self.read_piece(alloc, records, left)?);
+            if left == 0 {
+                break;
+            }
             if !self.next_line()? {
                 bail!("the file became shorter");
             }
-            before = before.saturating_add(1);
-            records.push(self.record(alloc, before)?)?;
+            records.push(record_of(alloc, &self.form, &mut self.scratch, &self.line)?)?;
+            left = left.saturating_sub(1);
+            if left == 0 {
+                break;
+            }
         }
-        self.before = Some(before);
+        self.before = Some(behind.saturating_add(most));
         Ok(())
     }
 
-    // The record of the line that was read, which has this number.
-    fn record(&mut self, alloc: Global, number: u64) -> Result<Record> {
-        match &self.form {
-            Form::Json => match record_of_json(alloc, &mut self.scratch, &self.line) {
-                Ok(record) => Ok(record),
-                Err(cause) => Err(anyhow!("line {number} {cause}")),
-            },
-            Form::Text(name) => Ok(record_of_text(alloc, name, &self.line)?),
+    // Reads the lines that stand whole in what is read of the file as records, at most so many: how many.
+    fn read_piece(
+        &mut self,
+        alloc: Global,
+        records: &mut Vec<Record>,
+        most: u64,
+    ) -> Result<u64> {
+        let piece = match self.file.fill_buf() {
+            Ok(piece) => piece,
+            Err(error) => bail!("cannot read the file: {error}"),
+        };
+        let mut rest = piece;
+        let mut count = 0u64;
+        for _ in 0..most {
+            let Some(end) = memchr(b'\n', rest) else {
+                break;
+            };
+            let (line, after) = rest.split_at(end);
+            records.push(record_of(alloc, &self.form, &mut self.scratch, line)?)?;
+            rest = &after[1..];
+            count = count.saturating_add(1);
         }
+        let len = piece.len().saturating_sub(rest.len());
+        self.file.consume(len);
+        Ok(count)
+    }
+
+    fn read_now(&mut self, alloc: Global, behind: u64, most: usize) -> Result<Vec<Record>, NotRead> {
+        let mut records = Vec::new(alloc);
+        if behind < self.count {
+            if let Err(fault) = self.read_from(alloc, &mut records, behind, most) {
+                self.fault = Some(fault);
+                return Err(NotRead);
+            }
+        }
+        records.truncate(most);
+        Ok(records)
     }
 
     // The same from a place on.
@@ -178,21 +233,40 @@ impl Source for Lines {
     ghost records = { λ _. None };
 
     fn read(&mut self, alloc: Global, behind: u64, most: usize) -> Result<Vec<Record>, NotRead> {
-        let mut records = Vec::new(alloc);
-        if behind < self.count {
-            if let Err(fault) = self.read_from(alloc, &mut records, behind, most) {
-                self.fault = Some(fault);
-                return Err(NotRead);
+        let ahead = mem::replace(&mut self.ahead, None);
+        if let Some((place, records)) = ahead {
+            if place == behind && records.len() <= most {
+                return Ok(records);
             }
         }
-        records.truncate(most);
-        Ok(records)
+        self.read_now(alloc, behind, most)
+    }
+
+    fn read_ahead(&mut self, alloc: Global, behind: u64, most: usize) {
+        self.ahead = match self.read_now(alloc, behind, most) {
+            Ok(records) => Some((behind, records)),
+            Err(NotRead) => None,
+        };
+    }
+}
+
+// The record of a line.
+fn record_of(alloc: Global, form: &Form, scratch: &mut Scratch, line: &[u8]) -> Result<Record> {
+    match form {
+        Form::Json => match record_of_json(alloc, scratch, line) {
+            Ok(record) => Ok(record),
+            Err(cause) => Err(anyhow!("line {cause}")),
+        },
+        Form::Text(name) => match record_of_text(alloc, name, line) {
+            Ok(record) => Ok(record),
+            Err(error) => Err(error.into()),
+        },
     }
 }
 
 // A record of one field.
-fn record_of_text(alloc: Global, name: &Vec<u8>, value: &Vec<u8>) -> Result<Record, AllocError> {
+fn record_of_text(alloc: Global, name: &Vec<u8>, value: &[u8]) -> Result<Record, AllocError> {
     let mut record = Vec::with_capacity(alloc, 1)?;
-    record.push((name.clone()?, value.clone()?))?;
+    record.push((name.clone()?, Vec::from_slice(alloc, value)?))?;
     Ok(record)
 }
