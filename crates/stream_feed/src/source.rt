@@ -30,8 +30,8 @@ pub trait Source {
         ensures most { IfOk result (λ rs. length rs.items ≤ most) }
         ensures same { records self.new ≡ records self.old };
 
-    /// Says that these records are read next, while the ones before them are on the way: a source may
-    /// read them ahead now, or do nothing.
+    /// Those records are read next. It is called while the ones before them are on the way, so that a
+    /// source can read ahead; it need do nothing.
     fn read_ahead(&mut self, alloc: Global, behind: u64, most: usize)
         ensures { records self.new ≡ records self.old };
 }

@@ -8,7 +8,6 @@ use memchr::{memchr, memchr_iter};
 use std::alloc::{AllocError, Global};
 use std::fs::File;
 use std::io::{BufRead, BufReader, Seek, SeekFrom};
-use std::mem;
 use std::rt::Files;
 use stream_feed::{NotRead, Record, Source};
 
@@ -27,6 +26,14 @@ pub enum Form {
     Text(Vec<u8>),
 }
 
+/// Records that were read before they are asked for.
+#[derive(Drop)]
+struct Ahead {
+    /// So many stand before them.
+    behind: u64,
+    records: Vec<Record>,
+}
+
 /// A file of lines, each of which is a record. Lines that come in behind those that stand there at
 /// the start are not read.
 #[derive(Drop)]
@@ -40,8 +47,8 @@ pub struct Lines {
     /// The line that was read last; it keeps its room for the next one.
     line: Vec<u8>,
     scratch: Scratch,
-    /// Records that were read ahead, behind so many.
-    ahead: Option<(u64, Vec<Record>)>,
+    /// The records that were read ahead, where some were.
+    ahead: Option<Ahead>,
     /// How many lines there are.
     pub count: u64,
     /// Behind them stands a line without an end.
@@ -83,33 +90,33 @@ impl Lines {
         self.places.push(0)?;
         let mut place = 0u64;
         for _ in 0..u64::MAX {
-            match self.count_piece(place)? {
-                0 => return Ok(()),
-                len => place = place.saturating_add(len),
+            place = self.count_buffered(place)?;
+            if !self.next_line()? {
+                self.is_torn = !self.line.is_empty();
+                return Ok(());
             }
+            place = place
+                .saturating_add(self.line.len() as u64)
+                .saturating_add(1);
+            count_line(&mut self.count, &mut self.places, place)?;
         }
         bail!("the file has no end")
     }
 
-    // Counts the lines that end in the next piece of the file, which begins at this place. So many
-    // bytes it has, and none where the file ends.
-    fn count_piece(&mut self, place: u64) -> Result<u64> {
-        let piece = match self.file.fill_buf() {
-            Ok(piece) => piece,
-            Err(error) => bail!("cannot read the file: {error}"),
+    // Counts the lines that stand whole in what is read of the file, which begins at this place: where
+    // the next line begins.
+    fn count_buffered(&mut self, begin: u64) -> Result<u64> {
+        let Ok(piece) = self.file.fill_buf() else {
+            return Ok(begin);
         };
+        let mut len = 0usize;
         for end in memchr_iter(b'\n', piece) {
-            self.count = self.count.saturating_add(1);
-            if self.count % STEP == 0 {
-                self.places.push(place.saturating_add(end as u64).saturating_add(1))?;
-            }
-        }
-        let len = piece.len();
-        if let Some(last) = piece.last() {
-            self.is_torn = *last != b'\n';
+            len = end.saturating_add(1);
+            let place = begin.saturating_add(len as u64);
+            count_line(&mut self.count, &mut self.places, place)?;
         }
         self.file.consume(len);
-        Ok(len as u64)
+        Ok(begin.saturating_add(len as u64))
     }
 
     // Reads the next line, without its end. False where none has an end.
@@ -148,7 +155,20 @@ impl Lines {
         Ok(())
     }
 
-    // Reads the next lines as records, so many.
+    // The records behind so many, at most so many of them.
+    fn records_from(&mut self, alloc: Global, behind: u64, most: usize) -> Result<Vec<Record>> {
+        let mut records = Vec::new(alloc);
+        if behind < self.count {
+            self.go_to(behind)?;
+            self.before = None;
+            let left = self.count.saturating_sub(behind).min(most as u64);
+            self.read_records(alloc, &mut records, behind, left)?;
+            self.before = Some(behind.saturating_add(left));
+        }
+        Ok(records)
+    }
+
+    // Reads the next lines as records, until there are so many.
     fn read_records(
         &mut self,
         alloc: Global,
@@ -156,76 +176,43 @@ impl Lines {
         behind: u64,
         most: u64,
     ) -> Result<()> {
-        let mut left = most;
         for _ in 0..most {
-            left = left.saturating_sub(self.read_piece(alloc, records, left)?);
-            if left == 0 {
-                break;
+            self.read_buffered(alloc, records, behind, most)?;
+            if records.len() as u64 >= most {
+                return Ok(());
             }
             if !self.next_line()? {
                 bail!("the file became shorter");
             }
-            records.push(record_of(alloc, &self.form, &mut self.scratch, &self.line)?)?;
-            left = left.saturating_sub(1);
-            if left == 0 {
-                break;
-            }
+            let number = number_of_next(records, behind);
+            records.push(record_of(alloc, &self.form, &mut self.scratch, &self.line, number)?)?;
         }
-        self.before = Some(behind.saturating_add(most));
         Ok(())
     }
 
-    // Reads the lines that stand whole in what is read of the file as records, at most so many: how many.
-    fn read_piece(
-        &mut self,
-        alloc: Global,
-        records: &mut Vec<Record>,
-        most: u64,
-    ) -> Result<u64> {
-        let piece = match self.file.fill_buf() {
-            Ok(piece) => piece,
-            Err(error) => bail!("cannot read the file: {error}"),
-        };
-        let mut rest = piece;
-        let mut count = 0u64;
-        for _ in 0..most {
-            let Some(end) = memchr(b'\n', rest) else {
-                break;
-            };
-            let (line, after) = rest.split_at(end);
-            records.push(record_of(alloc, &self.form, &mut self.scratch, line)?)?;
-            rest = &after[1..];
-            count = count.saturating_add(1);
-        }
-        let len = piece.len().saturating_sub(rest.len());
-        self.file.consume(len);
-        Ok(count)
-    }
-
-    fn read_now(&mut self, alloc: Global, behind: u64, most: usize) -> Result<Vec<Record>, NotRead> {
-        let mut records = Vec::new(alloc);
-        if behind < self.count {
-            if let Err(fault) = self.read_from(alloc, &mut records, behind, most) {
-                self.fault = Some(fault);
-                return Err(NotRead);
-            }
-        }
-        records.truncate(most);
-        Ok(records)
-    }
-
-    // The same from a place on.
-    fn read_from(
+    // Reads the lines that stand whole in what is read of the file, until there are so many records.
+    fn read_buffered(
         &mut self,
         alloc: Global,
         records: &mut Vec<Record>,
         behind: u64,
-        most: usize,
+        most: u64,
     ) -> Result<()> {
-        self.go_to(behind)?;
-        self.before = None;
-        let left = self.count.saturating_sub(behind);
-        self.read_records(alloc, records, behind, left.min(most as u64))
+        let Ok(piece) = self.file.fill_buf() else {
+            return Ok(());
+        };
+        let mut rest = piece;
+        for _ in records.len() as u64..most {
+            let Some((line, behind_it)) = split_line(rest) else {
+                break;
+            };
+            let number = number_of_next(records, behind);
+            records.push(record_of(alloc, &self.form, &mut self.scratch, line, number)?)?;
+            rest = behind_it;
+        }
+        let len = piece.len().saturating_sub(rest.len());
+        self.file.consume(len);
+        Ok(())
     }
 }
 
@@ -233,29 +220,63 @@ impl Source for Lines {
     ghost records = { λ _. None };
 
     fn read(&mut self, alloc: Global, behind: u64, most: usize) -> Result<Vec<Record>, NotRead> {
-        let ahead = mem::replace(&mut self.ahead, None);
-        if let Some((place, records)) = ahead {
-            if place == behind && records.len() <= most {
-                return Ok(records);
-            }
-        }
-        self.read_now(alloc, behind, most)
+        let mut records = match self.ahead.take() {
+            Some(ahead) if ahead.behind == behind => ahead.records,
+            _ => match self.records_from(alloc, behind, most) {
+                Ok(records) => records,
+                Err(fault) => {
+                    self.fault = Some(fault);
+                    return Err(NotRead);
+                }
+            },
+        };
+        records.truncate(most);
+        Ok(records)
     }
 
     fn read_ahead(&mut self, alloc: Global, behind: u64, most: usize) {
-        self.ahead = match self.read_now(alloc, behind, most) {
-            Ok(records) => Some((behind, records)),
-            Err(NotRead) => None,
+        self.ahead = match self.records_from(alloc, behind, most) {
+            Ok(records) => Some(Ahead { behind, records }),
+            Err(_fault) => None,
         };
     }
 }
 
-// The record of a line.
-fn record_of(alloc: Global, form: &Form, scratch: &mut Scratch, line: &[u8]) -> Result<Record> {
+// Counts a line, where the next one begins at this place.
+fn count_line(count: &mut u64, places: &mut Vec<u64>, place: u64) -> Result<(), AllocError> {
+    *count = count.saturating_add(1);
+    if *count % STEP == 0 {
+        places.push(place)?;
+    }
+    Ok(())
+}
+
+// The number of the next line, where these records behind so many are read.
+fn number_of_next(records: &Vec<Record>, behind: u64) -> u64 {
+    behind
+        .saturating_add(records.len() as u64)
+        .saturating_add(1)
+}
+
+// The first line without its end, and what stands behind it; None where it has no end.
+fn split_line(bytes: &[u8]) -> Option<(&[u8], &[u8])> {
+    let (line, rest) = bytes.split_at_checked(memchr(b'\n', bytes)?)?;
+    let (_end, rest) = rest.split_first()?;
+    Some((line, rest))
+}
+
+// The record of a line, which has this number.
+fn record_of(
+    alloc: Global,
+    form: &Form,
+    scratch: &mut Scratch,
+    line: &[u8],
+    number: u64,
+) -> Result<Record> {
     match form {
         Form::Json => match record_of_json(alloc, scratch, line) {
             Ok(record) => Ok(record),
-            Err(cause) => Err(anyhow!("line {cause}")),
+            Err(cause) => Err(anyhow!("line {number} {cause}")),
         },
         Form::Text(name) => match record_of_text(alloc, name, line) {
             Ok(record) => Ok(record),
