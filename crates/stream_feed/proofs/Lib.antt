@@ -3,4 +3,5 @@ pub mod ReplyLemmas
 pub mod RequestLemmas
 pub mod TakenLemmas
 pub mod StepLemmas
+pub mod LineLemmas
 pub mod SessionLemmas

@@ -4,13 +4,16 @@ use Rattle.std.proofs.Common.{◌⊎◌, inl, inr, Option, Some, None, refl, ap,
 use Rattle.std.proofs.Math.Seq.{drop-cons}
 use Rattle.std.proofs.lemmas.List.{take_all}
 use Rattle.std.specs.Prelude.{string_bytes, Result, Ok, Err, OnOk, IfOk, IfErr, IfSome}
-use Rattle.redis_wire.specs.Packed.{command_bytes}
+use Rattle.std.specs.Prelude.{Vec, ◌*◌, codes}
+use Rattle.std.specs.List.{flat_map}
+use Rattle.std.specs.declared.alloc.Global.{Global}
+use Rattle.redis_wire.specs.Packed.{bulk_bytes, command_bytes, head_bytes}
 use Rattle.stream_once.specs.Feed as feed
 use Rattle.stream_once.specs.Feed.{Numbered, numbered, asking, knows, waits}
 use Rattle.stream_feed.specs.Machine.{Asks, AsksNone, RequestedAt, Sends, Sent, Standing, Unrequested, Unsent, next_batch}
 use Rattle.stream_feed.specs.Machine.{stage_of, standing_of}
-use Rattle.stream_feed.specs.Records.{AreAll, Fields}
-use Rattle.stream_feed.specs.Sentences.{add_sentence, adds_bytes, ask_bytes, batch_bytes}
+use Rattle.stream_feed.specs.Records.{AreAll, Fields, arguments_of_field}
+use Rattle.stream_feed.specs.Sentences.{add_sentence, adds_bytes, ask_bytes, batch_bytes, own_id}
 use Rattle.stream_feed.specs.declared.error.RequestError.{RequestError}
 use Rattle.stream_feed.specs.declared.error.RequestError.TheVariants as causes
 use Rattle.stream_feed.specs.declared.producer.Producer.{Producer}
@@ -31,6 +34,48 @@ written f key n i xs x out new all h e b inv =
     ap (λ o. o ++ r) b
     ∙ (append_assoc out (command_bytes (add_sentence key ((n + 1, 0), f x))) r
     ∙ (ap (λ ys. out ++ adds_bytes key (numbered n (map f ys))) (sym d) ∙ inv))
+
+-- the fields of a record are two arguments each
+pub arguments_counted : (fs : List (Vec ℕ Global × Vec ℕ Global))
+    → length (flat_map arguments_of_field fs) ≡ 2 * length fs
+arguments_counted [] = refl
+arguments_counted (f ∷ fs) =
+    let rest = arguments_counted fs in
+    omega (arith, rest)
+
+-- one more field is written
+pub field_written : (i : ℕ) (fs : List (Vec ℕ Global × Vec ℕ Global)) (f : Vec ℕ Global × Vec ℕ Global)
+    (out new all : List ℕ) → i < length fs → f ≡ get_or fs i f
+    → new ≡ out ++ (bulk_bytes f.0.items ++ bulk_bytes f.1.items)
+    → out ++ flat_map bulk_bytes (flat_map arguments_of_field (drop i fs)) ≡ all
+    → new ++ flat_map bulk_bytes (flat_map arguments_of_field (drop (i + 1) fs)) ≡ all
+field_written i fs f out new all h e b inv =
+    let d : drop i fs ≡ f ∷ drop (i + 1) fs =
+    drop-cons fs i f h ∙ (ap (λ y. y ∷ drop (suc i) fs) (sym e) ∙ ap (λ (j : ℕ). f ∷ drop j fs) (sym (add-one i))) in
+    let r : List ℕ = flat_map bulk_bytes (flat_map arguments_of_field (drop (i + 1) fs)) in
+    ap (λ o. o ++ r) b
+    ∙ (append_assoc out (bulk_bytes f.0.items ++ bulk_bytes f.1.items) r
+    ∙ (ap (λ bs. out ++ bs) (append_assoc (bulk_bytes f.0.items) (bulk_bytes f.1.items) r)
+    ∙ (ap (λ ys. out ++ flat_map bulk_bytes (flat_map arguments_of_field ys)) (sym d) ∙ inv)))
+
+-- a record is written in parts: how many arguments there are, the first two of them, its id, and its fields
+pub in_parts : (key front : List ℕ) (n : ℕ) (args : List (List ℕ)) → front ≡ bulk_bytes (codes "XADD") ++ bulk_bytes key
+    → head_bytes (3 + length args) ++ (front ++ (bulk_bytes (own_id n) ++ flat_map bulk_bytes args))
+    ≡ command_bytes (add_sentence key ((n, 0), args))
+unfolding command_bytes
+in_parts key front n args e =
+    let rest : List ℕ = bulk_bytes (own_id n) ++ flat_map bulk_bytes args in
+    let count : 3 + length args ≡ suc (suc (suc (length args))) = omega arith in
+    ap (λ f. head_bytes (3 + length args) ++ (f ++ rest)) e
+    ∙ (ap (λ bs. head_bytes (3 + length args) ++ bs) (append_assoc (bulk_bytes (codes "XADD")) (bulk_bytes key) rest)
+    ∙ ap (λ (k : ℕ). head_bytes k ++ (bulk_bytes (codes "XADD") ++ (bulk_bytes key ++ rest))) count)
+
+-- four parts, one behind the other
+pub four_parts : (out a b c d p q r s : List ℕ) → a ≡ out ++ p → b ≡ a ++ q → c ≡ b ++ r → d ≡ c ++ s
+    → d ≡ out ++ (p ++ (q ++ (r ++ s)))
+four_parts out a b c d p q r s e f g h =
+    h ∙ ap (λ x. x ++ s) (g ∙ ap (λ x. x ++ r) (f ∙ ap (λ x. x ++ q) e))
+    ∙ append_assoc ((out ++ p) ++ q) r s ∙ append_assoc (out ++ p) q (r ++ s) ∙ append_assoc out p (q ++ (r ++ s))
 
 pub numbered_taken : {F : Type 0} (base n : ℕ) (xs : List F) → take n (numbered base xs) ≡ numbered base (take n xs)
 numbered_taken base zero xs = refl

@@ -50,7 +50,7 @@ one_fewer x m k new e is =
     let same : m ≡ suc k = omega arith in
     is ∙ ap (λ (j : ℕ). let y : Standing = record { stage = x; coming = j } in y) same
 
-more_taken : (n m base count : ℕ) (old new : Standing) (a : wire.Answer) → m + 1 ≡ n → 0 < m
+pub more_taken : (n m base count : ℕ) (old new : Standing) (a : wire.Answer) → m + 1 ≡ n → 0 < m
     → IsNoError a → new ≡ record { stage = old.stage; coming = m } → TookAt n base count old new a
 more_taken zero m base count old new a e h fine is = absurd (omega arith)
 more_taken (suc zero) m base count old new a e h fine is = absurd (omega arith)

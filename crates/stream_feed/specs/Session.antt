@@ -1,5 +1,5 @@
 -- A session of a producer over a connection: rounds, in each of which it asks and takes all replies.
-use Rattle.std.specs.Prelude.{◌≡◌, Bool, true, false, ℕ, zero, suc, ◌<◌, ◌≤◌, List, [], length, Option}
+use Rattle.std.specs.Prelude.{◌≡◌, Bool, true, false, ℕ, zero, suc, ◌<◌, ◌≤◌, List, [], ◌∷◌, length, Option}
 use Rattle.redis_wire.specs.Reply as wire
 use Rattle.redis_connection.specs.Link.{Link, Sends, SendsFront}
 use Rattle.redis_connection.specs.Passing.{ReceivesAnswer, AwaitsAnswer}
@@ -12,7 +12,16 @@ use Rattle.stream_feed.specs.declared.error.RunError.TheVariants as causes
 use Rattle.stream_feed.specs.declared.settings.Settings.{Settings}
 use Rattle.stream_feed.specs.declared.stage.Asked.{Asked}
 
+-- these bytes begin with `+`
+abbrev pub BeginsAsLine : List ℕ → Type 0
+BeginsAsLine [] = ⊥
+BeginsAsLine (b ∷ bytes) = b ≡ 43
+
 module _ (base count : ℕ) where
+  -- a reply came, and was taken
+  abbrev pub HearsOne : Link → Link → Standing → Standing → Type 0
+  HearsOne old new w x = (a : wire.Answer) × ReceivesAnswer old new a × Took base count w x a
+
   -- so many replies came, and each was taken
   abbrev pub Hears : ℕ → Link → Link → Standing → Standing → Type 0
   Hears zero old new w x = (new ≡ old) × (x ≡ w)

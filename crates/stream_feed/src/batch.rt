@@ -1,13 +1,15 @@
 //! The bytes that a producer sends.
-ghost use Rattle.std.specs.Prelude.{◌≡◌, ◌≢◌, ◌+◌, ◌<◌, ◌^◌, ◌++◌, [], IfOk, OnOk, OnErr, length, map, string_bytes};
-ghost use Rattle.redis_wire.specs.Packed.{command_bytes};
-ghost use Rattle.stream_feed.specs.Records.{arguments_of};
-ghost use Rattle.stream_feed.specs.Sentences.{add_sentence, adds_bytes, ask_bytes, batch_bytes, own_id};
+ghost use Rattle.std.specs.Prelude.{◌≡◌, ◌≢◌, ◌+◌, ◌<◌, ◌^◌, ◌*◌, ◌++◌, [], IfOk, OnOk, OnErr, codes, length, map};
+ghost use Rattle.std.specs.List.{flat_map};
+ghost use Rattle.redis_wire.specs.Packed.{bulk_bytes, command_bytes, head_bytes};
+ghost use Rattle.stream_feed.specs.Records.{arguments_of, arguments_of_field};
+ghost use Rattle.stream_feed.specs.Sentences.{adds_bytes, ask_bytes, batch_bytes, own_id};
 ghost use Rattle.stream_once.specs.Feed.{numbered};
 
-use crate::source::Record;
+use crate::source::{Field, Record};
+use itoa::Buffer;
 use redis_resp::{ToRedisArgs, WriteError};
-use redis_wire::PackError;
+use redis_wire::{PackError, push_bulk};
 use std::alloc::{AllocError, Global};
 
 /// Appends `XINFO STREAM key`. An `Err` changes nothing.
@@ -52,35 +54,101 @@ fn append_records(
     ensures { OnOk result (out.new.items ≡ out.old.items
         ++ adds_bytes key.now (numbered before (map arguments_of records.now))) }
 {
+    let front = front_of(alloc, key)?;
+    let mut id = Vec::new(alloc);
     let mut number = before;
     for fields in records {
         number += 1;
-        append_record(alloc, out, key, number, fields)?;
+        append_record(out, &front, &mut id, number, fields)?;
     }
     Ok(())
 }
 
-/// Appends `XADD key number-0 field value ..`.
+/// The arguments that each `XADD` begins with, as bytes: its name and the key.
+fn front_of(alloc: Global, key: &str) -> Result<Vec<u8>, WriteError>
+    ensures { IfOk result (λ front. front.items ≡ bulk_bytes (codes "XADD") ++ bulk_bytes key.now) }
+{
+    let mut front = Vec::new(alloc);
+    append_argument(&mut front, b"XADD")?;
+    append_argument(&mut front, key.as_bytes())?;
+    Ok(front)
+}
+
+/// Appends `XADD key number-0 field value ..`, whose front is made. Room of `id` is used.
 fn append_record(
-    alloc: Global,
     out: &mut Vec<u8>,
-    key: &str,
+    front: &[u8],
+    id: &mut Vec<u8>,
     number: u64,
     fields: &Record,
 ) -> Result<(), WriteError>
     ensures { OnOk result (out.new.items ≡ out.old.items
-        ++ command_bytes (add_sentence key.now ((number, 0), arguments_of fields.now))) }
+        ++ (head_bytes (3 + length (arguments_of fields.now)) ++ (front.now
+        ++ (bulk_bytes (own_id number) ++ flat_map bulk_bytes (arguments_of fields.now))))) }
 {
-    let id = id_of(alloc, number)?;
-    append_command(alloc, out, &("XADD", key, id, fields))
+    let fields = fields.as_slice();
+    append_head(out, fields.len())?;
+    out.extend_from_slice(front)?;
+    write_id(id, number)?;
+    push_bulk(out, id)?;
+    append_fields(out, fields)?;
+    Ok(())
 }
 
-/// The id of the record that has this number with the base: `number-0`.
-fn id_of(alloc: Global, number: u64) -> Result<String, AllocError>
-    ensures { IfOk result (λ id. string_bytes id ≡ own_id number) }
+/// Appends how many arguments the `XADD` of a record with so many fields has.
+#[tactic(auto, unfolding(redis_wire::specs::Packed::head_bytes))]
+fn append_head(out: &mut Vec<u8>, fields: usize) -> Result<(), WriteError>
+    ensures { OnOk result (out.new.items ≡ out.old.items ++ head_bytes (3 + 2 * fields)) }
 {
-    let second: u64 = 0;
-    format!(in alloc; "{number}-{second}")
+    if fields > 0x7fff_fffe {
+        return Err(WriteError::Full);
+    }
+    out.push(b'*')?;
+    out.extend_from_slice(Buffer::new().format::<usize>(3 + 2 * fields).as_bytes())?;
+    out.extend_from_slice(b"\r\n")?;
+    Ok(())
+}
+
+/// Writes the id of the record that has this number with the base: `number-0`.
+fn write_id(id: &mut Vec<u8>, number: u64) -> Result<(), AllocError>
+    ensures { OnOk result (id.new.items ≡ own_id number) }
+{
+    id.clear();
+    id.extend_from_slice(Buffer::new().format::<u64>(number).as_bytes())?;
+    id.extend_from_slice(b"-0")?;
+    Ok(())
+}
+
+/// Appends the names and values of fields.
+fn append_fields(out: &mut Vec<u8>, fields: &[Field]) -> Result<(), WriteError>
+    ensures { OnOk result (out.new.items ≡ out.old.items
+        ++ flat_map bulk_bytes (flat_map arguments_of_field fields.now)) }
+{
+    for field in fields {
+        append_field(out, field)?;
+    }
+    Ok(())
+}
+
+/// Appends a name and its value.
+fn append_field(out: &mut Vec<u8>, field: &Field) -> Result<(), WriteError>
+    ensures { OnOk result (out.new.items ≡ out.old.items
+        ++ (bulk_bytes field.now.0.items ++ bulk_bytes field.now.1.items)) }
+{
+    append_argument(out, &field.0)?;
+    append_argument(out, &field.1)?;
+    Ok(())
+}
+
+/// Appends an argument, which has less than 2^32 bytes.
+fn append_argument(out: &mut Vec<u8>, argument: &[u8]) -> Result<(), WriteError>
+    ensures { OnOk result (out.new.items ≡ out.old.items ++ bulk_bytes argument.now) }
+{
+    if argument.len() > 0xffff_ffff {
+        return Err(WriteError::Full);
+    }
+    push_bulk(out, argument)?;
+    Ok(())
 }
 
 /// Appends the bytes of a command, which has its name at least. An `Err` changes nothing.

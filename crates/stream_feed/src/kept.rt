@@ -15,6 +15,8 @@ impl Source for Vec<Record> {
             Err(_error) => Err(NotRead),
         }
     }
+
+    fn read_ahead(&mut self, _alloc: Global, _behind: u64, _most: usize) {}
 }
 
 /// Those behind the first `behind` ones, at most `most` of them.

@@ -60,6 +60,25 @@ impl Producer {
         self.coming
     }
 
+    /// Has the source read ahead, where it is known which records are asked next.
+    pub(crate) fn look_ahead<S: Source>(&self, alloc: Global, source: &mut S)
+        ensures { S.records source.new ≡ S.records source.old }
+    {
+        if let Stage::Waits(batch) = self.stage {
+            source.read_ahead(alloc, batch.known + batch.sent, self.settings.batch);
+        }
+    }
+
+    /// One reply fewer is still to come.
+    pub(crate) fn count_reply(&mut self)
+        requires { 0 < self.old.coming }
+        ensures coming { self.new.coming + 1 ≡ self.old.coming }
+        ensures stage { self.new.stage ≡ self.old.stage }
+        ensures settings { self.new.settings ≡ self.old.settings }
+    {
+        self.coming -= 1;
+    }
+
     /// The connection is closed, and what did not come of the replies is not to come: it asks for
     /// the last id next. Call it also after a `FeedError` whose connection goes on no further.
     pub fn disconnected(&mut self)

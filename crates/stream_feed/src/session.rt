@@ -1,7 +1,8 @@
 //! A producer over a connection.
-ghost use Rattle.std.specs.Prelude.{◌≡◌, IfErr, IfOk, OnOk, OnErr};
+ghost use Rattle.std.specs.Prelude.{◌≡◌, ◌<◌, ◌↔◌, ℕ, Ok, IfErr, IfOk, IsTrue, OnOk, OnErr, false, true};
+ghost use Rattle.redis_connection.specs.Passing.{AwaitsAnswer};
 ghost use Rattle.stream_feed.specs.Machine.{idle, standing_of};
-ghost use Rattle.stream_feed.specs.Session.{Breaks, Broke, FailsToHear, HearsAll, IsRound, Ran};
+ghost use Rattle.stream_feed.specs.Session.{BeginsAsLine, Breaks, Broke, FailsToHear, HearsAll, HearsOne, IsRound, Ran, Unheard};
 
 use crate::error::RunError;
 use crate::producer::Producer;
@@ -26,12 +27,99 @@ impl Producer {
         ensures settings { self.new.settings ≡ self.old.settings }
     {
         for _reply in 0..self.coming() {
-            match connection.receive(alloc) {
-                Ok(reply) => self.answered(alloc, reply, count)?,
-                Err(error) => return Err(RunError::Receive(error)),
-            }
+            self.hear_next(alloc, connection, count)?;
         }
         Ok(())
+    }
+
+    /// Takes the next reply, and builds no value of one that is a line.
+    fn hear_next<R: Read + Drop, W: Write + Drop>(
+        &mut self,
+        alloc: Global,
+        connection: &mut Connection<R, W>,
+        count: u64,
+    ) -> Result<(), RunError>
+        ensures ok { OnOk result (HearsOne self.old.settings.base count connection.old
+            connection.new (standing_of self.old) (standing_of self.new)) }
+        ensures err { IfErr result (Unheard self.old.settings.base count connection.old
+            connection.new (standing_of self.old)) }
+        ensures settings { self.new.settings ≡ self.old.settings }
+    {
+        if self.coming() > 1 {
+            return self.hear_queued(alloc, connection, count);
+        }
+        self.hear_reply(alloc, connection, count)
+    }
+
+    /// Takes the next reply, behind which others are to come.
+    fn hear_queued<R: Read + Drop, W: Write + Drop>(
+        &mut self,
+        alloc: Global,
+        connection: &mut Connection<R, W>,
+        count: u64,
+    ) -> Result<(), RunError>
+        requires { 1 < self.old.coming }
+        ensures ok { OnOk result (HearsOne self.old.settings.base count connection.old
+            connection.new (standing_of self.old) (standing_of self.new)) }
+        ensures err { IfErr result (Unheard self.old.settings.base count connection.old
+            connection.new (standing_of self.old)) }
+        ensures settings { self.new.settings ≡ self.old.settings }
+    {
+        match self.hears_line(alloc, connection) {
+            Ok(true) => Ok(()),
+            Ok(false) => self.hear_reply(alloc, connection, count),
+            Err(error) => Err(error),
+        }
+    }
+
+    /// Takes the next reply where it is a line such as `+QUEUED`, which is no error: whether it is.
+    fn hears_line<R: Read + Drop, W: Write + Drop>(
+        &mut self,
+        alloc: Global,
+        connection: &mut Connection<R, W>,
+    ) -> Result<bool, RunError>
+        requires { 1 < self.old.coming }
+        ensures taken { result ≡ Ok true → (base : ℕ) (count : ℕ) → HearsOne base count
+            connection.old connection.new (standing_of self.old) (standing_of self.new) }
+        ensures held { result ≡ Ok false → AwaitsAnswer connection.old connection.new }
+        ensures same { result ≡ Ok false → self.new ≡ self.old }
+        ensures err { IfErr result (λ e. (base : ℕ) (count : ℕ) → Unheard base count
+            connection.old connection.new (standing_of self.old) e) }
+        ensures settings { self.new.settings ≡ self.old.settings }
+    {
+        match connection.receive_in_place(alloc) {
+            Ok(len) => {
+                if !is_line(connection.received(len)) {
+                    return Ok(false);
+                }
+                connection.give_out(len);
+                self.count_reply();
+                Ok(true)
+            }
+            Err(error) => Err(RunError::Receive(error)),
+        }
+    }
+
+    /// Takes the next reply, whatever it is.
+    fn hear_reply<R: Read + Drop, W: Write + Drop>(
+        &mut self,
+        alloc: Global,
+        connection: &mut Connection<R, W>,
+        count: u64,
+    ) -> Result<(), RunError>
+        ensures ok { OnOk result (HearsOne self.old.settings.base count connection.old
+            connection.new (standing_of self.old) (standing_of self.new)) }
+        ensures err { IfErr result (Unheard self.old.settings.base count connection.old
+            connection.new (standing_of self.old)) }
+        ensures settings { self.new.settings ≡ self.old.settings }
+    {
+        match connection.receive(alloc) {
+            Ok(reply) => {
+                self.answered(alloc, reply, count)?;
+                Ok(())
+            }
+            Err(error) => Err(RunError::Receive(error)),
+        }
     }
 
     /// Makes one round, and after an error leaves the producer where it is.
@@ -54,6 +142,7 @@ impl Producer {
         if let Err(error) = connection.send_bytes(&bytes) {
             return Err(RunError::Send(error));
         }
+        self.look_ahead(alloc, source);
         self.hear(alloc, connection, count)?;
         Ok(asked)
     }
@@ -116,4 +205,11 @@ impl Producer {
         }
         Ok(false)
     }
+}
+
+/// Whether bytes begin with `+`, as a line does that is no error.
+fn is_line(bytes: &[u8]) -> bool
+    ensures { IsTrue result ↔ BeginsAsLine bytes.now }
+{
+    matches!(bytes, [b'+', ..])
 }

@@ -29,4 +29,9 @@ pub trait Source {
             ≡ take most (drop behind all))) }
         ensures most { IfOk result (λ rs. length rs.items ≤ most) }
         ensures same { records self.new ≡ records self.old };
+
+    /// Those records are read next. It is called while the ones before them are on the way, so that a
+    /// source can read ahead; it need do nothing.
+    fn read_ahead(&mut self, alloc: Global, behind: u64, most: usize)
+        ensures { records self.new ≡ records self.old };
 }

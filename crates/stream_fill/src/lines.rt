@@ -4,6 +4,7 @@ ghost use Rattle.std.specs.Prelude.{◌≡◌, None, IfOk};
 use crate::json_records::record_of_json;
 use anyhow::{Context, Error, Result, anyhow, bail};
 use json::Scratch;
+use memchr::{memchr, memchr_iter};
 use std::alloc::{AllocError, Global};
 use std::fs::File;
 use std::io::{BufRead, BufReader, Seek, SeekFrom};
@@ -25,6 +26,14 @@ pub enum Form {
     Text(Vec<u8>),
 }
 
+/// Records that were read before they are asked for.
+#[derive(Drop)]
+struct Ahead {
+    /// So many stand before them.
+    behind: u64,
+    records: Vec<Record>,
+}
+
 /// A file of lines, each of which is a record. Lines that come in behind those that stand there at
 /// the start are not read.
 #[derive(Drop)]
@@ -38,6 +47,8 @@ pub struct Lines {
     /// The line that was read last; it keeps its room for the next one.
     line: Vec<u8>,
     scratch: Scratch,
+    /// The records that were read ahead, where some were.
+    ahead: Option<Ahead>,
     /// How many lines there are.
     pub count: u64,
     /// Behind them stands a line without an end.
@@ -64,6 +75,7 @@ impl Lines {
             before: None,
             line: Vec::new(alloc),
             scratch: Scratch::new(alloc),
+            ahead: None,
             count: 0,
             is_torn: false,
             fault: None,
@@ -75,11 +87,10 @@ impl Lines {
 
     // Counts the lines, and keeps places.
     fn count_all(&mut self) -> Result<()> {
+        self.places.push(0)?;
         let mut place = 0u64;
         for _ in 0..u64::MAX {
-            if self.count % STEP == 0 {
-                self.places.push(place)?;
-            }
+            place = self.count_buffered(place)?;
             if !self.next_line()? {
                 self.is_torn = !self.line.is_empty();
                 return Ok(());
@@ -87,9 +98,25 @@ impl Lines {
             place = place
                 .saturating_add(self.line.len() as u64)
                 .saturating_add(1);
-            self.count = self.count.saturating_add(1);
+            count_line(&mut self.count, &mut self.places, place)?;
         }
         bail!("the file has no end")
+    }
+
+    // Counts the lines that stand whole in what is read of the file, which begins at this place: where
+    // the next line begins.
+    fn count_buffered(&mut self, begin: u64) -> Result<u64> {
+        let Ok(piece) = self.file.fill_buf() else {
+            return Ok(begin);
+        };
+        let mut len = 0usize;
+        for end in memchr_iter(b'\n', piece) {
+            len = end.saturating_add(1);
+            let place = begin.saturating_add(len as u64);
+            count_line(&mut self.count, &mut self.places, place)?;
+        }
+        self.file.consume(len);
+        Ok(begin.saturating_add(len as u64))
     }
 
     // Reads the next line, without its end. False where none has an end.
@@ -128,7 +155,20 @@ impl Lines {
         Ok(())
     }
 
-    // Reads the next lines as records, at most so many.
+    // The records behind so many, at most so many of them.
+    fn records_from(&mut self, alloc: Global, behind: u64, most: usize) -> Result<Vec<Record>> {
+        let mut records = Vec::new(alloc);
+        if behind < self.count {
+            self.go_to(behind)?;
+            self.before = None;
+            let left = self.count.saturating_sub(behind).min(most as u64);
+            self.read_records(alloc, &mut records, behind, left)?;
+            self.before = Some(behind.saturating_add(left));
+        }
+        Ok(records)
+    }
+
+    // Reads the next lines as records, until there are so many.
     fn read_records(
         &mut self,
         alloc: Global,
@@ -136,41 +176,43 @@ impl Lines {
         behind: u64,
         most: u64,
     ) -> Result<()> {
-        let mut before = behind;
         for _ in 0..most {
+            self.read_buffered(alloc, records, behind, most)?;
+            if records.len() as u64 >= most {
+                return Ok(());
+            }
             if !self.next_line()? {
                 bail!("the file became shorter");
             }
-            before = before.saturating_add(1);
-            records.push(self.record(alloc, before)?)?;
+            let number = number_of_next(records, behind);
+            records.push(record_of(alloc, &self.form, &mut self.scratch, &self.line, number)?)?;
         }
-        self.before = Some(before);
         Ok(())
     }
 
-    // The record of the line that was read, which has this number.
-    fn record(&mut self, alloc: Global, number: u64) -> Result<Record> {
-        match &self.form {
-            Form::Json => match record_of_json(alloc, &mut self.scratch, &self.line) {
-                Ok(record) => Ok(record),
-                Err(cause) => Err(anyhow!("line {number} {cause}")),
-            },
-            Form::Text(name) => Ok(record_of_text(alloc, name, &self.line)?),
-        }
-    }
-
-    // The same from a place on.
-    fn read_from(
+    // Reads the lines that stand whole in what is read of the file, until there are so many records.
+    fn read_buffered(
         &mut self,
         alloc: Global,
         records: &mut Vec<Record>,
         behind: u64,
-        most: usize,
+        most: u64,
     ) -> Result<()> {
-        self.go_to(behind)?;
-        self.before = None;
-        let left = self.count.saturating_sub(behind);
-        self.read_records(alloc, records, behind, left.min(most as u64))
+        let Ok(piece) = self.file.fill_buf() else {
+            return Ok(());
+        };
+        let mut rest = piece;
+        for _ in records.len() as u64..most {
+            let Some((line, behind_it)) = split_line(rest) else {
+                break;
+            };
+            let number = number_of_next(records, behind);
+            records.push(record_of(alloc, &self.form, &mut self.scratch, line, number)?)?;
+            rest = behind_it;
+        }
+        let len = piece.len().saturating_sub(rest.len());
+        self.file.consume(len);
+        Ok(())
     }
 }
 
@@ -178,21 +220,74 @@ impl Source for Lines {
     ghost records = { λ _. None };
 
     fn read(&mut self, alloc: Global, behind: u64, most: usize) -> Result<Vec<Record>, NotRead> {
-        let mut records = Vec::new(alloc);
-        if behind < self.count {
-            if let Err(fault) = self.read_from(alloc, &mut records, behind, most) {
-                self.fault = Some(fault);
-                return Err(NotRead);
-            }
-        }
+        let mut records = match self.ahead.take() {
+            Some(ahead) if ahead.behind == behind => ahead.records,
+            _ => match self.records_from(alloc, behind, most) {
+                Ok(records) => records,
+                Err(fault) => {
+                    self.fault = Some(fault);
+                    return Err(NotRead);
+                }
+            },
+        };
         records.truncate(most);
         Ok(records)
+    }
+
+    fn read_ahead(&mut self, alloc: Global, behind: u64, most: usize) {
+        self.ahead = match self.records_from(alloc, behind, most) {
+            Ok(records) => Some(Ahead { behind, records }),
+            Err(_fault) => None,
+        };
+    }
+}
+
+// Counts a line, where the next one begins at this place.
+fn count_line(count: &mut u64, places: &mut Vec<u64>, place: u64) -> Result<(), AllocError> {
+    *count = count.saturating_add(1);
+    if *count % STEP == 0 {
+        places.push(place)?;
+    }
+    Ok(())
+}
+
+// The number of the next line, where these records behind so many are read.
+fn number_of_next(records: &Vec<Record>, behind: u64) -> u64 {
+    behind
+        .saturating_add(records.len() as u64)
+        .saturating_add(1)
+}
+
+// The first line without its end, and what stands behind it; None where it has no end.
+fn split_line(bytes: &[u8]) -> Option<(&[u8], &[u8])> {
+    let (line, rest) = bytes.split_at_checked(memchr(b'\n', bytes)?)?;
+    let (_end, rest) = rest.split_first()?;
+    Some((line, rest))
+}
+
+// The record of a line, which has this number.
+fn record_of(
+    alloc: Global,
+    form: &Form,
+    scratch: &mut Scratch,
+    line: &[u8],
+    number: u64,
+) -> Result<Record> {
+    match form {
+        Form::Json => match record_of_json(alloc, scratch, line) {
+            Ok(record) => Ok(record),
+            Err(cause) => Err(anyhow!("line {number} {cause}")),
+        },
+        Form::Text(name) => match record_of_text(alloc, name, line) {
+            Ok(record) => Ok(record),
+            Err(error) => Err(error.into()),
+        },
     }
 }
 
 // A record of one field.
-fn record_of_text(alloc: Global, name: &Vec<u8>, value: &Vec<u8>) -> Result<Record, AllocError> {
+fn record_of_text(alloc: Global, name: &Vec<u8>, value: &[u8]) -> Result<Record, AllocError> {
     let mut record = Vec::with_capacity(alloc, 1)?;
-    record.push((name.clone()?, value.clone()?))?;
+    record.push((name.clone()?, Vec::from_slice(alloc, value)?))?;
     Ok(record)
 }
