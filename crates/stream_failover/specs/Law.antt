@@ -1,0 +1,93 @@
+-- That a failover loses nothing that was confirmed, and brings nothing twice.
+use Rattle.std.specs.Prelude.{◌≡◌, ℕ, ◌≤◌, List, [], ◌∷◌, ◌++◌, length, take, Option, Some, None}
+use Rattle.stream_group.specs.Worker.{Entry, Delivered, Answer, entries_in}
+use Rattle.stream_group.specs.Group.{ids_of}
+use Rattle.stream_group.specs.Law.{Among}
+use Rattle.stream_once.specs.Feed.{entries, known_in}
+use Rattle.stream_once.specs.Consumer.{new_consumer}
+use Rattle.stream_once.specs.World.{Setting, Arrive, Ask}
+use Rattle.stream_once.specs.World as once
+use Rattle.stream_once.specs.Law.{Fit, AreFirst, Once, IsDone, IsKept, IsDrained, HasEachOnce, log}
+use Rattle.stream_once.specs.Law.{NoOtherAck}
+use Rattle.stream_failover.specs.Lookup.{Move, moved_on}
+use Rattle.stream_failover.specs.World.{World, Event, Plain, Arrive_waits, Ask_waits, Failover, first_world, run}
+
+-- the world after these events
+abbrev pub after : {F : Type 0} → Setting F → List (Event F) → World F
+after s events = run s events first_world
+
+-- with what comes to the server now, from the producer or the consumer, a WAIT comes
+abbrev pub Waits : {F : Type 0} → Event F → Type 0
+Waits (Plain (Arrive executes)) = ⊥
+Waits (Plain (Ask n pick next)) = ⊥
+Waits event = Unit {0}
+
+-- so it is of each of these
+abbrev pub AllWait : {F : Type 0} → List (Event F) → Type 0
+AllWait [] = Unit {0}
+AllWait (e ∷ es) = Waits e × AllWait es
+
+-- this is no acknowledgement by another consumer of the group
+abbrev pub NoneByOthers : {F : Type 0} → Event F → Type 0
+NoneByOthers (Plain event) = NoOtherAck event
+NoneByOthers event = Unit {0}
+
+-- none of these is
+abbrev pub NoOtherAcks : {F : Type 0} → List (Event F) → Type 0
+NoOtherAcks [] = Unit {0}
+NoOtherAcks (e ∷ es) = NoneByOthers e × NoOtherAcks es
+
+-- no id stands twice in the file, with WAIT or without
+abbrev pub FileOnce : Type 0 → Type 0
+FileOnce F = (s : Setting F) (events : List (Event F)) → Once (ids_of (after s events).now.consumer.file)
+
+-- nor does it with any server, whatever that hands out: one that forgets all, or gives one id to two entries
+abbrev pub FileOnceOfAnyServer : Type 0 → Type 0
+FileOnceOfAnyServer F = (moves : List (Move F)) → Once (ids_of (moved_on moves new_consumer).file)
+
+-- the log is the first of the records, in order, with their own fields
+abbrev pub LogIsFirstRecords : Type 0 → Type 0
+LogIsFirstRecords F = (s : Setting F) → Fit s → (events : List (Event F)) → AllWait events
+    → AreFirst (log (after s events).now) (entries s.base s.records)
+
+-- as many records as the producer takes to be in the stream are in it, whatever happens then
+abbrev pub KnownStaysIn : Type 0 → Type 0
+KnownStaysIn F = (s : Setting F) → Fit s → (events more : List (Event F)) → AllWait events → AllWait more
+    → known_in (after s events).now.producer.stage ≤ length (log (run s more (after s events)).now)
+
+-- what stands in the file is of the log, with its own fields, whatever happens then
+abbrev pub FileIsOfLog : Type 0 → Type 0
+FileIsOfLog F = (s : Setting F) → Fit s → (events : List (Event F)) → AllWait events → (e : Entry F)
+    → Among e (after s events).now.consumer.file → Among e (log (after s events).now)
+
+-- what stands in the file is not to come: no failover makes it new again, so no other consumer is given it as new
+abbrev pub HandledIsNotNew : Type 0 → Type 0
+HandledIsNotNew F = (s : Setting F) → Fit s → (events : List (Event F)) → AllWait events → (e : Entry F)
+    → Among e (after s events).now.consumer.file → Among e (after s events).now.stream.fresh → ⊥
+
+-- the entries that an answer on the way hands out
+abbrev pub on_the_way : {F : Type 0} → Option (Answer F) → List (Delivered F)
+on_the_way None = []
+on_the_way (Some a) = entries_in a
+
+-- an entry that comes and whose id stands in the file has the fields that stand there
+abbrev pub ComesAsWritten : Type 0 → Type 0
+ComesAsWritten F = (s : Setting F) → Fit s → (events : List (Event F)) → AllWait events → (e : Entry F) (fields : F)
+    → Among e (after s events).now.consumer.file
+    → Among (e.0, Some fields) (on_the_way (after s events).now.consumer.answer) → fields ≡ e.1
+
+-- each record that the producer takes to be in the stream is to come, or pending, or in the file, or deleted,
+-- whatever happens then, if nobody else acknowledges
+abbrev pub NothingConfirmedIsLost : Type 0 → Type 0
+NothingConfirmedIsLost F = (s : Setting F) → Fit s → (events more : List (Event F)) → AllWait events → AllWait more
+    → NoOtherAcks events → NoOtherAcks more → (e : Entry F)
+    → Among e (take (known_in (after s events).now.producer.stage) (entries s.base s.records))
+    → IsKept (run s more (after s events)).now e
+
+-- if the producer said once that all is in, then when the stream is drained, and nothing is deleted, the file has each
+-- record once
+abbrev pub EachComesOutOnce : Type 0 → Type 0
+EachComesOutOnce F = (s : Setting F) → Fit s → (events more : List (Event F)) → AllWait events → AllWait more
+    → NoOtherAcks events → NoOtherAcks more → IsDone s (after s events).now
+    → IsDrained (run s more (after s events)).now → (run s more (after s events)).now.stream.deleted ≡ []
+    → HasEachOnce (run s more (after s events)).now.consumer.file (entries s.base s.records)

@@ -1,0 +1,37 @@
+//! What holds after every schedule with failovers, crashes, breaks and late arrivals. All laws but
+//! the first have the premises `Fit` and `AllWait`: the ids fit into 64 bits, and producer and
+//! consumer ask WAIT.
+ghost use Rattle.stream_failover.specs.Law.{ComesAsWritten, EachComesOutOnce, FileIsOfLog, FileOnce};
+ghost use Rattle.stream_failover.specs.Law.{FileOnceOfAnyServer, HandledIsNotNew, KnownStaysIn};
+ghost use Rattle.stream_failover.specs.Law.{LogIsFirstRecords, NothingConfirmedIsLost};
+
+/// No id stands twice in the file of a consumer that looks an entry up in it before it adds a line.
+/// It is so with WAIT or without, and with any server, whatever that hands out.
+pub fn nothing_comes_out_twice<F>()
+    ensures once { FileOnce F }
+    ensures any { FileOnceOfAnyServer F }
+{}
+
+/// The log is the first of the records, in order. As many records as the producer takes to be in
+/// are in, after any failover.
+pub fn what_is_confirmed_stays<F>()
+    ensures first { LogIsFirstRecords F }
+    ensures known { KnownStaysIn F }
+{}
+
+/// What stands in the file is of the log, with its own fields, after any failover. It does not come
+/// as new again, to no consumer of the group. If it comes again, it has the fields of its line.
+pub fn what_is_handled_stays<F>()
+    ensures of_log { FileIsOfLog F }
+    ensures not_new { HandledIsNotNew F }
+    ensures as_written { ComesAsWritten F }
+{}
+
+/// Each record that the producer takes to be in is to come, or pending, or in the file, or deleted,
+/// after any failover. So the file has each record once, if the producer said that all is in,
+/// nothing is pending or to come, and nothing is deleted. The premise is that nobody else
+/// acknowledges (`NoOtherAcks`).
+pub fn nothing_confirmed_is_lost<F>()
+    ensures kept { NothingConfirmedIsLost F }
+    ensures once { EachComesOutOnce F }
+{}
