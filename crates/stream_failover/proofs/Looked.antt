@@ -18,7 +18,7 @@ use Rattle.stream_once.proofs.Apart.{once_left, once_both, among_listed, ids_bot
 use Rattle.stream_once.proofs.Fill.{append_nil}
 use Rattle.stream_failover.specs.Lookup.{unwritten, lines_of, looks_up, Move, Told, Takes, Commits, Reconnects, Restarts}
 use Rattle.stream_failover.specs.Lookup.{moved, moved_on}
-use Rattle.stream_failover.specs.World.{World, Event, Plain, Arrive_waits, Ask_waits, Failover, fails_over, waited, plainly}
+use Rattle.stream_failover.specs.World.{World, Event, Plain, Arrive_waits, Ask_waits, Failover, fails_over, is_confirmed, plainly}
 use Rattle.stream_failover.specs.World.{happens, run, first_world}
 use Rattle.stream_failover.specs.Law.{after, FileOnce, FileOnceOfAnyServer}
 
@@ -158,17 +158,19 @@ module _ {F : Type 0} where
   fails w None h = h
   fails w (Some k) h = h
 
-  waits : (s : Setting F) (b : Bool) (kept : List (group.World F)) (e : once.Event F) (w : once.World F)
-      → Single w.consumer → Single (once.happens s w e).consumer → Single (waited s b kept e w).now.consumer
-  waits s true kept e w h k = h
-  waits s false kept e w h k = k
+  either : (w v : once.World F) (b : Bool) → Single w.consumer → Single v.consumer → Single (if b then w else v).consumer
+  either w v true h k = h
+  either w v false h k = k
 
   step : (s : Setting F) (w : World F) (e : Event F) → Single w.now.consumer → Single (happens s w e).now.consumer
   step s w (Plain e) h = plain s w.now e h
-  step s w (Arrive_waits b c) h = waits s c w.kept Break (once.happens s w.now (Arrive b)) h h
-  step s w (Ask_waits n pick next c) h =
+  step s w (Arrive_waits b asked said) h =
+      let v : once.World F = once.happens s w.now (Arrive b) in
+      either v (once.happens s v Break) (is_confirmed asked said) h h
+  step s w (Ask_waits n pick next asked said) h =
+      let v : once.World F = once.happens s w.now (Ask n pick next) in
       let k = asks s n pick next w.now (is_idle w.now.consumer) h in
-      waits s c w.kept Reconnect (once.happens s w.now (Ask n pick next)) k k
+      either v (once.happens s v Reconnect) (is_confirmed asked said) k k
   step s w (Failover k) h = fails w (item w.kept k) h
 
   steps : (s : Setting F) (es : List (Event F)) (w : World F) → Single w.now.consumer → Single (run s es w).now.consumer

@@ -28,7 +28,7 @@ use Rattle.stream_once.proofs.Lasts.{dropped_in, serves_told, same_entry, step_r
 use Rattle.stream_once.proofs.Lasts.{step_served, step_deleted, step_comes}
 use Rattle.stream_failover.specs.Lookup.{unwritten, lines_of, looks_up}
 use Rattle.stream_failover.specs.World.{World, Event, Plain, Arrive_waits, Ask_waits, Failover, goes_back, fails_over}
-use Rattle.stream_failover.specs.World.{remembers, waited, plainly, happens, run, first_world}
+use Rattle.stream_failover.specs.World.{remembers, is_confirmed, plainly, happens, run, first_world}
 use Rattle.stream_failover.specs.Law.{after, Waits, AllWait, NoneByOthers, NoOtherAcks, NothingConfirmedIsLost}
 use Rattle.stream_failover.specs.Law.{EachComesOutOnce}
 use Rattle.stream_failover.proofs.Looked.{unwritten_covers, once_on}
@@ -334,19 +334,21 @@ module _ {F : Type 0} where
     ];
   }
 
-  arrives : (s : Setting F) (w : World F) (b confirmed : Bool) → AllSafe w
-      → AllSafe (happens s w (Arrive_waits b confirmed))
-  arrives s w b confirmed i =
+  arrives : (s : Setting F) (w : World F) (b : Bool) (asked said : ℕ) → AllSafe w
+      → AllSafe (happens s w (Arrive_waits b asked said))
+  arrives s w b asked said i =
       let o : Option (Request F) = w.now.producer.sent in
       let v : once.World F = once.happens s w.now (Arrive b) in
       let t = step_filled b w.now.stream o in
       let here : Safe v.stream.acks v.stream v.consumer = served v.stream w.now.stream w.now.consumer t i.now in
-      let case : (c : Bool) → AllSafe (waited s c w.kept Break v) = λ c. elim c as (λ c. AllSafe (waited s c w.kept Break v)) [
+      let cut : once.World F = once.happens s v Break in
+      let case : (c : Bool) → AllSafe (remembers (if c then [] else w.kept) (if c then v else cut))
+      = λ c. elim c as (λ c. AllSafe (remembers (if c then [] else w.kept) (if c then v else cut))) [
         | true ↦ remembered [] v here (λ k h. absurd h)
-        | false ↦ remembered w.kept (once.happens s v Break) here
+        | false ↦ remembered w.kept cut here
             (λ k h. fewer w.now.stream.acks v.stream.acks k w.now.consumer t.acks (i.each k h))
       ] in
-      case confirmed
+      case (is_confirmed asked said)
 
   asked_now : (s : Setting F) (n : ℕ) (pick : Id → Bool) (next : Id) (w : once.World F) (b : Bool)
       → Safe w.stream.acks w.stream w.consumer
@@ -376,19 +378,20 @@ module _ {F : Type 0} where
       fewer w.stream.acks v.acks k (reconnects w.consumer) (step_served s.name n pick next p w.stream).acks
       (cut_off w.stream.acks k w.consumer i)
 
-  asks : (s : Setting F) (w : World F) (n : ℕ) (pick : Id → Bool) (next : Id) (confirmed : Bool) → AllSafe w
-      → AllSafe (happens s w (Ask_waits n pick next confirmed))
-  asks s w n pick next confirmed i =
+  asks : (s : Setting F) (w : World F) (n : ℕ) (pick : Id → Bool) (next : Id) (asked said : ℕ) → AllSafe w
+      → AllSafe (happens s w (Ask_waits n pick next asked said))
+  asks s w n pick next asked said i =
       let v : once.World F = once.happens s w.now (Ask n pick next) in
       let here : Safe v.stream.acks v.stream v.consumer =
       asked_now s n pick next w.now (is_idle w.now.consumer) i.now in
-      let case : (c : Bool) → AllSafe (waited s c w.kept Reconnect v)
-      = λ c. elim c as (λ c. AllSafe (waited s c w.kept Reconnect v)) [
+      let cut : once.World F = once.happens s v Reconnect in
+      let case : (c : Bool) → AllSafe (remembers (if c then [] else w.kept) (if c then v else cut))
+      = λ c. elim c as (λ c. AllSafe (remembers (if c then [] else w.kept) (if c then v else cut))) [
         | true ↦ remembered [] v here (λ k h. absurd h)
-        | false ↦ remembered w.kept (once.happens s v Reconnect) (cut_off v.stream.acks v.stream v.consumer here)
+        | false ↦ remembered w.kept cut (cut_off v.stream.acks v.stream v.consumer here)
             (λ k h. asked_apart s n pick next w.now (is_idle w.now.consumer) k (i.each k h))
       ] in
-      case confirmed
+      case (is_confirmed asked said)
 
   fails : (w : World F) (j : ℕ) (o : Option (group.World F)) → item w.kept j ≡ o → AllSafe w → AllSafe (fails_over w o)
   fails w j None q i = i
@@ -404,8 +407,8 @@ module _ {F : Type 0} where
   step s w (Plain e) h a i =
       remembered w.kept (plainly s w.now e) (safe_now s w.now e h a i.now)
       (λ k m. safe_apart s w.now e h a k (i.each k m))
-  step s w (Arrive_waits b c) h a i = arrives s w b c i
-  step s w (Ask_waits n pick next c) h a i = asks s w n pick next c i
+  step s w (Arrive_waits b asked said) h a i = arrives s w b asked said i
+  step s w (Ask_waits n pick next asked said) h a i = asks s w n pick next asked said i
   step s w (Failover j) h a i = fails w j (item w.kept j) refl i
 
   steps : (s : Setting F) (es : List (Event F)) (w : World F) → AllWait es → NoOtherAcks es → AllSafe w

@@ -27,7 +27,7 @@ use Rattle.stream_once.proofs.Write.{calm_else, calm_filled, calm_served, log_on
 use Rattle.stream_once.proofs.Lasts.{same_entry}
 use Rattle.stream_failover.specs.Lookup.{unwritten, lines_of, looks_up}
 use Rattle.stream_failover.specs.World.{World, Event, Plain, Arrive_waits, Ask_waits, Failover, goes_back, fails_over}
-use Rattle.stream_failover.specs.World.{remembers, waited, plainly, happens, run, first_world}
+use Rattle.stream_failover.specs.World.{remembers, is_confirmed, plainly, happens, run, first_world}
 use Rattle.stream_failover.specs.Law.{after, Waits, AllWait, on_the_way, LogIsFirstRecords, KnownStaysIn, FileIsOfLog}
 use Rattle.stream_failover.specs.Law.{HandledIsNotNew, ComesAsWritten}
 use Rattle.stream_failover.proofs.Looked.{unwritten_within}
@@ -276,16 +276,19 @@ module _ {F : Type 0} (s : Setting F) (fit : Fit s) where
     ];
   }
 
-  arrives : (m : ℕ) (w : World F) (b confirmed : Bool) → Holds m w → Holds m (happens s w (Arrive_waits b confirmed))
-  arrives m w b confirmed i =
+  arrives : (m : ℕ) (w : World F) (b : Bool) (asked said : ℕ) → Holds m w
+      → Holds m (happens s w (Arrive_waits b asked said))
+  arrives m w b asked said i =
       let o : Option (Request F) = w.now.producer.sent in
       let v : once.World F = once.happens s w.now (Arrive b) in
       let fed = fed_after m w.now (Arrive b) i.now.fed in
       let read : Read v.stream v.consumer =
       more w.now.stream (filled_by b w.now.stream o) w.now.consumer (calm_filled b w.now.stream o).0 i.now.read in
-      let case : (c : Bool) → Holds m (waited s c w.kept Break v) = λ c. elim c as (λ c. Holds m (waited s c w.kept Break v)) [
+      let cut : once.World F = once.happens s v Break in
+      let case : (c : Bool) → Holds m (remembers (if c then [] else w.kept) (if c then v else cut))
+      = λ c. elim c as (λ c. Holds m (remembers (if c then [] else w.kept) (if c then v else cut))) [
         | true ↦ remembered m [] v (record { fed = fed; read = read }) (λ k h. absurd h)
-        | false ↦ remembered m w.kept (once.happens s v Break)
+        | false ↦ remembered m w.kept cut
             (record { fed = fed_after m v Break fed; read = read })
             (λ k h.
                 let j = i.each k h in
@@ -296,7 +299,7 @@ module _ {F : Type 0} (s : Setting F) (fit : Fit s) where
                   read = j.read;
                 })
       ] in
-      case confirmed
+      case (is_confirmed asked said)
 
   asked_read : (m : ℕ) (n : ℕ) (pick : Id → Bool) (next : Id) (w : once.World F) (b : Bool) → In m w.stream w.producer
       → Read w.stream w.consumer
@@ -314,17 +317,18 @@ module _ {F : Type 0} (s : Setting F) (fit : Fit s) where
   asked_apart k n pick next w true r = record { lines = r.lines; coming = λ e h. absurd h }
   asked_apart k n pick next w false r = record { lines = r.lines; coming = λ e h. absurd h }
 
-  asks : (m : ℕ) (w : World F) (n : ℕ) (pick : Id → Bool) (next : Id) (confirmed : Bool) → Holds m w
-      → Holds m (happens s w (Ask_waits n pick next confirmed))
-  asks m w n pick next confirmed i =
+  asks : (m : ℕ) (w : World F) (n : ℕ) (pick : Id → Bool) (next : Id) (asked said : ℕ) → Holds m w
+      → Holds m (happens s w (Ask_waits n pick next asked said))
+  asks m w n pick next asked said i =
       let v : once.World F = once.happens s w.now (Ask n pick next) in
       let fed = fed_after m w.now (Ask n pick next) i.now.fed in
       let read : Read v.stream v.consumer =
       asked_read m n pick next w.now (is_idle w.now.consumer) i.now.fed i.now.read in
-      let case : (c : Bool) → Holds m (waited s c w.kept Reconnect v)
-      = λ c. elim c as (λ c. Holds m (waited s c w.kept Reconnect v)) [
+      let cut : once.World F = once.happens s v Reconnect in
+      let case : (c : Bool) → Holds m (remembers (if c then [] else w.kept) (if c then v else cut))
+      = λ c. elim c as (λ c. Holds m (remembers (if c then [] else w.kept) (if c then v else cut))) [
         | true ↦ remembered m [] v (record { fed = fed; read = read }) (λ k h. absurd h)
-        | false ↦ remembered m w.kept (once.happens s v Reconnect)
+        | false ↦ remembered m w.kept cut
             (record { fed = fed; read = cut_off v.stream v.consumer read })
             (λ k h.
                 let j = i.each k h in
@@ -333,7 +337,7 @@ module _ {F : Type 0} (s : Setting F) (fit : Fit s) where
                   read = asked_apart k n pick next w.now (is_idle w.now.consumer) j.read;
                 })
       ] in
-      case confirmed
+      case (is_confirmed asked said)
 
   cut_sound : (m : ℕ) (w : once.World F) (k : group.World F) → Sound m k w.producer w.consumer
       → Sound m k (breaks w.producer) (reconnects w.consumer)
@@ -358,8 +362,8 @@ module _ {F : Type 0} (s : Setting F) (fit : Fit s) where
       (record { fed = fed_now m w.now e i.now.fed; read = read_now m w.now e h i.now.fed i.now.read })
       (λ k a. let j = i.each k a in
       record { fed = fed_apart m w.now e h k j.fed; read = read_apart w.now e h k j.read })
-  step m w (Arrive_waits b c) h i = arrives m w b c i
-  step m w (Ask_waits n pick next c) h i = asks m w n pick next c i
+  step m w (Arrive_waits b asked said) h i = arrives m w b asked said i
+  step m w (Ask_waits n pick next asked said) h i = asks m w n pick next asked said i
   step m w (Failover j) h i = fails m w j (item w.kept j) refl i
 
   pub steps : (m : ℕ) (es : List (Event F)) (w : World F) → AllWait es → Holds m w → Holds m (run s es w)

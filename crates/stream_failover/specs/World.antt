@@ -1,5 +1,5 @@
 -- A server that may go back, a producer and a consumer that ask WAIT; and what may happen.
-use Rattle.std.specs.Prelude.{ℕ, List, [], ◌∷◌, Bool, true, false, Option, Some, None}
+use Rattle.std.specs.Prelude.{ℕ, nat_lt, List, [], ◌∷◌, Bool, not, ◌&&◌, Option, Some, None, if◌then◌else◌}
 use Rattle.stream_group.specs.Worker.{Id}
 use Rattle.stream_group.specs.World.{item, empty_world}
 use Rattle.stream_group.specs.World as group
@@ -22,10 +22,10 @@ first_world = record { now = once.first_world; kept = empty_world ∷ [] }
 pub data Event (F : Type 0) : Type 0 where
   -- as in stream_once, but the consumer looks up what it takes. Where `Arrive` and `Ask` come so, no WAIT is with them
   Plain : (event : once.Event F) → Event F
-  -- what the producer sent comes to the server, with a WAIT after it. That is confirmed, or too few replicas say so
-  Arrive_waits : (executes confirmed : Bool) → Event F
-  -- the consumer asks for entries, in the same write as a WAIT after it
-  Ask_waits : (n : ℕ) (pick : Id → Bool) (next : Id) (confirmed : Bool) → Event F
+  -- what the producer sent comes to the server, with a WAIT for `asked` replicas after it; `said` of them confirm
+  Arrive_waits : (executes : Bool) (asked said : ℕ) → Event F
+  -- the consumer asks for entries, in the same write as such a WAIT after it
+  Ask_waits : (n : ℕ) (pick : Id → Bool) (next : Id) (asked said : ℕ) → Event F
   -- the master dies, and a replica is the master that has this one of the states that are kept
   Failover : (which : ℕ) → Event F
 
@@ -56,11 +56,16 @@ fails_over w (Some earlier) = record w {
 abbrev pub remembers : {F : Type 0} → List (group.World F) → once.World F → World F
 remembers kept w = record { now = w; kept = w.stream ∷ kept }
 
+-- as many replicas as were asked for, or more, have all that the server had when WAIT came
+abbrev pub is_confirmed : (asked said : ℕ) → Bool
+is_confirmed asked said = nat_lt 0 asked && not (nat_lt said asked)
+
 -- the world once WAIT was answered. If it was confirmed, the server goes back to no state before. If not, it is to
 -- the one who asked as if its connection broke
-abbrev pub waited : {F : Type 0} → Setting F → Bool → List (group.World F) → once.Event F → once.World F → World F
-waited s true kept break w = remembers [] w
-waited s false kept break w = remembers kept (once.happens s w break)
+abbrev pub waited : {F : Type 0} → Setting F → (asked said : ℕ) → List (group.World F) → once.Event F → once.World F → World F
+waited s asked said kept break w = remembers
+    (if is_confirmed asked said then [] else kept)
+    (if is_confirmed asked said then w else once.happens s w break)
 
 -- what an event of stream_once makes of its world, where the consumer looks up
 abbrev pub plainly : {F : Type 0} → Setting F → once.World F → once.Event F → once.World F
@@ -70,10 +75,10 @@ plainly s w event = once.happens s w event
 -- what an event makes of the world
 abbrev pub happens : {F : Type 0} → Setting F → World F → Event F → World F
 happens s w (Plain event) = remembers w.kept (plainly s w.now event)
-happens s w (Arrive_waits executes confirmed) =
-    waited s confirmed w.kept Break (once.happens s w.now (Arrive executes))
-happens s w (Ask_waits n pick next confirmed) =
-    waited s confirmed w.kept Reconnect (once.happens s w.now (Ask n pick next))
+happens s w (Arrive_waits executes asked said) =
+    waited s asked said w.kept Break (once.happens s w.now (Arrive executes))
+happens s w (Ask_waits n pick next asked said) =
+    waited s asked said w.kept Reconnect (once.happens s w.now (Ask n pick next))
 happens s w (Failover which) = fails_over w (item w.kept which)
 
 -- a whole schedule
