@@ -2,3 +2,6 @@
 pub mod Looked
 pub mod Stays
 pub mod Safe
+mod Sample
+mod Without
+mod Wrong
