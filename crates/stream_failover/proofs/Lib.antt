@@ -1,6 +1,8 @@
 -- That a failover loses nothing that was confirmed, and brings nothing twice.
 pub mod Looked
+pub mod Lines
 pub mod Stays
+pub mod Records
 pub mod Safe
 mod Sample
 mod Without

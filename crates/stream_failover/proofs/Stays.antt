@@ -30,7 +30,7 @@ use Rattle.stream_failover.specs.World.{World, Event, Plain, Arrive_waits, Ask_w
 use Rattle.stream_failover.specs.World.{remembers, is_confirmed, plainly, happens, run, first_world}
 use Rattle.stream_failover.specs.Law.{after, Waits, AllWait, on_the_way, LogIsFirstRecords, KnownStaysIn, FileIsOfLog}
 use Rattle.stream_failover.specs.Law.{HandledIsNotNew, ComesAsWritten}
-use Rattle.stream_failover.proofs.Looked.{unwritten_within}
+use Rattle.stream_failover.proofs.Lines.{Lines, more, taken, synced, restarted, cut_off, answered}
 
 module _ {F : Type 0} where
   -- what is handed out with its fields is of the entries
@@ -60,7 +60,7 @@ module _ {F : Type 0} where
       nil_or_whole [] es e (subst P (whole_is es) h)
 
   -- what the server answers stands in its log, and is not to come
-  handed : (name : Name) (n : ℕ) (pick : Id → Bool) (next : Id) (p : Phase) (k : group.World F) (e : Entry F)
+  pub handed : (name : Name) (n : ℕ) (pick : Id → Bool) (next : Id) (p : Phase) (k : group.World F) (e : Entry F)
       → Among (e.0, Some e.1) (entries_in (answer_for name n pick next p k))
       → Among e (after_asking name n pick next p k).seen
   handed name n pick next (own behind) k e h =
@@ -73,59 +73,13 @@ module _ {F : Type 0} where
       among_right e k.seen (passed k.deleted n k.fresh)
       (given_passed k.deleted n k.fresh e (whole_from (given k.deleted n k.fresh) e h))
 
-  -- the lines, and what is on the way to get one, are of what the server handed out in this state
-  pub record Read (k : group.World F) (c : Consumer F) : Type 0 where
-    pub lines : (e : Entry F) → Among e (lines_of c) → Among e k.seen
-    pub coming : (e : Entry F) → Among (e.0, Some e.1) (on_the_way c.answer) → Among e k.seen
+  -- an entry that the server handed out in this state, or passed over
+  abbrev pub Seen : group.World F → Entry F → Type 0
+  Seen k e = Among e k.seen
 
-  more : (k v : group.World F) (c : Consumer F) → ((e : Entry F) → Among e k.seen → Among e v.seen) → Read k c → Read v c
-  more k v c f r = record { lines = λ e h. f e (r.lines e h); coming = λ e h. f e (r.coming e h) }
-
-  taken : (k : group.World F) (c : Consumer F) (vs : List Verdict) (o : Option (Answer F)) → c.answer ≡ o → Read k c
-      → Read k (looks_up vs o c)
-  taken k c vs None q r = r
-  taken k c vs (Some a) q r =
-      let new : List (Entry F) = handled_in (entries_in a) vs in
-      let got : List (Entry F) = unwritten (ids_of (lines_of c)) new in
-      let P : List (Entry F) → Entry F → Type 0 = λ l e. Among e l in
-      let Q : Option (Answer F) → Entry F → Type 0 = λ o e. Among (e.0, Some e.1) (on_the_way o) in
-      record {
-        lines = λ e h. elim (among_split e (lines_of c) got
-            (subst (λ l. P l e) (sym (append_assoc c.file c.lines got)) h)) [
-          | inl b ↦ r.lines e b
-          | inr b ↦ r.coming e (subst (λ o. Q o e) (sym q)
-              (handled_from (entries_in a) vs e (unwritten_within (ids_of (lines_of c)) new e b)))
-        ];
-        coming = λ e h. absurd h;
-      }
-
-  synced : (k : group.World F) (c : Consumer F) (b : Bool) → Read k c → Read k (if b then syncs c else c)
-  synced k c false r = r
-  synced k c true r = record {
-    lines = λ e h.
-        let P : List (Entry F) → Type 0 = λ l. Among e l in r.lines e (subst P (append_nil (c.file ++ c.lines)) h);
-    coming = r.coming;
-  }
-
-  restarted : (k : group.World F) (c : Consumer F) (kept n : ℕ) → Read k c → Read k (restarts kept n c)
-  restarted k c kept n r =
-      let some : List (Entry F) = take kept c.lines in
-      let cut : List (Entry F) = drop kept c.lines in
-      let all_is : c.file ++ c.lines ≡ (c.file ++ some) ++ cut =
-      ap (λ l. c.file ++ l) (sym (take-append-drop kept c.lines)) ∙ sym (append_assoc c.file some cut) in
-      record {
-        lines = λ e h.
-            let P : List (Entry F) → Type 0 = λ l. Among e l in
-            r.lines e (subst P (sym all_is)
-            (among_left e (c.file ++ some) cut (subst P (append_nil (c.file ++ some)) h)));
-        coming = λ e h. absurd h;
-      }
-
-  cut_off : (k : group.World F) (c : Consumer F) → Read k c → Read k (reconnects c)
-  cut_off k c r = record { lines = r.lines; coming = λ e h. absurd h }
-
-  answered : (k : group.World F) (c : Consumer F) → Read k c → Read k (record c { answer = Some acknowledged })
-  answered k c r = record { lines = r.lines; coming = λ e h. absurd h }
+  -- the lines are of these, and what is on the way to get one
+  abbrev pub Read : group.World F → Consumer F → Type 0
+  Read k c = Lines (Seen k) c
 
 module _ {F : Type 0} (s : Setting F) (fit : Fit s) where
   -- the log is the first m records, or more, and what the producer takes to be in is
@@ -207,7 +161,7 @@ module _ {F : Type 0} (s : Setting F) (fit : Fit s) where
 
   acked_apart : (k : group.World F) (w : once.World F) (b : Bool) → Read k w.consumer
       → Read k (if b then acknowledges s.name w else w).consumer
-  acked_apart k w true r = answered k w.consumer r
+  acked_apart k w true r = answered (Seen k) w.consumer r
   acked_apart k w false r = r
 
   -- the consumer's side of an event, in a state that the server has not
@@ -219,20 +173,20 @@ module _ {F : Type 0} (s : Setting F) (fit : Fit s) where
   read_apart w Hear h k r = r
   read_apart w Break h k r = r
   read_apart w (Ask n pick next) h k r = absurd h
-  read_apart w (Take vs) h k r = taken k w.consumer vs w.consumer.answer refl r
+  read_apart w (Take vs) h k r = taken (Seen k) w.consumer vs w.consumer.answer refl r
   read_apart w Sync h k r =
-      synced k w.consumer (is_none w.consumer.answer && is_empty w.consumer.machine.to_acknowledge) r
+      synced (Seen k) w.consumer (is_none w.consumer.answer && is_empty w.consumer.machine.to_acknowledge) r
   read_apart w Acknowledge_now h k r = acked_apart k w (is_none w.consumer.answer) r
   read_apart w Acknowledge_later h k r = r
-  read_apart w Reconnect h k r = cut_off k w.consumer r
-  read_apart w (Restart kept n) h k r = restarted k w.consumer kept n r
+  read_apart w Reconnect h k r = cut_off (Seen k) w.consumer r
+  read_apart w (Restart kept n) h k r = restarted (Seen k) w.consumer kept n r
   read_apart w (Else e) h k r = r
 
   acked_now : (w : once.World F) (b : Bool) → Read w.stream w.consumer
       → Read (if b then acknowledges s.name w else w).stream (if b then acknowledges s.name w else w).consumer
   acked_now w true r =
-      more w.stream (acknowledges s.name w).stream (acknowledges s.name w).consumer (λ e h. h)
-      (answered w.stream w.consumer r)
+      more (Seen w.stream) (Seen (acknowledges s.name w).stream) (acknowledges s.name w).consumer (λ e h. h)
+      (answered (Seen w.stream) w.consumer r)
   acked_now w false r = r
 
   read_now : (m : ℕ) (w : once.World F) (e : once.Event F) → Waits (Plain e) → In m w.stream w.producer
@@ -240,21 +194,21 @@ module _ {F : Type 0} (s : Setting F) (fit : Fit s) where
   read_now m w (Send n) h i r = r
   read_now m w (Arrive b) h i r = absurd h
   read_now m w (Arrive_late j b) h i r =
-      more w.stream (filled_by b w.stream (item w.producer.late j)) w.consumer
+      more (Seen w.stream) (Seen (filled_by b w.stream (item w.producer.late j))) w.consumer
       (calm_filled b w.stream (item w.producer.late j)).0 r
   read_now m w Hear h i r = r
   read_now m w Break h i r = r
   read_now m w (Ask n pick next) h i r = absurd h
-  read_now m w (Take vs) h i r = taken w.stream w.consumer vs w.consumer.answer refl r
+  read_now m w (Take vs) h i r = taken (Seen w.stream) w.consumer vs w.consumer.answer refl r
   read_now m w Sync h i r =
-      synced w.stream w.consumer (is_none w.consumer.answer && is_empty w.consumer.machine.to_acknowledge) r
+      synced (Seen w.stream) w.consumer (is_none w.consumer.answer && is_empty w.consumer.machine.to_acknowledge) r
   read_now m w Acknowledge_now h i r = acked_now w (is_none w.consumer.answer) r
   read_now m w Acknowledge_later h i r =
-      more w.stream (plainly s w Acknowledge_later).stream w.consumer (λ e h. h) r
-  read_now m w Reconnect h i r = cut_off w.stream w.consumer r
-  read_now m w (Restart kept n) h i r = restarted w.stream w.consumer kept n r
+      more (Seen w.stream) (Seen (plainly s w Acknowledge_later).stream) w.consumer (λ e h. h) r
+  read_now m w Reconnect h i r = cut_off (Seen w.stream) w.consumer r
+  read_now m w (Restart kept n) h i r = restarted (Seen w.stream) w.consumer kept n r
   read_now m w (Else e) h i r =
-      more w.stream (without_adding w.stream e) w.consumer (calm_else w.stream (log_once s fit w (inv m w i)) e).0 r
+      more (Seen w.stream) (Seen (without_adding w.stream e)) w.consumer (calm_else w.stream (log_once s fit w (inv m w i)) e).0 r
 
   -- both sides
   pub record Sound (m : ℕ) (k : group.World F) (p : Producer F) (c : Consumer F) : Type 0 where
@@ -283,7 +237,7 @@ module _ {F : Type 0} (s : Setting F) (fit : Fit s) where
       let v : once.World F = once.happens s w.now (Arrive b) in
       let fed = fed_after m w.now (Arrive b) i.now.fed in
       let read : Read v.stream v.consumer =
-      more w.now.stream (filled_by b w.now.stream o) w.now.consumer (calm_filled b w.now.stream o).0 i.now.read in
+      more (Seen w.now.stream) (Seen (filled_by b w.now.stream o)) w.now.consumer (calm_filled b w.now.stream o).0 i.now.read in
       let cut : once.World F = once.happens s v Break in
       let case : (c : Bool) → Holds m (remembers (if c then [] else w.kept) (if c then v else cut))
       = λ c. elim c as (λ c. Holds m (remembers (if c then [] else w.kept) (if c then v else cut))) [
@@ -308,7 +262,7 @@ module _ {F : Type 0} (s : Setting F) (fit : Fit s) where
   asked_read m n pick next w true i r =
       let p : Phase = w.consumer.machine.phase in
       let v : group.World F = after_asking s.name n pick next p w.stream in
-      let grown = more w.stream v w.consumer
+      let grown = more (Seen w.stream) (Seen v) w.consumer
       (calm_served s.name n pick next p w.stream (log_once s fit w (inv m w i))).0 r in
       record { lines = grown.lines; coming = λ e h. handed s.name n pick next p w.stream e h }
 
@@ -329,7 +283,7 @@ module _ {F : Type 0} (s : Setting F) (fit : Fit s) where
       = λ c. elim c as (λ c. Holds m (remembers (if c then [] else w.kept) (if c then v else cut))) [
         | true ↦ remembered m [] v (record { fed = fed; read = read }) (λ k h. absurd h)
         | false ↦ remembered m w.kept cut
-            (record { fed = fed; read = cut_off v.stream v.consumer read })
+            (record { fed = fed; read = cut_off (Seen v.stream) v.consumer read })
             (λ k h.
                 let j = i.each k h in
                 record {
@@ -341,7 +295,7 @@ module _ {F : Type 0} (s : Setting F) (fit : Fit s) where
 
   cut_sound : (m : ℕ) (w : once.World F) (k : group.World F) → Sound m k w.producer w.consumer
       → Sound m k (breaks w.producer) (reconnects w.consumer)
-  cut_sound m w k i = record { fed = fed_after m (at w k) Break i.fed; read = cut_off k w.consumer i.read }
+  cut_sound m w k i = record { fed = fed_after m (at w k) Break i.fed; read = cut_off (Seen k) w.consumer i.read }
 
   fails : (m : ℕ) (w : World F) (j : ℕ) (o : Option (group.World F)) → item w.kept j ≡ o → Holds m w
       → Holds m (fails_over w o)

@@ -45,7 +45,17 @@ FileOnce F = (s : Setting F) (events : List (Event F)) → Once (ids_of (after s
 abbrev pub FileOnceOfAnyServer : Type 0 → Type 0
 FileOnceOfAnyServer F = (moves : List (Move F)) → Once (ids_of (moved_on moves new_consumer).file)
 
--- the log is the first of the records, in order, with their own fields
+-- what stands in the log is of the records, with its own fields, with WAIT or without
+abbrev pub LogIsOfRecords : Type 0 → Type 0
+LogIsOfRecords F = (s : Setting F) (events : List (Event F)) (e : Entry F)
+    → Among e (log (after s events).now) → Among e (entries s.base s.records)
+
+-- so is what stands in the file
+abbrev pub FileIsOfRecords : Type 0 → Type 0
+FileIsOfRecords F = (s : Setting F) (events : List (Event F)) (e : Entry F)
+    → Among e (after s events).now.consumer.file → Among e (entries s.base s.records)
+
+-- the log is the first of the records, in order
 abbrev pub LogIsFirstRecords : Type 0 → Type 0
 LogIsFirstRecords F = (s : Setting F) → Fit s → (events : List (Event F)) → AllWait events
     → AreFirst (log (after s events).now) (entries s.base s.records)

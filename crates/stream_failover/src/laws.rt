@@ -1,15 +1,23 @@
-//! What holds after every schedule with failovers, crashes, breaks and late arrivals. All laws but
-//! the first have the premises `Fit` and `AllWait`: the ids fit into 64 bits, and producer and
+//! What holds after every schedule with failovers, crashes, breaks and late arrivals. The last
+//! three laws have the premises `Fit` and `AllWait`: the ids fit into 64 bits, and producer and
 //! consumer ask WAIT.
-ghost use Rattle.stream_failover.specs.Law.{ComesAsWritten, EachComesOutOnce, FileIsOfLog, FileOnce};
-ghost use Rattle.stream_failover.specs.Law.{FileOnceOfAnyServer, HandledIsNotNew, KnownStaysIn};
-ghost use Rattle.stream_failover.specs.Law.{LogIsFirstRecords, NothingConfirmedIsLost};
+ghost use Rattle.stream_failover.specs.Law.{ComesAsWritten, EachComesOutOnce, FileIsOfLog};
+ghost use Rattle.stream_failover.specs.Law.{FileIsOfRecords, FileOnce, FileOnceOfAnyServer};
+ghost use Rattle.stream_failover.specs.Law.{HandledIsNotNew, KnownStaysIn, LogIsFirstRecords};
+ghost use Rattle.stream_failover.specs.Law.{LogIsOfRecords, NothingConfirmedIsLost};
 
 /// No id stands twice in the file of a consumer that looks an entry up in it before it adds a line.
 /// It is so with WAIT or without, and with any server, whatever that hands out.
 pub fn nothing_comes_out_twice<F>()
     ensures once { FileOnce F }
     ensures any { FileOnceOfAnyServer F }
+{}
+
+/// What stands in the log or in the file is one of the records, with its own fields. It is so with
+/// WAIT or without.
+pub fn nothing_is_made_up<F>()
+    ensures log { LogIsOfRecords F }
+    ensures file { FileIsOfRecords F }
 {}
 
 /// The log is the first of the records, in order. As many records as the producer takes to be in
