@@ -33,10 +33,10 @@ module _ {F : Type 0} (P : Entry F → Type 0) where
       record {
         lines = λ e h. elim (among_split e (lines_of c) got
             (subst (λ l. In l e) (sym (append_assoc c.file c.lines got)) h)) [
-          | inl b ↦ r.lines e b
-          | inr b ↦ r.coming e (subst (λ o. Comes o e) (sym q)
-              (handled_from (entries_in a) vs e (unwritten_within (ids_of (lines_of c)) new e b)))
-        ];
+              | inl b ↦ r.lines e b
+              | inr b ↦ r.coming e (subst (λ o. Comes o e) (sym q)
+                  (handled_from (entries_in a) vs e (unwritten_within (ids_of (lines_of c)) new e b)))
+            ];
         coming = λ e h. absurd h;
       }
 

@@ -8,13 +8,13 @@ use Rattle.stream_group.specs.Group.{Name, ids_of, listed}
 use Rattle.stream_group.specs.World.{item}
 use Rattle.stream_group.specs.World as group
 use Rattle.stream_group.specs.Law.{Among}
-use Rattle.stream_group.proofs.Among.{among_of_map, listed_among}
-use Rattle.stream_once.specs.Consumer.{Consumer, new_consumer, is_empty, is_idle, syncs, restarts, reconnects}
+use Rattle.stream_group.proofs.Among.{listed_among}
+use Rattle.stream_once.specs.Consumer.{Consumer, new_consumer, is_empty, is_idle, syncs, restarts}
 use Rattle.stream_once.specs.World.{Setting, Send, Arrive, Arrive_late, Hear, Break, Ask, Take, Sync}
 use Rattle.stream_once.specs.World.{Acknowledge_now, Acknowledge_later, Reconnect, Restart, Else, asked, acknowledges}
 use Rattle.stream_once.specs.World as once
 use Rattle.stream_once.specs.Law.{Once}
-use Rattle.stream_once.proofs.Apart.{once_left, once_both, among_listed, ids_both, id_among}
+use Rattle.stream_once.proofs.Apart.{once_left, once_both, among_listed, ids_both}
 use Rattle.stream_once.proofs.Fill.{append_nil}
 use Rattle.stream_failover.specs.Lookup.{unwritten, lines_of, looks_up, Move, Told, Takes, Commits, Reconnects, Restarts}
 use Rattle.stream_failover.specs.Lookup.{moved, moved_on}

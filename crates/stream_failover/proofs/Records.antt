@@ -1,26 +1,27 @@
 -- What stands in the log or in the file is of the records, with WAIT or without.
-use Rattle.std.proofs.Common.{◌≡◌, ◌⊎◌, inl, inr, refl, sym, ap, subst, ◌∙◌, ℕ, zero, suc, Bool, true, false, ◌&&◌, List, []}
-use Rattle.std.proofs.Common.{◌∷◌, ◌++◌, map, take, drop, append_assoc, Option, Some, None, if◌then◌else◌}
+use Rattle.std.proofs.Common.{◌≡◌, inl, inr, refl, sym, ap, subst, ℕ, zero, suc, Bool, true, false, ◌&&◌, List, []}
+use Rattle.std.proofs.Common.{◌∷◌, ◌++◌, take, drop, append_assoc, Option, Some, None, if◌then◌else◌}
 use Rattle.std.specs.Option.{is_none}
-use Rattle.stream_group.specs.Worker.{Id, Entry, Phase, Answer}
-use Rattle.stream_group.specs.Group.{Name, Numbers, id_text, is_below, fits}
+use Rattle.stream_group.specs.Worker.{Id, Entry, Phase}
+use Rattle.stream_group.specs.Group.{id_text, is_below, fits}
 use Rattle.stream_group.specs.World.{item, but, appended, log_of, empty_world}
 use Rattle.stream_group.specs.World as group
 use Rattle.stream_group.specs.Law.{Among}
-use Rattle.stream_group.proofs.Among.{among_left, among_split, among_map, among_of_map, among_item, among_but}
+use Rattle.stream_group.proofs.Among.{among_left, among_split, among_map, among_item, among_but}
 use Rattle.stream_once.specs.Feed.{Numbered, numbered, as_entry, entries, Stage, asking, knows, waits, Request, ask_last}
 use Rattle.stream_once.specs.Feed.{batch, adding, request, requested, next_batch}
-use Rattle.stream_once.specs.Producer.{Producer, sends, add_all, filled_by, arrived, hears, overdue, breaks}
-use Rattle.stream_once.specs.Consumer.{Consumer, is_empty, is_idle, after_asking}
+use Rattle.stream_once.specs.Producer.{Producer, add_all, filled_by, arrived, hears, overdue, breaks}
+use Rattle.stream_once.specs.Consumer.{is_empty, is_idle, after_asking}
 use Rattle.stream_once.specs.World.{Setting, Send, Arrive, Arrive_late, Hear, Break, Ask, Take, Sync}
 use Rattle.stream_once.specs.World.{Acknowledge_now, Acknowledge_later, Reconnect, Restart, Else, asked, acknowledges}
 use Rattle.stream_once.specs.World.{without_adding}
 use Rattle.stream_once.specs.World as once
-use Rattle.stream_once.specs.Law.{log}
+use Rattle.stream_once.proofs.Apart.{once_entries}
+use Rattle.stream_once.proofs.Lasts.{same_entry}
 use Rattle.stream_once.proofs.Same.{same_else, same_asked}
 use Rattle.stream_failover.specs.World.{World, Event, Plain, Arrive_waits, Ask_waits, Failover, fails_over, remembers}
 use Rattle.stream_failover.specs.World.{is_confirmed, plainly, happens, run, first_world}
-use Rattle.stream_failover.specs.Law.{after, LogIsOfRecords, FileIsOfRecords}
+use Rattle.stream_failover.specs.Law.{after, LogIsOfRecords, FileIsOfRecords, ComesAsWritten}
 use Rattle.stream_failover.proofs.Lines.{Lines, taken, synced, restarted, cut_off, answered}
 use Rattle.stream_failover.proofs.Stays.{handed}
 
@@ -255,3 +256,12 @@ log_is_of_records s es e h = (always s es).now.log e h
 pub file_is_of_records : {F : Type 0} → FileIsOfRecords F
 file_is_of_records s es e h =
     let c = (after s es).now.consumer in (always s es).now.lines.lines e (among_left e c.file c.lines h)
+
+pub comes_as_written : {F : Type 0} → ComesAsWritten F
+comes_as_written {F} s fit es e fields a b =
+    let c = (after s es).now.consumer in
+    let i = (always s es).now.lines in
+    let d : Entry F = (e.0, fields) in
+    let q : d ≡ e = same_entry (entries s.base s.records) (once_entries s.base s.records fit) d e (i.coming d b)
+    (i.lines e (among_left e c.file c.lines a)) refl in
+    ap (λ (y : Entry F). y.1) q

@@ -1,6 +1,6 @@
 -- Each record that is confirmed is to come, or pending, or in the file, or deleted.
 use Rattle.std.proofs.Common.{◌≡◌, ◌⊎◌, inl, inr, refl, sym, ap, subst, ◌∙◌, ℕ, ◌+◌, ◌-◌, ◌≤◌, zero, suc, arith, Bool}
-use Rattle.std.proofs.Common.{true, false, ◌&&◌, List, [], ◌∷◌, ◌++◌, map, length, take, drop, append_assoc, Option, Some}
+use Rattle.std.proofs.Common.{true, false, ◌&&◌, List, [], ◌∷◌, ◌++◌, length, take, append_assoc, Option, Some}
 use Rattle.std.proofs.Common.{None, if◌then◌else◌}
 use Rattle.std.specs.Option.{is_none}
 use Rattle.std.proofs.lemmas.List.{length-append, length-map}
@@ -12,22 +12,22 @@ use Rattle.stream_group.specs.World as group
 use Rattle.stream_group.specs.Law.{Among}
 use Rattle.stream_group.proofs.Among.{among_left, among_split, among_of_map, among_item}
 use Rattle.stream_group.proofs.Steps.{acknowledged_keeps}
-use Rattle.stream_once.specs.Feed.{Numbered, as_entry, numbered, entries, Request, ask_last, batch, Stage, known_in}
+use Rattle.stream_once.specs.Feed.{Numbered, as_entry, numbered, entries, Request, ask_last, batch, known_in}
 use Rattle.stream_once.specs.Producer.{add_all, filled_by}
 use Rattle.stream_once.specs.Consumer.{Consumer, is_empty, is_idle, after_asking, syncs, restarts, reconnects, last_added}
 use Rattle.stream_once.specs.World.{Setting, Send, Arrive, Arrive_late, Hear, Break, Ask, Take, Sync}
 use Rattle.stream_once.specs.World.{Acknowledge_now, Acknowledge_later, Reconnect, Restart, Else, asked, acknowledges}
 use Rattle.stream_once.specs.World.{without_adding}
 use Rattle.stream_once.specs.World as once
-use Rattle.stream_once.specs.Law.{Fit, Once, log, NoOtherAck, IsKept}
-use Rattle.stream_once.proofs.Apart.{ids_both, id_among}
+use Rattle.stream_once.specs.Law.{Fit, log, NoOtherAck, IsKept}
+use Rattle.stream_once.proofs.Apart.{id_among}
 use Rattle.stream_once.proofs.Batch.{length_numbered}
 use Rattle.stream_once.proofs.Fill.{append_nil}
 use Rattle.stream_once.proofs.Lasts.{Done, Told, Step, done_more, told_more, settled, still_in, into_file, onto_file}
 use Rattle.stream_once.proofs.Lasts.{dropped_in, serves_told, same_entry, step_read, step_again, step_claim, step_claim_ids}
 use Rattle.stream_once.proofs.Lasts.{step_served, step_deleted, step_comes}
 use Rattle.stream_failover.specs.Lookup.{unwritten, lines_of, looks_up}
-use Rattle.stream_failover.specs.World.{World, Event, Plain, Arrive_waits, Ask_waits, Failover, goes_back, fails_over}
+use Rattle.stream_failover.specs.World.{World, Event, Plain, Arrive_waits, Ask_waits, Failover, fails_over}
 use Rattle.stream_failover.specs.World.{remembers, is_confirmed, plainly, happens, run, first_world}
 use Rattle.stream_failover.specs.Law.{after, Waits, AllWait, NoneByOthers, NoOtherAcks, NothingConfirmedIsLost}
 use Rattle.stream_failover.specs.Law.{EachComesOutOnce}

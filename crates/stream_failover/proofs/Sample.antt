@@ -3,7 +3,7 @@
 use Rattle.std.proofs.Common.{◌≡◌, refl, ℕ, arith, true, List, [], ◌∷◌, codes}
 use Rattle.std.specs.Fmt.{digits}
 use Rattle.stream_group.specs.Worker.{done}
-use Rattle.stream_once.specs.Feed.{knows, entries}
+use Rattle.stream_once.specs.Feed.{entries}
 use Rattle.stream_once.specs.World.{Setting, Send, Hear, Take, Sync, Acknowledge_now}
 use Rattle.stream_once.specs.Law.{Fit, IsDone, IsDrained, log}
 use Rattle.stream_failover.specs.World.{World, Event, Plain, Arrive_waits, Ask_waits, Failover, run}
@@ -36,7 +36,7 @@ abbrev draining : List (Event ℕ)
 draining =
     ask ∷ Plain (Take []) ∷ ask ∷ Plain (Take []) ∷ ask ∷ Plain (Take (done ∷ done ∷ [])) ∷
     commit_and_acknowledge (
-        Failover 2 ∷ ask ∷ Plain (Take (done ∷ done ∷ [])) ∷ commit_and_acknowledge []
+    Failover 2 ∷ ask ∷ Plain (Take (done ∷ done ∷ [])) ∷ commit_and_acknowledge []
     )
 
 pub it_fits : Fit two

@@ -1,35 +1,32 @@
 -- What is confirmed is in each state that the server may go back to.
-use Rattle.std.proofs.Common.{◌≡◌, ◌⊎◌, inl, inr, refl, sym, ap, subst, ◌∙◌, ℕ, ◌≤◌, zero, suc, arith, Bool, true, false}
-use Rattle.std.proofs.Common.{not, ◌&&◌, List, [], ◌∷◌, ◌++◌, map, filter, length, take, drop, append_assoc, Option}
+use Rattle.std.proofs.Common.{◌≡◌, inl, inr, refl, sym, ap, subst, ◌∙◌, ℕ, ◌≤◌, arith, Bool, true, false}
+use Rattle.std.proofs.Common.{not, ◌&&◌, List, [], ◌∷◌, ◌++◌, map, filter, length, Option}
 use Rattle.std.proofs.Common.{Some, None, if◌then◌else◌}
 use Rattle.std.specs.Option.{is_none}
-use Rattle.std.proofs.lemmas.List.{take-append-drop}
-use Rattle.stream_group.specs.Worker.{Id, Entry, Delivered, Verdict, Phase, own, claiming, reading, Answer, acknowledged}
-use Rattle.stream_group.specs.Worker.{entries_in, handled_in}
+use Rattle.stream_group.specs.Worker.{Id, Entry, Delivered, Phase, own, claiming, reading}
+use Rattle.stream_group.specs.Worker.{entries_in}
 use Rattle.stream_group.specs.Group.{Name, ids_of, listed, given, passed, whole, as_it_is, pending_ids}
 use Rattle.stream_group.specs.Group.{own as own_ids}
 use Rattle.stream_group.specs.World.{item, empty_world}
 use Rattle.stream_group.specs.World as group
 use Rattle.stream_group.specs.Law.{Among}
-use Rattle.stream_group.proofs.Among.{among_left, among_right, among_split, among_filtered, among_item}
+use Rattle.stream_group.proofs.Among.{among_left, among_right, among_filtered, among_item}
 use Rattle.stream_group.proofs.Steps.{given_passed}
-use Rattle.stream_once.specs.Feed.{Numbered, as_entry, entries, Request, ask_last, batch, known_in}
+use Rattle.stream_once.specs.Feed.{as_entry, entries, Request, ask_last, batch, known_in}
 use Rattle.stream_once.specs.Producer.{Producer, filled_by, arrived, breaks}
-use Rattle.stream_once.specs.Consumer.{Consumer, is_empty, is_idle, after_asking, answer_for, syncs, restarts, reconnects}
+use Rattle.stream_once.specs.Consumer.{Consumer, is_empty, is_idle, after_asking, answer_for, reconnects}
 use Rattle.stream_once.specs.World.{Setting, Send, Arrive, Arrive_late, Hear, Break, Ask, Take, Sync}
 use Rattle.stream_once.specs.World.{Acknowledge_now, Acknowledge_later, Reconnect, Restart, Else, asked, acknowledges}
 use Rattle.stream_once.specs.World.{without_adding}
 use Rattle.stream_once.specs.World as once
 use Rattle.stream_once.specs.Law.{Fit, Once, log}
-use Rattle.stream_once.proofs.Apart.{id_among, handled_from}
-use Rattle.stream_once.proofs.Fill.{KeptOf, Fed, Inv, each, at_first, entries_split, log_length, append_nil}
+use Rattle.stream_once.proofs.Apart.{id_among}
+use Rattle.stream_once.proofs.Fill.{KeptOf, Fed, Inv, each, at_first, entries_split, log_length}
 use Rattle.stream_once.proofs.Write.{calm_else, calm_filled, calm_served, log_once, not_fresh}
-use Rattle.stream_once.proofs.Lasts.{same_entry}
-use Rattle.stream_failover.specs.Lookup.{unwritten, lines_of, looks_up}
-use Rattle.stream_failover.specs.World.{World, Event, Plain, Arrive_waits, Ask_waits, Failover, goes_back, fails_over}
+use Rattle.stream_failover.specs.World.{World, Event, Plain, Arrive_waits, Ask_waits, Failover, fails_over}
 use Rattle.stream_failover.specs.World.{remembers, is_confirmed, plainly, happens, run, first_world}
-use Rattle.stream_failover.specs.Law.{after, Waits, AllWait, on_the_way, LogIsFirstRecords, KnownStaysIn, FileIsOfLog}
-use Rattle.stream_failover.specs.Law.{HandledIsNotNew, ComesAsWritten}
+use Rattle.stream_failover.specs.Law.{after, Waits, AllWait, LogIsFirstRecords, KnownStaysIn, FileIsOfLog}
+use Rattle.stream_failover.specs.Law.{HandledIsNotNew}
 use Rattle.stream_failover.proofs.Lines.{Lines, more, taken, synced, restarted, cut_off, answered}
 
 module _ {F : Type 0} where
@@ -245,13 +242,13 @@ module _ {F : Type 0} (s : Setting F) (fit : Fit s) where
         | false ↦ remembered m w.kept cut
             (record { fed = fed_after m v Break fed; read = read })
             (λ k h.
-                let j = i.each k h in
-                let u : once.World F = once.happens s (at w.now k) (Arrive false) in
-                record {
-                  fed = unheard m k w.now.stream b w.now.producer o
-                      (fed_after m u Break (fed_after m (at w.now k) (Arrive false) j.fed));
-                  read = j.read;
-                })
+            let j = i.each k h in
+            let u : once.World F = once.happens s (at w.now k) (Arrive false) in
+            record {
+              fed = unheard m k w.now.stream b w.now.producer o
+                  (fed_after m u Break (fed_after m (at w.now k) (Arrive false) j.fed));
+              read = j.read;
+            })
       ] in
       case (is_confirmed asked said)
 
@@ -285,11 +282,11 @@ module _ {F : Type 0} (s : Setting F) (fit : Fit s) where
         | false ↦ remembered m w.kept cut
             (record { fed = fed; read = cut_off (Seen v.stream) v.consumer read })
             (λ k h.
-                let j = i.each k h in
-                record {
-                  fed = asked_fed m k n pick next w.now (is_idle w.now.consumer) j.fed;
-                  read = asked_apart k n pick next w.now (is_idle w.now.consumer) j.read;
-                })
+            let j = i.each k h in
+            record {
+              fed = asked_fed m k n pick next w.now (is_idle w.now.consumer) j.fed;
+              read = asked_apart k n pick next w.now (is_idle w.now.consumer) j.read;
+            })
       ] in
       case (is_confirmed asked said)
 
@@ -383,13 +380,3 @@ handled_is_not_new s fit es h e a b =
     let i = always s fit es h in
     not_fresh w.now.stream (distinct s fit 0 w i) e.0
     (id_among e w.now.stream.seen (file_in_seen s fit 0 w i e a)) (id_among e w.now.stream.fresh b)
-
-pub comes_as_written : {F : Type 0} → ComesAsWritten F
-comes_as_written {F} s fit es h e fields a b =
-    let w = after s es in
-    let i = always s fit es h in
-    let d : Entry F = (e.0, fields) in
-    let q : d ≡ e = same_entry (log w.now) (distinct s fit 0 w i) d e
-    (among_left d w.now.stream.seen w.now.stream.fresh (i.now.read.coming d b))
-    (among_left e w.now.stream.seen w.now.stream.fresh (file_in_seen s fit 0 w i e a)) refl in
-    ap (λ (y : Entry F). y.1) q

@@ -1,16 +1,15 @@
 -- That a failover loses nothing that was confirmed, and brings nothing twice.
-use Rattle.std.specs.Prelude.{◌≡◌, ℕ, ◌≤◌, List, [], ◌∷◌, ◌++◌, length, take, Option, Some, None}
+use Rattle.std.specs.Prelude.{◌≡◌, ◌≤◌, List, [], ◌∷◌, length, take, Option, Some, None}
 use Rattle.stream_group.specs.Worker.{Entry, Delivered, Answer, entries_in}
 use Rattle.stream_group.specs.Group.{ids_of}
 use Rattle.stream_group.specs.Law.{Among}
 use Rattle.stream_once.specs.Feed.{entries, known_in}
 use Rattle.stream_once.specs.Consumer.{new_consumer}
 use Rattle.stream_once.specs.World.{Setting, Arrive, Ask}
-use Rattle.stream_once.specs.World as once
 use Rattle.stream_once.specs.Law.{Fit, AreFirst, Once, IsDone, IsKept, IsDrained, HasEachOnce, log}
 use Rattle.stream_once.specs.Law.{NoOtherAck}
 use Rattle.stream_failover.specs.Lookup.{Move, moved_on}
-use Rattle.stream_failover.specs.World.{World, Event, Plain, Arrive_waits, Ask_waits, Failover, first_world, run}
+use Rattle.stream_failover.specs.World.{World, Event, Plain, first_world, run}
 
 -- the world after these events
 abbrev pub after : {F : Type 0} → Setting F → List (Event F) → World F
@@ -55,6 +54,17 @@ abbrev pub FileIsOfRecords : Type 0 → Type 0
 FileIsOfRecords F = (s : Setting F) (events : List (Event F)) (e : Entry F)
     → Among e (after s events).now.consumer.file → Among e (entries s.base s.records)
 
+-- the entries that an answer on the way hands out
+abbrev pub on_the_way : {F : Type 0} → Option (Answer F) → List (Delivered F)
+on_the_way None = []
+on_the_way (Some a) = entries_in a
+
+-- an entry that comes and whose id stands in the file has the fields that stand there, with WAIT or without
+abbrev pub ComesAsWritten : Type 0 → Type 0
+ComesAsWritten F = (s : Setting F) → Fit s → (events : List (Event F)) (e : Entry F) (fields : F)
+    → Among e (after s events).now.consumer.file
+    → Among (e.0, Some fields) (on_the_way (after s events).now.consumer.answer) → fields ≡ e.1
+
 -- the log is the first of the records, in order
 abbrev pub LogIsFirstRecords : Type 0 → Type 0
 LogIsFirstRecords F = (s : Setting F) → Fit s → (events : List (Event F)) → AllWait events
@@ -74,17 +84,6 @@ FileIsOfLog F = (s : Setting F) → Fit s → (events : List (Event F)) → AllW
 abbrev pub HandledIsNotNew : Type 0 → Type 0
 HandledIsNotNew F = (s : Setting F) → Fit s → (events : List (Event F)) → AllWait events → (e : Entry F)
     → Among e (after s events).now.consumer.file → Among e (after s events).now.stream.fresh → ⊥
-
--- the entries that an answer on the way hands out
-abbrev pub on_the_way : {F : Type 0} → Option (Answer F) → List (Delivered F)
-on_the_way None = []
-on_the_way (Some a) = entries_in a
-
--- an entry that comes and whose id stands in the file has the fields that stand there
-abbrev pub ComesAsWritten : Type 0 → Type 0
-ComesAsWritten F = (s : Setting F) → Fit s → (events : List (Event F)) → AllWait events → (e : Entry F) (fields : F)
-    → Among e (after s events).now.consumer.file
-    → Among (e.0, Some fields) (on_the_way (after s events).now.consumer.answer) → fields ≡ e.1
 
 -- each record that the producer takes to be in the stream is to come, or pending, or in the file, or deleted,
 -- whatever happens then, if nobody else acknowledges

@@ -2,7 +2,7 @@
 use Rattle.std.specs.Prelude.{ℕ, List, [], ◌∷◌, ◌++◌, Option, Some, None, if◌then◌else◌}
 use Rattle.stream_group.specs.Worker.{Id, Entry, Verdict, Answer, entries_in, handled_in}
 use Rattle.stream_group.specs.Group.{ids_of, listed}
-use Rattle.stream_once.specs.Consumer.{Consumer, new_consumer, takes, commits, restarts, reconnects}
+use Rattle.stream_once.specs.Consumer.{Consumer, takes, commits, restarts, reconnects}
 
 -- those of the entries that get a line: none that has one of these ids, or the id of an entry before it
 abbrev pub unwritten : {F : Type 0} → List Id → List (Entry F) → List (Entry F)

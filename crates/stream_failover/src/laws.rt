@@ -13,11 +13,13 @@ pub fn nothing_comes_out_twice<F>()
     ensures any { FileOnceOfAnyServer F }
 {}
 
-/// What stands in the log or in the file is one of the records, with its own fields. It is so with
-/// WAIT or without.
+/// What stands in the log or in the file is one of the records, with its own fields. So an entry
+/// that comes and whose id is in the file has the fields that are there, if the ids fit into 64
+/// bits. It is so with WAIT or without.
 pub fn nothing_is_made_up<F>()
     ensures log { LogIsOfRecords F }
     ensures file { FileIsOfRecords F }
+    ensures as_written { ComesAsWritten F }
 {}
 
 /// The log is the first of the records, in order. As many records as the producer takes to be in
@@ -28,11 +30,10 @@ pub fn what_is_confirmed_stays<F>()
 {}
 
 /// What stands in the file is of the log, with its own fields, after any failover. It does not come
-/// as new again, to no consumer of the group. If it comes again, it has the fields of its line.
+/// as new again, to no consumer of the group.
 pub fn what_is_handled_stays<F>()
     ensures of_log { FileIsOfLog F }
     ensures not_new { HandledIsNotNew F }
-    ensures as_written { ComesAsWritten F }
 {}
 
 /// Each record that the producer takes to be in is to come, or pending, or in the file, or deleted,
