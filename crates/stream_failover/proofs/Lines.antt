@@ -1,4 +1,4 @@
--- What the lines of a consumer are of, where the answers to it are.
+-- What the lines of a consumer are of, if the replies to it are.
 use Rattle.std.proofs.Common.{◌≡◌, inl, inr, sym, ap, subst, ◌∙◌, ℕ, Bool, true, false, List, ◌++◌, take, drop}
 use Rattle.std.proofs.Common.{append_assoc, Option, Some, None, if◌then◌else◌}
 use Rattle.std.proofs.lemmas.List.{take-append-drop}

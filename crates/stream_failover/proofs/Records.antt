@@ -1,4 +1,4 @@
--- What stands in the log or in the file is of the records, with WAIT or without.
+-- What is in the log or in the file is of the records, with WAIT or without.
 use Rattle.std.proofs.Common.{◌≡◌, inl, inr, refl, sym, ap, subst, ℕ, zero, suc, Bool, true, false, ◌&&◌, List, []}
 use Rattle.std.proofs.Common.{◌∷◌, ◌++◌, take, drop, append_assoc, Option, Some, None, if◌then◌else◌}
 use Rattle.std.specs.Option.{is_none}

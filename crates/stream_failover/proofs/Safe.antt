@@ -453,7 +453,7 @@ module _ {F : Type 0} where
         ]
       ]
 
-  -- where it has acks many entries acks there are records, it is they
+  -- a log of so many entries is all records
   whole_log : (s : Setting F) (fit : Fit s) (m : ℕ) (w : World F) → Holds s fit m w → m ≡ length s.records
       → log w.now ≡ entries s.base s.records
   whole_log s fit m w i q =

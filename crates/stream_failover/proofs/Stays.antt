@@ -56,7 +56,7 @@ module _ {F : Type 0} where
       let P : List (Delivered F) → Type 0 = λ l. Among (e.0, Some e.1) l in
       nil_or_whole [] es e (subst P (whole_is es) h)
 
-  -- what the server answers stands in its log, and is not to come
+  -- what the server hands out is in its log, and is not to come
   pub handed : (name : Name) (n : ℕ) (pick : Id → Bool) (next : Id) (p : Phase) (k : group.World F) (e : Entry F)
       → Among (e.0, Some e.1) (entries_in (answer_for name n pick next p k))
       → Among e (after_asking name n pick next p k).seen
@@ -103,7 +103,7 @@ module _ {F : Type 0} (s : Setting F) (fit : Fit s) where
   not_filled k (Some ask_last) = refl
   not_filled k (Some (batch b)) = refl
 
-  -- a request that came to the server in another state, and whose answer the producer does not hear
+  -- a request that came to the server in another state, and whose reply the producer does not hear
   unheard : (m : ℕ) (k v : group.World F) (b : Bool) (p : Producer F) (o : Option (Request F))
       → In m (filled_by false k o) (breaks (arrived false k o p)) → In m k (breaks (arrived b v o p))
   unheard m k v b p None i = i

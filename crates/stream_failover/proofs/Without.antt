@@ -22,7 +22,7 @@ adding n more =
 abbrev pub stage_and_log : World ℕ → Stage × List (Entry ℕ)
 stage_and_log w = (w.now.producer.stage, log w.now)
 
--- the server answered that both are added, and the producer is done
+-- the server said that both are added, and the producer is done
 pub answered : stage_and_log (after two (adding 2 [])) ≡ (knows 2, entries 0 (7 ∷ 8 ∷ []))
 unfolding digits
 answered = refl
@@ -31,8 +31,8 @@ answered = refl
 pub answered_is_lost : log (after two (adding 2 (Failover 4 ∷ []))).now ≡ []
 answered_is_lost = refl
 
--- the first record is added, and the second is on the way where the master dies. If it comes to the new master after
--- that, the first can be added no more: its id is below the last one. The producer takes both to be in
+-- the first record is added, and the second is on the way as the master dies. If it comes to the new master, the first
+-- can be added no more: its id is below the last one. The producer takes both to be in
 abbrev gap : List (Event ℕ)
 gap =
     adding 1 (Plain (Send 1) ∷ Failover 4 ∷ Plain (Arrive_late 0 true) ∷ Plain (Send 0) ∷ Plain (Arrive true) ∷
@@ -68,7 +68,7 @@ pub handled_is_new : file_pending_fresh (after two (adding 1 (handling (Failover
 unfolding digits
 handled_is_new = refl
 
--- where it comes to the same consumer, that looks it up, and adds no second line
+-- if it comes to the same consumer, that looks it up, and adds no second line
 pub looked_up : file_pending_fresh (after two (adding 1 (handling (Failover 5 ∷ handling [])))) ≡ (first_one, [], [])
 unfolding digits
 looked_up = refl
@@ -88,7 +88,7 @@ unfolding digits
 line_twice = refl
 
 -- an entry that is pending is deleted, and so comes without its fields. The consumer is to acknowledge it, and does so
--- after a failover to a master that has it. Then it is in the log, and nowhere else
+-- after a failover to a master that has it. Then it is in the log, and in no other place
 abbrev deleting : List (Event ℕ)
 deleting =
     ask ∷ Plain (Take []) ∷ ask ∷ Plain (Take []) ∷ ask ∷ Plain (Take []) ∷ Plain (Else (Delete (id_text (1, 0)))) ∷ ask ∷

@@ -16,7 +16,7 @@ use Rattle.stream_failover.specs.World.{World, Event, Plain, Arrive_waits, Ask_w
 use Rattle.stream_failover.specs.World.{is_confirmed, happens, first_world}
 use Rattle.stream_failover.proofs.Without.{two, run_by, stage_and_log, file_pending_fresh, first_one}
 
--- a world in which this makes the ones who ask trust the answer to WAIT
+-- the world after the reply to WAIT, if those who ask trust it so
 abbrev waited_by : (asked said : ℕ) → Bool → List (group.World ℕ) → once.Event ℕ → once.World ℕ → World ℕ
 waited_by asked said trusts kept break w = remembers
     (if is_confirmed asked said then [] else kept)
@@ -35,7 +35,7 @@ adding n asked said more =
     Plain (Send 0) ∷ Arrive_waits true asked asked ∷ Plain Hear ∷ Plain (Send n) ∷ Arrive_waits true asked said ∷
     Plain Hear ∷ more
 
--- the answer to WAIT is not looked at: what no replica has is taken to be in
+-- the reply to WAIT is not looked at: what no replica has is taken to be in
 pub not_looked_at : stage_and_log (run_by (trusting (λ asked said. true)) (adding 2 1 0 []) first_world)
     ≡ (knows 2, entries 0 (7 ∷ 8 ∷ []))
 unfolding digits
@@ -44,7 +44,7 @@ not_looked_at = refl
 pub not_looked_at_is_lost : log (run_by (trusting (λ asked said. true)) (adding 2 1 0 (Failover 2 ∷ [])) first_world).now ≡ []
 not_looked_at_is_lost = refl
 
--- one replica confirms where two were asked for, and that is taken as confirmed
+-- two replicas were asked for and one confirms, which is taken as enough
 pub too_few : stage_and_log (run_by (trusting (λ asked said. nat_lt 0 said)) (adding 2 2 1 []) first_world)
     ≡ (knows 2, entries 0 (7 ∷ 8 ∷ []))
 unfolding digits
@@ -68,8 +68,8 @@ pub handled_early : file_pending_fresh (run_by (trusting (λ asked said. true)) 
 unfolding digits
 handled_early = refl
 
--- a WAIT confirms nothing where its connection wrote nothing before it, as one whose first request is a question. It
--- is taken as confirmed all the same
+-- a WAIT counts what its connection wrote. If that is nothing, all replicas say so, and none needs to have anything.
+-- Here it follows a question, and is taken as a confirmation of all
 abbrev wrote_nothing : World ℕ → Event ℕ → World ℕ
 wrote_nothing w (Arrive_waits executes asked said) = remembers w.kept (once.happens two w.now (Arrive executes))
 wrote_nothing w e = happens two w e
@@ -85,7 +85,7 @@ nothing_written = refl
 pub nothing_written_is_lost : log (run_by wrote_nothing (asking_again (Failover 6 ∷ [])) first_world).now ≡ []
 nothing_written_is_lost = refl
 
--- a lookup that compares the id with the greatest one in the file: it has none of these records but those behind that
+-- a lookup that compares an id with the greatest one in the file: all records up to that have a line for it
 abbrev up_to : Id → List Id → List Id
 up_to id [] = []
 up_to id (x ∷ xs) = if bytes_eq x id then x ∷ [] else x ∷ up_to id xs
@@ -142,7 +142,7 @@ pub not_synced : ids_of (moving looks_in_file
 unfolding digits
 not_synced = refl
 
--- a lookup that forgets the entries before it in the same answer
+-- a lookup that forgets the entries before it in the same reply
 abbrev looks_before : List Verdict → Option (Answer ℕ) → Consumer ℕ → Consumer ℕ
 looks_before verdicts None c = c
 looks_before verdicts (Some a) c = record (takes verdicts (Some a) c) {

@@ -36,30 +36,30 @@ abbrev pub NoOtherAcks : {F : Type 0} → List (Event F) → Type 0
 NoOtherAcks [] = Unit {0}
 NoOtherAcks (e ∷ es) = NoneByOthers e × NoOtherAcks es
 
--- no id stands twice in the file, with WAIT or without
+-- no id is twice in the file, with WAIT or without
 abbrev pub FileOnce : Type 0 → Type 0
 FileOnce F = (s : Setting F) (events : List (Event F)) → Once (ids_of (after s events).now.consumer.file)
 
--- nor does it with any server, whatever that hands out: one that forgets all, or gives one id to two entries
+-- nor is it with any server, whatever that hands out: one that forgets all, or gives one id to two entries
 abbrev pub FileOnceOfAnyServer : Type 0 → Type 0
 FileOnceOfAnyServer F = (moves : List (Move F)) → Once (ids_of (moved_on moves new_consumer).file)
 
--- what stands in the log is of the records, with its own fields, with WAIT or without
+-- what is in the log is one of the records, with its own fields, with WAIT or without
 abbrev pub LogIsOfRecords : Type 0 → Type 0
 LogIsOfRecords F = (s : Setting F) (events : List (Event F)) (e : Entry F)
     → Among e (log (after s events).now) → Among e (entries s.base s.records)
 
--- so is what stands in the file
+-- so is what is in the file
 abbrev pub FileIsOfRecords : Type 0 → Type 0
 FileIsOfRecords F = (s : Setting F) (events : List (Event F)) (e : Entry F)
     → Among e (after s events).now.consumer.file → Among e (entries s.base s.records)
 
--- the entries that an answer on the way hands out
+-- the entries that a reply on the way hands out
 abbrev pub on_the_way : {F : Type 0} → Option (Answer F) → List (Delivered F)
 on_the_way None = []
 on_the_way (Some a) = entries_in a
 
--- an entry that comes and whose id stands in the file has the fields that stand there, with WAIT or without
+-- an entry that comes, and whose id is in the file, has the fields that are there, with WAIT or without
 abbrev pub ComesAsWritten : Type 0 → Type 0
 ComesAsWritten F = (s : Setting F) → Fit s → (events : List (Event F)) (e : Entry F) (fields : F)
     → Among e (after s events).now.consumer.file
@@ -75,12 +75,12 @@ abbrev pub KnownStaysIn : Type 0 → Type 0
 KnownStaysIn F = (s : Setting F) → Fit s → (events more : List (Event F)) → AllWait events → AllWait more
     → known_in (after s events).now.producer.stage ≤ length (log (run s more (after s events)).now)
 
--- what stands in the file is of the log, with its own fields, whatever happens then
+-- what is in the file is in the log, with its own fields, after any failover
 abbrev pub FileIsOfLog : Type 0 → Type 0
 FileIsOfLog F = (s : Setting F) → Fit s → (events : List (Event F)) → AllWait events → (e : Entry F)
     → Among e (after s events).now.consumer.file → Among e (log (after s events).now)
 
--- what stands in the file is not to come: no failover makes it new again, so no other consumer is given it as new
+-- what is in the file is not to come: no failover makes it new again. So no consumer is given it as new
 abbrev pub HandledIsNotNew : Type 0 → Type 0
 HandledIsNotNew F = (s : Setting F) → Fit s → (events : List (Event F)) → AllWait events → (e : Entry F)
     → Among e (after s events).now.consumer.file → Among e (after s events).now.stream.fresh → ⊥

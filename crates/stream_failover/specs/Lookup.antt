@@ -13,7 +13,7 @@ unwritten ids (e ∷ es) = if listed ids e.0 then unwritten ids es else e ∷ un
 abbrev pub lines_of : {F : Type 0} → Consumer F → List (Entry F)
 lines_of c = c.file ++ c.lines
 
--- an answer comes to it. It is as in stream_once, but an entry whose id has a line is acknowledged without a second
+-- a reply comes to it. It is as in stream_once, but an entry whose id has a line is acknowledged without a second
 abbrev pub looks_up : {F : Type 0} → List Verdict → Option (Answer F) → Consumer F → Consumer F
 looks_up verdicts None c = c
 looks_up verdicts (Some a) c = record (takes verdicts (Some a) c) {
@@ -22,9 +22,9 @@ looks_up verdicts (Some a) c = record (takes verdicts (Some a) c) {
 
 -- what a consumer goes through with a server of which nothing is known
 pub data Move (F : Type 0) : Type 0 where
-  -- this answer is on the way to it, whatever it hands out
+  -- this reply is on the way to it, whatever it hands out
   Told : (answer : Answer F) → Move F
-  -- the answer comes to it, and its handler says this of the entries
+  -- the reply comes to it, and its handler says this of the entries
   Takes : (verdicts : List Verdict) → Move F
   -- it commits
   Commits : Move F

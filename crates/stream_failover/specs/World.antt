@@ -20,7 +20,7 @@ first_world = record { now = once.first_world; kept = empty_world ∷ [] }
 
 -- what may happen next
 pub data Event (F : Type 0) : Type 0 where
-  -- as in stream_once, but the consumer looks up what it takes. Where `Arrive` and `Ask` come so, no WAIT is with them
+  -- as in stream_once, but the consumer looks up what it takes. With an `Arrive` or `Ask` that comes so, no WAIT is
   Plain : (event : once.Event F) → Event F
   -- what the producer sent comes to the server, with a WAIT for `asked` replicas after it; `said` of them confirm
   Arrive_waits : (executes : Bool) (asked said : ℕ) → Event F
@@ -60,14 +60,14 @@ remembers kept w = record { now = w; kept = w.stream ∷ kept }
 abbrev pub is_confirmed : (asked said : ℕ) → Bool
 is_confirmed asked said = nat_lt 0 asked && not (nat_lt said asked)
 
--- the world once WAIT was answered. If it was confirmed, the server goes back to no state before. If not, it is to
+-- the world after the reply to WAIT. If it was confirmed, the server goes back to no state before. If not, it is to
 -- the one who asked as if its connection broke
 abbrev pub waited : {F : Type 0} → Setting F → (asked said : ℕ) → List (group.World F) → once.Event F → once.World F → World F
 waited s asked said kept break w = remembers
     (if is_confirmed asked said then [] else kept)
     (if is_confirmed asked said then w else once.happens s w break)
 
--- what an event of stream_once makes of its world, where the consumer looks up
+-- what an event of stream_once makes of its world, with a consumer that looks up
 abbrev pub plainly : {F : Type 0} → Setting F → once.World F → once.Event F → once.World F
 plainly s w (Take verdicts) = record w { consumer = looks_up verdicts w.consumer.answer w.consumer }
 plainly s w event = once.happens s w event

@@ -6,16 +6,16 @@ ghost use Rattle.stream_failover.specs.Law.{FileIsOfRecords, FileOnce, FileOnceO
 ghost use Rattle.stream_failover.specs.Law.{HandledIsNotNew, KnownStaysIn, LogIsFirstRecords};
 ghost use Rattle.stream_failover.specs.Law.{LogIsOfRecords, NothingConfirmedIsLost};
 
-/// No id stands twice in the file of a consumer that looks an entry up in it before it adds a line.
-/// It is so with WAIT or without, and with any server, whatever that hands out.
+/// No id is twice in the file of a consumer that looks an entry up in it before it adds a line. It
+/// is so with WAIT or without, and with any server, whatever that hands out.
 pub fn nothing_comes_out_twice<F>()
     ensures once { FileOnce F }
     ensures any { FileOnceOfAnyServer F }
 {}
 
-/// What stands in the log or in the file is one of the records, with its own fields. So an entry
-/// that comes and whose id is in the file has the fields that are there, if the ids fit into 64
-/// bits. It is so with WAIT or without.
+/// Each entry of the log and of the file is one of the records, with its own fields. So one that
+/// comes, and whose id is in the file, has the fields that are there, if the ids fit into 64 bits.
+/// It is so with WAIT or without.
 pub fn nothing_is_made_up<F>()
     ensures log { LogIsOfRecords F }
     ensures file { FileIsOfRecords F }
@@ -29,7 +29,7 @@ pub fn what_is_confirmed_stays<F>()
     ensures known { KnownStaysIn F }
 {}
 
-/// What stands in the file is of the log, with its own fields, after any failover. It does not come
+/// Each entry of the file is in the log, with its own fields, after any failover. It does not come
 /// as new again, to no consumer of the group.
 pub fn what_is_handled_stays<F>()
     ensures of_log { FileIsOfLog F }
