@@ -4,6 +4,7 @@ pub mod Lines
 pub mod Stays
 pub mod Records
 pub mod Safe
+pub mod Undeleted
 mod Sample
 mod Without
 mod Wrong

@@ -4,7 +4,7 @@ use Rattle.std.proofs.Common.{true, false, ◌&&◌, List, [], ◌∷◌, ◌++�
 use Rattle.std.proofs.Common.{None, if◌then◌else◌}
 use Rattle.std.specs.Option.{is_none}
 use Rattle.std.proofs.lemmas.List.{length-append, length-map}
-use Rattle.stream_group.specs.Worker.{Id, Entry, Verdict, Phase, Answer, acknowledged, entries_in, handled_in, acks_in}
+use Rattle.stream_group.specs.Worker.{Id, Entry, Verdict, Phase, own, claiming, reading, Answer, acknowledged, entries_in, handled_in, acks_in}
 use Rattle.stream_group.specs.Group.{Name, Pending, Numbers, id_text, is_below, fits, listed, ids_of, pending_ids}
 use Rattle.stream_group.specs.World.{item, ack_comes, log_of, Append, Delete, Read, Reread, Claim, Claim_ids, Comes}
 use Rattle.stream_group.specs.World.{Commit, Acknowledge, Ack_comes, Go_back, Crash, appended}
@@ -274,18 +274,73 @@ module _ {F : Type 0} where
   acked_apart name w false k i = i
   acked_apart name w true k i = answered w.stream.acks k w.consumer i
 
+  asked_now : (s : Setting F) (n : ℕ) (pick : Id → Bool) (next : Id) (w : once.World F) (b : Bool)
+      → Safe w.stream.acks w.stream w.consumer
+      → Safe (if b then asked s.name n pick next w else w).stream.acks
+      (if b then asked s.name n pick next w else w).stream (if b then asked s.name n pick next w else w).consumer
+  asked_now s n pick next w false i = i
+  asked_now s n pick next w true i =
+      let p : Phase = w.consumer.machine.phase in
+      let v : group.World F = after_asking s.name n pick next p w.stream in
+      let j = served v w.stream w.consumer (step_served s.name n pick next p w.stream) i in
+      record {
+        lost = j.lost;
+        told = serves_told s.name n pick next p w.stream;
+        to_commit = j.to_commit;
+        to_ack = j.to_ack;
+        sent = j.sent;
+      }
+
+  pub after_deleted : (name : Name) (n : ℕ) (pick : Id → Bool) (next : Id) (p : Phase) (w : group.World F)
+      → (after_asking name n pick next p w).deleted ≡ w.deleted
+  after_deleted name n pick next (own from) w = refl
+  after_deleted name n pick next (claiming from) w = refl
+  after_deleted name n pick next (reading rounds) w = refl
+
+  -- a read that is not confirmed, while nothing is deleted
+  asked_loose : (s : Setting F) (n : ℕ) (pick : Id → Bool) (next : Id) (w : once.World F) (b : Bool)
+      → w.stream.deleted ≡ [] → (k : group.World F) → Safe w.stream.acks k w.consumer
+      → Safe (if b then asked s.name n pick next w else w).stream.acks k
+      (if b then asked s.name n pick next w else w).consumer
+  asked_loose s n pick next w false q k i = i
+  asked_loose s n pick next w true q k i =
+      let p : Phase = w.consumer.machine.phase in
+      let v : group.World F = after_asking s.name n pick next p w.stream in
+      let j = fewer w.stream.acks v.acks k w.consumer (step_served s.name n pick next p w.stream).acks i in
+      record {
+        lost = j.lost;
+        told = λ id h.
+            let P : List Id → Type 0 = λ l. Among id l in
+            absurd (subst P (after_deleted s.name n pick next p w.stream ∙ q)
+            (serves_told s.name n pick next p w.stream id h));
+        to_commit = j.to_commit;
+        to_ack = j.to_ack;
+        sent = j.sent;
+      }
+
+  -- a read without WAIT is while nothing is deleted
+  abbrev pub MayAsk : once.World F → once.Event F → Type 0
+  MayAsk w (Ask n pick next) = w.stream.deleted ≡ []
+  MayAsk w event = Unit {0}
+
+  abbrev pub May : World F → Event F → Type 0
+  May w (Plain event) = MayAsk w.now event
+  May w event = Unit {0}
+
   -- an event, in the state that the server has
-  safe_now : (s : Setting F) (w : once.World F) (e : once.Event F) → Waits (Plain e) → NoOtherAck e
+  safe_now : (s : Setting F) (w : once.World F) (e : once.Event F) → MayAsk w e → NoOtherAck e
       → Safe w.stream.acks w.stream w.consumer
       → Safe (plainly s w e).stream.acks (plainly s w e).stream (plainly s w e).consumer
   safe_now s w (Send n) h a i = i
-  safe_now s w (Arrive b) h a i = absurd h
+  safe_now s w (Arrive b) h a i =
+      let o : Option (Request F) = w.producer.sent in
+      served (filled_by b w.stream o) w.stream w.consumer (step_filled b w.stream o) i
   safe_now s w (Arrive_late j b) h a i =
       let o : Option (Request F) = item w.producer.late j in
       served (filled_by b w.stream o) w.stream w.consumer (step_filled b w.stream o) i
   safe_now s w Hear h a i = i
   safe_now s w Break h a i = i
-  safe_now s w (Ask n pick next) h a i = absurd h
+  safe_now s w (Ask n pick next) h a i = asked_now s n pick next w (is_idle w.consumer) i
   safe_now s w (Take vs) h a i = looked w.stream.acks w.stream w.consumer vs w.consumer.answer i.told i
   safe_now s w Sync h a i =
       synced w.stream.acks w.stream w.consumer
@@ -299,17 +354,19 @@ module _ {F : Type 0} where
   safe_now s w (Else e) h a i = else_now w.stream w.consumer e a i
 
   -- the same in a state that it has not
-  safe_apart : (s : Setting F) (w : once.World F) (e : once.Event F) → Waits (Plain e) → NoOtherAck e
+  safe_apart : (s : Setting F) (w : once.World F) (e : once.Event F) → MayAsk w e → NoOtherAck e
       → (k : group.World F) → Safe w.stream.acks k w.consumer
       → Safe (plainly s w e).stream.acks k (plainly s w e).consumer
   safe_apart s w (Send n) h a k i = i
-  safe_apart s w (Arrive b) h a k i = absurd h
+  safe_apart s w (Arrive b) h a k i =
+      let o : Option (Request F) = w.producer.sent in
+      fewer w.stream.acks (filled_by b w.stream o).acks k w.consumer (step_filled b w.stream o).acks i
   safe_apart s w (Arrive_late j b) h a k i =
       let o : Option (Request F) = item w.producer.late j in
       fewer w.stream.acks (filled_by b w.stream o).acks k w.consumer (step_filled b w.stream o).acks i
   safe_apart s w Hear h a k i = i
   safe_apart s w Break h a k i = i
-  safe_apart s w (Ask n pick next) h a k i = absurd h
+  safe_apart s w (Ask n pick next) h a k i = asked_loose s n pick next w (is_idle w.consumer) h k i
   safe_apart s w (Take vs) h a k i = looked w.stream.acks k w.consumer vs w.consumer.answer i.told i
   safe_apart s w Sync h a k i =
       synced w.stream.acks k w.consumer (is_none w.consumer.answer && is_empty w.consumer.machine.to_acknowledge) i
@@ -350,23 +407,6 @@ module _ {F : Type 0} where
       ] in
       case (is_confirmed asked said)
 
-  asked_now : (s : Setting F) (n : ℕ) (pick : Id → Bool) (next : Id) (w : once.World F) (b : Bool)
-      → Safe w.stream.acks w.stream w.consumer
-      → Safe (if b then asked s.name n pick next w else w).stream.acks
-      (if b then asked s.name n pick next w else w).stream (if b then asked s.name n pick next w else w).consumer
-  asked_now s n pick next w false i = i
-  asked_now s n pick next w true i =
-      let p : Phase = w.consumer.machine.phase in
-      let v : group.World F = after_asking s.name n pick next p w.stream in
-      let j = served v w.stream w.consumer (step_served s.name n pick next p w.stream) i in
-      record {
-        lost = j.lost;
-        told = serves_told s.name n pick next p w.stream;
-        to_commit = j.to_commit;
-        to_ack = j.to_ack;
-        sent = j.sent;
-      }
-
   asked_apart : (s : Setting F) (n : ℕ) (pick : Id → Bool) (next : Id) (w : once.World F) (b : Bool)
       (k : group.World F) → Safe w.stream.acks k w.consumer
       → Safe (if b then asked s.name n pick next w else w).stream.acks k
@@ -403,7 +443,7 @@ module _ {F : Type 0} where
         each = λ k h. cut_off acks k w.now.consumer (i.each k h);
       }
 
-  step : (s : Setting F) (w : World F) (e : Event F) → Waits e → NoneByOthers e → AllSafe w → AllSafe (happens s w e)
+  pub step : (s : Setting F) (w : World F) (e : Event F) → May w e → NoneByOthers e → AllSafe w → AllSafe (happens s w e)
   step s w (Plain e) h a i =
       remembered w.kept (plainly s w.now e) (safe_now s w.now e h a i.now)
       (λ k m. safe_apart s w.now e h a k (i.each k m))
@@ -411,12 +451,34 @@ module _ {F : Type 0} where
   step s w (Ask_waits n pick next asked said) h a i = asks s w n pick next asked said i
   step s w (Failover j) h a i = fails w j (item w.kept j) refl i
 
+  -- who waits need not know that nothing is deleted
+  waits_plain : (w : once.World F) (e : once.Event F) → Waits (Plain e) → MayAsk w e
+  waits_plain w (Send n) h = tt
+  waits_plain w (Arrive b) h = tt
+  waits_plain w (Arrive_late j b) h = tt
+  waits_plain w Hear h = tt
+  waits_plain w Break h = tt
+  waits_plain w (Ask n pick next) h = absurd h
+  waits_plain w (Take vs) h = tt
+  waits_plain w Sync h = tt
+  waits_plain w Acknowledge_now h = tt
+  waits_plain w Acknowledge_later h = tt
+  waits_plain w Reconnect h = tt
+  waits_plain w (Restart kept n) h = tt
+  waits_plain w (Else e) h = tt
+
+  waits_may : (w : World F) (e : Event F) → Waits e → May w e
+  waits_may w (Plain e) h = waits_plain w.now e h
+  waits_may w (Arrive_waits b asked said) h = tt
+  waits_may w (Ask_waits n pick next asked said) h = tt
+  waits_may w (Failover j) h = tt
+
   steps : (s : Setting F) (es : List (Event F)) (w : World F) → AllWait es → NoOtherAcks es → AllSafe w
       → AllSafe (run s es w)
   steps s [] w h a i = i
-  steps s (e ∷ es) w h a i = steps s es (happens s w e) h.1 a.1 (step s w e h.0 a.0 i)
+  steps s (e ∷ es) w h a i = steps s es (happens s w e) h.1 a.1 (step s w e (waits_may w e h.0) a.0 i)
 
-  start : AllSafe first_world
+  pub start : AllSafe first_world
   start =
       let i : Safe [] (first_world {F = F}).now.stream (first_world {F = F}).now.consumer = record {
         lost = λ id h. absurd h;

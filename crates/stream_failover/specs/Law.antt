@@ -2,10 +2,11 @@
 use Rattle.std.specs.Prelude.{◌≡◌, ◌≤◌, List, [], ◌∷◌, length, take, Option, Some, None}
 use Rattle.stream_group.specs.Worker.{Entry, Delivered, Answer, entries_in}
 use Rattle.stream_group.specs.Group.{ids_of}
+use Rattle.stream_group.specs.World.{Delete}
 use Rattle.stream_group.specs.Law.{Among}
 use Rattle.stream_once.specs.Feed.{entries, known_in}
 use Rattle.stream_once.specs.Consumer.{new_consumer}
-use Rattle.stream_once.specs.World.{Setting, Arrive, Ask}
+use Rattle.stream_once.specs.World.{Setting, Arrive, Ask, Else}
 use Rattle.stream_once.specs.Law.{Fit, AreFirst, Once, IsDone, IsKept, IsDrained, HasEachOnce, log}
 use Rattle.stream_once.specs.Law.{NoOtherAck}
 use Rattle.stream_failover.specs.Lookup.{Move, moved_on}
@@ -64,6 +65,22 @@ abbrev pub ComesAsWritten : Type 0 → Type 0
 ComesAsWritten F = (s : Setting F) → Fit s → (events : List (Event F)) (e : Entry F) (fields : F)
     → Among e (after s events).now.consumer.file
     → Among (e.0, Some fields) (on_the_way (after s events).now.consumer.answer) → fields ≡ e.1
+
+-- nobody deletes
+abbrev pub NoDelete : {F : Type 0} → Event F → Type 0
+NoDelete (Plain (Else (Delete id))) = ⊥
+NoDelete event = Unit {0}
+
+-- so it is of each of these
+abbrev pub NoDeletes : {F : Type 0} → List (Event F) → Type 0
+NoDeletes [] = Unit {0}
+NoDeletes (e ∷ es) = NoDelete e × NoDeletes es
+
+-- with WAIT or without, each entry of the log is to come, or pending, or in the file, if nobody deletes and nobody else
+-- acknowledges. So what a failover loses is no longer in the log
+abbrev pub LogIsKept : Type 0 → Type 0
+LogIsKept F = (s : Setting F) → Fit s → (events : List (Event F)) → NoOtherAcks events → NoDeletes events
+    → (e : Entry F) → Among e (log (after s events).now) → IsKept (after s events).now e
 
 -- the log is the first of the records, in order
 abbrev pub LogIsFirstRecords : Type 0 → Type 0

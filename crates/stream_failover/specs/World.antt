@@ -56,7 +56,8 @@ fails_over w (Some earlier) = record w {
 abbrev pub remembers : {F : Type 0} → List (group.World F) → once.World F → World F
 remembers kept w = record { now = w; kept = w.stream ∷ kept }
 
--- as many replicas as were asked for, or more, have all that the server had when WAIT came
+-- as many replicas as were asked for, or more, have all that the server had when WAIT came. How many there will be is
+-- said at once: a failover before they are is one after a WAIT that is not confirmed
 abbrev pub is_confirmed : (asked said : ℕ) → Bool
 is_confirmed asked said = nat_lt 0 asked && not (nat_lt said asked)
 

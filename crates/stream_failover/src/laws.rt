@@ -4,7 +4,7 @@
 ghost use Rattle.stream_failover.specs.Law.{ComesAsWritten, EachComesOutOnce, FileIsOfLog};
 ghost use Rattle.stream_failover.specs.Law.{FileIsOfRecords, FileOnce, FileOnceOfAnyServer};
 ghost use Rattle.stream_failover.specs.Law.{HandledIsNotNew, KnownStaysIn, LogIsFirstRecords};
-ghost use Rattle.stream_failover.specs.Law.{LogIsOfRecords, NothingConfirmedIsLost};
+ghost use Rattle.stream_failover.specs.Law.{LogIsKept, LogIsOfRecords, NothingConfirmedIsLost};
 
 /// No id is twice in the file of a consumer that looks an entry up in it before it adds a line. It
 /// is so with WAIT or without, and with any server, whatever that hands out.
@@ -20,6 +20,13 @@ pub fn nothing_is_made_up<F>()
     ensures log { LogIsOfRecords F }
     ensures file { FileIsOfRecords F }
     ensures as_written { ComesAsWritten F }
+{}
+
+/// Each entry of the log is to come, or pending, or in the file, with WAIT or without. The premises
+/// are that nobody deletes (`NoDeletes`), and nobody else acknowledges (`NoOtherAcks`). So a
+/// failover loses only entries that are gone from the log.
+pub fn nothing_of_the_log_is_lost<F>()
+    ensures { LogIsKept F }
 {}
 
 /// The log is the first of the records, in order. As many records as the producer takes to be in
