@@ -1,5 +1,6 @@
 -- That a failover loses nothing that was confirmed, and brings nothing twice.
 pub mod Looked
+pub mod Grows
 pub mod Lines
 pub mod Stays
 pub mod Records

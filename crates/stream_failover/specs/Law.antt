@@ -45,6 +45,11 @@ FileOnce F = (s : Setting F) (events : List (Event F)) → Once (ids_of (after s
 abbrev pub FileOnceOfAnyServer : Type 0 → Type 0
 FileOnceOfAnyServer F = (moves : List (Move F)) → Once (ids_of (moved_on moves new_consumer).file)
 
+-- the file only grows, at its end
+abbrev pub FileGrows : Type 0 → Type 0
+FileGrows F = (s : Setting F) (events more : List (Event F))
+    → AreFirst (after s events).now.consumer.file (run s more (after s events)).now.consumer.file
+
 -- what is in the log is one of the records, with its own fields, with WAIT or without
 abbrev pub LogIsOfRecords : Type 0 → Type 0
 LogIsOfRecords F = (s : Setting F) (events : List (Event F)) (e : Entry F)

@@ -2,15 +2,17 @@
 //! three laws have the premises `Fit` and `AllWait`: the ids fit into 64 bits, and producer and
 //! consumer ask WAIT.
 ghost use Rattle.stream_failover.specs.Law.{ComesAsWritten, EachComesOutOnce, FileIsOfLog};
-ghost use Rattle.stream_failover.specs.Law.{FileIsOfRecords, FileOnce, FileOnceOfAnyServer};
-ghost use Rattle.stream_failover.specs.Law.{HandledIsNotNew, KnownStaysIn, LogIsFirstRecords};
-ghost use Rattle.stream_failover.specs.Law.{LogIsKept, LogIsOfRecords, NothingConfirmedIsLost};
+ghost use Rattle.stream_failover.specs.Law.{FileGrows, FileIsOfRecords, FileOnce};
+ghost use Rattle.stream_failover.specs.Law.{FileOnceOfAnyServer, HandledIsNotNew, KnownStaysIn};
+ghost use Rattle.stream_failover.specs.Law.{LogIsFirstRecords, LogIsKept, LogIsOfRecords};
+ghost use Rattle.stream_failover.specs.Law.{NothingConfirmedIsLost};
 
 /// No id is twice in the file of a consumer that looks an entry up in it before it adds a line. It
-/// is so with WAIT or without, and with any server, whatever that hands out.
+/// is so with WAIT or without, and with any server, whatever that hands out. The file only grows.
 pub fn nothing_comes_out_twice<F>()
     ensures once { FileOnce F }
     ensures any { FileOnceOfAnyServer F }
+    ensures grows { FileGrows F }
 {}
 
 /// Each entry of the log and of the file is one of the records, with its own fields. So one that
@@ -23,8 +25,8 @@ pub fn nothing_is_made_up<F>()
 {}
 
 /// Each entry of the log is to come, or pending, or in the file, with WAIT or without. The premises
-/// are that nobody deletes (`NoDeletes`), and nobody else acknowledges (`NoOtherAcks`). So a
-/// failover loses only entries that are gone from the log.
+/// are `Fit`, that nobody deletes (`NoDeletes`), and that nobody else acknowledges (`NoOtherAcks`).
+/// So a failover loses only entries that are gone from the log.
 pub fn nothing_of_the_log_is_lost<F>()
     ensures { LogIsKept F }
 {}
