@@ -2,10 +2,12 @@
 pub mod Looked
 pub mod Grows
 pub mod Lines
+pub mod Added
 pub mod Stays
 pub mod Records
 pub mod Safe
 pub mod Undeleted
+pub mod Many
 mod Sample
 mod Without
 mod Wrong

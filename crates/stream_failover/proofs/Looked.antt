@@ -87,7 +87,7 @@ module _ {F : Type 0} where
       case (listed ids x.0)
 
   -- no id has two lines
-  abbrev Single : Consumer F → Type 0
+  abbrev pub Single : Consumer F → Type 0
   Single c = Once (ids_of (lines_of c))
 
   looking : (c : Consumer F) (vs : List Verdict) (o : Option (Answer F)) → Single c → Single (looks_up vs o c)
@@ -125,7 +125,7 @@ module _ {F : Type 0} where
   move_on [] c h = h
   move_on (m ∷ ms) c h = move_on ms (moved c m) (move c m h)
 
-  in_file : (c : Consumer F) → Single c → Once (ids_of c.file)
+  pub in_file : (c : Consumer F) → Single c → Once (ids_of c.file)
   in_file c h = once_left (ids_of c.file) (ids_of c.lines) (subst Once (ids_both c.file c.lines) h)
 
   -- the same in the world
@@ -162,7 +162,7 @@ module _ {F : Type 0} where
   either w v true h k = h
   either w v false h k = k
 
-  step : (s : Setting F) (w : World F) (e : Event F) → Single w.now.consumer → Single (happens s w e).now.consumer
+  pub step : (s : Setting F) (w : World F) (e : Event F) → Single w.now.consumer → Single (happens s w e).now.consumer
   step s w (Plain e) h = plain s w.now e h
   step s w (Arrive_waits b asked said) h =
       let v : once.World F = once.happens s w.now (Arrive b) in

@@ -32,7 +32,8 @@ use Rattle.stream_failover.specs.World.{remembers, is_confirmed, plainly, happen
 use Rattle.stream_failover.specs.Law.{after, Waits, AllWait, NoneByOthers, NoOtherAcks, NothingConfirmedIsLost}
 use Rattle.stream_failover.specs.Law.{EachComesOutOnce}
 use Rattle.stream_failover.proofs.Looked.{unwritten_covers, once_on}
-use Rattle.stream_failover.proofs.Stays.{Holds, known_stays, known_in_log, split, distinct, file_in_seen}
+use Rattle.stream_failover.proofs.Added.{known_in_log, split, distinct}
+use Rattle.stream_failover.proofs.Stays.{Holds, known_stays, file_in_seen}
 
 -- each of the first is one of the others
 abbrev Fewer : List (Name × List Id) → List (Name × List Id) → Type 0
@@ -508,7 +509,7 @@ module _ {F : Type 0} where
             | inl f ↦
                 (let t = among_of_map (λ (x : Entry F). x.0) e.0 w.now.consumer.file f in
                 let P : Entry F → Type 0 = λ x. Among x w.now.consumer.file in
-                inr (inr (inl (subst P (same_entry (log w.now) (distinct s fit m w i) t.x e
+                inr (inr (inl (subst P (same_entry (log w.now) (distinct s fit m w i.logs) t.x e
                 (among_left t.x k.seen k.fresh (file_in_seen s fit m w i t.x t.within)) h t.is) t.within))))
             | inr g ↦ inr (inr (inr g))
           ]
@@ -519,7 +520,7 @@ module _ {F : Type 0} where
   whole_log : (s : Setting F) (fit : Fit s) (m : ℕ) (w : World F) → Holds s fit m w → m ≡ length s.records
       → log w.now ≡ entries s.base s.records
   whole_log s fit m w i q =
-      let r = split s fit m w i in
+      let r = split s fit m w i.logs in
       let many : length (entries s.base s.records) ≡ length s.records =
       length-map (numbered s.base s.records) as_entry ∙ length_numbered s.base s.records in
       let sum : length (log w.now) + length r.0 ≡ length s.records =
@@ -527,7 +528,7 @@ module _ {F : Type 0} where
       let none : (l : List (Entry F)) → length l ≤ 0 → log w.now ++ l ≡ log w.now
       = λ l. elim l as (λ l. length l ≤ 0 → log w.now ++ l ≡ log w.now)
       [ [] ↦ λ h. append_nil (log w.now) | x ∷ xs ↦ λ h. absurd (omega (arith, h)) ] in
-      sym (none r.0 (omega (arith, sum, q, known_in_log s fit m w i))) ∙ r.1
+      sym (none r.0 (omega (arith, sum, q, known_in_log s fit m w i.logs))) ∙ r.1
 
 pub nothing_confirmed_is_lost : {F : Type 0} → NothingConfirmedIsLost F
 nothing_confirmed_is_lost {F} s fit es more h k a b e m =
@@ -535,10 +536,10 @@ nothing_confirmed_is_lost {F} s fit es more h k a b e m =
     let v : World F = run s more w in
     let n : ℕ = known_in w.now.producer.stage in
     let i = known_stays s fit es more h k in
-    let r = split s fit n v i in
+    let r = split s fit n v i.logs in
     let P : List (Entry F) → Type 0 = λ l. Among e (take n l) in
     is_kept s fit n v i (steps s more w k b (steps s es first_world h a start)) e
-    (among_front n (log v.now) r.0 e (known_in_log s fit n v i) (subst P (sym r.1) m))
+    (among_front n (log v.now) r.0 e (known_in_log s fit n v i.logs) (subst P (sym r.1) m))
 
 pub each_comes_out_once : {F : Type 0} → EachComesOutOnce F
 each_comes_out_once {F} s fit es more h k a b all_in drained none =

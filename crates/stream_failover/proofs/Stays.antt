@@ -1,4 +1,4 @@
--- What is confirmed is in each state that the server may go back to.
+-- What is in the file was handed out in each state that the server may go back to.
 use Rattle.std.proofs.Common.{◌≡◌, inl, inr, refl, sym, ap, subst, ◌∙◌, ℕ, ◌≤◌, arith, Bool, true, false}
 use Rattle.std.proofs.Common.{not, ◌&&◌, List, [], ◌∷◌, ◌++◌, map, filter, length, Option}
 use Rattle.std.proofs.Common.{Some, None, if◌then◌else◌}
@@ -27,6 +27,7 @@ use Rattle.stream_failover.specs.World.{World, Event, Plain, Arrive_waits, Ask_w
 use Rattle.stream_failover.specs.World.{remembers, is_confirmed, plainly, happens, run, first_world}
 use Rattle.stream_failover.specs.Law.{after, Waits, AllWait, LogIsFirstRecords, KnownStaysIn, FileIsOfLog}
 use Rattle.stream_failover.specs.Law.{HandledIsNotNew}
+use Rattle.stream_failover.proofs.Added.{In, Logs, logs_after, first_logs, raised, known_in_log, split, distinct_in, distinct}
 use Rattle.stream_failover.proofs.Lines.{Lines, more, taken, synced, restarted, cut_off, answered}
 
 module _ {F : Type 0} where
@@ -79,83 +80,6 @@ module _ {F : Type 0} where
   Read k c = Lines (Seen k) c
 
 module _ {F : Type 0} (s : Setting F) (fit : Fit s) where
-  -- the log is the first m records, or more, and what the producer takes to be in is
-  pub record In (m : ℕ) (k : group.World F) (p : Producer F) : Type 0 where
-    pub kept : KeptOf s fit k
-    pub fed : Fed s fit (length kept.added) p
-    pub enough : m ≤ length kept.added
-
-  abbrev inv : (m : ℕ) (w : once.World F) → In m w.stream w.producer → Inv s fit w
-  inv m w i = record { kept = i.kept; fed = i.fed }
-
-  fed_after : (m : ℕ) (w : once.World F) (e : once.Event F) → In m w.stream w.producer
-      → In m (once.happens s w e).stream (once.happens s w e).producer
-  fed_after m w e i =
-      let n = each s fit w (inv m w i) e in
-      record { kept = n.inv.kept; fed = n.inv.fed; enough = omega (arith, i.enough, n.grows) }
-
-  -- the world, if the server were in this state
-  abbrev at : once.World F → group.World F → once.World F
-  at w k = record w { stream = k }
-
-  not_filled : (k : group.World F) (o : Option (Request F)) → filled_by false k o ≡ k
-  not_filled k None = refl
-  not_filled k (Some ask_last) = refl
-  not_filled k (Some (batch b)) = refl
-
-  -- a request that came to the server in another state, and whose reply the producer does not hear
-  unheard : (m : ℕ) (k v : group.World F) (b : Bool) (p : Producer F) (o : Option (Request F))
-      → In m (filled_by false k o) (breaks (arrived false k o p)) → In m k (breaks (arrived b v o p))
-  unheard m k v b p None i = i
-  unheard m k v b p (Some ask_last) i = i
-  unheard m k v b p (Some (batch r)) i = i
-
-  now_fed : (m : ℕ) (k : group.World F) (w : once.World F) (b : Bool) → In m k w.producer
-      → In m k (if b then acknowledges s.name w else w).producer
-  now_fed m k w true i = i
-  now_fed m k w false i = i
-
-  asked_fed : (m : ℕ) (k : group.World F) (n : ℕ) (pick : Id → Bool) (next : Id) (w : once.World F) (b : Bool)
-      → In m k w.producer → In m k (if b then asked s.name n pick next w else w).producer
-  asked_fed m k n pick next w true i = i
-  asked_fed m k n pick next w false i = i
-
-  -- the producer's side of an event, in a state that the server has not
-  fed_apart : (m : ℕ) (w : once.World F) (e : once.Event F) → Waits (Plain e) → (k : group.World F)
-      → In m k w.producer → In m k (plainly s w e).producer
-  fed_apart m w (Send n) h k i = fed_after m (at w k) (Send n) i
-  fed_apart m w (Arrive b) h k i = absurd h
-  fed_apart m w (Arrive_late j b) h k i =
-      let P : group.World F → Type 0 = λ k. In m k (plainly s w (Arrive_late j b)).producer in
-      subst P (not_filled k (item w.producer.late j)) (fed_after m (at w k) (Arrive_late j false) i)
-  fed_apart m w Hear h k i = fed_after m (at w k) Hear i
-  fed_apart m w Break h k i = fed_after m (at w k) Break i
-  fed_apart m w (Ask n pick next) h k i = absurd h
-  fed_apart m w (Take vs) h k i = i
-  fed_apart m w Sync h k i = i
-  fed_apart m w Acknowledge_now h k i = now_fed m k w (is_none w.consumer.answer) i
-  fed_apart m w Acknowledge_later h k i = i
-  fed_apart m w Reconnect h k i = i
-  fed_apart m w (Restart kept n) h k i = i
-  fed_apart m w (Else e) h k i = i
-
-  -- the same in the state that it has
-  fed_now : (m : ℕ) (w : once.World F) (e : once.Event F) → In m w.stream w.producer
-      → In m (plainly s w e).stream (plainly s w e).producer
-  fed_now m w (Send n) i = fed_after m w (Send n) i
-  fed_now m w (Arrive b) i = fed_after m w (Arrive b) i
-  fed_now m w (Arrive_late j b) i = fed_after m w (Arrive_late j b) i
-  fed_now m w Hear i = fed_after m w Hear i
-  fed_now m w Break i = fed_after m w Break i
-  fed_now m w (Ask n pick next) i = fed_after m w (Ask n pick next) i
-  fed_now m w (Take vs) i = i
-  fed_now m w Sync i = i
-  fed_now m w Acknowledge_now i = fed_after m w Acknowledge_now i
-  fed_now m w Acknowledge_later i = fed_after m w Acknowledge_later i
-  fed_now m w Reconnect i = i
-  fed_now m w (Restart kept n) i = i
-  fed_now m w (Else e) i = fed_after m w (Else e) i
-
   acked_apart : (k : group.World F) (w : once.World F) (b : Bool) → Read k w.consumer
       → Read k (if b then acknowledges s.name w else w).consumer
   acked_apart k w true r = answered (Seen k) w.consumer r
@@ -186,7 +110,7 @@ module _ {F : Type 0} (s : Setting F) (fit : Fit s) where
       (answered (Seen w.stream) w.consumer r)
   acked_now w false r = r
 
-  read_now : (m : ℕ) (w : once.World F) (e : once.Event F) → Waits (Plain e) → In m w.stream w.producer
+  read_now : (m : ℕ) (w : once.World F) (e : once.Event F) → Waits (Plain e) → In s fit m w.stream w.producer
       → Read w.stream w.consumer → Read (plainly s w e).stream (plainly s w e).consumer
   read_now m w (Send n) h i r = r
   read_now m w (Arrive b) h i r = absurd h
@@ -205,54 +129,9 @@ module _ {F : Type 0} (s : Setting F) (fit : Fit s) where
   read_now m w Reconnect h i r = cut_off (Seen w.stream) w.consumer r
   read_now m w (Restart kept n) h i r = restarted (Seen w.stream) w.consumer kept n r
   read_now m w (Else e) h i r =
-      more (Seen w.stream) (Seen (without_adding w.stream e)) w.consumer (calm_else w.stream (log_once s fit w (inv m w i)) e).0 r
+      more (Seen w.stream) (Seen (without_adding w.stream e)) w.consumer (calm_else w.stream (distinct_in s fit m w w.stream i) e).0 r
 
-  -- both sides
-  pub record Sound (m : ℕ) (k : group.World F) (p : Producer F) (c : Consumer F) : Type 0 where
-    pub fed : In m k p
-    pub read : Read k c
-
-  pub record Holds (m : ℕ) (w : World F) : Type 0 where
-    pub now : Sound m w.now.stream w.now.producer w.now.consumer
-    pub each : (k : group.World F) → Among k w.kept → Sound m k w.now.producer w.now.consumer
-
-  -- of the present state, and of those that are kept with it
-  remembered : (m : ℕ) (kept : List (group.World F)) (w : once.World F) → Sound m w.stream w.producer w.consumer
-      → ((k : group.World F) → Among k kept → Sound m k w.producer w.consumer) → Holds m (remembers kept w)
-  remembered m kept w i f = record {
-    now = i;
-    each = λ k h. elim h [
-      | inl e ↦ (let P : group.World F → Type 0 = λ k. Sound m k w.producer w.consumer in subst P e i)
-      | inr a ↦ f k a
-    ];
-  }
-
-  arrives : (m : ℕ) (w : World F) (b : Bool) (asked said : ℕ) → Holds m w
-      → Holds m (happens s w (Arrive_waits b asked said))
-  arrives m w b asked said i =
-      let o : Option (Request F) = w.now.producer.sent in
-      let v : once.World F = once.happens s w.now (Arrive b) in
-      let fed = fed_after m w.now (Arrive b) i.now.fed in
-      let read : Read v.stream v.consumer =
-      more (Seen w.now.stream) (Seen (filled_by b w.now.stream o)) w.now.consumer (calm_filled b w.now.stream o).0 i.now.read in
-      let cut : once.World F = once.happens s v Break in
-      let case : (c : Bool) → Holds m (remembers (if c then [] else w.kept) (if c then v else cut))
-      = λ c. elim c as (λ c. Holds m (remembers (if c then [] else w.kept) (if c then v else cut))) [
-        | true ↦ remembered m [] v (record { fed = fed; read = read }) (λ k h. absurd h)
-        | false ↦ remembered m w.kept cut
-            (record { fed = fed_after m v Break fed; read = read })
-            (λ k h.
-            let j = i.each k h in
-            let u : once.World F = once.happens s (at w.now k) (Arrive false) in
-            record {
-              fed = unheard m k w.now.stream b w.now.producer o
-                  (fed_after m u Break (fed_after m (at w.now k) (Arrive false) j.fed));
-              read = j.read;
-            })
-      ] in
-      case (is_confirmed asked said)
-
-  asked_read : (m : ℕ) (n : ℕ) (pick : Id → Bool) (next : Id) (w : once.World F) (b : Bool) → In m w.stream w.producer
+  asked_read : (m : ℕ) (n : ℕ) (pick : Id → Bool) (next : Id) (w : once.World F) (b : Bool) → In s fit m w.stream w.producer
       → Read w.stream w.consumer
       → Read (if b then asked s.name n pick next w else w).stream (if b then asked s.name n pick next w else w).consumer
   asked_read m n pick next w false i r = r
@@ -260,7 +139,7 @@ module _ {F : Type 0} (s : Setting F) (fit : Fit s) where
       let p : Phase = w.consumer.machine.phase in
       let v : group.World F = after_asking s.name n pick next p w.stream in
       let grown = more (Seen w.stream) (Seen v) w.consumer
-      (calm_served s.name n pick next p w.stream (log_once s fit w (inv m w i))).0 r in
+      (calm_served s.name n pick next p w.stream (distinct_in s fit m w w.stream i)).0 r in
       record { lines = grown.lines; coming = λ e h. handed s.name n pick next p w.stream e h }
 
   asked_apart : (k : group.World F) (n : ℕ) (pick : Id → Bool) (next : Id) (w : once.World F) (b : Bool)
@@ -268,106 +147,89 @@ module _ {F : Type 0} (s : Setting F) (fit : Fit s) where
   asked_apart k n pick next w true r = record { lines = r.lines; coming = λ e h. absurd h }
   asked_apart k n pick next w false r = record { lines = r.lines; coming = λ e h. absurd h }
 
-  asks : (m : ℕ) (w : World F) (n : ℕ) (pick : Id → Bool) (next : Id) (asked said : ℕ) → Holds m w
-      → Holds m (happens s w (Ask_waits n pick next asked said))
-  asks m w n pick next asked said i =
-      let v : once.World F = once.happens s w.now (Ask n pick next) in
-      let fed = fed_after m w.now (Ask n pick next) i.now.fed in
+  -- in the present state, and in those that are kept with it
+  pub record Reads (w : World F) : Type 0 where
+    pub now : Read w.now.stream w.now.consumer
+    pub each : (k : group.World F) → Among k w.kept → Read k w.now.consumer
+
+  remembered : (kept : List (group.World F)) (w : once.World F) → Read w.stream w.consumer
+      → ((k : group.World F) → Among k kept → Read k w.consumer) → Reads (remembers kept w)
+  remembered kept w r f = record {
+    now = r;
+    each = λ k h. elim h [
+      | inl e ↦ (let P : group.World F → Type 0 = λ k. Read k w.consumer in subst P e r)
+      | inr a ↦ f k a
+    ];
+  }
+
+  -- after a WAIT that was confirmed, or not
+  waiting : (kept : List (group.World F)) (v cut : once.World F) (b : Bool) → Read v.stream v.consumer
+      → Read cut.stream cut.consumer → ((k : group.World F) → Among k kept → Read k cut.consumer)
+      → Reads (remembers (if b then [] else kept) (if b then v else cut))
+  waiting kept v cut true r q f = remembered [] v r (λ k h. absurd h)
+  waiting kept v cut false r q f = remembered kept cut q f
+
+  fails : (w : World F) (j : ℕ) (o : Option (group.World F)) → item w.kept j ≡ o → Reads w → Reads (fails_over w o)
+  fails w j None q r = r
+  fails w j (Some k) q r = record {
+    now = cut_off (Seen k) w.now.consumer (r.each k (among_item w.kept j k q));
+    each = λ k h. cut_off (Seen k) w.now.consumer (r.each k h);
+  }
+
+  reads_after : (m : ℕ) (w : World F) (e : Event F) → Waits e → Logs s fit m w → Reads w → Reads (happens s w e)
+  reads_after m w (Plain e) h i r =
+      remembered w.kept (plainly s w.now e) (read_now m w.now e h i.now r.now)
+      (λ k a. read_apart w.now e h k (r.each k a))
+  reads_after m w (Arrive_waits b asked said) h i r =
+      let o : Option (Request F) = w.now.producer.sent in
+      let v : once.World F = once.happens s w.now (Arrive b) in
       let read : Read v.stream v.consumer =
-      asked_read m n pick next w.now (is_idle w.now.consumer) i.now.fed i.now.read in
-      let cut : once.World F = once.happens s v Reconnect in
-      let case : (c : Bool) → Holds m (remembers (if c then [] else w.kept) (if c then v else cut))
-      = λ c. elim c as (λ c. Holds m (remembers (if c then [] else w.kept) (if c then v else cut))) [
-        | true ↦ remembered m [] v (record { fed = fed; read = read }) (λ k h. absurd h)
-        | false ↦ remembered m w.kept cut
-            (record { fed = fed; read = cut_off (Seen v.stream) v.consumer read })
-            (λ k h.
-            let j = i.each k h in
-            record {
-              fed = asked_fed m k n pick next w.now (is_idle w.now.consumer) j.fed;
-              read = asked_apart k n pick next w.now (is_idle w.now.consumer) j.read;
-            })
-      ] in
-      case (is_confirmed asked said)
+      more (Seen w.now.stream) (Seen (filled_by b w.now.stream o)) w.now.consumer (calm_filled b w.now.stream o).0 r.now in
+      waiting w.kept v (once.happens s v Break) (is_confirmed asked said) read read r.each
+  reads_after m w (Ask_waits n pick next asked said) h i r =
+      let v : once.World F = once.happens s w.now (Ask n pick next) in
+      let read : Read v.stream v.consumer = asked_read m n pick next w.now (is_idle w.now.consumer) i.now r.now in
+      waiting w.kept v (once.happens s v Reconnect) (is_confirmed asked said) read
+      (cut_off (Seen v.stream) v.consumer read)
+      (λ k a. asked_apart k n pick next w.now (is_idle w.now.consumer) (r.each k a))
+  reads_after m w (Failover j) h i r = fails w j (item w.kept j) refl r
 
-  cut_sound : (m : ℕ) (w : once.World F) (k : group.World F) → Sound m k w.producer w.consumer
-      → Sound m k (breaks w.producer) (reconnects w.consumer)
-  cut_sound m w k i = record { fed = fed_after m (at w k) Break i.fed; read = cut_off (Seen k) w.consumer i.read }
-
-  fails : (m : ℕ) (w : World F) (j : ℕ) (o : Option (group.World F)) → item w.kept j ≡ o → Holds m w
-      → Holds m (fails_over w o)
-  fails m w j None q i = i
-  fails m w j (Some k) q i =
-      let c = cut_sound m w.now k (i.each k (among_item w.kept j k q)) in
-      record {
-        now = record {
-          fed = record { kept = c.fed.kept; fed = c.fed.fed; enough = c.fed.enough };
-          read = record { lines = c.read.lines; coming = c.read.coming };
-        };
-        each = λ k h. cut_sound m w.now k (i.each k h);
-      }
-
-  step : (m : ℕ) (w : World F) (e : Event F) → Waits e → Holds m w → Holds m (happens s w e)
-  step m w (Plain e) h i =
-      remembered m w.kept (plainly s w.now e)
-      (record { fed = fed_now m w.now e i.now.fed; read = read_now m w.now e h i.now.fed i.now.read })
-      (λ k a. let j = i.each k a in
-      record { fed = fed_apart m w.now e h k j.fed; read = read_apart w.now e h k j.read })
-  step m w (Arrive_waits b asked said) h i = arrives m w b asked said i
-  step m w (Ask_waits n pick next asked said) h i = asks m w n pick next asked said i
-  step m w (Failover j) h i = fails m w j (item w.kept j) refl i
+  -- both
+  pub record Holds (m : ℕ) (w : World F) : Type 0 where
+    pub logs : Logs s fit m w
+    pub reads : Reads w
 
   pub steps : (m : ℕ) (es : List (Event F)) (w : World F) → AllWait es → Holds m w → Holds m (run s es w)
   steps m [] w h i = i
-  steps m (e ∷ es) w h i = steps m es (happens s w e) h.1 (step m w e h.0 i)
-
-  pub start : Holds 0 first_world
-  start =
-      let f = at_first s fit in
-      let fed : In 0 empty_world first_world.now.producer =
-      record { kept = f.kept; fed = f.fed; enough = omega arith } in
-      let read : Read {F = F} empty_world first_world.now.consumer =
-      record { lines = λ e h. absurd h; coming = λ e h. absurd h } in
-      remembered 0 [] first_world.now (record { fed = fed; read = read }) (λ k h. absurd h)
+  steps m (e ∷ es) w h i =
+      steps m es (happens s w e) h.1
+      (record { logs = logs_after s fit m w e h.0 i.logs; reads = reads_after m w e h.0 i.logs i.reads })
 
   pub always : (es : List (Event F)) → AllWait es → Holds 0 (after s es)
-  always es h = steps 0 es first_world h start
-
-  -- what the producer takes to be in is so, in each state
-  raised : (w : World F) → Holds 0 w → Holds (known_in w.now.producer.stage) w
-  raised w i =
-      let up : (k : group.World F) → Sound 0 k w.now.producer w.now.consumer
-      → Sound (known_in w.now.producer.stage) k w.now.producer w.now.consumer
-      = λ k j. record { fed = record { kept = j.fed.kept; fed = j.fed.fed; enough = j.fed.fed.so }; read = j.read } in
-      record { now = up w.now.stream i.now; each = λ k h. up k (i.each k h) }
+  always es h =
+      let read : Read {F = F} empty_world first_world.now.consumer =
+      record { lines = λ e h. absurd h; coming = λ e h. absurd h } in
+      steps 0 es first_world h
+      (record { logs = first_logs s fit; reads = remembered [] first_world.now read (λ k h. absurd h) })
 
   pub known_stays : (es more : List (Event F)) → AllWait es → AllWait more
       → Holds (known_in (after s es).now.producer.stage) (run s more (after s es))
   known_stays es more h k =
-      steps (known_in (after s es).now.producer.stage) more (after s es) k (raised (after s es) (always es h))
-
-  pub known_in_log : (m : ℕ) (w : World F) → Holds m w → m ≤ length (log w.now)
-  known_in_log m w i = omega (arith, i.now.fed.enough, log_length s fit w.now (inv m w.now i.now.fed))
-
-  pub split : (m : ℕ) (w : World F) → Holds m w
-      → (rest : List (Entry F)) × (log w.now ++ rest ≡ entries s.base s.records)
-  split m w i =
-      (map as_entry i.now.fed.kept.rest, sym (entries_split s fit w.now (inv m w.now i.now.fed)))
-
-  pub distinct : (m : ℕ) (w : World F) → Holds m w → Once (ids_of (log w.now))
-  distinct m w i = log_once s fit w.now (inv m w.now i.now.fed)
+      let w : World F = after s es in
+      let i = always es h in
+      steps (known_in w.now.producer.stage) more w k (record { logs = raised s fit w i.logs; reads = i.reads })
 
 pub log_is_first_records : {F : Type 0} → LogIsFirstRecords F
-log_is_first_records s fit es h = split s fit 0 (after s es) (always s fit es h)
+log_is_first_records s fit es h = split s fit 0 (after s es) (always s fit es h).logs
 
 pub known_stays_in : {F : Type 0} → KnownStaysIn F
 known_stays_in s fit es more h k =
     known_in_log s fit (known_in (after s es).now.producer.stage) (run s more (after s es))
-    (known_stays s fit es more h k)
+    (known_stays s fit es more h k).logs
 
 pub file_in_seen : {F : Type 0} (s : Setting F) (fit : Fit s) (m : ℕ) (w : World F) → Holds s fit m w → (e : Entry F)
     → Among e w.now.consumer.file → Among e w.now.stream.seen
-file_in_seen s fit m w i e h = i.now.read.lines e (among_left e w.now.consumer.file w.now.consumer.lines h)
+file_in_seen s fit m w i e h = i.reads.now.lines e (among_left e w.now.consumer.file w.now.consumer.lines h)
 
 pub file_is_of_log : {F : Type 0} → FileIsOfLog F
 file_is_of_log s fit es h e a =
@@ -378,5 +240,5 @@ pub handled_is_not_new : {F : Type 0} → HandledIsNotNew F
 handled_is_not_new s fit es h e a b =
     let w = after s es in
     let i = always s fit es h in
-    not_fresh w.now.stream (distinct s fit 0 w i) e.0
+    not_fresh w.now.stream (distinct s fit 0 w i.logs) e.0
     (id_among e w.now.stream.seen (file_in_seen s fit 0 w i e a)) (id_among e w.now.stream.fresh b)

@@ -2,3 +2,4 @@
 pub mod Lookup
 pub mod World
 pub mod Law
+pub mod Many

@@ -1,11 +1,11 @@
-//! What holds after every schedule with failovers, crashes, breaks and late arrivals. The last
-//! three laws have the premises `Fit` and `AllWait`: the ids fit into 64 bits, and producer and
-//! consumer ask WAIT.
+//! What holds after every schedule with failovers, crashes, breaks and late arrivals. The
+//! premise `Fit` is that the ids fit into 64 bits, `AllWait` that producer and consumer ask WAIT.
 ghost use Rattle.stream_failover.specs.Law.{ComesAsWritten, EachComesOutOnce, FileIsOfLog};
 ghost use Rattle.stream_failover.specs.Law.{FileGrows, FileIsOfRecords, FileOnce};
 ghost use Rattle.stream_failover.specs.Law.{FileOnceOfAnyServer, HandledIsNotNew, KnownStaysIn};
 ghost use Rattle.stream_failover.specs.Law.{LogIsFirstRecords, LogIsKept, LogIsOfRecords};
 ghost use Rattle.stream_failover.specs.Law.{NothingConfirmedIsLost};
+ghost use Rattle.stream_failover.specs.Many.{EachFileOnce, NoneInTwoFiles};
 
 /// No id is twice in the file of a consumer that looks an entry up in it before it adds a line. It
 /// is so with WAIT or without, and with any server, whatever that hands out. The file only grows.
@@ -52,4 +52,12 @@ pub fn what_is_handled_stays<F>()
 pub fn nothing_confirmed_is_lost<F>()
     ensures kept { NothingConfirmedIsLost F }
     ensures once { EachComesOutOnce F }
+{}
+
+/// With several consumers of one group, each with a file, no id is twice in any of the files. No id
+/// is in two files, after any failover, if all ask WAIT and no claim takes what another consumer
+/// has (`AllFair`).
+pub fn no_entry_comes_out_in_two_files<F>()
+    ensures once { EachFileOnce F }
+    ensures one { NoneInTwoFiles F }
 {}
