@@ -9,5 +9,6 @@ pub mod Safe
 pub mod Undeleted
 pub mod Many
 mod Sample
+mod SampleMany
 mod Without
 mod Wrong

@@ -1,30 +1,30 @@
 -- Of several consumers no two files have the same.
-use Rattle.std.proofs.Common.{◌≡◌, ◌⊎◌, inl, inr, refl, sym, ap, subst, ◌∙◌, ℕ, Bool, true, false, ◌&&◌, List, [], ◌∷◌, ◌++◌}
+use Rattle.std.proofs.Common.{◌≡◌, inl, inr, refl, sym, ap, subst, ◌∙◌, ℕ, Bool, true, false, ◌&&◌, List, [], ◌∷◌, ◌++◌}
 use Rattle.std.proofs.Common.{map, take, drop, append_assoc, Option, Some, None, if◌then◌else◌}
 use Rattle.std.specs.Option.{is_none}
 use Rattle.std.specs.Str.{bytes_eq}
 use Rattle.std.proofs.lemmas.Slice.Eq.{bytes_eq-Decides}
 use Rattle.std.proofs.lemmas.List.{take-append-drop}
 use Rattle.stream_group.specs.Worker.{Id, Entry, Verdict, Answer, entries_in, handled_in}
-use Rattle.stream_group.specs.Group.{Name, Pending, ids_of, pending_ids}
+use Rattle.stream_group.specs.Group.{Name, Pending, ids_of}
 use Rattle.stream_group.specs.World.{item, with_one, empty_world, log_of}
 use Rattle.stream_group.specs.World as group
 use Rattle.stream_group.specs.Law.{Among}
-use Rattle.stream_group.proofs.Among.{among_left, among_split, among_item, among_map, among_of_map}
+use Rattle.stream_group.proofs.Among.{among_left, among_split, among_item, among_of_map}
 use Rattle.stream_once.specs.Producer.{Producer}
 use Rattle.stream_once.specs.Consumer.{Consumer, is_empty, is_idle, syncs, restarts, reconnects}
 use Rattle.stream_once.specs.World.{Setting, Send, Arrive, Arrive_late, Hear, Break, Ask, Take, Sync}
 use Rattle.stream_once.specs.World.{Acknowledge_now, Acknowledge_later, Reconnect, Restart, Else, asked, acknowledges}
 use Rattle.stream_once.specs.World as world
-use Rattle.stream_once.specs.Law.{Fit, Once}
+use Rattle.stream_once.specs.Law.{Fit}
 use Rattle.stream_once.specs.Many.{setting_of, on_the_way, Has}
 use Rattle.stream_once.specs.Many as once
 use Rattle.stream_once.proofs.Apart.{ids_both, id_among, handled_out}
 use Rattle.stream_once.proofs.Fill.{append_nil}
 use Rattle.stream_once.proofs.Held.{Held, holds}
 use Rattle.stream_failover.specs.Lookup.{unwritten, lines_of, looks_up}
-use Rattle.stream_failover.specs.World.{World, Event, Plain, Arrive_waits, Ask_waits, Failover, goes_back, fails_over}
-use Rattle.stream_failover.specs.World.{remembers, is_confirmed, plainly, happens, first_world}
+use Rattle.stream_failover.specs.World.{World, Event, Plain, Arrive_waits, Ask_waits, Failover, fails_over}
+use Rattle.stream_failover.specs.World.{remembers, is_confirmed, plainly, happens}
 use Rattle.stream_failover.specs.Law.{Waits, AllWait}
 use Rattle.stream_failover.specs.Many.{Many, first_many, world_of, with_world, happens_to, run_many, IsFair, AllFair}
 use Rattle.stream_failover.specs.Many.{EachFileOnce, NoneInTwoFiles}

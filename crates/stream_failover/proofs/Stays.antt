@@ -1,28 +1,27 @@
 -- What is in the file was handed out in each state that the server may go back to.
-use Rattle.std.proofs.Common.{◌≡◌, inl, inr, refl, sym, ap, subst, ◌∙◌, ℕ, ◌≤◌, arith, Bool, true, false}
-use Rattle.std.proofs.Common.{not, ◌&&◌, List, [], ◌∷◌, ◌++◌, map, filter, length, Option}
+use Rattle.std.proofs.Common.{◌≡◌, inl, inr, refl, ap, subst, ◌∙◌, ℕ, Bool, true, false}
+use Rattle.std.proofs.Common.{not, ◌&&◌, List, [], ◌∷◌, map, filter, Option}
 use Rattle.std.proofs.Common.{Some, None, if◌then◌else◌}
 use Rattle.std.specs.Option.{is_none}
 use Rattle.stream_group.specs.Worker.{Id, Entry, Delivered, Phase, own, claiming, reading}
 use Rattle.stream_group.specs.Worker.{entries_in}
-use Rattle.stream_group.specs.Group.{Name, ids_of, listed, given, passed, whole, as_it_is, pending_ids}
+use Rattle.stream_group.specs.Group.{Name, listed, given, passed, whole, as_it_is, pending_ids}
 use Rattle.stream_group.specs.Group.{own as own_ids}
 use Rattle.stream_group.specs.World.{item, empty_world}
 use Rattle.stream_group.specs.World as group
 use Rattle.stream_group.specs.Law.{Among}
 use Rattle.stream_group.proofs.Among.{among_left, among_right, among_filtered, among_item}
 use Rattle.stream_group.proofs.Steps.{given_passed}
-use Rattle.stream_once.specs.Feed.{as_entry, entries, Request, ask_last, batch, known_in}
-use Rattle.stream_once.specs.Producer.{Producer, filled_by, arrived, breaks}
+use Rattle.stream_once.specs.Feed.{Request, known_in}
+use Rattle.stream_once.specs.Producer.{filled_by}
 use Rattle.stream_once.specs.Consumer.{Consumer, is_empty, is_idle, after_asking, answer_for, reconnects}
 use Rattle.stream_once.specs.World.{Setting, Send, Arrive, Arrive_late, Hear, Break, Ask, Take, Sync}
 use Rattle.stream_once.specs.World.{Acknowledge_now, Acknowledge_later, Reconnect, Restart, Else, asked, acknowledges}
 use Rattle.stream_once.specs.World.{without_adding}
 use Rattle.stream_once.specs.World as once
-use Rattle.stream_once.specs.Law.{Fit, Once, log}
+use Rattle.stream_once.specs.Law.{Fit}
 use Rattle.stream_once.proofs.Apart.{id_among}
-use Rattle.stream_once.proofs.Fill.{KeptOf, Fed, Inv, each, at_first, entries_split, log_length}
-use Rattle.stream_once.proofs.Write.{calm_else, calm_filled, calm_served, log_once, not_fresh}
+use Rattle.stream_once.proofs.Write.{calm_else, calm_filled, calm_served, not_fresh}
 use Rattle.stream_failover.specs.World.{World, Event, Plain, Arrive_waits, Ask_waits, Failover, fails_over}
 use Rattle.stream_failover.specs.World.{remembers, is_confirmed, plainly, happens, run, first_world}
 use Rattle.stream_failover.specs.Law.{after, Waits, AllWait, LogIsFirstRecords, KnownStaysIn, FileIsOfLog}

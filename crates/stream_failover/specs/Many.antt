@@ -1,5 +1,5 @@
 -- Several consumers of one group, each with a file of its own, and a server that may go back.
-use Rattle.std.specs.Prelude.{◌≡◌, ℕ, List, [], ◌∷◌, map}
+use Rattle.std.specs.Prelude.{◌≡◌, List, [], ◌∷◌, map}
 use Rattle.stream_group.specs.Worker.{Id, Entry}
 use Rattle.stream_group.specs.Group.{Name, ids_of}
 use Rattle.stream_group.specs.World.{empty_world}

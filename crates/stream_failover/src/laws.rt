@@ -1,5 +1,6 @@
-//! What holds after every schedule with failovers, crashes, breaks and late arrivals. The
-//! premise `Fit` is that the ids fit into 64 bits, `AllWait` that producer and consumer ask WAIT.
+//! What holds after every schedule with failovers, crashes, breaks and late arrivals. With WAIT
+//! means: by the premises `AllWait`, that each batch and each read comes with WAIT, and `Fit`, that
+//! the ids fit into 64 bits.
 ghost use Rattle.stream_failover.specs.Law.{ComesAsWritten, EachComesOutOnce, FileIsOfLog};
 ghost use Rattle.stream_failover.specs.Law.{FileGrows, FileIsOfRecords, FileOnce};
 ghost use Rattle.stream_failover.specs.Law.{FileOnceOfAnyServer, HandledIsNotNew, KnownStaysIn};
@@ -31,32 +32,32 @@ pub fn nothing_of_the_log_is_lost<F>()
     ensures { LogIsKept F }
 {}
 
-/// The log is the first of the records, in order. As many records as the producer takes to be in
-/// are in, after any failover.
+/// With WAIT the log is the first of the records, in order. As many records as the producer takes
+/// to be in are in, after any failover.
 pub fn what_is_confirmed_stays<F>()
     ensures first { LogIsFirstRecords F }
     ensures known { KnownStaysIn F }
 {}
 
-/// Each entry of the file is in the log, with its own fields, after any failover. It does not come
-/// as new again, to no consumer of the group.
+/// With WAIT each entry of the file is in the log, with its own fields, after any failover. It does
+/// not come as new again, to no consumer of the group.
 pub fn what_is_handled_stays<F>()
     ensures of_log { FileIsOfLog F }
     ensures not_new { HandledIsNotNew F }
 {}
 
-/// Each record that the producer takes to be in is to come, or pending, or in the file, or deleted,
-/// after any failover. So the file has each record once, if the producer said that all is in,
-/// nothing is pending or to come, and nothing is deleted. The premise is that nobody else
+/// With WAIT each record that the producer takes to be in is to come, or pending, or in the file,
+/// or deleted, after any failover. So the file has each record once, if the producer said that all
+/// is in, nothing is pending or to come, and nothing is deleted. The premise is that nobody else
 /// acknowledges (`NoOtherAcks`).
 pub fn nothing_confirmed_is_lost<F>()
     ensures kept { NothingConfirmedIsLost F }
     ensures once { EachComesOutOnce F }
 {}
 
-/// With several consumers of one group, each with a file, no id is twice in any of the files. No id
-/// is in two files, after any failover, if all ask WAIT and no claim takes what another consumer
-/// has (`AllFair`).
+/// With several consumers of one group, each with a file, no id is twice in any of the files. With
+/// WAIT no id is in two files, after any failover, if no claim takes what another consumer has
+/// (`AllFair`).
 pub fn no_entry_comes_out_in_two_files<F>()
     ensures once { EachFileOnce F }
     ensures one { NoneInTwoFiles F }
