@@ -1,6 +1,6 @@
 -- What the producer takes to be in is in each state that the server may go back to.
-use Rattle.std.proofs.Common.{◌≡◌, inl, inr, refl, sym, subst, ℕ, ◌≤◌, arith, Bool, true, false}
-use Rattle.std.proofs.Common.{List, [], ◌++◌, map, length, Option}
+use Rattle.std.proofs.Common.{◌≡◌, inl, inr, refl, sym, subst, ℕ, ◌≤◌, zero, suc, arith, Bool, true, false}
+use Rattle.std.proofs.Common.{List, [], ◌∷◌, ◌++◌, map, length, take, Option}
 use Rattle.std.proofs.Common.{Some, None, if◌then◌else◌}
 use Rattle.std.specs.Option.{is_none}
 use Rattle.stream_group.specs.Worker.{Id, Entry}
@@ -20,8 +20,8 @@ use Rattle.stream_once.specs.Law.{Fit, Once, log}
 use Rattle.stream_once.proofs.Fill.{KeptOf, Fed, Inv, each, at_first, entries_split, log_length}
 use Rattle.stream_once.proofs.Write.{log_once}
 use Rattle.stream_failover.specs.World.{World, Event, Plain, Arrive_waits, Ask_waits, Failover, fails_over}
-use Rattle.stream_failover.specs.World.{remembers, is_confirmed, plainly, happens, first_world}
-use Rattle.stream_failover.specs.Law.{Waits}
+use Rattle.stream_failover.specs.World.{remembers, is_confirmed, plainly, happens, run, first_world}
+use Rattle.stream_failover.specs.Law.{after, ProducerWaits, ProducerAlwaysWaits, Waits, LogIsFirstRecords, KnownStaysIn}
 
 module _ {F : Type 0} (s : Setting F) (fit : Fit s) where
   -- the log is the first m records, or more, and what the producer takes to be in is
@@ -66,7 +66,7 @@ module _ {F : Type 0} (s : Setting F) (fit : Fit s) where
   asked_fed m k n pick next w false i = i
 
   -- the producer's side of an event, in a state that the server has not
-  fed_apart : (m : ℕ) (w : once.World F) (e : once.Event F) → Waits (Plain e) → (k : group.World F)
+  fed_apart : (m : ℕ) (w : once.World F) (e : once.Event F) → ProducerWaits (Plain e) → (k : group.World F)
       → In m k w.producer → In m k (plainly s w e).producer
   fed_apart m w (Send n) h k i = fed_after m (at w k) (Send n) i
   fed_apart m w (Arrive b) h k i = absurd h
@@ -75,7 +75,7 @@ module _ {F : Type 0} (s : Setting F) (fit : Fit s) where
       subst P (not_filled k (item w.producer.late j)) (fed_after m (at w k) (Arrive_late j false) i)
   fed_apart m w Hear h k i = fed_after m (at w k) Hear i
   fed_apart m w Break h k i = fed_after m (at w k) Break i
-  fed_apart m w (Ask n pick next) h k i = absurd h
+  fed_apart m w (Ask n pick next) h k i = asked_fed m k n pick next w (is_idle w.consumer) i
   fed_apart m w (Take vs) h k i = i
   fed_apart m w Sync h k i = i
   fed_apart m w Acknowledge_now h k i = now_fed m k w (is_none w.consumer.answer) i
@@ -133,7 +133,7 @@ module _ {F : Type 0} (s : Setting F) (fit : Fit s) where
         each = λ k h. fed_after m (at w.now k) Break (i.each k h);
       }
 
-  pub logs_after : (m : ℕ) (w : World F) (e : Event F) → Waits e → Logs m w → Logs m (happens s w e)
+  pub logs_after : (m : ℕ) (w : World F) (e : Event F) → ProducerWaits e → Logs m w → Logs m (happens s w e)
   logs_after m w (Plain e) h i =
       remembered m w.kept (plainly s w.now e) (fed_now m w.now e i.now) (λ k a. fed_apart m w.now e h k (i.each k a))
   logs_after m w (Arrive_waits b asked said) h i =
@@ -150,6 +150,10 @@ module _ {F : Type 0} (s : Setting F) (fit : Fit s) where
       (λ k a. asked_fed m k n pick next w.now (is_idle w.now.consumer) (i.each k a))
   logs_after m w (Failover j) h i = fails m w j (item w.kept j) refl i
 
+  pub logs_over : (m : ℕ) (es : List (Event F)) (w : World F) → ProducerAlwaysWaits es → Logs m w → Logs m (run s es w)
+  logs_over m [] w h i = i
+  logs_over m (e ∷ es) w h i = logs_over m es (happens s w e) h.1 (logs_after m w e h.0 i)
+
   pub first_logs : Logs 0 first_world
   first_logs =
       let f = at_first s fit in
@@ -164,6 +168,13 @@ module _ {F : Type 0} (s : Setting F) (fit : Fit s) where
       = λ k j. record { kept = j.kept; fed = j.fed; enough = j.fed.so } in
       record { now = up w.now.stream i.now; each = λ k h. up k (i.each k h) }
 
+  -- of what the producer took to be in at some time, this is so for ever
+  pub known_logs : (es more : List (Event F)) → ProducerAlwaysWaits es → ProducerAlwaysWaits more
+      → Logs (known_in (after s es).now.producer.stage) (run s more (after s es))
+  known_logs es more h k =
+      let w : World F = after s es in
+      logs_over (known_in w.now.producer.stage) more w k (raised w (logs_over 0 es first_world h first_logs))
+
   pub known_in_log : (m : ℕ) (w : World F) → Logs m w → m ≤ length (log w.now)
   known_in_log m w i = omega (arith, i.now.enough, log_length s fit w.now (inv m w.now i.now))
 
@@ -177,3 +188,48 @@ module _ {F : Type 0} (s : Setting F) (fit : Fit s) where
 
   pub distinct : (m : ℕ) (w : World F) → Logs m w → Once (ids_of (log w.now))
   distinct m w i = distinct_in m w.now w.now.stream i.now
+
+among_front : {A : Type 0} (m : ℕ) (xs ys : List A) (e : A) → m ≤ length xs → Among e (take m (xs ++ ys)) → Among e xs
+among_front zero xs ys e l h = absurd h
+among_front (suc m) [] ys e l h = absurd (omega (arith, l))
+among_front (suc m) (x ∷ xs) ys e l (inl q) = inl q
+among_front (suc m) (x ∷ xs) ys e l (inr h) = inr (among_front m xs ys e (omega (arith, l)) h)
+
+-- so many of the records are in the log
+pub first_in_log : {F : Type 0} (s : Setting F) (fit : Fit s) (m : ℕ) (w : World F) → Logs s fit m w → (e : Entry F)
+    → Among e (take m (entries s.base s.records)) → Among e (log w.now)
+first_in_log {F} s fit m w i e h =
+    let r = split s fit m w i in
+    let P : List (Entry F) → Type 0 = λ l. Among e (take m l) in
+    among_front m (log w.now) r.0 e (known_in_log s fit m w i) (subst P (sym r.1) h)
+
+module _ {F : Type 0} where
+  -- who waits, waits with what the producer sent
+  plain_waits : (e : once.Event F) → Waits (Plain e) → ProducerWaits (Plain e)
+  plain_waits (Send n) h = tt
+  plain_waits (Arrive b) h = h
+  plain_waits (Arrive_late j b) h = tt
+  plain_waits Hear h = tt
+  plain_waits Break h = tt
+  plain_waits (Ask n pick next) h = tt
+  plain_waits (Take vs) h = tt
+  plain_waits Sync h = tt
+  plain_waits Acknowledge_now h = tt
+  plain_waits Acknowledge_later h = tt
+  plain_waits Reconnect h = tt
+  plain_waits (Restart kept n) h = tt
+  plain_waits (Else e) h = tt
+
+  pub producer_waits : (e : Event F) → Waits e → ProducerWaits e
+  producer_waits (Plain e) h = plain_waits e h
+  producer_waits (Arrive_waits b asked said) h = tt
+  producer_waits (Ask_waits n pick next asked said) h = tt
+  producer_waits (Failover j) h = tt
+
+pub log_is_first_records : {F : Type 0} → LogIsFirstRecords F
+log_is_first_records s fit es h = split s fit 0 (after s es) (logs_over s fit 0 es first_world h (first_logs s fit))
+
+pub known_stays_in : {F : Type 0} → KnownStaysIn F
+known_stays_in s fit es more h k =
+    known_in_log s fit (known_in (after s es).now.producer.stage) (run s more (after s es))
+    (known_logs s fit es more h k)

@@ -28,7 +28,7 @@ use Rattle.stream_failover.specs.World.{remembers, is_confirmed, plainly, happen
 use Rattle.stream_failover.specs.Law.{Waits, AllWait}
 use Rattle.stream_failover.specs.Many.{Many, first_many, world_of, with_world, happens_to, run_many, IsFair, AllFair}
 use Rattle.stream_failover.specs.Many.{EachFileOnce, NoneInTwoFiles}
-use Rattle.stream_failover.proofs.Added.{In, Logs, logs_after, first_logs, distinct_in}
+use Rattle.stream_failover.proofs.Added.{In, Logs, logs_after, first_logs, producer_waits, distinct_in}
 use Rattle.stream_failover.proofs.Looked.{Single, in_file, step, unwritten_within}
 
 module _ {F : Type 0} where
@@ -215,7 +215,7 @@ module _ {F : Type 0} (s : Setting F) (fit : Fit s) where
 
   logs_so : (m : Many F) (name : Name) (e : Event F) → Waits e → AllLogs m → AllLogs (happens_to s m name e)
   logs_so m name e h g other =
-      let i = logs_after (at name) fit 0 (world_of m name) e h (g name) in
+      let i = logs_after (at name) fit 0 (world_of m name) e (producer_waits e h) (g name) in
       let w : World F = happens (at name) (world_of m name) e in
       record {
         now = renamed name other w.now.stream w.now.producer i.now;

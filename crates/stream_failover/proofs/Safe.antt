@@ -1,5 +1,5 @@
 -- Each record that is confirmed is to come, or pending, or in the file, or deleted.
-use Rattle.std.proofs.Common.{◌≡◌, ◌⊎◌, inl, inr, refl, sym, ap, subst, ◌∙◌, ℕ, ◌+◌, ◌-◌, ◌≤◌, zero, suc, arith, Bool}
+use Rattle.std.proofs.Common.{◌≡◌, ◌⊎◌, inl, inr, refl, sym, ap, subst, ◌∙◌, ℕ, ◌+◌, ◌-◌, ◌≤◌, arith, Bool}
 use Rattle.std.proofs.Common.{true, false, ◌&&◌, List, [], ◌∷◌, ◌++◌, length, take, append_assoc, Option, Some}
 use Rattle.std.proofs.Common.{None, if◌then◌else◌}
 use Rattle.std.specs.Option.{is_none}
@@ -32,7 +32,7 @@ use Rattle.stream_failover.specs.World.{remembers, is_confirmed, plainly, happen
 use Rattle.stream_failover.specs.Law.{after, Waits, AllWait, NoneByOthers, NoOtherAcks, NothingConfirmedIsLost}
 use Rattle.stream_failover.specs.Law.{EachComesOutOnce}
 use Rattle.stream_failover.proofs.Looked.{unwritten_covers, once_on}
-use Rattle.stream_failover.proofs.Added.{known_in_log, split, distinct}
+use Rattle.stream_failover.proofs.Added.{known_in_log, split, distinct, first_in_log}
 use Rattle.stream_failover.proofs.Stays.{Holds, known_stays, file_in_seen}
 
 -- each of the first is one of the others
@@ -490,12 +490,6 @@ module _ {F : Type 0} where
       } in
       remembered [] first_world.now i (λ k h. absurd h)
 
-  among_front : (m : ℕ) (xs ys : List (Entry F)) (e : Entry F) → m ≤ length xs → Among e (take m (xs ++ ys)) → Among e xs
-  among_front zero xs ys e l h = absurd h
-  among_front (suc m) [] ys e l h = absurd (omega (arith, l))
-  among_front (suc m) (x ∷ xs) ys e l (inl q) = inl q
-  among_front (suc m) (x ∷ xs) ys e l (inr h) = inr (among_front m xs ys e (omega (arith, l)) h)
-
   -- what is in the log is kept
   is_kept : (s : Setting F) (fit : Fit s) (m : ℕ) (w : World F) → Holds s fit m w → AllSafe w → (e : Entry F)
       → Among e (log w.now) → IsKept w.now e
@@ -536,10 +530,8 @@ nothing_confirmed_is_lost {F} s fit es more h k a b e m =
     let v : World F = run s more w in
     let n : ℕ = known_in w.now.producer.stage in
     let i = known_stays s fit es more h k in
-    let r = split s fit n v i.logs in
-    let P : List (Entry F) → Type 0 = λ l. Among e (take n l) in
     is_kept s fit n v i (steps s more w k b (steps s es first_world h a start)) e
-    (among_front n (log v.now) r.0 e (known_in_log s fit n v i.logs) (subst P (sym r.1) m))
+    (first_in_log s fit n v i.logs e m)
 
 pub each_comes_out_once : {F : Type 0} → EachComesOutOnce F
 each_comes_out_once {F} s fit es more h k a b all_in drained none =

@@ -24,9 +24,9 @@ use Rattle.stream_once.proofs.Apart.{id_among}
 use Rattle.stream_once.proofs.Write.{calm_else, calm_filled, calm_served, not_fresh}
 use Rattle.stream_failover.specs.World.{World, Event, Plain, Arrive_waits, Ask_waits, Failover, fails_over}
 use Rattle.stream_failover.specs.World.{remembers, is_confirmed, plainly, happens, run, first_world}
-use Rattle.stream_failover.specs.Law.{after, Waits, AllWait, LogIsFirstRecords, KnownStaysIn, FileIsOfLog}
+use Rattle.stream_failover.specs.Law.{after, Waits, AllWait, FileIsOfLog}
 use Rattle.stream_failover.specs.Law.{HandledIsNotNew}
-use Rattle.stream_failover.proofs.Added.{In, Logs, logs_after, first_logs, raised, known_in_log, split, distinct_in, distinct}
+use Rattle.stream_failover.proofs.Added.{In, Logs, logs_after, first_logs, raised, producer_waits, distinct_in, distinct}
 use Rattle.stream_failover.proofs.Lines.{Lines, more, taken, synced, restarted, cut_off, answered}
 
 module _ {F : Type 0} where
@@ -202,7 +202,7 @@ module _ {F : Type 0} (s : Setting F) (fit : Fit s) where
   steps m [] w h i = i
   steps m (e ∷ es) w h i =
       steps m es (happens s w e) h.1
-      (record { logs = logs_after s fit m w e h.0 i.logs; reads = reads_after m w e h.0 i.logs i.reads })
+      (record { logs = logs_after s fit m w e (producer_waits e h.0) i.logs; reads = reads_after m w e h.0 i.logs i.reads })
 
   pub always : (es : List (Event F)) → AllWait es → Holds 0 (after s es)
   always es h =
@@ -217,14 +217,6 @@ module _ {F : Type 0} (s : Setting F) (fit : Fit s) where
       let w : World F = after s es in
       let i = always es h in
       steps (known_in w.now.producer.stage) more w k (record { logs = raised s fit w i.logs; reads = i.reads })
-
-pub log_is_first_records : {F : Type 0} → LogIsFirstRecords F
-log_is_first_records s fit es h = split s fit 0 (after s es) (always s fit es h).logs
-
-pub known_stays_in : {F : Type 0} → KnownStaysIn F
-known_stays_in s fit es more h k =
-    known_in_log s fit (known_in (after s es).now.producer.stage) (run s more (after s es))
-    (known_stays s fit es more h k).logs
 
 pub file_in_seen : {F : Type 0} (s : Setting F) (fit : Fit s) (m : ℕ) (w : World F) → Holds s fit m w → (e : Entry F)
     → Among e w.now.consumer.file → Among e w.now.stream.seen

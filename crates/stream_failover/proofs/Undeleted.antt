@@ -9,7 +9,8 @@ use Rattle.stream_group.specs.World.{Claim, Claim_ids, Comes, Commit, Acknowledg
 use Rattle.stream_group.specs.World as group
 use Rattle.stream_group.specs.Law.{Among}
 use Rattle.stream_group.proofs.Among.{among_split, among_of_map, among_item}
-use Rattle.stream_once.specs.Feed.{Numbered, entries, Request, ask_last, batch}
+use Rattle.stream_once.specs.Feed.{Numbered, entries, Request, ask_last, batch, known_in}
+use Rattle.stream_once.specs.Law.{log, IsKept}
 use Rattle.stream_once.specs.Producer.{add_all, filled_by}
 use Rattle.stream_once.specs.Consumer.{is_idle}
 use Rattle.stream_once.specs.World.{Setting, Send, Arrive, Arrive_late, Hear, Break, Ask, Take, Sync}
@@ -20,7 +21,8 @@ use Rattle.stream_once.proofs.Apart.{id_among, once_entries}
 use Rattle.stream_once.proofs.Lasts.{same_entry}
 use Rattle.stream_failover.specs.World.{World, Event, Plain, Arrive_waits, Ask_waits, Failover, fails_over, remembers}
 use Rattle.stream_failover.specs.World.{is_confirmed, plainly, happens, run, first_world}
-use Rattle.stream_failover.specs.Law.{after, NoOtherAcks, NoDelete, NoDeletes, LogIsKept}
+use Rattle.stream_failover.specs.Law.{after, NoOtherAcks, NoDelete, NoDeletes, LogIsKept, ProducerLosesNothing}
+use Rattle.stream_failover.proofs.Added.{known_logs, first_in_log}
 use Rattle.stream_failover.proofs.Records.{log_is_of_records, file_is_of_records}
 use Rattle.stream_failover.proofs.Safe.{after_deleted, MayAsk, May, AllSafe, step, start}
 
@@ -177,3 +179,25 @@ log_is_kept {F} s fit es alone none e h =
         ]
       ]
     ]
+
+module _ {F : Type 0} where
+  run_both : (s : Setting F) (es more : List (Event F)) (w : World F) → run s (es ++ more) w ≡ run s more (run s es w)
+  run_both s [] more w = refl
+  run_both s (e ∷ es) more w = run_both s es more (happens s w e)
+
+  no_acks_both : (es more : List (Event F)) → NoOtherAcks es → NoOtherAcks more → NoOtherAcks (es ++ more)
+  no_acks_both [] more h k = k
+  no_acks_both (e ∷ es) more h k = (h.0, no_acks_both es more h.1 k)
+
+  no_deletes_both : (es more : List (Event F)) → NoDeletes es → NoDeletes more → NoDeletes (es ++ more)
+  no_deletes_both [] more h k = k
+  no_deletes_both (e ∷ es) more h k = (h.0, no_deletes_both es more h.1 k)
+
+pub producer_loses_nothing : {F : Type 0} → ProducerLosesNothing F
+producer_loses_nothing {F} s fit es more h k a b d g e m =
+    let v : World F = run s more (after s es) in
+    let n : ℕ = known_in (after s es).now.producer.stage in
+    let both : after s (es ++ more) ≡ v = run_both s es more first_world in
+    let in_log : Among e (log v.now) = first_in_log s fit n v (known_logs s fit es more h k) e m in
+    let P : World F → Type 0 = λ w. Among e (log w.now) → IsKept w.now e in
+    subst P both (λ l. log_is_kept s fit (es ++ more) (no_acks_both es more a b) (no_deletes_both es more d g) e l) in_log

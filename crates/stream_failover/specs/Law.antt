@@ -16,7 +16,17 @@ use Rattle.stream_failover.specs.World.{World, Event, Plain, first_world, run}
 abbrev pub after : {F : Type 0} → Setting F → List (Event F) → World F
 after s events = run s events first_world
 
--- with what comes to the server now, from the producer or the consumer, a WAIT comes
+-- with what comes to the server now from the producer, a WAIT comes
+abbrev pub ProducerWaits : {F : Type 0} → Event F → Type 0
+ProducerWaits (Plain (Arrive executes)) = ⊥
+ProducerWaits event = Unit {0}
+
+-- so it is of each of these
+abbrev pub ProducerAlwaysWaits : {F : Type 0} → List (Event F) → Type 0
+ProducerAlwaysWaits [] = Unit {0}
+ProducerAlwaysWaits (e ∷ es) = ProducerWaits e × ProducerAlwaysWaits es
+
+-- with what comes from the producer or from the consumer, a WAIT comes
 abbrev pub Waits : {F : Type 0} → Event F → Type 0
 Waits (Plain (Arrive executes)) = ⊥
 Waits (Plain (Ask n pick next)) = ⊥
@@ -89,12 +99,13 @@ LogIsKept F = (s : Setting F) → Fit s → (events : List (Event F)) → NoOthe
 
 -- the log is the first of the records, in order
 abbrev pub LogIsFirstRecords : Type 0 → Type 0
-LogIsFirstRecords F = (s : Setting F) → Fit s → (events : List (Event F)) → AllWait events
+LogIsFirstRecords F = (s : Setting F) → Fit s → (events : List (Event F)) → ProducerAlwaysWaits events
     → AreFirst (log (after s events).now) (entries s.base s.records)
 
 -- as many records as the producer takes to be in the stream are in it, whatever happens then
 abbrev pub KnownStaysIn : Type 0 → Type 0
-KnownStaysIn F = (s : Setting F) → Fit s → (events more : List (Event F)) → AllWait events → AllWait more
+KnownStaysIn F = (s : Setting F) → Fit s → (events more : List (Event F))
+    → ProducerAlwaysWaits events → ProducerAlwaysWaits more
     → known_in (after s events).now.producer.stage ≤ length (log (run s more (after s events)).now)
 
 -- what is in the file is in the log, with its own fields, after any failover
@@ -106,6 +117,15 @@ FileIsOfLog F = (s : Setting F) → Fit s → (events : List (Event F)) → AllW
 abbrev pub HandledIsNotNew : Type 0 → Type 0
 HandledIsNotNew F = (s : Setting F) → Fit s → (events : List (Event F)) → AllWait events → (e : Entry F)
     → Among e (after s events).now.consumer.file → Among e (after s events).now.stream.fresh → ⊥
+
+-- each record that the producer takes to be in the stream is to come, or pending, or in the file, whatever happens
+-- then, if nobody deletes and nobody else acknowledges. For this the consumer need not ask WAIT
+abbrev pub ProducerLosesNothing : Type 0 → Type 0
+ProducerLosesNothing F = (s : Setting F) → Fit s → (events more : List (Event F))
+    → ProducerAlwaysWaits events → ProducerAlwaysWaits more → NoOtherAcks events → NoOtherAcks more
+    → NoDeletes events → NoDeletes more → (e : Entry F)
+    → Among e (take (known_in (after s events).now.producer.stage) (entries s.base s.records))
+    → IsKept (run s more (after s events)).now e
 
 -- each record that the producer takes to be in the stream is to come, or pending, or in the file, or deleted,
 -- whatever happens then, if nobody else acknowledges

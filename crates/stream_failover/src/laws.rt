@@ -5,7 +5,7 @@ ghost use Rattle.stream_failover.specs.Law.{ComesAsWritten, EachComesOutOnce, Fi
 ghost use Rattle.stream_failover.specs.Law.{FileGrows, FileIsOfRecords, FileOnce};
 ghost use Rattle.stream_failover.specs.Law.{FileOnceOfAnyServer, HandledIsNotNew, KnownStaysIn};
 ghost use Rattle.stream_failover.specs.Law.{LogIsFirstRecords, LogIsKept, LogIsOfRecords};
-ghost use Rattle.stream_failover.specs.Law.{NothingConfirmedIsLost};
+ghost use Rattle.stream_failover.specs.Law.{NothingConfirmedIsLost, ProducerLosesNothing};
 ghost use Rattle.stream_failover.specs.Many.{EachFileOnce, NoneInTwoFiles};
 
 /// No id is twice in the file of a consumer that looks an entry up in it before it adds a line. It
@@ -27,13 +27,15 @@ pub fn nothing_is_made_up<F>()
 
 /// Each entry of the log is to come, or pending, or in the file, with WAIT or without. The premises
 /// are `Fit`, that nobody deletes (`NoDeletes`), and that nobody else acknowledges (`NoOtherAcks`).
-/// So a failover loses only entries that are gone from the log.
+/// So a failover loses only entries that are gone from the log. If the producer asks WAIT, none of
+/// these is a record that it takes to be in.
 pub fn nothing_of_the_log_is_lost<F>()
-    ensures { LogIsKept F }
+    ensures kept { LogIsKept F }
+    ensures added { ProducerLosesNothing F }
 {}
 
-/// With WAIT the log is the first of the records, in order. As many records as the producer takes
-/// to be in are in, after any failover.
+/// If the producer asks WAIT (`ProducerAlwaysWaits`), the log is the first of the records, in order.
+/// As many records as it takes to be in are in, after any failover. The other premise is `Fit`.
 pub fn what_is_confirmed_stays<F>()
     ensures first { LogIsFirstRecords F }
     ensures known { KnownStaysIn F }

@@ -1,4 +1,4 @@
-use Rattle.stream_failover.proofs.Stays.{log_is_first_records, known_stays_in}
+use Rattle.stream_failover.proofs.Added.{log_is_first_records, known_stays_in}
 use Rattle.stream_failover.proofs.laws.what_is_confirmed_stays.Goals as goal
 
 pub returns-clause-first : goal.returns-clause-first
