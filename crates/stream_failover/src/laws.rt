@@ -34,8 +34,9 @@ pub fn nothing_of_the_log_is_lost<F>()
     ensures added { ProducerLosesNothing F }
 {}
 
-/// If the producer asks WAIT (`ProducerAlwaysWaits`), the log is the first of the records, in order.
-/// As many records as it takes to be in are in, after any failover. The other premise is `Fit`.
+/// If the producer asks WAIT (`ProducerAlwaysWaits`), the log is the first of the records, in
+/// order. As many records as it takes to be in are in, after any failover. The other premise is
+/// `Fit`.
 pub fn what_is_confirmed_stays<F>()
     ensures first { LogIsFirstRecords F }
     ensures known { KnownStaysIn F }
