@@ -1,0 +1,5 @@
+-- A failover: the server goes back to a state that a replica has.
+pub mod Lookup
+pub mod World
+pub mod Law
+pub mod Many
