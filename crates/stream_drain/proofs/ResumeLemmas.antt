@@ -19,9 +19,9 @@ use Rattle.stream_worker.specs.declared.state.Asked.TheVariants.{Nothing}
 use Rattle.stream_worker.specs.declared.state.GroupState.{GroupState}
 use Rattle.stream_worker.specs.declared.state.GroupState.TheVariants.{Unknown}
 use Rattle.stream_worker.specs.declared.state.Settings.{Settings}
-use Rattle.stream_drain.specs.Resumed.{BeginsSo, TellEach, Tells}
+use Rattle.stream_drain.specs.Resumed.{BeginsSo, BeginsWithLast, TellEach, Tells}
 use Rattle.stream_drain.specs.Written.{Written}
-use Rattle.stream_drain.proofs.ResumedLemmas.{begins_so}
+use Rattle.stream_drain.proofs.ResumedLemmas.{begins_so, begins_with_last}
 use Rattle.stream_drain.proofs.TellLemmas.{tell_more}
 
 -- a line more of a list of lines, and its id
@@ -81,6 +81,31 @@ it_begins_so number settings json ids loose (Some bytes) machine group asked m g
     })) (sym a)
     (subst (λ (x : List ℕ). BeginsSo number settings json bytes (begun_with settings json ids x (Some bytes))) (sym l)
     (begins_so number settings json bytes ids each))))
+
+-- so it begins with the ids of the last lines
+pub it_begins_with_last : (number : ℕ) (settings : Settings) (json : Bool) (ids : List Id) (loose : List ℕ)
+    (committed : Option (List ℕ)) (machine : Machine) (group : GroupState) (asked : Asked)
+    → machine ≡ record (start settings.every) { to_acknowledge = ids } → group ≡ Unknown → asked ≡ Nothing → loose ≡ []
+    → IfSome committed (λ bytes. TellEach json (last_of number (lines_of bytes)) ids)
+    → IfSome committed (λ bytes. BeginsWithLast number settings json bytes (record {
+      machine = machine;
+      group = group;
+      asked = asked;
+      history = record { json = json; loose = loose; committed = committed };
+    }))
+it_begins_with_last number settings json ids loose None machine group asked m g a l each = tt
+it_begins_with_last number settings json ids loose (Some bytes) machine group asked m g a l each = λ es is.
+    let begun : Machine → GroupState → Asked → Standing Written = λ x y z. record {
+      machine = x;
+      group = y;
+      asked = z;
+      history = record { json = json; loose = loose; committed = Some bytes };
+    } in
+    ap (λ (x : Machine). begun x group asked) m
+    ∙ (ap (λ (y : GroupState). begun (record (start settings.every) { to_acknowledge = ids }) y asked) g
+    ∙ (ap (λ (z : Asked). begun (record (start settings.every) { to_acknowledge = ids }) Unknown z) a
+    ∙ (ap (λ (x : List ℕ). begun_with settings json ids x (Some bytes)) l
+    ∙ begins_with_last number settings json bytes ids each es is)))
 
 -- what is found of the text of an id holds of an id that tells
 pub told_by : (json : Bool) (line id : List ℕ) (r : Result (Option (String Global)) AllocError) → Tells json line id

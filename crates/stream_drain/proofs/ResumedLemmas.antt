@@ -1,6 +1,7 @@
 -- A worker that acknowledges first what the last lines of its file say.
-use Rattle.std.proofs.Common.{◌≡◌, ◌∙◌, ◌+◌, inl, inr, refl, sym, ap, subst, ℕ, Bool, List, [], ◌∷◌, ◌++◌, length, map}
-use Rattle.std.proofs.Common.{Some, append_assoc, arith}
+use Rattle.std.proofs.Common.{◌≡◌, ◌∙◌, ◌+◌, ◌-◌, inl, inr, refl, sym, ap, subst, ℕ, Bool, List, [], ◌∷◌, ◌++◌, length, map}
+use Rattle.std.proofs.Common.{Some, append_assoc, arith, drop}
+use Rattle.std.proofs.lemmas.List.{drop-map}
 use Rattle.line_log.specs.EntryLine.{Entry}
 use Rattle.line_log.specs.LastLines.{last_of, lines_of}
 use Rattle.line_log.specs.Lines.{AreLines}
@@ -12,7 +13,7 @@ use Rattle.stream_worker.specs.Session.{Standing}
 use Rattle.stream_worker.specs.declared.state.Settings.{Settings}
 use Rattle.stream_drain.specs.Line.{line_in}
 use Rattle.stream_drain.specs.Lived.{LivesSo}
-use Rattle.stream_drain.specs.Resumed.{AreLast, BeginsSo, ResumedIsLived, TellEach, ids_in, resumed_so}
+use Rattle.stream_drain.specs.Resumed.{AreLast, BeginsSo, BeginsWithLast, ResumedIsLived, TellEach, ids_in, resumed_so}
 use Rattle.stream_drain.specs.Written.{Written, lines_in}
 use Rattle.stream_drain.proofs.FiledLemmas.{one_line}
 
@@ -75,3 +76,20 @@ begins_so number settings json committed ids tell first es whole is last =
     (ap (λ (i : List Id). resumed_so settings json i (first ++ lines_in json es)) same
     ∙ ap (resumed_so settings json ids) (sym is))
     (resumed_is_lived settings json first es)
+
+-- the lines of the last entries
+last_mapped : (number : ℕ) (json : Bool) (es : List Entry)
+    → last_of number (map (line_in json) es) ≡ map (line_in json) (last_of number es)
+last_mapped number json es =
+    ap (λ (n : ℕ). drop (n - number) (map (line_in json) es)) (same_count json es)
+    ∙ drop-map (line_in json) (length es - number) es
+
+pub begins_with_last : (number : ℕ) (settings : Settings) (json : Bool) (committed : List ℕ) (ids : List Id)
+    → TellEach json (last_of number (lines_of committed)) ids
+    → BeginsWithLast number settings json committed (resumed_so settings json ids committed)
+begins_with_last number settings json committed ids tell es is =
+    let lines : last_of number (lines_of committed) ≡ map (line_in json) (last_of number es) =
+    ap (λ (xs : List ℕ). last_of number (lines_of xs)) is
+    ∙ (ap (last_of number) (lines_are json es) ∙ last_mapped number json es) in
+    ap (λ (i : List Id). resumed_so settings json i committed)
+    (sym (told_are json (last_of number es) ids (subst (λ (ls : List (List ℕ)). TellEach json ls ids) lines tell)))

@@ -1,6 +1,7 @@
 -- Where a worker begins that acknowledges first what the last lines of its file say.
 use Rattle.std.specs.Prelude.{◌≡◌, ◌≤◌, ◌⊎◌, ◌&&◌, ◌||◌, ◌==◌, ℕ, nat_le, List, [], ◌∷◌, ◌++◌, length, map, Bool, Some}
 use Rattle.line_log.specs.EntryLine.{Entry}
+use Rattle.line_log.specs.LastLines.{last_of}
 use Rattle.line_log.specs.Lines.{AreLines}
 use Rattle.stream_group.specs.Worker.{Id, start}
 use Rattle.stream_worker.specs.Session.{Standing}
@@ -48,6 +49,12 @@ resumed_so settings json ids committed = record {
 abbrev pub BeginsSo : ℕ → Settings → Bool → List ℕ → Standing Written → Type 0
 BeginsSo number settings json committed w = (first : List ℕ) (es : List Entry) → AreLines first
     → committed ≡ first ++ lines_in json es → AreLast number first es → LivesSo settings json (Some first) w []
+
+-- and it begins with the ids of the last lines: wherever the file is the lines of entries, it is to acknowledge first the
+-- ids of the last so many of these, in order, and its handler has gathered nothing
+abbrev pub BeginsWithLast : ℕ → Settings → Bool → List ℕ → Standing Written → Type 0
+BeginsWithLast number settings json committed w = (es : List Entry) → committed ≡ lines_in json es
+    → w ≡ resumed_so settings json (ids_in (last_of number es)) committed
 
 -- the law: so a worker begins that is to acknowledge the ids of these entries, whose lines are the last of its file
 abbrev pub ResumedIsLived : Type 0

@@ -3,7 +3,7 @@ ghost use Rattle.std.specs.Prelude.{◌≡◌, ◌≤◌, ◌++◌, ◌∷◌, [
 ghost use Rattle.std.specs.List.{list_all};
 ghost use Rattle.line_log.specs.Holds.{committed_in};
 ghost use Rattle.line_log.specs.LineTexts.{bytes_of};
-ghost use Rattle.stream_drain.specs.Resumed.{BeginsSo, Tells, TellEach, is_of_id};
+ghost use Rattle.stream_drain.specs.Resumed.{BeginsSo, BeginsWithLast, Tells, TellEach, is_of_id};
 ghost use Rattle.stream_worker.specs.Machine.{ids_of};
 ghost use Rattle.stream_worker.specs.Session.{standing_of};
 
@@ -36,6 +36,10 @@ pub fn begun<D: LogFile + Drop>(
     ensures lives { IfOk result (λ b. lines.now.log.batch.items ≡ []
         → IfSome (committed_in (D.seen lines.now.log.file) lines.now.log.len)
         (λ bytes. BeginsSo LARGEST_COUNT settings lines.now.json bytes
+        (standing_of b.worker (⟦<Lines<D> as Handler>⟧.history lines.now)))) }
+    ensures last { IfOk result (λ b. lines.now.log.batch.items ≡ []
+        → IfSome (committed_in (D.seen lines.now.log.file) lines.now.log.len)
+        (λ bytes. BeginsWithLast LARGEST_COUNT settings lines.now.json bytes
         (standing_of b.worker (⟦<Lines<D> as Handler>⟧.history lines.now)))) }
 {
     let ids = lines.last_ids(alloc, LARGEST_COUNT)?;

@@ -1,5 +1,5 @@
 -- The file only grows, at its end.
-use Rattle.std.proofs.Common.{refl, sym, ap, ◌∙◌, ℕ, Bool, true, false, ◌&&◌, List, [], ◌∷◌, ◌++◌, append_assoc, take, Option}
+use Rattle.std.proofs.Common.{refl, ℕ, Bool, true, false, ◌&&◌, List, [], ◌∷◌, take, Option}
 use Rattle.std.proofs.Common.{Some, None, if◌then◌else◌}
 use Rattle.std.specs.Option.{is_none}
 use Rattle.stream_group.specs.Worker.{Id, Verdict, Answer}
@@ -9,13 +9,7 @@ use Rattle.stream_once.specs.World.{Setting, World, Event, Send, Arrive, Arrive_
 use Rattle.stream_once.specs.World.{Acknowledge_now, Acknowledge_later, Reconnect, Restart, Else, asked, acknowledges}
 use Rattle.stream_once.specs.World.{happens, run}
 use Rattle.stream_once.specs.Law.{after, AreFirst, FileGrows}
-use Rattle.stream_once.proofs.Fill.{append_nil}
-
-same : {A : Type 0} (xs : List A) → AreFirst xs xs
-same xs = ([], append_nil xs)
-
-further : {A : Type 0} (xs ys zs : List A) → AreFirst xs ys → AreFirst ys zs → AreFirst xs zs
-further xs ys zs a b = (a.0 ++ b.0, sym (append_assoc xs a.0 b.0) ∙ (ap (λ l. l ++ b.0) a.1 ∙ b.1))
+use Rattle.stream_once.proofs.Ids.{same, further}
 
 module _ {F : Type 0} where
   asked_file : (name : Name) (n : ℕ) (pick : Id → Bool) (next : Id) (w : World F) (b : Bool)
@@ -50,7 +44,7 @@ module _ {F : Type 0} where
   grown s w Acknowledge_now = acked_file s.name w (is_none w.consumer.answer)
   grown s w Acknowledge_later = same w.consumer.file
   grown s w Reconnect = same w.consumer.file
-  grown s w (Restart kept more) = (take kept w.consumer.lines, refl)
+  grown s w (Restart every kept more) = (take kept w.consumer.lines, refl)
   grown s w (Else e) = same w.consumer.file
 
   grown_over : (s : Setting F) (es : List (Event F)) (w : World F)

@@ -24,7 +24,6 @@ use Rattle.stream_once.specs.Consumer.{Consumer, is_empty, is_idle, after_asking
 use Rattle.stream_once.specs.Consumer.{reconnects}
 use Rattle.stream_once.specs.World.{Setting, Event, Send, Arrive, Arrive_late, Hear, Break, Ask, Take, Sync}
 use Rattle.stream_once.specs.World.{Acknowledge_now, Acknowledge_later, Reconnect, Restart, Else, asked, acknowledges}
-use Rattle.stream_once.specs.World.{without_adding}
 use Rattle.stream_once.specs.Law.{Once}
 use Rattle.stream_once.specs.Many.{Many, world_of, happens_to, on_the_way, Has, FairAsk}
 use Rattle.stream_once.specs.Many.{FairElse, IsFair}
@@ -467,15 +466,15 @@ module _ {F : Type 0} where
       ])
       i
 
-  restart_held : (seen : List (Entry F)) (ps : List Pending) (cs : Name → Consumer F) (c : Name) (kept more : ℕ)
-      → Held seen ps cs → Held seen ps (with_one cs c (restarts kept more (cs c)))
-  restart_held seen ps cs c kept more i =
+  restart_held : (seen : List (Entry F)) (ps : List Pending) (cs : Name → Consumer F) (c : Name) (every kept more : ℕ)
+      → Held seen ps cs → Held seen ps (with_one cs c (restarts every kept more (cs c)))
+  restart_held seen ps cs c every kept more i =
       let r : Consumer F = cs c in
       let some : List (Entry F) = take kept r.lines in
       let P : List (Entry F) → Id → Type 0 = λ l id. Among id (ids_of l) in
       let all : (r.file ++ some) ++ drop kept r.lines ≡ r.file ++ r.lines =
       append_assoc r.file some (drop kept r.lines) ∙ ap (λ l. r.file ++ l) (take-append-drop kept r.lines) in
-      kept_held seen ps cs c (restarts kept more r)
+      kept_held seen ps cs c (restarts every kept more r)
       (λ id m. elim m [
         | inl z ↦ absurd z
         | inr z ↦ inr (subst (λ l. P l id) all
@@ -527,8 +526,9 @@ module _ {F : Type 0} where
 
   else_held : (m : Many F) → Distinct m.stream → (e : group.Event F) → FairElse m e
       → Held m.stream.seen m.stream.pending m.consumers
-      → Held (without_adding m.stream e).seen (without_adding m.stream e).pending m.consumers
-  else_held m o (Append id fields) fair i = i
+      → Held (group.happens m.stream e).seen (group.happens m.stream e).pending m.consumers
+  else_held m o (Append n fields) fair i =
+      appended_held m.stream m.consumers n fields (is_below m.stream.last n && fits n) i
   else_held m o (Delete id) fair i = deleted_held m.stream m.consumers id (listed (ids_of (log_of m.stream)) id) i
   else_held m o (Read c n) fair i = read_held m.stream o c n m.consumers i
   else_held m o (Reread c pick) fair i =
@@ -589,8 +589,8 @@ module _ {F : Type 0} where
   holds s m o name Acknowledge_now fair i = now_held m name (is_none (m.consumers name).answer) i
   holds s m o name Acknowledge_later fair i = same_held m.stream.seen m.stream.pending m.consumers name i
   holds s m o name Reconnect fair i = reconnect_held m.stream.seen m.stream.pending m.consumers name i
-  holds s m o name (Restart kept more) fair i =
-      restart_held m.stream.seen m.stream.pending m.consumers name kept more i
+  holds s m o name (Restart every kept more) fair i =
+      restart_held m.stream.seen m.stream.pending m.consumers name every kept more i
   holds s m o name (Else e) fair i =
-      let v : group.World F = without_adding m.stream e in
+      let v : group.World F = group.happens m.stream e in
       same_held v.seen v.pending m.consumers name (else_held m o e fair i)

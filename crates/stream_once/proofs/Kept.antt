@@ -19,7 +19,6 @@ use Rattle.stream_once.specs.Consumer.{Consumer, is_empty, is_idle, after_asking
 use Rattle.stream_once.specs.Consumer.{restarts, reconnects}
 use Rattle.stream_once.specs.World.{Setting, Event, Send, Arrive, Arrive_late, Hear, Break, Ask, Take, Sync}
 use Rattle.stream_once.specs.World.{Acknowledge_now, Acknowledge_later, Reconnect, Restart, Else, asked, acknowledges}
-use Rattle.stream_once.specs.World.{without_adding}
 use Rattle.stream_once.specs.Law.{NoOtherAck, NoOtherAcks}
 use Rattle.stream_once.specs.Many.{Many, first_many, world_of, happens_to, run_many, EachIsKeptByOne}
 use Rattle.stream_once.specs.Many.{setting_of, EachComesOutInOneFile}
@@ -28,7 +27,7 @@ use Rattle.stream_once.proofs.Apart.{ids_both, id_among}
 use Rattle.stream_once.proofs.Lasts.{Done, Told, Step, done_more, told_more, settled, step_read, step_again, step_claim}
 use Rattle.stream_once.proofs.Lasts.{step_claim_ids, step_served, step_deleted, step_comes, serves_told, still_in}
 use Rattle.stream_once.proofs.Lasts.{into_file, onto_file, dropped_in, same_entry}
-use Rattle.stream_once.proofs.Many.{always, distinct, each_file_of_log, none_in_two_files}
+use Rattle.stream_once.proofs.Many.{always, always_filled, distinct, each_file_of_log, none_in_two_files}
 
 module _ {F : Type 0} where
   -- the id stands in one of the files
@@ -196,12 +195,12 @@ module _ {F : Type 0} where
       ])
       i
 
-  restart_all : (w : group.World F) (cs : Name → Consumer F) (c : Name) (kept more : ℕ) → AllIn w cs
-      → AllIn w (with_one cs c (restarts kept more (cs c)))
-  restart_all w cs c kept more i =
+  restart_all : (w : group.World F) (cs : Name → Consumer F) (c : Name) (every kept more : ℕ) → AllIn w cs
+      → AllIn w (with_one cs c (restarts every kept more (cs c)))
+  restart_all w cs c every kept more i =
       let r : Consumer F = cs c in
       let some : List (Entry F) = take kept r.lines in
-      put w.seen w.pending w.deleted w.acks cs c (restarts kept more r) (into_file r.file some) tt (λ id h. absurd h)
+      put w.seen w.pending w.deleted w.acks cs c (restarts every kept more r) (into_file r.file some) tt (λ id h. absurd h)
       (λ id h. inr (dropped_in (length (r.file ++ some) - (last_added r.last_commit some + more)) (r.file ++ some) id h))
       i
 
@@ -240,18 +239,18 @@ module _ {F : Type 0} where
   late_all w cs k (Some a) q i = acked_all w cs a (i.sent a (among_item w.acks k a q)) i
 
   else_all : (w : group.World F) (cs : Name → Consumer F) (e : group.Event F) → NoOtherAck (Else e) → AllIn w cs
-      → AllIn (without_adding w e) cs
-  else_all w cs (Append id f) h i = i
+      → AllIn (group.happens w e) cs
+  else_all w cs (Append n f) h i = appended_all w cs n f (is_below w.last n && fits n) i
   else_all w cs (Delete id) h i =
-      moved_all (without_adding w (Delete id)) w cs (step_deleted w id (listed (ids_of (log_of w)) id)) i
-  else_all w cs (Read c n) h i = moved_all (without_adding w (Read c n)) w cs (step_read w c n) i
-  else_all w cs (Reread c pick) h i = moved_all (without_adding w (Reread c pick)) w cs (step_again w c pick) i
+      moved_all (group.happens w (Delete id)) w cs (step_deleted w id (listed (ids_of (log_of w)) id)) i
+  else_all w cs (Read c n) h i = moved_all (group.happens w (Read c n)) w cs (step_read w c n) i
+  else_all w cs (Reread c pick) h i = moved_all (group.happens w (Reread c pick)) w cs (step_again w c pick) i
   else_all w cs (Claim c pick next) h i =
-      moved_all (without_adding w (Claim c pick next)) w cs (step_claim w c pick next) i
+      moved_all (group.happens w (Claim c pick next)) w cs (step_claim w c pick next) i
   else_all w cs (Claim_ids c pick) h i =
-      moved_all (without_adding w (Claim_ids c pick)) w cs (step_claim_ids w c pick) i
+      moved_all (group.happens w (Claim_ids c pick)) w cs (step_claim_ids w c pick) i
   else_all w cs (Comes k vs) h i =
-      moved_all (without_adding w (Comes k vs)) w cs (step_comes w k (item w.replies k) vs) i
+      moved_all (group.happens w (Comes k vs)) w cs (step_comes w k (item w.replies k) vs) i
   else_all w cs (Commit c) h i = i
   else_all w cs (Acknowledge c) h i = absurd h
   else_all w cs (Ack_comes k) h i = late_all w cs k (item w.acks k) refl i
@@ -290,8 +289,8 @@ module _ {F : Type 0} where
   all_after s m c Reconnect h i =
       put m.stream.seen m.stream.pending m.stream.deleted m.stream.acks m.consumers c (reconnects (m.consumers c))
       (λ id k. k) tt (i.each c).to_commit (λ id k. inl ((i.each c).to_ack id k)) i
-  all_after s m c (Restart kept more) h i = restart_all m.stream m.consumers c kept more i
-  all_after s m c (Else e) h i = as_it_was (without_adding m.stream e) m.consumers c (else_all m.stream m.consumers e h i)
+  all_after s m c (Restart every kept more) h i = restart_all m.stream m.consumers c every kept more i
+  all_after s m c (Else e) h i = as_it_was (group.happens m.stream e) m.consumers c (else_all m.stream m.consumers e h i)
 
   all_over : (s : Setting F) (es : List (Name × Event F)) (m : Many F) → NoOtherAcks (map (λ e. e.1) es) → AllOf m
       → AllOf (run_many s es m)
@@ -306,7 +305,7 @@ module _ {F : Type 0} where
   }
 
 pub each_is_kept_by_one : {F : Type 0} → EachIsKeptByOne F
-each_is_kept_by_one {F} s fit es alone e h =
+each_is_kept_by_one {F} s es alone e h =
     let m : Many F = run_many s es first_many in
     let w : group.World F = m.stream in
     let i : AllOf m = all_over s es first_many alone all_first in
@@ -320,8 +319,8 @@ each_is_kept_by_one {F} s fit es alone e h =
               let P : Entry F → Type 0 = λ x. Among x (m.consumers f.0).file in
               inr (inr (inl (
                 f.0,
-                subst P (same_entry (log_of w) (distinct s fit m f.0 (always s fit es)) t.x e
-                    (each_file_of_log s fit es f.0 t.x t.within) h t.is) t.within,
+                subst P (same_entry (log_of w) (distinct s m f.0 (always s es)) t.x e
+                    (each_file_of_log s es f.0 t.x t.within) h t.is) t.within,
               ))))
           | inr g ↦ inr (inr (inr g))
         ]
@@ -329,13 +328,13 @@ each_is_kept_by_one {F} s fit es alone e h =
     ]
 
 pub each_comes_out_in_one_file : {F : Type 0} → EachComesOutInOneFile F
-each_comes_out_in_one_file {F} s fit es alone fair all_in drained none e h =
+each_comes_out_in_one_file {F} s fit es none_else alone fair all_in drained none e h =
     let m : Many F = run_many s es first_many in
     let all : log_of m.stream ≡ entries s.base s.records =
-    done_in (setting_of s s.name) fit (world_of m s.name) (always s fit es s.name).0 all_in in
+    done_in (setting_of s s.name) fit (world_of m s.name) (always_filled s fit es none_else s.name) all_in in
     let P : List (Entry F) → Type 0 = λ l. Among e l in
     let Q : List Id → Type 0 = λ l. Among e.0 l in
-    elim (each_is_kept_by_one s fit es alone e (subst P (sym all) h)) [
+    elim (each_is_kept_by_one s es alone e (subst P (sym all) h)) [
       | inl a ↦ absurd (subst P drained.1 a)
       | inr b ↦ elim b [
         | inl a ↦ absurd (let R : List Pending → Type 0 = λ l. Among e.0 (pending_ids l) in subst R drained.0 a)
@@ -344,7 +343,7 @@ each_comes_out_in_one_file {F} s fit es alone fair all_in drained none e h =
             f.0,
             (
               f.1,
-              λ other k. none_in_two_files s fit es fair e.0 f.0 other (id_among e (m.consumers f.0).file f.1) k,
+              λ other k. none_in_two_files s es fair e.0 f.0 other (id_among e (m.consumers f.0).file f.1) k,
             ),
           )
           | inr a ↦ absurd (subst Q none a)

@@ -30,7 +30,7 @@ beginning more =
 abbrev schedule : List (Name × Event ℕ)
 schedule = beginning (
     (ann, ask) ∷ (bob, ask) ∷ (bob, Take (done ∷ [])) ∷ (ann, Take (done ∷ [])) ∷ (ann, Sync) ∷ (bob, Sync) ∷
-    (ann, Restart 0 0) ∷ (ann, Acknowledge_now) ∷ (bob, Acknowledge_now) ∷ [])
+    (ann, Restart 1 0 0) ∷ (ann, Acknowledge_now) ∷ (bob, Acknowledge_now) ∷ [])
 
 pub it_fits : Fit two
 it_fits = omega arith

@@ -3,11 +3,11 @@ use Rattle.std.proofs.Common.{◌≡◌, refl, inl, ℕ, ◌+◌, true, false, �
 use Rattle.std.proofs.Common.{Option, Some, if◌then◌else◌}
 use Rattle.std.specs.Fmt.{digits}
 use Rattle.std.specs.Option.{is_none}
-use Rattle.stream_group.specs.Worker.{Id, Entry, done, start}
+use Rattle.stream_group.specs.Worker.{Id, Entry, done, start, begins_with}
 use Rattle.stream_group.specs.Group.{ids_of, id_text}
 use Rattle.stream_once.specs.Feed.{Stage, knows, waits, Answer, executed, refused, learns}
 use Rattle.stream_once.specs.Producer.{hears, breaks}
-use Rattle.stream_once.specs.Consumer.{is_empty, resumes, last_lines, restarts}
+use Rattle.stream_once.specs.Consumer.{is_empty, last_lines, restarts}
 use Rattle.stream_once.specs.World.{Setting, World, first_world, Event, Send, Arrive, Hear, Break, Ask, Take, Sync}
 use Rattle.stream_once.specs.World.{Acknowledge_now, Reconnect, Restart, asked, happens}
 use Rattle.stream_once.specs.Law.{Once, log}
@@ -70,27 +70,27 @@ is_twice h = h.0 (inl refl)
 
 -- a consumer that is started again acknowledges no line of its file
 abbrev acknowledges_no_line : World ℕ → Event ℕ → World ℕ
-acknowledges_no_line w (Restart kept more) =
-    record w { consumer = record (restarts kept more w.consumer) { machine = start 1 } }
+acknowledges_no_line w (Restart every kept more) =
+    record w { consumer = record (restarts every kept more w.consumer) { machine = start 1 } }
 acknowledges_no_line w e = happens two w e
 
 pub no_line : file_of (run_by acknowledges_no_line
-    (given_one (Sync ∷ Restart 0 0 ∷ ask ∷ Take (done ∷ []) ∷ Sync ∷ [])) first_world) ≡ first_twice
+    (given_one (Sync ∷ Restart 1 0 0 ∷ ask ∷ Take (done ∷ []) ∷ Sync ∷ [])) first_world) ≡ first_twice
 unfolding digits
 no_line = refl
 
 -- lines of a commit that a crash cut off are not acknowledged
 abbrev forgets_cut_commit : World ℕ → Event ℕ → World ℕ
-forgets_cut_commit w (Restart kept more) = record w {
-  consumer = record (restarts kept more w.consumer) {
-    machine = resumes (ids_of (last_lines (w.consumer.last_commit + more) (w.consumer.file ++ take kept w.consumer.lines)));
+forgets_cut_commit w (Restart every kept more) = record w {
+  consumer = record (restarts every kept more w.consumer) {
+    machine = begins_with every (ids_of (last_lines (w.consumer.last_commit + more) (w.consumer.file ++ take kept w.consumer.lines)));
     last_commit = w.consumer.last_commit;
   };
 }
 forgets_cut_commit w e = happens two w e
 
 pub cut_commit : file_of (run_by forgets_cut_commit
-    (given_one (Restart 1 0 ∷ ask ∷ Take (done ∷ []) ∷ Sync ∷ [])) first_world) ≡ first_twice
+    (given_one (Restart 1 1 0 ∷ ask ∷ Take (done ∷ []) ∷ Sync ∷ [])) first_world) ≡ first_twice
 unfolding digits
 cut_commit = refl
 

@@ -68,20 +68,17 @@ commits c = if is_none c.answer && is_empty c.machine.to_acknowledge then syncs 
 abbrev pub last_lines : {F : Type 0} → ℕ → List (Entry F) → List (Entry F)
 last_lines n file = drop (length file - n) file
 
--- a worker that begins with what is pending for it, and acknowledges these ids before that
-abbrev pub resumes : List Id → Machine
-resumes ids = begins_with 1 ids
-
 -- how many lines the last commit added: where a crash cut a commit off, those lines of it that are in the file
 abbrev pub last_added : {F : Type 0} → ℕ → List (Entry F) → ℕ
 last_added before [] = before
 last_added before (e ∷ es) = length (e ∷ es)
 
--- it crashes and is started again. The first `kept` lines of a commit that the crash cut off may be in the file all
--- the same. It acknowledges what the last lines of its file name: those of the last commit, and `more` before them
-abbrev pub restarts : {F : Type 0} → ℕ → ℕ → Consumer F → Consumer F
-restarts kept more c = record {
-  machine = resumes (ids_of
+-- it crashes and is started again, to claim after `every` reads. The first `kept` lines of a commit that the crash cut
+-- off may be in the file all the same. It acknowledges what the last lines of its file name: those of the last commit,
+-- and `more` before them
+abbrev pub restarts : {F : Type 0} → (every kept more : ℕ) → Consumer F → Consumer F
+restarts every kept more c = record {
+  machine = begins_with every (ids_of
       (last_lines (last_added c.last_commit (take kept c.lines) + more) (c.file ++ take kept c.lines)));
   answer = None;
   lines = [];

@@ -10,7 +10,7 @@ use Rattle.stream_once.specs.Producer.{Producer, new_producer}
 use Rattle.stream_once.specs.Consumer.{Consumer, new_consumer}
 use Rattle.stream_once.specs.World.{Setting, World, Event, Ask, Else, happens}
 use Rattle.stream_once.specs.Feed.{entries}
-use Rattle.stream_once.specs.Law.{Fit, Once, NoOtherAcks, IsDone, IsDrained}
+use Rattle.stream_once.specs.Law.{Fit, Once, NoOtherAdds, NoOtherAcks, IsDone, IsDrained}
 
 -- the server, the producer, and each consumer by its name
 pub record Many (F : Type 0) : Type 0 where
@@ -90,17 +90,17 @@ file_after s events name = ((run_many s events first_many).consumers name).file
 
 -- no id stands twice in any of the files
 abbrev pub EachFileOnce : Type 0 → Type 0
-EachFileOnce F = (s : Setting F) → Fit s → (events : List (Name × Event F)) (name : Name)
+EachFileOnce F = (s : Setting F) (events : List (Name × Event F)) (name : Name)
     → Once (ids_of (file_after s events name))
 
 -- what stands in any of them is of the log, with its own fields
 abbrev pub EachFileIsOfLog : Type 0 → Type 0
-EachFileIsOfLog F = (s : Setting F) → Fit s → (events : List (Name × Event F)) (name : Name) (e : Entry F)
+EachFileIsOfLog F = (s : Setting F) (events : List (Name × Event F)) (name : Name) (e : Entry F)
     → Among e (file_after s events name) → Among e (log_of (run_many s events first_many).stream)
 
 -- if no claim takes what another consumer has, no id stands in two files
 abbrev pub NoneInTwoFiles : Type 0 → Type 0
-NoneInTwoFiles F = (s : Setting F) → Fit s → (events : List (Name × Event F)) → AllFair s first_many events
+NoneInTwoFiles F = (s : Setting F) (events : List (Name × Event F)) → AllFair s first_many events
     → (id : Id) (one other : Name) → Among id (ids_of (file_after s events one))
     → Among id (ids_of (file_after s events other)) → one ≡ other
 
@@ -116,7 +116,7 @@ IsKeptByOne m e =
 
 -- each entry that was added is, if nobody but these consumers acknowledges
 abbrev pub EachIsKeptByOne : Type 0 → Type 0
-EachIsKeptByOne F = (s : Setting F) → Fit s → (events : List (Name × Event F)) → NoOtherAcks (map (λ e. e.1) events)
+EachIsKeptByOne F = (s : Setting F) (events : List (Name × Event F)) → NoOtherAcks (map (λ e. e.1) events)
     → (e : Entry F) → Among e (log_of (run_many s events first_many).stream)
     → IsKeptByOne (run_many s events first_many) e
 
@@ -127,10 +127,10 @@ InOneFile m e =
     × (Among e (m.consumers name).file × ((other : Name) → Among e.0 (ids_of (m.consumers other).file) → name ≡ other))
 
 -- if the producer is done, the stream drained, and nothing deleted, each record stands in one of the files, and in no
--- other; if nobody else acknowledges, and no claim takes what another consumer has
+-- other; if nobody else adds or acknowledges, and no claim takes what another consumer has
 abbrev pub EachComesOutInOneFile : Type 0 → Type 0
 EachComesOutInOneFile F = (s : Setting F) → Fit s → (events : List (Name × Event F))
-    → NoOtherAcks (map (λ e. e.1) events) → AllFair s first_many events
+    → NoOtherAdds (map (λ e. e.1) events) → NoOtherAcks (map (λ e. e.1) events) → AllFair s first_many events
     → IsDone s (world_of (run_many s events first_many) s.name)
     → IsDrained (world_of (run_many s events first_many) s.name) → (run_many s events first_many).stream.deleted ≡ []
     → (e : Entry F) → Among e (entries s.base s.records) → InOneFile (run_many s events first_many) e

@@ -4,4 +4,6 @@ pub mod Coupled
 pub mod Kept
 pub mod RoundLemmas
 pub mod DrainedLemmas
+pub mod OnceLemmas
 mod Sample
+mod OnceSample

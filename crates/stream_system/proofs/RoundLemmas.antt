@@ -33,7 +33,7 @@ use Rattle.stream_system.specs.Rounds.{round_of, RoundsAreMoves, AreOf, AreOther
 use Rattle.stream_system.specs.Rounds.{StartsAreMoves}
 
 -- two standings that are the same in each part
-as_parts : (y w : Standing Doings) → y.machine ≡ w.machine → y.group ≡ w.group → y.asked ≡ w.asked
+pub as_parts : (y w : Standing Doings) → y.machine ≡ w.machine → y.group ≡ w.group → y.asked ≡ w.asked
     → y.history ≡ w.history → y ≡ w
 as_parts y w m g a h =
     ap (λ (v : Machine). let u : Standing Doings = record y { machine = v } in u) m

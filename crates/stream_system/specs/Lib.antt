@@ -3,3 +3,4 @@ pub mod System
 pub mod Law
 pub mod Rounds
 pub mod Drained
+pub mod Once

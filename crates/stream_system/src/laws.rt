@@ -1,6 +1,10 @@
 //! What holds of workers over one server, each with a file of lines, after every schedule.
 ghost use Rattle.stream_system.specs.Drained.{EnoughRoundsDrain, OneRoundIsOne};
 ghost use Rattle.stream_system.specs.Law.{AcknowledgedIsInAFile, EachEntryIsKept};
+ghost use Rattle.stream_system.specs.Once.{CodeKeepsEach, CodeWritesInOrder, CodeWritesOnce};
+ghost use Rattle.stream_system.specs.Once.{CodeWritesTheLog, CodeWritesTheRecords, FailuresAreEvents};
+ghost use Rattle.stream_system.specs.Once.{RoundsAreEvents, RoundsRun, RunsAreEvents, SessionsRun};
+ghost use Rattle.stream_system.specs.Once.{StartsAreEvents, StartsReadEnough};
 ghost use Rattle.stream_system.specs.Rounds.{FailuresAreMoves, OthersChangeNothing, RoundsAreMoves, StartsAreMoves};
 
 /// After any moves each entry that was ever added is still to come, or pending, or is a line of some
@@ -34,4 +38,34 @@ pub fn starts_are_moves()
 pub fn rounds_that_hear_the_page_are_rounds()
     ensures round { OneRoundIsOne }
     ensures drains { EnoughRoundsDrain }
+{}
+
+/// What `Worker::round`, `Worker::new` and `Worker::resumed` promise are events of the consumer of
+/// `stream_once`: a round that returns Ok, one that fails, and a crash with the start after it. So
+/// after each schedule of them (`Runs`) the worker and its file are that consumer. The rounds of
+/// `Worker::run` are such rounds too.
+///
+/// The premise of a round is that the worker takes the reply of the model's server to its question
+/// (`HearsTheAnswer`). The premise of a start is that it reads back the lines of the last commit. It
+/// does if no reply had more entries than it reads lines.
+pub fn rounds_are_those_of_once()
+    ensures rounds { RoundsAreEvents }
+    ensures failures { FailuresAreEvents }
+    ensures starts { StartsAreEvents }
+    ensures one { RoundsRun }
+    ensures sessions { SessionsRun }
+    ensures runs { RunsAreEvents }
+    ensures enough { StartsReadEnough }
+{}
+
+/// After each schedule of the code no id is twice in the worker's file, and each entry of the file is of
+/// the log, with its own fields. Each entry of the log is still to come, or pending, or in the file, or
+/// was deleted, if nobody else acknowledges. If the worker reads all in order (`AllInOrder`), the file
+/// is the first of the log. It is the records once all are in and the stream is drained.
+pub fn the_code_writes_each_entry_once()
+    ensures once { CodeWritesOnce }
+    ensures of_log { CodeWritesTheLog }
+    ensures kept { CodeKeepsEach }
+    ensures first { CodeWritesInOrder }
+    ensures all { CodeWritesTheRecords }
 {}
