@@ -1,5 +1,5 @@
 -- A reply that begins with `+` is no error, and what comes in behind what was held.
-use Rattle.std.proofs.Common.{◌≡◌, ◌==◌, ◌+◌, ◌<◌, ◌≤◌, ℕ, zero, suc, Bool, true, false, List, [], ◌∷◌, ◌++◌, length, take}
+use Rattle.std.proofs.Common.{◌≡◌, ◌+◌, ◌<◌, ◌≤◌, ℕ, zero, suc, Bool, true, false, List, [], ◌∷◌, ◌++◌, take}
 use Rattle.std.proofs.Common.{Result, Ok, Err, OnOk, IfErr, refl, sym, ◌∙◌, ap, subst, append_assoc, arith}
 use Rattle.std.proofs.KnownBytes.{Consumes-trans}
 use Rattle.std.specs.Prelude.{if◌then◌else◌, codes}
@@ -11,7 +11,7 @@ use Rattle.redis_wire.specs.Scalar.{line_answer, text_answer}
 use Rattle.redis_wire.specs.declared.kind.LineKind.TheVariants as lines
 use Rattle.redis_wire.specs.declared.limits.Limits.{Limits}
 use Rattle.redis_connection.specs.Link.{Link, Receives, Stands, Waits}
-use Rattle.redis_connection.specs.Passing.{IsMessage, PassesOne, Passes, ReceivesAnswer, AwaitsAnswer, IsAnswerInPlace}
+use Rattle.redis_connection.specs.Passing.{Passes, ReceivesAnswer, AwaitsAnswer, IsAnswerInPlace}
 use Rattle.redis_connection.proofs.LinkLemmas.{waits_on}
 use Rattle.stream_feed.specs.Learnt.{Took}
 use Rattle.stream_feed.specs.Machine.{Standing}

@@ -64,7 +64,7 @@ fn append_records(
     Ok(())
 }
 
-/// The arguments that each `XADD` begins with, as bytes: its name and the key.
+/// What each `XADD` begins with after the count of its arguments: its name and the key, as bytes.
 fn front_of(alloc: Global, key: &str) -> Result<Vec<u8>, WriteError>
     ensures { IfOk result (λ front. front.items ≡ bulk_bytes (codes "XADD") ++ bulk_bytes key.now) }
 {
@@ -74,7 +74,8 @@ fn front_of(alloc: Global, key: &str) -> Result<Vec<u8>, WriteError>
     Ok(front)
 }
 
-/// Appends `XADD key number-0 field value ..`, whose front is made. Room of `id` is used.
+/// Appends `XADD key number-0 field value ..`. `front` is its name and the key, as bytes. `id` is room
+/// for the id.
 fn append_record(
     out: &mut Vec<u8>,
     front: &[u8],
@@ -95,7 +96,7 @@ fn append_record(
     Ok(())
 }
 
-/// Appends how many arguments the `XADD` of a record with so many fields has.
+/// Appends how many arguments the `XADD` of a record with so many fields has: less than 2^32.
 #[tactic(auto, unfolding(redis_wire::specs::Packed::head_bytes))]
 fn append_head(out: &mut Vec<u8>, fields: usize) -> Result<(), WriteError>
     ensures { OnOk result (out.new.items ≡ out.old.items ++ head_bytes (3 + 2 * fields)) }

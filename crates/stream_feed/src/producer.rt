@@ -60,7 +60,7 @@ impl Producer {
         self.coming
     }
 
-    /// Has the source read ahead, where it is known which records are asked next.
+    /// Has the source read ahead if a batch is on its way, since the records after it are asked next.
     pub(crate) fn look_ahead<S: Source>(&self, alloc: Global, source: &mut S)
         ensures { S.records source.new ≡ S.records source.old }
     {

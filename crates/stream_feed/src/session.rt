@@ -32,7 +32,7 @@ impl Producer {
         Ok(())
     }
 
-    /// Takes the next reply, and builds no value of one that is a line.
+    /// Takes the next reply. It builds no value of a line that is not the last reply.
     fn hear_next<R: Read + Drop, W: Write + Drop>(
         &mut self,
         alloc: Global,
@@ -51,7 +51,7 @@ impl Producer {
         self.hear_reply(alloc, connection, count)
     }
 
-    /// Takes the next reply, behind which others are to come.
+    /// Takes the next reply. At least one more is to come after it.
     fn hear_queued<R: Read + Drop, W: Write + Drop>(
         &mut self,
         alloc: Global,
@@ -72,7 +72,8 @@ impl Producer {
         }
     }
 
-    /// Takes the next reply where it is a line such as `+QUEUED`, which is no error: whether it is.
+    /// Takes the next reply if it is a line such as `+QUEUED`, which is no error. It returns whether it
+    /// is. If not, the reply is still to come.
     fn hears_line<R: Read + Drop, W: Write + Drop>(
         &mut self,
         alloc: Global,

@@ -29,7 +29,7 @@ pub enum Form {
 /// Records that were read before they are asked for.
 #[derive(Drop)]
 struct Ahead {
-    /// So many stand before them.
+    /// So many are before them.
     behind: u64,
     records: Vec<Record>,
 }
@@ -103,8 +103,8 @@ impl Lines {
         bail!("the file has no end")
     }
 
-    // Counts the lines that stand whole in what is read of the file, which begins at this place: where
-    // the next line begins.
+    // Counts the lines that are whole in the buffer, which begins at this place of the file. It returns
+    // where the next line begins.
     fn count_buffered(&mut self, begin: u64) -> Result<u64> {
         let Ok(piece) = self.file.fill_buf() else {
             return Ok(begin);
@@ -155,7 +155,7 @@ impl Lines {
         Ok(())
     }
 
-    // The records behind so many, at most so many of them.
+    // The records after the first `behind` ones, at most `most` of them.
     fn records_from(&mut self, alloc: Global, behind: u64, most: usize) -> Result<Vec<Record>> {
         let mut records = Vec::new(alloc);
         if behind < self.count {
@@ -190,7 +190,7 @@ impl Lines {
         Ok(())
     }
 
-    // Reads the lines that stand whole in what is read of the file, until there are so many records.
+    // Reads the lines that are whole in the buffer as records, until there are so many.
     fn read_buffered(
         &mut self,
         alloc: Global,
@@ -203,12 +203,12 @@ impl Lines {
         };
         let mut rest = piece;
         for _ in records.len() as u64..most {
-            let Some((line, behind_it)) = split_line(rest) else {
+            let Some((line, after)) = split_line(rest) else {
                 break;
             };
             let number = number_of_next(records, behind);
             records.push(record_of(alloc, &self.form, &mut self.scratch, line, number)?)?;
-            rest = behind_it;
+            rest = after;
         }
         let len = piece.len().saturating_sub(rest.len());
         self.file.consume(len);
@@ -251,14 +251,14 @@ fn count_line(count: &mut u64, places: &mut Vec<u64>, place: u64) -> Result<(), 
     Ok(())
 }
 
-// The number of the next line, where these records behind so many are read.
+// The number of the next line, if these records were read after the first `behind` ones.
 fn number_of_next(records: &Vec<Record>, behind: u64) -> u64 {
     behind
         .saturating_add(records.len() as u64)
         .saturating_add(1)
 }
 
-// The first line without its end, and what stands behind it; None where it has no end.
+// The first line without its end, and what is after it. None if it has no end.
 fn split_line(bytes: &[u8]) -> Option<(&[u8], &[u8])> {
     let (line, rest) = bytes.split_at_checked(memchr(b'\n', bytes)?)?;
     let (_end, rest) = rest.split_first()?;

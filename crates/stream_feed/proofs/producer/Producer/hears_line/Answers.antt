@@ -1,4 +1,4 @@
-use Rattle.std.proofs.Common.{◌≡◌, ap}
+use Rattle.std.proofs.Common.{ap}
 use Rattle.stream_feed.specs.Machine.{stage_of, standing_of}
 use Rattle.stream_feed.proofs.LineLemmas.{line_heard}
 use Rattle.stream_feed.proofs.producer.Producer.hears_line.Goals as goal
