@@ -138,13 +138,13 @@ unfoldable pub stream_samples : Metric → StreamFigures → List ℕ
 stream_samples m s = sample_text m (stream_labels s) (stream_number m s)
     ++ flat_map (group_samples m (stream_labels s)) s.groups.items
 
--- what a metric is: its type, its unit if it is a time, and a text for people
+-- the head of a metric: its type, its unit if it is a time, and a text for people
 unfoldable pub head_text : Metric → List ℕ
 head_text m = (codes "# TYPE " ++ (name_text m ++ codes " gauge\n"))
     ++ ((if is_time m then codes "# UNIT " ++ (name_text m ++ codes " seconds\n") else [])
     ++ (codes "# HELP " ++ (name_text m ++ help_text m)))
 
--- a metric: what it is, and its samples
+-- a metric: its head and its samples
 unfoldable pub metric_text : Metric → List StreamFigures → List ℕ
 metric_text m streams = head_text m ++ flat_map (stream_samples m) streams
 

@@ -11,7 +11,7 @@ use redis_streams::{
 };
 use std::alloc::{AllocError, Global};
 
-/// What is measured of a stream.
+/// The figures of a stream.
 #[derive(Drop)]
 pub struct StreamFigures {
     /// Its key.
@@ -22,11 +22,11 @@ pub struct StreamFigures {
     pub last_id: String,
     /// The milliseconds of that id.
     pub last_time: Option<usize>,
-    /// What is measured of its groups.
+    /// The figures of its groups.
     pub groups: Vec<GroupFigures>,
 }
 
-/// What is measured of a group.
+/// The figures of a group.
 #[derive(Drop)]
 pub struct GroupFigures {
     /// Its name.
@@ -43,11 +43,11 @@ pub struct GroupFigures {
     pub oldest_pending: Option<usize>,
     /// How often the pending entry that was delivered most often was delivered; 0 if none is pending.
     pub deliveries: usize,
-    /// What is measured of its consumers.
+    /// The figures of its consumers.
     pub consumers: Vec<ConsumerFigures>,
 }
 
-/// What is measured of a consumer.
+/// The figures of a consumer.
 #[derive(Drop)]
 pub struct ConsumerFigures {
     /// Its name.

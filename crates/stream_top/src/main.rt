@@ -12,7 +12,7 @@
 //! memory runs out.
 //!
 //! With `--once --json` after one key or more it prints one document of JSON, and with
-//! `--once --openmetrics` a text of OpenMetrics, on standard error too. A key that is not there is a
+//! `--once --openmetrics` a text of OpenMetrics, on standard error too. A key that does not exist is a
 //! stream with no entries. It prints all of it or, with status 1, only the reason.
 #![tactic(auto)]
 
@@ -125,7 +125,7 @@ enum Form {
     OpenMetrics,
 }
 
-// The keys, and the form that the words behind them name.
+// The keys, and the form that the words after them name.
 fn form_of(words: &[RawBytes]) -> (&[RawBytes], Option<Form>) {
     let [rest @ .., form] = words else {
         return (words, None);
@@ -283,7 +283,7 @@ impl<R: Read, W: Write> Connection<R, W> {
         record_of(alloc, self.reply(alloc)?)
     }
 
-    // The same of a command on a key, and None where the server says that the key is not there.
+    // The same of a command on a key; None if the server says that there is no such key.
     fn answer_of_key(&mut self, alloc: Global) -> Result<Option<Value>> {
         let reply = self.reply(alloc)?;
         if is_no_such_key(&reply) {
@@ -309,7 +309,7 @@ impl<R: Read, W: Write> Connection<R, W> {
     }
 }
 
-// What a server says of a key that is not there.
+// The error of a server for a key that does not exist.
 const NO_SUCH_KEY: &str = "ERR no such key";
 
 fn is_no_such_key(reply: &Reply) -> bool {
@@ -319,7 +319,7 @@ fn is_no_such_key(reply: &Reply) -> bool {
     }
 }
 
-// What a reply says.
+// The record of a reply.
 fn record_of<T: FromRedisValue>(alloc: Global, reply: Reply) -> Result<T> {
     match from_reply(alloc, reply) {
         Ok(record) => Ok(record),

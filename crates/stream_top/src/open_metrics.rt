@@ -10,7 +10,7 @@ use crate::figures::{ConsumerFigures, GroupFigures, StreamFigures};
 use itoa::Buffer;
 use std::alloc::{AllocError, Global};
 
-/// What is measured. Of a stream, of its groups or of their consumers.
+/// A metric: of streams, of groups or of consumers.
 #[derive(Clone, Copy)]
 pub enum Metric {
     Length,
@@ -76,7 +76,7 @@ fn push_of_consumers(
     push_metric(alloc, out, Metric::ConsumerIdle, streams)
 }
 
-/// A metric: what it is, and its samples.
+/// A metric: its head and its samples.
 #[tactic(auto, unfolding(crate::specs::Metrics::metric_text))]
 fn push_metric(
     alloc: Global,
@@ -90,7 +90,7 @@ fn push_metric(
     push_streams(alloc, out, metric, streams)
 }
 
-/// What a metric is: its type, its unit if it has one, and a text for people.
+/// The head of a metric: its type, its unit if it is a time, and a text for people.
 #[tactic(auto, unfolding(crate::specs::Metrics::head_text))]
 fn push_head(out: &mut Vec<u8>, metric: Metric) -> Result<(), AllocError>
     ensures { OnOk result (out.new.items ≡ out.old.items ++ head_text metric) }
@@ -235,7 +235,7 @@ fn push_label(out: &mut Vec<u8>, text: &[u8]) -> Result<(), AllocError>
     Ok(())
 }
 
-/// A byte of a label. Some readers take the byte 0 for the end of all, so it is a text too.
+/// A byte of a label. The byte 0 is written as a text, so that no reader has to take it.
 fn push_label_byte(out: &mut Vec<u8>, byte: u8) -> Result<(), AllocError>
     ensures { OnOk result (out.new.items ≡ out.old.items ++ label_byte byte) }
 {
