@@ -1,5 +1,5 @@
 -- What is measured of a stream, by what XINFO STREAM FULL tells of it and the time of the server's clock.
-use Rattle.std.specs.Prelude.{ℕ, ◌-◌, ◌==◌, Bool, List, [], ◌∷◌, Option, Some, None, map, fold, max, string_bytes}
+use Rattle.std.specs.Prelude.{ℕ, ◌-◌, ◌==◌, Bool, List, [], ◌∷◌, Option, None, map, fold, max, string_bytes}
 use Rattle.std.specs.Prelude.{option_and_then, option_map, if◌then◌else◌, nat_lt, length}
 use Rattle.std.specs.List.{before_first, position_or_len}
 use Rattle.redis_resp.specs.Number.{unsigned_of, within}
