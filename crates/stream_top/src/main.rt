@@ -10,8 +10,19 @@
 //! clock. In a name a control character stands as `?`, a byte that is no UTF-8 as `\xff`, and a backslash
 //! as `\\`. It ends with 0, or with 1 where the connection ends, the server answers an error or
 //! memory runs out.
+//!
+//! With `--once --json` after one key or more it prints one document of JSON, and with
+//! `--once --openmetrics` a text of OpenMetrics, on standard error too. A key that does not exist is a
+//! stream with no entries. It prints all of it or, with status 1, only the reason.
 #![tactic(auto)]
 
+mod figures;
+mod json_text;
+mod open_metrics;
+
+use crate::figures::{StreamFigures, figures_of};
+use crate::json_text::json_text;
+use crate::open_metrics::metrics_text;
 use anyhow::{Result, anyhow};
 use redis_resp::{FromRedisValue, RawBytes, ToRedisArgs, Value, from_redis_value};
 use redis_streams::{StreamInfoFullConsumer, StreamInfoFullGroup, StreamInfoFullReply};
@@ -31,19 +42,21 @@ const COUNT: usize = 100;
 // So many milliseconds lie between two tables.
 const WAIT: usize = 1000;
 
-// The stream, and the server's time in milliseconds.
+// The stream if there is one, and the server's time in milliseconds.
 fn ask<R: Read, W: Write>(
     alloc: Global,
     connection: &mut Connection<R, W>,
     key: &RawBytes,
-) -> Result<(StreamInfoFullReply, usize)> {
+) -> Result<(Option<StreamInfoFullReply>, usize)> {
     connection.send(alloc, &"TIME")?;
     connection.send(alloc, &xinfo_stream_full_count(key, COUNT))?;
     let (seconds, micros): (usize, usize) = connection.answer(alloc)?;
     let now = seconds.saturating_mul(1000).saturating_add(micros / 1000);
-    let answer: Value = connection.answer(alloc)?;
+    let Some(answer) = connection.answer_of_key(alloc)? else {
+        return Ok((None, now));
+    };
     let stream: StreamInfoFullReply = from_redis_value(alloc, legible(alloc, &answer)?)?;
-    Ok((stream, now))
+    Ok((Some(stream), now))
 }
 
 // Waits until an entry comes behind the last one, and at most for a second.
@@ -62,23 +75,160 @@ fn wait<R: Read, W: Write>(
     Ok(())
 }
 
+// In less than 120 bytes, which are all that an error shows.
+const USAGE: &str = "wanted: KEY ROUNDS, or KEY .. --once --json, or KEY .. --once --openmetrics";
+
 fn main(rt: HostRuntime) -> Result<()> {
     let alloc = rt.alloc();
-    let (Some(key), Some(rounds)) = (word_at(alloc, &rt, 1)?, word_at(alloc, &rt, 2)?) else {
-        return Err(anyhow!("wanted: KEY ROUNDS"));
-    };
-    let key = RawBytes(key);
-    let rounds: u32 = escaped(alloc, &rounds)?.parse()?;
+    let words = words_of(alloc, &rt)?;
     let mut connection = Connection::new(alloc, rt.reader(), io::writer(&rt));
+    let (keys, form) = form_of(&words);
+    match form {
+        Some(form) => {
+            let text = text_of(alloc, &mut connection, keys, form)?;
+            eprint!(rt; "{text}")?;
+            Ok(())
+        }
+        None => show_rounds(&rt, &mut connection, &words),
+    }
+}
+
+// Shows the table of a stream as often as the second word says.
+fn show_rounds<R: Read, W: Write>(
+    rt: &HostRuntime,
+    connection: &mut Connection<R, W>,
+    words: &[RawBytes],
+) -> Result<()> {
+    let alloc = rt.alloc();
+    let [key, rounds] = words else {
+        return Err(anyhow!("{USAGE}"));
+    };
+    let rounds: u32 = escaped(alloc, &rounds.0)?.parse()?;
     for round in 0..rounds {
-        let (stream, now) = ask(alloc, &mut connection, &key)?;
+        let (found, now) = ask(alloc, connection, key)?;
+        let Some(stream) = found else {
+            return Err(anyhow!("the server answers {NO_SUCH_KEY}"));
+        };
         let text = page(alloc, &escaped(alloc, &key.0)?, &stream, now)?;
         eprint!(rt; "{text}")?;
         if round + 1 < rounds {
-            wait(alloc, &mut connection, &key, &stream.last_generated_id)?;
+            wait(alloc, connection, key, &stream.last_generated_id)?;
         }
     }
     Ok(())
+}
+
+// In which form the figures are printed once.
+#[derive(Clone, Copy)]
+enum Form {
+    Json,
+    OpenMetrics,
+}
+
+// The keys, and the form that the words after them name.
+fn form_of(words: &[RawBytes]) -> (&[RawBytes], Option<Form>) {
+    let [rest @ .., form] = words else {
+        return (words, None);
+    };
+    match form.0.as_slice() {
+        b"--json" => (keys_of(rest), Some(Form::Json)),
+        b"--openmetrics" => (keys_of(rest), Some(Form::OpenMetrics)),
+        _ => (words, None),
+    }
+}
+
+// The words without a last `--once`.
+fn keys_of(words: &[RawBytes]) -> &[RawBytes] {
+    match words {
+        [keys @ .., once] => {
+            if once.0.as_slice() == b"--once".as_slice() {
+                keys
+            } else {
+                words
+            }
+        }
+        [] => words,
+    }
+}
+
+// The figures of all keys, in this form.
+fn text_of<R: Read, W: Write>(
+    alloc: Global,
+    connection: &mut Connection<R, W>,
+    keys: &[RawBytes],
+    form: Form,
+) -> Result<String> {
+    if keys.is_empty() {
+        return Err(anyhow!("{USAGE}"));
+    }
+    let streams = measure(alloc, connection, keys)?;
+    let text = match form {
+        Form::Json => json_line(alloc, &streams)?,
+        Form::OpenMetrics => metrics_text(alloc, &streams)?,
+    };
+    match String::from_utf8(text) {
+        Ok(text) => Ok(text),
+        Err(_) => Err(anyhow!("a text is no UTF-8")),
+    }
+}
+
+// The document of JSON, as a line.
+fn json_line(alloc: Global, streams: &[StreamFigures]) -> Result<Vec<u8>, AllocError> {
+    let mut line = json_text(alloc, streams)?;
+    line.push(b'\n')?;
+    Ok(line)
+}
+
+// The figures of these streams, of each key once, in order.
+fn measure<R: Read, W: Write>(
+    alloc: Global,
+    connection: &mut Connection<R, W>,
+    keys: &[RawBytes],
+) -> Result<Vec<StreamFigures>> {
+    let mut streams = Vec::new(alloc);
+    for key in keys {
+        let name = escaped(alloc, &key.0)?;
+        if !is_measured(&streams, &name) {
+            streams.push(measure_one(alloc, connection, key, &name)?)?;
+        }
+    }
+    Ok(streams)
+}
+
+fn is_measured(streams: &[StreamFigures], key: &str) -> bool {
+    for stream in streams {
+        if stream.key.as_str() == key {
+            return true;
+        }
+    }
+    false
+}
+
+// The figures of a stream. If there is none, it has no entries and no groups.
+fn measure_one<R: Read, W: Write>(
+    alloc: Global,
+    connection: &mut Connection<R, W>,
+    key: &RawBytes,
+    name: &str,
+) -> Result<StreamFigures> {
+    let (found, now) = ask(alloc, connection, key)?;
+    let stream = match found {
+        Some(stream) => stream,
+        None => StreamInfoFullReply::empty(alloc)?,
+    };
+    Ok(figures_of(alloc, name, &stream, now)?)
+}
+
+// The words that the program is called with.
+fn words_of<E: Env>(alloc: Global, rt: &E) -> Result<Vec<RawBytes>> {
+    let mut words = Vec::new(alloc);
+    for number in 1..usize::MAX {
+        let Some(word) = word_at(alloc, rt, number)? else {
+            break;
+        };
+        words.push(RawBytes(word))?;
+    }
+    Ok(words)
 }
 
 // A word that the program is called with has no more bytes.
@@ -130,15 +280,16 @@ impl<R: Read, W: Write> Connection<R, W> {
 
     // The answer to the first command that was sent and not answered yet.
     fn answer<T: FromRedisValue>(&mut self, alloc: Global) -> Result<T> {
-        match from_reply(alloc, self.reply(alloc)?) {
-            Ok(record) => Ok(record),
-            Err(ReplyError::Parsing(error)) => Err(error.into()),
-            Err(ReplyError::NotAnAnswer) => Err(anyhow!("what came is no answer of a command")),
-            Err(ReplyError::Server(error)) => {
-                let text = String::from_utf8_lossy(alloc, &error.text)?;
-                Err(anyhow!("the server answers {text}"))
-            }
+        record_of(alloc, self.reply(alloc)?)
+    }
+
+    // The same of a command on a key; None if the server says that there is no such key.
+    fn answer_of_key(&mut self, alloc: Global) -> Result<Option<Value>> {
+        let reply = self.reply(alloc)?;
+        if is_no_such_key(&reply) {
+            return Ok(None);
         }
+        Ok(Some(record_of(alloc, reply)?))
     }
 
     // The next reply.
@@ -155,6 +306,29 @@ impl<R: Read, W: Write> Connection<R, W> {
             self.replies.feed(&piece[..len])?;
         }
         Err(anyhow!("the connection ended"))
+    }
+}
+
+// The error of a server for a key that does not exist.
+const NO_SUCH_KEY: &str = "ERR no such key";
+
+fn is_no_such_key(reply: &Reply) -> bool {
+    match reply {
+        Reply::Error(error) => error.text.as_slice() == NO_SUCH_KEY.as_bytes(),
+        _ => false,
+    }
+}
+
+// The record of a reply.
+fn record_of<T: FromRedisValue>(alloc: Global, reply: Reply) -> Result<T> {
+    match from_reply(alloc, reply) {
+        Ok(record) => Ok(record),
+        Err(ReplyError::Parsing(error)) => Err(error.into()),
+        Err(ReplyError::NotAnAnswer) => Err(anyhow!("what came is no answer of a command")),
+        Err(ReplyError::Server(error)) => {
+            let text = String::from_utf8_lossy(alloc, &error.text)?;
+            Err(anyhow!("the server answers {text}"))
+        }
     }
 }
 

@@ -1,0 +1,4 @@
+-- What the program's contracts speak of.
+pub mod Figures
+pub mod Json
+pub mod Metrics

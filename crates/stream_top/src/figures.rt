@@ -1,0 +1,169 @@
+//! The figures of a stream, of its groups and of their consumers, from one reply to XINFO STREAM FULL.
+ghost use Rattle.std.specs.Prelude.{◌≡◌, map, option_and_then, IfOk};
+ghost use Rattle.redis_resp.specs.Number.{unsigned_of, within};
+ghost use Rattle.redis_streams.specs.InfoFullMeaning.{full_consumer_meaning, full_group_meaning};
+ghost use Rattle.redis_streams.specs.InfoFullMeaning.{full_meaning, full_pending_meaning};
+ghost use Rattle.stream_top.specs.Figures.{age_in, consumer_figures, consumer_meaning, group_figures};
+ghost use Rattle.stream_top.specs.Figures.{group_meaning, most_in, stream_figures, stream_meaning, time_in};
+
+use redis_streams::{
+    StreamInfoFullConsumer, StreamInfoFullGroup, StreamInfoFullPending, StreamInfoFullReply,
+};
+use std::alloc::{AllocError, Global};
+
+/// The figures of a stream.
+#[derive(Drop)]
+pub struct StreamFigures {
+    /// Its key.
+    pub key: String,
+    /// How many entries it has.
+    pub length: usize,
+    /// The id that was given out last; empty if there is no such stream.
+    pub last_id: String,
+    /// The milliseconds of that id.
+    pub last_time: Option<usize>,
+    /// The figures of its groups.
+    pub groups: Vec<GroupFigures>,
+}
+
+/// The figures of a group.
+#[derive(Drop)]
+pub struct GroupFigures {
+    /// Its name.
+    pub name: String,
+    /// How many entries it has still to read, if the server can tell.
+    pub lag: Option<usize>,
+    /// How many entries are pending.
+    pub pending: usize,
+    /// The id that was delivered last.
+    pub last_id: String,
+    /// The milliseconds of that id.
+    pub last_time: Option<usize>,
+    /// The milliseconds since the time in the first pending entry's id; None if none is pending.
+    pub oldest_pending: Option<usize>,
+    /// How often the pending entry that was delivered most often was delivered; 0 if none is pending.
+    pub deliveries: usize,
+    /// The figures of its consumers.
+    pub consumers: Vec<ConsumerFigures>,
+}
+
+/// The figures of a consumer.
+#[derive(Drop)]
+pub struct ConsumerFigures {
+    /// Its name.
+    pub name: String,
+    /// How many entries are pending for it.
+    pub pending: usize,
+    /// The milliseconds since it was seen last.
+    pub idle: usize,
+}
+
+/// The figures of a stream at `now`, in milliseconds of the server's clock.
+pub fn figures_of(
+    alloc: Global,
+    key: &str,
+    stream: &StreamInfoFullReply,
+    now: usize,
+) -> Result<StreamFigures, AllocError>
+    ensures { IfOk result (λ f. stream_meaning f ≡ stream_figures key.now now (full_meaning stream.now)) }
+{
+    Ok(StreamFigures {
+        key: String::from_str(alloc, key)?,
+        length: stream.length,
+        last_id: stream.last_generated_id.clone()?,
+        last_time: time_of(&stream.last_generated_id),
+        groups: groups_of(alloc, &stream.groups, now)?,
+    })
+}
+
+/// The figures of groups, in order.
+fn groups_of(
+    alloc: Global,
+    groups: &[StreamInfoFullGroup],
+    now: usize,
+) -> Result<Vec<GroupFigures>, AllocError>
+    ensures { IfOk result (λ list. map group_meaning list.items
+        ≡ map (group_figures now) (map full_group_meaning groups.now)) }
+{
+    let mut list = Vec::new(alloc);
+    for group in groups {
+        list.push(group_of(alloc, group, now)?)?;
+    }
+    Ok(list)
+}
+
+/// The figures of a group.
+fn group_of(
+    alloc: Global,
+    group: &StreamInfoFullGroup,
+    now: usize,
+) -> Result<GroupFigures, AllocError>
+    ensures { IfOk result (λ f. group_meaning f ≡ group_figures now (full_group_meaning group.now)) }
+{
+    Ok(GroupFigures {
+        name: group.name.clone()?,
+        lag: group.lag,
+        pending: group.pending_count,
+        last_id: group.last_delivered_id.clone()?,
+        last_time: time_of(&group.last_delivered_id),
+        oldest_pending: age_of_first(&group.pending, now),
+        deliveries: most_deliveries(&group.pending),
+        consumers: consumers_of(alloc, &group.consumers, now)?,
+    })
+}
+
+/// The figures of consumers, in order.
+fn consumers_of(
+    alloc: Global,
+    consumers: &[StreamInfoFullConsumer],
+    now: usize,
+) -> Result<Vec<ConsumerFigures>, AllocError>
+    ensures { IfOk result (λ list. map consumer_meaning list.items
+        ≡ map (consumer_figures now) (map full_consumer_meaning consumers.now)) }
+{
+    let mut list = Vec::new(alloc);
+    for consumer in consumers {
+        list.push(ConsumerFigures {
+            name: consumer.name.clone()?,
+            pending: consumer.pending_count,
+            idle: now.saturating_sub(consumer.seen_time),
+        })?;
+    }
+    Ok(list)
+}
+
+/// How often the entry that was delivered most often was delivered, and 0 if there is none.
+fn most_deliveries(pending: &[StreamInfoFullPending]) -> usize
+    ensures { result ≡ most_in (map full_pending_meaning pending.now) }
+{
+    let mut most = 0usize;
+    for entry in pending {
+        most = most.max(entry.times_delivered);
+    }
+    most
+}
+
+/// The milliseconds since the time in the id of the first entry; None if there is none.
+fn age_of_first(pending: &[StreamInfoFullPending], now: usize) -> Option<usize>
+    ensures { result ≡ age_in now (map full_pending_meaning pending.now) }
+{
+    match pending {
+        [] => None,
+        [entry, ..] => Some(now.saturating_sub(time_of(&entry.id)?)),
+    }
+}
+
+/// The milliseconds that an id begins with; None if it begins with none.
+fn time_of(id: &str) -> Option<usize>
+    ensures { result ≡ time_in id.now }
+{
+    let (time, _) = id.split_once('-')?;
+    number_of(time)
+}
+
+/// The number that a text is, if it fits 64 bits.
+fn number_of(text: &str) -> Option<usize>
+    ensures { result ≡ option_and_then (within 64) (unsigned_of text.now) }
+{
+    text.parse().ok()
+}
