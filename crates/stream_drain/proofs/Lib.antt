@@ -1,5 +1,6 @@
 -- Lemmas on lines of JSON and on dead letters.
 pub mod DeadLemmas
+pub mod DeadMovesLemmas
 pub mod JsonLemmas
 pub mod WrittenLemmas
 pub mod LivedLemmas

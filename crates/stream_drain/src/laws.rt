@@ -1,4 +1,5 @@
 //! What holds of the lines that are gathered and committed, over the rounds of a worker.
+ghost use Rattle.stream_drain.specs.DeadMoves.{ClaimsAreMoves, DeliveriesAreMoves, GiveUpsAreMoves};
 ghost use Rattle.stream_drain.specs.Filed.{AcknowledgedIsFiled};
 ghost use Rattle.stream_drain.specs.Lived.{RoundsAreLived};
 ghost use Rattle.stream_drain.specs.Resumed.{ResumedIsLived};
@@ -35,4 +36,13 @@ pub fn resumed_is_lived()
 /// fields in the same order.
 pub fn lines_tell_entries()
     ensures { LinesTellEntries }
+{}
+
+/// Entries that are given up are moves of a desk in the model `stream_system`. Each that is posted after its
+/// claim is a move. So are the letters and acknowledgements that are answered, all of them or as many as came.
+/// After all of them nothing waits there.
+pub fn give_ups_are_moves()
+    ensures claims { ClaimsAreMoves }
+    ensures letters { DeliveriesAreMoves }
+    ensures all { GiveUpsAreMoves }
 {}
