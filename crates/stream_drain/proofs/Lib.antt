@@ -8,4 +8,5 @@ pub mod FiledLemmas
 pub mod TellLemmas
 pub mod ResumedLemmas
 pub mod SameLineLemmas
+pub mod FormLemmas
 pub mod ResumeLemmas

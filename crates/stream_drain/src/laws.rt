@@ -3,7 +3,7 @@ ghost use Rattle.stream_drain.specs.DeadMoves.{ClaimsAreMoves, DeliveriesAreMove
 ghost use Rattle.stream_drain.specs.Filed.{AcknowledgedIsFiled};
 ghost use Rattle.stream_drain.specs.Lived.{RoundsAreLived};
 ghost use Rattle.stream_drain.specs.Resumed.{ResumedIsLived};
-ghost use Rattle.stream_drain.specs.Tell.{LinesTellEntries};
+ghost use Rattle.stream_drain.specs.Tell.{LinesAreAForm, LinesTellEntries};
 ghost use Rattle.stream_drain.specs.Written.{GathersItsLines};
 
 /// What is gathered is the lines of the entries that were done and not committed, in order; what is committed
@@ -36,6 +36,12 @@ pub fn resumed_is_lived()
 /// fields in the same order.
 pub fn lines_tell_entries()
     ensures { LinesTellEntries }
+{}
+
+/// So the lines are a form of `stream_files`, in text and in JSON. The laws of `stream_files` and of
+/// `stream_system` hold of them, for entries whose names and values are bytes, as all are.
+pub fn lines_are_a_form()
+    ensures { LinesAreAForm }
 {}
 
 /// Entries that are given up are moves of a desk in the model `stream_system`. Each that is posted after its
