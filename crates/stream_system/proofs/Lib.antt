@@ -8,4 +8,4 @@ pub mod RoundLemmas
 pub mod DeskLemmas
 pub mod DrainedLemmas
 mod Sample
-mod Letter
+mod Wrong

@@ -1,5 +1,5 @@
--- Moves of a desk that meet the premise; and schedules that refute wrong definitions of a desk: after each, an entry is
--- not kept, though the model of the worker and the server is the right one.
+-- Schedules that refute the wrong definitions of planted/: after each, an entry is not kept. Before them, one of a desk that
+-- meets the premise.
 use Rattle.std.proofs.Common.{◌≡◌, inl, inr, refl, sym, ap, ◌∙◌, append-nil, ℕ, Bool, true, List, [], ◌∷◌, ◌++◌, codes}
 use Rattle.std.specs.Prelude.{drop}
 use Rattle.std.specs.Fmt.{digits}
