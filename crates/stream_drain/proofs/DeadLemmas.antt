@@ -5,7 +5,8 @@ use Rattle.std.specs.Prelude.{filter}
 use Rattle.redis_connection.specs.Link.{Link, Sends, SendsFront}
 use Rattle.redis_connection.specs.Passing.{AwaitsAnswer, ReceivesAnswer}
 use Rattle.redis_wire.specs.Reply.{Answer}
-use Rattle.stream_drain.specs.Dead.{Names, Goes, DeliversSome}
+use Rattle.stream_drain.specs.Dead.{Goes, DeliversSome}
+use Rattle.stream_system.specs.Desks.{Names}
 use Rattle.stream_worker.specs.Letters.{Desk, after_letter, letter_asks, letter_bytes, serves}
 use Rattle.stream_worker.specs.declared.letters.LetterAsked.{LetterAsked}
 

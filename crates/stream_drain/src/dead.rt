@@ -1,10 +1,10 @@
 //! Entries that were delivered too often, on their way to a stream of dead letters.
-ghost use Rattle.std.specs.Prelude.{◌≡◌, ◌<◌, ◌≤◌, ◌%◌, ◌∷◌, [], IfOk, IsTrue, MatchOption, Ok, OnErr, OnOk, false};
+ghost use Rattle.std.specs.Prelude.{◌≡◌, ◌<◌, ◌≤◌, ◌%◌, ◌∷◌, [], IfOk, IsTrue, MatchOption, Ok, OnErr, OnOk, Some, false};
 ghost use Rattle.std.specs.Prelude.{List, filter, length, map, nat_le, string_bytes};
 ghost use Rattle.std.specs.List.{flat_map};
 ghost use Rattle.line_log.specs.EntryLine.{Entry};
 ghost use Rattle.redis_connection.specs.Ask.{Asks};
-ghost use Rattle.stream_drain.specs.Dead.{BreaksOff, Delivers, DeliversSome, GivesUp, GivesUpSome, IsBehind};
+ghost use Rattle.stream_drain.specs.Dead.{AreJust, BreaksOff, Delivers, DeliversSome, GivesUp, GivesUpSome, IsBehind};
 ghost use Rattle.stream_drain.specs.Dead.{Posted, PostedFields, PostsAll, PostsSome, claim_words, claimer_of};
 ghost use Rattle.stream_drain.specs.Dead.{letter_names, none_waits, row_of, rows_of, rows_reading, waiting_of};
 ghost use Rattle.stream_worker.specs.Letters.{desk_of, names_of};
@@ -311,13 +311,24 @@ fn post(
     ensures names { names_of desk.new ≡ names_of desk.old }
     ensures added { (desk_of desk.new).added ≡ (desk_of desk.old).added }
 {
-    let [Some((claimed, texts))] = rows else {
+    let Some((claimed, texts)) = the_row(rows) else {
         return Ok(());
     };
     if claimed.as_str() != entry.id.as_str() {
         bail!("another entry was answered than the one that was claimed");
     }
     post_fields(alloc, desk, entry, texts)
+}
+
+// The entry that these rows are; None if they are not one.
+fn the_row(rows: &[Option<(String, Vec<RawBytes>)>]) -> Option<&(String, Vec<RawBytes>)>
+    ensures { MatchOption result ((e : Entry) → AreJust (rows_of rows.now) e → ⊥)
+        (λ row. rows.now ≡ Some row.now ∷ []) }
+{
+    match rows {
+        [row] => row.as_ref(),
+        _ => None,
+    }
 }
 
 /// Gives an entry up with these names and values, which are none where it was deleted.

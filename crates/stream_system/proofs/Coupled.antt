@@ -19,7 +19,6 @@ use Rattle.stream_files.specs.Files.{Fields, Form, Files, Goes, Reopens, first_f
 use Rattle.stream_files.specs.Files as files
 use Rattle.stream_worker.specs.Answers.{Heard, told, no_group, group_made}
 use Rattle.stream_worker.specs.Gathered.{Doings, done_too, committed_too}
-use Rattle.stream_worker.specs.Machine.{commits}
 use Rattle.stream_worker.specs.Session.{Standing, having_heard}
 use Rattle.stream_worker.specs.declared.state.Asked.{Asked}
 use Rattle.stream_worker.specs.declared.state.GroupState.{GroupState}
@@ -27,7 +26,7 @@ use Rattle.stream_worker.specs.declared.state.Settings.{Settings}
 use Rattle.stream_files.proofs.Started.{then_committed, all_its_own, all_listed}
 use Rattle.stream_files.proofs.Step.{at_each}
 use Rattle.stream_worker.proofs.StepLemmas.{all_done}
-use Rattle.stream_system.specs.System.{Server, System, Desk, Serves, Sends, Breaks, Restarts, server_of, new_desk}
+use Rattle.stream_system.specs.System.{Server, System, Serves, Sends, Breaks, Restarts, server_of, new_desk}
 use Rattle.stream_system.specs.System.{world_with, first_system, with_worker, waiting, still_coming, new_worker}
 use Rattle.stream_system.specs.System.{repaired, filed_then, read_back, moves}
 use Rattle.stream_system.specs.Law.{IsReplyTo}

@@ -1,5 +1,5 @@
 -- The laws of the system.
-use Rattle.std.proofs.Common.{◌≡◌, ◌⊎◌, inl, inr, sym, ap, subst, List, ◌∷◌, [], ◌++◌}
+use Rattle.std.proofs.Common.{◌≡◌, ◌⊎◌, inl, inr, sym, subst, List, ◌∷◌, [], ◌++◌}
 use Rattle.line_log.specs.EntryLine.{Entry}
 use Rattle.line_log.specs.Lines.{StartsWith}
 use Rattle.stream_group.specs.Worker.{Id}
@@ -9,7 +9,6 @@ use Rattle.stream_group.specs.World.{Ack_comes, Go_back, Crash, log_of, empty_wo
 use Rattle.stream_group.specs.World as group
 use Rattle.stream_group.specs.Law.{Among}
 use Rattle.stream_group.proofs.Among.{among_left, among_split}
-use Rattle.stream_group.proofs.Lost as lost
 use Rattle.stream_group.proofs.Unique.{ids_unique, log_grows}
 use Rattle.stream_files.specs.Files.{Fields, Form, Files}
 use Rattle.stream_files.specs.Law.{IsLineIn}

@@ -14,7 +14,6 @@ use Rattle.stream_files.specs.Files.{Fields, Form, Files, Event, first_files, ha
 use Rattle.stream_files.specs.Files as files
 use Rattle.stream_files.proofs.Step.{of_group, one_alone, at_each}
 use Rattle.stream_files.proofs.Kept as files_kept
-use Rattle.stream_worker.specs.Answers.{Heard}
 use Rattle.stream_worker.specs.Machine.{commits, is_empty}
 use Rattle.stream_system.specs.System.{Server, System, Desk, Move, Serves, Commits, Sends, Hears, Breaks, Posts}
 use Rattle.stream_system.specs.System.{Adds_letter, Sends_ack, Settles, Restarts, first, lettered_now, with_letter}

@@ -1,10 +1,9 @@
 -- Schedules that refute the wrong definitions of planted/: after each, an entry is not kept. Before them, one of a desk that
 -- meets the premise.
-use Rattle.std.proofs.Common.{◌≡◌, inl, inr, refl, sym, ap, ◌∙◌, append-nil, ℕ, Bool, true, List, [], ◌∷◌, ◌++◌, codes}
+use Rattle.std.proofs.Common.{◌≡◌, inl, inr, refl, sym, ap, ◌∙◌, append-nil, ℕ, true, List, [], ◌∷◌, ◌++◌, codes}
 use Rattle.std.specs.Prelude.{drop}
 use Rattle.std.specs.Fmt.{digits}
 use Rattle.line_log.specs.EntryLine.{Entry}
-use Rattle.stream_group.specs.Worker.{Id}
 use Rattle.stream_group.specs.Group.{Name, id_text, ids_of, listed}
 use Rattle.stream_group.specs.World.{Append, Read, Claim, Ack_comes}
 use Rattle.stream_files.specs.Files.{Fields}

@@ -1,5 +1,5 @@
 -- What a desk of dead letters does in the code, as moves.
-use Rattle.std.specs.Prelude.{◌≡◌, ◌≢◌, ◌⊎◌, ℕ, Bool, false, List, [], ◌∷◌, ◌++◌, codes, flat_map}
+use Rattle.std.specs.Prelude.{◌≡◌, ◌≢◌, ◌⊎◌, ℕ, List, [], ◌∷◌, ◌++◌, codes, flat_map}
 use Rattle.redis_wire.specs.Packed.{command_bytes}
 use Rattle.line_log.specs.EntryLine.{Entry}
 use Rattle.stream_group.specs.Worker.{Id}
@@ -10,7 +10,7 @@ use Rattle.stream_worker.specs.Letters as letters
 use Rattle.stream_worker.specs.declared.letters.LetterAsked.{LetterAsked}
 use Rattle.stream_worker.specs.declared.letters.LetterAsked.TheVariants as asked
 use Rattle.stream_worker.specs.declared.state.Settings.{Settings}
-use Rattle.stream_system.specs.System.{System, Desk, Move, Serves, Commits, Sends, Hears, Breaks, Posts, Adds_letter}
+use Rattle.stream_system.specs.System.{System, Desk, Move, Posts, Adds_letter}
 use Rattle.stream_system.specs.System.{Sends_ack, Settles, Restarts, new_desk, lettered_now, acknowledges_now}
 use Rattle.stream_system.specs.System.{moves, run}
 
