@@ -322,7 +322,7 @@ fn post(
 
 // The entry that these rows are; None if they are not one.
 fn the_row(rows: &[Option<(String, Vec<RawBytes>)>]) -> Option<&(String, Vec<RawBytes>)>
-    ensures { MatchOption result ((e : Entry) → AreJust (rows_of rows.now) e → ⊥)
+    ensures { MatchOption result ((e : Entry) → AreJust (rows_of rows.now) e → e.1 ≡ [])
         (λ row. rows.now ≡ Some row.now ∷ []) }
 {
     match rows {
