@@ -1,9 +1,8 @@
 -- Lemmas on entries that are given up.
-use Rattle.std.proofs.Common.{◌≡◌, ◌<◌, ◌-◌, ◌∙◌, refl, sym, ap, subst, arith, inl, inr, Bool, true, false, cond, suc, ℕ, List, [], ◌∷◌, ◌++◌}
+use Rattle.std.proofs.Common.{◌≡◌, ◌<◌, ◌-◌, ◌∙◌, refl, sym, ap, subst, arith, inl, inr, true, suc, ℕ, List, [], ◌∷◌, ◌++◌}
 use Rattle.std.proofs.Common.{map, flat_map, length, get_or, take, drop, append_assoc, ◌+◌, Result, Ok, Err, OnErr, OnOk}
 use Rattle.std.proofs.Common.{Option, Some, None, String, Vec, string_bytes}
 use Rattle.std.proofs.lemmas.List.{take_more, take-append-drop}
-use Rattle.std.specs.Prelude.{filter}
 use Rattle.std.specs.declared.alloc.Global.{Global}
 use Rattle.redis_args.specs.declared.raw_bytes.RawBytes.{RawBytes}
 use Rattle.redis_resp.specs.Tree.{Tree}

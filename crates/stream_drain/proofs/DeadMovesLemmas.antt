@@ -12,7 +12,7 @@ use Rattle.stream_system.proofs.DeskLemmas.{letters_are_moves, posts_are_moves}
 use Rattle.stream_worker.specs.Letters.{Desk, after_letter, letter_asks, asks_of_first}
 use Rattle.stream_worker.specs.declared.letters.LetterAsked.{LetterAsked}
 use Rattle.stream_worker.specs.declared.letters.LetterAsked.TheVariants as asked
-use Rattle.stream_drain.specs.Dead.{Claimer, Goes, PostedOne, PostsAll, GivesUp, none_waits}
+use Rattle.stream_drain.specs.Dead.{Claimer, Goes, PostedOne, PostsAll, none_waits}
 use Rattle.stream_drain.specs.DeadMoves.{posting, desk_after, delivering, ClaimsAreMoves, DeliveriesAreMoves}
 use Rattle.stream_drain.specs.DeadMoves.{GiveUpsAreMoves}
 use Rattle.stream_drain.specs.declared.dead.Waiting.{Waiting}

@@ -1,5 +1,5 @@
 -- The lines of entries are a form of `stream_files`.
-use Rattle.std.proofs.Common.{◌≡◌, ◌<◌, ◌∙◌, refl, sym, ap, subst, ℕ, Bool, true, false, List, [], ◌∷◌, ◌++◌, codes, arith}
+use Rattle.std.proofs.Common.{◌≡◌, ◌<◌, ◌∙◌, refl, sym, ap, ℕ, Bool, true, false, List, [], ◌∷◌, arith}
 use Rattle.std.proofs.Common.{if◌then◌else◌}
 use Rattle.std.specs.Prelude.{◌&&◌, nat_lt}
 use Rattle.std.specs.List.{AllByRecursion, list_all}
@@ -11,7 +11,7 @@ use Rattle.line_log.proofs.EntryLineLemmas.{line_tells, line_whole}
 use Rattle.stream_files.specs.Files.{Form}
 use Rattle.stream_files.proofs.Whole.{text}
 use Rattle.stream_drain.specs.Line.{line_in}
-use Rattle.stream_drain.specs.Tell.{AreBytes, IsOfBytes, LinesAreAForm}
+use Rattle.stream_drain.specs.Tell.{AreBytes, LinesAreAForm}
 use Rattle.stream_drain.proofs.FiledLemmas.{one_line}
 use Rattle.stream_drain.proofs.SameLineLemmas.{tell}
 use Rattle.stream_drain.proofs.TellLemmas.{begins_with_id}

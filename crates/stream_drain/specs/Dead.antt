@@ -1,5 +1,5 @@
 -- Looks for entries that are given up, over a connection: none is acknowledged before its letter was answered.
-use Rattle.std.specs.Prelude.{◌≡◌, ◌≢◌, ◌⊎◌, ℕ, zero, suc, Bool, true, false, List, [], ◌∷◌, ◌++◌, map, Option, Some}
+use Rattle.std.specs.Prelude.{◌≡◌, ◌≢◌, ◌⊎◌, ℕ, zero, suc, true, false, List, [], ◌∷◌, ◌++◌, map, Option, Some}
 use Rattle.std.specs.Prelude.{option_map, codes, decimal, String, Vec, string_bytes}
 use Rattle.std.specs.declared.alloc.Global.{Global}
 use Rattle.redis_args.specs.declared.raw_bytes.RawBytes.{RawBytes}
@@ -96,8 +96,8 @@ pub record PostedNone (rows : List Row) (desk desk' : Desk) : Type 0 where
 abbrev pub PostedFields : List ℕ → Waiting → List (List ℕ) → Desk → Desk → Type 0
 PostedFields dead w texts desk desk' = ((fields : Fields) × (texts ≡ words_of fields) × (fields ≢ [])
     × (desk' ≡ record desk {
-  waiting = desk.waiting ++ (string_bytes w.id, letter_for dead (string_bytes w.id, fields) w.deliveries) ∷ [];
-})) ⊎ ((texts ≡ []) × (desk' ≡ desk))
+      waiting = desk.waiting ++ (string_bytes w.id, letter_for dead (string_bytes w.id, fields) w.deliveries) ∷ [];
+    })) ⊎ ((texts ≡ []) × (desk' ≡ desk))
 
 -- an entry was claimed, and these rows were answered
 abbrev pub Posted : List ℕ → Waiting → List Row → Desk → Desk → Type 0

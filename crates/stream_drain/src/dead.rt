@@ -225,9 +225,11 @@ impl Dead {
         entries: &[Waiting],
         min_idle: usize,
     ) -> Result<()>
-        ensures ok { OnOk result ((es : List Entry) × PostsAll (claimer_of self.now min_idle) (names_of desk.old).2 entries.now es connection.old (desk_of desk.old)
+        ensures ok { OnOk result ((es : List Entry) × PostsAll (claimer_of self.now min_idle)
+            (names_of desk.old).2 entries.now es connection.old (desk_of desk.old)
             connection.new (desk_of desk.new)) }
-        ensures err { OnErr result (PostsSome (claimer_of self.now min_idle) (names_of desk.old).2 entries.now connection.old (desk_of desk.old)
+        ensures err { OnErr result (PostsSome (claimer_of self.now min_idle)
+            (names_of desk.old).2 entries.now connection.old (desk_of desk.old)
             connection.new (desk_of desk.new)) }
         ensures names { names_of desk.new ≡ names_of desk.old }
     {
@@ -246,8 +248,10 @@ impl Dead {
         id: &str,
         min_idle: usize,
     ) -> Result<Claimed>
-        ensures ok { IfOk result (λ rows. Asks connection.old connection.new (claim_words (claimer_of self.now min_idle) id.now) rows_reading (rows_of rows.items)) }
-        ensures err { OnErr result (BreaksOff (claim_words (claimer_of self.now min_idle) id.now) connection.old connection.new) }
+        ensures ok { IfOk result (λ rows. Asks connection.old connection.new
+            (claim_words (claimer_of self.now min_idle) id.now) rows_reading (rows_of rows.items)) }
+        ensures err { OnErr result (BreaksOff
+            (claim_words (claimer_of self.now min_idle) id.now) connection.old connection.new) }
     {
         let command = xclaim(
             self.key.as_str(),
@@ -338,8 +342,8 @@ fn post_fields(
     entry: &Waiting,
     texts: &[RawBytes],
 ) -> Result<()>
-    ensures ok { OnOk result (PostedFields (names_of desk.old).2 entry.now (map (λ text. text.0.items) texts.now)
-        (desk_of desk.old) (desk_of desk.new)) }
+    ensures ok { OnOk result (PostedFields (names_of desk.old).2 entry.now
+        (map (λ text. text.0.items) texts.now) (desk_of desk.old) (desk_of desk.new)) }
     ensures err { OnErr result (desk_of desk.new ≡ desk_of desk.old) }
     ensures names { names_of desk.new ≡ names_of desk.old }
     ensures added { (desk_of desk.new).added ≡ (desk_of desk.old).added }

@@ -1,5 +1,4 @@
-use Rattle.std.proofs.Common.{◌≡◌, ◌∙◌, sym, subst, List, map, rules, string_bytes, Vec}
-use Rattle.std.specs.declared.alloc.Global.{Global}
+use Rattle.std.proofs.Common.{◌≡◌, ◌∙◌, sym, subst, map, rules, string_bytes}
 use Rattle.redis_args.specs.declared.raw_bytes.RawBytes.{RawBytes}
 use Rattle.stream_drain.specs.Dead.{PostedFields}
 use Rattle.stream_worker.specs.Letters.{desk_of}

@@ -1,4 +1,4 @@
-use Rattle.std.proofs.Common.{◌≡◌, ◌∙◌, List, string_bytes}
+use Rattle.std.proofs.Common.{◌∙◌, string_bytes}
 use Rattle.stream_drain.proofs.DeadLemmas.{posted_pairs}
 use Rattle.stream_drain.proofs.dead.post_fields.Goals as goal
 

@@ -1,10 +1,10 @@
-use Rattle.std.proofs.Common.{◌≡◌, ◌∙◌, ◌∷◌, ◌++◌, ◌+◌, inr, refl, sym, ap, subst, List, [], string_bytes, take}
+use Rattle.std.proofs.Common.{◌≡◌, ◌∙◌, ◌∷◌, ◌++◌, ◌+◌, inr, refl, sym, ap, subst, [], string_bytes, take}
 use Rattle.std.proofs.lemmas.List.{take_more}
 use Rattle.redis_wire.specs.Reply.{value}
 use Rattle.redis_connection.specs.Ask.{Asks}
 use Rattle.stream_drain.specs.Dead.{BreaksOff, Posted, PostsAll, claim_words, claimer_of, rows_of, rows_reading}
 use Rattle.stream_system.specs.Desks.{Names}
-use Rattle.stream_worker.specs.Letters.{desk_of, names_of}
+use Rattle.stream_worker.specs.Letters.{desk_of}
 use Rattle.stream_drain.proofs.DeadLemmas.{on_err, posts_break, posts_on}
 use Rattle.stream_drain.proofs.dead.Dead.post_all.Goals as goal
 
