@@ -1,9 +1,14 @@
 -- That each entry is in a file, whatever happens.
 pub mod Served
 pub mod Coupled
+pub mod Logged
+pub mod Sound
 pub mod Kept
 pub mod RoundLemmas
+pub mod DeskLemmas
 pub mod DrainedLemmas
 pub mod OnceLemmas
 mod Sample
 mod OnceSample
+
+mod Wrong

@@ -2,5 +2,6 @@
 pub mod System
 pub mod Law
 pub mod Rounds
+pub mod Desks
 pub mod Drained
 pub mod Once
