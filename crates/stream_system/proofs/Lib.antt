@@ -10,5 +10,4 @@ pub mod DrainedLemmas
 pub mod OnceLemmas
 mod Sample
 mod OnceSample
-
 mod Wrong
