@@ -85,11 +85,11 @@ fn client_of(alloc: Global, server: &mut Server, is_resp3: bool) -> Result<Clien
     Ok(client)
 }
 
-/// As many of so many bytes pass as may.
-fn passing(left: &mut usize, len: usize) -> usize {
-    let passes = len.min(*left);
-    *left -= passes;
-    passes
+/// The bytes that pass before the connection breaks, and those after them.
+fn passing<'a>(left: &mut usize, bytes: &'a [u8]) -> (&'a [u8], &'a [u8]) {
+    let len = bytes.len().min(*left);
+    *left -= len;
+    bytes.split_at(len)
 }
 
 impl Link {
@@ -186,9 +186,8 @@ impl Link {
         now: u64,
         bytes: &[u8],
     ) -> Result<Turn, AllocError> {
-        let len = passing(&mut self.faults.bytes, bytes.len());
-        let (sent, unsent) = bytes.split_at(len);
-        let (first, second) = sent.split_at(len / 2);
+        let (sent, unsent) = passing(&mut self.faults.bytes, bytes);
+        let (first, second) = sent.split_at(sent.len() / 2);
         let mut replies = Vec::new(alloc);
         self.client.answer(alloc, server, now, first, &mut replies)?;
         self.pass_moment(alloc, server, now)?;
@@ -206,8 +205,7 @@ impl Link {
         if !self.goes_on() {
             return Ok(Turn::Killed);
         }
-        let len = passing(&mut self.faults.bytes, replies.len());
-        let (come, lost) = replies.split_at(len);
+        let (come, lost) = passing(&mut self.faults.bytes, replies);
         if self.replies.feed(come).is_err() {
             return Err(AllocError);
         }

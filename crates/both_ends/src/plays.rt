@@ -14,45 +14,63 @@ const LARGEST: usize = 10_000;
 pub(crate) enum End {
     Producer,
     Worker,
-    /// The file of the worker.
-    File,
+}
+
+/// How a run begins.
+#[derive(Clone, Copy)]
+enum Start {
+    /// An end has these faults.
+    Faults(End, Faults),
+    /// The commit of this number fails and kills the worker, and so many bytes of it are left.
+    Torn(usize, usize),
+    /// The turns of the schedule of this seed come first.
+    Random(u64),
+}
+
+/// A run that begins so.
+fn run(alloc: Global, plan: Plan, start: Start) -> Result<Run, AllocError> {
+    let mut world = world_of(alloc, plan)?;
+    run_in(alloc, &mut world, start)
+}
+
+/// The same in this world.
+fn run_in(alloc: Global, world: &mut World, start: Start) -> Result<Run, AllocError> {
+    match start {
+        Start::Faults(End::Producer, faults) => world.feed.link.faults = faults,
+        Start::Faults(End::Worker, faults) => world.drain.link.faults = faults,
+        Start::Torn(commit, torn) => plant_torn(alloc, world, commit, torn)?,
+        Start::Random(seed) => make_moves(alloc, world, seed)?,
+    }
+    settle(alloc, world)
+}
+
+/// In the life that begins now this commit fails, and so many bytes of it are left.
+fn plant_torn(
+    alloc: Global,
+    world: &mut World,
+    commit: usize,
+    torn: usize,
+) -> Result<(), AllocError> {
+    world.drain.failing = commit;
+    drain::start_again(alloc, &mut world.server, &mut world.drain)?;
+    world.drain.torn = torn;
+    Ok(())
 }
 
 /// Whether the file has what went in after a run with no fault but what refuses memory.
 pub(crate) fn calm(alloc: Global, plan: Plan) -> Result<bool, AllocError> {
-    let run = run(alloc, plan, End::Producer, CALM)?;
+    let run = run(alloc, plan, Start::Faults(End::Producer, CALM))?;
     Ok(run.seen.is_same)
-}
-
-/// An end has these faults from now on.
-fn plant(world: &mut World, end: End, faults: Faults) {
-    match end {
-        End::Producer => world.feed.link.faults = faults,
-        End::Worker | End::File => world.drain.link.faults = faults,
-    }
-}
-
-/// How many bytes an end has sent and taken that had no fault.
-fn bytes_of(world: &World, end: End) -> usize {
-    let left = match end {
-        End::Producer => world.feed.link.faults.bytes,
-        End::Worker | End::File => world.drain.link.faults.bytes,
-    };
-    NEVER - left
-}
-
-/// A run with these faults.
-fn run(alloc: Global, plan: Plan, end: End, faults: Faults) -> Result<Run, AllocError> {
-    let mut world = world_of(alloc, plan)?;
-    plant(&mut world, end, faults);
-    settle(alloc, &mut world)
 }
 
 /// How many bytes an end sends and takes in a run with no fault.
 fn session_len(alloc: Global, plan: Plan, end: End) -> Result<usize, AllocError> {
-    let mut world = world_of(alloc, plan)?;
-    let _run = settle(alloc, &mut world)?;
-    Ok(bytes_of(&world, end))
+    let run = run(alloc, plan, Start::Faults(End::Producer, CALM))?;
+    let left = match end {
+        End::Producer => run.left.0,
+        End::Worker => run.left.1,
+    };
+    Ok(NEVER - left)
 }
 
 /// Adds a run for each byte: the connection of the end breaks after it, and what was not sent comes
@@ -70,7 +88,7 @@ fn add_cuts(
             steps: NEVER,
             delay,
         };
-        tally.add(run(alloc, plan, end, faults)?);
+        tally.add(run(alloc, plan, Start::Faults(end, faults))?);
     }
     Ok(())
 }
@@ -100,31 +118,13 @@ pub(crate) fn crashes(alloc: Global, plan: Plan, end: End) -> Result<Tally, Allo
             steps,
             delay: NEVER,
         };
-        let run = run(alloc, plan, end, faults)?;
+        let run = run(alloc, plan, Start::Faults(end, faults))?;
         if run.kills == 0 {
             break;
         }
         tally.add(run);
     }
     Ok(tally)
-}
-
-/// A run in which a commit fails and kills the worker. So many bytes of what it wrote are left, and
-/// `waited` is how many it wrote.
-fn torn_run(
-    alloc: Global,
-    plan: Plan,
-    commit: usize,
-    torn: usize,
-    waited: &mut usize,
-) -> Result<Run, AllocError> {
-    let mut world = world_of(alloc, plan)?;
-    world.drain.failing = commit;
-    drain::start_again(alloc, &mut world.server, &mut world.drain)?;
-    world.drain.torn = torn;
-    let run = settle(alloc, &mut world)?;
-    *waited = world.drain.most_waited;
-    Ok(run)
 }
 
 /// Adds a run for each number of bytes that a crash within this commit may leave: false if there is no
@@ -135,14 +135,13 @@ fn add_torn(
     commit: usize,
     tally: &mut Tally,
 ) -> Result<bool, AllocError> {
-    let mut waited = 0;
     for torn in 0..LARGEST {
-        let run = torn_run(alloc, plan, commit, torn, &mut waited)?;
+        let run = run(alloc, plan, Start::Torn(commit, torn))?;
         if run.failed == 0 {
             return Ok(false);
         }
         tally.add(run);
-        if torn >= waited {
+        if torn >= run.most_waited {
             break;
         }
     }
@@ -185,11 +184,13 @@ fn drawn(state: u64, bit: u32, limit: u64) -> usize {
 fn plan_of_seed(plan: Plan, seed: u64) -> Plan {
     let state = next(next(seed));
     Plan {
-        records: 1 + drawn(state, 33, 9),
-        batch: 1 + drawn(state, 40, 4),
-        page: 1 + drawn(state, 50, 4),
+        records: drawn(state, 33, 9).saturating_add(1),
+        batch: drawn(state, 40, 4).saturating_add(1),
+        page: drawn(state, 50, 4).saturating_add(1),
         is_resp3: seed % 2 == 1,
-        ..plan
+        restarts: plan.restarts,
+        forgets: plan.forgets,
+        guesses: plan.guesses,
     }
 }
 
@@ -212,7 +213,7 @@ fn faults_of(state: u64) -> Faults {
 fn plant_failing(world: &mut World, state: u64) {
     let drain = &mut world.drain;
     if drawn(state, 36, 2) == 0 {
-        drain.failing = 1 + drawn(state, 40, 3);
+        drain.failing = drawn(state, 40, 3).saturating_add(1);
         drain.is_killed = drawn(state, 44, 4) > 0;
         drain.torn = drawn(state, 50, 60);
     }
@@ -237,15 +238,14 @@ fn make_move(alloc: Global, world: &mut World, state: u64) -> Result<(), AllocEr
     turn_of_worker(alloc, world)
 }
 
-/// The run of the schedule of this seed.
-fn random_run(alloc: Global, plan: Plan, seed: u64) -> Result<Run, AllocError> {
-    let mut world = world_of(alloc, plan_of_seed(plan, seed))?;
+/// The moves of the schedule of this seed.
+fn make_moves(alloc: Global, world: &mut World, seed: u64) -> Result<(), AllocError> {
     let mut state = next(seed);
     for _ in 0..MOVES {
         state = next(state);
-        make_move(alloc, &mut world, state)?;
+        make_move(alloc, world, state)?;
     }
-    settle(alloc, &mut world)
+    Ok(())
 }
 
 /// So many schedules, from this seed on.
@@ -258,7 +258,7 @@ pub(crate) fn schedules(
     let mut tally = Tally::new();
     for number in 0..count {
         let seed = seed.saturating_add(number) as u64;
-        tally.add(random_run(alloc, plan, seed)?);
+        tally.add(run(alloc, plan_of_seed(plan, seed), Start::Random(seed))?);
     }
     Ok(tally)
 }

@@ -112,6 +112,10 @@ pub(crate) struct Run {
     pub(crate) failed: usize,
     pub(crate) lates: usize,
     pub(crate) late_records: usize,
+    /// How many bytes could still pass at the producer, and at the worker.
+    pub(crate) left: (usize, usize),
+    /// How many bytes at most were not synced when the worker was killed.
+    pub(crate) most_waited: usize,
     pub(crate) seen: Seen,
 }
 
@@ -128,6 +132,8 @@ fn run_of(alloc: Global, world: &mut World) -> Result<Run, AllocError> {
         failed: world.drain.failed,
         lates: lates.saturating_add(world.drain.link.lates),
         late_records: world.feed.link.late_records,
+        left: (world.feed.link.faults.bytes, world.drain.link.faults.bytes),
+        most_waited: world.drain.most_waited,
         seen: seen_in(alloc, &bytes, world.records)?,
     })
 }
