@@ -15,15 +15,19 @@
 //! The end is `producer` or `worker`. The numbers are those of records, of records in a batch of the
 //! producer, and of entries that the worker asks for at once. Then words may follow:
 //!
-//! | Word | |
+//! | Word | What it changes |
 //! |---|---|
 //! | `resp3` | both ends speak RESP3 |
 //! | `restarts` | after its connection broke an end is started again, as after a kill |
 //! | `forgets` | wrong: a new worker begins without the last lines of its file |
 //! | `guesses` | wrong: after its connection broke the producer does not ask what is in the stream |
 //!
-//! A worker that is started again acknowledges the last lines of its file first. Lines that begin with
-//! `#`, and empty ones, are printed as they are.
+//! A worker that is started again first acknowledges the last lines of its file, as many as it asks for
+//! at once. Lines that begin with `#`, and empty ones, are printed as they are.
+//!
+//! Of a line is printed how many runs it had and what happened in them. Then how many files differ from
+//! what went in, and how many of these have a line twice, lack one, or have one of no record. If none of
+//! that is so, the lines are in another order.
 //!
 //! It ends with 0, or with 2 if memory ran out, an end refused a reply, or standard input or output
 //! failed.
