@@ -4,8 +4,7 @@ use Rattle.std.proofs.Common.{List, [], ◌∷◌, ◌++◌, map, length, take, 
 use Rattle.std.proofs.Common.{Some, None, if◌then◌else◌}
 use Rattle.std.specs.Option.{is_none}
 use Rattle.stream_group.specs.Worker.{Id, Entry}
-use Rattle.stream_group.specs.Group.{ids_of}
-use Rattle.stream_group.specs.World.{item, empty_world, log_of}
+use Rattle.stream_group.specs.World.{item, empty_world}
 use Rattle.stream_group.specs.World as group
 use Rattle.stream_group.specs.Law.{Among}
 use Rattle.stream_group.proofs.Among.{among_item}
@@ -14,14 +13,13 @@ use Rattle.stream_once.specs.Producer.{Producer, filled_by, arrived, breaks}
 use Rattle.stream_once.specs.Consumer.{is_idle}
 use Rattle.stream_once.specs.World.{Setting, Send, Arrive, Arrive_late, Hear, Break, Ask, Take, Sync}
 use Rattle.stream_once.specs.World.{Acknowledge_now, Acknowledge_later, Reconnect, Restart, Else, asked, acknowledges}
-use Rattle.stream_once.specs.World.{without_adding}
 use Rattle.stream_once.specs.World as once
-use Rattle.stream_once.specs.Law.{Fit, Once, log}
+use Rattle.stream_once.specs.Law.{Fit, NoOtherAdd, log}
 use Rattle.stream_once.proofs.Fill.{KeptOf, Fed, Inv, each, at_first, entries_split, log_length}
-use Rattle.stream_once.proofs.Write.{log_once}
 use Rattle.stream_failover.specs.World.{World, Event, Plain, Arrive_waits, Ask_waits, Failover, fails_over}
 use Rattle.stream_failover.specs.World.{remembers, is_confirmed, plainly, happens, run, first_world}
-use Rattle.stream_failover.specs.Law.{after, ProducerWaits, ProducerAlwaysWaits, Waits, LogIsFirstRecords, KnownStaysIn}
+use Rattle.stream_failover.specs.Law.{after, ProducerWaits, ProducerAlwaysWaits, Waits, AllWait, NoneAddedByOthers}
+use Rattle.stream_failover.specs.Law.{NoOtherAdds, LogIsFirstRecords, KnownStaysIn}
 
 module _ {F : Type 0} (s : Setting F) (fit : Fit s) where
   -- the log is the first m records, or more, and what the producer takes to be in is
@@ -33,10 +31,10 @@ module _ {F : Type 0} (s : Setting F) (fit : Fit s) where
   abbrev inv : (m : ℕ) (w : once.World F) → In m w.stream w.producer → Inv s fit w
   inv m w i = record { kept = i.kept; fed = i.fed }
 
-  fed_after : (m : ℕ) (w : once.World F) (e : once.Event F) → In m w.stream w.producer
+  fed_after : (m : ℕ) (w : once.World F) (e : once.Event F) → NoOtherAdd e → In m w.stream w.producer
       → In m (once.happens s w e).stream (once.happens s w e).producer
-  fed_after m w e i =
-      let n = each s fit w (inv m w i) e in
+  fed_after m w e alone i =
+      let n = each s fit w (inv m w i) e alone in
       record { kept = n.inv.kept; fed = n.inv.fed; enough = omega (arith, i.enough, n.grows) }
 
   -- the world, if the server were in this state
@@ -68,38 +66,38 @@ module _ {F : Type 0} (s : Setting F) (fit : Fit s) where
   -- the producer's side of an event, in a state that the server has not
   fed_apart : (m : ℕ) (w : once.World F) (e : once.Event F) → ProducerWaits (Plain e) → (k : group.World F)
       → In m k w.producer → In m k (plainly s w e).producer
-  fed_apart m w (Send n) h k i = fed_after m (at w k) (Send n) i
+  fed_apart m w (Send n) h k i = fed_after m (at w k) (Send n) tt i
   fed_apart m w (Arrive b) h k i = absurd h
   fed_apart m w (Arrive_late j b) h k i =
       let P : group.World F → Type 0 = λ k. In m k (plainly s w (Arrive_late j b)).producer in
-      subst P (not_filled k (item w.producer.late j)) (fed_after m (at w k) (Arrive_late j false) i)
-  fed_apart m w Hear h k i = fed_after m (at w k) Hear i
-  fed_apart m w Break h k i = fed_after m (at w k) Break i
+      subst P (not_filled k (item w.producer.late j)) (fed_after m (at w k) (Arrive_late j false) tt i)
+  fed_apart m w Hear h k i = fed_after m (at w k) Hear tt i
+  fed_apart m w Break h k i = fed_after m (at w k) Break tt i
   fed_apart m w (Ask n pick next) h k i = asked_fed m k n pick next w (is_idle w.consumer) i
   fed_apart m w (Take vs) h k i = i
   fed_apart m w Sync h k i = i
   fed_apart m w Acknowledge_now h k i = now_fed m k w (is_none w.consumer.answer) i
   fed_apart m w Acknowledge_later h k i = i
   fed_apart m w Reconnect h k i = i
-  fed_apart m w (Restart kept n) h k i = i
+  fed_apart m w (Restart every kept n) h k i = i
   fed_apart m w (Else e) h k i = i
 
   -- the same in the state that it has
-  fed_now : (m : ℕ) (w : once.World F) (e : once.Event F) → In m w.stream w.producer
+  fed_now : (m : ℕ) (w : once.World F) (e : once.Event F) → NoOtherAdd e → In m w.stream w.producer
       → In m (plainly s w e).stream (plainly s w e).producer
-  fed_now m w (Send n) i = fed_after m w (Send n) i
-  fed_now m w (Arrive b) i = fed_after m w (Arrive b) i
-  fed_now m w (Arrive_late j b) i = fed_after m w (Arrive_late j b) i
-  fed_now m w Hear i = fed_after m w Hear i
-  fed_now m w Break i = fed_after m w Break i
-  fed_now m w (Ask n pick next) i = fed_after m w (Ask n pick next) i
-  fed_now m w (Take vs) i = i
-  fed_now m w Sync i = i
-  fed_now m w Acknowledge_now i = fed_after m w Acknowledge_now i
-  fed_now m w Acknowledge_later i = fed_after m w Acknowledge_later i
-  fed_now m w Reconnect i = i
-  fed_now m w (Restart kept n) i = i
-  fed_now m w (Else e) i = fed_after m w (Else e) i
+  fed_now m w (Send n) h i = fed_after m w (Send n) h i
+  fed_now m w (Arrive b) h i = fed_after m w (Arrive b) h i
+  fed_now m w (Arrive_late j b) h i = fed_after m w (Arrive_late j b) h i
+  fed_now m w Hear h i = fed_after m w Hear h i
+  fed_now m w Break h i = fed_after m w Break h i
+  fed_now m w (Ask n pick next) h i = fed_after m w (Ask n pick next) h i
+  fed_now m w (Take vs) h i = i
+  fed_now m w Sync h i = i
+  fed_now m w Acknowledge_now h i = fed_after m w Acknowledge_now h i
+  fed_now m w Acknowledge_later h i = fed_after m w Acknowledge_later h i
+  fed_now m w Reconnect h i = i
+  fed_now m w (Restart every kept n) h i = i
+  fed_now m w (Else e) h i = fed_after m w (Else e) h i
 
   pub record Logs (m : ℕ) (w : World F) : Type 0 where
     pub now : In m w.now.stream w.now.producer
@@ -127,34 +125,36 @@ module _ {F : Type 0} (s : Setting F) (fit : Fit s) where
       → Logs m (fails_over w o)
   fails m w j None q i = i
   fails m w j (Some k) q i =
-      let c = fed_after m (at w.now k) Break (i.each k (among_item w.kept j k q)) in
+      let c = fed_after m (at w.now k) Break tt (i.each k (among_item w.kept j k q)) in
       record {
         now = record { kept = c.kept; fed = c.fed; enough = c.enough };
-        each = λ k h. fed_after m (at w.now k) Break (i.each k h);
+        each = λ k h. fed_after m (at w.now k) Break tt (i.each k h);
       }
 
-  pub logs_after : (m : ℕ) (w : World F) (e : Event F) → ProducerWaits e → Logs m w → Logs m (happens s w e)
-  logs_after m w (Plain e) h i =
-      remembered m w.kept (plainly s w.now e) (fed_now m w.now e i.now) (λ k a. fed_apart m w.now e h k (i.each k a))
-  logs_after m w (Arrive_waits b asked said) h i =
+  logs_after : (m : ℕ) (w : World F) (e : Event F) → NoneAddedByOthers e → ProducerWaits e → Logs m w
+      → Logs m (happens s w e)
+  logs_after m w (Plain e) alone h i =
+      remembered m w.kept (plainly s w.now e) (fed_now m w.now e alone i.now) (λ k a. fed_apart m w.now e h k (i.each k a))
+  logs_after m w (Arrive_waits b asked said) alone h i =
       let v : once.World F = once.happens s w.now (Arrive b) in
-      let fed = fed_after m w.now (Arrive b) i.now in
-      waiting m w.kept v (once.happens s v Break) (is_confirmed asked said) fed (fed_after m v Break fed)
+      let fed = fed_after m w.now (Arrive b) tt i.now in
+      waiting m w.kept v (once.happens s v Break) (is_confirmed asked said) fed (fed_after m v Break tt fed)
       (λ k a. let u : once.World F = once.happens s (at w.now k) (Arrive false) in
       unheard m k w.now.stream b w.now.producer w.now.producer.sent
-      (fed_after m u Break (fed_after m (at w.now k) (Arrive false) (i.each k a))))
-  logs_after m w (Ask_waits n pick next asked said) h i =
+      (fed_after m u Break tt (fed_after m (at w.now k) (Arrive false) tt (i.each k a))))
+  logs_after m w (Ask_waits n pick next asked said) alone h i =
       let v : once.World F = once.happens s w.now (Ask n pick next) in
-      let fed = fed_after m w.now (Ask n pick next) i.now in
+      let fed = fed_after m w.now (Ask n pick next) tt i.now in
       waiting m w.kept v (once.happens s v Reconnect) (is_confirmed asked said) fed fed
       (λ k a. asked_fed m k n pick next w.now (is_idle w.now.consumer) (i.each k a))
-  logs_after m w (Failover j) h i = fails m w j (item w.kept j) refl i
+  logs_after m w (Failover j) alone h i = fails m w j (item w.kept j) refl i
 
-  pub logs_over : (m : ℕ) (es : List (Event F)) (w : World F) → ProducerAlwaysWaits es → Logs m w → Logs m (run s es w)
-  logs_over m [] w h i = i
-  logs_over m (e ∷ es) w h i = logs_over m es (happens s w e) h.1 (logs_after m w e h.0 i)
+  logs_over : (m : ℕ) (es : List (Event F)) (w : World F) → NoOtherAdds es → ProducerAlwaysWaits es → Logs m w
+      → Logs m (run s es w)
+  logs_over m [] w alone h i = i
+  logs_over m (e ∷ es) w alone h i = logs_over m es (happens s w e) alone.1 h.1 (logs_after m w e alone.0 h.0 i)
 
-  pub first_logs : Logs 0 first_world
+  first_logs : Logs 0 first_world
   first_logs =
       let f = at_first s fit in
       let fed : In 0 empty_world first_world.now.producer =
@@ -162,18 +162,19 @@ module _ {F : Type 0} (s : Setting F) (fit : Fit s) where
       remembered 0 [] first_world.now fed (λ k h. absurd h)
 
   -- it is so of what the producer takes to be in at any time
-  pub raised : (w : World F) → Logs 0 w → Logs (known_in w.now.producer.stage) w
+  raised : (w : World F) → Logs 0 w → Logs (known_in w.now.producer.stage) w
   raised w i =
       let up : (k : group.World F) → In 0 k w.now.producer → In (known_in w.now.producer.stage) k w.now.producer
       = λ k j. record { kept = j.kept; fed = j.fed; enough = j.fed.so } in
       record { now = up w.now.stream i.now; each = λ k h. up k (i.each k h) }
 
   -- of what the producer took to be in at some time, this is so for ever
-  pub known_logs : (es more : List (Event F)) → ProducerAlwaysWaits es → ProducerAlwaysWaits more
+  pub known_logs : (es more : List (Event F)) → NoOtherAdds es → NoOtherAdds more
+      → ProducerAlwaysWaits es → ProducerAlwaysWaits more
       → Logs (known_in (after s es).now.producer.stage) (run s more (after s es))
-  known_logs es more h k =
+  known_logs es more alone still h k =
       let w : World F = after s es in
-      logs_over (known_in w.now.producer.stage) more w k (raised w (logs_over 0 es first_world h first_logs))
+      logs_over (known_in w.now.producer.stage) more w still k (raised w (logs_over 0 es first_world alone h first_logs))
 
   pub known_in_log : (m : ℕ) (w : World F) → Logs m w → m ≤ length (log w.now)
   known_in_log m w i = omega (arith, i.now.enough, log_length s fit w.now (inv m w.now i.now))
@@ -181,13 +182,6 @@ module _ {F : Type 0} (s : Setting F) (fit : Fit s) where
   pub split : (m : ℕ) (w : World F) → Logs m w
       → (rest : List (Entry F)) × (log w.now ++ rest ≡ entries s.base s.records)
   split m w i = (map as_entry i.now.kept.rest, sym (entries_split s fit w.now (inv m w.now i.now)))
-
-  -- no id is twice in the log, in a state
-  pub distinct_in : (m : ℕ) (w : once.World F) (k : group.World F) → In m k w.producer → Once (ids_of (log_of k))
-  distinct_in m w k i = log_once s fit (at w k) (inv m (at w k) i)
-
-  pub distinct : (m : ℕ) (w : World F) → Logs m w → Once (ids_of (log w.now))
-  distinct m w i = distinct_in m w.now w.now.stream i.now
 
 among_front : {A : Type 0} (m : ℕ) (xs ys : List A) (e : A) → m ≤ length xs → Among e (take m (xs ++ ys)) → Among e xs
 among_front zero xs ys e l h = absurd h
@@ -217,19 +211,24 @@ module _ {F : Type 0} where
   plain_waits Acknowledge_now h = tt
   plain_waits Acknowledge_later h = tt
   plain_waits Reconnect h = tt
-  plain_waits (Restart kept n) h = tt
+  plain_waits (Restart every kept n) h = tt
   plain_waits (Else e) h = tt
 
-  pub producer_waits : (e : Event F) → Waits e → ProducerWaits e
+  producer_waits : (e : Event F) → Waits e → ProducerWaits e
   producer_waits (Plain e) h = plain_waits e h
   producer_waits (Arrive_waits b asked said) h = tt
   producer_waits (Ask_waits n pick next asked said) h = tt
   producer_waits (Failover j) h = tt
 
+  pub producer_always_waits : (es : List (Event F)) → AllWait es → ProducerAlwaysWaits es
+  producer_always_waits [] h = tt
+  producer_always_waits (e ∷ es) h = (producer_waits e h.0, producer_always_waits es h.1)
+
 pub log_is_first_records : {F : Type 0} → LogIsFirstRecords F
-log_is_first_records s fit es h = split s fit 0 (after s es) (logs_over s fit 0 es first_world h (first_logs s fit))
+log_is_first_records s fit es alone h =
+    split s fit 0 (after s es) (logs_over s fit 0 es first_world alone h (first_logs s fit))
 
 pub known_stays_in : {F : Type 0} → KnownStaysIn F
-known_stays_in s fit es more h k =
+known_stays_in s fit es more alone still h k =
     known_in_log s fit (known_in (after s es).now.producer.stage) (run s more (after s es))
-    (known_logs s fit es more h k)
+    (known_logs s fit es more alone still h k)

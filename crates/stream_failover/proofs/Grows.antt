@@ -56,7 +56,7 @@ module _ {F : Type 0} where
   plain s w Acknowledge_now = acked_file s w (is_none w.consumer.answer)
   plain s w Acknowledge_later = same w.consumer.file
   plain s w Reconnect = same w.consumer.file
-  plain s w (Restart kept n) = (take kept w.consumer.lines, refl)
+  plain s w (Restart every kept n) = (take kept w.consumer.lines, refl)
   plain s w (Else e) = same w.consumer.file
 
   -- after a WAIT that was confirmed, or not

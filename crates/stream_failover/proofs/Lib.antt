@@ -3,6 +3,7 @@ pub mod Looked
 pub mod Grows
 pub mod Lines
 pub mod Added
+pub mod Distinct
 pub mod Stays
 pub mod Records
 pub mod Safe

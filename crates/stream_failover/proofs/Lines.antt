@@ -49,8 +49,8 @@ module _ {F : Type 0} (P : Entry F → Type 0) where
     coming = r.coming;
   }
 
-  pub restarted : (c : Consumer F) (kept n : ℕ) → Lines P c → Lines P (restarts kept n c)
-  restarted c kept n r =
+  pub restarted : (c : Consumer F) (every kept n : ℕ) → Lines P c → Lines P (restarts every kept n c)
+  restarted c every kept n r =
       let some : List (Entry F) = take kept c.lines in
       let cut : List (Entry F) = drop kept c.lines in
       let all_is : c.file ++ c.lines ≡ (c.file ++ some) ++ cut =

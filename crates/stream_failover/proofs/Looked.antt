@@ -104,8 +104,8 @@ module _ {F : Type 0} where
   syncing c true h = subst Once (sym (ap ids_of (append_nil (c.file ++ c.lines)))) h
   syncing c false h = h
 
-  restarting : (c : Consumer F) (kept more : ℕ) → Single c → Single (restarts kept more c)
-  restarting c kept more h =
+  restarting : (c : Consumer F) (every kept more : ℕ) → Single c → Single (restarts every kept more c)
+  restarting c every kept more h =
       let some : List (Entry F) = take kept c.lines in
       let cut : List (Entry F) = drop kept c.lines in
       let all_is : c.file ++ c.lines ≡ (c.file ++ some) ++ cut =
@@ -119,7 +119,7 @@ module _ {F : Type 0} where
   move c (Takes vs) h = looking c vs c.answer h
   move c Commits h = syncing c (is_none c.answer && is_empty c.machine.to_acknowledge) h
   move c Reconnects h = h
-  move c (Restarts kept more) h = restarting c kept more h
+  move c (Restarts every kept more) h = restarting c every kept more h
 
   move_on : (ms : List (Move F)) (c : Consumer F) → Single c → Single (moved_on ms c)
   move_on [] c h = h
@@ -151,7 +151,7 @@ module _ {F : Type 0} where
   plain s w Acknowledge_now h = acks s.name w (is_none w.consumer.answer) h
   plain s w Acknowledge_later h = h
   plain s w Reconnect h = h
-  plain s w (Restart kept more) h = restarting w.consumer kept more h
+  plain s w (Restart every kept more) h = restarting w.consumer every kept more h
   plain s w (Else e) h = h
 
   fails : (w : World F) (o : Option (group.World F)) → Single w.now.consumer → Single (fails_over w o).now.consumer

@@ -7,16 +7,14 @@ use Rattle.std.proofs.lemmas.Slice.Eq.{bytes_eq-Decides}
 use Rattle.std.proofs.lemmas.List.{take-append-drop}
 use Rattle.stream_group.specs.Worker.{Id, Entry, Verdict, Answer, entries_in, handled_in}
 use Rattle.stream_group.specs.Group.{Name, Pending, ids_of}
-use Rattle.stream_group.specs.World.{item, with_one, empty_world, log_of}
+use Rattle.stream_group.specs.World.{item, with_one, empty_world}
 use Rattle.stream_group.specs.World as group
 use Rattle.stream_group.specs.Law.{Among}
 use Rattle.stream_group.proofs.Among.{among_left, among_split, among_item, among_of_map}
-use Rattle.stream_once.specs.Producer.{Producer}
 use Rattle.stream_once.specs.Consumer.{Consumer, is_empty, is_idle, syncs, restarts, reconnects}
 use Rattle.stream_once.specs.World.{Setting, Send, Arrive, Arrive_late, Hear, Break, Ask, Take, Sync}
 use Rattle.stream_once.specs.World.{Acknowledge_now, Acknowledge_later, Reconnect, Restart, Else, asked, acknowledges}
 use Rattle.stream_once.specs.World as world
-use Rattle.stream_once.specs.Law.{Fit}
 use Rattle.stream_once.specs.Many.{setting_of, on_the_way, Has}
 use Rattle.stream_once.specs.Many as once
 use Rattle.stream_once.proofs.Apart.{ids_both, id_among, handled_out}
@@ -28,7 +26,7 @@ use Rattle.stream_failover.specs.World.{remembers, is_confirmed, plainly, happen
 use Rattle.stream_failover.specs.Law.{Waits, AllWait}
 use Rattle.stream_failover.specs.Many.{Many, first_many, world_of, with_world, happens_to, run_many, IsFair, AllFair}
 use Rattle.stream_failover.specs.Many.{EachFileOnce, NoneInTwoFiles}
-use Rattle.stream_failover.proofs.Added.{In, Logs, logs_after, first_logs, producer_waits, distinct_in}
+use Rattle.stream_failover.proofs.Distinct.{Distinct, distinct_after, first_distinct, once_in_log}
 use Rattle.stream_failover.proofs.Looked.{Single, in_file, step, unwritten_within}
 
 module _ {F : Type 0} where
@@ -66,8 +64,8 @@ module _ {F : Type 0} where
       let P : List (Entry F) → Type 0 = λ l. Among id (ids_of l) in
       elim h [ inl z ↦ inl z | inr z ↦ inr (subst P (append_nil (c.file ++ c.lines)) z) ]
 
-  restarted : (c : Consumer F) (kept n : ℕ) → NoMore (restarts kept n c) c
-  restarted c kept n = λ id h.
+  restarted : (c : Consumer F) (every kept n : ℕ) → NoMore (restarts every kept n c) c
+  restarted c every kept n = λ id h.
       let some : List (Entry F) = take kept c.lines in
       let cut : List (Entry F) = drop kept c.lines in
       let P : List (Entry F) → Type 0 = λ l. Among id (ids_of l) in
@@ -106,7 +104,7 @@ module _ {F : Type 0} where
   plain_less s w Acknowledge_now h = acked s.name w (is_none w.consumer.answer)
   plain_less s w Acknowledge_later h = λ id m. m
   plain_less s w Reconnect h = cut_off w.consumer
-  plain_less s w (Restart kept n) h = restarted w.consumer kept n
+  plain_less s w (Restart every kept n) h = restarted w.consumer every kept n
   plain_less s w (Else e) h = λ id m. m
 
   one_less : (cs : Name → Consumer F) (name : Name) (k : Consumer F) → NoMore k (cs name) → (d : Name)
@@ -192,42 +190,24 @@ module _ {F : Type 0} where
         each = λ k h. with_less k m.now.consumers name (reconnects c) (cut_off c) (i.each k h);
       }
 
-module _ {F : Type 0} (s : Setting F) (fit : Fit s) where
+module _ {F : Type 0} (s : Setting F) where
   abbrev at : Name → Setting F
   at name = setting_of s name
 
-  -- what is so of the log and the producer does not depend on the consumer's name
-  renamed : (one other : Name) (k : group.World F) (p : Producer F) → In (at one) fit 0 k p → In (at other) fit 0 k p
-  renamed one other k p i = record {
-    kept = i.kept;
-    fed = record {
-      late = i.fed.late;
-      sent = i.fed.sent;
-      answer = i.fed.answer;
-      so = i.fed.so;
-      one = i.fed.one;
-    };
-    enough = i.enough;
-  }
+  -- no id is twice in the log, whichever consumer is looked at
+  abbrev AllDistinct : Many F → Type 0
+  AllDistinct m = (name : Name) → Distinct (world_of m name)
 
-  abbrev AllLogs : Many F → Type 0
-  AllLogs m = (name : Name) → Logs (at name) fit 0 (world_of m name)
+  distinct_so : (m : Many F) (name : Name) (e : Event F) → AllDistinct m → AllDistinct (happens_to s m name e)
+  distinct_so m name e g other =
+      let i = distinct_after (at name) (world_of m name) e (g name) in record { now = i.now; each = i.each }
 
-  logs_so : (m : Many F) (name : Name) (e : Event F) → Waits e → AllLogs m → AllLogs (happens_to s m name e)
-  logs_so m name e h g other =
-      let i = logs_after (at name) fit 0 (world_of m name) e (producer_waits e h) (g name) in
-      let w : World F = happens (at name) (world_of m name) e in
-      record {
-        now = renamed name other w.now.stream w.now.producer i.now;
-        each = λ k a. renamed name other k w.now.producer (i.each k a);
-      }
-
-  plain_held : (m : Many F) (name : Name) (e : world.Event F) → Waits (Plain e) → once.IsFair m.now name e → AllLogs m
+  plain_held : (m : Many F) (name : Name) (e : world.Event F) → Waits (Plain e) → once.IsFair m.now name e → AllDistinct m
       → HeldBy m.now.stream m.now.consumers
       → HeldBy (plainly (at name) (once.world_of m.now name) e).stream
       (with_one m.now.consumers name (plainly (at name) (once.world_of m.now name) e).consumer)
   plain_held m name e h fair g i =
-      let o = distinct_in (at name) fit 0 (once.world_of m.now name) m.now.stream (g name).now in
+      let o = once_in_log (world_of m name) (g name) in
       let c : Consumer F = m.now.consumers name in
       let any = holds s m.now o name in
       let case : (e : world.Event F) → once.IsFair m.now name e
@@ -247,12 +227,12 @@ module _ {F : Type 0} (s : Setting F) (fit : Fit s) where
         | Acknowledge_now ↦ λ f. any Acknowledge_now f i
         | Acknowledge_later ↦ λ f. any Acknowledge_later f i
         | Reconnect ↦ λ f. any Reconnect f i
-        | Restart kept n ↦ λ f. any (Restart kept n) f i
+        | Restart every kept n ↦ λ f. any (Restart every kept n) f i
         | Else event ↦ λ f. any (Else event) f i
       ] in
       case e fair
 
-  held_after : (m : Many F) (name : Name) (e : Event F) → Waits e → IsFair m name e → AllLogs m → AllHeld m
+  held_after : (m : Many F) (name : Name) (e : Event F) → Waits e → IsFair m name e → AllDistinct m → AllHeld m
       → AllHeld (happens_to s m name e)
   held_after m name (Plain e) h fair g i =
       let w : world.World F = once.world_of m.now name in
@@ -261,14 +241,14 @@ module _ {F : Type 0} (s : Setting F) (fit : Fit s) where
       (λ k a. with_less k m.now.consumers name v.consumer (plain_less (at name) w e h) (i.each k a))
   held_after m name (Arrive_waits b asked said) h fair g i =
       let w : world.World F = once.world_of m.now name in
-      let o = distinct_in (at name) fit 0 w m.now.stream (g name).now in
+      let o = once_in_log (world_of m name) (g name) in
       let v : world.World F = world.happens (at name) w (Arrive b) in
       let j = holds s m.now o name (Arrive b) tt i.now in
       waiting m name m.kept v (world.happens (at name) v Break) (is_confirmed asked said) j j
       (λ k a. with_less k m.now.consumers name (m.now.consumers name) (λ id z. z) (i.each k a))
   held_after m name (Ask_waits n pick next asked said) h fair g i =
       let w : world.World F = once.world_of m.now name in
-      let o = distinct_in (at name) fit 0 w m.now.stream (g name).now in
+      let o = once_in_log (world_of m name) (g name) in
       let v : world.World F = world.happens (at name) w (Ask n pick next) in
       let j = holds s m.now o name (Ask n pick next) fair i.now in
       let less = asked_less (at name) n pick next w (is_idle w.consumer) in
@@ -277,11 +257,11 @@ module _ {F : Type 0} (s : Setting F) (fit : Fit s) where
       (λ k a. with_less k m.now.consumers name (reconnects v.consumer) less (i.each k a))
   held_after m name (Failover j) h fair g i = fails m name j (item m.kept j) refl i
 
-  over : (es : List (Name × Event F)) (m : Many F) → AllWait (map (λ e. e.1) es) → AllFair s m es → AllLogs m → AllHeld m
+  over : (es : List (Name × Event F)) (m : Many F) → AllWait (map (λ e. e.1) es) → AllFair s m es → AllDistinct m → AllHeld m
       → AllHeld (run_many s es m)
   over [] m h fair g i = i
   over (e ∷ es) m h fair g i =
-      over es (happens_to s m e.0 e.1) h.1 fair.1 (logs_so m e.0 e.1 h.0 g) (held_after m e.0 e.1 h.0 fair.0 g i)
+      over es (happens_to s m e.0 e.1) h.1 fair.1 (distinct_so m e.0 e.1 g) (held_after m e.0 e.1 h.0 fair.0 g i)
 
   nobody : (id : Id) (d : Name) → Has ((first_many {F = F}).now.consumers d) id → ⊥
   nobody id d (inl h) = h
@@ -304,7 +284,7 @@ module _ {F : Type 0} (s : Setting F) (fit : Fit s) where
           | inr z ↦ absurd z
         ];
       } in
-      (over es first_many h fair (λ name. first_logs (at name) fit) first).now
+      (over es first_many h fair (λ name. record { now = first_distinct.now; each = first_distinct.each }) first).now
 
   has_file : (c : Consumer F) (id : Id) → Among id (ids_of c.file) → Has c id
   has_file c id h =
@@ -330,7 +310,7 @@ each_file_once s es name =
     in_file ((run_many s es first_many).now.consumers name) (singles s es first_many (λ d. tt) name)
 
 pub none_in_two_files : {F : Type 0} → NoneInTwoFiles F
-none_in_two_files s fit es h fair id one other a b =
+none_in_two_files s es h fair id one other a b =
     let m = run_many s es first_many in
-    (always_held s fit es h fair).one id one other (has_file s fit (m.now.consumers one) id a)
-    (has_file s fit (m.now.consumers other) id b)
+    (always_held s es h fair).one id one other (has_file s (m.now.consumers one) id a)
+    (has_file s (m.now.consumers other) id b)

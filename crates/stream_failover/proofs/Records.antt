@@ -1,27 +1,30 @@
 -- What is in the log or in the file is of the records, with WAIT or without.
-use Rattle.std.proofs.Common.{◌≡◌, inl, inr, refl, sym, ap, subst, ℕ, zero, suc, Bool, true, false, ◌&&◌, List, []}
-use Rattle.std.proofs.Common.{◌∷◌, ◌++◌, take, drop, append_assoc, Option, Some, None, if◌then◌else◌}
+use Rattle.std.proofs.Common.{◌≡◌, inl, inr, refl, sym, ap, subst, ℕ, ◌+◌, ◌<◌, ◌≤◌, ◌^◌, zero, suc, arith, nat_lt}
+use Rattle.std.proofs.Common.{Bool, true, false, ◌&&◌, List, [], ◌∷◌, ◌++◌, length, take, drop, append_assoc}
+use Rattle.std.proofs.Common.{Option, Some, None, if◌then◌else◌}
 use Rattle.std.specs.Option.{is_none}
+use Rattle.std.proofs.lemmas.Bool.{lt-ltb}
 use Rattle.stream_group.specs.Worker.{Id, Entry, Phase}
-use Rattle.stream_group.specs.Group.{id_text, is_below, fits}
+use Rattle.stream_group.specs.Group.{Numbers, id_text, is_below, fits, ids_of}
 use Rattle.stream_group.specs.World.{item, but, appended, log_of, empty_world}
 use Rattle.stream_group.specs.World as group
 use Rattle.stream_group.specs.Law.{Among}
 use Rattle.stream_group.proofs.Among.{among_left, among_split, among_map, among_item, among_but}
+use Rattle.stream_group.proofs.Numbers.{id_text_injective}
 use Rattle.stream_once.specs.Feed.{Numbered, numbered, as_entry, entries, Stage, asking, knows, waits, Request, ask_last}
 use Rattle.stream_once.specs.Feed.{batch, adding, request, requested, next_batch}
 use Rattle.stream_once.specs.Producer.{Producer, add_all, filled_by, arrived, hears, overdue, breaks}
 use Rattle.stream_once.specs.Consumer.{is_empty, is_idle, after_asking}
 use Rattle.stream_once.specs.World.{Setting, Send, Arrive, Arrive_late, Hear, Break, Ask, Take, Sync}
 use Rattle.stream_once.specs.World.{Acknowledge_now, Acknowledge_later, Reconnect, Restart, Else, asked, acknowledges}
-use Rattle.stream_once.specs.World.{without_adding}
 use Rattle.stream_once.specs.World as once
-use Rattle.stream_once.proofs.Apart.{once_entries}
+use Rattle.stream_once.specs.Law.{Once, NoOtherAdd}
 use Rattle.stream_once.proofs.Lasts.{same_entry}
 use Rattle.stream_once.proofs.Same.{same_else, same_asked}
 use Rattle.stream_failover.specs.World.{World, Event, Plain, Arrive_waits, Ask_waits, Failover, fails_over, remembers}
 use Rattle.stream_failover.specs.World.{is_confirmed, plainly, happens, run, first_world}
-use Rattle.stream_failover.specs.Law.{after, LogIsOfRecords, FileIsOfRecords, ComesAsWritten}
+use Rattle.stream_failover.specs.Law.{after, NoneAddedByOthers, NoOtherAdds, LogIsOfRecords, FileIsOfRecords}
+use Rattle.stream_failover.specs.Law.{ComesAsWritten}
 use Rattle.stream_failover.proofs.Lines.{Lines, taken, synced, restarted, cut_off, answered}
 use Rattle.stream_failover.proofs.Stays.{handed}
 
@@ -35,6 +38,38 @@ among_dropped : {A : Type 0} (n : ℕ) (xs : List A) (x : A) → Among x (drop n
 among_dropped zero xs x h = h
 among_dropped (suc n) [] x h = absurd h
 among_dropped (suc n) (y ∷ xs) x h = inr (among_dropped n xs x h)
+
+-- the ids of the records are numbers in a row
+record Number (base n : ℕ) (id : Id) : Type 0 where
+  k : ℕ
+  above : base < k
+  within : k ≤ base + n
+  is : id_text (k, 0) ≡ id
+
+fits_low : (k : ℕ) → k < 2 ^ 64 → fits (k, 0) ≡ true
+fits_low k h = ap (λ b. b && nat_lt 0 (2 ^ 64)) (lt-ltb k (2 ^ 64) h)
+
+module _ {F : Type 0} where
+  numbers_of : (base : ℕ) (rs : List F) (id : Id) → Among id (ids_of (entries base rs)) → Number base (length rs) id
+  numbers_of base [] id h = absurd h
+  numbers_of base (r ∷ rs) id (inl e) = record { k = base + 1; above = omega arith; within = omega arith; is = e }
+  numbers_of base (r ∷ rs) id (inr h) =
+      let n = numbers_of (base + 1) rs id h in
+      record { k = n.k; above = omega (arith, n.above); within = omega (arith, n.within); is = n.is }
+
+  -- so none is twice among them
+  pub once_entries : (base : ℕ) (rs : List F) → base + length rs < 2 ^ 64 → Once (ids_of (entries base rs))
+  once_entries base [] h = tt
+  once_entries base (r ∷ rs) h = (
+    λ a.
+        let n = numbers_of (base + 1) rs (id_text (base + 1, 0)) a in
+        let e : (n.k, 0) ≡ (base + 1, 0) =
+        id_text_injective (n.k, 0) (base + 1, 0) (fits_low n.k (omega (arith, h, n.within)))
+        (fits_low (base + 1) (omega (arith, h))) n.is in
+        let k : n.k ≡ base + 1 = ap (λ (z : Numbers). z.0) e in
+        absurd (omega (arith, k, n.above)),
+    once_entries (base + 1) rs (omega (arith, h)),
+  )
 
 module _ {F : Type 0} (s : Setting F) where
   abbrev N : List (Numbered F)
@@ -154,41 +189,41 @@ module _ {F : Type 0} (s : Setting F) where
   acking_all w false i = i
   acking_all w true i = record { log = i.log; sends = i.sends; lines = answered Of w.consumer i.lines }
 
-  plain_all : (w : once.World F) (e : once.Event F) → All w → All (plainly s w e)
-  plain_all w (Send n) i = record {
+  plain_all : (w : once.World F) (e : once.Event F) → NoOtherAdd e → All w → All (plainly s w e)
+  plain_all w (Send n) alone i = record {
     log = i.log;
     sends = sending n w.producer (is_none w.producer.sent && is_none w.producer.answer) i.sends;
     lines = i.lines;
   }
-  plain_all w (Arrive b) i = record {
+  plain_all w (Arrive b) alone i = record {
     log = filled_of b w.stream w.producer.sent i.sends.sent i.log;
     sends = arriving b w.stream w.producer.sent w.producer i.sends;
     lines = i.lines;
   }
-  plain_all w (Arrive_late j b) i = record {
+  plain_all w (Arrive_late j b) alone i = record {
     log = filled_of b w.stream (item w.producer.late j) (of_item w.producer.late j i.sends.late) i.log;
     sends = record { sent = i.sends.sent; late = λ r h. i.sends.late r (among_but w.producer.late j r h) };
     lines = i.lines;
   }
-  plain_all w Hear i =
+  plain_all w Hear alone i =
       record { log = i.log; sends = hearing w.producer w.producer.answer i.sends; lines = i.lines }
-  plain_all w Break i = record { log = i.log; sends = breaking w.producer i.sends; lines = i.lines }
-  plain_all w (Ask n pick next) i = asking_all n pick next w (is_idle w.consumer) i
-  plain_all w (Take vs) i =
+  plain_all w Break alone i = record { log = i.log; sends = breaking w.producer i.sends; lines = i.lines }
+  plain_all w (Ask n pick next) alone i = asking_all n pick next w (is_idle w.consumer) i
+  plain_all w (Take vs) alone i =
       record { log = i.log; sends = i.sends; lines = taken Of w.consumer vs w.consumer.answer refl i.lines }
-  plain_all w Sync i = record {
+  plain_all w Sync alone i = record {
     log = i.log;
     sends = i.sends;
     lines = synced Of w.consumer (is_none w.consumer.answer && is_empty w.consumer.machine.to_acknowledge) i.lines;
   }
-  plain_all w Acknowledge_now i = acking_all w (is_none w.consumer.answer) i
-  plain_all w Acknowledge_later i = record { log = i.log; sends = i.sends; lines = i.lines }
-  plain_all w Reconnect i = record { log = i.log; sends = i.sends; lines = cut_off Of w.consumer i.lines }
-  plain_all w (Restart kept n) i =
-      record { log = i.log; sends = i.sends; lines = restarted Of w.consumer kept n i.lines }
-  plain_all w (Else e) i = record {
+  plain_all w Acknowledge_now alone i = acking_all w (is_none w.consumer.answer) i
+  plain_all w Acknowledge_later alone i = record { log = i.log; sends = i.sends; lines = i.lines }
+  plain_all w Reconnect alone i = record { log = i.log; sends = i.sends; lines = cut_off Of w.consumer i.lines }
+  plain_all w (Restart every kept n) alone i =
+      record { log = i.log; sends = i.sends; lines = restarted Of w.consumer every kept n i.lines }
+  plain_all w (Else e) alone i = record {
     log = λ x h.
-        let P : List (Entry F) → Type 0 = λ l. Among x l in i.log x (subst P (same_else w.stream e).0 h);
+        let P : List (Entry F) → Type 0 = λ l. Among x l in i.log x (subst P (same_else w.stream e alone).0 h);
     sends = i.sends;
     lines = i.lines;
   }
@@ -225,42 +260,42 @@ module _ {F : Type 0} (s : Setting F) where
     each = i.each;
   }
 
-  step : (w : World F) (e : Event F) → Kept w → Kept (happens s w e)
-  step w (Plain e) i = remembered w.kept (plainly s w.now e) (plain_all w.now e i.now) i.each
-  step w (Arrive_waits b asked said) i =
+  step : (w : World F) (e : Event F) → NoneAddedByOthers e → Kept w → Kept (happens s w e)
+  step w (Plain e) alone i = remembered w.kept (plainly s w.now e) (plain_all w.now e alone i.now) i.each
+  step w (Arrive_waits b asked said) alone i =
       let v : once.World F = once.happens s w.now (Arrive b) in
-      let j = plain_all w.now (Arrive b) i.now in
-      waiting w.kept v (once.happens s v Break) (is_confirmed asked said) j (plain_all v Break j) i.each
-  step w (Ask_waits n pick next asked said) i =
+      let j = plain_all w.now (Arrive b) tt i.now in
+      waiting w.kept v (once.happens s v Break) (is_confirmed asked said) j (plain_all v Break tt j) i.each
+  step w (Ask_waits n pick next asked said) alone i =
       let v : once.World F = once.happens s w.now (Ask n pick next) in
-      let j = plain_all w.now (Ask n pick next) i.now in
-      waiting w.kept v (once.happens s v Reconnect) (is_confirmed asked said) j (plain_all v Reconnect j) i.each
-  step w (Failover j) i = failing w j (item w.kept j) refl i
+      let j = plain_all w.now (Ask n pick next) tt i.now in
+      waiting w.kept v (once.happens s v Reconnect) (is_confirmed asked said) j (plain_all v Reconnect tt j) i.each
+  step w (Failover j) alone i = failing w j (item w.kept j) refl i
 
-  steps : (es : List (Event F)) (w : World F) → Kept w → Kept (run s es w)
-  steps [] w i = i
-  steps (e ∷ es) w i = steps es (happens s w e) (step w e i)
+  steps : (es : List (Event F)) (w : World F) → NoOtherAdds es → Kept w → Kept (run s es w)
+  steps [] w alone i = i
+  steps (e ∷ es) w alone i = steps es (happens s w e) alone.1 (step w e alone.0 i)
 
-  always : (es : List (Event F)) → Kept (after s es)
-  always es =
+  always : (es : List (Event F)) → NoOtherAdds es → Kept (after s es)
+  always es alone =
       let start : All (first_world {F = F}).now = record {
         log = λ e h. absurd h;
         sends = record { sent = tt; late = λ r h. absurd h };
         lines = record { lines = λ e h. absurd h; coming = λ e h. absurd h };
       } in
-      steps es first_world (remembered [] first_world.now start (λ k h. absurd h))
+      steps es first_world alone (remembered [] first_world.now start (λ k h. absurd h))
 
 pub log_is_of_records : {F : Type 0} → LogIsOfRecords F
-log_is_of_records s es e h = (always s es).now.log e h
+log_is_of_records s es alone e h = (always s es alone).now.log e h
 
 pub file_is_of_records : {F : Type 0} → FileIsOfRecords F
-file_is_of_records s es e h =
-    let c = (after s es).now.consumer in (always s es).now.lines.lines e (among_left e c.file c.lines h)
+file_is_of_records s es alone e h =
+    let c = (after s es).now.consumer in (always s es alone).now.lines.lines e (among_left e c.file c.lines h)
 
 pub comes_as_written : {F : Type 0} → ComesAsWritten F
-comes_as_written {F} s fit es e fields a b =
+comes_as_written {F} s fit es alone e fields a b =
     let c = (after s es).now.consumer in
-    let i = (always s es).now.lines in
+    let i = (always s es alone).now.lines in
     let d : Entry F = (e.0, fields) in
     let q : d ≡ e = same_entry (entries s.base s.records) (once_entries s.base s.records fit) d e (i.coming d b)
     (i.lines e (among_left e c.file c.lines a)) refl in

@@ -17,7 +17,6 @@ use Rattle.stream_once.specs.Producer.{add_all, filled_by}
 use Rattle.stream_once.specs.Consumer.{Consumer, is_empty, is_idle, after_asking, syncs, restarts, reconnects, last_added}
 use Rattle.stream_once.specs.World.{Setting, Send, Arrive, Arrive_late, Hear, Break, Ask, Take, Sync}
 use Rattle.stream_once.specs.World.{Acknowledge_now, Acknowledge_later, Reconnect, Restart, Else, asked, acknowledges}
-use Rattle.stream_once.specs.World.{without_adding}
 use Rattle.stream_once.specs.World as once
 use Rattle.stream_once.specs.Law.{Fit, log, NoOtherAck, IsKept}
 use Rattle.stream_once.proofs.Apart.{id_among}
@@ -32,8 +31,9 @@ use Rattle.stream_failover.specs.World.{remembers, is_confirmed, plainly, happen
 use Rattle.stream_failover.specs.Law.{after, Waits, AllWait, NoneByOthers, NoOtherAcks, NothingConfirmedIsLost}
 use Rattle.stream_failover.specs.Law.{EachComesOutOnce}
 use Rattle.stream_failover.proofs.Looked.{unwritten_covers, once_on}
-use Rattle.stream_failover.proofs.Added.{known_in_log, split, distinct, first_in_log}
-use Rattle.stream_failover.proofs.Stays.{Holds, known_stays, file_in_seen}
+use Rattle.stream_failover.proofs.Added.{Logs, known_logs, known_in_log, split, first_in_log, producer_always_waits}
+use Rattle.stream_failover.proofs.Distinct.{once_in_log}
+use Rattle.stream_failover.proofs.Stays.{Holds, always_on, file_in_seen}
 
 -- each of the first is one of the others
 abbrev Fewer : List (Name × List Id) → List (Name × List Id) → Type 0
@@ -177,9 +177,9 @@ module _ {F : Type 0} where
         sent = λ a h id m. more id (i.sent a h id m);
       }
 
-  restarted : (acks : List (Name × List Id)) (k : group.World F) (c : Consumer F) (kept n : ℕ) → Safe acks k c
-      → Safe acks k (restarts kept n c)
-  restarted acks k c kept n i =
+  restarted : (acks : List (Name × List Id)) (k : group.World F) (c : Consumer F) (every kept n : ℕ) → Safe acks k c
+      → Safe acks k (restarts every kept n c)
+  restarted acks k c every kept n i =
       let some : List (Entry F) = take kept c.lines in
       let more : (id : Id) → Done k.deleted c.file id → Done k.deleted (c.file ++ some) id
       = done_more k.deleted k.deleted c.file (c.file ++ some) (λ id h. h) (into_file c.file some) in
@@ -229,15 +229,16 @@ module _ {F : Type 0} where
   late w c j (Some a) q i = acked w c a (i.sent a (among_item w.acks j a q)) i
 
   else_now : (w : group.World F) (c : Consumer F) (e : group.Event F) → NoOtherAck (Else e) → Safe w.acks w c
-      → Safe (without_adding w e).acks (without_adding w e) c
-  else_now w c (Append id f) h i = i
+      → Safe (group.happens w e).acks (group.happens w e) c
+  else_now w c (Append n f) h i =
+      served (group.happens w (Append n f)) w c (step_appended w n f (is_below w.last n && fits n)) i
   else_now w c (Delete id) h i =
-      served (without_adding w (Delete id)) w c (step_deleted w id (listed (ids_of (log_of w)) id)) i
-  else_now w c (Read d n) h i = served (without_adding w (Read d n)) w c (step_read w d n) i
-  else_now w c (Reread d pick) h i = served (without_adding w (Reread d pick)) w c (step_again w d pick) i
-  else_now w c (Claim d pick next) h i = served (without_adding w (Claim d pick next)) w c (step_claim w d pick next) i
-  else_now w c (Claim_ids d pick) h i = served (without_adding w (Claim_ids d pick)) w c (step_claim_ids w d pick) i
-  else_now w c (Comes j vs) h i = served (without_adding w (Comes j vs)) w c (step_comes w j (item w.replies j) vs) i
+      served (group.happens w (Delete id)) w c (step_deleted w id (listed (ids_of (log_of w)) id)) i
+  else_now w c (Read d n) h i = served (group.happens w (Read d n)) w c (step_read w d n) i
+  else_now w c (Reread d pick) h i = served (group.happens w (Reread d pick)) w c (step_again w d pick) i
+  else_now w c (Claim d pick next) h i = served (group.happens w (Claim d pick next)) w c (step_claim w d pick next) i
+  else_now w c (Claim_ids d pick) h i = served (group.happens w (Claim_ids d pick)) w c (step_claim_ids w d pick) i
+  else_now w c (Comes j vs) h i = served (group.happens w (Comes j vs)) w c (step_comes w j (item w.replies j) vs) i
   else_now w c (Commit d) h i =
       record { lost = i.lost; told = i.told; to_commit = i.to_commit; to_ack = i.to_ack; sent = i.sent }
   else_now w c (Acknowledge d) h i = absurd h
@@ -248,8 +249,8 @@ module _ {F : Type 0} where
       record { lost = i.lost; told = i.told; to_commit = i.to_commit; to_ack = i.to_ack; sent = i.sent }
 
   -- nothing else acknowledges
-  else_acks : (w : group.World F) (e : group.Event F) → NoOtherAck (Else e) → Fewer (without_adding w e).acks w.acks
-  else_acks w (Append id f) h = λ a m. m
+  else_acks : (w : group.World F) (e : group.Event F) → NoOtherAck (Else e) → Fewer (group.happens w e).acks w.acks
+  else_acks w (Append n f) h = (step_appended w n f (is_below w.last n && fits n)).acks
   else_acks w (Delete id) h = (step_deleted w id (listed (ids_of (log_of w)) id)).acks
   else_acks w (Read d n) h = λ a m. m
   else_acks w (Reread d pick) h = λ a m. m
@@ -351,7 +352,7 @@ module _ {F : Type 0} where
       let j = sent_later w.stream.acks w.stream w.consumer s.name i in
       record { lost = j.lost; told = j.told; to_commit = j.to_commit; to_ack = j.to_ack; sent = j.sent }
   safe_now s w Reconnect h a i = cut_off w.stream.acks w.stream w.consumer i
-  safe_now s w (Restart kept n) h a i = restarted w.stream.acks w.stream w.consumer kept n i
+  safe_now s w (Restart every kept n) h a i = restarted w.stream.acks w.stream w.consumer every kept n i
   safe_now s w (Else e) h a i = else_now w.stream w.consumer e a i
 
   -- the same in a state that it has not
@@ -374,9 +375,9 @@ module _ {F : Type 0} where
   safe_apart s w Acknowledge_now h a k i = acked_apart s.name w (is_none w.consumer.answer) k i
   safe_apart s w Acknowledge_later h a k i = sent_later w.stream.acks k w.consumer s.name i
   safe_apart s w Reconnect h a k i = cut_off w.stream.acks k w.consumer i
-  safe_apart s w (Restart kept n) h a k i = restarted w.stream.acks k w.consumer kept n i
+  safe_apart s w (Restart every kept n) h a k i = restarted w.stream.acks k w.consumer every kept n i
   safe_apart s w (Else e) h a k i =
-      fewer w.stream.acks (without_adding w.stream e).acks k w.consumer (else_acks w.stream e a) i
+      fewer w.stream.acks (group.happens w.stream e).acks k w.consumer (else_acks w.stream e a) i
 
   pub record AllSafe (w : World F) : Type 0 where
     pub now : Safe w.now.stream.acks w.now.stream w.now.consumer
@@ -465,7 +466,7 @@ module _ {F : Type 0} where
   waits_plain w Acknowledge_now h = tt
   waits_plain w Acknowledge_later h = tt
   waits_plain w Reconnect h = tt
-  waits_plain w (Restart kept n) h = tt
+  waits_plain w (Restart every kept n) h = tt
   waits_plain w (Else e) h = tt
 
   waits_may : (w : World F) (e : Event F) → Waits e → May w e
@@ -491,9 +492,8 @@ module _ {F : Type 0} where
       remembered [] first_world.now i (λ k h. absurd h)
 
   -- what is in the log is kept
-  is_kept : (s : Setting F) (fit : Fit s) (m : ℕ) (w : World F) → Holds s fit m w → AllSafe w → (e : Entry F)
-      → Among e (log w.now) → IsKept w.now e
-  is_kept s fit m w i j e h =
+  is_kept : (w : World F) → Holds w → AllSafe w → (e : Entry F) → Among e (log w.now) → IsKept w.now e
+  is_kept w i j e h =
       let k : group.World F = w.now.stream in
       elim (among_split e k.seen k.fresh h) [
         | inr b ↦ inl b
@@ -503,18 +503,18 @@ module _ {F : Type 0} where
             | inl f ↦
                 (let t = among_of_map (λ (x : Entry F). x.0) e.0 w.now.consumer.file f in
                 let P : Entry F → Type 0 = λ x. Among x w.now.consumer.file in
-                inr (inr (inl (subst P (same_entry (log w.now) (distinct s fit m w i.logs) t.x e
-                (among_left t.x k.seen k.fresh (file_in_seen s fit m w i t.x t.within)) h t.is) t.within))))
+                inr (inr (inl (subst P (same_entry (log w.now) (once_in_log w i.distinct) t.x e
+                (among_left t.x k.seen k.fresh (file_in_seen w i t.x t.within)) h t.is) t.within))))
             | inr g ↦ inr (inr (inr g))
           ]
         ]
       ]
 
   -- a log of so many entries is all records
-  whole_log : (s : Setting F) (fit : Fit s) (m : ℕ) (w : World F) → Holds s fit m w → m ≡ length s.records
+  whole_log : (s : Setting F) (fit : Fit s) (m : ℕ) (w : World F) → Logs s fit m w → m ≡ length s.records
       → log w.now ≡ entries s.base s.records
   whole_log s fit m w i q =
-      let r = split s fit m w i.logs in
+      let r = split s fit m w i in
       let many : length (entries s.base s.records) ≡ length s.records =
       length-map (numbered s.base s.records) as_entry ∙ length_numbered s.base s.records in
       let sum : length (log w.now) + length r.0 ≡ length s.records =
@@ -522,27 +522,29 @@ module _ {F : Type 0} where
       let none : (l : List (Entry F)) → length l ≤ 0 → log w.now ++ l ≡ log w.now
       = λ l. elim l as (λ l. length l ≤ 0 → log w.now ++ l ≡ log w.now)
       [ [] ↦ λ h. append_nil (log w.now) | x ∷ xs ↦ λ h. absurd (omega (arith, h)) ] in
-      sym (none r.0 (omega (arith, sum, q, known_in_log s fit m w i.logs))) ∙ r.1
+      sym (none r.0 (omega (arith, sum, q, known_in_log s fit m w i))) ∙ r.1
 
 pub nothing_confirmed_is_lost : {F : Type 0} → NothingConfirmedIsLost F
-nothing_confirmed_is_lost {F} s fit es more h k a b e m =
+nothing_confirmed_is_lost {F} s fit es more alone still h k a b e m =
     let w : World F = after s es in
     let v : World F = run s more w in
-    let n : ℕ = known_in w.now.producer.stage in
-    let i = known_stays s fit es more h k in
-    is_kept s fit n v i (steps s more w k b (steps s es first_world h a start)) e
-    (first_in_log s fit n v i.logs e m)
+    let known =
+    known_logs s fit es more alone still (producer_always_waits es h) (producer_always_waits more k) in
+    is_kept v (always_on s es more h k) (steps s more w k b (steps s es first_world h a start)) e
+    (first_in_log s fit (known_in w.now.producer.stage) v known e m)
 
 pub each_comes_out_once : {F : Type 0} → EachComesOutOnce F
-each_comes_out_once {F} s fit es more h k a b all_in drained none =
+each_comes_out_once {F} s fit es more alone still h k a b all_in drained none =
     let w : World F = after s es in
     let v : World F = run s more w in
-    let n : ℕ = known_in w.now.producer.stage in
-    let i = known_stays s fit es more h k in
+    let known =
+    known_logs s fit es more alone still (producer_always_waits es h) (producer_always_waits more k) in
+    let i = always_on s es more h k in
     let safe = steps s more w k b (steps s es first_world h a start) in
-    let all : log v.now ≡ entries s.base s.records = whole_log s fit n v i (ap known_in all_in) in
+    let all : log v.now ≡ entries s.base s.records =
+    whole_log s fit (known_in w.now.producer.stage) v known (ap known_in all_in) in
     let P : Entry F → List (Entry F) → Type 0 = λ e l. Among e l in (
-      λ e m. elim (is_kept s fit n v i safe e (subst (λ l. P e l) (sym all) m)) [
+      λ e m. elim (is_kept v i safe e (subst (λ l. P e l) (sym all) m)) [
         | inl x ↦ absurd (subst (λ l. P e l) drained.1 x)
         | inr x ↦ elim x [
           | inl y ↦ absurd (let Q : List Pending → Type 0 = λ l. Among e.0 (pending_ids l) in subst Q drained.0 y)
@@ -554,7 +556,7 @@ each_comes_out_once {F} s fit es more h k a b all_in drained none =
       ],
       (
         λ e m. subst (λ l. P e l) all
-            (among_left e v.now.stream.seen v.now.stream.fresh (file_in_seen s fit n v i e m)),
+            (among_left e v.now.stream.seen v.now.stream.fresh (file_in_seen v i e m)),
         once_on s es more,
       ),
     )

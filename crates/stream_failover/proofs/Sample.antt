@@ -7,7 +7,7 @@ use Rattle.stream_once.specs.Feed.{entries}
 use Rattle.stream_once.specs.World.{Setting, Send, Hear, Take, Sync, Acknowledge_now}
 use Rattle.stream_once.specs.Law.{Fit, IsDone, IsDrained, log}
 use Rattle.stream_failover.specs.World.{World, Event, Plain, Arrive_waits, Ask_waits, Failover, run}
-use Rattle.stream_failover.specs.Law.{after, AllWait, NoOtherAcks}
+use Rattle.stream_failover.specs.Law.{after, AllWait, NoOtherAdds, NoOtherAcks}
 
 abbrev two : Setting ℕ
 two = record { records = 7 ∷ 8 ∷ []; base = 3; name = codes "me" }
@@ -47,6 +47,12 @@ filling_waits = (tt, (tt, (tt, (tt, (tt, (tt, (tt, (tt, (tt, (tt, (tt, (tt, tt))
 
 pub draining_waits : AllWait draining
 draining_waits = (tt, (tt, (tt, (tt, (tt, (tt, (tt, (tt, (tt, (tt, (tt, (tt, (tt, (tt, (tt, tt)))))))))))))))
+
+pub filling_adds_alone : NoOtherAdds filling
+filling_adds_alone = (tt, (tt, (tt, (tt, (tt, (tt, (tt, (tt, (tt, (tt, (tt, (tt, tt))))))))))))
+
+pub draining_adds_nothing : NoOtherAdds draining
+draining_adds_nothing = (tt, (tt, (tt, (tt, (tt, (tt, (tt, (tt, (tt, (tt, (tt, (tt, (tt, (tt, (tt, tt)))))))))))))))
 
 pub filling_acknowledges_alone : NoOtherAcks filling
 filling_acknowledges_alone = (tt, (tt, (tt, (tt, (tt, (tt, (tt, (tt, (tt, (tt, (tt, (tt, tt))))))))))))

@@ -1,10 +1,9 @@
 -- Two consumers and a failover: with WAIT each premise is met, and without it an entry is in both files.
-use Rattle.std.proofs.Common.{◌≡◌, refl, ℕ, arith, true, false, List, [], ◌∷◌, ◌++◌, map, codes}
+use Rattle.std.proofs.Common.{◌≡◌, refl, ℕ, true, false, List, [], ◌∷◌, ◌++◌, map, codes}
 use Rattle.std.specs.Fmt.{digits}
 use Rattle.stream_group.specs.Worker.{Id, done}
 use Rattle.stream_group.specs.Group.{Name, ids_of, id_text, pending_ids}
 use Rattle.stream_once.specs.World.{Setting, Send, Arrive, Hear, Ask, Take, Sync, Acknowledge_now}
-use Rattle.stream_once.specs.Law.{Fit}
 use Rattle.stream_failover.specs.World.{Event, Plain, Arrive_waits, Ask_waits, Failover}
 use Rattle.stream_failover.specs.Law.{AllWait}
 use Rattle.stream_failover.specs.Many.{Many, first_many, run_many, AllFair}
@@ -70,9 +69,6 @@ waiting =
     beginning (settled (Failover 2 ∷ []))
     )
     ++ (by (codes "bob") (beginning (Plain (Take []) ∷ [])) ++ by (codes "ann") (again ∷ settled []))
-
-pub it_fits : Fit one
-it_fits = omega arith
 
 pub all_wait : AllWait (map (λ (e : Name × Event ℕ). e.1) waiting)
 all_wait =

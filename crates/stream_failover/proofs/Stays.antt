@@ -12,21 +12,20 @@ use Rattle.stream_group.specs.World as group
 use Rattle.stream_group.specs.Law.{Among}
 use Rattle.stream_group.proofs.Among.{among_left, among_right, among_filtered, among_item}
 use Rattle.stream_group.proofs.Steps.{given_passed}
-use Rattle.stream_once.specs.Feed.{Request, known_in}
+use Rattle.stream_once.specs.Feed.{Request}
 use Rattle.stream_once.specs.Producer.{filled_by}
 use Rattle.stream_once.specs.Consumer.{Consumer, is_empty, is_idle, after_asking, answer_for, reconnects}
 use Rattle.stream_once.specs.World.{Setting, Send, Arrive, Arrive_late, Hear, Break, Ask, Take, Sync}
 use Rattle.stream_once.specs.World.{Acknowledge_now, Acknowledge_later, Reconnect, Restart, Else, asked, acknowledges}
-use Rattle.stream_once.specs.World.{without_adding}
 use Rattle.stream_once.specs.World as once
-use Rattle.stream_once.specs.Law.{Fit}
 use Rattle.stream_once.proofs.Apart.{id_among}
+use Rattle.stream_once.proofs.Ids.{AddedIn}
 use Rattle.stream_once.proofs.Write.{calm_else, calm_filled, calm_served, not_fresh}
 use Rattle.stream_failover.specs.World.{World, Event, Plain, Arrive_waits, Ask_waits, Failover, fails_over}
 use Rattle.stream_failover.specs.World.{remembers, is_confirmed, plainly, happens, run, first_world}
 use Rattle.stream_failover.specs.Law.{after, Waits, AllWait, FileIsOfLog}
 use Rattle.stream_failover.specs.Law.{HandledIsNotNew}
-use Rattle.stream_failover.proofs.Added.{In, Logs, logs_after, first_logs, raised, producer_waits, distinct_in, distinct}
+use Rattle.stream_failover.proofs.Distinct.{Distinct, distinct_after, first_distinct, once_in_log}
 use Rattle.stream_failover.proofs.Lines.{Lines, more, taken, synced, restarted, cut_off, answered}
 
 module _ {F : Type 0} where
@@ -78,7 +77,17 @@ module _ {F : Type 0} where
   abbrev pub Read : group.World F → Consumer F → Type 0
   Read k c = Lines (Seen k) c
 
-module _ {F : Type 0} (s : Setting F) (fit : Fit s) where
+  -- in the present state, and in those that are kept with it
+  pub record Reads (w : World F) : Type 0 where
+    pub now : Read w.now.stream w.now.consumer
+    pub each : (k : group.World F) → Among k w.kept → Read k w.now.consumer
+
+  -- no id is twice in the log either
+  pub record Holds (w : World F) : Type 0 where
+    pub distinct : Distinct w
+    pub reads : Reads w
+
+module _ {F : Type 0} (s : Setting F) where
   acked_apart : (k : group.World F) (w : once.World F) (b : Bool) → Read k w.consumer
       → Read k (if b then acknowledges s.name w else w).consumer
   acked_apart k w true r = answered (Seen k) w.consumer r
@@ -99,7 +108,7 @@ module _ {F : Type 0} (s : Setting F) (fit : Fit s) where
   read_apart w Acknowledge_now h k r = acked_apart k w (is_none w.consumer.answer) r
   read_apart w Acknowledge_later h k r = r
   read_apart w Reconnect h k r = cut_off (Seen k) w.consumer r
-  read_apart w (Restart kept n) h k r = restarted (Seen k) w.consumer kept n r
+  read_apart w (Restart every kept n) h k r = restarted (Seen k) w.consumer every kept n r
   read_apart w (Else e) h k r = r
 
   acked_now : (w : once.World F) (b : Bool) → Read w.stream w.consumer
@@ -109,47 +118,42 @@ module _ {F : Type 0} (s : Setting F) (fit : Fit s) where
       (answered (Seen w.stream) w.consumer r)
   acked_now w false r = r
 
-  read_now : (m : ℕ) (w : once.World F) (e : once.Event F) → Waits (Plain e) → In s fit m w.stream w.producer
+  read_now : (w : once.World F) (e : once.Event F) → Waits (Plain e) → AddedIn w.stream
       → Read w.stream w.consumer → Read (plainly s w e).stream (plainly s w e).consumer
-  read_now m w (Send n) h i r = r
-  read_now m w (Arrive b) h i r = absurd h
-  read_now m w (Arrive_late j b) h i r =
+  read_now w (Send n) h i r = r
+  read_now w (Arrive b) h i r = absurd h
+  read_now w (Arrive_late j b) h i r =
       more (Seen w.stream) (Seen (filled_by b w.stream (item w.producer.late j))) w.consumer
       (calm_filled b w.stream (item w.producer.late j)).0 r
-  read_now m w Hear h i r = r
-  read_now m w Break h i r = r
-  read_now m w (Ask n pick next) h i r = absurd h
-  read_now m w (Take vs) h i r = taken (Seen w.stream) w.consumer vs w.consumer.answer refl r
-  read_now m w Sync h i r =
+  read_now w Hear h i r = r
+  read_now w Break h i r = r
+  read_now w (Ask n pick next) h i r = absurd h
+  read_now w (Take vs) h i r = taken (Seen w.stream) w.consumer vs w.consumer.answer refl r
+  read_now w Sync h i r =
       synced (Seen w.stream) w.consumer (is_none w.consumer.answer && is_empty w.consumer.machine.to_acknowledge) r
-  read_now m w Acknowledge_now h i r = acked_now w (is_none w.consumer.answer) r
-  read_now m w Acknowledge_later h i r =
+  read_now w Acknowledge_now h i r = acked_now w (is_none w.consumer.answer) r
+  read_now w Acknowledge_later h i r =
       more (Seen w.stream) (Seen (plainly s w Acknowledge_later).stream) w.consumer (λ e h. h) r
-  read_now m w Reconnect h i r = cut_off (Seen w.stream) w.consumer r
-  read_now m w (Restart kept n) h i r = restarted (Seen w.stream) w.consumer kept n r
-  read_now m w (Else e) h i r =
-      more (Seen w.stream) (Seen (without_adding w.stream e)) w.consumer (calm_else w.stream (distinct_in s fit m w w.stream i) e).0 r
+  read_now w Reconnect h i r = cut_off (Seen w.stream) w.consumer r
+  read_now w (Restart every kept n) h i r = restarted (Seen w.stream) w.consumer every kept n r
+  read_now w (Else e) h i r =
+      more (Seen w.stream) (Seen (group.happens w.stream e)) w.consumer (calm_else w.stream i.once e).0 r
 
-  asked_read : (m : ℕ) (n : ℕ) (pick : Id → Bool) (next : Id) (w : once.World F) (b : Bool) → In s fit m w.stream w.producer
+  asked_read : (n : ℕ) (pick : Id → Bool) (next : Id) (w : once.World F) (b : Bool) → AddedIn w.stream
       → Read w.stream w.consumer
       → Read (if b then asked s.name n pick next w else w).stream (if b then asked s.name n pick next w else w).consumer
-  asked_read m n pick next w false i r = r
-  asked_read m n pick next w true i r =
+  asked_read n pick next w false i r = r
+  asked_read n pick next w true i r =
       let p : Phase = w.consumer.machine.phase in
       let v : group.World F = after_asking s.name n pick next p w.stream in
       let grown = more (Seen w.stream) (Seen v) w.consumer
-      (calm_served s.name n pick next p w.stream (distinct_in s fit m w w.stream i)).0 r in
+      (calm_served s.name n pick next p w.stream i.once).0 r in
       record { lines = grown.lines; coming = λ e h. handed s.name n pick next p w.stream e h }
 
   asked_apart : (k : group.World F) (n : ℕ) (pick : Id → Bool) (next : Id) (w : once.World F) (b : Bool)
       → Read k w.consumer → Read k (reconnects (if b then asked s.name n pick next w else w).consumer)
   asked_apart k n pick next w true r = record { lines = r.lines; coming = λ e h. absurd h }
   asked_apart k n pick next w false r = record { lines = r.lines; coming = λ e h. absurd h }
-
-  -- in the present state, and in those that are kept with it
-  pub record Reads (w : World F) : Type 0 where
-    pub now : Read w.now.stream w.now.consumer
-    pub each : (k : group.World F) → Among k w.kept → Read k w.now.consumer
 
   remembered : (kept : List (group.World F)) (w : once.World F) → Read w.stream w.consumer
       → ((k : group.World F) → Among k kept → Read k w.consumer) → Reads (remembers kept w)
@@ -175,61 +179,52 @@ module _ {F : Type 0} (s : Setting F) (fit : Fit s) where
     each = λ k h. cut_off (Seen k) w.now.consumer (r.each k h);
   }
 
-  reads_after : (m : ℕ) (w : World F) (e : Event F) → Waits e → Logs s fit m w → Reads w → Reads (happens s w e)
-  reads_after m w (Plain e) h i r =
-      remembered w.kept (plainly s w.now e) (read_now m w.now e h i.now r.now)
+  reads_after : (w : World F) (e : Event F) → Waits e → Distinct w → Reads w → Reads (happens s w e)
+  reads_after w (Plain e) h i r =
+      remembered w.kept (plainly s w.now e) (read_now w.now e h i.now r.now)
       (λ k a. read_apart w.now e h k (r.each k a))
-  reads_after m w (Arrive_waits b asked said) h i r =
+  reads_after w (Arrive_waits b asked said) h i r =
       let o : Option (Request F) = w.now.producer.sent in
       let v : once.World F = once.happens s w.now (Arrive b) in
       let read : Read v.stream v.consumer =
       more (Seen w.now.stream) (Seen (filled_by b w.now.stream o)) w.now.consumer (calm_filled b w.now.stream o).0 r.now in
       waiting w.kept v (once.happens s v Break) (is_confirmed asked said) read read r.each
-  reads_after m w (Ask_waits n pick next asked said) h i r =
+  reads_after w (Ask_waits n pick next asked said) h i r =
       let v : once.World F = once.happens s w.now (Ask n pick next) in
-      let read : Read v.stream v.consumer = asked_read m n pick next w.now (is_idle w.now.consumer) i.now r.now in
+      let read : Read v.stream v.consumer = asked_read n pick next w.now (is_idle w.now.consumer) i.now r.now in
       waiting w.kept v (once.happens s v Reconnect) (is_confirmed asked said) read
       (cut_off (Seen v.stream) v.consumer read)
       (λ k a. asked_apart k n pick next w.now (is_idle w.now.consumer) (r.each k a))
-  reads_after m w (Failover j) h i r = fails w j (item w.kept j) refl r
+  reads_after w (Failover j) h i r = fails w j (item w.kept j) refl r
 
-  -- both
-  pub record Holds (m : ℕ) (w : World F) : Type 0 where
-    pub logs : Logs s fit m w
-    pub reads : Reads w
+  steps : (es : List (Event F)) (w : World F) → AllWait es → Holds w → Holds (run s es w)
+  steps [] w h i = i
+  steps (e ∷ es) w h i =
+      steps es (happens s w e) h.1
+      (record { distinct = distinct_after s w e i.distinct; reads = reads_after w e h.0 i.distinct i.reads })
 
-  pub steps : (m : ℕ) (es : List (Event F)) (w : World F) → AllWait es → Holds m w → Holds m (run s es w)
-  steps m [] w h i = i
-  steps m (e ∷ es) w h i =
-      steps m es (happens s w e) h.1
-      (record { logs = logs_after s fit m w e (producer_waits e h.0) i.logs; reads = reads_after m w e h.0 i.logs i.reads })
-
-  pub always : (es : List (Event F)) → AllWait es → Holds 0 (after s es)
+  always : (es : List (Event F)) → AllWait es → Holds (after s es)
   always es h =
       let read : Read {F = F} empty_world first_world.now.consumer =
       record { lines = λ e h. absurd h; coming = λ e h. absurd h } in
-      steps 0 es first_world h
-      (record { logs = first_logs s fit; reads = remembered [] first_world.now read (λ k h. absurd h) })
+      steps es first_world h
+      (record { distinct = first_distinct; reads = remembered [] first_world.now read (λ k h. absurd h) })
 
-  pub known_stays : (es more : List (Event F)) → AllWait es → AllWait more
-      → Holds (known_in (after s es).now.producer.stage) (run s more (after s es))
-  known_stays es more h k =
-      let w : World F = after s es in
-      let i = always es h in
-      steps (known_in w.now.producer.stage) more w k (record { logs = raised s fit w i.logs; reads = i.reads })
+  pub always_on : (es more : List (Event F)) → AllWait es → AllWait more → Holds (run s more (after s es))
+  always_on es more h k = steps more (after s es) k (always es h)
 
-pub file_in_seen : {F : Type 0} (s : Setting F) (fit : Fit s) (m : ℕ) (w : World F) → Holds s fit m w → (e : Entry F)
+pub file_in_seen : {F : Type 0} (w : World F) → Holds w → (e : Entry F)
     → Among e w.now.consumer.file → Among e w.now.stream.seen
-file_in_seen s fit m w i e h = i.reads.now.lines e (among_left e w.now.consumer.file w.now.consumer.lines h)
+file_in_seen w i e h = i.reads.now.lines e (among_left e w.now.consumer.file w.now.consumer.lines h)
 
 pub file_is_of_log : {F : Type 0} → FileIsOfLog F
-file_is_of_log s fit es h e a =
+file_is_of_log s es h e a =
     let w = after s es in
-    among_left e w.now.stream.seen w.now.stream.fresh (file_in_seen s fit 0 w (always s fit es h) e a)
+    among_left e w.now.stream.seen w.now.stream.fresh (file_in_seen w (always s es h) e a)
 
 pub handled_is_not_new : {F : Type 0} → HandledIsNotNew F
-handled_is_not_new s fit es h e a b =
+handled_is_not_new s es h e a b =
     let w = after s es in
-    let i = always s fit es h in
-    not_fresh w.now.stream (distinct s fit 0 w i.logs) e.0
-    (id_among e w.now.stream.seen (file_in_seen s fit 0 w i e a)) (id_among e w.now.stream.fresh b)
+    let i = always s es h in
+    not_fresh w.now.stream (once_in_log w i.distinct) e.0
+    (id_among e w.now.stream.seen (file_in_seen w i e a)) (id_among e w.now.stream.fresh b)

@@ -15,15 +15,15 @@ use Rattle.stream_once.specs.Producer.{add_all, filled_by}
 use Rattle.stream_once.specs.Consumer.{is_idle}
 use Rattle.stream_once.specs.World.{Setting, Send, Arrive, Arrive_late, Hear, Break, Ask, Take, Sync}
 use Rattle.stream_once.specs.World.{Acknowledge_now, Acknowledge_later, Reconnect, Restart, Else, asked, acknowledges}
-use Rattle.stream_once.specs.World.{without_adding}
 use Rattle.stream_once.specs.World as once
-use Rattle.stream_once.proofs.Apart.{id_among, once_entries}
+use Rattle.stream_once.proofs.Apart.{id_among}
 use Rattle.stream_once.proofs.Lasts.{same_entry}
 use Rattle.stream_failover.specs.World.{World, Event, Plain, Arrive_waits, Ask_waits, Failover, fails_over, remembers}
 use Rattle.stream_failover.specs.World.{is_confirmed, plainly, happens, run, first_world}
-use Rattle.stream_failover.specs.Law.{after, NoOtherAcks, NoDelete, NoDeletes, LogIsKept, ProducerLosesNothing}
+use Rattle.stream_failover.specs.Law.{after, NoOtherAdds, NoOtherAcks, NoDelete, NoDeletes, LogIsKept}
+use Rattle.stream_failover.specs.Law.{ProducerLosesNothing}
 use Rattle.stream_failover.proofs.Added.{known_logs, first_in_log}
-use Rattle.stream_failover.proofs.Records.{log_is_of_records, file_is_of_records}
+use Rattle.stream_failover.proofs.Records.{once_entries, log_is_of_records, file_is_of_records}
 use Rattle.stream_failover.proofs.Safe.{after_deleted, MayAsk, May, AllSafe, step, start}
 
 module _ {F : Type 0} where
@@ -55,8 +55,8 @@ module _ {F : Type 0} where
   same_acked w None = refl
   same_acked w (Some a) = refl
 
-  same_else : (w : group.World F) (e : group.Event F) → NoDelete (Plain (Else e)) → Same (without_adding w e) w
-  same_else w (Append id f) h = refl
+  same_else : (w : group.World F) (e : group.Event F) → NoDelete (Plain (Else e)) → Same (group.happens w e) w
+  same_else w (Append n f) h = same_appended w n f (is_below w.last n && fits n)
   same_else w (Delete id) h = absurd h
   same_else w (Read c n) h = refl
   same_else w (Reread c pick) h = refl
@@ -91,7 +91,7 @@ module _ {F : Type 0} where
   same_plain s w Acknowledge_now h = same_now s.name w (is_none w.consumer.answer)
   same_plain s w Acknowledge_later h = refl
   same_plain s w Reconnect h = refl
-  same_plain s w (Restart kept n) h = refl
+  same_plain s w (Restart every kept n) h = refl
   same_plain s w (Else e) h = same_else w.stream e h
 
   -- nothing is deleted, in each state that the server may go back to
@@ -144,7 +144,7 @@ module _ {F : Type 0} where
   plain_may w Acknowledge_now q = tt
   plain_may w Acknowledge_later q = tt
   plain_may w Reconnect q = tt
-  plain_may w (Restart kept n) q = tt
+  plain_may w (Restart every kept n) q = tt
   plain_may w (Else e) q = tt
 
   may : (w : World F) (e : Event F) → Whole w → May w e
@@ -160,11 +160,11 @@ module _ {F : Type 0} where
       steps s es (happens s w e) a.1 d.1 (whole_after s w e d.0 i) (step s w e (may w e i) a.0 j)
 
 pub log_is_kept : {F : Type 0} → LogIsKept F
-log_is_kept {F} s fit es alone none e h =
+log_is_kept {F} s fit es alone single none e h =
     let w : World F = after s es in
     let k : group.World F = w.now.stream in
     let first : Whole {F = F} first_world = remembered [] first_world.now refl (λ k h. absurd h) in
-    let i = steps s es first_world alone none first start in
+    let i = steps s es first_world single none first start in
     elim (among_split e k.seen k.fresh h) [
       | inr b ↦ inl b
       | inl b ↦ elim (i.now.lost e.0 (id_among e k.seen b)) [
@@ -174,7 +174,7 @@ log_is_kept {F} s fit es alone none e h =
               (let t = among_of_map (λ (x : Entry F). x.0) e.0 w.now.consumer.file f in
               let P : Entry F → Type 0 = λ x. Among x w.now.consumer.file in
               inr (inr (inl (subst P (same_entry (entries s.base s.records) (once_entries s.base s.records fit) t.x e
-              (file_is_of_records s es t.x t.within) (log_is_of_records s es e h) t.is) t.within))))
+              (file_is_of_records s es alone t.x t.within) (log_is_of_records s es alone e h) t.is) t.within))))
           | inr g ↦ inr (inr (inr g))
         ]
       ]
@@ -185,6 +185,10 @@ module _ {F : Type 0} where
   run_both s [] more w = refl
   run_both s (e ∷ es) more w = run_both s es more (happens s w e)
 
+  no_adds_both : (es more : List (Event F)) → NoOtherAdds es → NoOtherAdds more → NoOtherAdds (es ++ more)
+  no_adds_both [] more h k = k
+  no_adds_both (e ∷ es) more h k = (h.0, no_adds_both es more h.1 k)
+
   no_acks_both : (es more : List (Event F)) → NoOtherAcks es → NoOtherAcks more → NoOtherAcks (es ++ more)
   no_acks_both [] more h k = k
   no_acks_both (e ∷ es) more h k = (h.0, no_acks_both es more h.1 k)
@@ -194,10 +198,13 @@ module _ {F : Type 0} where
   no_deletes_both (e ∷ es) more h k = (h.0, no_deletes_both es more h.1 k)
 
 pub producer_loses_nothing : {F : Type 0} → ProducerLosesNothing F
-producer_loses_nothing {F} s fit es more h k a b d g e m =
+producer_loses_nothing {F} s fit es more alone still h k a b d g e m =
     let v : World F = run s more (after s es) in
     let n : ℕ = known_in (after s es).now.producer.stage in
     let both : after s (es ++ more) ≡ v = run_both s es more first_world in
-    let in_log : Among e (log v.now) = first_in_log s fit n v (known_logs s fit es more h k) e m in
+    let in_log : Among e (log v.now) = first_in_log s fit n v (known_logs s fit es more alone still h k) e m in
     let P : World F → Type 0 = λ w. Among e (log w.now) → IsKept w.now e in
-    subst P both (λ l. log_is_kept s fit (es ++ more) (no_acks_both es more a b) (no_deletes_both es more d g) e l) in_log
+    subst P both
+    (λ l. log_is_kept s fit (es ++ more) (no_adds_both es more alone still) (no_acks_both es more a b)
+    (no_deletes_both es more d g) e l)
+    in_log

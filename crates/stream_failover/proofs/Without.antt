@@ -3,7 +3,7 @@ use Rattle.std.proofs.Common.{◌≡◌, refl, ℕ, true, List, [], ◌∷◌, m
 use Rattle.std.specs.Fmt.{digits}
 use Rattle.stream_group.specs.Worker.{Id, Entry, done}
 use Rattle.stream_group.specs.Group.{ids_of, id_text, pending_ids}
-use Rattle.stream_group.specs.World.{Delete}
+use Rattle.stream_group.specs.World.{Append, Delete}
 use Rattle.stream_once.specs.Feed.{Stage, knows, entries}
 use Rattle.stream_once.specs.World.{Setting, Send, Arrive, Arrive_late, Hear, Break, Ask, Take, Sync, Acknowledge_now, Else}
 use Rattle.stream_once.specs.World as once
@@ -86,6 +86,23 @@ pub line_twice : file_pending_fresh (run_by does_not_look (adding 1 (handling (F
     ≡ (map id_text ((1, 0) ∷ (1, 0) ∷ []), [], [])
 unfolding digits
 line_twice = refl
+
+-- a failover loses an entry that was handled, and another adds one with its id and other fields. The consumer looks the
+-- id up, and acknowledges it without a line: those fields are in the log, and in no file
+abbrev adding_again : World ℕ
+adding_again = after two (adding 1 (handling (Failover 12 ∷ Plain (Else (Append (1, 0) 9)) ∷ handling [])))
+
+pub other_is_acknowledged : file_pending_fresh adding_again ≡ (first_one, [], [])
+unfolding digits
+other_is_acknowledged = refl
+
+pub log_has_others : log adding_again.now ≡ (id_text (1, 0), 9) ∷ []
+unfolding digits
+log_has_others = refl
+
+pub file_has_first : adding_again.now.consumer.file ≡ (id_text (1, 0), 7) ∷ []
+unfolding digits
+file_has_first = refl
 
 -- an entry that is pending is deleted, and so comes without its fields. The consumer is to acknowledge it, and does so
 -- after a failover to a master that has it. Then it is in the log, and in no other place

@@ -31,7 +31,7 @@ pub data Move (F : Type 0) : Type 0 where
   -- its connection breaks
   Reconnects : Move F
   -- it crashes and is started again, as in stream_once
-  Restarts : (kept more : ℕ) → Move F
+  Restarts : (every kept more : ℕ) → Move F
 
 -- the consumer after it
 abbrev pub moved : {F : Type 0} → Consumer F → Move F → Consumer F
@@ -39,7 +39,7 @@ moved c (Told answer) = record c { answer = Some answer }
 moved c (Takes verdicts) = looks_up verdicts c.answer c
 moved c Commits = commits c
 moved c Reconnects = reconnects c
-moved c (Restarts kept more) = restarts kept more c
+moved c (Restarts every kept more) = restarts every kept more c
 
 -- after all of these
 abbrev pub moved_on : {F : Type 0} → List (Move F) → Consumer F → Consumer F

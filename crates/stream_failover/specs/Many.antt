@@ -6,7 +6,7 @@ use Rattle.stream_group.specs.World.{empty_world}
 use Rattle.stream_group.specs.World as group
 use Rattle.stream_group.specs.Law.{Among}
 use Rattle.stream_once.specs.World.{Setting}
-use Rattle.stream_once.specs.Law.{Fit, Once}
+use Rattle.stream_once.specs.Law.{Once}
 use Rattle.stream_once.specs.Many.{setting_of, FairAsk}
 use Rattle.stream_once.specs.Many as once
 use Rattle.stream_failover.specs.World.{World, Event, Plain, Arrive_waits, Ask_waits, Failover, happens}
@@ -59,8 +59,8 @@ file_after s events name = ((run_many s events first_many).now.consumers name).f
 abbrev pub EachFileOnce : Type 0 → Type 0
 EachFileOnce F = (s : Setting F) (events : List (Name × Event F)) (name : Name) → Once (ids_of (file_after s events name))
 
--- if no claim takes what another consumer has, no id is in two files, after any failover
+-- if no claim takes what another consumer has, no id is in two files, after any failover, whoever adds
 abbrev pub NoneInTwoFiles : Type 0 → Type 0
-NoneInTwoFiles F = (s : Setting F) → Fit s → (events : List (Name × Event F)) → AllWait (map (λ e. e.1) events)
+NoneInTwoFiles F = (s : Setting F) (events : List (Name × Event F)) → AllWait (map (λ e. e.1) events)
     → AllFair s first_many events → (id : Id) (one other : Name) → Among id (ids_of (file_after s events one))
     → Among id (ids_of (file_after s events other)) → one ≡ other

@@ -1,6 +1,6 @@
 //! What holds after every schedule with failovers, crashes, breaks and late arrivals. With WAIT
-//! means: by the premises `AllWait`, that each batch and each read comes with WAIT, and `Fit`, that
-//! the ids fit into 64 bits.
+//! means: by the premise `AllWait`, that each batch and each read comes with WAIT. `Fit` says that
+//! the ids of the records fit into 64 bits, `NoOtherAdds` that nobody else adds to the stream.
 ghost use Rattle.stream_failover.specs.Law.{ComesAsWritten, EachComesOutOnce, FileIsOfLog};
 ghost use Rattle.stream_failover.specs.Law.{FileGrows, FileIsOfRecords, FileOnce};
 ghost use Rattle.stream_failover.specs.Law.{FileOnceOfAnyServer, HandledIsNotNew, KnownStaysIn};
@@ -16,9 +16,9 @@ pub fn nothing_comes_out_twice<F>()
     ensures grows { FileGrows F }
 {}
 
-/// Each entry of the log and of the file is one of the records, with its own fields. So one that
-/// comes, and whose id is in the file, has the fields that are there, if the ids fit into 64 bits.
-/// It is so with WAIT or without.
+/// Each entry of the log and of the file is one of the records, with its own fields, if nobody else
+/// adds (`NoOtherAdds`). So one that comes, and whose id is in the file, has the fields that are
+/// there, if the ids fit too (`Fit`). It is so with WAIT or without.
 pub fn nothing_is_made_up<F>()
     ensures log { LogIsOfRecords F }
     ensures file { FileIsOfRecords F }
@@ -26,24 +26,24 @@ pub fn nothing_is_made_up<F>()
 {}
 
 /// Each entry of the log is to come, or pending, or in the file, with WAIT or without. The premises
-/// are `Fit`, that nobody deletes (`NoDeletes`), and that nobody else acknowledges (`NoOtherAcks`).
-/// So a failover loses only entries that are gone from the log. If the producer asks WAIT, none of
-/// these is a record that it takes to be in.
+/// are `Fit`, that nobody deletes (`NoDeletes`), and that nobody else adds or acknowledges
+/// (`NoOtherAdds`, `NoOtherAcks`). So a failover loses only entries that are gone from the log. If
+/// the producer asks WAIT, none of these is a record that it takes to be in.
 pub fn nothing_of_the_log_is_lost<F>()
     ensures kept { LogIsKept F }
     ensures added { ProducerLosesNothing F }
 {}
 
-/// If the producer asks WAIT (`ProducerAlwaysWaits`), the log is the first of the records, in
-/// order. As many records as it takes to be in are in, after any failover. The other premise is
-/// `Fit`.
+/// If the producer asks WAIT (`ProducerAlwaysWaits`) and nobody else adds (`NoOtherAdds`), the log is
+/// the first of the records, in order. As many records as it takes to be in are in, after any
+/// failover. The other premise is `Fit`.
 pub fn what_is_confirmed_stays<F>()
     ensures first { LogIsFirstRecords F }
     ensures known { KnownStaysIn F }
 {}
 
-/// With WAIT each entry of the file is in the log, with its own fields, after any failover. It does
-/// not come as new again, to no consumer of the group.
+/// With WAIT each entry of the file is in the log, with its own fields, after any failover, whoever
+/// adds. It does not come as new again, to no consumer of the group.
 pub fn what_is_handled_stays<F>()
     ensures of_log { FileIsOfLog F }
     ensures not_new { HandledIsNotNew F }
@@ -51,8 +51,8 @@ pub fn what_is_handled_stays<F>()
 
 /// With WAIT each record that the producer takes to be in is to come, or pending, or in the file,
 /// or deleted, after any failover. So the file has each record once, if the producer said that all
-/// is in, nothing is pending or to come, and nothing is deleted. The premise is that nobody else
-/// acknowledges (`NoOtherAcks`).
+/// is in, nothing is pending or to come, and nothing is deleted. The other premises are `Fit` and
+/// that nobody else adds or acknowledges (`NoOtherAdds`, `NoOtherAcks`).
 pub fn nothing_confirmed_is_lost<F>()
     ensures kept { NothingConfirmedIsLost F }
     ensures once { EachComesOutOnce F }
@@ -60,7 +60,7 @@ pub fn nothing_confirmed_is_lost<F>()
 
 /// With several consumers of one group, each with a file, no id is twice in any of the files. With
 /// WAIT no id is in two files, after any failover, if no claim takes what another consumer has
-/// (`AllFair`).
+/// (`AllFair`), whoever adds.
 pub fn no_entry_comes_out_in_two_files<F>()
     ensures once { EachFileOnce F }
     ensures one { NoneInTwoFiles F }
