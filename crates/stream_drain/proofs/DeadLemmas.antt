@@ -5,15 +5,11 @@ use Rattle.std.proofs.Common.{Option, Some, None, String, Vec, string_bytes}
 use Rattle.std.proofs.lemmas.List.{take_more, take-append-drop}
 use Rattle.std.specs.declared.alloc.Global.{Global}
 use Rattle.redis_args.specs.declared.raw_bytes.RawBytes.{RawBytes}
-use Rattle.redis_resp.specs.Tree.{Tree}
-use Rattle.redis_resp.specs.declared.value.error.ParsingError.{ParsingError}
-use Rattle.redis_connection.specs.Ask.{Asks, HasNoAnswer}
+use Rattle.redis_connection.specs.Ask.{Asks}
 use Rattle.redis_connection.specs.Link.{Link, Sends, SendsFront}
 use Rattle.redis_connection.specs.Passing.{AwaitsAnswer, ReceivesAnswer}
-use Rattle.redis_connection.specs.declared.error.AskError.{AskError}
-use Rattle.redis_connection.specs.declared.error.AskError.TheVariants as errors
 use Rattle.redis_wire.specs.Packed.{command_bytes}
-use Rattle.redis_wire.specs.Reply.{Answer, value}
+use Rattle.redis_wire.specs.Reply.{Answer}
 use Rattle.line_log.specs.EntryLine.{Entry}
 use Rattle.stream_files.specs.Files.{Fields}
 use Rattle.stream_drain.specs.Dead.{Goes, DeliversSome, Row, rows_of, rows_reading, Claimer, claim_words, BreaksOff}
@@ -188,14 +184,6 @@ posts_break c dead ws k w es old m new desk d d' within is p breaks same = recor
   posts = subst (λ x. PostsAll c dead (take k ws) es old desk m x) (sym same) p;
   breaks = breaks;
 }
-
--- an answer of an XCLAIM broke it off
-pub claim_breaks : (words : List (List ℕ)) (old new : Link) (may_refuse : Tree → ParsingError → Type 0) (e : AskError)
-    → HasNoAnswer old new words rows_reading may_refuse e → BreaksOff words old new
-claim_breaks words old new may_refuse (errors.Connection e) h = inr (inl h)
-claim_breaks words old new may_refuse (errors.Server e) h = inr (inr (h.0, h.1))
-claim_breaks words old new may_refuse (errors.Parsing e) h = inr (inr (value h.0, h.1))
-claim_breaks words old new may_refuse errors.NotAnAnswer h = inr (inr (h.0, h.1))
 
 pub ok_too : {A E P Q : Type 0} (r : Result A E) → OnOk r P → (P → Q) → OnOk r Q
 ok_too (Ok x) p f = f p
