@@ -1,5 +1,5 @@
--- Each move of the system is some events of `stream_files`.
-use Rattle.std.proofs.Common.{◌≡◌, refl, sym, ap, subst, ◌∙◌, ℕ, Bool, true, false, List, [], ◌∷◌, ◌++◌, filter}
+-- Each move of a worker or of the server is some events of `stream_files`, and leaves the desks as they are.
+use Rattle.std.proofs.Common.{◌≡◌, inl, inr, refl, sym, ap, subst, ◌∙◌, ℕ, Bool, true, false, List, [], ◌∷◌, ◌++◌, filter}
 use Rattle.std.proofs.Common.{append-nil, Option, Some, None, if◌then◌else◌}
 use Rattle.std.proofs.lemmas.Slice.Eq.{bytes_eq-Decides}
 use Rattle.std.specs.Str.{bytes_eq}
@@ -11,21 +11,25 @@ use Rattle.stream_group.specs.World.{World, Reply, Append, Delete, Read, Reread,
 use Rattle.stream_group.specs.World.{Acknowledge, Ack_comes, Go_back, Crash, item, but, comes, with_one}
 use Rattle.stream_group.specs.World.{committed_after, among_ids}
 use Rattle.stream_group.specs.World as group
+use Rattle.stream_group.specs.Group.{listed, ids_of}
+use Rattle.stream_group.specs.Law.{Among}
+use Rattle.stream_group.proofs.Among.{among_left, among_right, among_split, among_map, among_of_map, among_filter}
+use Rattle.stream_group.proofs.Among.{among_filtered, filtered_passes, listed_among}
 use Rattle.stream_files.specs.Files.{Fields, Form, Files, Goes, Reopens, first_files, lines, whole_lines, is_in}
 use Rattle.stream_files.specs.Files as files
 use Rattle.stream_worker.specs.Answers.{Heard, told, no_group, group_made}
 use Rattle.stream_worker.specs.Gathered.{Doings, done_too, committed_too}
-use Rattle.stream_worker.specs.Machine.{commits}
 use Rattle.stream_worker.specs.Session.{Standing, having_heard}
 use Rattle.stream_worker.specs.declared.state.Asked.{Asked}
 use Rattle.stream_worker.specs.declared.state.GroupState.{GroupState}
 use Rattle.stream_worker.specs.declared.state.Settings.{Settings}
-use Rattle.stream_files.proofs.Started.{then_committed, all_its_own}
+use Rattle.stream_files.proofs.Started.{then_committed, all_its_own, all_listed}
+use Rattle.stream_files.proofs.Step.{at_each}
 use Rattle.stream_worker.proofs.StepLemmas.{all_done}
-use Rattle.stream_system.specs.System.{Server, System, Move, Serves, Commits, Sends, Hears, Breaks, Restarts, server_of}
-use Rattle.stream_system.specs.System.{world_with, first_system, with_worker, waiting, heard, still_coming, new_worker}
-use Rattle.stream_system.specs.System.{repaired, filed_then, read_back, moves, run}
-use Rattle.stream_system.specs.Law.{IsReplyTo, HearsTruly, AllHearTruly}
+use Rattle.stream_system.specs.System.{Server, System, Serves, Sends, Breaks, Restarts, server_of, new_desk}
+use Rattle.stream_system.specs.System.{world_with, first_system, with_worker, waiting, still_coming, new_worker}
+use Rattle.stream_system.specs.System.{repaired, filed_then, read_back, moves}
+use Rattle.stream_system.specs.Law.{IsReplyTo}
 use Rattle.stream_system.proofs.Served.{IsServed, append, delete, read, reread, claim, claim_ids, ack_came}
 
 -- ---- one of many
@@ -65,13 +69,25 @@ machine_in w = w.machine
 abbrev loose_in : Standing Doings → List Entry
 loose_in w = w.history.loose
 
+-- if it was added, the entry has a letter
+abbrev pub Added : List Entry → Entry → Bool → Type 0
+Added letters e true = Among e letters
+Added letters e false = Unit {0}
+
+-- the first of these has a letter, if it was added; nothing was added if none waits
+abbrev pub FirstIsAdded : List Entry → List Entry → Bool → Type 0
+FirstIsAdded letters [] added = added ≡ false
+FirstIsAdded letters (e ∷ es) added = Added letters e added
+
 pub record Coupled (s : System) (f : Files) : Type 0 where
   pub server : server_of f.stream ≡ s.server
   pub file : (n : Name) → f.file n ≡ s.file n
   pub machine : (n : Name) → f.stream.workers n ≡ (s.workers n).machine
   pub loose : (n : Name) → f.stream.loose n ≡ (s.workers n).history.loose
-  pub filed : f.stream.committed ≡ s.filed
-  pub no_letters : f.letters ≡ []
+  pub filed : (e : Entry) → Among e s.filed → Among e f.stream.committed
+  pub letters : f.letters ≡ s.letters
+  pub posted : (n : Name) (e : Entry) → Among e (s.desks n).waiting → Among e f.stream.seen
+  pub added : (n : Name) → FirstIsAdded s.letters (s.desks n).waiting (s.desks n).added
 
 module _ (form : Form) where
   -- some events lead there
@@ -92,11 +108,13 @@ module _ (form : Form) where
     file = c.file;
     machine = λ n. i.workers n ∙ c.machine n;
     loose = λ n. i.loose n ∙ c.loose n;
-    filed = i.committed ∙ c.filed;
-    no_letters = c.no_letters;
+    filed = λ x h. let P : List Entry → Type 0 = λ es. Among x es in subst P (sym i.committed) (c.filed x h);
+    letters = c.letters;
+    posted = λ n x h. i.seen x (c.posted n x h);
+    added = c.added;
   }
 
-  serve : (s : System) (f : Files) → Coupled s f → (e : group.Event Fields) → Follows (moves form s (Serves e)) f
+  pub serve : (s : System) (f : Files) → Coupled s f → (e : group.Event Fields) → Follows (moves form s (Serves e)) f
   serve s f c (Append n fields) = record {
     events = Goes (Append n fields) ∷ [];
     coupled = served s f c (Append n fields) (append f.stream n fields);
@@ -134,7 +152,7 @@ module _ (form : Form) where
   -- ---- a worker
 
   -- it commits, if it does
-  abbrev having_committed : System → Name → Bool → System
+  abbrev pub having_committed : System → Name → Bool → System
   having_committed s name b = record (with_worker s name (record (s.workers name) {
     machine = if b then after_commit (s.workers name).machine else (s.workers name).machine;
     history = if b then committed_too (s.workers name).history else (s.workers name).history;
@@ -144,7 +162,7 @@ module _ (form : Form) where
     filed = s.filed ++ (if b then (s.workers name).history.loose else []);
   }
 
-  commit : (s : System) (f : Files) → Coupled s f → (name : Name) (b : Bool) → Follows (having_committed s name b) f
+  pub commit : (s : System) (f : Files) → Coupled s f → (name : Name) (b : Bool) → Follows (having_committed s name b) f
   commit s f c name true =
       let w : Standing Doings = s.workers name in
       let now : Standing Doings = record w { machine = after_commit w.machine; history = committed_too w.history } in
@@ -160,8 +178,14 @@ module _ (form : Form) where
           machine = both_one f.stream.workers s.workers (λ m. m) machine_in name (after_commit (f.stream.workers name)) now
               c.machine (ap after_commit (c.machine name));
           loose = both_one f.stream.loose s.workers (λ es. es) loose_in name [] now c.loose refl;
-          filed = ap (λ es. es ++ f.stream.loose name) c.filed ∙ ap (λ es. s.filed ++ es) (c.loose name);
-          no_letters = ap (λ es. f.letters ++ es) (filter_none (f.stream.loose name)) ∙ append-nil f.letters ∙ c.no_letters;
+          filed = λ e h. elim (among_split e s.filed w.history.loose h) [
+            | inl a ↦ among_left e f.stream.committed (f.stream.loose name) (c.filed e a)
+            | inr a ↦ among_right e f.stream.committed (f.stream.loose name)
+                (subst (λ es. Among e es) (sym (c.loose name)) a)
+          ];
+          letters = ap (λ es. f.letters ++ es) (filter_none (f.stream.loose name)) ∙ append-nil f.letters ∙ c.letters;
+          posted = c.posted;
+          added = c.added;
         };
       }
   commit s f c name false = record {
@@ -172,12 +196,14 @@ module _ (form : Form) where
           (c.file name ∙ sym (append-nil (s.file name)));
       machine = one_side f.stream.workers s.workers machine_in name (s.workers name) c.machine (c.machine name);
       loose = one_side f.stream.loose s.workers loose_in name (s.workers name) c.loose (c.loose name);
-      filed = c.filed ∙ sym (append-nil s.filed);
-      no_letters = c.no_letters;
+      filed = λ e h. elim (among_split e s.filed [] h) [ inl a ↦ c.filed e a | inr a ↦ absurd a ];
+      letters = c.letters;
+      posted = c.posted;
+      added = c.added;
     };
   }
 
-  send : (s : System) (f : Files) → Coupled s f → (name : Name) (settings : Settings)
+  pub send : (s : System) (f : Files) → Coupled s f → (name : Name) (settings : Settings)
       → Follows (moves form s (Sends name settings)) f
   send s f c name settings =
       let w : Standing Doings = s.workers name in
@@ -192,12 +218,14 @@ module _ (form : Form) where
           machine = one_side f.stream.workers s.workers machine_in name (waiting settings w) c.machine (c.machine name);
           loose = one_side f.stream.loose s.workers loose_in name (waiting settings w) c.loose (c.loose name);
           filed = c.filed;
-          no_letters = c.no_letters;
+          letters = c.letters;
+          posted = c.posted;
+          added = c.added;
         };
       }
 
   -- it hears this
-  abbrev having_told : System → Name → GroupState → ℕ → Option Heard → List Verdict → System
+  abbrev pub having_told : System → Name → GroupState → ℕ → Option Heard → List Verdict → System
   having_told s name state which o vs = record (with_worker s name (having_heard done_too (s.workers name) state o vs)) {
     server = record s.server { replies = still_coming s.server.replies which o };
   }
@@ -214,11 +242,13 @@ module _ (form : Form) where
       loose = one_side f.stream.loose s.workers loose_in name x c.loose
           (c.loose name ∙ sym (ap (λ (d : Doings). d.loose) history));
       filed = c.filed;
-      no_letters = c.no_letters;
+      letters = c.letters;
+      posted = c.posted;
+      added = c.added;
     };
   }
 
-  hear : (s : System) (f : Files) → Coupled s f → (name : Name) (state : GroupState) (which : ℕ) (o : Option Heard)
+  pub hear : (s : System) (f : Files) → Coupled s f → (name : Name) (state : GroupState) (which : ℕ) (o : Option Heard)
       (vs : List Verdict) → IsReplyTo s name which o → Follows (having_told s name state which o vs) f
   hear s f c name state which None vs h =
       unmoved s f c name (having_heard done_too (s.workers name) state None vs) refl refl
@@ -248,11 +278,13 @@ module _ (form : Form) where
           loose = both_one f.stream.loose s.workers (λ l. l) loose_in name (f.stream.loose name ++ handled_in es vs) x
               c.loose (ap (λ l. l ++ handled_in es vs) (c.loose name) ∙ sym did);
           filed = c.filed;
-          no_letters = c.no_letters;
+          letters = c.letters;
+          posted = c.posted;
+          added = c.added;
         });
       }
 
-  begin_again : (s : System) (f : Files) → Coupled s f → (name : Name) (state : GroupState) (question : Asked)
+  pub begin_again : (s : System) (f : Files) → Coupled s f → (name : Name) (state : GroupState) (question : Asked)
       → Follows (moves form s (Breaks name state question)) f
   begin_again s f c name state question =
       let w : Standing Doings = s.workers name in
@@ -266,67 +298,57 @@ module _ (form : Form) where
               c.machine (ap begins_again (c.machine name));
           loose = one_side f.stream.loose s.workers loose_in name x c.loose (c.loose name);
           filed = c.filed;
-          no_letters = c.no_letters;
+          letters = c.letters;
+          posted = c.posted;
+          added = c.added;
         };
       }
 
-  restart : (s : System) (f : Files) → Coupled s f → (name : Name) (settings : Settings) (torn : List ℕ) (ids : List Id)
+  pub restart : (s : System) (f : Files) → Coupled s f → (name : Name) (settings : Settings) (torn : List ℕ) (ids : List Id)
       (before : List Entry) → Follows (moves form s (Restarts name settings torn ids before)) f
   restart s f c name settings torn ids before =
       let now : List ℕ = repaired s name torn in
       let file : whole_lines (f.file name ++ torn) ≡ now = ap (λ xs. whole_lines (xs ++ torn)) (c.file name) in
-      let after_crash : List ℕ → List Entry → List Entry → List Entry =
-      λ xs es did. es ++ filter (is_in form xs) did in
-      let filed : committed_after f.stream name (is_in form (whole_lines (f.file name ++ torn)))
-      ≡ filed_then form s name torn =
-      ap (λ xs. after_crash xs f.stream.committed (f.stream.loose name)) file
-      ∙ ap (λ es. after_crash now es (f.stream.loose name)) c.filed
-      ∙ ap (λ es. after_crash now s.filed es) (c.loose name) in
-      let back : files.read_back form f name torn ≡ read_back form s name torn =
-      ap (λ xs. filter (is_in form xs) (committed_after f.stream name (is_in form (whole_lines (f.file name ++ torn))))) file
-      ∙ ap (λ es. filter (is_in form now) es) filed in
-      let x : Standing Doings = new_worker settings.every (among_ids (read_back form s name torn) ids) before in
+      let did : filter (is_in form (whole_lines (f.file name ++ torn))) (f.stream.loose name)
+      ≡ filter (is_in form now) (s.workers name).history.loose =
+      ap (λ xs. filter (is_in form xs) (f.stream.loose name)) file ∙ ap (λ es. filter (is_in form now) es) (c.loose name) in
+      let filed : (e : Entry) → Among e (filed_then form s name torn)
+      → Among e (committed_after f.stream name (is_in form (whole_lines (f.file name ++ torn)))) =
+      λ e h. elim (among_split e s.filed (filter (is_in form now) (s.workers name).history.loose) h) [
+        | inl a ↦ among_left e f.stream.committed _ (c.filed e a)
+        | inr a ↦ among_right e f.stream.committed _ (subst (λ es. Among e es) (sym did) a)
+      ] in
+      let back : (e : Entry) → Among e (read_back form s name torn) → Among e (files.read_back form f name torn) =
+      λ e h. among_filter (is_in form (whole_lines (f.file name ++ torn))) e _
+      (filed e (among_filtered (is_in form now) e (filed_then form s name torn) h))
+      (ap (λ xs. is_in form xs e) file ∙ filtered_passes (is_in form now) e (filed_then form s name torn) h) in
+      let mine : List Id = among_ids (read_back form s name torn) ids in
+      let its_own : (id : Id) → Among id mine → Among id (ids_of (files.read_back form f name torn)) =
+      λ id h. (
+      let there : Among id (ids_of (read_back form s name torn)) =
+      listed_among (ids_of (read_back form s name torn)) id
+      (filtered_passes (listed (ids_of (read_back form s name torn))) id ids h) in
+      let o = among_of_map (λ (e : Entry). e.0) id (read_back form s name torn) there in
+      subst (λ i. Among i (ids_of (files.read_back form f name torn))) o.is
+      (among_map (λ (e : Entry). e.0) o.x (files.read_back form f name torn) (back o.x o.within))) in
+      let x : Standing Doings = new_worker settings.every mine before in
       record {
-        events = Reopens name settings.every torn ids ∷ [];
+        events = Reopens name settings.every torn mine ∷ [];
         coupled = record {
           server = c.server;
           file = both_one f.file s.file (λ xs. xs) (λ xs. xs) name (whole_lines (f.file name ++ torn)) now c.file file;
           machine = both_one f.stream.workers s.workers (λ m. m) machine_in name
               (begins_with settings.every (among_ids (then_committed form f name settings.every torn)
-              (among_ids (files.read_back form f name torn) ids))) x c.machine
-              (ap (λ l. begins_with settings.every l) (all_its_own form f name settings.every torn ids)
-              ∙ ap (λ es. begins_with settings.every (among_ids es ids)) back);
+              (among_ids (files.read_back form f name torn) mine))) x c.machine
+              (ap (λ l. begins_with settings.every l) (all_its_own form f name settings.every torn mine)
+              ∙ ap (λ l. begins_with settings.every l) (all_listed (files.read_back form f name torn) mine its_own));
           loose = both_one f.stream.loose s.workers (λ l. l) loose_in name [] x c.loose refl;
           filed = filed;
-          no_letters = c.no_letters;
+          letters = c.letters;
+          posted = at_each s.desks name new_desk (λ n d. (e : Entry) → Among e d.waiting → Among e f.stream.seen) c.posted
+              (λ e h. absurd h);
+          added = at_each s.desks name new_desk (λ n d. FirstIsAdded s.letters d.waiting d.added) c.added refl;
         };
-      }
-
-  each : (s : System) (f : Files) → Coupled s f → (m : Move) → HearsTruly s m → Follows (moves form s m) f
-  each s f c (Serves e) h = serve s f c e
-  each s f c (Commits name) h = commit s f c name (commits (s.workers name).machine)
-  each s f c (Sends name settings) h = send s f c name settings
-  each s f c (Hears name settings which reply vs) h =
-      hear s f c name _ which (heard settings (s.workers name) reply) vs h
-  each s f c (Breaks name state question) h = begin_again s f c name state question
-  each s f c (Restarts name settings torn ids before) h = restart s f c name settings torn ids before
-
-  -- ---- all moves
-
-  run_more : (es more : List files.Event) (f : Files)
-      → files.run form (es ++ more) f ≡ files.run form more (files.run form es f)
-  run_more [] more f = refl
-  run_more (e ∷ es) more f = run_more es more (files.happens form f e)
-
-  pub over : (ms : List Move) (s : System) (f : Files) → Coupled s f → AllHearTruly form s ms
-      → Follows (run form ms s) f
-  over [] s f c h = nothing_happens s f c
-  over (m ∷ ms) s f c h =
-      let one = each s f c m h.0 in
-      let rest = over ms (moves form s m) (files.run form one.events f) one.coupled h.1 in
-      record {
-        events = one.events ++ rest.events;
-        coupled = subst (λ g. Coupled (run form ms (moves form s m)) g) (sym (run_more one.events rest.events f)) rest.coupled;
       }
 
   pub at_first : (before : Name → List ℕ) → Coupled (first_system before) (first_files before)
@@ -335,6 +357,8 @@ module _ (form : Form) where
     file = λ n. refl;
     machine = λ n. refl;
     loose = λ n. refl;
-    filed = refl;
-    no_letters = refl;
+    filed = λ e h. h;
+    letters = refl;
+    posted = λ n e h. h;
+    added = λ n. refl;
   }

@@ -1,7 +1,11 @@
 -- That each entry is in a file, whatever happens.
 pub mod Served
 pub mod Coupled
+pub mod Logged
+pub mod Sound
 pub mod Kept
 pub mod RoundLemmas
+pub mod DeskLemmas
 pub mod DrainedLemmas
 mod Sample
+mod Wrong

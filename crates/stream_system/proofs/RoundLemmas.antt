@@ -60,6 +60,10 @@ others_change_nothing form s name (system.Sends other settings) h = elsewhere s.
 others_change_nothing form s name (system.Hears other settings which reply vs) h =
     elsewhere s.workers other _ name h
 others_change_nothing form s name (system.Breaks other state question) h = elsewhere s.workers other _ name h
+others_change_nothing form s name (system.Posts other which e) h = refl
+others_change_nothing form s name (system.Adds_letter other) h = refl
+others_change_nothing form s name (system.Sends_ack other) h = refl
+others_change_nothing form s name (system.Settles other which) h = refl
 others_change_nothing form s name (system.Restarts other settings torn ids before) h = elsewhere s.workers other _ name h
 
 others_leave : (form : Form) (name : Name) (ms : List Move) (s : System) → AreOthers name ms

@@ -6,6 +6,10 @@ use Rattle.stream_group.specs.Group.{Name, Numbers, id_text, is_below, fits, lis
 use Rattle.stream_group.specs.World.{World, Append, Delete, Read, Reread, Claim, Claim_ids, Ack_comes, item, ack_comes}
 use Rattle.stream_group.specs.World.{log_of}
 use Rattle.stream_group.specs.World as group
+use Rattle.stream_group.specs.Law.{Among}
+use Rattle.stream_group.proofs.Among.{among_left}
+use Rattle.stream_group.specs.Group.{passed}
+use Rattle.line_log.specs.EntryLine.{Entry}
 use Rattle.stream_files.specs.Files.{Fields}
 use Rattle.stream_system.specs.System.{server_of, world_with}
 
@@ -16,6 +20,7 @@ module _ (w : World Fields) where
     pub workers : (n : Name) → (group.happens w e).workers n ≡ w.workers n
     pub loose : (n : Name) → (group.happens w e).loose n ≡ w.loose n
     pub committed : (group.happens w e).committed ≡ w.committed
+    pub seen : (x : Entry) → Among x w.seen → Among x (group.happens w e).seen
 
   abbrev with_entry : World Fields → Numbers → Fields → Bool → World Fields
   with_entry v n fields b = if b then record v { fresh = v.fresh ++ (id_text n, fields) ∷ []; last = n } else v
@@ -41,6 +46,11 @@ module _ (w : World Fields) where
   added_committed n fields true = refl
   added_committed n fields false = refl
 
+  added_seen : (n : Numbers) (fields : Fields) (b : Bool) (x : Entry) → Among x w.seen
+      → Among x (with_entry w n fields b).seen
+  added_seen n fields true x h = h
+  added_seen n fields false x h = h
+
   deleted_server : (id : Id) (b : Bool)
       → server_of (with_deleted w id b) ≡ server_of (with_deleted (world_with (server_of w)) id b)
   deleted_server id true = refl
@@ -57,6 +67,10 @@ module _ (w : World Fields) where
   deleted_committed : (id : Id) (b : Bool) → (with_deleted w id b).committed ≡ w.committed
   deleted_committed id true = refl
   deleted_committed id false = refl
+
+  deleted_seen : (id : Id) (b : Bool) (x : Entry) → Among x w.seen → Among x (with_deleted w id b).seen
+  deleted_seen id true x h = h
+  deleted_seen id false x h = h
 
   acked_server : (a : Option (Name × List Id))
       → server_of (ack_comes w a) ≡ server_of (ack_comes (world_with (server_of w)) a)
@@ -75,6 +89,10 @@ module _ (w : World Fields) where
   acked_committed None = refl
   acked_committed (Some a) = refl
 
+  acked_seen : (a : Option (Name × List Id)) (x : Entry) → Among x w.seen → Among x (ack_comes w a).seen
+  acked_seen None x h = h
+  acked_seen (Some a) x h = h
+
   pub append : (n : Numbers) (fields : Fields) → IsServed (Append n fields)
   append n fields =
       let b : Bool = is_below w.last n && fits n in
@@ -83,6 +101,7 @@ module _ (w : World Fields) where
         workers = added_workers n fields b;
         loose = added_loose n fields b;
         committed = added_committed n fields b;
+        seen = added_seen n fields b;
       }
 
   pub delete : (id : Id) → IsServed (Delete id)
@@ -93,19 +112,26 @@ module _ (w : World Fields) where
         workers = deleted_workers id b;
         loose = deleted_loose id b;
         committed = deleted_committed id b;
+        seen = deleted_seen id b;
       }
 
   pub read : (c : Name) (n : ℕ) → IsServed (Read c n)
-  read c n = record { server = refl; workers = λ m. refl; loose = λ m. refl; committed = refl }
+  read c n = record {
+    server = refl;
+    workers = λ m. refl;
+    loose = λ m. refl;
+    committed = refl;
+    seen = λ x h. among_left x w.seen (passed w.deleted n w.fresh) h;
+  }
 
   pub reread : (c : Name) (pick : Id → Bool) → IsServed (Reread c pick)
-  reread c pick = record { server = refl; workers = λ m. refl; loose = λ m. refl; committed = refl }
+  reread c pick = record { server = refl; workers = λ m. refl; loose = λ m. refl; committed = refl; seen = λ x h. h }
 
   pub claim : (c : Name) (pick : Id → Bool) (next : Id) → IsServed (Claim c pick next)
-  claim c pick next = record { server = refl; workers = λ m. refl; loose = λ m. refl; committed = refl }
+  claim c pick next = record { server = refl; workers = λ m. refl; loose = λ m. refl; committed = refl; seen = λ x h. h }
 
   pub claim_ids : (c : Name) (pick : Id → Bool) → IsServed (Claim_ids c pick)
-  claim_ids c pick = record { server = refl; workers = λ m. refl; loose = λ m. refl; committed = refl }
+  claim_ids c pick = record { server = refl; workers = λ m. refl; loose = λ m. refl; committed = refl; seen = λ x h. h }
 
   pub ack_came : (k : ℕ) → IsServed (Ack_comes k)
   ack_came k = record {
@@ -113,4 +139,5 @@ module _ (w : World Fields) where
     workers = acked_workers (item w.acks k);
     loose = acked_loose (item w.acks k);
     committed = acked_committed (item w.acks k);
+    seen = acked_seen (item w.acks k);
   }

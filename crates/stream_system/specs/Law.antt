@@ -1,15 +1,15 @@
--- That each entry is in a file, whatever happens.
+-- That each entry is in a file or has a letter, whatever happens.
 use Rattle.std.specs.Prelude.{◌≡◌, ◌⊎◌, ℕ, List, [], ◌∷◌, ◌++◌, Option, Some, None}
 use Rattle.line_log.specs.EntryLine.{Entry}
 use Rattle.line_log.specs.Lines.{StartsWith}
-use Rattle.stream_group.specs.Worker.{Id}
+use Rattle.stream_group.specs.Worker.{Id, taken_over}
 use Rattle.stream_group.specs.Group.{Name, pending_ids}
 use Rattle.stream_group.specs.World.{item}
 use Rattle.stream_group.specs.Law.{Among}
 use Rattle.stream_files.specs.Files.{Fields, Form}
 use Rattle.stream_files.specs.Law.{IsLineIn}
 use Rattle.stream_worker.specs.Answers.{Heard, told, no_group, group_made}
-use Rattle.stream_system.specs.System.{System, Move, Hears, first_system, heard}
+use Rattle.stream_system.specs.System.{System, Move, Hears, Posts, first_system, heard}
 use Rattle.stream_system.specs.System.{moves, run}
 
 -- what tells a worker of entries is the reply of that number, which is on its way to it
@@ -20,10 +20,16 @@ IsReplyTo s name which (Some (told answer)) =
 IsReplyTo s name which (Some no_group) = Unit {0}
 IsReplyTo s name which (Some group_made) = Unit {0}
 
--- a worker that hears something hears a reply that is on its way to it
+-- the reply of that number, which is on its way to the worker, has just this entry
+abbrev pub HasClaimed : System → Name → ℕ → Entry → Type 0
+HasClaimed s name which e = (next : Id)
+    × (item s.server.replies which ≡ Some (record { consumer = name; answer = taken_over next ((e.0, Some e.1) ∷ []) }))
+
+-- a worker that hears something hears a reply that is on its way to it, and so does its desk that posts an entry
 abbrev pub HearsTruly : System → Move → Type 0
 HearsTruly s (Hears name settings which reply verdicts) =
     IsReplyTo s name which (heard settings (s.workers name) reply)
+HearsTruly s (Posts name which e) = HasClaimed s name which e
 HearsTruly s move = Unit {0}
 
 -- so it is in each of these moves, from this system on
@@ -40,10 +46,14 @@ abbrev pub IsInAFile : Form → System → Entry → Type 0
 IsInAFile form s e =
     (name : Name) × ((bytes : List ℕ) → StartsWith (s.file name) bytes → IsLineIn (form.line e) bytes)
 
--- the entry is still to come; or it is pending; or it is in a file; or it was deleted
+-- the letter of the entry was added, and the reply to that came
+abbrev pub HasLetter : System → Entry → Type 0
+HasLetter s e = Among e s.letters
+
+-- the entry is still to come; or it is pending; or it is in a file; or it has a letter; or it was deleted
 abbrev pub IsKept : Form → System → Entry → Type 0
 IsKept form s e = Among e s.server.fresh
-    ⊎ (Among e.0 (pending_ids s.server.pending) ⊎ (IsInAFile form s e ⊎ Among e.0 s.server.deleted))
+    ⊎ (Among e.0 (pending_ids s.server.pending) ⊎ (IsInAFile form s e ⊎ (HasLetter s e ⊎ Among e.0 s.server.deleted)))
 
 -- the system after these moves
 abbrev pub after : Form → (Name → List ℕ) → List Move → System
@@ -55,10 +65,23 @@ EachEntryIsKept = (form : Form) (before : Name → List ℕ) (ms more : List Mov
     → AllHearTruly form (first_system before) ms → AllHearTruly form (after form before ms) more → (e : Entry)
     → Among e (log (after form before ms)) → IsKept form (run form more (after form before ms)) e
 
--- an entry that is acknowledged is in a file, or was deleted
-abbrev pub AcknowledgedIsInAFile : Type 0
-AcknowledgedIsInAFile = (form : Form) (before : Name → List ℕ) (ms : List Move)
+-- an entry of this id is in a file or has a letter; or it was deleted
+abbrev pub IsSettled : Form → System → Id → Type 0
+IsSettled form s id =
+    ((fields : Fields) × (IsInAFile form s (id, fields) ⊎ HasLetter s (id, fields))) ⊎ Among id s.server.deleted
+
+-- so is each id that an acknowledgement named
+abbrev pub AcknowledgedIsSettled : Type 0
+AcknowledgedIsSettled = (form : Form) (before : Name → List ℕ) (ms : List Move)
     → AllHearTruly form (first_system before) ms → (id : Id)
-    → Among id (after form before ms).server.acknowledged_ids
-    → ((fields : Fields) × IsInAFile form (after form before ms) (id, fields))
-    ⊎ Among id (after form before ms).server.deleted
+    → Among id (after form before ms).server.acknowledged_ids → IsSettled form (after form before ms) id
+
+-- a letter stays
+abbrev pub LettersStay : Type 0
+LettersStay = (form : Form) (s : System) (ms : List Move) (e : Entry) → HasLetter s e → HasLetter (run form ms s) e
+
+-- each letter is that of an entry that was added, with its own fields
+abbrev pub LettersAreOfTheLog : Type 0
+LettersAreOfTheLog = (form : Form) (before : Name → List ℕ) (ms : List Move)
+    → AllHearTruly form (first_system before) ms → (e : Entry) → HasLetter (after form before ms) e
+    → Among e (log (after form before ms))

@@ -2,4 +2,5 @@
 pub mod System
 pub mod Law
 pub mod Rounds
+pub mod Desks
 pub mod Drained

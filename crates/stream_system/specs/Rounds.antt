@@ -17,16 +17,20 @@ use Rattle.stream_worker.specs.declared.state.GroupState.TheVariants.{Unknown}
 use Rattle.stream_worker.specs.declared.state.Settings.{Settings}
 use Rattle.stream_worker.specs.declared.worker.Progress.{Progress}
 use Rattle.stream_worker.specs.declared.worker.Worker.{Worker}
-use Rattle.stream_system.specs.System.{System, Move, Serves, Commits, Sends, Hears, Breaks, Restarts, repaired}
-use Rattle.stream_system.specs.System.{filed_then, moves, run}
+use Rattle.stream_system.specs.System.{System, Move, Serves, Commits, Sends, Hears, Breaks, Posts, Adds_letter}
+use Rattle.stream_system.specs.System.{Sends_ack, Settles, Restarts, repaired, filed_then, moves, run}
 
--- the move is the server's, or another worker's
+-- the move is the server's, or another worker's, or a desk's
 abbrev pub IsOther : Name → Move → Type 0
 IsOther name (Serves event) = Unit {0}
 IsOther name (Commits other) = other ≢ name
 IsOther name (Sends other settings) = other ≢ name
 IsOther name (Hears other settings which reply verdicts) = other ≢ name
 IsOther name (Breaks other state question) = other ≢ name
+IsOther name (Posts other which e) = Unit {0}
+IsOther name (Adds_letter other) = Unit {0}
+IsOther name (Sends_ack other) = Unit {0}
+IsOther name (Settles other which) = Unit {0}
 IsOther name (Restarts other settings torn ids before) = other ≢ name
 
 -- so is each of these
@@ -59,6 +63,10 @@ IsOf name settings (Commits other) = other ≡ name
 IsOf name settings (Sends other with_settings) = (other ≡ name) × (with_settings ≡ settings)
 IsOf name settings (Hears other with_settings which reply verdicts) = (other ≡ name) × (with_settings ≡ settings)
 IsOf name settings (Breaks other state question) = other ≡ name
+IsOf name settings (Posts other which e) = ⊥
+IsOf name settings (Adds_letter other) = ⊥
+IsOf name settings (Sends_ack other) = ⊥
+IsOf name settings (Settles other which) = ⊥
 IsOf name settings (Restarts other with_settings torn ids before) = ⊥
 
 -- each of these is

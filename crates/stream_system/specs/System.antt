@@ -1,16 +1,17 @@
--- A server, workers that do what their contracts say, and their files; and what may happen.
-use Rattle.std.specs.Prelude.{ℕ, List, [], ◌∷◌, ◌++◌, filter, Option, Some, None, if◌then◌else◌}
+-- A server, workers that do what their contracts say, their files, and the letters of what was given up; and what may
+-- happen.
+use Rattle.std.specs.Prelude.{ℕ, Bool, false, not, List, [], ◌∷◌, ◌++◌, drop, filter, Option, Some, None, if◌then◌else◌}
 use Rattle.redis_wire.specs.Reply as wire
 use Rattle.line_log.specs.EntryLine.{Entry}
 use Rattle.stream_group.specs.Worker.{Id, Verdict, begins_again, begins_with}
-use Rattle.stream_group.specs.Group.{Name, Numbers, Pending}
+use Rattle.stream_group.specs.Group.{Name, Numbers, Pending, ids_of}
 use Rattle.stream_group.specs.World.{World, Reply, Comes, Commit, Acknowledge, Go_back, Crash, empty_world, but, with_one}
 use Rattle.stream_group.specs.World.{among_ids}
 use Rattle.stream_group.specs.World as group
 use Rattle.stream_files.specs.Files.{Fields, Form, lines, whole_lines, is_in}
 use Rattle.stream_worker.specs.Answers.{Heard, told, no_group, group_made, group_after, hears}
 use Rattle.stream_worker.specs.Gathered.{Doings, done_too, committed_too}
-use Rattle.stream_worker.specs.Machine.{commits, at_request, history_at_request}
+use Rattle.stream_worker.specs.Machine.{commits, at_request, history_at_request, is_empty}
 use Rattle.stream_worker.specs.Questions.{asks}
 use Rattle.stream_worker.specs.Session.{Standing, having_heard}
 use Rattle.stream_worker.specs.declared.state.Asked.{Asked}
@@ -65,11 +66,23 @@ serves s (Go_back consumer) = s
 serves s (Crash consumer every keeps ids) = s
 serves s event = server_of (group.happens (world_with s) event)
 
+-- a worker's desk, at which entries wait that it claimed and gives up: in order, each for its letter, and then for its
+-- acknowledgement
+pub record Desk : Type 0 where
+  pub waiting : List Entry
+  pub added : Bool  -- the letter of the first one was added, and the reply to that came
+
+-- nothing waits
+abbrev pub new_desk : Desk
+new_desk = record { waiting = []; added = false }
+
 pub record System : Type 0 where
   pub server : Server
   pub workers : Name → Standing Doings
   pub file : Name → List ℕ  -- of each worker's file the bytes that no crash takes back
   pub filed : List Entry  -- what workers did and committed, which no crash undoes
+  pub desks : Name → Desk
+  pub letters : List Entry  -- the entries whose letter was added, and the reply to that came
 
 -- a worker that did nothing, and knows no more than ids that it is to acknowledge. Its handler says that these entries
 -- were committed before
@@ -88,6 +101,8 @@ first_system before = record {
   workers = λ name. new_worker 1 [] [];
   file = λ name. whole_lines (before name);
   filed = [];
+  desks = λ name. new_desk;
+  letters = [];
 }
 
 -- what may happen next
@@ -102,10 +117,19 @@ pub data Move : Type 0 where
   Hears : (name : Name) (settings : Settings) (which : ℕ) (reply : wire.Answer) (verdicts : List Verdict) → Move
   -- a round of a worker fails: it begins again with what is pending for it, and knows this of the group
   Breaks : (name : Name) (state : GroupState) (question : Asked) → Move
+  -- the reply to its XCLAIM of one id comes to the desk of a worker, and has this entry, which waits behind the others
+  -- from then on. To the server the XCLAIM is a `Claim` that picks the id
+  Posts : (name : Name) (which : ℕ) (e : Entry) → Move
+  -- the reply to the XADD of its first entry's letter comes to the desk of a worker
+  Adds_letter : (name : Name) → Move
+  -- the desk of a worker sends the XACK of its first entry, if the letter of that one was added
+  Sends_ack : (name : Name) → Move
+  -- the reply to that XACK comes to the desk of a worker, which forgets the entry
+  Settles : (name : Name) (which : ℕ) → Move
   -- a worker crashes, or is killed, and is started again. Its file has what was committed and any bytes after it, and
   -- is cut after its last line feed. What its handler did and is a line of the file is committed. It reads lines of its
   -- file back, and begins to acknowledge those of these ids that they name. Its handler may say of any entries that
-  -- they were committed before
+  -- they were committed before. Nothing waits at its desk
   Restarts : (name : Name) (settings : Settings) (torn : List ℕ) (ids : List Id) (before : List Entry) → Move
 
 -- a worker after its commit
@@ -151,6 +175,31 @@ filed_then form s name torn = s.filed ++ filter (is_in form (repaired s name tor
 abbrev pub read_back : Form → System → Name → List ℕ → List Entry
 read_back form s name torn = filter (is_in form (repaired s name torn)) (filed_then form s name torn)
 
+-- the first one
+abbrev pub first : List Entry → List Entry
+first [] = []
+first (e ∷ es) = e ∷ []
+
+-- whose letter is added at a desk: the first one's, unless it was added before
+abbrev pub lettered_now : Desk → List Entry
+lettered_now d = if d.added then [] else first d.waiting
+
+-- the desk then
+abbrev pub with_letter : Desk → Desk
+with_letter d = record d { added = not (is_empty d.waiting) }
+
+-- what a desk acknowledges: the first one, if its letter was added
+abbrev pub acknowledges_now : Desk → List Id
+acknowledges_now d = if d.added then ids_of (first d.waiting) else []
+
+-- the desk without its first one
+abbrev pub without_first : Desk → Desk
+without_first d = record { waiting = drop 1 d.waiting; added = false }
+
+-- the system with this desk
+abbrev pub with_desk : System → Name → Desk → System
+with_desk s name d = record s { desks = with_one s.desks name d }
+
 -- the system with this worker
 abbrev pub with_worker : System → Name → Standing Doings → System
 with_worker s name w = record s { workers = with_one s.workers name w }
@@ -176,10 +225,24 @@ moves form s (Breaks name state question) = with_worker s name (record (s.worker
   group = state;
   asked = question;
 })
+moves form s (Posts name which e) =
+    record (with_desk s name (record (s.desks name) { waiting = (s.desks name).waiting ++ e ∷ [] })) {
+      server = record s.server { replies = but s.server.replies which };
+    }
+moves form s (Adds_letter name) = record (with_desk s name (with_letter (s.desks name))) {
+  letters = s.letters ++ lettered_now (s.desks name);
+}
+moves form s (Sends_ack name) = record s {
+  server = record s.server { acks = (name, acknowledges_now (s.desks name)) ∷ s.server.acks };
+}
+moves form s (Settles name which) = record (with_desk s name (without_first (s.desks name))) {
+  server = record s.server { replies = but s.server.replies which };
+}
 moves form s (Restarts name settings torn ids before) =
     record (with_worker s name (new_worker settings.every (among_ids (read_back form s name torn) ids) before)) {
       file = with_one s.file name (repaired s name torn);
       filed = filed_then form s name torn;
+      desks = with_one s.desks name new_desk;
     }
 
 -- a whole schedule

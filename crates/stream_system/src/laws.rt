@@ -1,15 +1,25 @@
 //! What holds of workers over one server, each with a file of lines, after every schedule.
+ghost use Rattle.stream_system.specs.Desks.{AsksAsItDoes, LettersAreMoves, OthersLeaveTheDesk, PostsAreMoves};
+ghost use Rattle.stream_system.specs.Desks.{StartsWithANewDesk};
 ghost use Rattle.stream_system.specs.Drained.{EnoughRoundsDrain, OneRoundIsOne};
-ghost use Rattle.stream_system.specs.Law.{AcknowledgedIsInAFile, EachEntryIsKept};
+ghost use Rattle.stream_system.specs.Law.{AcknowledgedIsSettled, EachEntryIsKept, LettersAreOfTheLog, LettersStay};
 ghost use Rattle.stream_system.specs.Rounds.{FailuresAreMoves, OthersChangeNothing, RoundsAreMoves, StartsAreMoves};
 
 /// After any moves each entry that was ever added is still to come, or pending, or is a line of some
-/// worker's file, whatever a crash leaves of it; or it was deleted. So is each entry that is
-/// acknowledged a line of some file, or it was deleted. The premise is that a worker hears only
-/// replies that are on their way to it (`AllHearTruly`).
+/// worker's file, whatever a crash leaves of it; or the addition of its letter was answered; or it was
+/// deleted. So is each entry that is acknowledged a line of some file, or it has such a letter, or it
+/// was deleted. The premise is that a worker, and its desk of letters, hear only replies that are on
+/// their way to it (`AllHearTruly`).
 pub fn each_entry_is_kept()
     ensures kept { EachEntryIsKept }
-    ensures acknowledged { AcknowledgedIsInAFile }
+    ensures acknowledged { AcknowledgedIsSettled }
+{}
+
+/// A letter stays, whatever moves follow. Each letter is that of an entry that was added, with its own
+/// fields in order.
+pub fn letters_stay()
+    ensures stay { LettersStay }
+    ensures of_the_log { LettersAreOfTheLog }
 {}
 
 /// What `Worker::round` promises is a list of moves of the worker: after a round that returns Ok, and
@@ -19,6 +29,18 @@ pub fn rounds_are_moves()
     ensures others { OthersChangeNothing }
     ensures rounds { RoundsAreMoves }
     ensures failures { FailuresAreMoves }
+{}
+
+/// What `DeadLetters` promises is moves of a worker's desk. An entry that is given up is posted. A desk
+/// asks for the letter of its first entry, or for the acknowledgement of just that one after the letter
+/// was answered. After a reply that serves, its moves lead to where the desk is, whatever others do
+/// meanwhile.
+pub fn desks_are_moves()
+    ensures posts { PostsAreMoves }
+    ensures asks { AsksAsItDoes }
+    ensures letters { LettersAreMoves }
+    ensures starts { StartsWithANewDesk }
+    ensures others { OthersLeaveTheDesk }
 {}
 
 /// What `Worker::resumed` and `Worker::new` promise is a move of the worker, after a crash that left
