@@ -1,5 +1,6 @@
 -- Lemmas on lines of JSON and on dead letters.
 pub mod DeadLemmas
+pub mod DeadMovesLemmas
 pub mod JsonLemmas
 pub mod WrittenLemmas
 pub mod LivedLemmas
@@ -7,4 +8,5 @@ pub mod FiledLemmas
 pub mod TellLemmas
 pub mod ResumedLemmas
 pub mod SameLineLemmas
+pub mod FormLemmas
 pub mod ResumeLemmas

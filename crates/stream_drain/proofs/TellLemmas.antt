@@ -85,7 +85,7 @@ same_text (b ∷ bs) (x ∷ xs) rest more same all = elim (stands_so b) [
 abbrev behind_id : Entry → List ℕ
 behind_id e = print_from true (key (codes "fields") ∷ begin_array ∷ (flat_map field_tokens e.1 ++ end_tokens))
 
-begins_with_id : (e : Entry) → line_in true e ≡ codes "{\"id\":\"" ++ ((escape e.0 ++ 34 ∷ []) ++ behind_id e)
+pub begins_with_id : (e : Entry) → line_in true e ≡ codes "{\"id\":\"" ++ ((escape e.0 ++ 34 ∷ []) ++ behind_id e)
 unfolding print_from escape_byte
 begins_with_id e = refl
 

@@ -1,5 +1,6 @@
 -- What the program's contracts speak of.
 pub mod Dead
+pub mod DeadMoves
 pub mod Json
 pub mod Line
 pub mod Report

@@ -2,6 +2,7 @@
 use Rattle.std.specs.Prelude.{◌≡◌, ◌<◌, ℕ, List, Bool}
 use Rattle.std.specs.List.{AllByRecursion}
 use Rattle.line_log.specs.EntryLine.{Entry}
+use Rattle.stream_files.specs.Files.{Form}
 use Rattle.stream_drain.specs.Line.{line_in}
 
 -- these are bytes
@@ -15,3 +16,7 @@ IsOfBytes e = AllByRecursion (λ p. AreBytes p.0 × AreBytes p.1) e.1
 -- the law: two entries with the same line, of tabs or of JSON, are the same
 abbrev pub LinesTellEntries : Type 0
 LinesTellEntries = (json : Bool) (a b : Entry) → IsOfBytes a → IsOfBytes b → line_in json a ≡ line_in json b → a ≡ b
+
+-- so they are a form of `stream_files`: its line of an entry whose names and values are bytes is this line
+abbrev pub LinesAreAForm : Type 0
+LinesAreAForm = (json : Bool) → (form : Form) × ((e : Entry) → IsOfBytes e → form.line e ≡ line_in json e)

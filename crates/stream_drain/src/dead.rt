@@ -1,8 +1,12 @@
 //! Entries that were delivered too often, on their way to a stream of dead letters.
-ghost use Rattle.std.specs.Prelude.{◌≡◌, ◌<◌, ◌≤◌, ◌%◌, ◌∷◌, [], IfOk, IsTrue, MatchOption, Ok, OnErr, OnOk, false};
-ghost use Rattle.std.specs.Prelude.{filter, length, map, nat_le, string_bytes};
+ghost use Rattle.std.specs.Prelude.{◌≡◌, ◌<◌, ◌≤◌, ◌%◌, ◌∷◌, [], IfOk, IsTrue, MatchOption, Ok, OnErr, OnOk, Some, false};
+ghost use Rattle.std.specs.Prelude.{List, filter, length, map, nat_le, string_bytes};
 ghost use Rattle.std.specs.List.{flat_map};
-ghost use Rattle.stream_drain.specs.Dead.{Delivers, DeliversSome, IsBehind, row_of, waiting_of};
+ghost use Rattle.line_log.specs.EntryLine.{Entry};
+ghost use Rattle.redis_connection.specs.Ask.{Asks};
+ghost use Rattle.stream_drain.specs.Dead.{AreJust, BreaksOff, Delivers, DeliversSome, GivesUp, GivesUpSome, IsBehind};
+ghost use Rattle.stream_drain.specs.Dead.{Posted, PostedFields, PostsAll, PostsSome, claim_words, claimer_of};
+ghost use Rattle.stream_drain.specs.Dead.{letter_names, none_waits, row_of, rows_of, rows_reading, waiting_of};
 ghost use Rattle.stream_worker.specs.Letters.{desk_of, names_of};
 
 use anyhow::{Error, Result, bail};
@@ -191,14 +195,22 @@ impl Dead {
         connection: &mut Connection<R, W>,
         entries: &[Waiting],
         min_idle: usize,
-    ) -> Result<()> {
+    ) -> Result<()>
+        ensures ok { OnOk result (GivesUp (claimer_of self.old min_idle) (letter_names self.old)
+            entries.now connection.old connection.new) }
+        ensures err { OnErr result (GivesUpSome (claimer_of self.old min_idle) (letter_names self.old)
+            entries.now connection.old connection.new) }
+    {
         let mut desk = self.desk(alloc)?;
         self.post_all(alloc, connection, &mut desk, entries, min_idle)?;
         deliver(alloc, connection, &mut desk, &mut self.letters)
     }
 
     // A desk for letters, at which nothing waits.
-    fn desk(&self, alloc: Global) -> Result<DeadLetters, AllocError> {
+    fn desk(&self, alloc: Global) -> Result<DeadLetters, AllocError>
+        ensures names { IfOk result (λ d. names_of d ≡ letter_names self.now) }
+        ensures waits { IfOk result (λ d. desk_of d ≡ none_waits) }
+    {
         let key = self.key.clone()?;
         let group = self.group.clone()?;
         Ok(DeadLetters::new(alloc, key, group, self.stream.clone()?))
@@ -212,7 +224,15 @@ impl Dead {
         desk: &mut DeadLetters,
         entries: &[Waiting],
         min_idle: usize,
-    ) -> Result<()> {
+    ) -> Result<()>
+        ensures ok { OnOk result ((es : List Entry) × PostsAll (claimer_of self.now min_idle)
+            (names_of desk.old).2 entries.now es connection.old (desk_of desk.old)
+            connection.new (desk_of desk.new)) }
+        ensures err { OnErr result (PostsSome (claimer_of self.now min_idle)
+            (names_of desk.old).2 entries.now connection.old (desk_of desk.old)
+            connection.new (desk_of desk.new)) }
+        ensures names { names_of desk.new ≡ names_of desk.old }
+    {
         for entry in entries {
             let rows = self.claim(alloc, connection, entry.id.as_str(), min_idle)?;
             post(alloc, desk, entry, &rows)?;
@@ -227,7 +247,12 @@ impl Dead {
         connection: &mut Connection<R, W>,
         id: &str,
         min_idle: usize,
-    ) -> Result<Claimed> {
+    ) -> Result<Claimed>
+        ensures ok { IfOk result (λ rows. Asks connection.old connection.new
+            (claim_words (claimer_of self.now min_idle) id.now) rows_reading (rows_of rows.items)) }
+        ensures err { OnErr result (BreaksOff
+            (claim_words (claimer_of self.now min_idle) id.now) connection.old connection.new) }
+    {
         let command = xclaim(
             self.key.as_str(),
             self.group.as_str(),
@@ -284,16 +309,30 @@ fn post(
     entry: &Waiting,
     rows: &[Option<(String, Vec<RawBytes>)>],
 ) -> Result<()>
+    ensures ok { OnOk result (Posted (names_of desk.old).2 entry.now (rows_of rows.now)
+        (desk_of desk.old) (desk_of desk.new)) }
+    ensures err { OnErr result (desk_of desk.new ≡ desk_of desk.old) }
     ensures names { names_of desk.new ≡ names_of desk.old }
     ensures added { (desk_of desk.new).added ≡ (desk_of desk.old).added }
 {
-    let [Some((claimed, texts))] = rows else {
+    let Some((claimed, texts)) = the_row(rows) else {
         return Ok(());
     };
     if claimed.as_str() != entry.id.as_str() {
         bail!("another entry was answered than the one that was claimed");
     }
     post_fields(alloc, desk, entry, texts)
+}
+
+// The entry that these rows are; None if they are not one.
+fn the_row(rows: &[Option<(String, Vec<RawBytes>)>]) -> Option<&(String, Vec<RawBytes>)>
+    ensures { MatchOption result ((e : Entry) → AreJust (rows_of rows.now) e → e.1 ≡ [])
+        (λ row. rows.now ≡ Some row.now ∷ []) }
+{
+    match rows {
+        [row] => row.as_ref(),
+        _ => None,
+    }
 }
 
 /// Gives an entry up with these names and values, which are none where it was deleted.
@@ -303,6 +342,9 @@ fn post_fields(
     entry: &Waiting,
     texts: &[RawBytes],
 ) -> Result<()>
+    ensures ok { OnOk result (PostedFields (names_of desk.old).2 entry.now
+        (map (λ text. text.0.items) texts.now) (desk_of desk.old) (desk_of desk.new)) }
+    ensures err { OnErr result (desk_of desk.new ≡ desk_of desk.old) }
     ensures names { names_of desk.new ≡ names_of desk.old }
     ensures added { (desk_of desk.new).added ≡ (desk_of desk.old).added }
 {

@@ -1,8 +1,9 @@
 //! What holds of the lines that are gathered and committed, over the rounds of a worker.
+ghost use Rattle.stream_drain.specs.DeadMoves.{ClaimsAreMoves, DeliveriesAreMoves, GiveUpsAreMoves};
 ghost use Rattle.stream_drain.specs.Filed.{AcknowledgedIsFiled};
 ghost use Rattle.stream_drain.specs.Lived.{RoundsAreLived};
 ghost use Rattle.stream_drain.specs.Resumed.{ResumedIsLived};
-ghost use Rattle.stream_drain.specs.Tell.{LinesTellEntries};
+ghost use Rattle.stream_drain.specs.Tell.{LinesAreAForm, LinesTellEntries};
 ghost use Rattle.stream_drain.specs.Written.{GathersItsLines};
 
 /// What is gathered is the lines of the entries that were done and not committed, in order; what is committed
@@ -35,4 +36,19 @@ pub fn resumed_is_lived()
 /// fields in the same order.
 pub fn lines_tell_entries()
     ensures { LinesTellEntries }
+{}
+
+/// So the lines are a form of `stream_files`, in text and in JSON. The laws of `stream_files` and of
+/// `stream_system` hold of them, for entries whose names and values are bytes, as all are.
+pub fn lines_are_a_form()
+    ensures { LinesAreAForm }
+{}
+
+/// Entries that are given up are moves of a desk in the model `stream_system`. Each that is posted after its
+/// claim is a move. So are the letters and acknowledgements that are answered, all of them or as many as came.
+/// After all of them nothing waits there.
+pub fn give_ups_are_moves()
+    ensures claims { ClaimsAreMoves }
+    ensures letters { DeliveriesAreMoves }
+    ensures all { GiveUpsAreMoves }
 {}
