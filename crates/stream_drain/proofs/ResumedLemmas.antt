@@ -13,7 +13,8 @@ use Rattle.stream_worker.specs.Session.{Standing}
 use Rattle.stream_worker.specs.declared.state.Settings.{Settings}
 use Rattle.stream_drain.specs.Line.{line_in}
 use Rattle.stream_drain.specs.Lived.{LivesSo}
-use Rattle.stream_drain.specs.Resumed.{AreLast, BeginsSo, BeginsWithLast, ResumedIsLived, TellEach, ids_in, resumed_so}
+use Rattle.stream_drain.specs.Resumed.{AreLast, BeginsSo, BeginsWithLast, ResumedIsLived, StartsOverItsFile, TellEach}
+use Rattle.stream_drain.specs.Resumed.{ids_in, resumed_so}
 use Rattle.stream_drain.specs.Written.{Written, lines_in}
 use Rattle.stream_drain.proofs.FiledLemmas.{one_line}
 
@@ -31,6 +32,17 @@ resumed_is_lived settings json first es = record {
   lives = resumes (ids_in es) es (each_is es);
   written = refl;
 }
+
+-- ---- it is started so
+
+pub starts_over_its_file : StartsOverItsFile
+starts_over_its_file number settings json es worker history begins =
+    let so = begins es refl in
+    record {
+      machine = ap (λ (w : Standing Written). w.machine) so;
+      group = ap (λ (w : Standing Written). w.group) so;
+      asked = ap (λ (w : Standing Written). w.asked) so;
+    }
 
 -- ---- the last lines of the file
 

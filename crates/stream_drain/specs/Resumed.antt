@@ -4,10 +4,12 @@ use Rattle.line_log.specs.EntryLine.{Entry}
 use Rattle.line_log.specs.LastLines.{last_of}
 use Rattle.line_log.specs.Lines.{AreLines}
 use Rattle.stream_group.specs.Worker.{Id, start}
-use Rattle.stream_worker.specs.Session.{Standing}
+use Rattle.stream_worker.specs.Session.{Standing, standing_of}
 use Rattle.stream_worker.specs.declared.state.Asked.TheVariants.{Nothing}
 use Rattle.stream_worker.specs.declared.state.GroupState.TheVariants.{Unknown}
 use Rattle.stream_worker.specs.declared.state.Settings.{Settings}
+use Rattle.stream_worker.specs.declared.worker.Worker.{Worker}
+use Rattle.stream_system.specs.Rounds.{IsStarted}
 use Rattle.stream_drain.specs.Line.{line_in}
 use Rattle.stream_drain.specs.Lived.{LivesSo}
 use Rattle.stream_drain.specs.Written.{Written, lines_in}
@@ -60,3 +62,10 @@ BeginsWithLast number settings json committed w = (es : List Entry) → committe
 abbrev pub ResumedIsLived : Type 0
 ResumedIsLived = (settings : Settings) (json : Bool) (first : List ℕ) (es : List Entry)
     → LivesSo settings json (Some first) (resumed_so settings json (ids_in es) (first ++ lines_in json es)) []
+
+-- the law: over a file that is the lines of entries, the worker is started as `stream_system` says, with the ids of the
+-- last so many of them
+abbrev pub StartsOverItsFile : Type 0
+StartsOverItsFile = (number : ℕ) (settings : Settings) (json : Bool) (es : List Entry) (worker : Worker) (history : Written)
+    → BeginsWithLast number settings json (lines_in json es) (standing_of worker history)
+    → IsStarted settings (ids_in (last_of number es)) worker

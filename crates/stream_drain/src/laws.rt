@@ -2,7 +2,7 @@
 ghost use Rattle.stream_drain.specs.DeadMoves.{ClaimsAreMoves, DeliveriesAreMoves, GiveUpsAreMoves};
 ghost use Rattle.stream_drain.specs.Filed.{AcknowledgedIsFiled};
 ghost use Rattle.stream_drain.specs.Lived.{RoundsAreLived};
-ghost use Rattle.stream_drain.specs.Resumed.{ResumedIsLived};
+ghost use Rattle.stream_drain.specs.Resumed.{ResumedIsLived, StartsOverItsFile};
 ghost use Rattle.stream_drain.specs.Tell.{LinesAreAForm, LinesTellEntries};
 ghost use Rattle.stream_drain.specs.Written.{GathersItsLines};
 
@@ -30,6 +30,12 @@ pub fn acknowledged_is_filed()
 /// as one that committed them. So the laws above hold from there on too.
 pub fn resumed_is_lived()
     ensures { ResumedIsLived }
+{}
+
+/// The start of the program over the lines of entries is a start as `stream_system` has it, with just the ids of
+/// the last of them. Of such starts its law says that no id is in a file twice.
+pub fn starts_over_its_file()
+    ensures { StartsOverItsFile }
 {}
 
 /// A line tells its entry, in text and in JSON: two entries with the same line have the same id, and the same

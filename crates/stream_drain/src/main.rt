@@ -6,15 +6,18 @@
 //! ```
 //!
 //! Each entry is a line of the file: its id and its fields, in order and with repeated ones,
-//! separated by tabs. A backslash, a tab, a line feed and a carriage return in them stand as `\\`,
-//! `\t`, `\n` and `\r`. With `--json` each line is `{"id":"1-0","fields":[["name","value"],..]}`, and
-//! a text that is not UTF-8 stands there as `{"base64":".."}`. The lines of a batch are on the disk
-//! before its entries are acknowledged, so whatever crash comes, an entry that was added is still to
-//! come, or pending, or in the file, or was deleted. A line may come again after a crash.
+//! separated by tabs. A backslash, a tab, a line feed and a carriage return in them are written as
+//! `\\`, `\t`, `\n` and `\r`. With `--json` each line is `{"id":"1-0","fields":[["name","value"],..]}`,
+//! and a text that is not UTF-8 is `{"base64":".."}` there. The lines of a batch are on the disk before
+//! its entries are acknowledged. So whatever crash comes, an entry that was added is still to come, or
+//! pending, or in the file, or was deleted; with `--dead` it may have a letter in place of a line.
 //!
-//! What it did, and what the group has still to do, stands on standard error once a second, and what it
-//! did also at the end; with `--quiet` at the end alone. It ends with 0 where `--until-empty` is there
-//! and nothing new came, and else with 1 and the reason.
+//! A program that is started again first acknowledges the entries of the last lines of its file. So no
+//! entry is a line twice, if the file is this consumer's alone.
+//!
+//! Once a second it writes to standard error what it did and what the group has still to do, and at the
+//! end what it did; with `--quiet` only at the end. It ends with 0 if `--until-empty` is there and
+//! nothing new came, and else with 1 and the reason.
 #![tactic(auto)]
 
 mod backlog;
