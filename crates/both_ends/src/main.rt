@@ -90,7 +90,7 @@ fn played(alloc: Global, line: &str) -> Result<String, AllocError> {
     }
     let (name, words) = parted(line);
     let text = if name == "calm" {
-        String::from_str(alloc, calm_text(calm(alloc, plan_of(words))?))?
+        String::from_str(alloc, calm_text(plays_calmly(alloc, plan_of(words))?))?
     } else {
         play(alloc, name, words)?.text(alloc)?
     };
@@ -1155,7 +1155,7 @@ enum Start {
 }
 
 /// A run that begins so.
-fn run(alloc: Global, plan: Plan, start: Start) -> Result<Run, AllocError> {
+fn make_run(alloc: Global, plan: Plan, start: Start) -> Result<Run, AllocError> {
     let mut world = world_of(alloc, plan)?;
     run_in(alloc, &mut world, start)
 }
@@ -1185,14 +1185,14 @@ fn plant_torn(
 }
 
 /// Whether the file has what went in after a run with no fault but what refuses memory.
-fn calm(alloc: Global, plan: Plan) -> Result<bool, AllocError> {
-    let run = run(alloc, plan, Start::Faults(End::Producer, CALM))?;
+fn plays_calmly(alloc: Global, plan: Plan) -> Result<bool, AllocError> {
+    let run = make_run(alloc, plan, Start::Faults(End::Producer, CALM))?;
     Ok(run.seen.is_same)
 }
 
 /// How many bytes an end sends and takes in a run with no fault.
 fn session_len(alloc: Global, plan: Plan, end: End) -> Result<usize, AllocError> {
-    let run = run(alloc, plan, Start::Faults(End::Producer, CALM))?;
+    let run = make_run(alloc, plan, Start::Faults(End::Producer, CALM))?;
     let left = match end {
         End::Producer => run.left.0,
         End::Worker => run.left.1,
@@ -1215,7 +1215,7 @@ fn add_cuts(
             steps: NEVER,
             delay,
         };
-        tally.add(run(alloc, plan, Start::Faults(end, faults))?);
+        tally.add(make_run(alloc, plan, Start::Faults(end, faults))?);
     }
     Ok(())
 }
@@ -1245,7 +1245,7 @@ fn crashes(alloc: Global, plan: Plan, end: End) -> Result<Tally, AllocError> {
             steps,
             delay: NEVER,
         };
-        let run = run(alloc, plan, Start::Faults(end, faults))?;
+        let run = make_run(alloc, plan, Start::Faults(end, faults))?;
         if run.kills == 0 {
             break;
         }
@@ -1263,7 +1263,7 @@ fn add_torn(
     tally: &mut Tally,
 ) -> Result<bool, AllocError> {
     for torn in 0..LARGEST {
-        let run = run(alloc, plan, Start::Torn(commit, torn))?;
+        let run = make_run(alloc, plan, Start::Torn(commit, torn))?;
         if run.failed == 0 {
             return Ok(false);
         }
@@ -1380,7 +1380,7 @@ fn schedules(alloc: Global, plan: Plan, seed: usize, count: usize) -> Result<Tal
     let mut tally = Tally::new();
     for number in 0..count {
         let seed = seed.saturating_add(number) as u64;
-        tally.add(run(alloc, plan_of_seed(plan, seed), Start::Random(seed))?);
+        tally.add(make_run(alloc, plan_of_seed(plan, seed), Start::Random(seed))?);
     }
     Ok(tally)
 }
