@@ -20,7 +20,8 @@ first_world = record { now = once.first_world; kept = empty_world ∷ [] }
 
 -- what may happen next
 pub data Event (F : Type 0) : Type 0 where
-  -- as in stream_once, but the consumer looks up what it takes. With an `Arrive` or `Ask` that comes so, no WAIT is
+  -- an event of stream_once, but the consumer looks up what it takes. An `Arrive` or an `Ask` of this kind comes
+  -- without WAIT
   Plain : (event : once.Event F) → Event F
   -- what the producer sent comes to the server, with a WAIT for `asked` replicas after it; `said` of them confirm
   Arrive_waits : (executes : Bool) (asked said : ℕ) → Event F
@@ -29,8 +30,8 @@ pub data Event (F : Type 0) : Type 0 where
   -- the master dies, and a replica is the master that has this one of the states that are kept
   Failover : (which : ℕ) → Event F
 
--- the server has the state of its stream and its group that it had earlier. Others than it keep what they did, and
--- what is on the way to it may come yet
+-- the server has an earlier state of its stream and its group. All others keep what they did, and what is on the way
+-- to the server may come yet
 abbrev pub goes_back : {F : Type 0} → group.World F → group.World F → group.World F
 goes_back w earlier = record w {
   seen = earlier.seen;

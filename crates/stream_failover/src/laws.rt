@@ -1,6 +1,7 @@
-//! What holds after every schedule with failovers, crashes, breaks and late arrivals. With WAIT
-//! means: by the premise `AllWait`, that each batch and each read comes with WAIT. `Fit` says that
-//! the ids of the records fit into 64 bits, `NoOtherAdds` that nobody else adds to the stream.
+//! What holds after every schedule with failovers, crashes, breaks and late arrivals.
+//!
+//! 'With WAIT' is the premise `AllWait`: each batch and each read comes with WAIT after it. `Fit` says
+//! that the ids of the records fit into 64 bits, `NoOtherAdds` that nobody else adds to the stream.
 ghost use Rattle.stream_failover.specs.Law.{ComesAsWritten, EachComesOutOnce, FileIsOfLog};
 ghost use Rattle.stream_failover.specs.Law.{FileGrows, FileIsOfRecords, FileOnce};
 ghost use Rattle.stream_failover.specs.Law.{FileOnceOfAnyServer, HandledIsNotNew, KnownStaysIn};
@@ -43,7 +44,7 @@ pub fn what_is_confirmed_stays<F>()
 {}
 
 /// With WAIT each entry of the file is in the log, with its own fields, after any failover, whoever
-/// adds. It does not come as new again, to no consumer of the group.
+/// adds. It comes as new again to no consumer of the group.
 pub fn what_is_handled_stays<F>()
     ensures of_log { FileIsOfLog F }
     ensures not_new { HandledIsNotNew F }
