@@ -1,5 +1,5 @@
-/* The records of redis_streams.h as the library lays them out where numbers have 64 bits: how large each is, and
-   where its members stand. It only has to compile.
+/* The records of redis_streams.h as the library lays them out if numbers have 64 bits: how large each is, and
+   the places of its members. It only has to compile.
 
    usage: layout */
 #include "redis_streams.h"

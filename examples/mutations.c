@@ -1,5 +1,5 @@
 /* Changes bytes of the replies of a file at random, COUNT times, and reads what comes of it by each call. It ends
-   with 1 where a place is not within the bytes; for valgrind and sanitizers.
+   with 1 if a place is not within the bytes; for valgrind and sanitizers.
 
    usage: mutations FILE COUNT */
 #include "redis_streams.h"

@@ -1,5 +1,5 @@
-//! Reads the entries of stored replies where they stand, by the static library, from Rust: and says how the stream
-//! is trimmed behind them.
+//! Reads the entries of stored replies in place, by the static library, from Rust: and says how the stream
+//! is trimmed after them.
 //!
 //! usage: streams <REPLIES
 //!
