@@ -142,7 +142,7 @@ divided_small : (r b : ℕ) → r < 2 ^ 16 → IsBit b → divided r b < 2 ^ 16
 divided_small r b small bit =
     rw (divided_is r b small bit) (xor_lt 16 (shifted r) b (shifted_small r small) (bit_small b bit))
 
--- ---- zeros behind
+-- ---- zeros after
 
 -- times x, so often
 abbrev times : ℕ → ℕ → ℕ

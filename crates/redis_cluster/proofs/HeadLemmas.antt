@@ -1,4 +1,4 @@
--- What stands behind bytes at the head.
+-- What is after bytes at the head.
 use Rattle.std.proofs.Common.{◌≡◌, ◌≢◌, ℕ, ◌+◌, List, ◌++◌, take, drop, length, refl, sym, ◌∙◌, ap, true, false, Option, Some, None, MatchOption, Bor}
 use Rattle.std.proofs.lemmas.Bool.Decides.{Decides-eqb}
 use Rattle.std.proofs.lemmas.List.{take-append-drop, take_at}
@@ -9,7 +9,7 @@ use Rattle.std.specs.Str.{bytes_eq}
 decides : (xs ys : List ℕ) → Decides (bytes_eq xs ys) (xs ≡ ys)
 decides xs ys = slice_eq-Decides Decides-eqb _ _ _ refl
 
--- what `strip_prefix` finds, and that it finds nothing only where nothing is
+-- what `strip_prefix` finds, and that it finds nothing only if nothing is
 pub behind_head : (head bytes : List ℕ) (o : Option (Bor (List ℕ)))
     → MatchOption o (bytes_eq (take (length head) bytes) head ≡ false) (λ x.
     (bytes_eq (take (length head) bytes) head ≡ true) × (x.now ≡ drop (length head) bytes)

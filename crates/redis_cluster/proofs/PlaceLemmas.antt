@@ -43,7 +43,7 @@ port_lacks_colon n small = digits_lack 58 no_colon n (number_fits n small)
 
 -- ---- a place is parted as it was joined
 
--- what stands behind the slot of a place
+-- what is after the slot of a place
 abbrev pub node_text : Place → List ℕ
 node_text p = p.host ++ 58 ∷ decimal p.port
 

@@ -43,7 +43,7 @@ sentences_tell (other n) (other o) text a b = ap other (same_Some n o (sym a ∙
 
 -- ---- what a text does not say
 
--- a text that names no place behind `MOVED` says nothing
+-- a text that names no place after `MOVED` says nothing
 pub no_moved : (text rest : List ℕ) → text ≡ codes "MOVED " ++ rest
     → ((p : Place) → IsPlace p → rest ≡ place_text p → ⊥) → IsReadFrom text None
 no_moved text rest is none (moved p) says =
@@ -51,7 +51,7 @@ no_moved text rest is none (moved p) says =
 no_moved text rest is none (ask p) says = moved_is_no_ask text rest (place_text p) is says.1
 no_moved text rest is none (other o) says = moved_is_no_other text rest o is says
 
--- nor does one that names no place behind `ASK`
+-- nor does one that names no place after `ASK`
 pub no_ask : (text rest : List ℕ) → text ≡ codes "ASK " ++ rest
     → ((p : Place) → IsPlace p → rest ≡ place_text p → ⊥) → IsReadFrom text None
 no_ask text rest is none (moved p) says = moved_is_no_ask text (place_text p) rest says.1 is

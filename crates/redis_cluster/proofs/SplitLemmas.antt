@@ -13,7 +13,7 @@ pub record Same (a b front rest : List ℕ) : Type 0 where
   pub before : a ≡ front
   pub behind : b ≡ rest
 
--- the byte stands here first
+-- the byte is here first
 pub record IsFirst (byte : ℕ) (bytes a b : List ℕ) : Type 0 where
   pub is : bytes ≡ a ++ byte ∷ b
   pub lacks : Lacks byte a
@@ -30,7 +30,7 @@ module _ (byte : ℕ) where
   later : (b : ℕ) (rest : List ℕ) → b ≢ byte → split_first byte (b ∷ rest) ≡ option_map (Put b) (split_first byte rest)
   later b rest other = grind (arith, nat_tests)
 
-  -- ---- what stands around the first one
+  -- ---- what is around the first one
 
   pub behind_front : (front rest : List ℕ) → Lacks byte front
       → split_first byte (front ++ byte ∷ rest) ≡ Some (front, rest)

@@ -14,7 +14,7 @@ use Rattle.redis_cluster.proofs.PlaceLemmas.{digits_lack, number_fits}
 abbrev Parts : Type 0
 Parts = List ℕ × List ℕ
 
--- the tag behind the opening brace
+-- the tag after the opening brace
 abbrev closing : Parts → Option (List ℕ)
 closing x = option_and_then (λ y. if_any y.0) (split_first 125 x.1)
 
@@ -34,7 +34,7 @@ tags_decide key tag h =
     ap (λ k. hashed k) h.is ∙ ap (λ o. unwrap_or o (h.front ++ 123 ∷ (tag ++ 125 ∷ h.rest)))
     (tag_is h.front tag h.rest h.first_opening h.first_closing h.not_empty)
 
--- ---- a tag that is found stands there
+-- ---- a tag that is found is there
 
 any_is : (xs tag : List ℕ) → if_any xs ≡ Some tag → (xs ≡ tag) × (tag ≢ [])
 any_is [] tag is = absurd cc

@@ -1,8 +1,8 @@
--- CRC-16/XMODEM: what is left of a message as a polynomial over bits, with 16 zeros behind it, where
+-- CRC-16/XMODEM: what is left of a message as a polynomial over bits, with 16 zeros after it, where
 -- x^16 + x^12 + x^5 + 1 is taken away from it as often as it can be.
 use Rattle.std.specs.Prelude.{ℕ, zero, suc, ◌-◌, ◌*◌, ◌/◌, ◌%◌, ◌^◌, ◌==◌, if◌then◌else◌, List, bit_xor, fold}
 
--- One bit more: what was left is shifted by a place. The term x^16 then stands if the highest bit stood or
+-- One bit more: what was left is shifted by a place. The term x^16 is there if the highest bit was there or
 -- the bit of the message is one, but not both; if so, the polynomial is taken away, of which 0x1021 is the rest.
 unfoldable pub with_bit : ℕ → ℕ → ℕ
 with_bit crc bit = if crc / 0x8000 == bit then 2 * (crc % 0x8000) else bit_xor (2 * (crc % 0x8000)) 0x1021

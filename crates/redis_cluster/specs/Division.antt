@@ -3,7 +3,7 @@ use Rattle.std.specs.Prelude.{◌≡◌, ℕ, ◌+◌, ◌*◌, ◌/◌, ◌%◌
 use Rattle.std.specs.List.{fold}
 use Rattle.redis_cluster.specs.Crc.{bit_of, crc16}
 
--- The next bit is brought down beside what is left. If the term x^16 then stands, the polynomial
+-- The next bit is brought down beside what is left. If the term x^16 is there, the polynomial
 -- x^16 + x^12 + x^5 + 1 is taken away.
 unfoldable pub divided : ℕ → ℕ → ℕ
 divided left bit = if left / 0x8000 == 0 then 2 * (left % 0x8000) + bit

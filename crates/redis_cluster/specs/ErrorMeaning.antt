@@ -5,10 +5,11 @@ use Rattle.redis_cluster.specs.declared.reading.Place as places
 use Rattle.redis_cluster.specs.Sentence.{Place, Other, try_again, cluster_down, loading, master_down, read_only, no_replicas}
 use Rattle.redis_cluster.specs.Sentence.{Meaning, moved, ask, other}
 
--- where a slot is served
+-- the place that serves a slot
 abbrev pub place_of : places.Place → Place
 place_of p = record { slot = p.slot; host = p.host.now; port = p.port }
 
+-- an error that names no place
 abbrev pub other_meaning : Other → Meaning
 other_meaning o = other o
 

@@ -33,11 +33,11 @@ IsPlace p = (p.slot < 16384) × (0 < p.port) × (p.port < 2 ^ 16) × (split_firs
 abbrev pub place_text : Place → List ℕ
 place_text p = decimal p.slot ++ 32 ∷ (p.host ++ 58 ∷ decimal p.port)
 
--- what stands before the first blank, or all if there is none
+-- the part before the first blank, or all if there is none
 abbrev pub code_of : List ℕ → List ℕ
 code_of text = unwrap_or (option_map (λ x. x.0) (split_first 32 text)) text
 
--- the errors that are told by their code alone, whatever stands behind it
+-- the errors that are told by their code alone, whatever is after it
 unfoldable pub other_of : List ℕ → Option Other
 other_of code = if bytes_eq code (codes "TRYAGAIN") then Some try_again
     else if bytes_eq code (codes "CLUSTERDOWN") then Some cluster_down

@@ -4,7 +4,7 @@ use Rattle.redis_cluster.specs.declared.step.NextStep.TheVariants.{Connect, AskO
 use Rattle.redis_cluster.specs.Sentence.{try_again, cluster_down, loading, master_down, read_only, no_replicas}
 use Rattle.redis_cluster.specs.Sentence.{Meaning, moved, ask, other}
 
--- it goes to the node that the error names, for good or this once; it gives up where the node takes no
+-- it goes to the node that the error names, for good or this once; it gives up if the node takes no
 -- writes; and it waits in all other cases, which pass
 abbrev pub next_step : Meaning → NextStep
 next_step (moved p) = Connect

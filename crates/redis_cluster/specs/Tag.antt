@@ -3,7 +3,7 @@ use Rattle.std.specs.Prelude.{◌≡◌, ◌≢◌, ℕ, List, [], ◌∷◌, �
 use Rattle.redis_cluster.specs.Slot.{hashed}
 use Rattle.redis_cluster.specs.Split.{Lacks}
 
--- The tag stands in the key: between the first `{` and the first `}` behind it, with a byte in it at least.
+-- The tag is in the key: between the first `{` and the first `}` after it, with a byte in it at least.
 pub record HasTag (key tag : List ℕ) : Type 0 where
   pub front : List ℕ
   pub rest : List ℕ

@@ -5,21 +5,21 @@ ghost use Rattle.redis_cluster.specs.Split.{IsSplitAtLast, split_first};
 use itoa::Buffer;
 use std::str;
 
-/// What stands behind these bytes at the head.
+/// What is after these bytes at the head.
 pub(crate) fn bytes_behind<'a>(head: &[u8], bytes: &'a [u8]) -> Option<&'a [u8]>
     ensures { MatchOption result ((rest : List ℕ) → bytes.now ≢ head.now ++ rest) (λ rest. bytes.now ≡ head.now ++ rest.now) }
 {
     bytes.strip_prefix(head)
 }
 
-/// Where the first of these bytes stands.
+/// The place of the first of these bytes.
 fn place_of(bytes: &[u8], byte: u8) -> Option<usize>
     ensures { result ≡ position (λ b. b == byte) bytes.now }
 {
     bytes.iter().position(|b| *b == byte)
 }
 
-/// What stands before the first of these bytes, and what stands behind it.
+/// The part before the first of these bytes, and what is after it.
 pub(crate) fn split_first(bytes: &[u8], byte: u8) -> Option<(&[u8], &[u8])>
     ensures { option_map (λ x. (x.0.now, x.1.now)) result ≡ split_first byte bytes.now }
 {
@@ -27,7 +27,7 @@ pub(crate) fn split_first(bytes: &[u8], byte: u8) -> Option<(&[u8], &[u8])>
     Some((&bytes[..place], &bytes[place + 1..]))
 }
 
-/// What stands before the last of these bytes, and what stands behind it.
+/// The part before the last of these bytes, and what is after it.
 pub(crate) fn split_last(bytes: &[u8], byte: u8) -> Option<(&[u8], &[u8])>
     ensures { IsSplitAtLast byte bytes.now (option_map (λ x. (x.0.now, x.1.now)) result) }
 {

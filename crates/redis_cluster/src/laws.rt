@@ -1,10 +1,10 @@
-//! Laws of slots and errors, as clauses that are known behind a call.
+//! Laws of slots and errors, as clauses that are known after a call.
 ghost use Rattle.redis_cluster.specs.Division.{ChecksumIsRemainder};
 ghost use Rattle.redis_cluster.specs.Sentence.{SentencesTell};
 ghost use Rattle.redis_cluster.specs.Partition.{SlotsOfPartitions};
 ghost use Rattle.redis_cluster.specs.Tag.{TagsDecide, WholeKeysDecide};
 
-/// The checksum is what is left of the message, with 16 zeros behind it, when it is divided by
+/// The checksum is what is left of the message, with 16 zeros after it, when it is divided by
 /// x^16 + x^12 + x^5 + 1 over bits.
 pub fn checksum_is_remainder()
     ensures { ChecksumIsRemainder }
@@ -15,14 +15,14 @@ pub fn sentences_tell()
     ensures { SentencesTell }
 {}
 
-/// What stands between the first `{` and the first `}` behind it decides on the slot, if it is not
-/// empty, whatever stands around it; and else the whole key does.
+/// The part between the first `{` and the first `}` after it decides on the slot, if it is not
+/// empty, whatever is around it; and else the whole key does.
 pub fn tags_decide()
     ensures tag { TagsDecide }
     ensures whole { WholeKeysDecide }
 {}
 
-/// The slot of a partition depends on its number alone, where the name has no `{`.
+/// The slot of a partition depends on its number alone, if the name has no `{`.
 pub fn slots_of_partitions()
     ensures { SlotsOfPartitions }
 {}

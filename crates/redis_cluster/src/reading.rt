@@ -16,7 +16,7 @@ struct Place<'a> {
 }
 
 /// What the error of a node says of the cluster; None if it says something else. The text is what
-/// stands behind `-` in the reply, such as `MOVED 3999 127.0.0.1:6381`. The port stands behind the last
+/// is after `-` in the reply, such as `MOVED 3999 127.0.0.1:6381`. The port is after the last
 /// colon, so the host may be an IPv6 address.
 pub fn cluster_error(text: &[u8]) -> Option<ClusterError<'_>>
     ensures { IsReadFrom text.now (option_map meaning_of result) }
@@ -32,7 +32,7 @@ pub fn cluster_error(text: &[u8]) -> Option<ClusterError<'_>>
     error_of(code_in(text))
 }
 
-/// What stands before the first blank, or all if there is none.
+/// The part before the first blank, or all if there is none.
 fn code_in(text: &[u8]) -> &[u8]
     ensures { result.now ≡ code_of text.now }
 {

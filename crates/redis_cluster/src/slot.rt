@@ -5,8 +5,8 @@ ghost use Rattle.redis_cluster.specs.Slot.{hash_tag, key_slot};
 use crate::bytes::split_first;
 use crate::crc::crc16;
 
-/// The hash tag of a key: what stands between its first `{` and the first `}` behind that. None if a
-/// brace is missing, or if nothing stands between them.
+/// The hash tag of a key: the part between its first `{` and the first `}` after that. None if a
+/// brace is missing, or if nothing is between them.
 pub fn hash_tag(key: &[u8]) -> Option<&[u8]>
     ensures { option_map (λ tag. tag.now) result ≡ hash_tag key.now }
 {

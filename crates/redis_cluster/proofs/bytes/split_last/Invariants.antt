@@ -2,7 +2,7 @@ use Rattle.std.proofs.Common.{◌≤◌, length, drop}
 use Rattle.redis_cluster.specs.Split.{Lacks}
 use Rattle.redis_cluster.proofs.bytes.split_last.Given as goal
 
--- the byte does not stand behind this place
+-- the byte is not after this place
 abbrev pub invariant-loop-place : goal.invariant-loop-place
 invariant-loop-place l = record { within : l.place ≤ length l.bytes; lacks : Lacks l.byte (drop l.place l.bytes) }
 
