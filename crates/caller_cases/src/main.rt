@@ -6,7 +6,7 @@
 //! ```
 //!
 //! A case is a word that says what is run, and a value in the notation of `stream_text::notation`:
-//! what a server answered, bytes of a server, or what the call is handed. Commands are printed as
+//! the reply of a server, bytes of a server, or what the call is handed. Commands are printed as
 //! their arguments with a space between two, records as `Debug` shows them.
 //!
 //! It ends with 0, or with 2 if memory ran out, a line is no case, or standard input or output
@@ -122,7 +122,7 @@ fn ninth(alloc: Global) -> Result<Producer> {
     Ok(Producer { id, number: 9 })
 }
 
-/// What a producer sends until each of these answers came, and which of them it takes for an id.
+/// What a producer sends until each of these replies came, and which of them it takes for an id.
 fn sends(alloc: Global, answers: Value) -> Result<String> {
     let answers: Vec<Value> = from_redis_value(alloc, answers)?;
     let mut producer = ninth(alloc)?;
@@ -133,7 +133,7 @@ fn sends(alloc: Global, answers: Value) -> Result<String> {
     Ok(said)
 }
 
-// What the producer sends before this answer, and whether the answer is an id.
+// What the producer sends before this reply, and whether the reply is an id.
 fn send(alloc: Global, producer: &mut Producer, answer: Value) -> Result<String> {
     let sent = producer.arguments(alloc, "jobs", 1000, &[("order", b"17".as_slice())])?;
     let sent = line_of(alloc, &sent)?;
@@ -146,7 +146,7 @@ fn send(alloc: Global, producer: &mut Producer, answer: Value) -> Result<String>
 }
 
 /// What a server reads of that which a producer sends with a body of these bytes: of all that
-/// stands behind the key, from `~` on, and of the options alone.
+/// is after the key, from `~` on, and of the options alone.
 fn serves(alloc: Global, body: Value) -> Result<String> {
     let body: RawBytes = from_redis_value(alloc, body)?;
     let producer = ninth(alloc)?;
@@ -192,7 +192,7 @@ fn order(alloc: Global, value: Value) -> Result<String> {
     reading_text(alloc, from_redis_value::<Order>(alloc, value))
 }
 
-/// The number of an order that a value is, where it is not nil.
+/// The number of an order that a value is, if it is not nil.
 fn number(alloc: Global, value: Value) -> Result<String> {
     reading_text(alloc, from_redis_value::<Option<OrderId>>(alloc, value))
 }
@@ -231,12 +231,12 @@ fn reads(alloc: Global, key: Value) -> Result<String> {
     )
 }
 
-/// The ids that a worker acknowledges after this answer of XREADGROUP.
+/// The ids that a worker acknowledges after this reply to XREADGROUP.
 fn ids(alloc: Global, answer: Value) -> Result<String> {
     line_of(alloc, &ids_answered(alloc, answer)?)
 }
 
-/// With what it acknowledges the entries of the one stream of an answer.
+/// With what it acknowledges the entries of the one stream of a reply.
 fn acknowledges(alloc: Global, answer: Value) -> Result<String> {
     let reply: StreamReadReply = from_redis_value(alloc, answer)?;
     match reply.keys.as_slice() {
@@ -245,7 +245,7 @@ fn acknowledges(alloc: Global, answer: Value) -> Result<String> {
     }
 }
 
-/// The orders of the one stream of an answer, and the entries that are none.
+/// The orders of the one stream of a reply, and the entries that are none.
 fn batch(alloc: Global, answer: Value) -> Result<String> {
     let reply: StreamReadReply = from_redis_value(alloc, answer)?;
     match reply.keys.as_slice() {
@@ -261,24 +261,24 @@ fn claims(alloc: Global, key: Value) -> Result<String> {
     line_of(alloc, &claim)
 }
 
-/// What an answer of XAUTOCLAIM says.
+/// What a reply to XAUTOCLAIM says.
 fn stalled(alloc: Global, answer: Value) -> Result<String> {
     reading_text(alloc, stalled_in(alloc, answer))
 }
 
-/// The ids of an answer of XPENDING that were delivered five times or more.
+/// The ids of a reply to XPENDING that were delivered five times or more.
 fn too_often(alloc: Global, answer: Value) -> Result<String> {
     let pending: StreamPendingCountReply = from_redis_value(alloc, answer)?;
     line_of(alloc, &delivered_too_often(alloc, &pending, 5)?)
 }
 
-/// The lag of the groups `g` and `h` in an answer of XINFO GROUPS.
+/// The lag of the groups `g` and `h` in a reply to XINFO GROUPS.
 fn lag(alloc: Global, answer: Value) -> Result<String> {
     let groups: StreamInfoGroupsReply = from_redis_value(alloc, answer)?;
     Ok(format!(in alloc; "{:?} {:?}", lag_of(&groups, "g"), lag_of(&groups, "h"))?)
 }
 
-/// The state of each group in an answer of XINFO STREAM FULL, ten seconds after the clock began.
+/// The state of each group in a reply to XINFO STREAM FULL, ten seconds after the clock began.
 fn groups(alloc: Global, answer: Value) -> Result<String> {
     let reply: StreamInfoFullReply = from_redis_value(alloc, answer)?;
     let mut states = Vec::new(alloc);
@@ -308,7 +308,7 @@ fn acknowledgement(alloc: Global, code: Value) -> Result<String> {
 
 // Bytes of a server, and bytes for one.
 
-/// The ids of the entries of an answer of XREADGROUP in RESP2, and of one in RESP3.
+/// The ids of the entries of a reply to XREADGROUP in RESP2, and of one in RESP3.
 fn protocols(alloc: Global, both: Value) -> Result<String> {
     let (resp2, resp3): (RawBytes, RawBytes) = from_redis_value(alloc, both)?;
     let Ok((first, second)) = streams_of_both(alloc, &resp2.0, &resp3.0) else {
@@ -340,7 +340,7 @@ fn order_sent(alloc: Global, customer: Value) -> Result<String> {
     Ok(format!(in alloc; "{sent:?}")?)
 }
 
-/// The id of an order in the bytes that a server answered.
+/// The id of an order in the bytes of a server's reply.
 fn order_answered(alloc: Global, bytes: Value) -> Result<String> {
     let bytes: RawBytes = from_redis_value(alloc, bytes)?;
     match decode(alloc, &bytes.0, Limits::default())? {
@@ -516,7 +516,7 @@ struct Crash {
 }
 
 impl Buffered {
-    // Notes that a crash could leave these bytes behind what is on the disk.
+    // Notes that a crash could leave these bytes after what is on the disk.
     fn note(&mut self, behind: &[u8]) -> Result<(), LogError> {
         let before = self.disk.to_vec(self.alloc)?;
         let mut left = self.disk.to_vec(self.alloc)?;
@@ -524,7 +524,7 @@ impl Buffered {
         Ok(self.crashes.push(Crash { before, left })?)
     }
 
-    // Notes each front of the bytes, and their second half behind zeros.
+    // Notes each front of the bytes, and their second half after zeros.
     fn note_all(&mut self, bytes: &[u8]) -> Result<(), LogError> {
         for len in 0..=bytes.len() {
             self.note(bytes.get(..len).unwrap_or(bytes))?;
@@ -647,7 +647,7 @@ fn files(alloc: Global, case: Value) -> Result<String> {
     Ok(format!(in alloc; "{:?}", str::from_utf8(log.into_file().bytes())?)?)
 }
 
-/// The bytes of a text as they stand in a line.
+/// The bytes of a text as they are in a line.
 fn escapes(alloc: Global, text: Value) -> Result<String> {
     let text: RawBytes = from_redis_value(alloc, text)?;
     let mut line = Vec::new(alloc);

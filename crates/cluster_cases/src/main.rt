@@ -128,14 +128,14 @@ fn step_word(step: NextStep) -> &'static str {
     }
 }
 
-/// The number at the head of a text, and what stands behind the blank after it.
+/// The number at the head of a text, and what is after the blank after it.
 fn number_and_rest(input: &str) -> Option<(u16, &str)> {
     let (number, rest) = input.split_once(' ')?;
     let number = number.parse::<u16>().ok()?;
     Some((number, rest))
 }
 
-/// The partition of the key behind the number of partitions.
+/// The partition of the key after the number of partitions.
 fn partition_told(alloc: Global, input: &str) -> Result<String> {
     match number_and_rest(input) {
         Some((number, key)) => match NonZeroU16::new(number) {

@@ -1,4 +1,4 @@
-//! Plays scripts of a producer on its standard input, and prints what happens. Bytes stand in a
+//! Plays scripts of a producer on its standard input, and prints what happens. Bytes are in a
 //! script as text, with `\r` and `\n` for the ends of lines:
 //!
 //! | Line | What happens |
@@ -8,7 +8,7 @@
 //! | `cut` | its connection is closed |
 //! | another | bytes of replies, which it takes |
 //!
-//! It ends with 0, or with 2 where memory ran out, or standard input or output failed.
+//! It ends with 0, or with 2 if memory ran out, or standard input or output failed.
 #![tactic(auto)]
 
 use redis_wire::{Decoded, Limits, Reply, WireError, decode};
@@ -138,7 +138,7 @@ fn asked(alloc: Global, feed: &mut Feed) -> Result<String, AllocError> {
             let text = text_of(alloc, &bytes)?;
             format!(in alloc; "{asked:?}: {}", text.as_str())
         }
-        // (records in memory are not read only where memory is refused)
+        // (records in memory are not read only if memory is refused)
         Err(RequestError::Memory | RequestError::NotRead) => Err(AllocError),
         Err(error) => format!(in alloc; "{error}"),
     }
@@ -195,7 +195,7 @@ fn bytes_of(alloc: Global, text: &str) -> Result<Vec<u8>, AllocError> {
     Ok(bytes)
 }
 
-/// The byte behind a backslash.
+/// The byte after a backslash.
 fn unescaped(byte: u8) -> u8 {
     match byte {
         b'r' => b'\r',

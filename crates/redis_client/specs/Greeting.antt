@@ -9,11 +9,12 @@ abbrev pub user_or_default : List ℕ → List ℕ
 user_or_default [] = codes "default"
 user_or_default (b ∷ user) = b ∷ user
 
--- the words of HELLO for a user and a password, and for a name
+-- the words of HELLO for a user and a password
 abbrev pub login_words : Option (List ℕ × List ℕ) → List (List ℕ)
 login_words None = []
 login_words (Some l) = codes "AUTH" ∷ user_or_default l.0 ∷ l.1 ∷ []
 
+-- and those for a name
 abbrev pub name_words : Option (List ℕ) → List (List ℕ)
 name_words None = []
 name_words (Some name) = codes "SETNAME" ∷ name ∷ []

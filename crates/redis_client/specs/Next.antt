@@ -34,7 +34,7 @@ is_passing code = (is_starting code || is_working code) || is_lacking code
 abbrev pub after_code : List ℕ → Next
 after_code code = if is_moving code then Reconnect else if is_passing code then Later else GiveUp
 
--- a connection that broke is made anew, and so is one after memory ran out; what no server answers is
+-- a connection that broke is made anew, and so is one after memory ran out; what has no reply is
 -- given up, and so is a server that does not speak the protocol
 abbrev pub after_connection : ConnectionError → Next
 after_connection (errors.Write e) = Reconnect
@@ -45,7 +45,7 @@ after_connection errors.TooLong = GiveUp
 after_connection errors.NoArguments = GiveUp
 after_connection (errors.Fault fault) = GiveUp
 
--- an answer that does not fit its command is given up
+-- a reply that does not fit its command is given up
 abbrev pub after_answer : AskError → Next
 after_answer (ask_errors.Connection e) = after_connection e
 after_answer (ask_errors.Server e) = after_code (code_of e.text.items)

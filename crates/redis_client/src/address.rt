@@ -80,7 +80,7 @@ pub enum AddressError {
     /// The database is no number from 0 to 65,535.
     #[error("a database is a number from 0 to 65535")]
     Database,
-    /// Something else than these settings stands behind the question mark.
+    /// Something else than these settings is after the question mark.
     #[error("a setting is protocol=2, protocol=3 or name=NAME, each once, with & between them")]
     Setting,
     /// Out of memory.
@@ -126,7 +126,7 @@ impl Address {
     }
 }
 
-/// What stands behind `redis://`.
+/// What is after `redis://`.
 fn behind_scheme(text: &[u8]) -> Result<&[u8], AddressError>
     ensures { IfOk result (λ rest. text.now ≡ codes "redis://" ++ rest.now) }
 {

@@ -38,7 +38,7 @@ impl Backoff {
     }
 
     /// The longest that the next pause may be, in milliseconds: `first` doubled for each pause that was
-    /// made, or `most` where that is more.
+    /// made, or `most` if that is more.
     pub fn limit(&self) -> u64
         ensures { result ≡ limit_of self.now }
     {

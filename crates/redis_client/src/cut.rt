@@ -2,14 +2,14 @@
 ghost use Rattle.std.specs.Prelude.{◌≡◌, ◌==◌, option_map, position};
 ghost use Rattle.redis_client.specs.Cut.{behind, front};
 
-/// Where the first of these bytes stands.
+/// The place of the first of these bytes.
 fn place_of(bytes: &[u8], byte: u8) -> Option<usize>
     ensures { result ≡ position (λ b. b == byte) bytes.now }
 {
     bytes.iter().position(|b| *b == byte)
 }
 
-/// What stands before the first of these bytes, or all if there is none, and what stands behind it.
+/// The part before the first of these bytes, or all if there is none, and what is after it.
 pub(crate) fn cut(bytes: &[u8], byte: u8) -> (&[u8], Option<&[u8]>)
     ensures front { result.0.now ≡ front byte bytes.now }
     ensures behind { option_map (λ rest. rest.now) result.1 ≡ behind byte bytes.now }

@@ -74,7 +74,7 @@ pub fn next_after_connection(error: &ConnectionError) -> Next
     }
 }
 
-/// What it asks for that a command has no answer.
+/// What it asks for that a command has no reply.
 pub fn next_after_answer(error: &AskError) -> Next
     ensures { result ≡ after_answer error.now }
 {

@@ -4,7 +4,7 @@ ghost use Rattle.redis_client.specs.Parts.{database_in, host_and_port, login_in,
 
 use crate::cut::cut;
 
-/// What stands behind `redis://`, in its parts.
+/// What is after `redis://`, in its parts.
 #[derive(Clone, Copy)]
 pub(crate) struct Parts<'a> {
     pub login: Option<&'a [u8]>,
@@ -13,7 +13,7 @@ pub(crate) struct Parts<'a> {
     pub settings: Option<&'a [u8]>,
 }
 
-/// The parts of what stands behind `redis://`.
+/// The parts of what is after `redis://`.
 pub(crate) fn parts_of(rest: &[u8]) -> Parts<'_>
     ensures login { option_map (λ text. text.now) result.login ≡ login_in rest.now }
     ensures place { result.place.now ≡ place_in rest.now }
@@ -38,7 +38,7 @@ pub(crate) fn parts_of(rest: &[u8]) -> Parts<'_>
     }
 }
 
-/// The host, and the port if one is written. An address of IPv6 stands in brackets.
+/// The host, and the port if one is written. An address of IPv6 is in brackets.
 pub(crate) fn host_and_port(place: &[u8]) -> Option<(&[u8], Option<&[u8]>)>
     ensures { option_map (λ x. (x.0.now, option_map (λ text. text.now) x.1)) result
         ≡ host_and_port place.now }

@@ -5,7 +5,7 @@ use crate::address::{AddressError, Protocol, decoded};
 use crate::cut::cut;
 use std::alloc::Global;
 
-/// The settings behind the question mark.
+/// The settings after the question mark.
 #[derive(Drop)]
 pub(crate) struct Settings {
     pub protocol: Protocol,
@@ -61,7 +61,7 @@ fn protocol_of(value: &[u8]) -> Result<Protocol, AddressError> {
     }
 }
 
-/// The name of the connection. A setting behind it is one too many.
+/// The name of the connection. A setting after it is one too many.
 fn name_of(alloc: Global, value: &[u8]) -> Result<Vec<u8>, AddressError> {
     if let (_, Some(_)) = cut(value, b'&') {
         return Err(AddressError::Setting);

@@ -54,7 +54,7 @@ fn reply_of(alloc: Global, bytes: &[u8]) -> Result<Reply, Fail> {
     }
 }
 
-// The words of a command, and none where it is no command.
+// The words of a command, and none if it is no command.
 fn words_of(alloc: Global, command: Reply) -> Result<Vec<Vec<u8>>, AllocError> {
     let mut words = Vec::new(alloc);
     let Reply::Value(Value::Array(values)) = command else {
@@ -69,7 +69,7 @@ fn words_of(alloc: Global, command: Reply) -> Result<Vec<Vec<u8>>, AllocError> {
     Ok(words)
 }
 
-// What the command of this line is answered.
+// The reply to the command of this line.
 fn told(
     alloc: Global,
     server: &mut Server,

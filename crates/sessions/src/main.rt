@@ -3,22 +3,22 @@
 //! connections break.
 //!
 //! A script ends with an empty line. Its first line says what is played; a line before it that
-//! begins with `#` is its title. Bytes stand in it as text, with `\r` and `\n` for the ends of lines, and
+//! begins with `#` is its title. Bytes are in it as text, with `\r` and `\n` for the ends of lines, and
 //! `\xff` for any byte:
 //!
 //! | First line | Each other line |
 //! |---|---|
 //! | `server 2` | a command; 3 for RESP3 |
 //! | `bytes` | all that a client of a server of its own sends |
-//! | `worker` and settings | what a worker is asked or told, see `worker` |
-//! | `letters` | `give` and an entry, or bytes that answer what is asked |
+//! | `worker` and settings | what a worker is asked or hears, see `worker` |
+//! | `letters` | `give` and an entry, or bytes that reply to what is asked |
 //! | `connection` and sizes | what a connection does, see `worker::connection`; once for reads of each size |
 //! | `ends 7` | bytes that come; a worker makes so many rounds, wherever they end |
 //! | `streams 3 8 a b` | a command; then a worker for each stream, so many turns each |
 //! | `cuts 2`, `crashes 2 60`, `gone 2 30`, `schedules 1000` | none, see `together` |
 //! | `settles 2 3` | none; two workers take so many entries |
 //!
-//! It ends with 0, or with 2 where memory ran out, or standard input or output failed.
+//! It ends with 0, or with 2 if memory ran out, or standard input or output failed.
 #![tactic(auto)]
 
 mod together;
@@ -59,7 +59,7 @@ fn play_all(rt: &HostRuntime) -> io::Result<()> {
     output.flush()
 }
 
-/// Plays a script behind its title.
+/// Plays a script after its title.
 fn play_titled(alloc: Global, script: &str, out: &mut String) -> Result<(), AllocError> {
     if let Some((title, rest)) = script.split_once('\n') {
         if title.starts_with('#') {
@@ -93,7 +93,7 @@ fn play(alloc: Global, script: &str, out: &mut String) -> Result<(), AllocError>
 
 // The texts of scripts and of transcripts.
 
-/// What is before and behind the first mark; all and nothing where there is none.
+/// What is before and after the first mark; all and nothing if there is none.
 fn parted(text: &str, mark: char) -> (&str, &str) {
     match text.split_once(mark) {
         Some(parts) => parts,
@@ -125,7 +125,7 @@ fn push_line(out: &mut String, line: &str) -> Result<(), AllocError> {
     out.push('\n')
 }
 
-/// Appends what was asked or done, and what came of it where something did.
+/// Appends what was asked or done, and what came of it if something did.
 fn push_exchange(out: &mut String, asked: &str, answer: &str) -> Result<(), AllocError> {
     out.push_str("> ")?;
     push_line(out, asked)?;
@@ -149,7 +149,7 @@ fn bytes_of(alloc: Global, text: &str) -> Result<Vec<u8>, AllocError> {
     Ok(bytes)
 }
 
-/// The first byte of a text of a script, and what is behind it.
+/// The first byte of a text of a script, and what is after it.
 fn first_byte(text: &[u8]) -> Option<(u8, &[u8])> {
     match text {
         [b'\\', b'x', high, low, rest @ ..] => Some((digit_of(*high) << 4 | digit_of(*low), rest)),
@@ -190,7 +190,7 @@ fn text_of(alloc: Global, bytes: &[u8]) -> Result<String, AllocError> {
     Ok(text)
 }
 
-/// The words of a command, and none where it is no command.
+/// The words of a command, and none if it is no command.
 fn words_of(alloc: Global, command: Reply) -> Result<Vec<Vec<u8>>, AllocError> {
     let mut words = Vec::new(alloc);
     let Reply::Value(Value::Array(values)) = command else {
@@ -216,7 +216,7 @@ fn push_command(alloc: Global, out: &mut String, command: Reply) -> Result<(), A
     Ok(())
 }
 
-/// Commands, with ` | ` behind each but the last; and what is no whole command, as it is.
+/// Commands, with ` | ` after each but the last; and what is no whole command, as it is.
 fn commands_text(alloc: Global, bytes: &[u8]) -> Result<String, AllocError> {
     let mut text = String::new(alloc);
     let mut rest = bytes;
@@ -249,7 +249,7 @@ fn protocol_of(word: &str) -> Protocol {
     }
 }
 
-/// The bytes that a command is answered.
+/// The bytes of the reply to a command.
 fn answered(
     alloc: Global,
     server: &mut Server,
@@ -263,7 +263,7 @@ fn answered(
     Ok(bytes)
 }
 
-/// The bytes that the command of a line is answered.
+/// The bytes of the reply to the command of a line.
 fn told(
     alloc: Global,
     server: &mut Server,
@@ -304,7 +304,7 @@ fn play_commands(
     tell_all(alloc, &mut server, &mut session, lines, out)
 }
 
-/// What a client that sends these bytes to a server of its own is answered.
+/// The replies to a client that sends these bytes to a server of its own.
 fn answers_to(alloc: Global, bytes: &[u8]) -> Result<String, AllocError> {
     let mut server = Server::new(alloc);
     let mut client = Client::new(alloc);

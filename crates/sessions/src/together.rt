@@ -1,13 +1,13 @@
 //! Workers over a server in memory. Each byte goes through the codec on both sides: commands are
-//! written by the worker and read by the server, answers are written, read and written again, as a
+//! written by the worker and read by the server, replies are written, read and written again, as a
 //! proxy passes them on, and read by the worker, by value and in place in turn.
 //!
-//! A head has many sessions, and each has a fault at another place; behind it all entries have to be
+//! A head has many sessions, and each has a fault at another place; after it all entries have to be
 //! handled, and nothing may be pending:
 //!
 //! | Head | The sessions |
 //! |---|---|
-//! | `cuts 2` | the connection breaks behind each byte of a session, in either direction |
+//! | `cuts 2` | the connection breaks after each byte of a session, in either direction |
 //! | `crashes 2 60` | the worker crashes after 0, 1, 2 .. steps |
 //! | `gone 2 30` | one of two workers is gone for good after 0, 1, 2 .. steps |
 //! | `schedules 1000` | two workers, 16 moves at random, faults among them, for each seed |
@@ -44,7 +44,7 @@ pub fn play(
     }
 }
 
-/// A session whose connection breaks behind so many bytes.
+/// A session whose connection breaks after so many bytes.
 fn cut(alloc: Global, protocol: Protocol, bytes: usize) -> Result<Played, AllocError> {
     let mut world = world_of(alloc, protocol, &["ann"], 2)?;
     for line in world.lines.iter_mut() {
@@ -153,7 +153,7 @@ fn settled_text(is_settled: bool) -> &'static str {
 /// What a session came to.
 #[derive(Clone, Copy)]
 struct Played {
-    /// Whether all entries were handled, nothing is pending, and no answer was refused.
+    /// Whether all entries were handled, nothing is pending, and no reply was refused.
     is_settled: bool,
     /// How often a connection broke or a worker crashed.
     breaks: usize,
@@ -259,7 +259,7 @@ fn world_of(
     Ok(world)
 }
 
-/// What the server answers to a command that no worker asks.
+/// The reply of the server to a command that no worker asks.
 fn command(alloc: Global, world: &mut World, line: &str) -> Result<Vec<u8>, AllocError> {
     let mut session = Session::new(alloc, Protocol::Resp2);
     told(alloc, &mut world.server, &mut session, line)
@@ -274,7 +274,7 @@ fn add(alloc: Global, world: &mut World) -> Result<(), AllocError> {
     Ok(())
 }
 
-/// An entry is deleted, where it was added.
+/// An entry is deleted, if it was added.
 fn delete(alloc: Global, world: &mut World, number: usize) -> Result<(), AllocError> {
     if number < world.added {
         let line = format!(in alloc; "XDEL k {number}-1")?;
@@ -412,7 +412,7 @@ struct Line {
     session: Session,
     /// Bytes of commands that the server has.
     commands: ReplyStream,
-    /// Bytes of answers that the worker has.
+    /// Bytes of replies that the worker has.
     answers: ReplyStream,
     /// After so many bytes, in either direction, the connection breaks.
     bytes: usize,
@@ -423,7 +423,7 @@ struct Line {
     is_down: bool,
     /// Whether it comes back.
     is_gone: bool,
-    /// Whether it asked too much, or an answer of the server was refused.
+    /// Whether it asked too much, or a reply of the server was refused.
     is_refused: bool,
 }
 
@@ -504,7 +504,7 @@ fn start_again(alloc: Global, line: &mut Line) -> Result<(), AllocError> {
     Ok(())
 }
 
-/// The worker asks once, and takes the answer.
+/// The worker asks once, and takes the reply.
 fn turn(alloc: Global, server: &mut Server, now: u64, line: &mut Line) {
     if line.is_down && (line.is_gone || start_again(alloc, line).is_err()) {
         return;
@@ -515,7 +515,7 @@ fn turn(alloc: Global, server: &mut Server, now: u64, line: &mut Line) {
     }
 }
 
-/// One question and its answer; false where the connection broke or the worker crashed on the way,
+/// One question and its reply; false if the connection broke or the worker crashed on the way,
 /// or memory was refused to the one or the other.
 fn exchange(alloc: Global, server: &mut Server, now: u64, line: &mut Line) -> bool {
     let mut question = Vec::new(alloc);
@@ -536,7 +536,7 @@ fn exchange(alloc: Global, server: &mut Server, now: u64, line: &mut Line) -> bo
     hears(alloc, line) && goes_on(line)
 }
 
-/// One step more; false where the worker crashes.
+/// One step more; false if the worker crashes.
 fn goes_on(line: &mut Line) -> bool {
     if line.steps == 0 {
         return false;
@@ -545,14 +545,14 @@ fn goes_on(line: &mut Line) -> bool {
     true
 }
 
-/// As many of the bytes come as the connection lets through; false where memory is refused.
+/// As many of the bytes come as the connection lets through; false if memory is refused.
 fn passes(stream: &mut ReplyStream, left: &mut usize, bytes: &[u8]) -> bool {
     let len = bytes.len().min(*left);
     *left -= len;
     stream.feed(&bytes[..len]).is_ok()
 }
 
-/// What the server answers, where the command came whole.
+/// The reply of the server, if the command came whole.
 fn answer_of(alloc: Global, server: &mut Server, now: u64, line: &mut Line) -> Option<Vec<u8>> {
     let Ok(Some(command)) = line.commands.next(alloc) else {
         return None;
@@ -562,7 +562,7 @@ fn answer_of(alloc: Global, server: &mut Server, now: u64, line: &mut Line) -> O
     passed_on(alloc, line.session.protocol, &bytes)
 }
 
-/// The bytes of an answer as a proxy writes them that has read it.
+/// The bytes of a reply as a proxy writes them that has read it.
 fn passed_on(alloc: Global, protocol: Protocol, bytes: &[u8]) -> Option<Vec<u8>> {
     let protocol = match protocol {
         Protocol::Resp2 => redis_wire::Protocol::Resp2,
@@ -578,7 +578,7 @@ fn passed_on(alloc: Global, protocol: Protocol, bytes: &[u8]) -> Option<Vec<u8>>
     }
 }
 
-/// The worker takes an answer, where one came whole: by value or in place, each in turn, more or less.
+/// The worker takes a reply, if one came whole: by value or in place, each in turn, more or less.
 fn hears(alloc: Global, line: &mut Line) -> bool {
     if line.steps % 2 == 0 {
         hears_in_place(alloc, line)
@@ -587,7 +587,7 @@ fn hears(alloc: Global, line: &mut Line) -> bool {
     }
 }
 
-/// The worker takes an answer by value.
+/// The worker takes a reply by value.
 fn hears_by_value(alloc: Global, line: &mut Line) -> bool {
     let Ok(Some(reply)) = line.answers.next(alloc) else {
         return false;
@@ -601,7 +601,7 @@ fn hears_by_value(alloc: Global, line: &mut Line) -> bool {
     }
 }
 
-/// The worker takes an answer in place.
+/// The worker takes a reply in place.
 fn hears_in_place(alloc: Global, line: &mut Line) -> bool {
     let Ok(Some(len)) = line.answers.next_in_place(alloc) else {
         return false;

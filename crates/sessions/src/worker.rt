@@ -5,15 +5,15 @@
 //!
 //! | Line | What is done |
 //! |---|---|
-//! | bytes of a reply | it asks, and is told these bytes |
+//! | bytes of a reply | it asks, and hears these bytes |
 //! | `ask` | it asks |
-//! | `tell` and bytes | it is told these bytes |
-//! | `fronts` and bytes | it is told each front of them |
+//! | `tell` and bytes | it hears these bytes |
+//! | `fronts` and bytes | it hears each front of them |
 //! | `says done leave stop` | what the handler says of the next entries; `done` after these |
 //! | `refuses yes` | commits fail, until `refuses no` |
 //! | `resumes 1-1 2-1` | in its place comes a worker that acknowledges these first, with no settings |
 //!
-//! All is done twice: by a worker that is told replies by value, and by one that is told them in
+//! All is done twice: by a worker that hears replies by value, and by one that hears them in
 //! place. Where they differ, both are shown.
 ghost use Rattle.std.specs.Prelude.{◌≡◌, IfOk, IsTrue};
 ghost use Rattle.sessions.specs.Scripts.{is_worker_script};
@@ -60,14 +60,14 @@ const LIMITS: Limits = Limits {
     bytes: 1000,
 };
 
-/// How a worker takes answers.
+/// How a worker takes replies.
 #[derive(Clone, Copy, PartialEq, Eq)]
 enum Way {
     ByValue,
     InPlace,
 }
 
-/// A worker, its handler, and how it takes answers.
+/// A worker, its handler, and how it takes replies.
 #[derive(Drop)]
 struct Side {
     worker: Worker,
@@ -168,7 +168,7 @@ fn progress_text(
     }
 }
 
-/// Tells a worker bytes: what comes of it, and where the worker is then.
+/// Has a worker hear bytes: what comes of it, and the phase of the worker then.
 fn told(
     alloc: Global,
     worker: &mut Worker,
@@ -375,7 +375,7 @@ impl Doer {
         Ok(())
     }
 
-    /// Err where memory was refused to it.
+    /// Err if memory was refused to it.
     fn check(&self) -> Result<(), AllocError> {
         if self.is_short {
             Err(AllocError)
@@ -398,7 +398,7 @@ impl Doer {
         Ok(text)
     }
 
-    /// Notes an entry, and keeps it where it is done.
+    /// Notes an entry, and keeps it if it is done.
     fn note(&mut self, alloc: Global, entry: &EntryRef<'_>) -> Result<Verdict, AllocError> {
         push_entry(&mut self.seen, entry)?;
         let verdict = self.says.pop().unwrap_or(Verdict::Done);

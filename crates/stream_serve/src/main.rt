@@ -1,7 +1,7 @@
-//! A server of stream commands in memory for one connection, which stands at its standard input and
-//! output: commands come in as bytes of RESP, and answers go out.
+//! A server of stream commands in memory for one connection, at its standard input and
+//! output: commands come in as bytes of RESP, and replies go out.
 //!
-//! An argument that is a number of milliseconds is its clock, which then stands still.
+//! An argument that is a number of milliseconds is its clock, which then does not move.
 #![tactic(auto)]
 
 use anyhow::{Result, bail};
@@ -12,7 +12,8 @@ use std::time::{SystemTime, UNIX_EPOCH};
 use std::{env, io};
 use stream_server::{Client, Server};
 
-/// Answers commands until the input or the connection ends; what came in one piece is answered in one.
+/// Replies to commands until the input or the connection ends. The replies to what came in one piece
+/// go out in one piece.
 fn serve<R: Read, W: Write, C: Clock>(
     alloc: Global,
     clock: &C,

@@ -52,7 +52,7 @@ asked_once args o add k i id fs fields one e a =
     let same : i ∷ fs ≡ id ∷ fields = sym e ∙ rest.1 in
     (rest.0, cc, cc)
 
--- where nothing follows the split, nothing is asked for
+-- if nothing follows the split, nothing is asked for
 pub asked_nothing : (args : List (List ℕ)) (o add : Add) (k : ℕ) (id : List ℕ) (fields : List (List ℕ))
     → IsOneSplit AddFits add_sentence add_words Equal args o k → drop k args ≡ []
     → Asks args add id fields → ⊥
@@ -60,7 +60,7 @@ asked_nothing args o add k id fields one e a =
     let same : [] ≡ id ∷ fields = sym e ∙ (asked_rest args o add k id fields one a).1 in
     absurd cc
 
--- nor where there is no split
+-- nor if there is no split
 pub unasked : (args : List (List ℕ)) (add : Add) (id : List ℕ) (fields : List (List ℕ))
     → HasNoSplit AddFits add_sentence add_words args → Asks args add id fields → ⊥
 unasked args add id fields none a = none add (length (add_sentence add)) (asked_split args add id fields a)

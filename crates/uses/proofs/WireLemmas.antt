@@ -1,4 +1,4 @@
--- What stands at the head of bytes, and what refused bytes say of the values in them.
+-- What is at the head of bytes, and what refused bytes say of the values in them.
 use Rattle.std.proofs.Common.{◌≡◌, ◌≢◌, ◌⊎◌, inl, inr, ℕ, List, Option, Some, None, Result, Ok, Err, take, drop, refl}
 use Rattle.std.proofs.Common.{sym, ap, ◌∙◌, subst}
 use Rattle.std.proofs.lemmas.List.{take-append-drop}
@@ -44,7 +44,7 @@ begun limits bytes len a e is = record {
   reply = subst (λ l. IsReply l (take len bytes) a) e is;
 }
 
--- what reading a reply as streams answers
+-- what reading a reply as streams returns
 abbrev pub IsStreams : Answer → Result StreamReadReply ReplyError → Type 0
 IsStreams a r = IsRecord read_reading RefusesRead (λ s. streams_of s.keys) a r
 
@@ -53,7 +53,7 @@ the_first : {A B : Type 0} → A ⊎ B → (B → ⊥) → A
 the_first (inl a) other = a
 the_first (inr b) other = absurd (other b)
 
--- an answer that is no value has no record
+-- a reply that is no value has no record
 no_record : (o : Option (List ℕ)) (r : StreamReadReply) → IsErrorOf o (Ok r) → ⊥
 no_record None r h = h
 no_record (Some text) r h = h
@@ -63,7 +63,7 @@ no_parsing : (o : Option (List ℕ)) (e : ParsingError) → IsErrorOf {R = Strea
 no_parsing None e h = h
 no_parsing (Some text) e h = h
 
--- what is answered is its error
+-- the outcome is its error
 error_is : (o : Option (List ℕ)) (e : ServerError) → IsErrorOf {R = StreamReadReply} o (Err (replies.Server e))
     → o ≡ Some e.text.items
 error_is None e h = absurd h
@@ -74,7 +74,7 @@ nothing_is : (o : Option (List ℕ)) → IsErrorOf {R = StreamReadReply} o (Err 
 nothing_is None h = refl
 nothing_is (Some text) h = absurd h
 
--- the same of a whole answer
+-- the same of a whole reply
 first_is : (a : Answer) (e : ServerError) → IsStreams a (Err (replies.Server e)) → first_error a ≡ Some e.text.items
 first_is (value t) e h = absurd h
 first_is (refused text) e h = error_is (Some text) e h
@@ -96,7 +96,7 @@ unknown_format (group k xs) e read m = absurd (no_parsing (first_error (group k 
 unknown_format (pushed k xs) e read m = absurd read
 
 module _ (limits : Limits) (bytes : List ℕ) (len : ℕ) (same : limits ≡ default_limits) where
-  -- a value, where a record was read
+  -- a value, if a record was read
   pub value_begun : (a : Answer) (r : StreamReadReply) → IsReply limits (take len bytes) a → IsStreams a (Ok r)
       → (t : Tree) × BeginsWith bytes (value t)
   value_begun (value t) r is read = (t, begun limits bytes len (value t) same is)
@@ -112,12 +112,12 @@ module _ (limits : Limits) (bytes : List ℕ) (len : ℕ) (same : limits ≡ def
   refused_begun (group k xs) e is read = absurd (no_parsing (first_error (group k xs)) e read)
   refused_begun (pushed k xs) e is read = absurd read
 
-  -- an error, where the server answered it
+  -- an error, if the server returned it
   pub error_begun : (a : Answer) (e : ServerError) → IsReply limits (take len bytes) a
       → IsStreams a (Err (replies.Server e)) → (b : Answer) × BeginsWith bytes b × (first_error b ≡ Some e.text.items)
   error_begun a e is read = (a, begun limits bytes len a same is, first_is a e read)
 
-  -- none, where the reply has none
+  -- none, if the reply has none
   pub none_begun : (a : Answer) → IsReply limits (take len bytes) a → IsStreams a (Err replies.NotAnAnswer)
       → (b : Answer) × BeginsWith bytes b × (first_error b ≡ None)
   none_begun a is read = (a, begun limits bytes len a same is, none_is a read)

@@ -5,7 +5,7 @@ use Rattle.redis.specs.Words.{FullConsumer, FullGroup, FullPending}
 use Rattle.uses.specs.declared.group_state.GroupState.{GroupState}
 
 -- how many entries the group has still to read and how many are pending, for how long the oldest of these has been
--- idle, which were delivered too often, and which consumers left some behind
+-- idle, which were delivered too often, and which consumers left some
 pub record State : Type 0 where
   pub lag : Option ℕ
   pub pending : ℕ
@@ -17,7 +17,7 @@ pub record State : Type 0 where
 abbrev pub longest_in : ℕ → List FullPending → ℕ
 longest_in now pending = fold (λ idle p. max idle (now - p.delivery_time)) 0 pending
 
--- the same, where an entry is pending
+-- the same, if an entry is pending
 abbrev pub oldest_in : ℕ → List FullPending → Option ℕ
 oldest_in now [] = None
 oldest_in now (p ∷ ps) = Some (longest_in now (p ∷ ps))

@@ -26,7 +26,7 @@ order_of fields = option_and_then (λ id. option_and_then (λ customer. option_m
 abbrev pub order_reading : Tree → Option Meant
 order_reading t = option_and_then order_of (fields_reading (λ u. Some u) t)
 
--- what a value is refused with: `NotPairs` where its fields say no order, what its fields are refused with, or out of
+-- what a value is refused with: `NotPairs` if its fields say no order, what its fields are refused with, or out of
 -- memory
 abbrev pub RefusesOrder : Tree → ParsingError → Type 0
 RefusesOrder t error = (error ≡ Memory) ⊎ ((error ≡ NotPairs) ⊎ RefusesFields t error)

@@ -1,4 +1,4 @@
--- What the arguments behind the key of XADD ask for.
+-- What the arguments after the key of XADD ask for.
 use Rattle.std.specs.Prelude.{◌≡◌, ℕ, List, ◌∷◌, ◌++◌, false}
 use Rattle.redis.specs.Words.{AddFits, AddSettings as Add, add_sentence, add_words, among}
 

@@ -1,4 +1,4 @@
--- What the bytes of a reply answer.
+-- What the bytes of a reply say.
 use Rattle.std.specs.Prelude.{◌≡◌, ℕ, List, ◌++◌, Some, None, Result, Ok, Err}
 use Rattle.redis.specs.Words.{Answer, IsFirstFault, IsReply, NoReply, Tree, default_limits}
 use Rattle.redis.specs.Words.{first_error, read_reading, streams_of, value}
@@ -8,7 +8,7 @@ use Rattle.redis_wire.specs.declared.fault.WireError.TheVariants as errors
 use Rattle.uses.specs.declared.wire.AnswerError.{AnswerError}
 use Rattle.uses.specs.declared.wire.AnswerError.TheVariants.{Fault, Incomplete, Memory, NotAnAnswer, Parsing, Server}
 
--- a reply stands at the head of the bytes, and says this
+-- a reply is at the head of the bytes, and says this
 pub record BeginsWith (bytes : List ℕ) (a : Answer) : Type 0 where
   pub text : List ℕ
   pub rest : List ℕ
@@ -26,8 +26,8 @@ Answers (value t) r = ⊥
 Answers a (Err NotAnAnswer) = first_error a ≡ None
 Answers a r = ⊥
 
--- a value stands at the head, or an answer with an error in it, or what is no answer; or no reply
--- does, or none ever will; or memory ran out
+-- a value is at the head of the bytes, or a reply with an error in it, or what is no reply to a command; or no reply
+-- is there, or none ever will be; or memory ran out
 abbrev pub Tells : List ℕ → Result StreamReadReply AnswerError → Type 0
 Tells bytes (Ok r) = (t : Tree) × BeginsWith bytes (value t)
 Tells bytes (Err (Parsing e)) = (t : Tree) × BeginsWith bytes (value t)
@@ -38,7 +38,7 @@ Tells bytes (Err Incomplete) = NoReply default_limits bytes
 Tells bytes (Err (Fault f)) = (more : List ℕ) → NoReply default_limits (bytes ++ more)
 Tells bytes (Err Memory) = Unit {0}
 
--- a fault is the one that reading from the left meets first, and no streams are told by one name
+-- a fault is the one that reading from the left meets first; a value that is no streams is `UnknownReadFormat`
 abbrev pub NamesCause : List ℕ → AnswerError → Type 0
 NamesCause bytes (Fault f) = IsFirstFault default_limits bytes (errors.Fault f)
 NamesCause bytes (Parsing e) = e ≡ UnknownReadFormat

@@ -16,7 +16,7 @@ pub struct Batch {
     pub strange: Vec<String>,
 }
 
-/// Each entry is an order, or its id is among the strange ones; both in order. It fails only where
+/// Each entry is an order, or its id is among the strange ones; both in order. It fails only if
 /// memory runs out; no entry, no memory.
 pub fn sort_out(alloc: Global, entries: &[StreamId]) -> Result<Batch, AllocError>
     ensures orders { IfOk result (λ b. map order_meaning b.orders.items

@@ -1,5 +1,5 @@
 //! A caller from outside, as in a repository of its own: it names the crate `redis` alone, in its
-//! code and in its clauses. An order is sent as bytes, and the answer to it is read from bytes.
+//! code and in its clauses. An order is sent as bytes, and the reply to it is read from bytes.
 ghost use Rattle.std.specs.Prelude.{◌≡◌, ◌≢◌, [], ◌∷◌, codes, string_bytes, Some, None, IfOk, IfErr};
 ghost use Rattle.redis.specs.Words.{command_bytes, text_reading, tree};
 

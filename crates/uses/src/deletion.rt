@@ -9,7 +9,7 @@ use redis::streams::{XAckDelStatusCode, XDelExStatusCode};
 use redis::{ParsingError, Value, from_redis_value};
 use std::alloc::Global;
 
-/// What one code of an answer of XDELEX says. It takes no memory.
+/// What one code of a reply to XDELEX says. It takes no memory.
 pub fn deletion_of(alloc: Global, code: Value) -> Result<XDelExStatusCode, ParsingError>
     ensures ok { IfOk result (λ status. xdelex_reading (tree code) ≡ Some status) }
     ensures err { IfErr result (λ e. e ≡ xdelex_refusal (tree code)) }
@@ -17,7 +17,7 @@ pub fn deletion_of(alloc: Global, code: Value) -> Result<XDelExStatusCode, Parsi
     from_redis_value(alloc, code)
 }
 
-/// What one code of an answer of XACKDEL says. It takes no memory.
+/// What one code of a reply to XACKDEL says. It takes no memory.
 pub fn acknowledgement_of(alloc: Global, code: Value) -> Result<XAckDelStatusCode, ParsingError>
     ensures ok { IfOk result (λ status. xackdel_reading (tree code) ≡ Some status) }
     ensures err { IfErr result (λ e. e ≡ xackdel_refusal (tree code)) }

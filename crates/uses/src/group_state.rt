@@ -1,4 +1,4 @@
-//! The state of a group as a tool shows it, from one answer of XINFO STREAM FULL.
+//! The state of a group as a tool shows it, from one reply to XINFO STREAM FULL.
 ghost use Rattle.std.specs.Prelude.{◌≡◌, map, string_bytes, IfOk};
 ghost use Rattle.redis.specs.Words.{full_consumer_meaning, full_group_meaning};
 ghost use Rattle.redis.specs.Words.{full_pending_meaning};
@@ -7,15 +7,15 @@ ghost use Rattle.uses.specs.GroupState.{dead_in, longest_in, oldest_in, state_me
 use redis::streams::{StreamInfoFullConsumer, StreamInfoFullGroup, StreamInfoFullPending};
 use std::alloc::{AllocError, Global};
 
-/// What a tool shows of a group. Of pending entries it tells of those that the answer has: ask with
+/// What a tool shows of a group. Of pending entries it has those that the reply has: ask with
 /// a `COUNT` of 0 for all.
 #[derive(Debug, Drop)]
 pub struct GroupState {
-    /// How many entries the group has still to read, where the server can tell.
+    /// How many entries the group has still to read, if the server can tell.
     pub lag: Option<usize>,
     /// How many entries are pending.
     pub pending: usize,
-    /// For how many milliseconds the entry that is idle longest has been idle; None where none is
+    /// For how many milliseconds the entry that is idle longest has been idle; None if none is
     /// pending.
     pub oldest_idle: Option<usize>,
     /// The ids of the pending entries that were delivered too often, in order.
@@ -57,7 +57,7 @@ fn oldest_idle(pending: &[StreamInfoFullPending], now: usize) -> Option<usize>
     Some(longest_idle(pending, now))
 }
 
-/// The longest time that one of the entries has been idle, and 0 where there is none.
+/// The longest time that one of the entries has been idle, and 0 if there is none.
 fn longest_idle(pending: &[StreamInfoFullPending], now: usize) -> usize
     ensures { result ≡ longest_in now (map full_pending_meaning pending.now) }
 {

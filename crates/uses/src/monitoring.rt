@@ -1,4 +1,4 @@
-//! What is told of a group by XPENDING and XINFO GROUPS.
+//! What XPENDING and XINFO GROUPS say of a group.
 ghost use Rattle.std.specs.Prelude.{◌≡◌, map, filter, nat_le, string_bytes, IfOk};
 ghost use Rattle.redis.specs.Words.{groups_meaning, pending_ids_meaning};
 ghost use Rattle.uses.specs.Monitoring.{lag_in};
@@ -24,8 +24,8 @@ pub fn delivered_too_often(
     Ok(ids)
 }
 
-/// How many entries the first group of this name has still to read, of what XINFO GROUPS answered;
-/// None where there is no such group, or the server cannot tell. It takes no memory.
+/// How many entries the first group of this name has still to read, of the reply to XINFO GROUPS;
+/// None if there is no such group, or the server cannot tell. It takes no memory.
 pub fn lag_of(reply: &StreamInfoGroupsReply, name: &str) -> Option<usize>
     ensures { result ≡ lag_in name.now (groups_meaning reply.now) }
 {

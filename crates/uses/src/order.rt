@@ -69,7 +69,7 @@ impl ToRedisArgs for Order {
 }
 
 impl Order {
-    /// The order that fields say, if they say one. It fails only where memory runs out, and asks
+    /// The order that fields say, if they say one. It fails only if memory runs out, and asks
     /// for none but to copy the customer of an order.
     pub fn of_fields(
         alloc: Global,

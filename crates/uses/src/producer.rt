@@ -1,6 +1,6 @@
-//! A producer whose entries are told apart: one that is sent twice is added once.
+//! A producer whose entries are distinct: one that is sent twice is added once.
 //!
-//! The producer gives each entry a number, and keeps the number until the entry is answered. What
+//! The producer gives each entry a number, and keeps the number until the entry has a reply. What
 //! it sends after an error is what it sent before, so the server can tell that it is the same.
 ghost use Rattle.std.specs.Prelude.{◌≡◌, ◌≢◌, [], ◌∷◌, ◌++◌, Some, None, codes, decimal, map};
 ghost use Rattle.std.specs.Prelude.{flat_map, string_bytes, suc, IfOk, IfErr, OnOk, OnErr};
@@ -18,14 +18,14 @@ use thiserror::Error;
 pub struct Producer {
     /// The id that no other producer of the stream has.
     pub id: String,
-    /// The number of the entry that is to be sent, or was sent and is not answered.
+    /// The number of the entry that is to be sent, or was sent and has no reply.
     pub number: u64,
 }
 
 /// Why a producer stays at its entry.
 #[derive(Debug, Drop, Error)]
 pub enum ProducerError {
-    /// The answer is no id.
+    /// The reply is no id.
     #[error("the answer of XADD is {0}")]
     Answer(ParsingError),
     /// There is no further number.
@@ -43,7 +43,7 @@ impl From<ParsingError> for ProducerError {
 
 impl Producer {
     /// `XADD key IDMP producer number MAXLEN ~ n * field value ..`, the same each time until the
-    /// entry is answered. A value need be no text; it is borrowed, and one argument.
+    /// entry has a reply. A value need be no text; it is borrowed, and one argument.
     pub fn arguments(
         &self,
         alloc: Global,
@@ -63,7 +63,7 @@ impl Producer {
         (("XADD", key), &options, "*", fields).to_redis_args(alloc)
     }
 
-    /// The id that the server answered, and on to the next entry. After any Err, as after an error
+    /// The id that the server returned, and on to the next entry. After any Err, as after an error
     /// of the connection, the same entry may be sent again.
     pub fn answered(&mut self, alloc: Global, answer: Value) -> Result<String, ProducerError>
         ensures id { IfOk result (λ id. text_reading (tree answer) ≡ Some (string_bytes id)) }

@@ -21,7 +21,7 @@ pub fn read_arguments(alloc: Global) -> Result<Vec<Vec<u8>>, AllocError>
     xread_options(AtLeastOne::one(&("orders", ">")), &options).to_redis_args(alloc)
 }
 
-/// The customer that the first entry of an answer of XRANGE names.
+/// The customer that the first entry of a reply to XRANGE names.
 pub fn first_customer(alloc: Global, answer: Value) -> Result<Option<String>, ParsingError>
     ensures customer { IfOk result (λ customer. option_map (first_text (codes "customer"))
         (rows_reading (tree answer)) ≡ Some (option_map string_bytes customer)) }

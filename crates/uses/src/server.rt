@@ -7,7 +7,7 @@ use redis::sentences::{SentenceError, read_add};
 use redis::streams::StreamAddOptions;
 use std::alloc::Global;
 
-/// What XADD asks for, behind its key.
+/// What XADD asks for, after its key.
 #[derive(Debug, Drop)]
 pub struct AddRequest<'a> {
     /// The options.
@@ -18,8 +18,8 @@ pub struct AddRequest<'a> {
     pub fields: &'a [Vec<u8>],
 }
 
-/// Reads what stands behind the key of XADD: the options that a client wrote, an id and fields.
-/// There is never a second reading. `NotASentence` where there is none.
+/// Reads what is after the key of XADD: the options that a client wrote, an id and fields.
+/// There is never a second reading. `NotASentence` if there is none.
 pub fn add_request<'a>(alloc: Global, args: &'a [Vec<u8>]) -> Result<AddRequest<'a>, SentenceError>
     ensures ok { IfOk result (λ r. Asks (arguments args.now)
         r.options r.id.now (arguments r.fields.now)) }

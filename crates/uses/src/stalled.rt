@@ -32,11 +32,11 @@ pub fn claim_arguments(
 pub struct Stalled {
     /// The ids of the entries that are this consumer's now, in order.
     pub ids: Vec<String>,
-    /// The `start` of the next claim; None where all pending entries were looked at.
+    /// The `start` of the next claim; None if all pending entries were looked at.
     pub next: Option<String>,
 }
 
-/// What the answer of a claim says; refused where it is none.
+/// What the reply to a claim says; refused if it is none.
 pub fn stalled_in(alloc: Global, answer: Value) -> Result<Stalled, ParsingError>
     ensures ok { IfOk result (λ s. option_map claimed_of (autoclaim_reading (tree answer))
         ≡ Some (map string_bytes s.ids.items, option_map string_bytes s.next)) }

@@ -19,13 +19,13 @@ pub enum AnswerError {
     /// The bytes are no reply.
     #[error("{0}")]
     Fault(Fault),
-    /// The server answered an error.
+    /// The server returned an error.
     #[error("an error of the server")]
     Server(ServerError),
-    /// The reply is a message that was pushed, or its only errors stand inside attributes.
+    /// The reply is a message that was pushed, or its only errors are inside attributes.
     #[error("no answer of a command")]
     NotAnAnswer,
-    /// The reply is not what XREADGROUP answers.
+    /// The reply is none of XREADGROUP.
     #[error("{0}")]
     Parsing(ParsingError),
     /// Out of memory, which says nothing of the bytes.
@@ -53,8 +53,8 @@ pub fn streams_answered(alloc: Global, bytes: &[u8]) -> Result<StreamReadReply, 
     }
 }
 
-/// The streams of two answers that say the same, each in its protocol, are the same streams; and
-/// where the one is no answer of XREADGROUP, neither is the other.
+/// The streams of two replies that say the same, each in its protocol, are the same streams; and
+/// if the one is no reply of XREADGROUP, neither is the other.
 pub fn streams_of_both(
     alloc: Global,
     resp2: &[u8],

@@ -61,8 +61,8 @@ pub fn ids_to_acknowledge(alloc: Global, reply: &StreamReadReply) -> Result<Vec<
     Ok(ids)
 }
 
-/// The ids that an answer of XREADGROUP asks to acknowledge: exactly those of the entries of the
-/// record that the answer is, in order; `UnknownReadFormat` where it is none.
+/// The ids that a reply to XREADGROUP asks to acknowledge: exactly those of the entries of the
+/// record that the reply is, in order; `UnknownReadFormat` if it is none.
 pub fn ids_answered(alloc: Global, answer: Value) -> Result<Vec<String>, ParsingError>
     ensures ok { IfOk result (λ ids. option_map ids_in (read_reading (tree answer))
         ≡ Some (map string_bytes ids.items)) }

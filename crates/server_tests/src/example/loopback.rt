@@ -135,7 +135,7 @@ fn bytes_that_are_no_command_end_a_connection(rt: HostRuntime) -> Result<(), Fai
     Ok(())
 }
 
-// The kind of the error, where there is one.
+// The kind of the error, if there is one.
 fn failed(outcome: io::Result<usize>) -> Option<ErrorKind> {
     match outcome {
         Ok(_len) => None,

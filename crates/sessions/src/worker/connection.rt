@@ -9,8 +9,8 @@
 //! | `reads 3 interrupted 0` | what each read does: so many bytes at most, or an error; then no byte comes |
 //! | `writes 5 broken` | what each write does |
 //! | `send GET k` | a command is sent |
-//! | `text GET k`, `number GET k` | a command is sent, and its answer read as a text, as a number |
-//! | `receive`, `place` | an answer is received, is received in place |
+//! | `text GET k`, `number GET k` | a command is sent, and its reply read as a text, as a number |
+//! | `receive`, `place` | a reply is received, is received in place |
 //! | `any`, `passed` | a reply of any kind is received; how many messages were passed over |
 //! | `show 5`, `give 5` | so many bytes in place are shown, are given out |
 //! | `run 7` | the worker makes so many rounds |
@@ -65,7 +65,7 @@ enum Turn {
 struct Turns {
     /// What each call does, the last one first.
     turns: Vec<Turn>,
-    /// How many bytes a call moves where nothing is said of calls.
+    /// How many bytes a call moves if nothing is said of calls.
     most: usize,
 }
 
@@ -79,7 +79,7 @@ impl Turns {
         }
     }
 
-    /// Says what the next calls do; behind them nothing is moved.
+    /// Says what the next calls do; after them nothing is moved.
     fn say(&mut self, words: &str) -> Result<(), AllocError> {
         self.most = 0;
         for word in words.split(' ') {
@@ -217,7 +217,7 @@ fn sent<R: Read + Drop, W: Write + Drop>(
     }
 }
 
-/// Sends a command, and reads its answer as a `T`.
+/// Sends a command, and reads its reply as a `T`.
 fn answered<T: FromRedisValue + Display, R: Read + Drop, W: Write + Drop>(
     alloc: Global,
     link: &mut Connection<R, W>,
@@ -249,7 +249,7 @@ fn received_text(
     }
 }
 
-/// Receives an answer in place.
+/// Receives a reply in place.
 fn placed<R: Read + Drop, W: Write + Drop>(
     alloc: Global,
     link: &mut Connection<R, W>,
@@ -348,7 +348,7 @@ fn subject_of(verb: &str) -> Subject {
     }
 }
 
-/// Sends a command, and has it answered.
+/// Sends a command, and has the server reply.
 fn ask<R: Read + Drop, W: Write + Drop>(
     alloc: Global,
     link: &mut Connection<R, W>,
@@ -494,7 +494,7 @@ fn front_text(
     Ok(text)
 }
 
-/// Plays a session over a connection that ends behind each byte of what comes.
+/// Plays a session over a connection that ends after each byte of what comes.
 fn play_ends(alloc: Global, words: &str, lines: &str, out: &mut String) -> Result<(), AllocError> {
     let mut input = Vec::new(alloc);
     for line in lines.lines() {

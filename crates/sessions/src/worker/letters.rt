@@ -69,7 +69,7 @@ fn told(alloc: Global, letters: &mut DeadLetters, line: &str) -> Result<String, 
     }
 }
 
-/// Plays entries that are given up, and answers.
+/// Plays entries that are given up, and replies.
 fn play_letters(alloc: Global, lines: &str, out: &mut String) -> Result<(), AllocError> {
     let mut letters = DeadLetters::new(
         alloc,

@@ -51,7 +51,7 @@ fn workers_of(alloc: Global, keys: &str) -> Result<Vec<Worker>, AllocError> {
     Ok(workers)
 }
 
-/// The bytes that the command which bytes hold is answered, and none where they hold none.
+/// The bytes of the reply to the command that bytes hold, and none if they hold none.
 fn answer_to(alloc: Global, peer: &mut Peer, question: &[u8]) -> Result<Vec<u8>, AllocError> {
     match decode(alloc, question, Limits::default()) {
         Ok(Decoded::Complete { reply, len: _ }) => {
@@ -63,7 +63,7 @@ fn answer_to(alloc: Global, peer: &mut Peer, question: &[u8]) -> Result<Vec<u8>,
     }
 }
 
-/// A worker asks once, and takes the answer.
+/// A worker asks once, and takes the reply.
 fn turn(
     alloc: Global,
     peer: &mut Peer,

@@ -3,7 +3,7 @@ use Rattle.redis.specs.Words.{entry_meaning}
 use Rattle.uses.specs.Worker.{ids_of}
 use Rattle.uses.proofs.worker.push_ids.Given as goal
 
--- the ids so far stand behind what was there
+-- the ids so far are after what was there
 abbrev pub invariant-loop-entry : goal.invariant-loop-entry
 invariant-loop-entry l = map string_bytes l.ids.items ≡ map string_bytes l.initial.ids.items
     ++ ids_of (map entry_meaning (take l.entry-index l.entries))
