@@ -1160,7 +1160,7 @@ fn make_run(alloc: Global, plan: Plan, start: Start) -> Result<Run, AllocError> 
     run_in(alloc, &mut world, start)
 }
 
-/// The same in this world.
+/// A run in this world that begins so.
 fn run_in(alloc: Global, world: &mut World, start: Start) -> Result<Run, AllocError> {
     match start {
         Start::Faults(End::Producer, faults) => world.feed.link.faults = faults,
@@ -1227,7 +1227,8 @@ fn cuts(alloc: Global, plan: Plan, end: End) -> Result<Tally, AllocError> {
     Ok(tally)
 }
 
-/// The same, and what was not sent comes 0, 1, .. 5 moments after the next connection begins.
+/// The connection of the end breaks after each byte, and what was not sent comes 0, 1, .. 5 moments after
+/// the next connection begins.
 fn lates(alloc: Global, plan: Plan, end: End) -> Result<Tally, AllocError> {
     let mut tally = Tally::new();
     for delay in 0..6usize {

@@ -44,7 +44,7 @@ use uses::wire::{AnswerError, streams_answered, streams_of_both};
 use uses::worker::{acknowledge_arguments, ids_answered, ids_to_acknowledge};
 use uses::{readme, worker};
 
-// Memory ran out, a line is no case, or standard input or output failed.
+/// Memory ran out, a line is no case, or standard input or output failed.
 const FAILED: u8 = 2;
 
 fn main(rt: HostRuntime) -> ExitCode {
@@ -54,7 +54,7 @@ fn main(rt: HostRuntime) -> ExitCode {
     }
 }
 
-// Answers each line of standard input on standard output.
+/// Answers each line of standard input on standard output.
 fn answer_lines<R: Input + Print + AllocGlobal>(rt: &R) -> Result<()> {
     let alloc = rt.alloc();
     let mut output = BufWriter::new(alloc, io::writer(rt))?;
@@ -66,7 +66,7 @@ fn answer_lines<R: Input + Print + AllocGlobal>(rt: &R) -> Result<()> {
     Ok(output.flush()?)
 }
 
-// What comes of a case.
+/// What comes of a case.
 fn answer(alloc: Global, case: &str) -> Result<String> {
     match case.split_once(' ') {
         Some((word, notation)) => answer_of(alloc, word, read_value(alloc, notation)?),
@@ -74,7 +74,7 @@ fn answer(alloc: Global, case: &str) -> Result<String> {
     }
 }
 
-// What comes of the case of this word with this value.
+/// What comes of the case of this word with this value.
 fn answer_of(alloc: Global, word: &str, value: Value) -> Result<String> {
     match word {
         "worker-reads" => reads(alloc, value),
@@ -116,7 +116,7 @@ fn answer_of(alloc: Global, word: &str, value: Value) -> Result<String> {
 
 // What a producer sends and a server takes in, and types of a user's own.
 
-// A producer that sends its ninth entry.
+/// A producer that sends its ninth entry.
 fn ninth(alloc: Global) -> Result<Producer> {
     let id = String::from_str(alloc, "p")?;
     Ok(Producer { id, number: 9 })
@@ -133,7 +133,7 @@ fn sends(alloc: Global, answers: Value) -> Result<String> {
     Ok(said)
 }
 
-// What the producer sends before this reply, and whether the reply is an id.
+/// What the producer sends before this reply, and whether the reply is an id.
 fn send(alloc: Global, producer: &mut Producer, answer: Value) -> Result<String> {
     let sent = producer.arguments(alloc, "jobs", 1000, &[("order", b"17".as_slice())])?;
     let sent = line_of(alloc, &sent)?;
@@ -162,7 +162,7 @@ fn serves(alloc: Global, body: Value) -> Result<String> {
     Ok(said)
 }
 
-// What a server reads of arguments.
+/// What a server reads of arguments.
 fn serve(alloc: Global, arguments: &[Vec<u8>]) -> Result<String> {
     match add_request(alloc, arguments) {
         Ok(asked) => {
@@ -392,7 +392,7 @@ fn lines_of_fronts(alloc: Global, bytes: Value) -> Result<String> {
     Ok(shown)
 }
 
-// Lines, with a space between two.
+/// Lines, with a space between two.
 fn lines_text(alloc: Global, lines: &[Vec<u8>]) -> Result<String> {
     let mut shown = String::new(alloc);
     for line in lines {
@@ -485,7 +485,7 @@ fn commits(alloc: Global, batches: Value) -> Result<String> {
     Ok(format!(in alloc; "{said}{bytes:?} {}", file.syncs)?)
 }
 
-// Commits the lines of a batch; whether they were taken.
+/// Commits the lines of a batch; whether they were taken.
 fn commit<D: LogFile + Drop>(log: &mut LineLog<D>, batch: &[RawBytes]) -> Result<&'static str> {
     for line in batch {
         log.add_line(&line.0)?;
@@ -516,7 +516,7 @@ struct Crash {
 }
 
 impl Buffered {
-    // Notes that a crash could leave these bytes after what is on the disk.
+    /// Notes that a crash could leave these bytes after what is on the disk.
     fn note(&mut self, behind: &[u8]) -> Result<(), LogError> {
         let before = self.disk.to_vec(self.alloc)?;
         let mut left = self.disk.to_vec(self.alloc)?;
@@ -524,7 +524,7 @@ impl Buffered {
         Ok(self.crashes.push(Crash { before, left })?)
     }
 
-    // Notes each front of the bytes, and their second half after zeros.
+    /// Notes each front of the bytes, and their second half after zeros.
     fn note_all(&mut self, bytes: &[u8]) -> Result<(), LogError> {
         for len in 0..=bytes.len() {
             self.note(bytes.get(..len).unwrap_or(bytes))?;

@@ -35,7 +35,7 @@ impl Handler for Count {
     }
 }
 
-// A worker that begins.
+/// A worker that begins.
 fn worker_of(alloc: Global, consumer: &str) -> Result<Worker, Fail> {
     let mut settings = Settings::new(
         String::from_str(alloc, "k")?,
@@ -46,7 +46,7 @@ fn worker_of(alloc: Global, consumer: &str) -> Result<Worker, Fail> {
     Ok(Worker::new(alloc, settings))
 }
 
-// The reply that bytes hold.
+/// The reply that bytes hold.
 fn reply_of(alloc: Global, bytes: &[u8]) -> Result<Reply, Fail> {
     match decode(alloc, bytes, Limits::default())? {
         Decoded::Complete { reply, .. } => Ok(reply),
@@ -54,7 +54,7 @@ fn reply_of(alloc: Global, bytes: &[u8]) -> Result<Reply, Fail> {
     }
 }
 
-// The words of a command, and none if it is no command.
+/// The words of a command, and none if it is no command.
 fn words_of(alloc: Global, command: Reply) -> Result<Vec<Vec<u8>>, AllocError> {
     let mut words = Vec::new(alloc);
     let Reply::Value(Value::Array(values)) = command else {
@@ -69,7 +69,7 @@ fn words_of(alloc: Global, command: Reply) -> Result<Vec<Vec<u8>>, AllocError> {
     Ok(words)
 }
 
-// The reply to the command of this line.
+/// The reply to the command of this line.
 fn told(
     alloc: Global,
     server: &mut Server,
@@ -112,7 +112,7 @@ fn my_worker_takes_each_entry(rt: HostRuntime) -> Result<(), Fail> {
     Ok(())
 }
 
-// What settings with these names are refused for, None if they are made.
+/// What settings with these names are refused for, None if they are made.
 fn refusal_of(
     alloc: Global,
     key: &str,

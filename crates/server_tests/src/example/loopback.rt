@@ -9,7 +9,7 @@ use std::io::{ErrorKind, Read, Write};
 use std::test::Fail;
 use stream_server::{Loopback, LoopbackReader, LoopbackWriter, Server};
 
-// A connection to the server.
+/// A connection to the server.
 fn connected(
     alloc: Global,
     loopback: &Loopback,
@@ -18,7 +18,7 @@ fn connected(
     Ok(Connection::new(alloc, reader, writer, Limits::default())?)
 }
 
-// Adds three entries.
+/// Adds three entries.
 fn add_three<R: Read + Drop, W: Write + Drop>(
     alloc: Global,
     connection: &mut Connection<R, W>,
@@ -30,7 +30,7 @@ fn add_three<R: Read + Drop, W: Write + Drop>(
     Ok(())
 }
 
-// How many entries a worker takes in eight rounds.
+/// How many entries a worker takes in eight rounds.
 fn drained<R: Read + Drop, W: Write + Drop>(
     alloc: Global,
     connection: &mut Connection<R, W>,
@@ -41,7 +41,7 @@ fn drained<R: Read + Drop, W: Write + Drop>(
     Ok(handler.done)
 }
 
-// How many entries are pending, of ten at most.
+/// How many entries are pending, of ten at most.
 fn pending<R: Read + Drop, W: Write + Drop>(
     alloc: Global,
     connection: &mut Connection<R, W>,
@@ -62,7 +62,7 @@ fn my_worker_drains_what_another_connection_adds(rt: HostRuntime) -> Result<(), 
     Ok(())
 }
 
-// How many of eight ways to the server and back brought an acknowledgement and a question.
+/// How many of eight ways to the server and back brought an acknowledgement and a question.
 fn pipelined<R: Read + Drop, W: Write + Drop>(
     alloc: Global,
     connection: &mut Connection<R, W>,
@@ -135,7 +135,7 @@ fn bytes_that_are_no_command_end_a_connection(rt: HostRuntime) -> Result<(), Fai
     Ok(())
 }
 
-// The kind of the error, if there is one.
+/// The kind of the error, if there is one.
 fn failed(outcome: io::Result<usize>) -> Option<ErrorKind> {
     match outcome {
         Ok(_len) => None,
@@ -143,7 +143,7 @@ fn failed(outcome: io::Result<usize>) -> Option<ErrorKind> {
     }
 }
 
-// A writer that holds what it takes until it is flushed.
+/// A writer that holds what it takes until it is flushed.
 #[derive(Drop)]
 struct Holding {
     held: Vec<u8>,
