@@ -11,6 +11,7 @@ use Rattle.stream_feed.specs.declared.error.RunError.{RunError}
 use Rattle.stream_feed.specs.declared.error.RunError.TheVariants as causes
 use Rattle.stream_feed.specs.declared.settings.Settings.{Settings}
 use Rattle.stream_feed.specs.declared.stage.Asked.{Asked}
+use Rattle.stream_feed.specs.declared.stage.Asked.TheVariants as asked
 
 -- these bytes begin with `+`
 abbrev pub BeginsAsLine : List ℕ → Type 0
@@ -94,6 +95,15 @@ module _ (s : Settings) (known : Option (List Fields)) (count : ℕ) where
     pub rounds : Rounds count_of old new idle x
     pub all : done ≡ true → AllIn x
     pub whole : done ≡ false → count_of ≡ most
+
+  -- it began so, made some rounds, and the next one asked nothing
+  pub record Finished (old new : Link) : Type 0 where
+    pub count_of : ℕ
+    pub link : Link
+    pub standing : Standing
+    pub ends : Standing
+    pub rounds : Rounds count_of old link idle standing
+    pub last : IsRound link new standing ends asked.Nothing
 
   -- it began so, made some rounds, and the next one broke off
   pub record Broke (old new : Link) (e : RunError) : Type 0 where
