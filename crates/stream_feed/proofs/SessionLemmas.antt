@@ -175,6 +175,15 @@ all_in s known count old new w x rest r =
       ),
     )
 
+-- the round that asked nothing
+last_round : (s v : Settings) (known more : Option (List Fields)) (count : ℕ) (l new : Link) (y x : Standing)
+    (a : Asked) → v ≡ s → more ≡ known → IsRound v more count l new y x a → a ≡ asked.Nothing
+    → IsRound s known count l new y x asked.Nothing
+last_round s v known more count l new y x a same all round none =
+    subst (λ (q : Asked). IsRound s known count l new y x q) none
+    (subst (λ (u : Settings). IsRound u known count l new y x a) same
+    (subst (λ (u : Option (List Fields)). IsRound v u count l new y x a) all round))
+
 -- it ran until all records were in
 pub ran : (s v : Settings) (known more : Option (List Fields)) (count most n : ℕ) (old l new : Link) (y x : Standing)
     (a : Asked) → v ≡ s → more ≡ known → Rounds s known count n old l idle y → IsRound v more count l new y x a
@@ -183,9 +192,15 @@ ran s v known more count most n old l new y x a same all rounds round none = rec
   count_of = n + 1;
   rounds = rounds_more s v known more count n old l new idle y x a same all rounds round;
   all = λ done. all_in s known count l new y x (rounds_rest n s known count old l idle y (refl, tt) rounds)
-      (subst (λ (q : Asked). IsRound s known count l new y x q) none
-      (subst (λ (u : Settings). IsRound u known count l new y x a) same
-      (subst (λ (u : Option (List Fields)). IsRound v u count l new y x a) all round)));
+      (last_round s v known more count l new y x a same all round none);
+  finished = λ done. record {
+    count_of = n;
+    link = l;
+    standing = y;
+    ends = x;
+    rounds = rounds;
+    last = last_round s v known more count l new y x a same all round none;
+  };
   whole = λ e. absurd (true≢false e);
 }
 
@@ -196,5 +211,6 @@ ran_out s known count most n old new x all rounds = record {
   count_of = n;
   rounds = rounds;
   all = λ e. absurd (true≢false (sym e));
+  finished = λ e. absurd (true≢false (sym e));
   whole = λ e. all;
 }
