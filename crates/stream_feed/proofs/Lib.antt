@@ -5,3 +5,5 @@ pub mod TakenLemmas
 pub mod StepLemmas
 pub mod LineLemmas
 pub mod SessionLemmas
+pub mod ScheduleLemmas
+mod ScheduleSample

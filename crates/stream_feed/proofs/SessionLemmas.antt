@@ -47,7 +47,7 @@ fewer_at (suc (suc k)) base count w x a t =
     let is : x.coming ≡ suc k = ap (λ (y : Standing). y.coming) t.1 in
     omega (arith, is)
 
-fewer : (n base count : ℕ) (old new : Link) (w x : Standing) → Hears base count n old new w x
+pub fewer : (n base count : ℕ) (old new : Link) (w x : Standing) → Hears base count n old new w x
     → x.coming + n ≡ w.coming
 fewer zero base count old new w x h =
     let is : x.coming ≡ w.coming = ap (λ (y : Standing). y.coming) h.1 in
@@ -59,12 +59,12 @@ fewer (suc n) base count old new w x h =
 
 -- ---- between rounds nothing is to come, and it waits for nothing
 
-abbrev IsRest : feed.Stage → Type 0
+abbrev pub IsRest : feed.Stage → Type 0
 IsRest asking = Unit {0}
 IsRest (knows m) = Unit {0}
 IsRest (waits m n) = ⊥
 
-abbrev IsAtRest : Standing → Type 0
+abbrev pub IsAtRest : Standing → Type 0
 IsAtRest x = (x.coming ≡ 0) × IsRest x.stage
 
 learns_rest : (base : ℕ) (st : feed.Stage) (a : feed.Answer) → IsRest (learns base st a)
@@ -93,7 +93,7 @@ hears_rest (suc n) base count old new w x h all rest =
     let none : x.coming ≡ 0 = omega (arith, left, all) in
     (none, took_rest h.1.coming base count h.1 x h.2 h.5 none)
 
-sent_at : (n : ℕ) (s : Settings) (all : List Fields) (out more : List ℕ) (old new : Standing) (a : Asked) → n ≡ 0
+pub sent_at : (n : ℕ) (s : Settings) (all : List Fields) (out more : List ℕ) (old new : Standing) (a : Asked) → n ≡ 0
     → RequestedAt n s all out more old new a → Sent s (next_batch s all old.stage) out more old.stage new a
 sent_at zero s all out more old new a none r = r
 sent_at (suc k) s all out more old new a none r = absurd (omega (arith, none))
@@ -105,7 +105,7 @@ asks_rest (knows m) [] rest none = tt
 asks_rest (knows m) (r ∷ rs) rest none = absurd (omega (arith, none))
 asks_rest (waits m n) b rest none = absurd rest
 
-round_rest : (s : Settings) (known : Option (List Fields)) (count : ℕ) (old new : Link) (w x : Standing) (a : Asked)
+pub round_rest : (s : Settings) (known : Option (List Fields)) (count : ℕ) (old new : Link) (w x : Standing) (a : Asked)
     → IsAtRest w → IsRound s known count old new w x a → IsAtRest x
 round_rest s known count old new w x a rest r =
     let all = r.asks.0 in
@@ -127,7 +127,7 @@ number_of asked.Nothing = 0
 number_of asked.LastId = 1
 number_of asked.Records = 2
 
-nothing_asked : (st : feed.Stage) (b : List (Numbered Fields)) → asked.Nothing ≡ asks_of st b → IsRest st
+pub nothing_asked : (st : feed.Stage) (b : List (Numbered Fields)) → asked.Nothing ≡ asks_of st b → IsRest st
     → (m : ℕ) × (st ≡ knows m) × (b ≡ [])
 nothing_asked asking b is rest =
     let e : 0 ≡ 1 = ap number_of is in
@@ -138,7 +138,7 @@ nothing_asked (knows m) (r ∷ rs) is rest =
     absurd (omega (arith, e))
 nothing_asked (waits m n) b is rest = absurd rest
 
-none_behind : {A : Type 0} (n m : ℕ) (xs : List A) → 0 < n → take n (drop m xs) ≡ [] → length xs ≤ m
+pub none_behind : {A : Type 0} (n m : ℕ) (xs : List A) → 0 < n → take n (drop m xs) ≡ [] → length xs ≤ m
 none_behind zero m xs some none = absurd (omega (arith, some))
 none_behind (suc n) m [] some none = omega arith
 none_behind (suc n) zero (x ∷ xs) some none =
@@ -175,6 +175,15 @@ all_in s known count old new w x rest r =
       ),
     )
 
+-- the round that asked nothing
+last_round : (s v : Settings) (known more : Option (List Fields)) (count : ℕ) (l new : Link) (y x : Standing)
+    (a : Asked) → v ≡ s → more ≡ known → IsRound v more count l new y x a → a ≡ asked.Nothing
+    → IsRound s known count l new y x asked.Nothing
+last_round s v known more count l new y x a same all round none =
+    subst (λ (q : Asked). IsRound s known count l new y x q) none
+    (subst (λ (u : Settings). IsRound u known count l new y x a) same
+    (subst (λ (u : Option (List Fields)). IsRound v u count l new y x a) all round))
+
 -- it ran until all records were in
 pub ran : (s v : Settings) (known more : Option (List Fields)) (count most n : ℕ) (old l new : Link) (y x : Standing)
     (a : Asked) → v ≡ s → more ≡ known → Rounds s known count n old l idle y → IsRound v more count l new y x a
@@ -183,9 +192,15 @@ ran s v known more count most n old l new y x a same all rounds round none = rec
   count_of = n + 1;
   rounds = rounds_more s v known more count n old l new idle y x a same all rounds round;
   all = λ done. all_in s known count l new y x (rounds_rest n s known count old l idle y (refl, tt) rounds)
-      (subst (λ (q : Asked). IsRound s known count l new y x q) none
-      (subst (λ (u : Settings). IsRound u known count l new y x a) same
-      (subst (λ (u : Option (List Fields)). IsRound v u count l new y x a) all round)));
+      (last_round s v known more count l new y x a same all round none);
+  finished = λ done. record {
+    count_of = n;
+    link = l;
+    standing = y;
+    ends = x;
+    rounds = rounds;
+    last = last_round s v known more count l new y x a same all round none;
+  };
   whole = λ e. absurd (true≢false e);
 }
 
@@ -196,5 +211,6 @@ ran_out s known count most n old new x all rounds = record {
   count_of = n;
   rounds = rounds;
   all = λ e. absurd (true≢false (sym e));
+  finished = λ e. absurd (true≢false (sym e));
   whole = λ e. all;
 }

@@ -12,7 +12,7 @@ use Rattle.stream_feed.specs.declared.settings.Settings.{Settings}
 use Rattle.stream_feed.specs.declared.stage.Asked.{Asked}
 
 -- the model's producer sends where nothing is on the way
-sends_then : (n : ℕ) (all : List (Numbered Fields)) (p : Producer Fields) → p.sent ≡ None → p.answer ≡ None
+pub sends_then : (n : ℕ) (all : List (Numbered Fields)) (p : Producer Fields) → p.sent ≡ None → p.answer ≡ None
     → sends n all p ≡ record p { stage = requested n all p.stage; sent = request n all p.stage }
 sends_then n all p unsent unanswered =
     let q : Producer Fields = record p { stage = requested n all p.stage; sent = request n all p.stage } in
@@ -28,7 +28,7 @@ adds_as m [] = refl
 adds_as m (r ∷ rs) = refl
 
 -- where it stands then, by what it knows
-stands_as : (s : Settings) (records : List Fields) (base : ℕ) → base ≡ s.base → (st : Stage)
+pub stands_as : (s : Settings) (records : List Fields) (base : ℕ) → base ≡ s.base → (st : Stage)
     → requested s.batch (numbered base records) st ≡ (stands_at st (next_batch s records st)).stage
 stands_as s records base is asking = refl
 stands_as s records base is (knows m) =
@@ -37,7 +37,7 @@ stands_as s records base is (knows m) =
 stands_as s records base is (waits m n) = refl
 
 -- and what is on the way
-asks_as : (s : Settings) (records : List Fields) (base : ℕ) → base ≡ s.base → (st : Stage)
+pub asks_as : (s : Settings) (records : List Fields) (base : ℕ) → base ≡ s.base → (st : Stage)
     → request s.batch (numbered base records) st ≡ on_the_way (asks_of st (next_batch s records st)) (next_batch s records st)
 asks_as s records base is asking = refl
 asks_as s records base is (knows m) =

@@ -9,3 +9,4 @@ pub mod Machine
 pub mod Learnt
 pub mod Step
 pub mod Session
+pub mod Schedule

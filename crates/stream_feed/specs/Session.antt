@@ -11,6 +11,7 @@ use Rattle.stream_feed.specs.declared.error.RunError.{RunError}
 use Rattle.stream_feed.specs.declared.error.RunError.TheVariants as causes
 use Rattle.stream_feed.specs.declared.settings.Settings.{Settings}
 use Rattle.stream_feed.specs.declared.stage.Asked.{Asked}
+use Rattle.stream_feed.specs.declared.stage.Asked.TheVariants as asked
 
 -- these bytes begin with `+`
 abbrev pub BeginsAsLine : List ℕ → Type 0
@@ -88,11 +89,21 @@ module _ (s : Settings) (known : Option (List Fields)) (count : ℕ) where
   AllIn x = (m : ℕ) × (x ≡ record { stage = knows m; coming = 0 })
       × ((all : List Fields) × AreAll known all × (0 < s.batch → length all ≤ m))
 
-  -- it began with knowing nothing, and made rounds until all records were in, or as many as were allowed
+  -- it began with knowing nothing, made some rounds, and the next one asked nothing
+  pub record Finished (old new : Link) : Type 0 where
+    pub count_of : ℕ
+    pub link : Link
+    pub standing : Standing
+    pub ends : Standing
+    pub rounds : Rounds count_of old link idle standing
+    pub last : IsRound link new standing ends asked.Nothing
+
+  -- it began so, and made rounds until one asked nothing, since all records were in, or as many as were allowed
   pub record Ran (most : ℕ) (old new : Link) (x : Standing) (done : Bool) : Type 0 where
     pub count_of : ℕ
     pub rounds : Rounds count_of old new idle x
     pub all : done ≡ true → AllIn x
+    pub finished : done ≡ true → Finished old new
     pub whole : done ≡ false → count_of ≡ most
 
   -- it began so, made some rounds, and the next one broke off

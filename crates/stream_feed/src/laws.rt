@@ -1,5 +1,8 @@
 //! What holds of producers over every schedule.
 ghost use Rattle.stream_feed.specs.Records.{Fields};
+ghost use Rattle.stream_feed.specs.Schedule.{AskingNothingIsAll, BreaksAreEvents, BrokenSessionsRun, CodeAddsFirstRecords};
+ghost use Rattle.stream_feed.specs.Schedule.{CodeAddsOnce, CodeKnowsWhatIsIn, FinishedIsAll, RoundsAreEvents, RoundsSendIt};
+ghost use Rattle.stream_feed.specs.Schedule.{RunsAreEvents, SessionsRun, StartsAreEvents, ToldRecordsAreSent};
 ghost use Rattle.stream_feed.specs.Step.{AnswersStayInStep, BreaksStayInStep, RequestsStayInStep};
 ghost use Rattle.stream_once.specs.Law.{DoneIsAll, KnownIsIn, LogGrows, LogIsFirstRecords, LogOnce};
 
@@ -20,4 +23,34 @@ pub fn stays_in_step()
     ensures requests { RequestsStayInStep }
     ensures answers { AnswersStayInStep }
     ensures breaks { BreaksStayInStep }
+{}
+
+/// What `Producer::round`, `disconnected` and `new` promise are events of the producer of
+/// `stream_once`: a round that returns Ok, one that breaks off, and a crash with the start after it. So
+/// after each schedule of them (`Runs`) the producer is that of the model, and the bytes of each round
+/// are those of what the model's producer sends. The rounds of a session are such rounds, and so are
+/// those of one that breaks off.
+///
+/// The premises of a round (`IsServed`) are two. It sends the next of the model's records, which holds
+/// of a source whose records are told. The last reply is the one that the model's server sent.
+pub fn rounds_are_those_of_once()
+    ensures rounds { RoundsAreEvents }
+    ensures bytes { RoundsSendIt }
+    ensures told { ToldRecordsAreSent }
+    ensures breaks { BreaksAreEvents }
+    ensures starts { StartsAreEvents }
+    ensures runs { RunsAreEvents }
+    ensures sessions { SessionsRun }
+    ensures broken { BrokenSessionsRun }
+{}
+
+/// After each schedule of the code the log is the first of the records, in order, each once, with its
+/// own fields. As many records as the code takes to be in are in. If a round asks nothing, the log is
+/// all records; so it is if a session ends by such a round. Nobody else adds to the stream.
+pub fn the_code_adds_each_record_once()
+    ensures first { CodeAddsFirstRecords }
+    ensures once { CodeAddsOnce }
+    ensures known { CodeKnowsWhatIsIn }
+    ensures nothing { AskingNothingIsAll }
+    ensures all { FinishedIsAll }
 {}

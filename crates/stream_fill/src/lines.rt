@@ -1,5 +1,7 @@
 //! A file of lines as a source of records.
-ghost use Rattle.std.specs.Prelude.{◌≡◌, None, IfOk};
+ghost use Rattle.std.specs.Prelude.{◌≡◌, [], ◌∷◌, ◌++◌, None, Contains, IfOk, IfSome, IsNone};
+ghost use Rattle.stream_feed.specs.Records.{arguments_of};
+ghost use Rattle.stream_fill.specs.Taken.{IsRecordOf, TakesLines};
 
 use crate::json_records::record_of_json;
 use anyhow::{Context, Error, Result, anyhow, bail};
@@ -201,15 +203,8 @@ impl Lines {
         let Ok(piece) = self.file.fill_buf() else {
             return Ok(());
         };
-        let mut rest = piece;
-        for _ in records.len() as u64..most {
-            let Some((line, after)) = split_line(rest) else {
-                break;
-            };
-            let number = number_of_next(records, behind);
-            records.push(record_of(alloc, &self.form, &mut self.scratch, line, number)?)?;
-            rest = after;
-        }
+        let scratch = &mut self.scratch;
+        let rest = take_lines(alloc, &self.form, scratch, piece, records, behind, most)?;
         let len = piece.len().saturating_sub(rest.len());
         self.file.consume(len);
         Ok(())
@@ -242,6 +237,33 @@ impl Source for Lines {
     }
 }
 
+// Takes the lines that are whole in these bytes as records, until there are so many. It returns what
+// is after them.
+#[tactic(auto, using(crate::proofs::TakenLemmas::none_taken, crate::proofs::TakenLemmas::one_more_taken))]
+fn take_lines<'a>(
+    alloc: Global,
+    form: &Form,
+    scratch: &mut Scratch,
+    piece: &'a [u8],
+    records: &mut Vec<Record>,
+    behind: u64,
+    most: u64,
+) -> Result<&'a [u8]>
+    ensures { IfOk result (λ rest. TakesLines form.now piece.entry.now rest.now records.old.items
+        records.new.items) }
+{
+    let mut rest = piece;
+    for _line in records.len() as u64..most {
+        let Some((line, after)) = split_line(rest) else {
+            break;
+        };
+        let number = number_of_next(records, behind);
+        records.push(record_of(alloc, form, scratch, line, number)?)?;
+        rest = after;
+    }
+    Ok(rest)
+}
+
 // Counts a line, where the next one begins at this place.
 fn count_line(count: &mut u64, places: &mut Vec<u64>, place: u64) -> Result<(), AllocError> {
     *count = count.saturating_add(1);
@@ -259,7 +281,11 @@ fn number_of_next(records: &Vec<Record>, behind: u64) -> u64 {
 }
 
 // The first line without its end, and what is after it. None if it has no end.
-fn split_line(bytes: &[u8]) -> Option<(&[u8], &[u8])> {
+fn split_line(bytes: &[u8]) -> Option<(&[u8], &[u8])>
+    ensures some { IfSome result (λ s. bytes.now ≡ s.0.now ++ 10 ∷ s.1.now) }
+    ensures first { IfSome result (λ s. Contains s.0.now 10 → ⊥) }
+    ensures none { IsNone result → Contains bytes.now 10 → ⊥ }
+{
     let (line, rest) = bytes.split_at_checked(memchr(b'\n', bytes)?)?;
     let (_end, rest) = rest.split_first()?;
     Some((line, rest))
@@ -272,7 +298,9 @@ fn record_of(
     scratch: &mut Scratch,
     line: &[u8],
     number: u64,
-) -> Result<Record> {
+) -> Result<Record>
+    ensures { IfOk result (IsRecordOf form.now line.now) }
+{
     match form {
         Form::Json => match record_of_json(alloc, scratch, line) {
             Ok(record) => Ok(record),
@@ -286,7 +314,9 @@ fn record_of(
 }
 
 // A record of one field.
-fn record_of_text(alloc: Global, name: &Vec<u8>, value: &[u8]) -> Result<Record, AllocError> {
+fn record_of_text(alloc: Global, name: &Vec<u8>, value: &[u8]) -> Result<Record, AllocError>
+    ensures { IfOk result (λ r. arguments_of r ≡ name.now.items ∷ value.now ∷ []) }
+{
     let mut record = Vec::with_capacity(alloc, 1)?;
     record.push((name.clone()?, Vec::from_slice(alloc, value)?))?;
     Ok(record)

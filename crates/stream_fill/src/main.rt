@@ -16,21 +16,24 @@
 //! with 1 and the reason. A last line without an end is not added, and is a reason.
 #![tactic(auto)]
 
+ghost use Rattle.std.specs.Prelude.{◌≡◌, IfSome};
+
 mod counts;
+mod fill;
 mod json_records;
 mod lines;
 mod options;
 
 use crate::counts::Counts;
+use crate::fill::{FillError, fill};
 use crate::lines::Lines;
 use crate::options::{Options, options_of};
 use anyhow::{Error, Result, bail};
 use redis_connection::Connection;
 use redis_wire::Limits;
 use std::alloc::{AllocError, Global};
-use std::io::{Read, Write};
 use std::{env, io};
-use stream_feed::{Asked, Producer, RequestError, RunError};
+use stream_feed::{RequestError, RunError};
 
 fn main(rt: HostRuntime) -> Result<()> {
     let words = words_of(&rt)?;
@@ -82,46 +85,33 @@ fn fill_by(rt: &HostRuntime, options: Options) -> Result<()> {
     let alloc = rt.alloc();
     let mut lines = Lines::open(rt, &path, form)?;
     let mut connection = Connection::new(alloc, rt.reader(), io::writer(rt), Limits::default())?;
-    let mut producer = Producer::new(settings);
     let mut counts = Counts::new();
+    let count = lines.count;
     let ended = fill(
         alloc,
         &mut connection,
-        &mut producer,
+        settings,
         &mut lines,
+        count,
         &mut counts,
     );
     eprintln!(rt; "{counts}")?;
-    ended?;
+    if let Err(error) = ended {
+        return Err(told(error, lines.fault));
+    }
     if lines.is_torn {
         bail!("the last line has no end, and is not added");
     }
     Ok(())
 }
 
-// Makes rounds until all records are in, or something fails.
-fn fill<R: Read + Drop, W: Write + Drop>(
-    alloc: Global,
-    connection: &mut Connection<R, W>,
-    producer: &mut Producer,
-    lines: &mut Lines,
-    counts: &mut Counts,
-) -> Result<()> {
-    let count = lines.count;
-    for _ in 0..u64::MAX {
-        match producer.round(alloc, connection, lines, count) {
-            Ok(Asked::Nothing) => return Ok(()),
-            Ok(asked) => counts.take(asked, producer.stage()),
-            Err(error) => return Err(broken_off(error, lines)),
-        }
-    }
-    bail!("the last turn came")
-}
-
-// Why a round failed.
-fn broken_off(error: RunError, lines: &mut Lines) -> Error {
-    match (error, lines.fault.take()) {
-        (RunError::Request(RequestError::NotRead), Some(fault)) => fault,
+// Why not all lines are in. If records were not read, it is the fault of the file.
+fn told(error: FillError, fault: Option<Error>) -> Error
+    ensures { error ≡ FillError.Round (RunError.Request RequestError.NotRead)
+        → IfSome fault (λ f. result ≡ f) }
+{
+    match (error, fault) {
+        (FillError::Round(RunError::Request(RequestError::NotRead)), Some(fault)) => fault,
         (error, _) => error.into(),
     }
 }

@@ -1,0 +1,36 @@
+-- What is read of a buffer.
+use Rattle.std.specs.Prelude.{◌≡◌, ◌≢◌, ℕ, List, [], ◌∷◌, ◌++◌, Contains, Vec}
+use Rattle.std.specs.declared.alloc.Global.{Global}
+use Rattle.stream_feed.specs.Records.{arguments_of}
+use Rattle.stream_fill.specs.declared.lines.Form.{Form}
+use Rattle.stream_fill.specs.declared.lines.Form.TheVariants as forms
+
+-- a record as the code has it
+abbrev pub Record : Type 0
+Record = Vec (Vec ℕ Global × Vec ℕ Global) Global
+
+-- these bytes begin with these lines, each of which has its end, and `rest` is after them
+abbrev pub BeginsWith : List ℕ → List (List ℕ) → List ℕ → Type 0
+BeginsWith bytes [] rest = bytes ≡ rest
+BeginsWith bytes (l ∷ ls) rest =
+    (more : List ℕ) × (bytes ≡ l ++ 10 ∷ more) × (Contains l 10 → ⊥) × BeginsWith more ls rest
+
+-- the record of a line: of a text it has one field. What the fields of a line of JSON are is not stated
+abbrev pub IsRecordOf : Form → List ℕ → Record → Type 0
+IsRecordOf forms.Json line r = r.items ≢ []
+IsRecordOf (forms.Text name) line r = arguments_of r ≡ name.items ∷ line ∷ []
+
+-- so is each of these of its line
+abbrev pub AreRecordsOf : Form → List (List ℕ) → List Record → Type 0
+AreRecordsOf form [] [] = Unit {0}
+AreRecordsOf form [] (r ∷ rs) = ⊥
+AreRecordsOf form (l ∷ ls) [] = ⊥
+AreRecordsOf form (l ∷ ls) (r ∷ rs) = IsRecordOf form l r × AreRecordsOf form ls rs
+
+-- the first lines of these bytes were taken as records, in order
+pub record TakesLines (form : Form) (bytes rest : List ℕ) (old new : List Record) : Type 0 where
+  pub lines : List (List ℕ)
+  pub taken : List Record
+  pub front : BeginsWith bytes lines rest
+  pub records : AreRecordsOf form lines taken
+  pub all : new ≡ old ++ taken
