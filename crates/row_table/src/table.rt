@@ -23,6 +23,9 @@ pub trait Table {
     /// The rows that a crash at this moment may leave.
     ghost may_leave: { Self → List rows.Row → Type 0 };
 
+    /// Whatever a crash leaves begins with the rows of the last commit, where they are known.
+    ghost begins: { (table : Self) → LeavesAll (committed table) (may_leave table) };
+
     /// Begins a transaction.
     fn begin(&mut self) -> Result<(), TableError>
         ensures seen { OnOk result (seen self.new ≡ committed self.old) }
