@@ -1,0 +1,14 @@
+-- What holds of rows that are put in.
+use Rattle.std.specs.Prelude.{◌≡◌, ◌++◌, ◌∷◌, ℕ, List, Some, IsSome}
+use Rattle.row_table.specs.Rows.{Key, Row, find, with_rows, KeysApart, BeginsWith}
+
+-- the law: an id that is there keeps its text, whatever is put in; what was there comes first; rows whose keys are apart
+-- stay so; each row that was put in has its key there; and rows may be put in at once or in turn
+pub record RowsArePutIn : Type 0 where
+  pub stays : (rows more : List Row) (k : Key) (text : List ℕ) → find k rows ≡ Some text
+      → find k (with_rows rows more) ≡ Some text
+  pub in_front : (rows more : List Row) → BeginsWith rows (with_rows rows more)
+  pub apart : (rows more : List Row) → KeysApart rows → KeysApart (with_rows rows more)
+  pub there : (rows before : List Row) (r : Row) (behind : List Row)
+      → IsSome (find r.0 (with_rows rows (before ++ r ∷ behind)))
+  pub in_turn : (rows a b : List Row) → with_rows rows (a ++ b) ≡ with_rows (with_rows rows a) b

@@ -1,0 +1,71 @@
+-- Rows by their keys: which is there, and what is there after more were put in.
+use Rattle.std.specs.Prelude.{◌≡◌, ◌⊎◌, ◌&&◌, ◌==◌, ℕ, Bool, List, [], ◌∷◌, ◌++◌, Option, Some, None, is_some}
+use Rattle.std.specs.Prelude.{option_map, if◌then◌else◌, IfSome}
+use Rattle.std.specs.List.{AllByRecursion}
+
+-- a key: two numbers
+abbrev pub Key : Type 0
+Key = ℕ × ℕ
+
+-- a row: its key and its text
+abbrev pub Row : Type 0
+Row = Key × List ℕ
+
+-- both numbers are the same
+abbrev pub same_key : Key → Key → Bool
+same_key a b = (a.0 == b.0) && (a.1 == b.1)
+
+-- the text of the first row of this key
+abbrev pub find : Key → List Row → Option (List ℕ)
+find k [] = None
+find k (r ∷ rs) = if same_key r.0 k then Some r.1 else find k rs
+
+-- with one more row behind the others, unless its key is there
+abbrev pub with_row : List Row → Row → List Row
+with_row rows r = if is_some (find r.0 rows) then rows else rows ++ r ∷ []
+
+-- with more rows, one after the other
+abbrev pub with_rows : List Row → List Row → List Row
+with_rows rows [] = rows
+with_rows rows (r ∷ more) = with_rows (with_row rows r) more
+
+-- the row is there, with its own text
+abbrev pub IsRow : List Row → Row → Type 0
+IsRow rows r = find r.0 rows ≡ Some r.1
+
+-- each of these rows is there, with its own text
+abbrev pub AreRows : List Row → List Row → Type 0
+AreRows rows more = AllByRecursion (IsRow rows) more
+
+-- no two rows have the same key
+abbrev pub KeysApart : List Row → Type 0
+KeysApart [] = Unit {0}
+KeysApart (r ∷ rs) = (find r.0 rs ≡ None) × KeysApart rs
+
+-- these rows, and maybe more behind them
+abbrev pub BeginsWith : List Row → List Row → Type 0
+BeginsWith rows all = (behind : List Row) × (all ≡ rows ++ behind)
+
+-- where the rows are known, these are put in
+abbrev pub with_known : List Row → Option (List Row) → Option (List Row)
+with_known more known = option_map (λ rows. with_rows rows more) known
+
+-- where the rows are known, each of these is there with its own text
+abbrev pub AreKnown : List Row → Option (List Row) → Type 0
+AreKnown more known = IfSome known (λ rows. AreRows rows more)
+
+-- whatever a crash leaves is what is known
+abbrev pub LeavesJust : Option (List Row) → (List Row → Type 0) → Type 0
+LeavesJust known may_leave = (left : List Row) → may_leave left → IfSome known (λ rows. left ≡ rows)
+
+-- whatever a crash leaves begins with what is known
+abbrev pub LeavesAll : Option (List Row) → (List Row → Type 0) → Type 0
+LeavesAll known may_leave = (left : List Row) → may_leave left → IfSome known (λ rows. BeginsWith rows left)
+
+-- whatever a crash leaves now, it might have left before
+abbrev pub LeavesNoOther : (List Row → Type 0) → (List Row → Type 0) → Type 0
+LeavesNoOther old new = (left : List Row) → new left → old left
+
+-- or it is these rows, where they are known
+abbrev pub LeavesOldOr : Option (List Row) → (List Row → Type 0) → (List Row → Type 0) → Type 0
+LeavesOldOr known old new = (left : List Row) → new left → old left ⊎ IfSome known (λ rows. left ≡ rows)

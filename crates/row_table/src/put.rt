@@ -1,0 +1,75 @@
+//! Rows that are put in as one transaction.
+ghost use Rattle.std.specs.Prelude.{◌≡◌, ◌∷◌, [], OnErr, OnOk};
+ghost use Rattle.row_table.specs.Rows.{AreKnown, LeavesJust, LeavesNoOther, LeavesOldOr, with_known};
+ghost use Rattle.row_table.specs.OfRow.{row_of, rows_of};
+
+use crate::error::TableError;
+use crate::row::Row;
+use crate::table::Table;
+use std::alloc::Global;
+
+/// Puts rows in as one transaction, and commits it. A row whose key is there is left out if it has the same
+/// text, and else it is an error. After an `Err` the transaction is taken back.
+pub fn put_all<T: Table>(alloc: Global, table: &mut T, rows: &[Row]) -> Result<(), TableError>
+    ensures ok { OnOk result (T.committed table.new ≡ with_known (rows_of rows.now) (T.committed table.old)) }
+    ensures there { OnOk result (AreKnown (rows_of rows.now) (T.committed table.new)) }
+    ensures err { OnErr result (T.committed table.new ≡ T.committed table.old) }
+    ensures durable { OnOk result (LeavesJust (T.committed table.new) (T.may_leave table.new)) }
+    ensures crash { LeavesOldOr (with_known (rows_of rows.now) (T.committed table.old))
+        (T.may_leave table.old) (T.may_leave table.new) }
+{
+    match put_and_commit(alloc, table, rows) {
+        Ok(()) => Ok(()),
+        Err(error) => {
+            table.roll_back();
+            Err(error)
+        }
+    }
+}
+
+/// The same, but an `Err` leaves the transaction as it is.
+fn put_and_commit<T: Table>(alloc: Global, table: &mut T, rows: &[Row]) -> Result<(), TableError>
+    ensures ok { OnOk result (T.committed table.new ≡ with_known (rows_of rows.now) (T.committed table.old)) }
+    ensures there { OnOk result (AreKnown (rows_of rows.now) (T.committed table.new)) }
+    ensures err { OnErr result (T.committed table.new ≡ T.committed table.old) }
+    ensures durable { OnOk result (LeavesJust (T.committed table.new) (T.may_leave table.new)) }
+    ensures crash { LeavesOldOr (with_known (rows_of rows.now) (T.committed table.old))
+        (T.may_leave table.old) (T.may_leave table.new) }
+{
+    table.begin()?;
+    put_each(alloc, table, rows)?;
+    table.commit()
+}
+
+/// Puts rows in, one after the other.
+fn put_each<T: Table>(alloc: Global, table: &mut T, rows: &[Row]) -> Result<(), TableError>
+    ensures seen { OnOk result (T.seen table.new ≡ with_known (rows_of rows.now) (T.seen table.old)) }
+    ensures there { OnOk result (AreKnown (rows_of rows.now) (T.seen table.new)) }
+    ensures committed { T.committed table.new ≡ T.committed table.old }
+    ensures crash { LeavesNoOther (T.may_leave table.old) (T.may_leave table.new) }
+{
+    for row in rows {
+        put(alloc, table, row)?;
+    }
+    Ok(())
+}
+
+/// Puts a row in, unless it is there. It is an error if its key is there with another text.
+fn put<T: Table>(alloc: Global, table: &mut T, row: &Row) -> Result<(), TableError>
+    ensures seen { OnOk result (T.seen table.new
+        ≡ with_known (row_of row.now ∷ []) (T.seen table.old)) }
+    ensures there { OnOk result (AreKnown (row_of row.now ∷ []) (T.seen table.new)) }
+    ensures committed { T.committed table.new ≡ T.committed table.old }
+    ensures crash { LeavesNoOther (T.may_leave table.old) (T.may_leave table.new) }
+{
+    if table.insert(row)? {
+        return Ok(());
+    }
+    match table.find(alloc, row)? {
+        Some(text) if text == row.text => Ok(()),
+        _ => Err(TableError::OtherText {
+            first: row.first,
+            second: row.second,
+        }),
+    }
+}

@@ -1,0 +1,63 @@
+//! What a table is.
+ghost use Rattle.std.specs.Prelude.{◌≡◌, ◌++◌, ◌∷◌, [], ℕ, List, Bool, true, false, Option, Some, None, OnErr, OnOk, IfOk, IfSome};
+ghost use Rattle.std.specs.Prelude.{option_map, is_some, if◌then◌else◌};
+ghost use Rattle.row_table.specs.Rows as rows;
+ghost use Rattle.row_table.specs.Rows.{LeavesAll, LeavesJust, LeavesNoOther, LeavesOldOr, find, with_row};
+ghost use Rattle.row_table.specs.OfRow.{key_of, row_of};
+
+use crate::error::TableError;
+use crate::row::Row;
+use std::alloc::Global;
+
+/// A table of rows by their keys, in a database that makes transactions.
+///
+/// Its clauses are those of a database whose disk is honest: a transaction is there as a whole or not at
+/// all, whatever crash comes, and after an Ok of its commit it is there.
+pub trait Table {
+    /// The rows as the transaction has them, in the order in which they were put in, where they are known.
+    ghost seen: { Self → Option (List rows.Row) };
+
+    /// The rows of the last commit, where they are known.
+    ghost committed: { Self → Option (List rows.Row) };
+
+    /// The rows that a crash at this moment may leave.
+    ghost may_leave: { Self → List rows.Row → Type 0 };
+
+    /// Whatever a crash leaves begins with the rows of the last commit, where they are known.
+    ghost begins: { (table : Self) → LeavesAll (committed table) (may_leave table) };
+
+    /// Begins a transaction.
+    fn begin(&mut self) -> Result<(), TableError>
+        ensures seen { OnOk result (seen self.new ≡ committed self.old) }
+        ensures committed { committed self.new ≡ committed self.old }
+        ensures crash { LeavesNoOther (may_leave self.old) (may_leave self.new) };
+
+    /// Puts in a row, unless its key is there. Whether it was put in.
+    fn insert(&mut self, row: &Row) -> Result<bool, TableError>
+        ensures seen { OnOk result (seen self.new
+            ≡ option_map (λ rs. with_row rs (row_of row.now)) (seen self.old)) }
+        ensures told { IfOk result (λ is_new. IfSome (seen self.old)
+            (λ rs. is_some (find (key_of row.now) rs) ≡ (if is_new then false else true))) }
+        ensures committed { committed self.new ≡ committed self.old }
+        ensures crash { LeavesNoOther (may_leave self.old) (may_leave self.new) };
+
+    /// The text of the row of this key.
+    fn find(&mut self, alloc: Global, row: &Row) -> Result<Option<Vec<u8>>, TableError>
+        ensures seen { OnOk result (seen self.new ≡ seen self.old) }
+        ensures found { IfOk result (λ found. IfSome (seen self.old)
+            (λ rs. option_map (λ text. text.items) found ≡ find (key_of row.now) rs)) }
+        ensures committed { committed self.new ≡ committed self.old }
+        ensures crash { LeavesNoOther (may_leave self.old) (may_leave self.new) };
+
+    /// Commits the transaction. After an Ok it is there, whatever crash comes.
+    fn commit(&mut self) -> Result<(), TableError>
+        ensures ok { OnOk result (committed self.new ≡ seen self.old) }
+        ensures err { OnErr result (committed self.new ≡ committed self.old) }
+        ensures durable { OnOk result (LeavesJust (seen self.old) (may_leave self.new)) }
+        ensures crash { LeavesOldOr (seen self.old) (may_leave self.old) (may_leave self.new) };
+
+    /// Takes the transaction back, if one is open.
+    fn roll_back(&mut self)
+        ensures committed { committed self.new ≡ committed self.old }
+        ensures crash { LeavesNoOther (may_leave self.old) (may_leave self.new) };
+}

@@ -1,0 +1,5 @@
+-- Lemmas.
+mod FieldsLemmas
+mod KeptLemmas
+pub mod LivedLemmas
+mod AcknowledgedLemmas

@@ -1,0 +1,166 @@
+//! Entries as rows of a table.
+ghost use Rattle.std.specs.Prelude.{◌≡◌, ◌++◌, ◌∷◌, [], ◌^◌, ◌<◌, ℕ, List, IfOk, OnErr, OnOk};
+ghost use Rattle.row_table.specs.OfRow.{row_of, rows_of};
+ghost use Rattle.row_table.specs.Rows.{AreKnown, LeavesJust, LeavesOldOr, with_known};
+ghost use Rattle.stream_table.specs.Kept.{Kept, committed_with, kept_by, kept_too, row_in};
+ghost use Rattle.stream_worker.specs.Handling.{pair_of, verdict_of};
+
+use crate::fields::fields_text;
+use row_table::{Row, Table, TableError, put_all};
+use std::alloc::{AllocError, Global};
+use stream_refs::StreamIdParts;
+use stream_worker::{EntryRef, Handler, NotCommitted, Verdict};
+use thiserror::Error;
+
+/// A number of a key is below this one.
+const KEYS_END: u64 = 1 << 63;
+
+/// Why an entry is no row.
+#[derive(Clone, Copy, Debug, PartialEq, Eq, Drop, Error)]
+pub enum Fault {
+    /// The id is not two numbers of 64 bits.
+    #[error("an id is not two numbers")]
+    NotAnId,
+    /// The table refuses.
+    #[error("{0}")]
+    Table(TableError),
+}
+
+impl From<AllocError> for Fault {
+    ghost use Rattle.stream_table.specs.declared.handler.Fault.TheVariants.{Table};
+    ghost use Rattle.row_table.specs.declared.error.TableError.TheVariants.{Memory};
+
+    ghost from_gives = { λ _ fault. fault ≡ Table Memory };
+
+    fn from(_error: AllocError) -> Fault {
+        Fault::Table(TableError::Memory)
+    }
+}
+
+/// A handler whose entries are rows of a table.
+#[derive(Drop)]
+pub struct Rows<T: Table + Drop> {
+    table: T,
+    /// The rows of what was done and is not committed.
+    loose: Vec<Row>,
+    /// How many entries were handed out, how many were done, and how many of them are committed.
+    pub seen: u64,
+    pub done: u64,
+    pub committed: u64,
+    /// Why it stopped, or did not commit.
+    pub fault: Option<Fault>,
+}
+
+impl<T: Table + Drop> Rows<T> {
+    /// A handler over this table, which has gathered nothing.
+    pub fn new(alloc: Global, table: T) -> Rows<T>
+        ensures { (result.table ≡ table) × (result.loose.items ≡ [])
+            × (result.seen ≡ 0) × (result.done ≡ 0) × (result.committed ≡ 0) }
+    {
+        Rows {
+            table,
+            loose: Vec::new(alloc),
+            seen: 0,
+            done: 0,
+            committed: 0,
+            fault: None,
+        }
+    }
+
+    /// The table.
+    pub fn into_table(self) -> T
+        ensures { result ≡ self.table }
+    {
+        self.table
+    }
+
+    /// Gathers the row of an entry.
+    fn gather(&mut self, alloc: Global, entry: &EntryRef<'_>) -> Result<(), Fault>
+        ensures ok { OnOk result (rows_of self.new.loose.items
+            ≡ rows_of self.old.loose.items ++ row_in (pair_of entry.now) ∷ []) }
+        ensures err { OnErr result (self.new.loose.items ≡ self.old.loose.items) }
+        ensures table { self.new.table ≡ self.old.table }
+    {
+        let row = row_of_entry(alloc, entry)?;
+        match self.loose.push(row) {
+            Ok(()) => Ok(()),
+            Err(_) => Err(Fault::Table(TableError::Memory)),
+        }
+    }
+}
+
+impl<T: Table + Drop> Handler for Rows<T> {
+    ghost History = { Kept };
+
+    ghost with_verdict = { kept_too };
+
+    ghost with_commit = { committed_with };
+
+    ghost history = { λ h. kept_by h.loose.items (T.committed h.table) };
+
+    /// Gathers the row of the entry, which is done then; if it cannot, the worker stops.
+    fn handle(&mut self, alloc: Global, entry: &EntryRef<'_>) -> Verdict
+        ensures history { ⟦<Rows<T> as Handler>⟧.history self.new
+            ≡ kept_too (⟦<Rows<T> as Handler>⟧.history self.old) (pair_of entry.now) (verdict_of result) }
+        ensures table { self.new.table ≡ self.old.table }
+    {
+        self.seen = self.seen.saturating_add(1);
+        match self.gather(alloc, entry) {
+            Ok(()) => {
+                self.done = self.done.saturating_add(1);
+                Verdict::Done
+            }
+            Err(fault) => {
+                self.fault = Some(fault);
+                Verdict::Stop
+            }
+        }
+    }
+
+    /// Puts in the rows that were gathered, as one transaction. After an Ok each of them is in the table with
+    /// its own fields, and so it is in whatever a crash leaves; after an `Err` the table is as it was, and the
+    /// next commit puts in these rows too.
+    fn commit(&mut self, alloc: Global) -> Result<(), NotCommitted>
+        ensures there { OnOk result (AreKnown (rows_of self.old.loose.items) (T.committed self.new.table)) }
+        ensures durable { OnOk result (LeavesJust (T.committed self.new.table) (T.may_leave self.new.table)) }
+        ensures crash { LeavesOldOr (with_known (rows_of self.old.loose.items) (T.committed self.old.table))
+            (T.may_leave self.old.table) (T.may_leave self.new.table) }
+        ensures history { OnOk result (⟦<Rows<T> as Handler>⟧.history self.new
+            ≡ committed_with (⟦<Rows<T> as Handler>⟧.history self.old)) }
+        ensures history_kept { OnErr result (⟦<Rows<T> as Handler>⟧.history self.new
+            ≡ ⟦<Rows<T> as Handler>⟧.history self.old) }
+    {
+        match put_all(alloc, &mut self.table, &self.loose) {
+            Ok(()) => {
+                self.loose.clear();
+                self.committed = self.done;
+                Ok(())
+            }
+            Err(error) => {
+                self.fault = Some(Fault::Table(error));
+                Err(NotCommitted)
+            }
+        }
+    }
+}
+
+/// The row of an entry. An id of 2^63 milliseconds or more is refused, and so is such a sequence number.
+fn row_of_entry(alloc: Global, entry: &EntryRef<'_>) -> Result<Row, Fault>
+    ensures row { IfOk result (λ row. row_of row ≡ row_in (pair_of entry.now)) }
+    ensures small { IfOk result (λ row. (row.first < 2 ^ 63) × (row.second < 2 ^ 63)) }
+{
+    let Some(StreamIdParts { ms, seq }) = StreamIdParts::parse(entry.id().as_bytes()) else {
+        return Err(Fault::NotAnId);
+    };
+    if ms >= KEYS_END || seq >= KEYS_END {
+        return Err(Fault::Table(TableError::KeyTooLarge {
+            first: ms,
+            second: seq,
+        }));
+    }
+    Ok(Row {
+        first: ms,
+        second: seq,
+        text: fields_text(alloc, entry.fields())?,
+    })
+}
