@@ -2,21 +2,22 @@
 use Rattle.std.proofs.Common.{◌≡◌, ◌∙◌, sym, ap, subst, inl, inr, ⊎_elim, ℕ, Bool, true, false, List, [], ◌∷◌, ◌++◌}
 use Rattle.std.proofs.Common.{Option, Some, IfSome, append_assoc}
 use Rattle.line_log.specs.EntryLine.{Entry}
-use Rattle.line_log.specs.Holds.{IsHeld, committed_in}
+use Rattle.line_log.specs.Holds.{IsHeld}
 use Rattle.line_log.specs.Lines.{AreLines, EachStartsWith, HasLine, HasNoEnd, StartsWith}
 use Rattle.line_log.proofs.EntryLineLemmas.{line_whole}
 use Rattle.line_log.proofs.LineLemmas.{committed_is_left, later_line, next_line, one_more}
+use Rattle.redis_connection.specs.Link.{Link}
 use Rattle.stream_group.specs.Law.{Among}
-use Rattle.stream_group.specs.Worker.{Id}
 use Rattle.stream_worker.proofs.LifeLemmas.{only_committed}
-use Rattle.stream_worker.specs.Gathered.{Doings, committed_too}
+use Rattle.stream_worker.specs.Gathered.{committed_too}
 use Rattle.stream_worker.specs.Machine.{history_at_request}
 use Rattle.stream_worker.specs.Session.{Standing, standing_of}
 use Rattle.stream_worker.specs.declared.state.Settings.{Settings}
 use Rattle.stream_worker.specs.declared.worker.Worker.{Worker}
 use Rattle.stream_drain.specs.Filed.{AcknowledgedIsFiled, AreFiled, FiledFrom}
 use Rattle.stream_drain.specs.Line.{entry_tokens, line_in}
-use Rattle.stream_drain.specs.Lived.{LivesFrom, with_doings}
+use Rattle.stream_drain.specs.Lived.{Leads, with_doings}
+use Rattle.stream_drain.specs.Loop.{Loops, Stops, Drains}
 use Rattle.stream_drain.specs.Written.{Written, committed_with, lines_in, written_by, written_of}
 use Rattle.stream_drain.proofs.JsonLemmas.{entry_texts, no_end}
 use Rattle.stream_drain.proofs.LivedLemmas.{commit_of}
@@ -53,19 +54,31 @@ found_in json first es may_leave whole in_order = record {
 
 -- a worker whose log holds what is committed
 pub filed_from : {D : Type 0} (seen : D → Option (List ℕ)) (may_leave : D → List ℕ → Type 0) (is_sound : D → Type 0)
-    (settings : Settings) (w : Standing Written) (worker : Worker) (json : Bool) (loose : List ℕ) (file : D) (len : ℕ)
-    (is_broken : Bool) → ∥ IsHeld seen may_leave is_sound file len is_broken ∥₁
-    → LivesFrom settings w (standing_of worker (written_by json loose (seen file) len))
-    → FiledFrom settings w (standing_of worker (written_by json loose (seen file) len)) (may_leave file)
-filed_from seen may_leave is_sound settings w worker json loose file len is_broken held lives form first deleted whole l =
-    let on = lives form (Some first) deleted l in
-    let es = on.1.doings.committed in (
-      on.0,
-      on.1,
+    (settings : Settings) (old new : Link) (w : Standing Written) (worker : Worker) (json : Bool) (loose : List ℕ)
+    (file : D) (len : ℕ) (is_broken : Bool) → ∥ IsHeld seen may_leave is_sound file len is_broken ∥₁
+    → Leads (Drains settings) old new w (standing_of worker (written_by json loose (seen file) len))
+    → FiledFrom settings old new w (standing_of worker (written_by json loose (seen file) len)) (may_leave file)
+filed_from seen may_leave is_sound settings old new w worker json loose file len is_broken held leads form first d whole is =
+    let l = leads form (Some first) d is in
+    let es = l.doings.committed in (
+      l,
       found_in form first es (may_leave file) whole
           (committed_is_left seen may_leave is_sound (first ++ lines_in form es) file len is_broken held
-          (ap (λ (v : Written). v.committed) on.1.written)),
+          (ap (λ (v : Written). v.committed) l.written)),
     )
+
+-- the rounds go on, or come to an end
+pub with_loops : (settings : Settings) (old new : Link) (w x : Standing Written) → Leads (Loops settings) old new w x
+    → Leads (Drains settings) old new w x
+with_loops settings old new w x a json first d is =
+    let l = a json first d is in
+    record { doings = l.doings; told = l.told; leads = inl l.leads; written = l.written }
+
+pub with_stops : (settings : Settings) (old new : Link) (w x : Standing Written) → Leads (Stops settings) old new w x
+    → Leads (Drains settings) old new w x
+with_stops settings old new w x a json first d is =
+    let l = a json first d is in
+    record { doings = l.doings; told = l.told; leads = inr l.leads; written = l.written }
 
 -- what is committed before a worker asks
 pub acknowledged_is_filed : AcknowledgedIsFiled

@@ -9,7 +9,8 @@ use Rattle.stream_worker.specs.Answered.{Failed, IsNoAnswer}
 use Rattle.stream_worker.specs.Answers.{Heard, told, no_group, group_made, group_after, hears}
 use Rattle.stream_worker.specs.Gathered.{Doings, done_too, committed_too}
 use Rattle.stream_worker.specs.Handling.{with_all}
-use Rattle.stream_worker.specs.Life.{Lives, begins, goes_on, fails, deleted_told, deleted_at}
+use Rattle.stream_worker.specs.Life.{Lives, begins, goes_on, deleted_told, deleted_at}
+use Rattle.stream_worker.specs.Life as life
 use Rattle.stream_worker.specs.Machine.{commits, at_request, history_at_request}
 use Rattle.stream_worker.specs.Pipelined.{FailsPipelined, WentPipelined}
 use Rattle.stream_worker.specs.Questions.{asks}
@@ -27,8 +28,11 @@ use Rattle.stream_worker.specs.declared.state.Asked.TheVariants.{Acknowledgement
 use Rattle.stream_worker.specs.declared.state.GroupState.{GroupState}
 use Rattle.stream_worker.specs.declared.state.Settings.{Settings}
 use Rattle.stream_worker.specs.declared.worker.Progress.{Progress}
-use Rattle.stream_worker.specs.declared.worker.Progress.TheVariants.{GoesOn}
-use Rattle.stream_drain.specs.Lived.{LivesFrom, LivesOnSo, LivesSo, RoundsAreLived, with_doings}
+use Rattle.stream_worker.specs.declared.worker.Progress.TheVariants.{GoesOn, Stopped}
+use Rattle.stream_drain.specs.Besides.{Besides, BreaksBesides}
+use Rattle.stream_drain.proofs.BesidesLemmas.{no_more}
+use Rattle.stream_drain.specs.Lived.{Leads, LeadsSo, RoundsAreLived, Way, with_doings}
+use Rattle.stream_drain.specs.Loop.{Loops, Stops, Drains, IsLeft, ends, besides, turns, breaks, stops, fails}
 use Rattle.stream_drain.specs.Written.{Written, committed_with, written_of, written_too}
 use Rattle.stream_drain.proofs.WrittenLemmas.{each_commit, each_verdict, with_none}
 
@@ -139,8 +143,13 @@ module _ {R S : Type 0} (vR : R → List ℕ × Pairs → Verdict → R) (cR : R
       (after_failure e b.0, h.2 ∙ ap (after_failure e) b.1, (b.0, b.2, refl))
 
   pub turned_back : (old new : Link) (w : Standing R) (x : Standing S) (q : Asked) (p : Progress)
-      → Turned vS cS settings old new (seen w) x q p → (t : Turn) × (x ≡ seen (after_turn vR cR settings w t))
-  turned_back old new w x q p h = (h.turn, h.stands ∙ turn_map w h.turn)
+      → Turned vS cS settings old new (seen w) x q p
+      → (z : Standing R) × (x ≡ seen z) × Turned vR cR settings old new w z q p
+  turned_back old new w x q p h = (
+    after_turn vR cR settings w h.turn,
+    h.stands ∙ turn_map w h.turn,
+    record { turn = h.turn; asked = h.asked; exchanges = h.exchanges; stands = refl; ends = h.ends },
+  )
 
 -- ---- of lines
 
@@ -154,93 +163,226 @@ module _ (settings : Settings) (json : Bool) (first : Option (List ℕ)) where
   commit_of m d = commit_map done_too committed_too written_too committed_with (written_of json first)
       (each_verdict json first) (each_commit json first) settings m d
 
-  lives_so : (x : Standing Written) (y : Standing Doings) (deleted : List Id) → x ≡ drawn y → Lives settings y deleted
-      → LivesSo settings json first x deleted
-  lives_so x y deleted is l = record {
-    doings = y.history;
-    lives = subst (λ (z : Standing Doings). Lives settings z deleted)
-        (sym (ap (λ (s : Standing Written). with_doings s y.history) is)) l;
+  -- where this leads to is where these doings are drawn
+  leads_so : (way : Way) (old new : Link) (w x : Standing Written) (d : Doings) (z : Standing Doings) (gone : List Id)
+      → x ≡ drawn z → way old (with_doings w d) new z gone → LeadsSo way old new w x json first d
+  leads_so way old new w x d z gone is p = record {
+    doings = z.history;
+    told = gone;
+    leads = subst (λ (u : Standing Doings). way old (with_doings w d) new u gone)
+        (sym (ap (λ (s : Standing Written). with_doings s z.history) is)) p;
     written = ap (λ (s : Standing Written). s.history) is;
   }
 
-  drawn_is : (w : Standing Written) (deleted : List Id) (l : LivesSo settings json first w deleted)
-      → w ≡ drawn (with_doings w l.doings)
-  drawn_is w deleted l = ap (standing w.machine w.group w.asked) l.written
+  drawn_is : (w : Standing Written) (d : Doings) → w.history ≡ written_of json first d → w ≡ drawn (with_doings w d)
+  drawn_is w d is = ap (standing w.machine w.group w.asked) is
 
-  turn_lived : (old new : Link) (w x : Standing Written) (deleted : List Id) (l : LivesSo settings json first w deleted)
-      (q : Asked) (p : Progress) → Turned written_too committed_with settings old new w x q p
-      → LivesOnSo settings json first x deleted
-  turn_lived old new w x deleted l q p t =
-      let v = with_doings w l.doings in
-      let b = turned_back done_too committed_too written_too committed_with (written_of json first)
-      (each_verdict json first) (each_commit json first) settings old new v x q p
-      (subst (λ (s : Standing Written). Turned written_too committed_with settings old new s x q p)
-      (drawn_is w deleted l) t) in (
-        deleted_told settings v b.0.answer,
-        lives_so x (after_turn done_too committed_too settings v b.0) _ b.1 (goes_on v deleted b.0 l.lives),
-      )
+  -- a round of the lines is one of the doings
+  turned_so : (old new : Link) (w x : Standing Written) (d : Doings) (q : Asked) (p : Progress)
+      → w.history ≡ written_of json first d → Turned written_too committed_with settings old new w x q p
+      → (z : Standing Doings) × (x ≡ drawn z) × Turned done_too committed_too settings old new (with_doings w d) z q p
+  turned_so old new w x d q p is t =
+      turned_back done_too committed_too written_too committed_with (written_of json first)
+      (each_verdict json first) (each_commit json first) settings old new (with_doings w d) x q p
+      (subst (λ (s : Standing Written). Turned written_too committed_with settings old new s x q p) (drawn_is w d is) t)
 
-  failure_lived : (old new : Link) (w x : Standing Written) (deleted : List Id) (l : LivesSo settings json first w deleted)
-      (e : RunError) → Fails written_too committed_with settings old new w x e → LivesOnSo settings json first x deleted
-  failure_lived old new w x deleted l e h =
-      let v = with_doings w l.doings in
-      let b = fails_back done_too committed_too written_too committed_with (written_of json first)
-      (each_verdict json first) (each_commit json first) settings old new v x e
-      (subst (λ (s : Standing Written). Fails written_too committed_with settings old new s x e)
-      (drawn_is w deleted l) h) in (
-        deleted_at settings old new v b.0 e b.2,
-        lives_so x b.0 _ b.1 (fails v b.0 deleted old new e b.2 l.lives),
-      )
+  failed_so : (old new : Link) (w x : Standing Written) (d : Doings) (e : RunError)
+      → w.history ≡ written_of json first d → Fails written_too committed_with settings old new w x e
+      → (z : Standing Doings) × (x ≡ drawn z) × Fails done_too committed_too settings old new (with_doings w d) z e
+  failed_so old new w x d e is f =
+      fails_back done_too committed_too written_too committed_with (written_of json first)
+      (each_verdict json first) (each_commit json first) settings old new (with_doings w d) x e
+      (subst (λ (s : Standing Written). Fails written_too committed_with settings old new s x e) (drawn_is w d is) f)
 
--- a round that goes on
-pub round_goes_on : (settings : Settings) (old new : Link) (w x : Standing Written) (q : Asked) (p : Progress)
-    → Turned written_too committed_with settings old new w x q p → LivesFrom settings w x
-round_goes_on settings old new w x q p t json first deleted l = turn_lived settings json first old new w x deleted l q p t
+-- ---- one after the other
 
--- and one that fails
+loops_both : (settings : Settings) (l m n : Link) (v u y : Standing Doings) (a b : List Id) → Loops settings l v m u a
+    → Loops settings m u n y b → Loops settings l v n y (a ++ b)
+loops_both settings l m n v u y a b (ends k w) q = q
+loops_both settings l m n v u y a b (besides k k' i w w' ids b' p) q =
+    besides k k' n w y (ids ++ b) b' (loops_both settings k' i n w w' y ids b p q)
+loops_both settings l m n v u y a b (turns k k' i w w' x asked ids t p) q =
+    subst (λ (all : List Id). Loops settings k w n y all) (sym (append_assoc (deleted_told settings w t.turn.answer) ids b))
+    (turns k k' n w w' y asked (ids ++ b) t (loops_both settings k' i n w' x y ids b p q))
+
+loops_stop : (settings : Settings) (l m n : Link) (v u y : Standing Doings) (a b : List Id) → Loops settings l v m u a
+    → Stops settings m u n y b → Stops settings l v n y (a ++ b)
+loops_stop settings l m n v u y a b p (breaks k k' i w x ids q s) =
+    breaks l k' i v x (a ++ ids) (loops_both settings l k k' v w x a ids p q) s
+loops_stop settings l m n v u y a b p (stops k k' i w w' x asked ids q t) =
+    subst (λ (all : List Id). Stops settings l v i x all) (append_assoc a ids (deleted_told settings w' t.turn.answer))
+    (stops l k' i v w' x asked (a ++ ids) (loops_both settings l k k' v w w' a ids p q) t)
+loops_stop settings l m n v u y a b p (fails k k' i j w w' x e ids q f left) =
+    subst (λ (all : List Id). Stops settings l v j x all) (append_assoc a ids (deleted_at settings k' i w' x e f))
+    (fails l k' i j v w' x e (a ++ ids) (loops_both settings l k k' v w w' a ids p q) f left)
+
+pub leads_both : (settings : Settings) (old m new : Link) (w x y : Standing Written) → Leads (Loops settings) old m w x
+    → Leads (Loops settings) m new x y → Leads (Loops settings) old new w y
+leads_both settings old m new w x y a b json first d is =
+    let g = a json first d is in
+    let h = b json first g.doings g.written in
+    record {
+      doings = h.doings;
+      told = g.told ++ h.told;
+      leads = loops_both settings old m new _ _ _ g.told h.told g.leads h.leads;
+      written = h.written;
+    }
+
+pub leads_stop : (settings : Settings) (old m new : Link) (w x y : Standing Written) → Leads (Loops settings) old m w x
+    → Leads (Stops settings) m new x y → Leads (Stops settings) old new w y
+leads_stop settings old m new w x y a b json first d is =
+    let g = a json first d is in
+    let h = b json first g.doings g.written in
+    record {
+      doings = h.doings;
+      told = g.told ++ h.told;
+      leads = loops_stop settings old m new _ _ _ g.told h.told g.leads h.leads;
+      written = h.written;
+    }
+
+-- nothing happened
+pub leads_same : (settings : Settings) (l : Link) (w : Standing Written) → Leads (Loops settings) l l w w
+leads_same settings l w json first d is = record { doings = d; told = []; leads = ends l (with_doings w d); written = is }
+
+-- other commands went out
+pub leads_besides : (settings : Settings) (old new : Link) (w : Standing Written) → Besides old new
+    → Leads (Loops settings) old new w w
+leads_besides settings old new w b json first d is =
+    let v = with_doings w d in
+    record { doings = d; told = []; leads = besides old new new v v [] b (ends new v); written = is }
+
+pub leads_breaks : (settings : Settings) (old new : Link) (w : Standing Written) → BreaksBesides old new
+    → Leads (Stops settings) old new w w
+leads_breaks settings old new w b json first d is =
+    let v = with_doings w d in
+    record { doings = d; told = []; leads = breaks old old new v v [] (ends old v) b; written = is }
+
+-- the rounds end, and nothing more goes out
+pub leads_end : (settings : Settings) (old new : Link) (w x : Standing Written) → Leads (Loops settings) old new w x
+    → Leads (Stops settings) old new w x
+leads_end settings old new w x a = leads_stop settings old new new w x x a (leads_breaks settings new new x (no_more new))
+
+-- ---- a round
+
+pub round_goes_on : (settings : Settings) (old new : Link) (w x : Standing Written) (asked : Asked)
+    → Turned written_too committed_with settings old new w x asked GoesOn → Leads (Loops settings) old new w x
+round_goes_on settings old new w x asked h json first d is =
+    let v = with_doings w d in
+    let t = turned_so settings json first old new w x d asked GoesOn is h in
+    leads_so settings json first (Loops settings) old new w x d t.0 (deleted_told settings v t.2.turn.answer ++ []) t.1
+    (turns old new new v t.0 t.0 asked [] t.2 (ends new t.0))
+
+pub round_stops : (settings : Settings) (old new : Link) (w x : Standing Written) (asked : Asked)
+    → Turned written_too committed_with settings old new w x asked Stopped → Leads (Stops settings) old new w x
+round_stops settings old new w x asked h json first d is =
+    let v = with_doings w d in
+    let t = turned_so settings json first old new w x d asked Stopped is h in
+    leads_so settings json first (Stops settings) old new w x d t.0 (deleted_told settings v t.2.turn.answer) t.1
+    (stops old old new v v t.0 asked [] (ends old v) t.2)
+
+-- it fails, and so much of what went out is left
+fails_leaving : (settings : Settings) (old k new : Link) (w x : Standing Written) (e : RunError)
+    → Fails written_too committed_with settings old k w x e
+    → ((d : Doings) → IsLeft settings k new (with_doings w d)) → Leads (Stops settings) old new w x
+fails_leaving settings old k new w x e h left json first d is =
+    let v = with_doings w d in
+    let f = failed_so settings json first old k w x d e is h in
+    leads_so settings json first (Stops settings) old new w x d f.0 (deleted_at settings old k v f.0 e f.2) f.1
+    (fails old old k new v v f.0 e [] (ends old v) f.2 (left d))
+
 pub round_fails : (settings : Settings) (old new : Link) (w x : Standing Written) (e : RunError)
-    → Fails written_too committed_with settings old new w x e → LivesFrom settings w x
-round_fails settings old new w x e h json first deleted l = failure_lived settings json first old new w x deleted l e h
+    → Fails written_too committed_with settings old new w x e → Leads (Stops settings) old new w x
+round_fails settings old new w x e h = fails_leaving settings old new new w x e h (λ d. inl refl)
+
+-- one round, or two with one write
+pub pipelined_goes_on : (settings : Settings) (old new : Link) (w x : Standing Written) (both : Bool) (asked : Asked)
+    → WentPipelined written_too committed_with settings old new w x both asked GoesOn → Leads (Loops settings) old new w x
+pipelined_goes_on settings old new w x false asked t = round_goes_on settings old new w x asked t
+pipelined_goes_on settings old new w x true asked (m, y, first, second) =
+    leads_both settings old m new w y x (round_goes_on settings old m w y Acknowledgement first)
+    (round_goes_on settings m new y x asked second)
+
+pub pipelined_stops : (settings : Settings) (old new : Link) (w x : Standing Written) (both : Bool) (asked : Asked)
+    → WentPipelined written_too committed_with settings old new w x both asked Stopped
+    → Leads (Stops settings) old new w x
+pipelined_stops settings old new w x false asked t = round_stops settings old new w x asked t
+pipelined_stops settings old new w x true asked (m, y, first, second) =
+    leads_stop settings old m new w y x (round_goes_on settings old m w y Acknowledgement first)
+    (round_stops settings m new y x asked second)
+
+-- the same of a round that came to this
+pub round_ok : (settings : Settings) (old new : Link) (w x : Standing Written) (asked : Asked) (p : Progress)
+    → p ≡ GoesOn → Turned written_too committed_with settings old new w x asked p → Leads (Loops settings) old new w x
+round_ok settings old new w x asked p is t = round_goes_on settings old new w x asked
+    (subst (λ (r : Progress). Turned written_too committed_with settings old new w x asked r) is t)
+
+pub round_stopped : (settings : Settings) (old new : Link) (w x : Standing Written) (asked : Asked) (p : Progress)
+    → p ≡ Stopped → Turned written_too committed_with settings old new w x asked p → Leads (Stops settings) old new w x
+round_stopped settings old new w x asked p is t = round_stops settings old new w x asked
+    (subst (λ (r : Progress). Turned written_too committed_with settings old new w x asked r) is t)
+
+pub pipelined_ok : (settings : Settings) (old new : Link) (w x : Standing Written) (both : Bool) (asked : Asked)
+    (p : Progress) → p ≡ GoesOn → WentPipelined written_too committed_with settings old new w x both asked p
+    → Leads (Loops settings) old new w x
+pipelined_ok settings old new w x both asked p is t = pipelined_goes_on settings old new w x both asked
+    (subst (λ (r : Progress). WentPipelined written_too committed_with settings old new w x both asked r) is t)
+
+pub pipelined_stopped : (settings : Settings) (old new : Link) (w x : Standing Written) (both : Bool) (asked : Asked)
+    (p : Progress) → p ≡ Stopped → WentPipelined written_too committed_with settings old new w x both asked p
+    → Leads (Stops settings) old new w x
+pipelined_stopped settings old new w x both asked p is t = pipelined_stops settings old new w x both asked
+    (subst (λ (r : Progress). WentPipelined written_too committed_with settings old new w x both asked r) is t)
+
+pub pipelined_fails : (settings : Settings) (old new : Link) (w x : Standing Written) (e : RunError)
+    → FailsPipelined written_too committed_with settings old new w x e → Leads (Stops settings) old new w x
+pipelined_fails settings old new w x e (inl f) = round_fails settings old new w x e f
+pipelined_fails settings old new w x e (inr (inl (m, c, f, leaves))) =
+    fails_leaving settings old m new w x c f (λ d. inr (c, e, leaves))
+pipelined_fails settings old new w x e (inr (inr (m, y, t, f))) =
+    leads_stop settings old m new w y x (round_goes_on settings old m w y Acknowledgement t)
+    (round_fails settings m new y x e f)
+
+-- ---- a life
+
+loops_lived : (settings : Settings) (l n : Link) (v y : Standing Doings) (deleted gone : List Id)
+    → Lives settings v deleted → Loops settings l v n y gone → Lives settings y (deleted ++ gone)
+loops_lived settings l n v y deleted gone a (ends k w) =
+    subst (λ (ids : List Id). Lives settings w ids) (sym (append-nil deleted)) a
+loops_lived settings l n v y deleted gone a (besides k m i w x ids b p) =
+    loops_lived settings m i w x deleted ids a p
+loops_lived settings l n v y deleted gone a (turns k m i w u x asked ids t p) =
+    let now : List Id = deleted_told settings w t.turn.answer in
+    let here : Lives settings u (deleted ++ now) =
+    subst (λ (s : Standing Doings). Lives settings s (deleted ++ now)) (sym t.stands) (goes_on w deleted t.turn a) in
+    subst (λ (all : List Id). Lives settings x all) (append_assoc deleted now ids)
+    (loops_lived settings m i u x (deleted ++ now) ids here p)
+
+stops_lived : (settings : Settings) (l n : Link) (v y : Standing Doings) (deleted gone : List Id)
+    → Lives settings v deleted → Stops settings l v n y gone → Lives settings y (deleted ++ gone)
+stops_lived settings l n v y deleted gone a (breaks k m i w x ids p b) = loops_lived settings k m w x deleted ids a p
+stops_lived settings l n v y deleted gone a (stops k m i w u x asked ids p t) =
+    let now : List Id = deleted_told settings u t.turn.answer in
+    subst (λ (all : List Id). Lives settings x all) (append_assoc deleted ids now)
+    (subst (λ (s : Standing Doings). Lives settings s ((deleted ++ ids) ++ now)) (sym t.stands)
+    (goes_on u (deleted ++ ids) t.turn (loops_lived settings k m w u deleted ids a p)))
+stops_lived settings l n v y deleted gone a (fails k m i j w u x e ids p f left) =
+    subst (λ (all : List Id). Lives settings x all) (append_assoc deleted ids (deleted_at settings m i u x e f))
+    (life.fails u x (deleted ++ ids) m i e f (loops_lived settings k m w u deleted ids a p))
+
+drains_lived : (settings : Settings) (old new : Link) (v y : Standing Doings) (deleted gone : List Id)
+    → Lives settings v deleted → Drains settings old v new y gone → Lives settings y (deleted ++ gone)
+drains_lived settings old new v y deleted gone a (inl p) = loops_lived settings old new v y deleted gone a p
+drains_lived settings old new v y deleted gone a (inr p) = stops_lived settings old new v y deleted gone a p
 
 pub lived : RoundsAreLived
-lived settings = (
-  λ json first. record {
+lived = record {
+  begins = λ settings json first. record {
     doings = record { loose = []; committed = [] };
     lives = begins;
     written = ap (λ (c : Option (List ℕ)). record { json = json; loose = []; committed = c }) (sym (with_none first));
-  },
-  round_goes_on settings,
-  round_fails settings,
-)
-
--- nothing happened
-pub from_same : (settings : Settings) (w : Standing Written) → LivesFrom settings w w
-from_same settings w json first deleted l =
-    ([], subst (λ (ids : List Id). LivesSo settings json first w ids) (sym (append-nil deleted)) l)
-
--- one after the other
-pub from_both : (settings : Settings) (w x y : Standing Written) → LivesFrom settings w x → LivesFrom settings x y
-    → LivesFrom settings w y
-from_both settings w x y a b json first deleted l =
-    let c = a json first deleted l in
-    let d = b json first (deleted ++ c.0) c.1 in (
-      c.0 ++ d.0,
-      subst (λ (ids : List Id). LivesSo settings json first y ids) (append_assoc deleted c.0 d.0) d.1,
-    )
-
--- one round, or two with one write
-pub pipelined_goes_on : (settings : Settings) (old new : Link) (w x : Standing Written) (both : Bool) (q : Asked)
-    (p : Progress) → WentPipelined written_too committed_with settings old new w x both q p → LivesFrom settings w x
-pipelined_goes_on settings old new w x false q p t = round_goes_on settings old new w x q p t
-pipelined_goes_on settings old new w x true q p (m, y, first, second) =
-    from_both settings w y x (round_goes_on settings old m w y Acknowledgement GoesOn first)
-    (round_goes_on settings m new y x q p second)
-
--- and one of them that fails
-pub pipelined_fails : (settings : Settings) (old new : Link) (w x : Standing Written) (e : RunError)
-    → FailsPipelined written_too committed_with settings old new w x e → LivesFrom settings w x
-pipelined_fails settings old new w x e (inl f) = round_fails settings old new w x e f
-pipelined_fails settings old new w x e (inr (inl (m, c, f, leaves))) = round_fails settings old m w x c f
-pipelined_fails settings old new w x e (inr (inr (m, y, t, f))) =
-    from_both settings w y x (round_goes_on settings old m w y Acknowledgement GoesOn t)
-    (round_fails settings m new y x e f)
+  };
+  goes_on = round_goes_on;
+  stops = round_stops;
+  fails = round_fails;
+  lives = drains_lived;
+}

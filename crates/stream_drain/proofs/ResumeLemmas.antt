@@ -1,5 +1,5 @@
 -- The steps of a program that begins with what its file tells.
-use Rattle.std.proofs.Common.{◌≡◌, ◌+◌, ◌<◌, ◌∙◌, refl, sym, ap, subst, arith, ℕ, Bool, true, false, List, [], ◌∷◌, ◌++◌, codes, drop}
+use Rattle.std.proofs.Common.{◌≡◌, ◌+◌, ◌<◌, ◌∙◌, sym, ap, subst, ℕ, Bool, List, [], ◌∷◌, ◌++◌, codes, drop}
 use Rattle.std.proofs.Common.{length, map, take, take-suc, add-one, get_or, string_bytes, Option, Some, None, IfSome, IfOk, Result, Ok, Err, Vec}
 use Rattle.std.proofs.Common.{◌≤◌, append-nil}
 use Rattle.std.proofs.Math.Seq.{drop-length}

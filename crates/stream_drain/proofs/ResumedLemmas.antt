@@ -1,5 +1,5 @@
 -- A worker that acknowledges first what the last lines of its file say.
-use Rattle.std.proofs.Common.{◌≡◌, ◌∙◌, ◌+◌, ◌-◌, inl, inr, refl, sym, ap, subst, ℕ, Bool, List, [], ◌∷◌, ◌++◌, length, map}
+use Rattle.std.proofs.Common.{◌≡◌, ◌∙◌, ◌-◌, inl, inr, refl, sym, ap, subst, ℕ, Bool, List, [], ◌∷◌, ◌++◌, length, map}
 use Rattle.std.proofs.Common.{Some, append_assoc, arith, drop}
 use Rattle.std.proofs.lemmas.List.{drop-map}
 use Rattle.line_log.specs.EntryLine.{Entry}

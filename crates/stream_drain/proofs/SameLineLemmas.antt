@@ -1,9 +1,9 @@
 -- A line tells its entry, in JSON too.
 use Rattle.std.proofs.Common.{◌≡◌, ◌<◌, ℕ, zero, suc, Bool, true, false, List, [], ◌∷◌, ◌++◌, flat_map, slice_index, refl, sym}
-use Rattle.std.proofs.Common.{◌∙◌, ap, ap₂, arith, append_assoc, if◌then◌else◌, codes}
-use Rattle.std.specs.List.{AllByRecursion, list_all}
+use Rattle.std.proofs.Common.{◌∙◌, ap, ap₂, arith, append_assoc, if◌then◌else◌}
+use Rattle.std.specs.List.{AllByRecursion}
 use Rattle.std.specs.Str.{is_utf8}
-use Rattle.std.proofs.lemmas.Bool.{and_parts, true≢false}
+use Rattle.std.proofs.lemmas.Bool.{true≢false}
 use Rattle.base64.proofs.RoundTrip.{decode-encode}
 use Rattle.base64.specs.Decode.{decoded_bytes}
 use Rattle.base64.specs.Engines as named
@@ -16,8 +16,8 @@ use Rattle.json.specs.Print.{print, ArePrintable}
 use Rattle.json.proofs.Printed.Tokens.{tokens-print}
 use Rattle.line_log.specs.EntryLine.{Entry}
 use Rattle.line_log.specs.EntryLine as tabs
-use Rattle.stream_drain.specs.Json.{are_texts, is_text_or_bracket}
-use Rattle.stream_drain.specs.Line.{base64_tokens, begin_tokens, bytes_tokens, end_tokens, entry_tokens, field_tokens, line_in}
+use Rattle.stream_drain.specs.Json.{are_texts}
+use Rattle.stream_drain.specs.Line.{base64_tokens, bytes_tokens, end_tokens, entry_tokens, field_tokens}
 use Rattle.stream_drain.specs.Tell.{AreBytes, IsOfBytes, LinesTellEntries}
 use Rattle.stream_drain.proofs.JsonLemmas.{entry_texts}
 

@@ -1,15 +1,18 @@
 -- What a crash leaves of the file: the lines of the entries that were committed.
-use Rattle.std.specs.Prelude.{◌⊎◌, ℕ, List, ◌++◌, Bool, Some, IfSome}
+use Rattle.std.specs.Prelude.{◌≡◌, ◌⊎◌, ℕ, List, ◌++◌, Bool, Some, IfSome}
 use Rattle.line_log.specs.EntryLine.{Entry}
 use Rattle.line_log.specs.Lines.{AreLines, EachStartsWith, HasLine, StartsWith}
+use Rattle.redis_connection.specs.Link.{Link}
 use Rattle.stream_group.specs.Law.{Among}
 use Rattle.stream_group.specs.Worker.{Id}
 use Rattle.stream_refs.specs.Sent.{Pairs}
+use Rattle.stream_worker.specs.Gathered.{Doings}
 use Rattle.stream_worker.specs.Session.{Standing, asking}
 use Rattle.stream_worker.specs.declared.state.Settings.{Settings}
 use Rattle.stream_drain.specs.Line.{line_in}
-use Rattle.stream_drain.specs.Lived.{LivesSo}
-use Rattle.stream_drain.specs.Written.{Written, committed_with, lines_in}
+use Rattle.stream_drain.specs.Lived.{LeadsSo, LivesSo}
+use Rattle.stream_drain.specs.Loop.{Drains}
+use Rattle.stream_drain.specs.Written.{Written, committed_with, lines_in, written_of}
 
 -- whatever a crash leaves begins with what was there first and the lines of these entries, in order; and each of them is
 -- a line of it
@@ -17,12 +20,10 @@ pub record AreFiled (json : Bool) (first : List ℕ) (es : List Entry) (may_leav
   pub in_order : EachStartsWith (first ++ lines_in json es) may_leave
   pub each : (e : Entry) → Among e es → (c : List ℕ) → may_leave c → HasLine (line_in json e) c
 
--- wherever a worker lives so at first, after whole lines, it lives on so in the end, and what was committed is in
--- whatever a crash leaves
-abbrev pub FiledFrom : Settings → Standing Written → Standing Written → (List ℕ → Type 0) → Type 0
-FiledFrom settings w x may_leave = (json : Bool) (first : List ℕ) (deleted : List Id) → AreLines first
-    → LivesSo settings json (Some first) w deleted
-    → (more : List Id) × (l : LivesSo settings json (Some first) x (deleted ++ more))
+-- the rounds lead so, after whole lines, and what is committed in the end is in whatever a crash leaves
+abbrev pub FiledFrom : Settings → Link → Link → Standing Written → Standing Written → (List ℕ → Type 0) → Type 0
+FiledFrom settings old new w x may_leave = (json : Bool) (first : List ℕ) (d : Doings) → AreLines first
+    → w.history ≡ written_of json (Some first) d → (l : LeadsSo (Drains settings) old new w x json (Some first) d)
     × AreFiled json first l.doings.committed may_leave
 
 -- an entry of this id is a line of what a crash left

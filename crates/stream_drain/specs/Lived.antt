@@ -10,7 +10,8 @@ use Rattle.stream_worker.specs.declared.state.Asked.{Asked}
 use Rattle.stream_worker.specs.declared.state.Asked.TheVariants.{Nothing}
 use Rattle.stream_worker.specs.declared.state.GroupState.TheVariants.{Unknown}
 use Rattle.stream_worker.specs.declared.state.Settings.{Settings}
-use Rattle.stream_worker.specs.declared.worker.Progress.{Progress}
+use Rattle.stream_worker.specs.declared.worker.Progress.TheVariants.{GoesOn, Stopped}
+use Rattle.stream_drain.specs.Loop.{Loops, Stops, Drains}
 use Rattle.stream_drain.specs.Written.{Written, committed_with, written_of, written_too}
 
 -- where a worker stands, with these doings of its handler in place of the lines
@@ -25,15 +26,6 @@ pub record LivesSo (settings : Settings) (json : Bool) (first : Option (List ℕ
   pub lives : Lives settings (with_doings w doings) deleted
   pub written : w.history ≡ written_of json first doings
 
--- and so on, after some more entries were deleted
-abbrev pub LivesOnSo : Settings → Bool → Option (List ℕ) → Standing Written → List Id → Type 0
-LivesOnSo settings json first w deleted = (more : List Id) × LivesSo settings json first w (deleted ++ more)
-
--- wherever it lives so at first, it lives on so in the end
-abbrev pub LivesFrom : Settings → Standing Written → Standing Written → Type 0
-LivesFrom settings w x = (json : Bool) (first : Option (List ℕ)) (deleted : List Id)
-    → LivesSo settings json first w deleted → LivesOnSo settings json first x deleted
-
 -- a new worker, whose handler has gathered nothing, with so much in its file
 abbrev pub newborn_with : Settings → Bool → Option (List ℕ) → Standing Written
 newborn_with settings json first = record {
@@ -43,11 +35,33 @@ newborn_with settings json first = record {
   history = record { json = json; loose = []; committed = first };
 }
 
--- the law: so a worker begins; and where it lives so it lives on so, after a round that goes on and after one that fails
-abbrev pub RoundsAreLived : Type 0
-RoundsAreLived = (settings : Settings)
-    → ((json : Bool) (first : Option (List ℕ)) → LivesSo settings json first (newborn_with settings json first) [])
-    × ((old new : Link) (w x : Standing Written) (q : Asked) (p : Progress)
-    → Turned written_too committed_with settings old new w x q p → LivesFrom settings w x)
-    × ((old new : Link) (w x : Standing Written) (e : RunError)
-    → Fails written_too committed_with settings old new w x e → LivesFrom settings w x)
+-- what leads from here to there over a connection, and of which ids of deleted entries it told
+abbrev pub Way : Type 1
+Way = Link → Standing Doings → Link → Standing Doings → List Id → Type 0
+
+module _ (way : Way) (old new : Link) (w x : Standing Written) where
+  -- if what is written are the lines of these doings, this way leads to what is written then, the lines of more doings
+  pub record LeadsSo (json : Bool) (first : Option (List ℕ)) (d : Doings) : Type 0 where
+    pub doings : Doings
+    pub told : List Id
+    pub leads : way old (with_doings w d) new (with_doings x doings) told
+    pub written : x.history ≡ written_of json first doings
+
+  -- so it is, whatever was in the file first and was done since
+  abbrev pub Leads : Type 0
+  Leads = (json : Bool) (first : Option (List ℕ)) (d : Doings) → w.history ≡ written_of json first d
+      → LeadsSo json first d
+
+-- the law: so a worker begins; each round is such a way; and where it lives at first it lives after such rounds, where
+-- just those entries were deleted meanwhile of which the replies in these rounds said so
+pub record RoundsAreLived : Type 0 where
+  pub begins : (settings : Settings) (json : Bool) (first : Option (List ℕ))
+      → LivesSo settings json first (newborn_with settings json first) []
+  pub goes_on : (settings : Settings) (old new : Link) (w x : Standing Written) (asked : Asked)
+      → Turned written_too committed_with settings old new w x asked GoesOn → Leads (Loops settings) old new w x
+  pub stops : (settings : Settings) (old new : Link) (w x : Standing Written) (asked : Asked)
+      → Turned written_too committed_with settings old new w x asked Stopped → Leads (Stops settings) old new w x
+  pub fails : (settings : Settings) (old new : Link) (w x : Standing Written) (e : RunError)
+      → Fails written_too committed_with settings old new w x e → Leads (Stops settings) old new w x
+  pub lives : (settings : Settings) (old new : Link) (v y : Standing Doings) (deleted told : List Id)
+      → Lives settings v deleted → Drains settings old v new y told → Lives settings y (deleted ++ told)

@@ -4,6 +4,7 @@ ghost use Rattle.std.specs.Prelude.{List, filter, length, map, nat_le, string_by
 ghost use Rattle.std.specs.List.{flat_map};
 ghost use Rattle.line_log.specs.EntryLine.{Entry};
 ghost use Rattle.redis_connection.specs.Ask.{Asks};
+ghost use Rattle.stream_drain.specs.Besides.{Besides, BreaksBesides, BreaksLooking, Looks, OnlyLooks};
 ghost use Rattle.stream_drain.specs.Dead.{AreJust, BreaksOff, Delivers, DeliversSome, GivesUp, GivesUpSome, IsBehind};
 ghost use Rattle.stream_drain.specs.Dead.{Posted, PostedFields, PostsAll, PostsSome, claim_words, claimer_of};
 ghost use Rattle.stream_drain.specs.Dead.{letter_names, none_waits, row_of, rows_of, rows_reading, waiting_of};
@@ -108,6 +109,8 @@ impl Dead {
         ensures waits { IsTrue in_hand → (result ≡ Ok tt) × (connection.new ≡ connection.old) }
         ensures waits_once { IsTrue self.old.waits → (result ≡ Ok tt) × (connection.new ≡ connection.old)
             × (self.new.waits ≡ false) }
+        ensures ok { OnOk result (Besides connection.old connection.new) }
+        ensures err { OnErr result (BreaksBesides connection.old connection.new) }
     {
         self.reads = reads_after(self.reads, asked);
         let waits = mem::replace(&mut self.waits, false);
@@ -122,15 +125,31 @@ impl Dead {
         &mut self,
         alloc: Global,
         connection: &mut Connection<R, W>,
-    ) -> Result<()> {
+    ) -> Result<()>
+        ensures ok { OnOk result (Besides connection.old connection.new) }
+        ensures err { OnErr result (BreaksBesides connection.old connection.new) }
+    {
         if !self.begun {
             self.begun = true;
-            self.look(alloc, connection, true)?;
-        } else if self.reads < self.every {
-            return Ok(());
-        } else {
-            self.reads = 0;
+            return self.look_at_both(alloc, connection);
         }
+        if self.reads < self.every {
+            return Ok(());
+        }
+        self.reads = 0;
+        self.look(alloc, connection, false)
+    }
+
+    // Looks at what is pending for the consumer itself, and then at what anybody left.
+    fn look_at_both<R: Read + Drop, W: Write + Drop>(
+        &mut self,
+        alloc: Global,
+        connection: &mut Connection<R, W>,
+    ) -> Result<()>
+        ensures ok { OnOk result (Besides connection.old connection.new) }
+        ensures err { OnErr result (BreaksBesides connection.old connection.new) }
+    {
+        self.look(alloc, connection, true)?;
         self.look(alloc, connection, false)
     }
 
@@ -141,7 +160,10 @@ impl Dead {
         alloc: Global,
         connection: &mut Connection<R, W>,
         own: bool,
-    ) -> Result<()> {
+    ) -> Result<()>
+        ensures ok { OnOk result (Besides connection.old connection.new) }
+        ensures err { OnErr result (BreaksBesides connection.old connection.new) }
+    {
         let mut start = String::from_str(alloc, "-")?;
         for _ in 0..PAGES {
             match self.look_at_page(alloc, connection, &start, own)? {
@@ -159,7 +181,10 @@ impl Dead {
         connection: &mut Connection<R, W>,
         start: &str,
         own: bool,
-    ) -> Result<Option<String>> {
+    ) -> Result<Option<String>>
+        ensures ok { OnOk result (Besides connection.old connection.new) }
+        ensures err { OnErr result (BreaksBesides connection.old connection.new) }
+    {
         let page = self.page(alloc, connection, start, own)?;
         let next = next_start(alloc, &page)?;
         let entries = too_often(page, self.deliveries);
@@ -175,7 +200,10 @@ impl Dead {
         connection: &mut Connection<R, W>,
         start: &str,
         own: bool,
-    ) -> Result<Vec<Waiting>> {
+    ) -> Result<Vec<Waiting>>
+        ensures ok { OnOk result (Looks connection.old connection.new) }
+        ensures err { OnErr result (BreaksLooking connection.old connection.new) }
+    {
         let key = self.key.as_str();
         let group = self.group.as_str();
         if own {
@@ -281,7 +309,10 @@ fn ask_page<T: ToRedisArgs, R: Read + Drop, W: Write + Drop>(
     alloc: Global,
     connection: &mut Connection<R, W>,
     command: &T,
-) -> Result<Vec<Waiting>> {
+) -> Result<Vec<Waiting>>
+    ensures ok { OnlyLooks (T.args command.now) → OnOk result (Looks connection.old connection.new) }
+    ensures err { OnlyLooks (T.args command.now) → OnErr result (BreaksLooking connection.old connection.new) }
+{
     match connection.ask_as(alloc, command) {
         Ok(rows) => Ok(waiting_in(alloc, rows)?),
         Err(AskError::Server(error)) if error.code() == b"NOGROUP".as_slice() => {

@@ -1,7 +1,9 @@
 //! The loop of the program: it asks, and takes the answers.
-ghost use Rattle.std.specs.Prelude.{◌≡◌, IfOk, IsTrue};
+ghost use Rattle.std.specs.Prelude.{◌≡◌, IfErr, IfOk, IsTrue, OnErr, OnOk, false};
+ghost use Rattle.stream_drain.specs.Besides.{Besides, BreaksBesides, LooksNot};
 ghost use Rattle.stream_drain.specs.Filed.{FiledFrom};
-ghost use Rattle.stream_drain.specs.Lived.{LivesFrom};
+ghost use Rattle.stream_drain.specs.Lived.{Leads};
+ghost use Rattle.stream_drain.specs.Loop.{Loops, Stops};
 ghost use Rattle.stream_worker.specs.Session.{standing_of};
 
 use crate::backlog::{Backlog, Watched, backlog_of};
@@ -34,10 +36,13 @@ pub fn drain<R: Read + Drop, W: Write + Drop, D: LogFile + Drop, T: Clock + Epri
     until_empty: bool,
 ) -> Result<()>
     ensures ended { IfOk result (λ _. IsTrue until_empty) }
-    ensures lives { LivesFrom worker.old.settings
+    ensures ok { OnOk result (Leads (Loops worker.old.settings) connection.old connection.new
         (standing_of worker.old (⟦<Lines<D> as Handler>⟧.history lines.old))
-        (standing_of worker.new (⟦<Lines<D> as Handler>⟧.history lines.new)) }
-    ensures filed { FiledFrom worker.old.settings
+        (standing_of worker.new (⟦<Lines<D> as Handler>⟧.history lines.new))) }
+    ensures err { OnErr result (Leads (Stops worker.old.settings) connection.old connection.new
+        (standing_of worker.old (⟦<Lines<D> as Handler>⟧.history lines.old))
+        (standing_of worker.new (⟦<Lines<D> as Handler>⟧.history lines.new))) }
+    ensures filed { FiledFrom worker.old.settings connection.old connection.new
         (standing_of worker.old (⟦<Lines<D> as Handler>⟧.history lines.old))
         (standing_of worker.new (⟦<Lines<D> as Handler>⟧.history lines.new))
         (D.may_leave lines.new.log.file) }
@@ -64,15 +69,17 @@ fn turn<R: Read + Drop, W: Write + Drop, D: LogFile + Drop, T: Clock + Eprint + 
     asked: Asked,
 ) -> Result<Asked>
     ensures settings { worker.new.settings ≡ worker.old.settings }
-    ensures lives { LivesFrom worker.old.settings
+    ensures ok { OnOk result (Leads (Loops worker.old.settings) connection.old connection.new
         (standing_of worker.old (⟦<Lines<D> as Handler>⟧.history lines.old))
-        (standing_of worker.new (⟦<Lines<D> as Handler>⟧.history lines.new)) }
+        (standing_of worker.new (⟦<Lines<D> as Handler>⟧.history lines.new))) }
+    ensures err { OnErr result (Leads (Stops worker.old.settings) connection.old connection.new
+        (standing_of worker.old (⟦<Lines<D> as Handler>⟧.history lines.old))
+        (standing_of worker.new (⟦<Lines<D> as Handler>⟧.history lines.new))) }
 {
     look(rt.alloc(), connection, lines, dead, asked)?;
     let made = round(rt.alloc(), connection, worker, lines, dead.is_none())?;
-    if made.acknowledged || made.round.asked == Asked::Acknowledgement {
-        count(rt, connection, report, lines.committed)?;
-    }
+    let due = made.acknowledged || made.round.asked == Asked::Acknowledgement;
+    count(rt, connection, report, lines.committed, due)?;
     Ok(made.round.asked)
 }
 
@@ -83,7 +90,10 @@ fn look<R: Read + Drop, W: Write + Drop, D: LogFile + Drop>(
     lines: &Lines<D>,
     dead: &mut Option<Dead>,
     asked: Asked,
-) -> Result<()> {
+) -> Result<()>
+    ensures ok { OnOk result (Besides connection.old connection.new) }
+    ensures err { OnErr result (BreaksBesides connection.old connection.new) }
+{
     match dead {
         Some(dead) => dead.turn(alloc, connection, asked, lines.done > lines.committed),
         None => Ok(()),
@@ -101,46 +111,67 @@ fn round<R: Read + Drop, W: Write + Drop, D: LogFile + Drop>(
     together: bool,
 ) -> Result<Pipelined>
     ensures settings { worker.new.settings ≡ worker.old.settings }
-    ensures lives { LivesFrom worker.old.settings
+    ensures ok { OnOk result (Leads (Loops worker.old.settings) connection.old connection.new
         (standing_of worker.old (⟦<Lines<D> as Handler>⟧.history lines.old))
-        (standing_of worker.new (⟦<Lines<D> as Handler>⟧.history lines.new)) }
+        (standing_of worker.new (⟦<Lines<D> as Handler>⟧.history lines.new))) }
+    ensures err { OnErr result (Leads (Stops worker.old.settings) connection.old connection.new
+        (standing_of worker.old (⟦<Lines<D> as Handler>⟧.history lines.old))
+        (standing_of worker.new (⟦<Lines<D> as Handler>⟧.history lines.new))) }
 {
     if together {
         match worker.round_pipelined(alloc, connection, lines) {
-            Ok(made) => going_on(made, &lines.fault),
+            Ok(made) => {
+                goes_on(made.round.progress, &lines.fault)?;
+                Ok(made)
+            }
             Err(error) => Err(broken_off(error, &lines.fault)),
         }
     } else {
         match worker.round(alloc, connection, lines) {
-            Ok(round) => going_on(alone(round), &lines.fault),
+            Ok(round) => {
+                goes_on(round.progress, &lines.fault)?;
+                Ok(alone(round))
+            }
             Err(error) => Err(broken_off(error, &lines.fault)),
         }
     }
 }
 
 // A round that had a write of its own.
-fn alone(round: Round) -> Pipelined {
+fn alone(round: Round) -> Pipelined
+    ensures { result ≡ record { acknowledged = false; round = round } }
+{
     Pipelined {
         acknowledged: false,
         round,
     }
 }
 
-// What was made, unless the handler said to stop.
-fn going_on(made: Pipelined, fault: &Option<LogError>) -> Result<Pipelined> {
-    match made.round.progress {
-        Progress::GoesOn => Ok(made),
+// An error if the handler said to stop.
+fn goes_on(progress: Progress, fault: &Option<LogError>) -> Result<()>
+    ensures ok { OnOk result (progress ≡ Progress.GoesOn) }
+    ensures err { OnErr result (progress ≡ Progress.Stopped) }
+{
+    match progress {
+        Progress::GoesOn => Ok(()),
         Progress::Stopped => Err(stopped(fault)),
     }
 }
 
-// So many entries are in the file, which is shown once a second.
+// If it is due: so many entries are in the file, which is shown once a second.
 fn count<R: Read + Drop, W: Write + Drop, T: Clock + Eprint + AllocGlobal>(
     rt: &T,
     connection: &mut Connection<R, W>,
     report: &mut Report,
     entries: u64,
-) -> Result<()> {
+    due: bool,
+) -> Result<()>
+    ensures ok { OnOk result (Besides connection.old connection.new) }
+    ensures err { OnErr result (BreaksBesides connection.old connection.new) }
+{
+    if !due {
+        return Ok(());
+    }
     if report.count(rt, entries)? {
         show(rt, connection, report)
     } else {
@@ -154,7 +185,10 @@ fn show<R: Read + Drop, W: Write + Drop, T: Eprint + AllocGlobal>(
     rt: &T,
     connection: &mut Connection<R, W>,
     report: &mut Report,
-) -> Result<()> {
+) -> Result<()>
+    ensures ok { OnOk result (Besides connection.old connection.new) }
+    ensures err { OnErr result (BreaksBesides connection.old connection.new) }
+{
     match backlog_told(rt.alloc(), connection, &report.watched) {
         Ok(Some(backlog)) => say(rt, report, &backlog),
         Ok(None) => say(rt, report, &""),
@@ -186,13 +220,18 @@ fn backlog_told<R: Read + Drop, W: Write + Drop>(
     alloc: Global,
     connection: &mut Connection<R, W>,
     watched: &Option<Watched>,
-) -> std::result::Result<Option<Backlog>, AskError> {
+) -> std::result::Result<Option<Backlog>, AskError>
+    ensures ok { OnOk result (Besides connection.old connection.new) }
+    ensures err { IfErr result (LooksNot connection.old connection.new) }
+{
     let Some(watched) = watched else {
         return Ok(None);
     };
     let asked = xinfo_groups(watched.key.as_str());
-    let reply: StreamInfoGroupsReply = connection.ask_as(alloc, &asked)?;
-    Ok(backlog_in(&reply, &watched.group))
+    match connection.ask_as::<StreamInfoGroupsReply, _>(alloc, &asked) {
+        Ok(reply) => Ok(backlog_in(&reply, &watched.group)),
+        Err(error) => Err(error),
+    }
 }
 
 // The backlog of the group of this name.

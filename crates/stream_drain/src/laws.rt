@@ -3,6 +3,7 @@ ghost use Rattle.stream_drain.specs.DeadMoves.{ClaimsAreMoves, DeliveriesAreMove
 ghost use Rattle.stream_drain.specs.Filed.{AcknowledgedIsFiled};
 ghost use Rattle.stream_drain.specs.Lived.{RoundsAreLived};
 ghost use Rattle.stream_drain.specs.Resumed.{ResumedIsLived, StartsOverItsFile};
+ghost use Rattle.stream_drain.specs.Scheduled.{LoopsRun};
 ghost use Rattle.stream_drain.specs.Tell.{LinesAreAForm, LinesTellEntries};
 ghost use Rattle.stream_drain.specs.Written.{GathersItsLines};
 
@@ -13,11 +14,18 @@ pub fn gathers_its_lines()
     ensures { GathersItsLines }
 {}
 
-/// Each round over the lines is a round of a worker's life, in which some entries were done and the lines of
-/// those that are not committed are what is gathered. So the laws of `stream_worker` hold of it: before an id
-/// is acknowledged its entry was done and that was committed, or the server said that it was deleted.
+/// Each round over the lines is a round of a worker that did entries, of which these are the lines. So the laws
+/// of `stream_worker` hold of it: before an id is acknowledged its entry was done and that was committed, or the
+/// server said that it was deleted. Of deleted entries the loop tells just those that replies in its rounds told.
 pub fn rounds_are_lived()
     ensures { RoundsAreLived }
+{}
+
+/// The rounds of the loop, and the one that ends it, are a schedule of `stream_system` (`Runs`), over however many
+/// lives. Of each such schedule its law `the_code_writes_each_entry_once` holds. The premise of a round is that the
+/// worker takes the reply of the model's server. What the search for dead letters asks is there what others do.
+pub fn loops_are_scheduled()
+    ensures { LoopsRun }
 {}
 
 /// Before an id is acknowledged, its entry is a line of whatever a crash leaves of the file, or the server said

@@ -1,14 +1,15 @@
 use Rattle.std.proofs.Common.{◌≡◌}
 use Rattle.stream_worker.specs.Session.{standing_of}
-use Rattle.stream_drain.specs.Lived.{LivesFrom}
+use Rattle.stream_drain.specs.Lived.{Leads}
+use Rattle.stream_drain.specs.Loop.{Loops}
 use Rattle.stream_drain.specs.Written.{written_by}
 use Rattle.stream_drain.proofs.drain.drain.Given as goal
 
--- wherever the worker lived so at first, it lives on so now
+-- the rounds so far lead from where the worker was to where it is
 abbrev pub invariant-loop : goal.invariant-loop
 invariant-loop g l = record {
   settings : l.worker.settings ≡ l.fn.worker.settings;
-  lives : LivesFrom l.fn.worker.settings
+  leads : Leads (Loops l.fn.worker.settings) l.fn.connection l.connection
       (standing_of l.fn.worker (written_by l.fn.lines.json l.fn.lines.log.batch.items
       (g.D.LogFile.seen l.fn.lines.log.file) l.fn.lines.log.len))
       (standing_of l.worker (written_by l.lines.json l.lines.log.batch.items

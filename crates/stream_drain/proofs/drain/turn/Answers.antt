@@ -1,5 +1,57 @@
-use Rattle.stream_drain.proofs.LivedLemmas.{from_same}
+use Rattle.std.proofs.Common.{ℕ, Bool, List, Option}
+use Rattle.stream_worker.specs.Session.{Standing, standing_of}
+use Rattle.stream_worker.specs.declared.worker.Worker.{Worker}
+use Rattle.stream_drain.specs.Written.{Written, written_by}
+use Rattle.stream_drain.proofs.DeadLemmas.{on_err}
+use Rattle.stream_drain.proofs.LivedLemmas.{leads_besides, leads_both, leads_breaks, leads_stop}
 use Rattle.stream_drain.proofs.drain.turn.Goals as goal
 
-pub returns-in_err-look-clause-lives : goal.returns-in_err-look-clause-lives
-returns-in_err-look-clause-lives g c = from_same c.args.worker.now.settings _
+-- where a worker stands, with what its handler has written
+abbrev stands : Worker → Bool → List ℕ → Option (List ℕ) → ℕ → Standing Written
+stands w json loose known len = standing_of w (written_by json loose known len)
+
+pub returns-in_err-look-clause-err : goal.returns-in_err-look-clause-err
+returns-in_err-look-clause-err g c =
+    let w = stands c.args.worker.now c.args.lines.now.json c.args.lines.now.log.batch.items
+    (g.D.LogFile.seen c.args.lines.now.log.file) c.args.lines.now.log.len in
+    on_err c.from_residual.result
+    (leads_breaks c.args.worker.now.settings c.args.connection.now c.look.new.connection w c.in_err-look.ensures.err)
+
+pub returns-in_err-made-clause-err : goal.returns-in_err-made-clause-err
+returns-in_err-made-clause-err g c =
+    let settings = c.args.worker.now.settings in
+    let w = stands c.args.worker.now c.args.lines.now.json c.args.lines.now.log.batch.items
+    (g.D.LogFile.seen c.args.lines.now.log.file) c.args.lines.now.log.len in
+    let y = stands c.round.new.worker c.round.new.lines.json c.round.new.lines.log.batch.items
+    (g.D.LogFile.seen c.round.new.lines.log.file) c.round.new.lines.log.len in
+    on_err c.from_residual-in_err-made.result
+    (leads_stop settings c.args.connection.now c.look.new.connection c.round.new.connection w w y
+    (leads_besides settings c.args.connection.now c.look.new.connection w c.in_ok-look.ensures.ok)
+    c.in_err-made.ensures.err)
+
+pub returns-in_err-count-clause-err : goal.returns-in_err-count-clause-err
+returns-in_err-count-clause-err g c =
+    let settings = c.args.worker.now.settings in
+    let w = stands c.args.worker.now c.args.lines.now.json c.args.lines.now.log.batch.items
+    (g.D.LogFile.seen c.args.lines.now.log.file) c.args.lines.now.log.len in
+    let y = stands c.round.new.worker c.round.new.lines.json c.round.new.lines.log.batch.items
+    (g.D.LogFile.seen c.round.new.lines.log.file) c.round.new.lines.log.len in
+    on_err c.from_residual-in_err-count.result
+    (leads_stop settings c.args.connection.now c.round.new.connection c.count.new.connection w y y
+    (leads_both settings c.args.connection.now c.look.new.connection c.round.new.connection w w y
+    (leads_besides settings c.args.connection.now c.look.new.connection w c.in_ok-look.ensures.ok)
+    c.in_ok-made.ensures.ok)
+    (leads_breaks settings c.round.new.connection c.count.new.connection y c.in_err-count.ensures.err))
+
+pub returns-clause-ok : goal.returns-clause-ok
+returns-clause-ok g c =
+    let settings = c.args.worker.now.settings in
+    let w = stands c.args.worker.now c.args.lines.now.json c.args.lines.now.log.batch.items
+    (g.D.LogFile.seen c.args.lines.now.log.file) c.args.lines.now.log.len in
+    let y = stands c.round.new.worker c.round.new.lines.json c.round.new.lines.log.batch.items
+    (g.D.LogFile.seen c.round.new.lines.log.file) c.round.new.lines.log.len in
+    leads_both settings c.args.connection.now c.round.new.connection c.count.new.connection w y y
+    (leads_both settings c.args.connection.now c.look.new.connection c.round.new.connection w w y
+    (leads_besides settings c.args.connection.now c.look.new.connection w c.in_ok-look.ensures.ok)
+    c.in_ok-made.ensures.ok)
+    (leads_besides settings c.round.new.connection c.count.new.connection y c.in_ok-count.ensures.ok)

@@ -1,4 +1,4 @@
-use Rattle.std.proofs.Common.{◌≡◌, ℕ, Bool, true, List, [], ◌∷◌, ◌++◌, codes, take, drop, length, ◌≤◌, ◌∙◌, rules, subst, sym, ap}
+use Rattle.std.proofs.Common.{◌≡◌, ℕ, true, List, ◌∷◌, ◌++◌, codes, take, drop, length, ◌≤◌, ◌∙◌, rules, subst}
 use Rattle.std.specs.List.{list_all, slice_range}
 use Rattle.stream_drain.specs.Resumed.{is_of_id}
 use Rattle.stream_drain.proofs.ResumeLemmas.{from_on, of_parts}

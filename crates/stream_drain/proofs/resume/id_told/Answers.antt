@@ -1,4 +1,4 @@
-use Rattle.std.proofs.Common.{◌≡◌, Bool, List, ℕ, Option, Some, option_map, rules, subst, sym, true, false}
+use Rattle.std.proofs.Common.{Bool, Some, rules, subst, sym}
 use Rattle.line_log.specs.EntryLine.{IsEntryIn}
 use Rattle.line_log.specs.EntryLineMeaning.{entry_of}
 use Rattle.stream_drain.specs.Resumed.{Tells}
