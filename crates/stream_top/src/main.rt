@@ -1,5 +1,5 @@
 //! Shows the groups of a stream and their consumers as a table on standard error, over a connection
-//! that stands at its standard input and output:
+//! at its standard input and output:
 //!
 //! ```text
 //! bash -c 'exec 3<>/dev/tcp/127.0.0.1/6379; stream_top orders 60 <&3 >&3'
@@ -7,9 +7,9 @@
 //!
 //! It prints a table as often as the second word says, one a second and one more as soon as an
 //! entry comes: between two tables it waits in `XREAD BLOCK 1000`. Times are those of the server's
-//! clock. In a name a control character stands as `?`, a byte that is no UTF-8 as `\xff`, and a backslash
-//! as `\\`. It ends with 0, or with 1 where the connection ends, the server answers an error or
-//! memory runs out.
+//! clock. In a name a control character is shown as `?`, a byte that is no UTF-8 as `\xff`, and a
+//! backslash as `\\`. It ends with 0, or with 1 if the connection ends, the server returns an error
+//! or memory runs out.
 //!
 //! With `--once --json` after one key or more it prints one document of JSON, and with
 //! `--once --openmetrics` a text of OpenMetrics, on standard error too. A key that does not exist is a
@@ -24,9 +24,10 @@ use crate::figures::{StreamFigures, figures_of};
 use crate::json_text::json_text;
 use crate::open_metrics::metrics_text;
 use anyhow::{Result, anyhow};
-use redis_resp::{FromRedisValue, RawBytes, ToRedisArgs, Value, from_redis_value};
+use redis_connection::{AskError, Connection};
+use redis_resp::{FromRedisValue, RawBytes, Value, from_redis_value};
 use redis_streams::{StreamInfoFullConsumer, StreamInfoFullGroup, StreamInfoFullReply};
-use redis_wire::{Limits, Reply, ReplyError, ReplyStream, from_reply, pack_command};
+use redis_wire::{Limits, Reply, from_reply};
 use std::alloc::{AllocError, Global};
 use std::env::{Env, FillError};
 use std::io;
@@ -36,31 +37,31 @@ use stream_options::StreamReadOptions;
 use unicode_width::UnicodeWidthStr;
 use uses::group_state::{GroupState, group_state};
 
-// At most so many pending entries of a group are looked at.
+/// At most so many pending entries of a group are looked at.
 const COUNT: usize = 100;
 
-// So many milliseconds lie between two tables.
+/// So many milliseconds lie between two tables.
 const WAIT: usize = 1000;
 
-// The stream if there is one, and the server's time in milliseconds.
-fn ask<R: Read, W: Write>(
+/// The stream if there is one, and the server's time in milliseconds.
+fn ask<R: Read + Drop, W: Write + Drop>(
     alloc: Global,
     connection: &mut Connection<R, W>,
     key: &RawBytes,
 ) -> Result<(Option<StreamInfoFullReply>, usize)> {
     connection.send(alloc, &"TIME")?;
     connection.send(alloc, &xinfo_stream_full_count(key, COUNT))?;
-    let (seconds, micros): (usize, usize) = connection.answer(alloc)?;
+    let (seconds, micros): (usize, usize) = receive_as(alloc, connection)?;
     let now = seconds.saturating_mul(1000).saturating_add(micros / 1000);
-    let Some(answer) = connection.answer_of_key(alloc)? else {
+    let Some(reply) = receive_of_key(alloc, connection)? else {
         return Ok((None, now));
     };
-    let stream: StreamInfoFullReply = from_redis_value(alloc, legible(alloc, &answer)?)?;
+    let stream: StreamInfoFullReply = from_redis_value(alloc, legible(alloc, &reply)?)?;
     Ok((Some(stream), now))
 }
 
-// Waits until an entry comes behind the last one, and at most for a second.
-fn wait<R: Read, W: Write>(
+/// Waits until an entry comes after the last one, and at most for a second.
+fn wait<R: Read + Drop, W: Write + Drop>(
     alloc: Global,
     connection: &mut Connection<R, W>,
     key: &RawBytes,
@@ -70,18 +71,18 @@ fn wait<R: Read, W: Write>(
     let stream = (key, last_id);
     let command = xread_options(AtLeastOne::one(&stream), &options);
     connection.send(alloc, &command)?;
-    let answer: Value = connection.answer(alloc)?;
-    drop(answer);
+    let reply: Value = receive_as(alloc, connection)?;
+    drop(reply);
     Ok(())
 }
 
-// In less than 120 bytes, which are all that an error shows.
+/// In less than 120 bytes, which are all that an error shows.
 const USAGE: &str = "wanted: KEY ROUNDS, or KEY .. --once --json, or KEY .. --once --openmetrics";
 
 fn main(rt: HostRuntime) -> Result<()> {
     let alloc = rt.alloc();
     let words = words_of(alloc, &rt)?;
-    let mut connection = Connection::new(alloc, rt.reader(), io::writer(&rt));
+    let mut connection = Connection::new(alloc, rt.reader(), io::writer(&rt), Limits::default())?;
     let (keys, form) = form_of(&words);
     match form {
         Some(form) => {
@@ -93,8 +94,8 @@ fn main(rt: HostRuntime) -> Result<()> {
     }
 }
 
-// Shows the table of a stream as often as the second word says.
-fn show_rounds<R: Read, W: Write>(
+/// Shows the table of a stream as often as the second word says.
+fn show_rounds<R: Read + Drop, W: Write + Drop>(
     rt: &HostRuntime,
     connection: &mut Connection<R, W>,
     words: &[RawBytes],
@@ -118,14 +119,14 @@ fn show_rounds<R: Read, W: Write>(
     Ok(())
 }
 
-// In which form the figures are printed once.
+/// In which form the figures are printed once.
 #[derive(Clone, Copy)]
 enum Form {
     Json,
     OpenMetrics,
 }
 
-// The keys, and the form that the words after them name.
+/// The keys, and the form that the words after them name.
 fn form_of(words: &[RawBytes]) -> (&[RawBytes], Option<Form>) {
     let [rest @ .., form] = words else {
         return (words, None);
@@ -137,7 +138,7 @@ fn form_of(words: &[RawBytes]) -> (&[RawBytes], Option<Form>) {
     }
 }
 
-// The words without a last `--once`.
+/// The words without a last `--once`.
 fn keys_of(words: &[RawBytes]) -> &[RawBytes] {
     match words {
         [keys @ .., once] => {
@@ -151,8 +152,8 @@ fn keys_of(words: &[RawBytes]) -> &[RawBytes] {
     }
 }
 
-// The figures of all keys, in this form.
-fn text_of<R: Read, W: Write>(
+/// The figures of all keys, in this form.
+fn text_of<R: Read + Drop, W: Write + Drop>(
     alloc: Global,
     connection: &mut Connection<R, W>,
     keys: &[RawBytes],
@@ -172,15 +173,15 @@ fn text_of<R: Read, W: Write>(
     }
 }
 
-// The document of JSON, as a line.
+/// The document of JSON, as a line.
 fn json_line(alloc: Global, streams: &[StreamFigures]) -> Result<Vec<u8>, AllocError> {
     let mut line = json_text(alloc, streams)?;
     line.push(b'\n')?;
     Ok(line)
 }
 
-// The figures of these streams, of each key once, in order.
-fn measure<R: Read, W: Write>(
+/// The figures of these streams, of each key once, in order.
+fn measure<R: Read + Drop, W: Write + Drop>(
     alloc: Global,
     connection: &mut Connection<R, W>,
     keys: &[RawBytes],
@@ -204,8 +205,8 @@ fn is_measured(streams: &[StreamFigures], key: &str) -> bool {
     false
 }
 
-// The figures of a stream. If there is none, it has no entries and no groups.
-fn measure_one<R: Read, W: Write>(
+/// The figures of a stream. If there is none, it has no entries and no groups.
+fn measure_one<R: Read + Drop, W: Write + Drop>(
     alloc: Global,
     connection: &mut Connection<R, W>,
     key: &RawBytes,
@@ -219,7 +220,7 @@ fn measure_one<R: Read, W: Write>(
     Ok(figures_of(alloc, name, &stream, now)?)
 }
 
-// The words that the program is called with.
+/// The words that the program is called with.
 fn words_of<E: Env>(alloc: Global, rt: &E) -> Result<Vec<RawBytes>> {
     let mut words = Vec::new(alloc);
     for number in 1..usize::MAX {
@@ -231,10 +232,10 @@ fn words_of<E: Env>(alloc: Global, rt: &E) -> Result<Vec<RawBytes>> {
     Ok(words)
 }
 
-// A word that the program is called with has no more bytes.
+/// A word that the program is called with has no more bytes.
 const LONGEST: usize = 131_072;
 
-// The word of this number that the program is called with, which is any bytes.
+/// The word of this number that the program is called with, which is any bytes.
 fn word_at<E: Env>(alloc: Global, rt: &E, number: usize) -> Result<Option<Vec<u8>>> {
     let mut word = vec![in alloc; 0u8; LONGEST]?;
     match rt.arg(number, &mut word) {
@@ -247,69 +248,28 @@ fn word_at<E: Env>(alloc: Global, rt: &E, number: usize) -> Result<Option<Vec<u8
     }
 }
 
-// So many bytes are read at a time.
-const PIECE: usize = 16384;
-
-// What a server answers on `input`, and where it reads on `output`.
-#[derive(Drop)]
-struct Connection<R: Read, W: Write> {
-    input: R,
-    output: W,
-    replies: ReplyStream,
+/// The record of the next reply.
+fn receive_as<M: FromRedisValue, R: Read + Drop, W: Write + Drop>(
+    alloc: Global,
+    connection: &mut Connection<R, W>,
+) -> Result<M, AskError> {
+    let reply = connection.receive(alloc)?;
+    Ok(from_reply::<M>(alloc, reply)?)
 }
 
-impl<R: Read, W: Write> Connection<R, W> {
-    // A connection on which nothing was sent.
-    fn new(alloc: Global, input: R, output: W) -> Connection<R, W> {
-        Connection {
-            input,
-            output,
-            replies: ReplyStream::new(alloc, Limits::default()),
-        }
+/// The next reply, that to a command on a key; None if the server says that there is no such key.
+fn receive_of_key<R: Read + Drop, W: Write + Drop>(
+    alloc: Global,
+    connection: &mut Connection<R, W>,
+) -> Result<Option<Value>, AskError> {
+    let reply = connection.receive(alloc)?;
+    if is_no_such_key(&reply) {
+        return Ok(None);
     }
-
-    // Sends a command.
-    fn send<T: ToRedisArgs>(&mut self, alloc: Global, command: &T) -> Result<()> {
-        let Ok(bytes) = pack_command(alloc, command) else {
-            return Err(anyhow!("a command was not written"));
-        };
-        self.output.write_all(&bytes)?;
-        self.output.flush()?;
-        Ok(())
-    }
-
-    // The answer to the first command that was sent and not answered yet.
-    fn answer<T: FromRedisValue>(&mut self, alloc: Global) -> Result<T> {
-        record_of(alloc, self.reply(alloc)?)
-    }
-
-    // The same of a command on a key; None if the server says that there is no such key.
-    fn answer_of_key(&mut self, alloc: Global) -> Result<Option<Value>> {
-        let reply = self.reply(alloc)?;
-        if is_no_such_key(&reply) {
-            return Ok(None);
-        }
-        Ok(Some(record_of(alloc, reply)?))
-    }
-
-    // The next reply.
-    fn reply(&mut self, alloc: Global) -> Result<Reply> {
-        let mut piece = [0u8; PIECE];
-        for _ in 0..u64::MAX {
-            if let Some(reply) = self.replies.next(alloc)? {
-                return Ok(reply);
-            }
-            let len = self.input.read(&mut piece)?;
-            if len == 0 {
-                break;
-            }
-            self.replies.feed(&piece[..len])?;
-        }
-        Err(anyhow!("the connection ended"))
-    }
+    Ok(Some(from_reply::<Value>(alloc, reply)?))
 }
 
-// The error of a server for a key that does not exist.
+/// The error of a server for a key that does not exist.
 const NO_SUCH_KEY: &str = "ERR no such key";
 
 fn is_no_such_key(reply: &Reply) -> bool {
@@ -319,26 +279,13 @@ fn is_no_such_key(reply: &Reply) -> bool {
     }
 }
 
-// The record of a reply.
-fn record_of<T: FromRedisValue>(alloc: Global, reply: Reply) -> Result<T> {
-    match from_reply(alloc, reply) {
-        Ok(record) => Ok(record),
-        Err(ReplyError::Parsing(error)) => Err(error.into()),
-        Err(ReplyError::NotAnAnswer) => Err(anyhow!("what came is no answer of a command")),
-        Err(ReplyError::Server(error)) => {
-            let text = String::from_utf8_lossy(alloc, &error.text)?;
-            Err(anyhow!("the server answers {text}"))
-        }
-    }
-}
-
-// An entry that was delivered more than so many times was delivered too often.
+/// An entry that was delivered more than so many times was delivered too often.
 const TIMES: usize = 3;
 
-// A consumer that has entries pending is dead once it has not been seen for so many milliseconds.
+/// A consumer that has entries pending is dead once it has not been seen for so many milliseconds.
 const SILENT: usize = 60_000;
 
-// The columns, and on which side the texts of each stand.
+/// The columns, and on which side the texts of each are.
 const COLUMNS: [(&str, Side); 8] = [
     ("GROUP", Side::Left),
     ("LAG", Side::Right),
@@ -350,12 +297,12 @@ const COLUMNS: [(&str, Side); 8] = [
     ("SEEN", Side::Left),
 ];
 
-// So many columns tell of a group, and so many of one of its consumers.
+/// So many columns tell of a group, and so many of one of its consumers.
 const OF_GROUP: usize = 5;
 
 const OF_CONSUMER: usize = 3;
 
-// The page of a stream at a time of the server's clock, in milliseconds.
+/// The page of a stream at a time of the server's clock, in milliseconds.
 fn page(
     alloc: Global,
     key: &str,
@@ -374,7 +321,7 @@ fn page(
     Ok(text)
 }
 
-// What a page says of the whole stream.
+/// What a page says of the whole stream.
 fn heading(alloc: Global, key: &str, stream: &StreamInfoFullReply) -> Result<String, AllocError> {
     let mut text = shown(alloc, key)?;
     write!(
@@ -387,7 +334,7 @@ fn heading(alloc: Global, key: &str, stream: &StreamInfoFullReply) -> Result<Str
     Ok(text)
 }
 
-// Adds the rows of a group: one for each of its consumers, and one where it has none.
+/// Adds the rows of a group: one for each of its consumers, and one if it has none.
 fn push_group(
     alloc: Global,
     cells: &mut Vec<String>,
@@ -408,7 +355,7 @@ fn push_group(
     Ok(())
 }
 
-// Adds so many cells without a text.
+/// Adds so many cells without a text.
 fn push_empty(alloc: Global, cells: &mut Vec<String>, count: usize) -> Result<(), AllocError> {
     for _ in 0..count {
         cells.push(String::new(alloc))?;
@@ -416,7 +363,7 @@ fn push_empty(alloc: Global, cells: &mut Vec<String>, count: usize) -> Result<()
     Ok(())
 }
 
-// Adds the cells of a group: its name, its lag, what is pending, for how long, and what too often.
+/// Adds the cells of a group: its name, its lag, what is pending, for how long, and what too often.
 fn push_state(
     alloc: Global,
     cells: &mut Vec<String>,
@@ -437,7 +384,7 @@ fn push_state(
     Ok(())
 }
 
-// Adds the cells of a consumer: its name, what is pending for it, and how long ago it was seen.
+/// Adds the cells of a consumer: its name, what is pending for it, and how long ago it was seen.
 fn push_consumer(
     alloc: Global,
     cells: &mut Vec<String>,
@@ -469,7 +416,7 @@ fn number(alloc: Global, number: usize) -> Result<String, AllocError> {
     format!(in alloc; "{number}")
 }
 
-// So many milliseconds as people say them.
+/// So many milliseconds as people say them.
 fn age(alloc: Global, milliseconds: usize) -> Result<String, AllocError> {
     let seconds = milliseconds / 1000;
     if seconds < 60 {
@@ -483,7 +430,7 @@ fn age(alloc: Global, milliseconds: usize) -> Result<String, AllocError> {
     }
 }
 
-// A name as it may be shown: a control character, which could steer a terminal, stands as `?`.
+/// A name as it may be shown: a control character, which could steer a terminal, is shown as `?`.
 fn shown(alloc: Global, name: &str) -> Result<String, AllocError> {
     let mut text = String::new(alloc);
     for letter in name.chars() {
@@ -496,16 +443,16 @@ fn shown(alloc: Global, name: &str) -> Result<String, AllocError> {
     Ok(text)
 }
 
-// On which side of its column the text of a cell stands.
+/// On which side of its column the text of a cell is.
 #[derive(Clone, Copy, PartialEq, Eq)]
 enum Side {
-    // Names.
+    /// Names.
     Left,
-    // Numbers.
+    /// Numbers.
     Right,
 }
 
-// Appends so many blanks.
+/// Appends so many blanks.
 fn push_blanks(line: &mut String, count: usize) -> Result<(), AllocError> {
     for _ in 0..count {
         line.push(' ')?;
@@ -513,7 +460,7 @@ fn push_blanks(line: &mut String, count: usize) -> Result<(), AllocError> {
     Ok(())
 }
 
-// Appends a row: two blanks stand between each two columns, and none at its end.
+/// Appends a row: two blanks are between each two columns, and none at its end.
 fn push_row(line: &mut String, row: &[String], widths: &[usize]) -> Result<(), AllocError> {
     let mut blanks = 0usize;
     for ((cell, width), (_title, side)) in row.iter().zip(widths).zip(&COLUMNS) {
@@ -534,7 +481,7 @@ fn push_row(line: &mut String, row: &[String], widths: &[usize]) -> Result<(), A
     line.push('\n')
 }
 
-// Appends the cells as a table, row by row.
+/// Appends the cells as a table, row by row.
 fn push_table(text: &mut String, cells: &[String]) -> Result<(), AllocError> {
     let mut widths = [0usize; 8];
     for (index, cell) in cells.iter().enumerate() {
@@ -547,10 +494,10 @@ fn push_table(text: &mut String, cells: &[String]) -> Result<(), AllocError> {
     Ok(())
 }
 
-// Texts as they are read and shown: in bytes that are no UTF-8, each such byte stands as `\xff`, and a backslash
+// Texts as they are read and shown: in bytes that are no UTF-8, each such byte is shown as `\xff`, and a backslash
 // as `\\`. So two names are never shown as one.
 
-// A copy of a value in which each text is UTF-8.
+/// A copy of a value in which each text is UTF-8.
 #[cycle(legible)]
 fn legible(alloc: Global, value: &Value) -> Result<Value, AllocError> {
     match value {
@@ -585,7 +532,7 @@ fn legible_pairs(
     Ok(copies)
 }
 
-// Bytes as a text.
+/// Bytes as a text.
 fn escaped(alloc: Global, bytes: &[u8]) -> Result<String, AllocError> {
     let mut text = String::new(alloc);
     for chunk in bytes.utf8_chunks() {
