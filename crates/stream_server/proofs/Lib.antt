@@ -4,7 +4,11 @@ pub mod SentReadLemmas
 mod AcknowledgeLemmas
 mod AddLemmas
 mod CommandLemmas
+mod DeleteLemmas
+mod DeletingLemmas
 mod DeliveringLemmas
+mod IdWordLemmas
+mod ModelLemmas
 mod NameLemmas
 mod ServingLemmas
 mod StalledLemmas

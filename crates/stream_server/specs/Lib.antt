@@ -2,10 +2,14 @@ pub mod Acknowledging
 pub mod Adding
 pub mod Changed
 pub mod Creating
+pub mod Deleting
 pub mod Delivering
+pub mod IdWords
 pub mod Incoming
 pub mod Kinds
 pub mod Loopback
+pub mod Model
+pub mod Places
 pub mod Quoted
 pub mod ReadBack
 pub mod Refusal

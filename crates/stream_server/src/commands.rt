@@ -1,8 +1,9 @@
 //! The commands by their names, and what they share.
-ghost use Rattle.std.specs.Prelude.{◌≡◌, ◌≤◌, ◌<◌, length as length_of, IfOk, OnErr, take};
+ghost use Rattle.std.specs.Prelude.{◌≡◌, ◌≤◌, ◌<◌, length as length_of, IfErr, IfOk, OnErr, take};
 ghost use Rattle.std.specs.List.{HoldsAt, prefix_len};
 ghost use Rattle.std.specs.List.Sorted.{IsSearchInRange};
 ghost use Rattle.stream_server.specs.Acknowledging.{count_answer};
+ghost use Rattle.stream_server.specs.Places.{AreInOrder, IsMissing, group_names, keys_of};
 ghost use Rattle.stream_server.specs.Shown.{is_not_nul, text_before_nul};
 ghost use Rattle.stream_server.specs.Streams.{seen_streams};
 
@@ -13,6 +14,7 @@ mod draft;
 mod group;
 mod hello;
 mod help;
+mod id_words;
 mod info;
 mod keys;
 mod pending;
@@ -28,6 +30,7 @@ use crate::refusal::Refusal;
 use crate::session::Session;
 use connection::Connection;
 use draft::Draft;
+use id_words::{Sequence, id, ids, parts_in, strict_id};
 use report::Report;
 use std::alloc::{AllocError, Global};
 use stream_store::{Entry, EntryId, Group, Room, Stream};
@@ -227,6 +230,8 @@ fn len_of(streams: &[Stream], arguments: &[Vec<u8>]) -> Result<Answer, Refusal> 
 fn place_of(streams: &[Stream], key: &[u8]) -> Result<usize, usize>
     ensures bound { IsSearchInRange result (length_of streams.now) }
     ensures found { IfOk result (HoldsAt (λ stream. stream.key.items ≡ key.now) streams.now) }
+    ensures missing { IfErr result (λ _. AreInOrder (keys_of streams.now)
+        → IsMissing key.now (keys_of streams.now)) }
 {
     streams.binary_search_by(|stream| stream.key.as_slice().cmp(&key))
 }
@@ -243,6 +248,8 @@ fn stream_of<'a>(streams: &'a [Stream], key: &[u8]) -> Option<&'a Stream> {
 fn place_of_group(stream: &Stream, name: &[u8]) -> Result<usize, usize>
     ensures bound { IsSearchInRange result (length_of stream.now.groups.items) }
     ensures found { IfOk result (HoldsAt (λ group. group.name.items ≡ name.now) stream.now.groups.items) }
+    ensures missing { IfErr result (λ _. AreInOrder (group_names stream.now)
+        → IsMissing name.now (group_names stream.now)) }
 {
     stream
         .groups
@@ -803,92 +810,6 @@ enum NewId {
     Given(EntryId),
 }
 
-/// Which part of a sequence number stands in a text.
-#[derive(Clone, Copy)]
-enum Sequence {
-    Missing,
-    Automatic,
-    Given(u64),
-}
-
-/// The number that a part of an id is: blanks may stand before it, and a sign. Behind a minus it
-/// counts down from 2 to the power of 64; but what `integer_in` reads as negative is none.
-fn number_in(text: &[u8]) -> Option<u64> {
-    if matches!(integer_in(text), Some(n) if n < 0) {
-        return None;
-    }
-    match without_blanks(text) {
-        [b'-', digits @ ..] => Some(0u64.wrapping_sub(digits_in(digits)?)),
-        [b'+', digits @ ..] => digits_in(digits),
-        digits => digits_in(digits),
-    }
-}
-
-/// What stands behind the blanks in front.
-fn without_blanks(text: &[u8]) -> &[u8] {
-    let mut rest = text;
-    for _ in 0..text.len() {
-        match rest {
-            [b' ' | b'\t'..=b'\r', behind @ ..] => rest = behind,
-            _ => break,
-        }
-    }
-    rest
-}
-
-/// The number of decimal digits.
-fn digits_in(text: &[u8]) -> Option<u64> {
-    if text.is_empty() {
-        return None;
-    }
-    let mut n = 0u64;
-    for digit in text {
-        if !digit.is_ascii_digit() {
-            return None;
-        }
-        n = n
-            .checked_mul(10)?
-            .checked_add(u64::from(digit.wrapping_sub(b'0')))?;
-    }
-    Some(n)
-}
-
-/// The parts of an id, which ends before its first NUL.
-fn parts_in(text: &[u8]) -> Option<(u64, Sequence)> {
-    if text.len() > 127 {
-        return None;
-    }
-    let text = before_nul(text);
-    let (front, behind) = text.split_at(front_len(text));
-    let milliseconds = number_in(front)?;
-    match behind {
-        [] => Some((milliseconds, Sequence::Missing)),
-        [_, b'*'] => Some((milliseconds, Sequence::Automatic)),
-        [_, digits @ ..] => Some((milliseconds, Sequence::Given(number_in(digits)?))),
-    }
-}
-
-/// How many bytes stand before the first `-`.
-fn front_len(text: &[u8]) -> usize
-    ensures { result ≤ length_of text.now }
-{
-    text.iter().take_while(|byte| **byte != b'-').count()
-}
-
-/// `ms-seq`, or `ms` with this sequence number.
-fn strict_id(text: &[u8], missing: u64) -> Option<EntryId> {
-    let (milliseconds, sequence) = parts_in(text)?;
-    let sequence = match sequence {
-        Sequence::Missing => missing,
-        Sequence::Automatic => return None,
-        Sequence::Given(sequence) => sequence,
-    };
-    Some(EntryId {
-        milliseconds,
-        sequence,
-    })
-}
-
 /// The same, or `-` for the smallest one and `+` for the largest one.
 fn loose_id(text: &[u8], missing: u64) -> Option<EntryId> {
     match before_nul(text) {
@@ -913,22 +834,6 @@ fn new_id(text: &[u8]) -> Option<NewId> {
         milliseconds,
         sequence,
     }))
-}
-
-/// The id, or that it is none.
-fn id(argument: &[u8]) -> Result<EntryId, Refusal> {
-    strict_id(argument, 0).ok_or(INVALID_ID)
-}
-
-/// The ids that the arguments are.
-fn ids(alloc: Global, arguments: &[Vec<u8>]) -> Result<Vec<EntryId>, Refusal>
-    ensures { IfOk result (λ ids. length_of ids.items ≡ length_of arguments.now) }
-{
-    let mut ids = Vec::new(alloc);
-    for argument in arguments {
-        ids.push(id(argument)?)?;
-    }
-    Ok(ids)
 }
 
 /// The first id of an interval that begins so.

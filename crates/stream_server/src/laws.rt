@@ -1,8 +1,21 @@
-//! A law of replies that are sent.
+//! Laws of replies that are sent, and of what commands do.
+ghost use Rattle.stream_server.specs.Model.{XackIsTheEvent, XdelIsTheEvents};
 ghost use Rattle.stream_server.specs.ReadBack.{RepliesAreRead};
 
 /// The bytes that `append_reply` appends of a reply are read back as one answer, and nothing more:
 /// the answer that the reply is. So a client gets one answer for each command.
 pub fn replies_are_read()
     ensures { RepliesAreRead }
+{}
+
+/// If the entries and a group of a stream are those of a world of `stream_group`, they are so after
+/// XACK, of the world to which the acknowledgement came. The answer is how many were pending.
+pub fn xack_is_the_event()
+    ensures { XackIsTheEvent }
+{}
+
+/// If the entries and a group of a stream are those of a world of `stream_group`, they are so after
+/// XDEL, of the world in which each of the entries is deleted.
+pub fn xdel_is_the_events()
+    ensures { XdelIsTheEvents }
 {}

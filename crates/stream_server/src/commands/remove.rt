@@ -1,9 +1,11 @@
 //! `XDEL`, `XTRIM`, `XACK`, `XSETID`, `DEL`.
-ghost use Rattle.std.specs.Prelude.{◌≡◌, ◌-◌, vec_len, IfOk, OnErr};
+ghost use Rattle.std.specs.Prelude.{◌≡◌, ◌≤◌, ◌-◌, drop, length, vec_len, IfErr, IfOk, OnErr};
 ghost use Rattle.stream_server.specs.Acknowledging.{AcknowledgesIn, AreAcknowledged};
+ghost use Rattle.stream_server.specs.Deleting.{AreDeleted, DeletesIn};
+ghost use Rattle.stream_server.specs.IdWords.{IsRefusedFor};
 
 use super::retention::retention_in;
-use super::{SYNTAX, id, ids, integer, is_word, number, place_of, place_of_group};
+use super::{SYNTAX, id, ids, integer, is_word, place_of, place_of_group};
 use crate::answer::Answer;
 use crate::refusal::Refusal;
 use std::alloc::Global;
@@ -28,7 +30,10 @@ pub(super) fn delete(
     streams: &mut [Stream],
     arguments: &[Vec<u8>],
 ) -> Result<Answer, Refusal>
-    ensures { OnErr result (streams.new ≡ streams.old) }
+    ensures ok { IfOk result (λ answer. DeletesIn arguments.now answer streams.old streams.new) }
+    ensures err { OnErr result (streams.new ≡ streams.old) }
+    ensures refused { IfErr result (λ e. 1 ≤ length arguments.now
+        → IsRefusedFor (drop 1 arguments.now) e) }
 {
     let [key, words @ ..] = arguments else {
         return Err(SYNTAX);
@@ -37,18 +42,18 @@ pub(super) fn delete(
         return Ok(Answer::Int(0));
     };
     let ids = ids(alloc, words)?;
-    Ok(number(remove_all(&mut streams[index], &ids)))
+    Ok(super::length(remove_all(&mut streams[index], &ids)))
 }
 
 /// Removes the entries, and counts those that were there.
-fn remove_all(stream: &mut Stream, ids: &[EntryId]) -> u64 {
-    let mut count = 0u64;
+fn remove_all(stream: &mut Stream, ids: &[EntryId]) -> usize
+    ensures { AreDeleted ids.now result stream.old stream.new }
+{
+    let before = stream.entries.len();
     for id in ids {
-        if stream.remove(*id) {
-            count = count.saturating_add(1);
-        }
+        let _was_there = stream.remove(*id);
     }
-    count
+    before.saturating_sub(stream.entries.len())
 }
 
 /// `XTRIM key MAXLEN | MINID [= | ~] threshold [LIMIT count]`
@@ -77,6 +82,8 @@ pub(super) fn acknowledge(
 ) -> Result<Answer, Refusal>
     ensures ok { IfOk result (λ answer. AcknowledgesIn arguments.now answer streams.old streams.new) }
     ensures err { OnErr result (streams.new ≡ streams.old) }
+    ensures refused { IfErr result (λ e. 2 ≤ length arguments.now
+        → IsRefusedFor (drop 2 arguments.now) e) }
 {
     let [key, name, words @ ..] = arguments else {
         return Err(SYNTAX);
