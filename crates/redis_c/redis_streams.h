@@ -207,6 +207,63 @@ uint32_t redis_xpending(const uint8_t *key, size_t key_len, const uint8_t *group
 uint32_t redis_xtrim(const uint8_t *key, size_t key_len, bool about, size_t maxlen, uint8_t *out, size_t room,
                      size_t *len);
 
+/* Entries between two ids. "-" is the least id and "+" the greatest; redis_find_range reads the replies. */
+
+/* XRANGE key start end: all entries from `start` to `end`, both included, the least id first */
+uint32_t redis_xrange(const uint8_t *key, size_t key_len, const uint8_t *start, size_t start_len, const uint8_t *end,
+                      size_t end_len, uint8_t *out, size_t room, size_t *len);
+
+/* XRANGE key start end COUNT count: at most `count` of them */
+uint32_t redis_xrange_count(const uint8_t *key, size_t key_len, const uint8_t *start, size_t start_len,
+                            const uint8_t *end, size_t end_len, size_t count, uint8_t *out, size_t room, size_t *len);
+
+/* XREVRANGE key end start: all entries from `end` back to `start`, both included, the greatest id first */
+uint32_t redis_xrevrange(const uint8_t *key, size_t key_len, const uint8_t *end, size_t end_len, const uint8_t *start,
+                         size_t start_len, uint8_t *out, size_t room, size_t *len);
+
+/* XREVRANGE key end start COUNT count: at most `count` of them */
+uint32_t redis_xrevrange_count(const uint8_t *key, size_t key_len, const uint8_t *end, size_t end_len,
+                               const uint8_t *start, size_t start_len, size_t count, uint8_t *out, size_t room,
+                               size_t *len);
+
+/* XLEN key: the reply is how many entries there are */
+uint32_t redis_xlen(const uint8_t *key, size_t key_len, uint8_t *out, size_t room, size_t *len);
+
+/* XDEL key id: the reply is how many entries were deleted */
+uint32_t redis_xdel(const uint8_t *key, size_t key_len, const uint8_t *id, size_t id_len, uint8_t *out, size_t room,
+                    size_t *len);
+
+/* XDEL key id .., the ids of these entries, from where they are in `bytes`: REDIS_OUTSIDE and REDIS_NOTHING as above */
+uint32_t redis_xdel_entries(const uint8_t *key, size_t key_len, const uint8_t *bytes, size_t bytes_len,
+                            const redis_entry *entries, size_t entry_count, uint8_t *out, size_t room, size_t *len);
+
+/* XGROUP CREATE key group id, and MKSTREAM after it if `mkstream` is true: a stream that does not exist is made too.
+   The group is given the entries after `id`; with "$" as id those that are added from now on. */
+uint32_t redis_xgroup_create(const uint8_t *key, size_t key_len, const uint8_t *group, size_t group_len,
+                             const uint8_t *id, size_t id_len, bool mkstream, uint8_t *out, size_t room, size_t *len);
+
+/* XGROUP SETID key group id: from now on the group is given the entries after `id` */
+uint32_t redis_xgroup_setid(const uint8_t *key, size_t key_len, const uint8_t *group, size_t group_len,
+                            const uint8_t *id, size_t id_len, uint8_t *out, size_t room, size_t *len);
+
+/* XGROUP DESTROY key group: removes the group, and what is pending for it */
+uint32_t redis_xgroup_destroy(const uint8_t *key, size_t key_len, const uint8_t *group, size_t group_len, uint8_t *out,
+                              size_t room, size_t *len);
+
+/* XINFO STREAM key: what the server tells of the stream */
+uint32_t redis_xinfo_stream(const uint8_t *key, size_t key_len, uint8_t *out, size_t room, size_t *len);
+
+/* XINFO GROUPS key: what it tells of the groups of the stream */
+uint32_t redis_xinfo_groups(const uint8_t *key, size_t key_len, uint8_t *out, size_t room, size_t *len);
+
+/* XINFO CONSUMERS key group: what it tells of the consumers of the group */
+uint32_t redis_xinfo_consumers(const uint8_t *key, size_t key_len, const uint8_t *group, size_t group_len, uint8_t *out,
+                               size_t room, size_t *len);
+
+/* XPENDING key group: how many entries are pending for the group, from which id to which, and for whom */
+uint32_t redis_xpending_summary(const uint8_t *key, size_t key_len, const uint8_t *group, size_t group_len,
+                                uint8_t *out, size_t room, size_t *len);
+
 /* ---- Commands with their options
 
    Settings are plain numbers, flags and places: a text of them stands in the `bytes` that are handed in with

@@ -110,3 +110,59 @@ pending_options_args key group s start end count consumer =
     codes "XPENDING" ∷ key ∷ group
     ∷ (clause (word_number (codes "IDLE")) (if_set s.idles s.idle)
     ++ start ∷ end ∷ decimal count ∷ (if s.names then consumer ∷ [] else []))
+
+-- ---- of ranges, groups, and what is told of a stream
+
+-- `XLEN key`
+abbrev pub len_args : List ℕ → List (List ℕ)
+len_args key = codes "XLEN" ∷ key ∷ []
+
+-- `XRANGE key start end`
+abbrev pub range_args : List ℕ → List ℕ → List ℕ → List (List ℕ)
+range_args key start end = codes "XRANGE" ∷ key ∷ start ∷ end ∷ []
+
+-- `XRANGE key start end COUNT n`
+abbrev pub range_count_args : List ℕ → List ℕ → List ℕ → ℕ → List (List ℕ)
+range_count_args key start end n = codes "XRANGE" ∷ key ∷ start ∷ end ∷ codes "COUNT" ∷ decimal n ∷ []
+
+-- `XREVRANGE key end start`
+abbrev pub revrange_args : List ℕ → List ℕ → List ℕ → List (List ℕ)
+revrange_args key end start = codes "XREVRANGE" ∷ key ∷ end ∷ start ∷ []
+
+-- `XREVRANGE key end start COUNT n`
+abbrev pub revrange_count_args : List ℕ → List ℕ → List ℕ → ℕ → List (List ℕ)
+revrange_count_args key end start n =
+    codes "XREVRANGE" ∷ key ∷ end ∷ start ∷ codes "COUNT" ∷ decimal n ∷ []
+
+-- `XDEL key id ..`
+abbrev pub del_args : List ℕ → List (List ℕ) → List (List ℕ)
+del_args key ids = codes "XDEL" ∷ key ∷ ids
+
+-- `XGROUP CREATE key group id`, and `MKSTREAM` after it if the stream is made too
+abbrev pub create_args : List ℕ → List ℕ → List ℕ → Bool → List (List ℕ)
+create_args key group id mkstream =
+    codes "XGROUP" ∷ codes "CREATE" ∷ key ∷ group ∷ id ∷ (if mkstream then codes "MKSTREAM" ∷ [] else [])
+
+-- `XGROUP SETID key group id`
+abbrev pub setid_args : List ℕ → List ℕ → List ℕ → List (List ℕ)
+setid_args key group id = codes "XGROUP" ∷ codes "SETID" ∷ key ∷ group ∷ id ∷ []
+
+-- `XGROUP DESTROY key group`
+abbrev pub destroy_args : List ℕ → List ℕ → List (List ℕ)
+destroy_args key group = codes "XGROUP" ∷ codes "DESTROY" ∷ key ∷ group ∷ []
+
+-- `XINFO STREAM key`
+abbrev pub info_stream_args : List ℕ → List (List ℕ)
+info_stream_args key = codes "XINFO" ∷ codes "STREAM" ∷ key ∷ []
+
+-- `XINFO GROUPS key`
+abbrev pub info_groups_args : List ℕ → List (List ℕ)
+info_groups_args key = codes "XINFO" ∷ codes "GROUPS" ∷ key ∷ []
+
+-- `XINFO CONSUMERS key group`
+abbrev pub info_consumers_args : List ℕ → List ℕ → List (List ℕ)
+info_consumers_args key group = codes "XINFO" ∷ codes "CONSUMERS" ∷ key ∷ group ∷ []
+
+-- `XPENDING key group`
+abbrev pub pending_summary_args : List ℕ → List ℕ → List (List ℕ)
+pending_summary_args key group = codes "XPENDING" ∷ key ∷ group ∷ []
