@@ -15,16 +15,16 @@ use Rattle.redis_c.specs.Settings.{if_set, autoclaim_of}
 
 -- how long a read waits and how much it reads
 abbrev pub reading_of : ReadSettings → Read
-reading_of s = record default_read { block = if_set s.blocks s.block; count = if_set s.counts s.count }
+reading_of s = record default_read { block = if_set s.has_block s.block; count = if_set s.has_count s.count }
 
 -- the settings of a read for this consumer of this group
 abbrev pub read_of : ReadSettings → List ℕ → List ℕ → Read
 read_of s group consumer = record {
   group = Some (group_with (group ∷ []) (consumer ∷ []));
-  block = if_set s.blocks s.block;
-  count = if_set s.counts s.count;
+  block = if_set s.has_block s.block;
+  count = if_set s.has_count s.count;
   noack = s.noack;
-  claim = if_set s.claims s.claim;
+  claim = if_set s.has_claim s.claim;
 }
 
 -- a read of one stream
@@ -54,8 +54,8 @@ pending_args key group start end count = codes "XPENDING" ∷ key ∷ group ∷ 
 
 -- `XTRIM key MAXLEN = n`, and with `~` in place of `=` where it may be about so many
 abbrev pub trim_args : List ℕ → Bool → ℕ → List (List ℕ)
-trim_args key about n =
-    codes "XTRIM" ∷ key ∷ maxlen_sentence (record { mode = if about then approx else exact; count = n })
+trim_args key approximate n =
+    codes "XTRIM" ∷ key ∷ maxlen_sentence (record { mode = if approximate then approx else exact; count = n })
 
 -- ---- with options
 
@@ -108,8 +108,8 @@ read_group_args s group consumer streams =
 abbrev pub pending_options_args : List ℕ → List ℕ → PendingSettings → List ℕ → List ℕ → ℕ → List ℕ → List (List ℕ)
 pending_options_args key group s start end count consumer =
     codes "XPENDING" ∷ key ∷ group
-    ∷ (clause (word_number (codes "IDLE")) (if_set s.idles s.idle)
-    ++ start ∷ end ∷ decimal count ∷ (if s.names then consumer ∷ [] else []))
+    ∷ (clause (word_number (codes "IDLE")) (if_set s.has_idle s.idle)
+    ++ start ∷ end ∷ decimal count ∷ (if s.has_consumer then consumer ∷ [] else []))
 
 -- ---- of ranges, groups, and what is told of a stream
 

@@ -10,6 +10,7 @@ mod at_places;
 mod claiming;
 mod claims;
 mod commands;
+mod copying;
 mod cursor;
 mod entries;
 mod groups;
@@ -21,6 +22,8 @@ mod outcome;
 mod packing;
 mod placed;
 mod ranges;
+mod records;
+mod replies;
 mod server;
 mod settings;
 mod trimming;
@@ -45,6 +48,8 @@ pub use ranges::{
     redis_xdel, redis_xdel_entries, redis_xlen, redis_xrange, redis_xrange_count, redis_xrevrange,
     redis_xrevrange_count,
 };
+pub use records::{ConsumerRecord, GroupRecord, PendingRecord, RecordsFound, SummaryRecord};
+pub use replies::{redis_xinfo_groups_reply, redis_xpending_reply, redis_xpending_summary_reply};
 pub use server::{
     GroupPlace, redis_read_add, redis_read_autoclaim, redis_read_claim, redis_read_read,
     redis_read_trim,
