@@ -131,7 +131,7 @@ static void acknowledge(connection *c, const char *key, const char *group, size_
 }
 
 static void ask(connection *c, const char *key, const char *group, const char *name) {
-    redis_read_settings settings = {.counts = true, .count = 100};
+    redis_read_settings settings = {.has_count = true, .count = 100};
     uint8_t out[4096];
     size_t len;
     if (redis_xreadgroup(&settings, text(group), strlen(group), text(name), strlen(name), text(key), strlen(key),

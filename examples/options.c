@@ -39,33 +39,33 @@ static void write_commands(void) {
     redis_field field = {place("item"), place("tea")};
     redis_add_settings add = {
         .nomkstream = true,
-        .recognizes = REDIS_IDMP,
+        .idempotency = REDIS_IDMP,
         .producer = place("shop"),
-        .item = place("o-17"),
-        .trim = {.bound = REDIS_MAXLEN, .references = REDIS_ACKED, .about = true, .limits = true, .maxlen = 1000,
+        .idempotent_id = place("o-17"),
+        .trim = {.bound = REDIS_MAXLEN, .policy = REDIS_ACKED, .approximate = true, .has_limit = true, .maxlen = 1000,
                  .limit = 50},
     };
     put(redis_xadd_options(text("orders"), 6, text("*"), 1, &add, bytes, held, &field, 1, out, ROOM, &len));
 
-    redis_trim_settings trim = {.bound = REDIS_MINID, .references = REDIS_DELREF, .minid = place("5-0")};
+    redis_trim_settings trim = {.bound = REDIS_MINID, .policy = REDIS_DELREF, .minid = place("5-0")};
     put(redis_xtrim_options(text("orders"), 6, &trim, bytes, held, out, ROOM, &len));
 
-    redis_autoclaim_settings idle = {.counts = true, .justid = true, .count = 10};
+    redis_autoclaim_settings idle = {.has_count = true, .justid = true, .count = 10};
     put(redis_xautoclaim_options(text("orders"), 6, text("g1"), 2, text("ann"), 3, 60000, text("0-0"), 3, &idle, out,
                                  ROOM, &len));
 
     redis_entry entry = {.id = place("1-0")};
-    redis_claim_settings claim = {.idles = true, .retries = true, .force = true, .notes = true, .idle = 7, .retry = 3,
+    redis_claim_settings claim = {.has_idle = true, .has_retry = true, .force = true, .has_lastid = true, .idle = 7, .retry = 3,
                                   .lastid = place("9-0")};
     put(redis_xclaim_options(text("orders"), 6, text("g1"), 2, text("ann"), 3, 0, &claim, bytes, held, &entry, 1, out,
                              ROOM, &len));
 
     redis_field streams[] = {{place("orders"), place("1-1")}, {place("returns"), place("0-0")}};
-    redis_read_settings read = {.counts = true, .blocks = true, .noack = true, .count = 2, .block = 0};
+    redis_read_settings read = {.has_count = true, .has_block = true, .noack = true, .count = 2, .block = 0};
     put(redis_xread_streams(&read, bytes, held, streams, 2, out, ROOM, &len));
     put(redis_xreadgroup_streams(&read, text("g1"), 2, text("ann"), 3, bytes, held, streams, 2, out, ROOM, &len));
 
-    redis_pending_settings pending = {.idles = true, .names = true, .idle = 500};
+    redis_pending_settings pending = {.has_idle = true, .has_consumer = true, .idle = 500};
     put(redis_xpending_options(text("orders"), 6, text("g1"), 2, &pending, text("-"), 1, text("+"), 1, 10, text("ann"),
                                3, out, ROOM, &len));
 
@@ -116,7 +116,7 @@ static void read_options(void) {
     redis_autoclaim_settings idle = {0};
     words = split("COUNT 18446744073709551615 JUSTID", spans);
     expect(redis_read_autoclaim(bytes, held, spans, words, &idle, &count), REDIS_OK);
-    printf("autoclaim %zu of %zu: %d %zu %d\n", count, words, idle.counts, idle.count, idle.justid);
+    printf("autoclaim %zu of %zu: %d %zu %d\n", count, words, idle.has_count, idle.count, idle.justid);
 
     redis_read_settings read = {0};
     redis_group_place group = {0};
@@ -135,7 +135,7 @@ static void read_options(void) {
     expect(redis_read_trim(bytes, held - 1, spans, words, &trim, &count), REDIS_OUTSIDE);
     words = split("STREAMS k 0-0", spans);
     expect(redis_read_read(bytes, held, spans, words, &read, &group, &count), REDIS_OK);
-    printf("read %zu of %zu: %d\n", count, words, group.names);
+    printf("read %zu of %zu: %d\n", count, words, group.has_group);
 }
 
 int main(void) {

@@ -36,7 +36,7 @@ class Found(ctypes.Structure):
 
 
 class AutoClaimSettings(ctypes.Structure):
-    _fields_ = [("counts", ctypes.c_bool), ("justid", ctypes.c_bool), ("count", ctypes.c_size_t)]
+    _fields_ = [("has_count", ctypes.c_bool), ("justid", ctypes.c_bool), ("count", ctypes.c_size_t)]
 
 
 OK, ROOM = 0, 1
@@ -91,7 +91,7 @@ def main():
                 own = "".join(f" {text(field.name)}={text(field.value)}" for field in fields[entry.start : entry.end])
                 print(text(stream.name), text(entry.id) + own + (" deleted" if entry.deleted else ""))
         data = data[found.len :]
-    settings = AutoClaimSettings(counts=True, justid=True, count=100)
+    settings = AutoClaimSettings(has_count=True, justid=True, count=100)
     print(autoclaim(library, b"orders", b"g1", b"ann", 60000, b"0-0", settings).decode().replace("\r\n", " "))
 
 

@@ -54,9 +54,9 @@ struct Found {
 #[derive(Default)]
 struct TrimSettings {
     bound: u32,
-    references: u32,
-    about: bool,
-    limits: bool,
+    policy: u32,
+    approximate: bool,
+    has_limit: bool,
     maxlen: usize,
     minid: Span,
     limit: usize,
@@ -102,7 +102,7 @@ fn read(bytes: &[u8]) -> Result<(Vec<Stream>, Vec<Entry>, Vec<Field>, usize), u3
 
 /// XTRIM of what stands before the id at this place.
 fn trim(key: &[u8], bytes: &[u8], minid: Span) -> Result<Vec<u8>, u32> {
-    let settings = TrimSettings { bound: MINID, about: true, minid, ..Default::default() };
+    let settings = TrimSettings { bound: MINID, approximate: true, minid, ..Default::default() };
     let mut out = Vec::new();
     loop {
         let mut len = 0;

@@ -110,7 +110,9 @@ typedef struct {
    REDIS_FAULT and above: no beginning of `bytes` is a reply, whatever comes behind.
 
    Where the bytes begin with such a reply as servers write it, and the tables have room for it, the answer is
-   REDIS_OK. Behind another number the tables say nothing, although places may have been written into them.
+   REDIS_OK. But for REDIS_MEMORY, which may be returned at any other time, the answer is REDIS_INCOMPLETE for each
+   proper beginning of a reply, and REDIS_SERVER_ERROR for each error of the server. For bytes with a fault it is the
+   first one, but REDIS_FAULT_TOO_MANY counts only the values of a reply of another shape. Behind another number the tables say nothing, although places may have been written into them.
    REDIS_OK takes no memory; the other answers take it for the time of the call, to count the places or to tell what
    stands there. */
 uint32_t redis_find_streams(const uint8_t *bytes, size_t len, redis_stream *streams, size_t stream_room,
@@ -146,10 +148,10 @@ uint32_t redis_find_justid(const uint8_t *bytes, size_t len, redis_entry *entrie
 
 /* What a read of a group asks for. */
 typedef struct {
-    bool counts;  /* at most `count` entries are read */
-    bool blocks;  /* the read waits up to `block` milliseconds for entries, and 0 without end */
-    bool noack;   /* what is read needs no acknowledgement */
-    bool claims;  /* entries that are idle for `claim` milliseconds are claimed and read first */
+    bool has_count; /* COUNT: at most `count` entries are read */
+    bool has_block; /* BLOCK: the read waits up to `block` milliseconds for entries, and 0 without end */
+    bool noack;     /* what is read needs no acknowledgement */
+    bool has_claim; /* CLAIM: entries that are idle for `claim` milliseconds are claimed and read first */
     size_t count;
     size_t block;
     size_t claim;
@@ -203,9 +205,66 @@ uint32_t redis_xpending(const uint8_t *key, size_t key_len, const uint8_t *group
                         const uint8_t *start, size_t start_len, const uint8_t *end, size_t end_len, size_t count,
                         uint8_t *out, size_t room, size_t *len);
 
-/* XTRIM key MAXLEN = n, and with ~ in place of = where `about` is true: about so many, or some more */
-uint32_t redis_xtrim(const uint8_t *key, size_t key_len, bool about, size_t maxlen, uint8_t *out, size_t room,
+/* XTRIM key MAXLEN = n, and with ~ in place of = where `approximate` is true: about so many, or some more */
+uint32_t redis_xtrim(const uint8_t *key, size_t key_len, bool approximate, size_t maxlen, uint8_t *out, size_t room,
                      size_t *len);
+
+/* Entries between two ids. "-" is the least id and "+" the greatest; redis_find_range reads the replies. */
+
+/* XRANGE key start end: all entries from `start` to `end`, both included, the least id first */
+uint32_t redis_xrange(const uint8_t *key, size_t key_len, const uint8_t *start, size_t start_len, const uint8_t *end,
+                      size_t end_len, uint8_t *out, size_t room, size_t *len);
+
+/* XRANGE key start end COUNT count: at most `count` of them */
+uint32_t redis_xrange_count(const uint8_t *key, size_t key_len, const uint8_t *start, size_t start_len,
+                            const uint8_t *end, size_t end_len, size_t count, uint8_t *out, size_t room, size_t *len);
+
+/* XREVRANGE key end start: all entries from `end` back to `start`, both included, the greatest id first */
+uint32_t redis_xrevrange(const uint8_t *key, size_t key_len, const uint8_t *end, size_t end_len, const uint8_t *start,
+                         size_t start_len, uint8_t *out, size_t room, size_t *len);
+
+/* XREVRANGE key end start COUNT count: at most `count` of them */
+uint32_t redis_xrevrange_count(const uint8_t *key, size_t key_len, const uint8_t *end, size_t end_len,
+                               const uint8_t *start, size_t start_len, size_t count, uint8_t *out, size_t room,
+                               size_t *len);
+
+/* XLEN key: the reply is how many entries there are */
+uint32_t redis_xlen(const uint8_t *key, size_t key_len, uint8_t *out, size_t room, size_t *len);
+
+/* XDEL key id: the reply is how many entries were deleted */
+uint32_t redis_xdel(const uint8_t *key, size_t key_len, const uint8_t *id, size_t id_len, uint8_t *out, size_t room,
+                    size_t *len);
+
+/* XDEL key id .., the ids of these entries, from where they are in `bytes`: REDIS_OUTSIDE and REDIS_NOTHING as above */
+uint32_t redis_xdel_entries(const uint8_t *key, size_t key_len, const uint8_t *bytes, size_t bytes_len,
+                            const redis_entry *entries, size_t entry_count, uint8_t *out, size_t room, size_t *len);
+
+/* XGROUP CREATE key group id, and MKSTREAM after it if `mkstream` is true: a stream that does not exist is made too.
+   The group is given the entries after `id`; with "$" as id those that are added from now on. */
+uint32_t redis_xgroup_create(const uint8_t *key, size_t key_len, const uint8_t *group, size_t group_len,
+                             const uint8_t *id, size_t id_len, bool mkstream, uint8_t *out, size_t room, size_t *len);
+
+/* XGROUP SETID key group id: from now on the group is given the entries after `id` */
+uint32_t redis_xgroup_setid(const uint8_t *key, size_t key_len, const uint8_t *group, size_t group_len,
+                            const uint8_t *id, size_t id_len, uint8_t *out, size_t room, size_t *len);
+
+/* XGROUP DESTROY key group: removes the group, and what is pending for it */
+uint32_t redis_xgroup_destroy(const uint8_t *key, size_t key_len, const uint8_t *group, size_t group_len, uint8_t *out,
+                              size_t room, size_t *len);
+
+/* XINFO STREAM key: what the server tells of the stream */
+uint32_t redis_xinfo_stream(const uint8_t *key, size_t key_len, uint8_t *out, size_t room, size_t *len);
+
+/* XINFO GROUPS key: what it tells of the groups of the stream */
+uint32_t redis_xinfo_groups(const uint8_t *key, size_t key_len, uint8_t *out, size_t room, size_t *len);
+
+/* XINFO CONSUMERS key group: what it tells of the consumers of the group */
+uint32_t redis_xinfo_consumers(const uint8_t *key, size_t key_len, const uint8_t *group, size_t group_len, uint8_t *out,
+                               size_t room, size_t *len);
+
+/* XPENDING key group: how many entries are pending for the group, from which id to which, and for whom */
+uint32_t redis_xpending_summary(const uint8_t *key, size_t key_len, const uint8_t *group, size_t group_len,
+                                uint8_t *out, size_t room, size_t *len);
 
 /* ---- Commands with their options
 
@@ -224,32 +283,32 @@ enum { REDIS_DUPLICATES = 0, REDIS_IDMP = 1, REDIS_IDMPAUTO = 2 };
 
 /* MAXLEN|MINID =|~ bound [LIMIT n] and [KEEPREF|DELREF|ACKED] */
 typedef struct {
-    uint32_t bound;      /* REDIS_UNTRIMMED, REDIS_MAXLEN or REDIS_MINID */
-    uint32_t references; /* REDIS_UNSAID, REDIS_KEEPREF, REDIS_DELREF or REDIS_ACKED */
-    bool about;          /* ~ in place of =: about to the bound */
-    bool limits;         /* LIMIT: one call removes at most `limit` entries */
-    size_t maxlen;       /* of REDIS_MAXLEN: so many entries stay */
-    redis_span minid;    /* of REDIS_MINID: entries from this id on stay */
+    uint32_t bound;   /* REDIS_UNTRIMMED, REDIS_MAXLEN or REDIS_MINID */
+    uint32_t policy;  /* REDIS_UNSAID, REDIS_KEEPREF, REDIS_DELREF or REDIS_ACKED */
+    bool approximate; /* ~ in place of =: about to the bound */
+    bool has_limit;   /* LIMIT: one call removes at most `limit` entries */
+    size_t maxlen;    /* of REDIS_MAXLEN: so many entries stay */
+    redis_span minid; /* of REDIS_MINID: entries from this id on stay */
     size_t limit;
 } redis_trim_settings;
 
-/* [NOMKSTREAM] [KEEPREF|DELREF|ACKED] [IDMP producer item | IDMPAUTO producer] [MAXLEN|MINID ..] */
+/* [NOMKSTREAM] [KEEPREF|DELREF|ACKED] [IDMP producer idempotent-id | IDMPAUTO producer] [MAXLEN|MINID ..] */
 typedef struct {
-    bool nomkstream;     /* a stream that does not exist is not made */
-    uint32_t recognizes; /* REDIS_DUPLICATES, REDIS_IDMP or REDIS_IDMPAUTO */
-    redis_span producer; /* of REDIS_IDMP and REDIS_IDMPAUTO */
-    redis_span item;     /* of REDIS_IDMP: the id that the producer gives the entry */
+    bool nomkstream;          /* a stream that does not exist is not made */
+    uint32_t idempotency;     /* REDIS_DUPLICATES, REDIS_IDMP or REDIS_IDMPAUTO */
+    redis_span producer;      /* of REDIS_IDMP and REDIS_IDMPAUTO */
+    redis_span idempotent_id; /* of REDIS_IDMP: the id that the producer gives the entry */
     redis_trim_settings trim;
 } redis_add_settings;
 
 /* [IDLE n] [TIME n] [RETRYCOUNT n] [FORCE] [JUSTID] [LASTID id] */
 typedef struct {
-    bool idles;   /* IDLE: the entries count as idle for `idle` milliseconds */
-    bool times;   /* TIME: they count as last delivered `time` milliseconds after the start of 1970 */
-    bool retries; /* RETRYCOUNT: they count as delivered `retry` times */
-    bool force;   /* an entry that is pending for nobody is claimed too */
-    bool justid;  /* the reply has the ids alone */
-    bool notes;   /* LASTID: `lastid` is noted as the id that the group was delivered last */
+    bool has_idle;   /* IDLE: the entries count as idle for `idle` milliseconds */
+    bool has_time;   /* TIME: they count as last delivered `time` milliseconds after the start of 1970 */
+    bool has_retry;  /* RETRYCOUNT: they count as delivered `retry` times */
+    bool force;      /* an entry that is pending for nobody is claimed too */
+    bool justid;     /* the reply has the ids alone */
+    bool has_lastid; /* LASTID: `lastid` is noted as the id that the group was delivered last */
     size_t idle;
     size_t time;
     size_t retry;
@@ -258,19 +317,19 @@ typedef struct {
 
 /* [COUNT n] [JUSTID] */
 typedef struct {
-    bool counts; /* at most `count` entries are claimed */
-    bool justid; /* the reply has the ids alone: redis_find_justid reads it */
+    bool has_count; /* COUNT: at most `count` entries are claimed */
+    bool justid;    /* the reply has the ids alone: redis_find_justid reads it */
     size_t count;
 } redis_autoclaim_settings;
 
 /* [IDLE n] and [consumer] */
 typedef struct {
-    bool idles; /* those alone that are pending for `idle` milliseconds */
-    bool names; /* those alone that are pending for the consumer */
+    bool has_idle;     /* IDLE: those alone that are pending for `idle` milliseconds */
+    bool has_consumer; /* those alone that are pending for the consumer */
     size_t idle;
 } redis_pending_settings;
 
-/* XADD key [NOMKSTREAM] [KEEPREF|DELREF|ACKED] [IDMP producer item | IDMPAUTO producer]
+/* XADD key [NOMKSTREAM] [KEEPREF|DELREF|ACKED] [IDMP producer idempotent-id | IDMPAUTO producer]
         [MAXLEN|MINID =|~ bound [LIMIT n]] id name value ..
    The fields, and the texts of the settings, stand in `bytes`. */
 uint32_t redis_xadd_options(const uint8_t *key, size_t key_len, const uint8_t *id, size_t id_len,
@@ -297,7 +356,7 @@ uint32_t redis_xautoclaim_options(const uint8_t *key, size_t key_len, const uint
                                   const redis_autoclaim_settings *settings, uint8_t *out, size_t room, size_t *len);
 
 /* XREAD [BLOCK n] [COUNT n] STREAMS key .. id ..
-   Of each stream the key stands as a name, and its id as a value. `noack` and `claims` are for a group alone. */
+   Of each stream the key stands as a name, and its id as a value. `noack` and `has_claim` are for a group alone. */
 uint32_t redis_xread_streams(const redis_read_settings *settings, const uint8_t *bytes, size_t bytes_len,
                              const redis_field *streams, size_t stream_count, uint8_t *out, size_t room,
                              size_t *len);
@@ -314,6 +373,80 @@ uint32_t redis_xpending_options(const uint8_t *key, size_t key_len, const uint8_
                                 const redis_pending_settings *settings, const uint8_t *start, size_t start_len,
                                 const uint8_t *end, size_t end_len, size_t count, const uint8_t *consumer,
                                 size_t consumer_len, uint8_t *out, size_t room, size_t *len);
+
+/* ---- What a server tells of groups, and of what is pending
+
+   Each of the calls below reads the reply at the head of `bytes` into plain records. Names and ids are copied to the
+   front of `texts`, one after the other, and a record has their places there.
+
+   REDIS_OK: the first `found->len` bytes are the reply. The table begins with its `found->records` records, all of
+   them in its order, and `texts` with their `found->text` bytes.
+   REDIS_ROOM: such a reply too. It wants a table of `found->records` records and `found->text` bytes of texts, of
+   which `room` or `text_room` is too little.
+   REDIS_INCOMPLETE: no beginning of `bytes` is a reply.
+   REDIS_SERVER_ERROR: the first `found->len` bytes are an error, whose text is at `found->error` in `bytes`.
+   REDIS_OTHER: the first `found->len` bytes are another reply.
+   REDIS_FAULT and above: no beginning of `bytes` is a reply, whatever comes after them. It is the first fault.
+
+   The other direction holds too, but for REDIS_MEMORY, which may be returned at any time. If the bytes begin with such
+   a reply, the call returns REDIS_OK or REDIS_ROOM. It returns REDIS_INCOMPLETE for each proper beginning of a reply,
+   REDIS_SERVER_ERROR for each error of the server, and REDIS_OTHER for each value that is no such reply. */
+
+/* What a reading of records found. */
+typedef struct {
+    size_t len;       /* how many bytes the reply has: the next one is after them; 0 if there is none */
+    size_t records;   /* how many records there are, with REDIS_OK and REDIS_ROOM, and else 0 */
+    size_t text;      /* how many bytes their texts have, likewise */
+    redis_span error; /* the place of the text of the server's error, with REDIS_SERVER_ERROR */
+} redis_records_found;
+
+/* A group of a stream. */
+typedef struct {
+    redis_span name;              /* in `texts`, as is the next one */
+    redis_span last_delivered_id;
+    size_t consumers;      /* how many consumers it has */
+    size_t pending;        /* how many entries were delivered and not yet acknowledged */
+    bool has_entries_read; /* the server tells `entries_read`, which Redis does from 7.0 on */
+    bool has_lag;          /* the server tells `lag` */
+    size_t entries_read;   /* how many entries the group has read */
+    size_t lag;            /* how many entries it has still to read */
+} redis_group_info;
+
+/* Reads the reply of XINFO GROUPS: a record for each group. What the reply does not tell is 0, or an empty text. */
+uint32_t redis_xinfo_groups_reply(const uint8_t *bytes, size_t len, redis_group_info *groups, size_t room,
+                                  uint8_t *texts, size_t text_room, redis_records_found *found);
+
+/* A pending entry. */
+typedef struct {
+    redis_span id;            /* in `texts`, as is the next one */
+    redis_span consumer;      /* the consumer that it was delivered to */
+    size_t last_delivered_ms; /* how many milliseconds have passed since its last delivery */
+    size_t times_delivered;   /* how often it was delivered */
+} redis_pending_entry;
+
+/* Reads the reply of XPENDING with a range, as redis_xpending and redis_xpending_options ask for it: a record for each
+   pending entry. */
+uint32_t redis_xpending_reply(const uint8_t *bytes, size_t len, redis_pending_entry *entries, size_t room,
+                              uint8_t *texts, size_t text_room, redis_records_found *found);
+
+/* A consumer that has pending entries. */
+typedef struct {
+    redis_span name; /* in `texts` */
+    size_t pending;  /* how many entries are pending for it */
+} redis_pending_consumer;
+
+/* What is pending for a group. */
+typedef struct {
+    size_t count;        /* how many entries are pending; with 0 the ids say nothing */
+    redis_span start_id; /* the least id among them, in `texts`, as is the next one */
+    redis_span end_id;   /* the greatest id among them */
+} redis_pending_summary;
+
+/* Reads the reply of XPENDING without a range, as redis_xpending_summary asks for it: how much is pending, and a record
+   for each consumer. After another number than REDIS_OK `summary` says nothing. */
+uint32_t redis_xpending_summary_reply(const uint8_t *bytes, size_t len, redis_pending_summary *summary,
+                                      redis_pending_consumer *consumers, size_t room, uint8_t *texts,
+                                      size_t text_room, redis_records_found *found);
 
 /* ---- Any reply
 
@@ -357,7 +490,7 @@ uint32_t redis_find_nodes(const uint8_t *bytes, size_t len, redis_node *nodes, s
 
 /* Where the names of a group and its consumer stand. */
 typedef struct {
-    bool names; /* there are names: it is an XREADGROUP */
+    bool has_group; /* there are names: it is an XREADGROUP */
     redis_span group;
     redis_span consumer;
 } redis_group_place;

@@ -10,13 +10,15 @@ from .connection import Connection, Decoder, SocketLike
 from .consumer import Consumer, LeavePending
 from .errors import (ArgumentTooLarge, BadSettings, ConnectionClosed, Error, LibraryNotFound, NothingGiven, OtherReply,
                      OutOfMemory, ProtocolError, ServerError)
+from .records import Group, PendingEntry, PendingSummary, read_groups, read_pending, read_pending_summary
 from .replies import (Claimed, ClaimedIds, Entries, Entry, Stream, Streams, Value, find_autoclaim, find_justid,
                       find_range, find_streams, find_value)
 
 __all__ = [
     "ArgumentTooLarge", "BadSettings", "Claimed", "ClaimedIds", "Command", "Connection", "ConnectionClosed", "Consumer",
-    "Decoder", "Entries", "Entry", "Error", "LeavePending", "LibraryNotFound", "NothingGiven", "OtherReply",
-    "OutOfMemory", "ProtocolError", "ServerError", "SocketLike", "Stream", "Streams", "Value", "commands", "errors",
-    "find_autoclaim", "find_justid", "find_range", "find_streams", "find_value", "pack",
+    "Decoder", "Entries", "Entry", "Error", "Group", "LeavePending", "LibraryNotFound", "NothingGiven", "OtherReply",
+    "OutOfMemory", "PendingEntry", "PendingSummary", "ProtocolError", "ServerError", "SocketLike", "Stream", "Streams",
+    "Value", "commands", "errors", "find_autoclaim", "find_justid", "find_range", "find_streams", "find_value", "pack",
+    "read_groups", "read_pending", "read_pending_summary",
 ]
 __version__ = "1.0.0"

@@ -43,43 +43,69 @@ class Node(ctypes.Structure):
 
 
 class ReadSettings(ctypes.Structure):
-    _fields_ = [("counts", BOOL), ("blocks", BOOL), ("noack", BOOL), ("claims", BOOL),
+    _fields_ = [("has_count", BOOL), ("has_block", BOOL), ("noack", BOOL), ("has_claim", BOOL),
                 ("count", SIZE), ("block", SIZE), ("claim", SIZE)]
 
 
 class TrimSettings(ctypes.Structure):
-    _fields_ = [("bound", ctypes.c_uint32), ("references", ctypes.c_uint32), ("about", BOOL), ("limits", BOOL),
+    _fields_ = [("bound", ctypes.c_uint32), ("policy", ctypes.c_uint32), ("approximate", BOOL), ("has_limit", BOOL),
                 ("maxlen", SIZE), ("minid", Span), ("limit", SIZE)]
 
 
 class AddSettings(ctypes.Structure):
-    _fields_ = [("nomkstream", BOOL), ("recognizes", ctypes.c_uint32), ("producer", Span), ("item", Span),
+    _fields_ = [("nomkstream", BOOL), ("idempotency", ctypes.c_uint32), ("producer", Span), ("idempotent_id", Span),
                 ("trim", TrimSettings)]
 
 
 class ClaimSettings(ctypes.Structure):
-    _fields_ = [("idles", BOOL), ("times", BOOL), ("retries", BOOL), ("force", BOOL), ("justid", BOOL),
-                ("notes", BOOL), ("idle", SIZE), ("time", SIZE), ("retry", SIZE), ("lastid", Span)]
+    _fields_ = [("has_idle", BOOL), ("has_time", BOOL), ("has_retry", BOOL), ("force", BOOL), ("justid", BOOL),
+                ("has_lastid", BOOL), ("idle", SIZE), ("time", SIZE), ("retry", SIZE), ("lastid", Span)]
 
 
 class AutoclaimSettings(ctypes.Structure):
-    _fields_ = [("counts", BOOL), ("justid", BOOL), ("count", SIZE)]
+    _fields_ = [("has_count", BOOL), ("justid", BOOL), ("count", SIZE)]
 
 
 class PendingSettings(ctypes.Structure):
-    _fields_ = [("idles", BOOL), ("names", BOOL), ("idle", SIZE)]
+    _fields_ = [("has_idle", BOOL), ("has_consumer", BOOL), ("idle", SIZE)]
+
+
+class RecordsFound(ctypes.Structure):
+    _fields_ = [("len", SIZE), ("records", SIZE), ("text", SIZE), ("error", Span)]
+
+
+class Group(ctypes.Structure):
+    _fields_ = [("name", Span), ("last_delivered_id", Span), ("consumers", SIZE), ("pending", SIZE),
+                ("has_entries_read", BOOL), ("has_lag", BOOL), ("entries_read", SIZE), ("lag", SIZE)]
+
+
+class PendingEntry(ctypes.Structure):
+    _fields_ = [("id", Span), ("consumer", Span), ("last_delivered_ms", SIZE), ("times_delivered", SIZE)]
+
+
+class PendingConsumer(ctypes.Structure):
+    _fields_ = [("name", Span), ("pending", SIZE)]
+
+
+class PendingSummary(ctypes.Structure):
+    _fields_ = [("count", SIZE), ("start_id", Span), ("end_id", Span)]
 
 
 # Of each call what it is handed: B bytes and their number, T a table and its room or number, N a number, F a flag,
 # P a pointer to one record. The calls that write a command take a buffer, its room and a place for the length at the end.
 _READINGS = {
     "redis_find_streams": "BTTTP", "redis_find_range": "BTTP", "redis_find_autoclaim": "BTTPP",
-    "redis_find_justid": "BTPP", "redis_find_nodes": "BTPP",
+    "redis_find_justid": "BTPP", "redis_find_nodes": "BTPP", "redis_xinfo_groups_reply": "BTTP",
+    "redis_xpending_reply": "BTTP", "redis_xpending_summary_reply": "BPTTP",
 }
 _COMMANDS = {
     "redis_xack_entries": "BBBT", "redis_xadd_options": "BBPBT", "redis_xtrim_options": "BPB",
     "redis_xclaim_options": "BBBNPBT", "redis_xautoclaim_options": "BBBNBP", "redis_xread_streams": "PBT",
     "redis_xreadgroup_streams": "PBBBT", "redis_xpending_options": "BBPBBNB",
+    "redis_xlen": "B", "redis_xrange": "BBB", "redis_xrange_count": "BBBN", "redis_xrevrange": "BBB",
+    "redis_xrevrange_count": "BBBN", "redis_xdel_entries": "BBT", "redis_xgroup_create": "BBBF",
+    "redis_xgroup_setid": "BBB", "redis_xgroup_destroy": "BB", "redis_xinfo_stream": "B", "redis_xinfo_groups": "B",
+    "redis_xinfo_consumers": "BB", "redis_xpending_summary": "BB",
 }
 _TYPES: dict[str, list[type]] = {
     "B": [ctypes.c_char_p, SIZE], "T": [ctypes.c_void_p, SIZE], "N": [SIZE], "F": [BOOL], "P": [ctypes.c_void_p],

@@ -49,9 +49,9 @@ def xadd(key: Text, fields: Fields, id: Text = b"*", *, nomkstream: bool = False
     if idmp is not None and idmpauto is not None:
         raise BadSettings("idmp and idmpauto exclude one another")
     if idmp is not None:
-        settings.recognizes, settings.producer, settings.item = 1, texts.add(idmp[0]), texts.add(idmp[1])
+        settings.idempotency, settings.producer, settings.idempotent_id = 1, texts.add(idmp[0]), texts.add(idmp[1])
     elif idmpauto is not None:
-        settings.recognizes, settings.producer = 2, texts.add(idmpauto)
+        settings.idempotency, settings.producer = 2, texts.add(idmpauto)
     table = _fields(texts, fields.items() if isinstance(fields, Mapping) else fields)
     return _packed("redis_xadd_options", *_text(key), *_text(id), ctypes.byref(settings), *texts.joined(), *table)
 
@@ -99,11 +99,11 @@ def xclaim(key: Text, group: Text, consumer: Text, min_idle: int, ids: Ids, *, i
     """XCLAIM of ids that are idle for at least `min_idle`."""
     texts = _Texts()
     settings = c.ClaimSettings(force=force, justid=justid)
-    settings.idles, settings.idle = _given(idle)
-    settings.times, settings.time = _given(time)
-    settings.retries, settings.retry = _given(retrycount)
+    settings.has_idle, settings.idle = _given(idle)
+    settings.has_time, settings.time = _given(time)
+    settings.has_retry, settings.retry = _given(retrycount)
     if lastid is not None:
-        settings.notes, settings.lastid = True, texts.add(lastid)
+        settings.has_lastid, settings.lastid = True, texts.add(lastid)
     table = _ids(texts, ids)
     return _packed("redis_xclaim_options", *_text(key), *_text(group), *_text(consumer), _number(min_idle),
                    ctypes.byref(settings), *texts.joined(), *table)
@@ -113,19 +113,80 @@ def xautoclaim(key: Text, group: Text, consumer: Text, min_idle: int, start: Tex
                justid: bool = False) -> Command:
     """XAUTOCLAIM from the id `start` on; with `justid`, `find_justid` reads the reply."""
     settings = c.AutoclaimSettings(justid=justid)
-    settings.counts, settings.count = _given(count)
+    settings.has_count, settings.count = _given(count)
     return _packed("redis_xautoclaim_options", *_text(key), *_text(group), *_text(consumer), _number(min_idle),
                    *_text(start), ctypes.byref(settings))
 
 
 def xpending(key: Text, group: Text, count: int, start: Text = b"-", end: Text = b"+", *, idle: int | None = None,
              consumer: Text | None = None) -> Command:
-    """XPENDING with a range: `find_value` reads the reply."""
-    settings = c.PendingSettings(names=consumer is not None)
-    settings.idles, settings.idle = _given(idle)
+    """XPENDING with a range: `read_pending` reads the reply."""
+    settings = c.PendingSettings(has_consumer=consumer is not None)
+    settings.has_idle, settings.idle = _given(idle)
     own = b"" if consumer is None else consumer
     return _packed("redis_xpending_options", *_text(key), *_text(group), ctypes.byref(settings), *_text(start), *_text(end),
                    _number(count), *_text(own))
+
+
+def xpending_summary(key: Text, group: Text) -> Command:
+    """XPENDING without a range: `read_pending_summary` reads the reply."""
+    return _packed("redis_xpending_summary", *_text(key), *_text(group))
+
+
+def xlen(key: Text) -> Command:
+    """XLEN: how many entries there are."""
+    return _packed("redis_xlen", *_text(key))
+
+
+def xrange(key: Text, start: Text = b"-", end: Text = b"+", *, count: int | None = None) -> Command:
+    """XRANGE from `start` to `end`, both included: `find_range` reads the reply."""
+    if count is None:
+        return _packed("redis_xrange", *_text(key), *_text(start), *_text(end))
+    return _packed("redis_xrange_count", *_text(key), *_text(start), *_text(end), _number(count))
+
+
+def xrevrange(key: Text, end: Text = b"+", start: Text = b"-", *, count: int | None = None) -> Command:
+    """XREVRANGE from `end` back to `start`, both included: `find_range` reads the reply."""
+    if count is None:
+        return _packed("redis_xrevrange", *_text(key), *_text(end), *_text(start))
+    return _packed("redis_xrevrange_count", *_text(key), *_text(end), *_text(start), _number(count))
+
+
+def xdel(key: Text, ids: Ids) -> Command:
+    """XDEL of one id or of several."""
+    texts = _Texts()
+    table = _ids(texts, ids)
+    return _packed("redis_xdel_entries", *_text(key), *texts.joined(), *table)
+
+
+def xgroup_create(key: Text, group: Text, id: Text = b"$", *, mkstream: bool = False) -> Command:
+    """XGROUP CREATE: the group is given the entries after `id`, by default those that are added from now on."""
+    return _packed("redis_xgroup_create", *_text(key), *_text(group), *_text(id), mkstream)
+
+
+def xgroup_setid(key: Text, group: Text, id: Text) -> Command:
+    """XGROUP SETID: from now on the group is given the entries after `id`."""
+    return _packed("redis_xgroup_setid", *_text(key), *_text(group), *_text(id))
+
+
+def xgroup_destroy(key: Text, group: Text) -> Command:
+    """XGROUP DESTROY: removes the group, and what is pending for it."""
+    return _packed("redis_xgroup_destroy", *_text(key), *_text(group))
+
+
+def xinfo_stream(key: Text) -> Command:
+    """XINFO STREAM: `find_value` reads the reply."""
+    return _packed("redis_xinfo_stream", *_text(key))
+
+
+def xinfo_groups(key: Text) -> Command:
+    """XINFO GROUPS: `read_groups` reads the reply."""
+    return _packed("redis_xinfo_groups", *_text(key))
+
+
+def xinfo_consumers(key: Text, group: Text) -> Command:
+    """XINFO CONSUMERS: `find_value` reads the reply."""
+    return _packed("redis_xinfo_consumers", *_text(key), *_text(group))
 
 
 class _Texts:
@@ -168,9 +229,9 @@ def _given(number: int | None) -> tuple[bool, int]:
 
 def _reading(count: int | None, block: int | None, noack: bool = False, claim: int | None = None) -> c.ReadSettings:
     settings = c.ReadSettings(noack=noack)
-    settings.counts, settings.count = _given(count)
-    settings.blocks, settings.block = _given(block)
-    settings.claims, settings.claim = _given(claim)
+    settings.has_count, settings.count = _given(count)
+    settings.has_block, settings.block = _given(block)
+    settings.has_claim, settings.claim = _given(claim)
     return settings
 
 
@@ -180,8 +241,8 @@ def _trimming(texts: _Texts, maxlen: int | None, minid: Text | None, approximate
         raise BadSettings(f"references is KEEPREF, DELREF or ACKED, and not {references}")
     if maxlen is not None and minid is not None:
         raise BadSettings("maxlen and minid exclude one another")
-    settings = c.TrimSettings(about=approximate, references=_REFERENCES[references])
-    settings.limits, settings.limit = _given(limit)
+    settings = c.TrimSettings(approximate=approximate, policy=_REFERENCES[references])
+    settings.has_limit, settings.limit = _given(limit)
     if maxlen is not None:
         settings.bound, settings.maxlen = 1, _number(maxlen)
     elif minid is not None:

@@ -49,6 +49,25 @@ class CommandsTest(unittest.TestCase):
         self.written(commands.xpending("k", "g", 10), "XPENDING k g - + 10")
         self.written(commands.xpending("k", "g", 10, "1-0", "2-0", idle=5, consumer="ann"), "XPENDING k g IDLE 5 1-0 2-0 10 ann")
 
+    def test_ranges(self) -> None:
+        self.written(commands.xlen("k"), "XLEN k")
+        self.written(commands.xrange("k"), "XRANGE k - +")
+        self.written(commands.xrange("k", "1-0", "2-0", count=0), "XRANGE k 1-0 2-0 COUNT 0")
+        self.written(commands.xrevrange("k"), "XREVRANGE k + -")
+        self.written(commands.xrevrange("k", "2-0", "1-0", count=1), "XREVRANGE k 2-0 1-0 COUNT 1")
+        self.written(commands.xdel("k", ["1-0", b"2-0"]), "XDEL k 1-0 2-0")
+        self.assertRaises(NothingGiven, lambda: commands.xdel("k", []))
+
+    def test_groups_and_what_is_told(self) -> None:
+        self.written(commands.xgroup_create("k", "g", mkstream=True), "XGROUP CREATE k g $ MKSTREAM")
+        self.written(commands.xgroup_create("k", "g", "0-0"), "XGROUP CREATE k g 0-0")
+        self.written(commands.xgroup_setid("k", "g", "5-0"), "XGROUP SETID k g 5-0")
+        self.written(commands.xgroup_destroy("k", "g"), "XGROUP DESTROY k g")
+        self.written(commands.xinfo_stream("k"), "XINFO STREAM k")
+        self.written(commands.xinfo_groups("k"), "XINFO GROUPS k")
+        self.written(commands.xinfo_consumers("k", "g"), "XINFO CONSUMERS k g")
+        self.written(commands.xpending_summary("k", "g"), "XPENDING k g")
+
     def test_texts_are_any_bytes(self) -> None:
         odd = bytes(range(256)) * 10
         self.assertEqual(commands.xadd(odd, {odd: odd}).arguments, [b"XADD", odd, b"*", odd, odd])

@@ -111,8 +111,8 @@ impl Trimming {
     }
 
     fn set(&self, texts: &mut Texts, settings: &mut raw::TrimSettings) {
-        settings.about = self.about;
-        settings.limits = self.limit.is_some();
+        settings.approximate = self.about;
+        settings.has_limit = self.limit.is_some();
         settings.limit = self.limit.unwrap_or(0);
         match &self.bound {
             Bound::MaxLen(maxlen) => (settings.bound, settings.maxlen) = (1, *maxlen),
@@ -169,20 +169,20 @@ impl Add {
     }
 
     pub fn references(mut self, references: References) -> Add {
-        self.settings.trim.references = references as u32;
+        self.settings.trim.policy = references as u32;
         self
     }
 
     /// IDMP: a duplicate has the same producer and the same item.
     pub fn idmp(mut self, producer: &str, item: &str) -> Add {
-        self.settings.recognizes = 1;
-        (self.settings.producer, self.settings.item) = (self.texts.add(producer), self.texts.add(item));
+        self.settings.idempotency = 1;
+        (self.settings.producer, self.settings.idempotent_id) = (self.texts.add(producer), self.texts.add(item));
         self
     }
 
     /// IDMPAUTO: a duplicate has the same producer and the same fields.
     pub fn idmpauto(mut self, producer: &str) -> Add {
-        self.settings.recognizes = 2;
+        self.settings.idempotency = 2;
         self.settings.producer = self.texts.add(producer);
         self
     }
@@ -213,7 +213,7 @@ impl Trim {
     }
 
     pub fn references(mut self, references: References) -> Trim {
-        self.settings.references = references as u32;
+        self.settings.policy = references as u32;
         self
     }
 
@@ -242,13 +242,13 @@ impl Read {
     }
 
     pub fn count(mut self, count: usize) -> Read {
-        (self.settings.counts, self.settings.count) = (true, count);
+        (self.settings.has_count, self.settings.count) = (true, count);
         self
     }
 
     /// The read waits so many milliseconds for entries, and 0 without end.
     pub fn block(mut self, block: usize) -> Read {
-        (self.settings.blocks, self.settings.block) = (true, block);
+        (self.settings.has_block, self.settings.block) = (true, block);
         self
     }
 
@@ -296,7 +296,7 @@ impl ReadGroup {
     /// CLAIM of Redis 8.4: entries that are idle for so long come first. The reply has four values an entry, which
     /// [`Tables::find_value`](crate::Tables::find_value) reads, and `find_streams` does not.
     pub fn claim(mut self, min_idle: usize) -> ReadGroup {
-        (self.read.settings.claims, self.read.settings.claim) = (true, min_idle);
+        (self.read.settings.has_claim, self.read.settings.claim) = (true, min_idle);
         self
     }
 
@@ -373,19 +373,19 @@ impl Claim {
 
     /// IDLE: the entries count as idle for so many milliseconds.
     pub fn idle(mut self, idle: usize) -> Claim {
-        (self.settings.idles, self.settings.idle) = (true, idle);
+        (self.settings.has_idle, self.settings.idle) = (true, idle);
         self
     }
 
     /// TIME: they count as last delivered so many milliseconds after the start of 1970.
     pub fn time(mut self, time: usize) -> Claim {
-        (self.settings.times, self.settings.time) = (true, time);
+        (self.settings.has_time, self.settings.time) = (true, time);
         self
     }
 
     /// RETRYCOUNT: they count as delivered so often.
     pub fn retrycount(mut self, count: usize) -> Claim {
-        (self.settings.retries, self.settings.retry) = (true, count);
+        (self.settings.has_retry, self.settings.retry) = (true, count);
         self
     }
 
@@ -403,7 +403,7 @@ impl Claim {
 
     /// LASTID: this id is noted as the one that the group was delivered last.
     pub fn lastid(mut self, id: &str) -> Claim {
-        (self.settings.notes, self.settings.lastid) = (true, self.texts.add(id));
+        (self.settings.has_lastid, self.settings.lastid) = (true, self.texts.add(id));
         self
     }
 
@@ -450,7 +450,7 @@ impl Autoclaim {
     }
 
     pub fn count(mut self, count: usize) -> Autoclaim {
-        (self.settings.counts, self.settings.count) = (true, count);
+        (self.settings.has_count, self.settings.count) = (true, count);
         self
     }
 
@@ -467,7 +467,7 @@ impl Autoclaim {
     }
 }
 
-/// XPENDING with a range: [`Tables::find_value`](crate::Tables::find_value) reads its reply.
+/// XPENDING with a range: [`read_pending`](crate::records::read_pending) reads its reply.
 #[derive(Clone, Debug)]
 pub struct Pending {
     key: Vec<u8>,
@@ -501,13 +501,13 @@ impl Pending {
 
     /// Those that are pending for so many milliseconds.
     pub fn idle(mut self, idle: usize) -> Pending {
-        (self.settings.idles, self.settings.idle) = (true, idle);
+        (self.settings.has_idle, self.settings.idle) = (true, idle);
         self
     }
 
     /// Those of one consumer.
     pub fn consumer(mut self, consumer: impl AsRef<[u8]>) -> Pending {
-        (self.settings.names, self.consumer) = (true, owned(consumer));
+        (self.settings.has_consumer, self.consumer) = (true, owned(consumer));
         self
     }
 
@@ -516,4 +516,101 @@ impl Pending {
         let of = raw::Pending { key, group, start, end, count: *count, consumer };
         packed(|out, len| raw::xpending(&of, &self.settings, out, len))
     }
+}
+
+/// XPENDING without a range: [`read_summary`](crate::records::read_summary) reads its reply.
+pub fn pending_summary(key: impl AsRef<[u8]>, group: impl AsRef<[u8]>) -> Result<Vec<u8>, Error> {
+    packed(|out, len| raw::xpending_summary(key.as_ref(), group.as_ref(), out, len))
+}
+
+/// XRANGE and XREVRANGE: [`Tables::find_range`](crate::Tables::find_range) reads the reply.
+#[derive(Clone, Debug)]
+pub struct Range {
+    key: Vec<u8>,
+    start: Vec<u8>,
+    end: Vec<u8>,
+    count: Option<usize>,
+    is_reversed: bool,
+}
+
+impl Range {
+    /// All entries, the least id first.
+    pub fn new(key: impl AsRef<[u8]>) -> Range {
+        Range { key: owned(key), start: owned("-"), end: owned("+"), count: None, is_reversed: false }
+    }
+
+    /// Those from one id to another, both included.
+    pub fn between(mut self, start: impl AsRef<[u8]>, end: impl AsRef<[u8]>) -> Range {
+        (self.start, self.end) = (owned(start), owned(end));
+        self
+    }
+
+    /// At most so many of them.
+    pub fn count(mut self, count: usize) -> Range {
+        self.count = Some(count);
+        self
+    }
+
+    /// The greatest id first.
+    pub fn reversed(mut self) -> Range {
+        self.is_reversed = true;
+        self
+    }
+
+    pub fn pack(&self) -> Result<Vec<u8>, Error> {
+        let Range { key, start, end, .. } = self;
+        packed(|out, len| match (self.is_reversed, self.count) {
+            (false, None) => raw::xrange(key, start, end, out, len),
+            (false, Some(count)) => raw::xrange_count(key, start, end, count, out, len),
+            (true, None) => raw::xrevrange(key, end, start, out, len),
+            (true, Some(count)) => raw::xrevrange_count(key, end, start, count, out, len),
+        })
+    }
+}
+
+/// XLEN: how many entries there are.
+pub fn length(key: impl AsRef<[u8]>) -> Result<Vec<u8>, Error> {
+    packed(|out, len| raw::xlen(key.as_ref(), out, len))
+}
+
+/// XDEL of these ids; there has to be one at least.
+pub fn delete<T: AsRef<[u8]>>(key: impl AsRef<[u8]>, ids: impl IntoIterator<Item = T>) -> Result<Vec<u8>, Error> {
+    let mut texts = Texts::default();
+    let ids: Vec<raw::Entry> = ids.into_iter().map(|id| texts.entry(id)).collect();
+    packed(|out, len| raw::xdel(key.as_ref(), &texts.0, &ids, out, len))
+}
+
+/// XGROUP CREATE: the group is given the entries after `id`. With `mkstream` a stream that does not exist is made too.
+pub fn create_group(
+    key: impl AsRef<[u8]>,
+    group: impl AsRef<[u8]>,
+    id: impl AsRef<[u8]>,
+    mkstream: bool,
+) -> Result<Vec<u8>, Error> {
+    packed(|out, len| raw::xgroup_create(key.as_ref(), group.as_ref(), id.as_ref(), mkstream, out, len))
+}
+
+/// XGROUP SETID: from now on the group is given the entries after `id`.
+pub fn set_group_id(key: impl AsRef<[u8]>, group: impl AsRef<[u8]>, id: impl AsRef<[u8]>) -> Result<Vec<u8>, Error> {
+    packed(|out, len| raw::xgroup_setid(key.as_ref(), group.as_ref(), id.as_ref(), out, len))
+}
+
+/// XGROUP DESTROY: removes the group, and what is pending for it.
+pub fn destroy_group(key: impl AsRef<[u8]>, group: impl AsRef<[u8]>) -> Result<Vec<u8>, Error> {
+    packed(|out, len| raw::xgroup_destroy(key.as_ref(), group.as_ref(), out, len))
+}
+
+/// XINFO STREAM: [`Tables::find_value`](crate::Tables::find_value) reads the reply.
+pub fn info_stream(key: impl AsRef<[u8]>) -> Result<Vec<u8>, Error> {
+    packed(|out, len| raw::xinfo_stream(key.as_ref(), out, len))
+}
+
+/// XINFO GROUPS: [`read_groups`](crate::records::read_groups) reads the reply.
+pub fn info_groups(key: impl AsRef<[u8]>) -> Result<Vec<u8>, Error> {
+    packed(|out, len| raw::xinfo_groups(key.as_ref(), out, len))
+}
+
+/// XINFO CONSUMERS: [`Tables::find_value`](crate::Tables::find_value) reads the reply.
+pub fn info_consumers(key: impl AsRef<[u8]>, group: impl AsRef<[u8]>) -> Result<Vec<u8>, Error> {
+    packed(|out, len| raw::xinfo_consumers(key.as_ref(), group.as_ref(), out, len))
 }

@@ -3,6 +3,7 @@
 //! - [`Tables`] find the entries of a reply in bytes of yours, and lend them: nothing is copied.
 //! - [`Decoder`] takes bytes in pieces, [`Connection`] anything that reads and writes.
 //! - [`commands`] has the commands with their options.
+//! - [`records`] reads what a server tells of groups and of what is pending.
 //!
 //! The module `raw` alone has `unsafe`. What the library returns is checked once more where it is used: a place outside
 //! the bytes would be a panic, and never a read of other memory.
@@ -13,6 +14,7 @@ mod connection;
 mod error;
 #[allow(unsafe_code)]
 mod raw;
+pub mod records;
 mod replies;
 
 pub use connection::{Connection, ConnectionError, Decoder};

@@ -74,10 +74,10 @@ pub struct Node {
 #[repr(C)]
 #[derive(Clone, Debug, Default)]
 pub struct ReadSettings {
-    pub counts: bool,
-    pub blocks: bool,
+    pub has_count: bool,
+    pub has_block: bool,
     pub noack: bool,
-    pub claims: bool,
+    pub has_claim: bool,
     pub count: usize,
     pub block: usize,
     pub claim: usize,
@@ -87,9 +87,9 @@ pub struct ReadSettings {
 #[derive(Clone, Debug, Default)]
 pub struct TrimSettings {
     pub bound: u32,
-    pub references: u32,
-    pub about: bool,
-    pub limits: bool,
+    pub policy: u32,
+    pub approximate: bool,
+    pub has_limit: bool,
     pub maxlen: usize,
     pub minid: Span,
     pub limit: usize,
@@ -99,21 +99,21 @@ pub struct TrimSettings {
 #[derive(Clone, Debug, Default)]
 pub struct AddSettings {
     pub nomkstream: bool,
-    pub recognizes: u32,
+    pub idempotency: u32,
     pub producer: Span,
-    pub item: Span,
+    pub idempotent_id: Span,
     pub trim: TrimSettings,
 }
 
 #[repr(C)]
 #[derive(Clone, Debug, Default)]
 pub struct ClaimSettings {
-    pub idles: bool,
-    pub times: bool,
-    pub retries: bool,
+    pub has_idle: bool,
+    pub has_time: bool,
+    pub has_retry: bool,
     pub force: bool,
     pub justid: bool,
-    pub notes: bool,
+    pub has_lastid: bool,
     pub idle: usize,
     pub time: usize,
     pub retry: usize,
@@ -123,7 +123,7 @@ pub struct ClaimSettings {
 #[repr(C)]
 #[derive(Clone, Debug, Default)]
 pub struct AutoclaimSettings {
-    pub counts: bool,
+    pub has_count: bool,
     pub justid: bool,
     pub count: usize,
 }
@@ -131,9 +131,138 @@ pub struct AutoclaimSettings {
 #[repr(C)]
 #[derive(Clone, Debug, Default)]
 pub struct PendingSettings {
-    pub idles: bool,
-    pub names: bool,
+    pub has_idle: bool,
+    pub has_consumer: bool,
     pub idle: usize,
+}
+
+#[repr(C)]
+#[derive(Clone, Debug, Default)]
+pub struct RecordsFound {
+    pub len: usize,
+    pub records: usize,
+    pub text: usize,
+    pub error: Span,
+}
+
+#[repr(C)]
+#[derive(Clone, Debug, Default)]
+pub struct Group {
+    pub name: Span,
+    pub last_delivered_id: Span,
+    pub consumers: usize,
+    pub pending: usize,
+    pub has_entries_read: u8,
+    pub has_lag: u8,
+    pub entries_read: usize,
+    pub lag: usize,
+}
+
+#[repr(C)]
+#[derive(Clone, Debug, Default)]
+pub struct PendingEntry {
+    pub id: Span,
+    pub consumer: Span,
+    pub last_delivered_ms: usize,
+    pub times_delivered: usize,
+}
+
+#[repr(C)]
+#[derive(Clone, Debug, Default)]
+pub struct PendingConsumer {
+    pub name: Span,
+    pub pending: usize,
+}
+
+#[repr(C)]
+#[derive(Clone, Debug, Default)]
+pub struct PendingSummary {
+    pub count: usize,
+    pub start_id: Span,
+    pub end_id: Span,
+}
+
+/// Calls that write a command of texts, and of one number or flag after them.
+macro_rules! commands_of_texts {
+    ($($name:ident = $call:ident($($text:ident),+ $(; $more:ident: $kind:ty)?);)+) => {
+        extern "C" {
+            $(fn $call(
+                $($text: *const u8, _: usize,)+ $($more: $kind,)? out: *mut u8, room: usize, len: *mut usize,
+            ) -> u32;)+
+        }
+        $(pub fn $name($($text: &[u8],)+ $($more: $kind,)? out: &mut [u8], len: &mut usize) -> u32 {
+            // SAFETY: slices, apart, valid.
+            unsafe { $call($($text.as_ptr(), $text.len(),)+ $($more,)? out.as_mut_ptr(), out.len(), len) }
+        })+
+    };
+}
+
+commands_of_texts! {
+    xlen = redis_xlen(key);
+    xrange = redis_xrange(key, start, end);
+    xrange_count = redis_xrange_count(key, start, end; count: usize);
+    xrevrange = redis_xrevrange(key, end, start);
+    xrevrange_count = redis_xrevrange_count(key, end, start; count: usize);
+    xgroup_create = redis_xgroup_create(key, group, id; mkstream: bool);
+    xgroup_setid = redis_xgroup_setid(key, group, id);
+    xgroup_destroy = redis_xgroup_destroy(key, group);
+    xinfo_stream = redis_xinfo_stream(key);
+    xinfo_groups = redis_xinfo_groups(key);
+    xinfo_consumers = redis_xinfo_consumers(key, group);
+    xpending_summary = redis_xpending_summary(key, group);
+}
+
+#[rustfmt::skip]
+extern "C" {
+    fn redis_xdel_entries(
+        key: *const u8, key_len: usize, bytes: *const u8, bytes_len: usize, entries: *const Entry, entry_count: usize,
+        out: *mut u8, room: usize, len: *mut usize,
+    ) -> u32;
+    fn redis_xinfo_groups_reply(
+        bytes: *const u8, len: usize, groups: *mut Group, room: usize, texts: *mut u8, text_room: usize,
+        found: *mut RecordsFound,
+    ) -> u32;
+    fn redis_xpending_reply(
+        bytes: *const u8, len: usize, entries: *mut PendingEntry, room: usize, texts: *mut u8, text_room: usize,
+        found: *mut RecordsFound,
+    ) -> u32;
+    fn redis_xpending_summary_reply(
+        bytes: *const u8, len: usize, summary: *mut PendingSummary, consumers: *mut PendingConsumer, room: usize,
+        texts: *mut u8, text_room: usize, found: *mut RecordsFound,
+    ) -> u32;
+}
+
+pub fn xdel(key: &[u8], bytes: &[u8], entries: &[Entry], out: &mut [u8], len: &mut usize) -> u32 {
+    let (count, entries, room, out) = (entries.len(), entries.as_ptr(), out.len(), out.as_mut_ptr());
+    // SAFETY: slices, apart, valid.
+    unsafe { redis_xdel_entries(key.as_ptr(), key.len(), bytes.as_ptr(), bytes.len(), entries, count, out, room, len) }
+}
+
+pub fn read_groups(bytes: &[u8], groups: &mut [Group], texts: &mut [u8], found: &mut RecordsFound) -> u32 {
+    let (room, groups, text_room, texts) = (groups.len(), groups.as_mut_ptr(), texts.len(), texts.as_mut_ptr());
+    // SAFETY: slices, apart, valid.
+    unsafe { redis_xinfo_groups_reply(bytes.as_ptr(), bytes.len(), groups, room, texts, text_room, found) }
+}
+
+pub fn read_pending(bytes: &[u8], entries: &mut [PendingEntry], texts: &mut [u8], found: &mut RecordsFound) -> u32 {
+    let (room, entries, text_room, texts) = (entries.len(), entries.as_mut_ptr(), texts.len(), texts.as_mut_ptr());
+    // SAFETY: slices, apart, valid.
+    unsafe { redis_xpending_reply(bytes.as_ptr(), bytes.len(), entries, room, texts, text_room, found) }
+}
+
+pub fn read_summary(
+    bytes: &[u8],
+    summary: &mut PendingSummary,
+    consumers: &mut [PendingConsumer],
+    texts: &mut [u8],
+    found: &mut RecordsFound,
+) -> u32 {
+    let (room, consumers, text_room, texts) =
+        (consumers.len(), consumers.as_mut_ptr(), texts.len(), texts.as_mut_ptr());
+    // SAFETY: slices, apart, valid.
+    unsafe {
+        redis_xpending_summary_reply(bytes.as_ptr(), bytes.len(), summary, consumers, room, texts, text_room, found)
+    }
 }
 
 #[rustfmt::skip]

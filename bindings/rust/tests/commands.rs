@@ -1,5 +1,6 @@
 //! Commands, as their words.
-use redis_streams::commands::{pack, Ack, Add, Autoclaim, Bound, Claim, Pending, Read, ReadGroup, References, Trim};
+use redis_streams::commands::{self, pack, Ack, Add, Autoclaim, Bound, Claim, Pending, Range, Read, ReadGroup};
+use redis_streams::commands::{References, Trim};
 use redis_streams::Error;
 
 fn same(command: Result<Vec<u8>, Error>, words: &str) {
@@ -44,6 +45,29 @@ fn of_groups() {
     same(Pending::new("k", "g", 10).pack(), "XPENDING k g - + 10");
     let pending = Pending::new("k", "g", 10).range("1-0", "2-0").idle(5).consumer("ann");
     same(pending.pack(), "XPENDING k g IDLE 5 1-0 2-0 10 ann");
+}
+
+#[test]
+fn ranges() {
+    same(commands::length("k"), "XLEN k");
+    same(Range::new("k").pack(), "XRANGE k - +");
+    same(Range::new("k").between("1-0", "2-0").count(0).pack(), "XRANGE k 1-0 2-0 COUNT 0");
+    same(Range::new("k").reversed().pack(), "XREVRANGE k + -");
+    same(Range::new("k").between("1-0", "2-0").count(1).reversed().pack(), "XREVRANGE k 2-0 1-0 COUNT 1");
+    same(commands::delete("k", ["1-0", "2-0"]), "XDEL k 1-0 2-0");
+    assert_eq!(commands::delete("k", [""; 0]), Err(Error::NothingGiven));
+}
+
+#[test]
+fn groups_and_what_is_told() {
+    same(commands::create_group("k", "g", "$", true), "XGROUP CREATE k g $ MKSTREAM");
+    same(commands::create_group("k", "g", "0-0", false), "XGROUP CREATE k g 0-0");
+    same(commands::set_group_id("k", "g", "5-0"), "XGROUP SETID k g 5-0");
+    same(commands::destroy_group("k", "g"), "XGROUP DESTROY k g");
+    same(commands::info_stream("k"), "XINFO STREAM k");
+    same(commands::info_groups("k"), "XINFO GROUPS k");
+    same(commands::info_consumers("k", "g"), "XINFO CONSUMERS k g");
+    same(commands::pending_summary("k", "g"), "XPENDING k g");
 }
 
 #[test]

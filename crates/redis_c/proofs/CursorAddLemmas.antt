@@ -109,7 +109,7 @@ module _ (s : AddSettings) where
   NomkstreamIs b = b ≡ s.nomkstream
 
   abbrev PolicyIs : Option Policy → Type 0
-  PolicyIs p = policy_by s.trim.references ≡ Some p
+  PolicyIs p = policy_by s.trim.policy ≡ Some p
 
   abbrev IdempotencyIs : List ℕ → Option Idempotency → Type 0
   IdempotencyIs bytes i = idempotency_in bytes s ≡ Some i
@@ -125,7 +125,7 @@ module _ (s : AddSettings) where
       let i = ap (λ (b : List ℕ). idempotency_in b s) (sym same) ∙ p.1.1.0 in
       let o = ap (λ (b : List ℕ). any_strategy_in b s.trim) (sym also) ∙ p.1.1.1 in
       ap (option_map (settings_with s.nomkstream))
-      (both_there (policy_by s.trim.references) (both_read (idempotency_in bytes s) (any_strategy_in bytes s.trim)) policy
+      (both_there (policy_by s.trim.policy) (both_read (idempotency_in bytes s) (any_strategy_in bytes s.trim)) policy
       (idempotency, strategy) p.1.0
       (both_there (idempotency_in bytes s) (any_strategy_in bytes s.trim) idempotency strategy i o))
       ∙ ap (λ (b : Bool). Some (add_with (b, (policy, (idempotency, strategy))))) (sym p.0)

@@ -223,16 +223,16 @@ flag_is bytes word places left b is behind args rest x e r =
     (q.0 ∙ sym is, ap (texts_at bytes) (behind ∙ ap (λ (c : Bool). after_word c places) is) ∙ q.1)
 
 autoclaim_says : (s : AutoClaimSettings) (t : Option ℕ × Bool)
-    → (t.0 ≡ if_set s.counts s.count) × (t.1 ≡ s.justid) → autoclaim_of s ≡ autoclaim_with t
+    → (t.0 ≡ if_set s.has_count s.count) × (t.1 ≡ s.justid) → autoclaim_of s ≡ autoclaim_with t
 autoclaim_says s (a, b) p = rw (p.0, p.1) refl
 
 -- the options of XAUTOCLAIM
 pub autoclaim_found : (s : AutoClaimSettings) (bytes again : List ℕ) (places mid left : List Span)
-    → Finds (number_clause (codes "COUNT")) (λ o. o ≡ if_set s.counts s.count) bytes places mid → again ≡ bytes
+    → Finds (number_clause (codes "COUNT")) (λ o. o ≡ if_set s.has_count s.count) bytes places mid → again ≡ bytes
     → Finds (flag_clause (codes "JUSTID")) (λ b. b ≡ s.justid) again mid left
     → Finds autoclaim_at (λ a. autoclaim_of s ≡ a) bytes places left
 autoclaim_found s bytes again places mid left first same second =
-    let P : Option ℕ → Type 0 = λ o. o ≡ if_set s.counts s.count in
+    let P : Option ℕ → Type 0 = λ o. o ≡ if_set s.has_count s.count in
     let Q : Bool → Type 0 = λ b. b ≡ s.justid in
     seen_found autoclaim_with (both (number_clause (codes "COUNT")) (flag_clause (codes "JUSTID")))
     (λ x. P x.0 × Q x.1) (λ a. autoclaim_of s ≡ a) bytes places left (autoclaim_says s)
@@ -241,13 +241,13 @@ autoclaim_found s bytes again places mid left first same second =
 
 module _ (s : ClaimSettings) where
   abbrev IdleIs : Option ℕ → Type 0
-  IdleIs o = o ≡ if_set s.idles s.idle
+  IdleIs o = o ≡ if_set s.has_idle s.idle
 
   abbrev TimeIs : Option ℕ → Type 0
-  TimeIs o = o ≡ if_set s.times s.time
+  TimeIs o = o ≡ if_set s.has_time s.time
 
   abbrev RetryIs : Option ℕ → Type 0
-  RetryIs o = o ≡ if_set s.retries s.retry
+  RetryIs o = o ≡ if_set s.has_retry s.retry
 
   abbrev ForceIs : Bool → Type 0
   ForceIs b = b ≡ s.force

@@ -10,16 +10,16 @@ use Rattle.redis_c.proofs.CursorLemmas.{both_found, so_found}
 
 module _ (s : ReadSettings) where
   abbrev BlockIs : Option ℕ → Type 0
-  BlockIs o = o ≡ if_set s.blocks s.block
+  BlockIs o = o ≡ if_set s.has_block s.block
 
   abbrev CountIs : Option ℕ → Type 0
-  CountIs o = o ≡ if_set s.counts s.count
+  CountIs o = o ≡ if_set s.has_count s.count
 
   abbrev NoackIs : Bool → Type 0
   NoackIs b = b ≡ s.noack
 
   abbrev ClaimIs : Option ℕ → Type 0
-  ClaimIs o = o ≡ if_set s.claims s.claim
+  ClaimIs o = o ≡ if_set s.has_claim s.claim
 
   read_says : (t : Option ℕ × (Option ℕ × (Bool × Option ℕ)))
       → BlockIs t.0 × (CountIs t.1.0 × (NoackIs t.1.1.0 × ClaimIs t.1.1.1)) → t ≡ asked_by s

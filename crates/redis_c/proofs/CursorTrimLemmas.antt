@@ -171,7 +171,7 @@ no_bound_begins (w ∷ rest) e = neither (bytes_eq w (codes "MAXLEN")) (bytes_eq
 pub strategy_then : (bytes again : List ℕ) (places mid left : List Span) (s : TrimSettings) (limits : Bool) (limit : ℕ)
     → nat_eq s.bound 0 ≡ false → Finds bound_clause (λ b. any_bound_in bytes s ≡ Some b) bytes places mid → again ≡ bytes
     → Finds (number_clause (codes "LIMIT")) (λ n. n ≡ if_set limits limit) again mid left
-    → Finds strategy_clause (λ o. any_strategy_in bytes (record s { limits = limits; limit = limit }) ≡ Some o) bytes places
+    → Finds strategy_clause (λ o. any_strategy_in bytes (record s { has_limit = limits; limit = limit }) ≡ Some o) bytes places
     left
 strategy_then bytes again places mid left s limits limit some bound same number args rest x e r =
     by (begins strategy_words args) refl r
@@ -180,7 +180,7 @@ strategy_then bytes again places mid left s limits limit some bound same number 
         → number_clause (codes "LIMIT") behind ≡ z → any_bound_in bytes s ≡ Some (Some b)
         → texts_at bytes mid ≡ Some behind
         → option_map set (option_map (seen strategy_with) (option_map (beside b) z)) ≡ Some (x, rest)
-        → (any_strategy_in bytes (record s { limits = limits; limit = limit }) ≡ Some x) × (texts_at bytes left ≡ Some rest)
+        → (any_strategy_in bytes (record s { has_limit = limits; limit = limit }) ≡ Some x) × (texts_at bytes left ≡ Some rest)
     last b behind None is p there h = absurd cc
     last b behind (Some y) is p there h =
         let q = subst (λ (z : List ℕ). Finds (number_clause (codes "LIMIT")) (λ n. n ≡ if_set limits limit) z mid left) same
@@ -194,7 +194,7 @@ strategy_then bytes again places mid left s limits limit some bound same number 
     next : (z : Option (Bound × List (List ℕ))) → bound_at args ≡ z
         → option_map set (option_map (seen strategy_with) (option_and_then (followed (number_clause (codes "LIMIT"))) z))
         ≡ Some (x, rest)
-        → (any_strategy_in bytes (record s { limits = limits; limit = limit }) ≡ Some x) × (texts_at bytes left ≡ Some rest)
+        → (any_strategy_in bytes (record s { has_limit = limits; limit = limit }) ≡ Some x) × (texts_at bytes left ≡ Some rest)
     next None is h = absurd cc
     next (Some y) is h =
         let w = bound_begins args y is in
@@ -203,7 +203,7 @@ strategy_then bytes again places mid left s limits limit some bound same number 
 
     by : (c : Bool) → begins strategy_words args ≡ c
         → (if c then option_map set (strategy_at args) else Some (unset args)) ≡ Some (x, rest)
-        → (any_strategy_in bytes (record s { limits = limits; limit = limit }) ≡ Some x) × (texts_at bytes left ≡ Some rest)
+        → (any_strategy_in bytes (record s { has_limit = limits; limit = limit }) ≡ Some x) × (texts_at bytes left ≡ Some rest)
     by true w h = next (bound_at args) refl h
     by false w h =
         let q = bound args args None e (rw (no_bound_begins args w) refl) in absurd (bound_is_none bytes s some q.0)
@@ -270,7 +270,7 @@ strategy_required bytes places left s found args rest x e r = by (bound_at args)
 
 trim_says : (bytes : List ℕ) (s : TrimSettings) (references : ℕ) (t : Strategy × Option Policy)
     → (strategy_in bytes s ≡ Some t.0) × (policy_by references ≡ Some t.1)
-    → trim_in bytes (record s { references = references }) ≡ Some (trim_with t)
+    → trim_in bytes (record s { policy = references }) ≡ Some (trim_with t)
 trim_says bytes s references (strategy, policy) p =
     ap (option_map settings_with)
     (both_there (strategy_in bytes s) (policy_by references) strategy policy p.0 p.1)
@@ -279,11 +279,11 @@ trim_says bytes s references (strategy, policy) p =
 pub trim_found : (bytes again : List ℕ) (places mid left : List Span) (s : TrimSettings) (references : ℕ)
     → Finds strategy_clause (λ o. any_strategy_in bytes s ≡ Some o) bytes places mid → again ≡ bytes
     → Finds policy_clause (λ p. policy_by references ≡ Some p) again mid left
-    → Finds trim_at (λ t. trim_in bytes (record s { references = references }) ≡ Some t) bytes places left
+    → Finds trim_at (λ t. trim_in bytes (record s { policy = references }) ≡ Some t) bytes places left
 trim_found bytes again places mid left s references first same second =
     let P : Strategy → Type 0 = λ x. strategy_in bytes s ≡ Some x in
     let Q : Option Policy → Type 0 = λ p. policy_by references ≡ Some p in
     seen_found trim_with (both strategy_at policy_clause) (λ x. P x.0 × Q x.1)
-    (λ t. trim_in bytes (record s { references = references }) ≡ Some t) bytes places left (trim_says bytes s references)
+    (λ t. trim_in bytes (record s { policy = references }) ≡ Some t) bytes places left (trim_says bytes s references)
     (both_found strategy_at policy_clause P Q bytes again places mid left
     (strategy_required bytes places mid s first) same second)

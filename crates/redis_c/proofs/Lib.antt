@@ -7,3 +7,6 @@ pub mod CursorLemmas
 pub mod CursorReadLemmas
 pub mod CursorTrimLemmas
 pub mod CursorAddLemmas
+pub mod RecordLemmas
+pub mod TellLemmas
+pub mod FindLemmas

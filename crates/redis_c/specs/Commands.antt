@@ -15,16 +15,16 @@ use Rattle.redis_c.specs.Settings.{if_set, autoclaim_of}
 
 -- how long a read waits and how much it reads
 abbrev pub reading_of : ReadSettings → Read
-reading_of s = record default_read { block = if_set s.blocks s.block; count = if_set s.counts s.count }
+reading_of s = record default_read { block = if_set s.has_block s.block; count = if_set s.has_count s.count }
 
 -- the settings of a read for this consumer of this group
 abbrev pub read_of : ReadSettings → List ℕ → List ℕ → Read
 read_of s group consumer = record {
   group = Some (group_with (group ∷ []) (consumer ∷ []));
-  block = if_set s.blocks s.block;
-  count = if_set s.counts s.count;
+  block = if_set s.has_block s.block;
+  count = if_set s.has_count s.count;
   noack = s.noack;
-  claim = if_set s.claims s.claim;
+  claim = if_set s.has_claim s.claim;
 }
 
 -- a read of one stream
@@ -54,8 +54,8 @@ pending_args key group start end count = codes "XPENDING" ∷ key ∷ group ∷ 
 
 -- `XTRIM key MAXLEN = n`, and with `~` in place of `=` where it may be about so many
 abbrev pub trim_args : List ℕ → Bool → ℕ → List (List ℕ)
-trim_args key about n =
-    codes "XTRIM" ∷ key ∷ maxlen_sentence (record { mode = if about then approx else exact; count = n })
+trim_args key approximate n =
+    codes "XTRIM" ∷ key ∷ maxlen_sentence (record { mode = if approximate then approx else exact; count = n })
 
 -- ---- with options
 
@@ -108,5 +108,61 @@ read_group_args s group consumer streams =
 abbrev pub pending_options_args : List ℕ → List ℕ → PendingSettings → List ℕ → List ℕ → ℕ → List ℕ → List (List ℕ)
 pending_options_args key group s start end count consumer =
     codes "XPENDING" ∷ key ∷ group
-    ∷ (clause (word_number (codes "IDLE")) (if_set s.idles s.idle)
-    ++ start ∷ end ∷ decimal count ∷ (if s.names then consumer ∷ [] else []))
+    ∷ (clause (word_number (codes "IDLE")) (if_set s.has_idle s.idle)
+    ++ start ∷ end ∷ decimal count ∷ (if s.has_consumer then consumer ∷ [] else []))
+
+-- ---- of ranges, groups, and what is told of a stream
+
+-- `XLEN key`
+abbrev pub len_args : List ℕ → List (List ℕ)
+len_args key = codes "XLEN" ∷ key ∷ []
+
+-- `XRANGE key start end`
+abbrev pub range_args : List ℕ → List ℕ → List ℕ → List (List ℕ)
+range_args key start end = codes "XRANGE" ∷ key ∷ start ∷ end ∷ []
+
+-- `XRANGE key start end COUNT n`
+abbrev pub range_count_args : List ℕ → List ℕ → List ℕ → ℕ → List (List ℕ)
+range_count_args key start end n = codes "XRANGE" ∷ key ∷ start ∷ end ∷ codes "COUNT" ∷ decimal n ∷ []
+
+-- `XREVRANGE key end start`
+abbrev pub revrange_args : List ℕ → List ℕ → List ℕ → List (List ℕ)
+revrange_args key end start = codes "XREVRANGE" ∷ key ∷ end ∷ start ∷ []
+
+-- `XREVRANGE key end start COUNT n`
+abbrev pub revrange_count_args : List ℕ → List ℕ → List ℕ → ℕ → List (List ℕ)
+revrange_count_args key end start n =
+    codes "XREVRANGE" ∷ key ∷ end ∷ start ∷ codes "COUNT" ∷ decimal n ∷ []
+
+-- `XDEL key id ..`
+abbrev pub del_args : List ℕ → List (List ℕ) → List (List ℕ)
+del_args key ids = codes "XDEL" ∷ key ∷ ids
+
+-- `XGROUP CREATE key group id`, and `MKSTREAM` after it if the stream is made too
+abbrev pub create_args : List ℕ → List ℕ → List ℕ → Bool → List (List ℕ)
+create_args key group id mkstream =
+    codes "XGROUP" ∷ codes "CREATE" ∷ key ∷ group ∷ id ∷ (if mkstream then codes "MKSTREAM" ∷ [] else [])
+
+-- `XGROUP SETID key group id`
+abbrev pub setid_args : List ℕ → List ℕ → List ℕ → List (List ℕ)
+setid_args key group id = codes "XGROUP" ∷ codes "SETID" ∷ key ∷ group ∷ id ∷ []
+
+-- `XGROUP DESTROY key group`
+abbrev pub destroy_args : List ℕ → List ℕ → List (List ℕ)
+destroy_args key group = codes "XGROUP" ∷ codes "DESTROY" ∷ key ∷ group ∷ []
+
+-- `XINFO STREAM key`
+abbrev pub info_stream_args : List ℕ → List (List ℕ)
+info_stream_args key = codes "XINFO" ∷ codes "STREAM" ∷ key ∷ []
+
+-- `XINFO GROUPS key`
+abbrev pub info_groups_args : List ℕ → List (List ℕ)
+info_groups_args key = codes "XINFO" ∷ codes "GROUPS" ∷ key ∷ []
+
+-- `XINFO CONSUMERS key group`
+abbrev pub info_consumers_args : List ℕ → List ℕ → List (List ℕ)
+info_consumers_args key group = codes "XINFO" ∷ codes "CONSUMERS" ∷ key ∷ group ∷ []
+
+-- `XPENDING key group`
+abbrev pub pending_summary_args : List ℕ → List ℕ → List (List ℕ)
+pending_summary_args key group = codes "XPENDING" ∷ key ∷ group ∷ []

@@ -50,7 +50,7 @@ reading_at =
 
 -- what the settings ask for
 abbrev pub asked_by : ReadSettings → Option ℕ × (Option ℕ × (Bool × Option ℕ))
-asked_by s = (if_set s.blocks s.block, (if_set s.counts s.count, (s.noack, if_set s.claims s.claim)))
+asked_by s = (if_set s.has_block s.block, (if_set s.has_count s.count, (s.noack, if_set s.has_claim s.claim)))
 
 -- a group by the names of it and of the consumer
 abbrev pub group_by : List ℕ × List ℕ → Option Group
@@ -58,7 +58,7 @@ group_by names = Some (single_group names.0 names.1)
 
 -- the group that is named, if one is; None if a name is not within the bytes
 abbrev pub group_in : List ℕ → GroupPlace → Option (Option Group)
-group_in bytes place = if place.names
+group_in bytes place = if place.has_group
     then option_map group_by (both_read (text_at bytes place.group) (text_at bytes place.consumer)) else Some None
 
 -- `[MAXLEN mode n]` or `[MINID mode id]`

@@ -8,3 +8,4 @@ pub mod Settings
 pub mod Commands
 pub mod Server
 pub mod Cursor
+pub mod Records

@@ -30,7 +30,7 @@ read_for s names = read_of s names.0 names.1
 
 -- the settings of a read, for a consumer of a group where one is named
 abbrev pub read_in : List ℕ → ReadSettings → GroupPlace → Option Read
-read_in bytes s place = if place.names
+read_in bytes s place = if place.has_group
     then option_map (read_for s) (both_read (text_at bytes place.group) (text_at bytes place.consumer))
     else Some (reading_of s)
 

@@ -43,12 +43,12 @@ mode_by about = if about then approx else exact
 
 -- the bound; None where the number names none, or the id is no text within the bytes
 abbrev pub bound_in : List ℕ → TrimSettings → Option Bound
-bound_in bytes s = if nat_eq s.bound 1 then Some (max_len (mode_by s.about) s.maxlen)
-    else if nat_eq s.bound 2 then option_map (min_id (mode_by s.about)) (utf8_at bytes s.minid) else None
+bound_in bytes s = if nat_eq s.bound 1 then Some (max_len (mode_by s.approximate) s.maxlen)
+    else if nat_eq s.bound 2 then option_map (min_id (mode_by s.approximate)) (utf8_at bytes s.minid) else None
 
 -- the bound and the limit
 abbrev pub strategy_with : TrimSettings → Bound → Strategy
-strategy_with s bound = record { bound = bound; limit = if_set s.limits s.limit }
+strategy_with s bound = record { bound = bound; limit = if_set s.has_limit s.limit }
 
 -- the strategy
 abbrev pub strategy_in : List ℕ → TrimSettings → Option Strategy
@@ -64,7 +64,7 @@ trim_with x = record { strategy = x.0; policy = x.1 }
 
 -- the settings of `XTRIM`
 abbrev pub trim_in : List ℕ → TrimSettings → Option Trim
-trim_in bytes s = option_map trim_with (both_read (strategy_in bytes s) (policy_by s.references))
+trim_in bytes s = option_map trim_with (both_read (strategy_in bytes s) (policy_by s.policy))
 
 -- ---- adding
 
@@ -84,7 +84,7 @@ idempotency_by bytes recognizes producer item = if nat_eq recognizes 0 then Some
 
 -- how a duplicate entry is recognized, if it is
 abbrev pub idempotency_in : List ℕ → AddSettings → Option (Option Idempotency)
-idempotency_in bytes s = idempotency_by bytes s.recognizes s.producer s.item
+idempotency_in bytes s = idempotency_by bytes s.idempotency s.producer s.idempotent_id
 
 -- the settings in their order
 abbrev pub add_with : Bool → Option Policy × (Option Idempotency × Option Strategy) → Add
@@ -94,20 +94,20 @@ add_with nomkstream x = record { nomkstream = nomkstream; policy = x.0; idempote
 abbrev pub add_in : List ℕ → AddSettings → Option Add
 add_in bytes s =
     option_map (add_with s.nomkstream)
-    (both_read (policy_by s.trim.references) (both_read (idempotency_in bytes s) (any_strategy_in bytes s.trim)))
+    (both_read (policy_by s.trim.policy) (both_read (idempotency_in bytes s) (any_strategy_in bytes s.trim)))
 
 -- ---- claiming
 
 -- the id that is noted, if one is
 abbrev pub lastid_in : List ℕ → ClaimSettings → Option (Option (List ℕ))
-lastid_in bytes s = if s.notes then option_map Some (utf8_at bytes s.lastid) else Some None
+lastid_in bytes s = if s.has_lastid then option_map Some (utf8_at bytes s.lastid) else Some None
 
 -- the settings with that id
 abbrev pub claim_with : ClaimSettings → Option (List ℕ) → Claim
 claim_with s lastid = record {
-  idle = if_set s.idles s.idle;
-  time = if_set s.times s.time;
-  retry = if_set s.retries s.retry;
+  idle = if_set s.has_idle s.idle;
+  time = if_set s.has_time s.time;
+  retry = if_set s.has_retry s.retry;
   force = s.force;
   justid = s.justid;
   lastid = lastid;
@@ -119,7 +119,7 @@ claim_in bytes s = option_map (claim_with s) (lastid_in bytes s)
 
 -- the settings of `XAUTOCLAIM`
 abbrev pub autoclaim_of : AutoClaimSettings → AutoClaim
-autoclaim_of s = record { count = if_set s.counts s.count; justid = s.justid }
+autoclaim_of s = record { count = if_set s.has_count s.count; justid = s.justid }
 
 -- ---- for the functions within
 

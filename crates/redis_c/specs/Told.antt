@@ -86,6 +86,11 @@ pub record IsFaulty (bytes : List ℕ) (fault : Fault) : Type 0 where
   pub none : (more : List ℕ) → NoReply default_limits (bytes ++ more)
   pub first : IsFirstFault default_limits bytes (errors.Fault fault)
 
+-- what is told of a reply that is an error of the server
+abbrev pub IsError : List ℕ → Outcome → Type 0
+IsError bytes (outcomes.ServerError len text) = IsErrorAt bytes len text
+IsError bytes _ = ⊥
+
 -- Where no entries stand in place: the bytes end too early, or have a fault; an error of the server, wherever its
 -- text is; or a reply of another shape, which is no error.
 abbrev pub IsOther : List ℕ → Outcome → Type 0

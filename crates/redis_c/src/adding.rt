@@ -21,16 +21,16 @@ fn idempotency_in(
     ensures idempotency { Makes (option_map idempotency_of) result (idempotency_in bytes.now settings.now) }
     ensures fits { IfOk result (λ mode. IfSome (option_map idempotency_of mode) IdempotencyFits) }
 {
-    if settings.recognizes == 0 {
+    if settings.idempotency == 0 {
         Ok(None)
-    } else if settings.recognizes == 1 {
+    } else if settings.idempotency == 1 {
         let producer_id = utf8_at(alloc, bytes, settings.producer)?;
-        let idempotent_id = utf8_at(alloc, bytes, settings.item)?;
+        let idempotent_id = utf8_at(alloc, bytes, settings.idempotent_id)?;
         Ok(Some(StreamIdempotencyMode::Manual {
             producer_id,
             idempotent_id,
         }))
-    } else if settings.recognizes == 2 {
+    } else if settings.idempotency == 2 {
         let producer_id = utf8_at(alloc, bytes, settings.producer)?;
         Ok(Some(StreamIdempotencyMode::Automatic { producer_id }))
     } else {
@@ -47,7 +47,7 @@ pub fn add_in(
     ensures add { Makes (λ options. options) result (add_in bytes.now settings.now) }
     ensures fits { IfOk result (λ options. AddFits options) }
 {
-    let policy = policy_by(settings.trim.references)?;
+    let policy = policy_by(settings.trim.policy)?;
     let idempotency = idempotency_in(alloc, bytes, settings)?;
     let strategy = any_strategy_in(alloc, bytes, &settings.trim)?;
     let options = with_nomkstream(StreamAddOptions::default(), settings.nomkstream);

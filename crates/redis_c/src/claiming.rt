@@ -16,7 +16,7 @@ pub fn autoclaim_of(settings: &AutoClaimSettings) -> StreamAutoClaimOptions
     ensures fits { AutoClaimFits result }
 {
     let mut options = StreamAutoClaimOptions::default();
-    if settings.counts {
+    if settings.has_count {
         options = options.count(settings.count);
     }
     if settings.justid {
@@ -30,7 +30,7 @@ fn lastid_in(alloc: Global, bytes: &[u8], settings: &ClaimSettings) -> Result<Op
     ensures lastid { Makes (option_map string_bytes) result (lastid_in bytes.now settings.now) }
     ensures fits { IfOk result (λ lastid. IfSome (option_map string_bytes lastid) IsUtf8) }
 {
-    if settings.notes {
+    if settings.has_lastid {
         let lastid = utf8_at(alloc, bytes, settings.lastid)?;
         Ok(Some(lastid))
     } else {
@@ -42,19 +42,19 @@ fn lastid_in(alloc: Global, bytes: &[u8], settings: &ClaimSettings) -> Result<Op
 fn numbers_of(settings: &ClaimSettings) -> StreamClaimOptions
     ensures fits { ClaimFits result }
     ensures numbers { result ≡ record default_claim {
-      idle = if_set settings.now.idles settings.now.idle;
-      time = if_set settings.now.times settings.now.time;
-      retry = if_set settings.now.retries settings.now.retry;
+      idle = if_set settings.now.has_idle settings.now.idle;
+      time = if_set settings.now.has_time settings.now.time;
+      retry = if_set settings.now.has_retry settings.now.retry;
     } }
 {
     let mut options = StreamClaimOptions::default();
-    if settings.idles {
+    if settings.has_idle {
         options = options.idle(settings.idle);
     }
-    if settings.times {
+    if settings.has_time {
         options = options.time(settings.time);
     }
-    if settings.retries {
+    if settings.has_retry {
         options = options.retry(settings.retry);
     }
     options

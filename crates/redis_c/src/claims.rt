@@ -1,6 +1,7 @@
 //! Entries and ids that XAUTOCLAIM claimed, where they stand, in tables of the caller.
 ghost use Rattle.std.specs.Prelude.{◌≡◌, [], length};
 ghost use Rattle.redis_c.specs.Outcome.{code};
+ghost use Rattle.redis_c.specs.Records.{TellsFinding};
 ghost use Rattle.redis_c.specs.Told.{IsRoom, IsOutcome, IsTold};
 ghost use Rattle.redis_c.specs.Claimed.{AutoClaimIn, JustIdIn, AutoClaimFits, JustIdFits};
 
@@ -111,6 +112,7 @@ pub extern "C" fn redis_find_autoclaim(
 ) -> u32
     ensures told { IsTold (AutoClaimIn claim.new) bytes.now [] entries.new fields.new result found.new }
     ensures in_place { AutoClaimFits bytes.now (length entries.old) (length fields.old) → result ≡ 0 }
+    ensures tells { TellsFinding bytes.now result }
 {
     let outcome = autoclaim_outcome(alloc, bytes, entries, fields, claim);
     *found = outcome.found();
@@ -129,6 +131,7 @@ pub extern "C" fn redis_find_justid(
 ) -> u32
     ensures told { IsTold (JustIdIn claim.new) bytes.now [] entries.new [] result found.new }
     ensures in_place { JustIdFits bytes.now (length entries.old) → result ≡ 0 }
+    ensures tells { TellsFinding bytes.now result }
 {
     let outcome = justid_outcome(alloc, bytes, entries, claim);
     *found = outcome.found();

@@ -17,13 +17,13 @@ use stream_options::{StreamMaxlen, StreamReadOptions};
 #[derive(Clone, Copy, Debug, PartialEq, Eq)]
 pub struct ReadSettings {
     /// Whether at most `count` entries are read.
-    pub counts: bool,
+    pub has_count: bool,
     /// Whether the read waits for entries.
-    pub blocks: bool,
+    pub has_block: bool,
     /// Whether what is read needs no acknowledgement.
     pub noack: bool,
     /// Whether entries that are idle for `claim` milliseconds are claimed and read first.
-    pub claims: bool,
+    pub has_claim: bool,
     /// At most so many entries.
     pub count: usize,
     /// It waits so many milliseconds, and 0 without end.
@@ -38,10 +38,10 @@ pub fn reading_of(settings: &ReadSettings) -> StreamReadOptions
     ensures fits { ReadFits result }
 {
     let mut options = StreamReadOptions::default();
-    if settings.counts {
+    if settings.has_count {
         options = options.count(settings.count);
     }
-    if settings.blocks {
+    if settings.has_block {
         options = options.block(settings.block);
     }
     options
@@ -61,7 +61,7 @@ pub fn options_of(
     if settings.noack {
         options = options.noack();
     }
-    if settings.claims {
+    if settings.has_claim {
         options = options.claim(settings.claim);
     }
     options.group(alloc, Argument(group), Argument(consumer))
@@ -190,14 +190,14 @@ pub extern "C" fn redis_xpending(
 pub extern "C" fn redis_xtrim(
     alloc: Global,
     key: &[u8],
-    about: bool,
+    approximate: bool,
     maxlen: usize,
     out: &mut [u8],
     len: &mut usize,
 ) -> u32
-    ensures { IsPackedAs (IsPacking (trim_args key.now about maxlen) out.new) result len.new }
+    ensures { IsPackedAs (IsPacking (trim_args key.now approximate maxlen) out.new) result len.new }
 {
-    let most = if about {
+    let most = if approximate {
         StreamMaxlen::Approx(maxlen)
     } else {
         StreamMaxlen::Equals(maxlen)

@@ -104,7 +104,7 @@ impl<'a> Cursor<'a> {
     {
         let mut settings = self.bound();
         if settings.bound != 0 {
-            (settings.limits, settings.limit) = self.number_behind(b"LIMIT");
+            (settings.has_limit, settings.limit) = self.number_behind(b"LIMIT");
         }
         settings
     }
@@ -119,11 +119,11 @@ impl<'a> Cursor<'a> {
         let mut settings = untrimmed();
         if self.takes(b"MAXLEN") {
             settings.bound = 1;
-            settings.about = self.about();
+            settings.approximate = self.about();
             settings.maxlen = self.number();
         } else if self.takes(b"MINID") {
             settings.bound = 2;
-            settings.about = self.about();
+            settings.approximate = self.about();
             settings.minid = self.place();
         }
         settings
@@ -147,7 +147,7 @@ impl<'a> Cursor<'a> {
             self.old.bytes.now self.old.places.now self.new.places.now }
     {
         let mut settings = self.strategy();
-        settings.references = self.references();
+        settings.policy = self.references();
         settings
     }
 
@@ -160,14 +160,14 @@ impl<'a> Cursor<'a> {
     {
         let nomkstream = self.takes(b"NOMKSTREAM");
         let references = self.references();
-        let (recognizes, producer, item) = self.idempotency();
+        let (idempotency, producer, idempotent_id) = self.idempotency();
         let mut trim = self.strategy();
-        trim.references = references;
+        trim.policy = references;
         AddSettings {
             nomkstream,
-            recognizes,
+            idempotency,
             producer,
-            item,
+            idempotent_id,
             trim,
         }
     }
@@ -197,19 +197,19 @@ impl<'a> Cursor<'a> {
         ensures is { Finds claim_at (λ c. claim_in self.old.bytes.now result ≡ Some c)
             self.old.bytes.now self.old.places.now self.new.places.now }
     {
-        let (idles, idle) = self.number_behind(b"IDLE");
-        let (times, time) = self.number_behind(b"TIME");
-        let (retries, retry) = self.number_behind(b"RETRYCOUNT");
+        let (has_idle, idle) = self.number_behind(b"IDLE");
+        let (has_time, time) = self.number_behind(b"TIME");
+        let (has_retry, retry) = self.number_behind(b"RETRYCOUNT");
         let force = self.takes(b"FORCE");
         let justid = self.takes(b"JUSTID");
-        let (notes, lastid) = self.place_behind(b"LASTID");
+        let (has_lastid, lastid) = self.place_behind(b"LASTID");
         ClaimSettings {
-            idles,
-            times,
-            retries,
+            has_idle,
+            has_time,
+            has_retry,
             force,
             justid,
-            notes,
+            has_lastid,
             idle,
             time,
             retry,
@@ -224,10 +224,10 @@ impl<'a> Cursor<'a> {
         ensures is { Finds autoclaim_at (λ a. autoclaim_of result ≡ a)
             self.old.bytes.now self.old.places.now self.new.places.now }
     {
-        let (counts, count) = self.number_behind(b"COUNT");
+        let (has_count, count) = self.number_behind(b"COUNT");
         let justid = self.takes(b"JUSTID");
         AutoClaimSettings {
-            counts,
+            has_count,
             justid,
             count,
         }
@@ -241,10 +241,10 @@ impl<'a> Cursor<'a> {
             (λ g. group_in self.old.bytes.now result ≡ Some g)
             self.old.bytes.now self.old.places.now self.new.places.now }
     {
-        let (names, group) = self.place_behind(b"GROUP");
-        let consumer = if names { self.place() } else { nowhere() };
+        let (has_group, group) = self.place_behind(b"GROUP");
+        let consumer = if has_group { self.place() } else { nowhere() };
         GroupPlace {
-            names,
+            has_group,
             group,
             consumer,
         }
@@ -257,15 +257,15 @@ impl<'a> Cursor<'a> {
         ensures is { Finds reading_at (λ x. x ≡ asked_by result)
             self.old.bytes.now self.old.places.now self.new.places.now }
     {
-        let (blocks, block) = self.number_behind(b"BLOCK");
-        let (counts, count) = self.number_behind(b"COUNT");
+        let (has_block, block) = self.number_behind(b"BLOCK");
+        let (has_count, count) = self.number_behind(b"COUNT");
         let noack = self.takes(b"NOACK");
-        let (claims, claim) = self.number_behind(b"CLAIM");
+        let (has_claim, claim) = self.number_behind(b"CLAIM");
         ReadSettings {
-            counts,
-            blocks,
+            has_count,
+            has_block,
             noack,
-            claims,
+            has_claim,
             count,
             block,
             claim,
@@ -312,14 +312,14 @@ fn nowhere() -> Span
 /// No bound, no limit, and no word on references.
 fn untrimmed() -> TrimSettings
     ensures bound { result.bound ≡ 0 }
-    ensures limits { result.limits ≡ false }
-    ensures references { result.references ≡ 0 }
+    ensures limit { result.has_limit ≡ false }
+    ensures policy { result.policy ≡ 0 }
 {
     TrimSettings {
         bound: 0,
-        references: 0,
-        about: false,
-        limits: false,
+        policy: 0,
+        approximate: false,
+        has_limit: false,
         maxlen: 0,
         minid: nowhere(),
         limit: 0,

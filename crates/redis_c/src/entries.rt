@@ -1,6 +1,7 @@
 //! Entries where they stand, in tables of the caller.
 ghost use Rattle.std.specs.Prelude.{◌≡◌, [], length};
 ghost use Rattle.redis_c.specs.Outcome.{code};
+ghost use Rattle.redis_c.specs.Records.{TellsFinding};
 ghost use Rattle.redis_c.specs.Told.{RangeIn, StreamsIn, RangeFits, ReadFits, HasCounts, IsRoom, IsOutcome, IsTold};
 
 use crate::other::other;
@@ -107,6 +108,7 @@ pub extern "C" fn redis_find_range(
 ) -> u32
     ensures told { IsTold RangeIn bytes.now [] entries.new fields.new result found.new }
     ensures in_place { RangeFits bytes.now (length entries.old) (length fields.old) → result ≡ 0 }
+    ensures tells { TellsFinding bytes.now result }
 {
     let outcome = range_outcome(alloc, bytes, entries, fields);
     *found = outcome.found();
@@ -127,6 +129,7 @@ pub extern "C" fn redis_find_streams(
     ensures told { IsTold StreamsIn bytes.now streams.new entries.new fields.new result found.new }
     ensures in_place { ReadFits bytes.now (length streams.old) (length entries.old) (length fields.old)
         → result ≡ 0 }
+    ensures tells { TellsFinding bytes.now result }
 {
     let outcome = streams_outcome(alloc, bytes, streams, entries, fields);
     *found = outcome.found();

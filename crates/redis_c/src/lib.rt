@@ -10,14 +10,20 @@ mod at_places;
 mod claiming;
 mod claims;
 mod commands;
+mod copying;
 mod cursor;
 mod entries;
+mod groups;
+mod info;
 mod nodes;
 mod option_commands;
 mod other;
 mod outcome;
 mod packing;
 mod placed;
+mod ranges;
+mod records;
+mod replies;
 mod server;
 mod settings;
 mod trimming;
@@ -28,12 +34,22 @@ pub use commands::{
     ReadSettings, redis_xack, redis_xautoclaim, redis_xpending, redis_xreadgroup, redis_xtrim,
 };
 pub use entries::{redis_find_range, redis_find_streams};
+pub use groups::{redis_xgroup_create, redis_xgroup_destroy, redis_xgroup_setid};
+pub use info::{
+    redis_xinfo_consumers, redis_xinfo_groups, redis_xinfo_stream, redis_xpending_summary,
+};
 pub use nodes::redis_find_nodes;
 pub use option_commands::{
     redis_xadd_options, redis_xautoclaim_options, redis_xclaim_options, redis_xpending_options,
     redis_xread_streams, redis_xreadgroup_streams, redis_xtrim_options,
 };
 pub use outcome::Found;
+pub use ranges::{
+    redis_xdel, redis_xdel_entries, redis_xlen, redis_xrange, redis_xrange_count, redis_xrevrange,
+    redis_xrevrange_count,
+};
+pub use records::{ConsumerRecord, GroupRecord, PendingRecord, RecordsFound, SummaryRecord};
+pub use replies::{redis_xinfo_groups_reply, redis_xpending_reply, redis_xpending_summary_reply};
 pub use server::{
     GroupPlace, redis_read_add, redis_read_autoclaim, redis_read_claim, redis_read_read,
     redis_read_trim,

@@ -366,13 +366,13 @@ fn packed_pending(
 {
     let (key, group, consumer) = (Argument(key), Argument(group), Argument(consumer));
     let (start, end, idle) = (Argument(start), Argument(end), settings.idle);
-    if settings.idles && settings.names {
+    if settings.has_idle && settings.has_consumer {
         let command = xpending_idle_consumer_count(key, group, idle, start, end, count, consumer);
         packed(alloc, &command, out)
-    } else if settings.idles {
+    } else if settings.has_idle {
         let command = xpending_idle_count(key, group, idle, start, end, count);
         packed(alloc, &command, out)
-    } else if settings.names {
+    } else if settings.has_consumer {
         let command = xpending_consumer_count(key, group, start, end, count, consumer);
         packed(alloc, &command, out)
     } else {

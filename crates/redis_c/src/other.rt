@@ -2,8 +2,8 @@
 ghost use Rattle.std.specs.Prelude.{◌≡◌, ◌≤◌, ◌++◌, ℕ, List, None, IfSome, length, take};
 ghost use Rattle.redis_wire.specs.Packed.{crlf};
 ghost use Rattle.redis_wire.specs.Place.{text_in, IsSpan};
-ghost use Rattle.redis_wire.specs.Reply.{answer};
-ghost use Rattle.redis_c.specs.Told.{IsAnswered, IsOther};
+ghost use Rattle.redis_wire.specs.Reply.{answer, refused};
+ghost use Rattle.redis_c.specs.Told.{IsAnswered, IsError, IsOther};
 
 use crate::outcome::Outcome;
 use redis_wire::place::Span;
@@ -29,16 +29,24 @@ fn place_of(bytes: &[u8], len: usize, text: &[u8]) -> Option<Span>
     })
 }
 
+/// The error of the server with this text, which is the reply.
+pub fn error_at(bytes: &[u8], len: usize, text: &[u8]) -> Outcome
+    requires { IsAnswered bytes.now len (refused text.now) }
+    ensures { IsError bytes.now result }
+{
+    match place_of(bytes, len, text) {
+        Some(text) => Outcome::ServerError { len, text },
+        None => Outcome::OtherShape { len },
+    }
+}
+
 /// What the reply is that was decoded.
 fn kind_of(bytes: &[u8], len: usize, reply: Reply) -> Outcome
     requires { IsAnswered bytes.now len (answer reply) }
     ensures { IsOther bytes.now result }
 {
     match reply {
-        Reply::Error(error) => match place_of(bytes, len, &error.text) {
-            Some(text) => Outcome::ServerError { len, text },
-            None => Outcome::OtherShape { len },
-        },
+        Reply::Error(error) => error_at(bytes, len, &error.text),
         _ => Outcome::OtherShape { len },
     }
 }

@@ -31,7 +31,7 @@ use stream_sentences::{SentenceError, read_add, read_autoclaim, read_claim, read
 #[derive(Clone, Copy, Debug, PartialEq, Eq)]
 pub struct GroupPlace {
     /// Whether they are named.
-    pub names: bool,
+    pub has_group: bool,
     /// Where the name of the group stands.
     pub group: Span,
     /// Where the name of the consumer stands.
@@ -314,7 +314,7 @@ fn read_in(
     ensures read { Makes (λ options. options) result (read_in bytes.now settings.now place.now) }
     ensures fits { IfOk result (λ options. ReadFits options) }
 {
-    if !place.names {
+    if !place.has_group {
         return Ok(reading_of(settings));
     }
     let Some(group) = text_at(bytes, place.group) else {

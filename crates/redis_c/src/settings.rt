@@ -9,11 +9,11 @@ pub struct TrimSettings {
     pub bound: u32,
     /// What becomes of references to what is trimmed: 0 where nothing is said of them, 1 for `KEEPREF`, 2
     /// for `DELREF` and 3 for `ACKED`.
-    pub references: u32,
+    pub policy: u32,
     /// Whether it is about the bound alone: `~` in place of `=`.
-    pub about: bool,
+    pub approximate: bool,
     /// Whether one call removes at most `limit` entries.
-    pub limits: bool,
+    pub has_limit: bool,
     /// With `MAXLEN`, how many entries stay.
     pub maxlen: usize,
     /// With `MINID`, where the id stands from which on entries stay.
@@ -29,11 +29,11 @@ pub struct AddSettings {
     /// Whether a stream that does not exist is not made.
     pub nomkstream: bool,
     /// How a duplicate entry is recognized: 0 for not at all, 1 for `IDMP` and 2 for `IDMPAUTO`.
-    pub recognizes: u32,
+    pub idempotency: u32,
     /// Where the name of the producer stands.
     pub producer: Span,
     /// With `IDMP`, where the id stands that the producer gives the entry.
-    pub item: Span,
+    pub idempotent_id: Span,
     /// How the stream is trimmed.
     pub trim: TrimSettings,
 }
@@ -43,17 +43,17 @@ pub struct AddSettings {
 #[derive(Clone, Copy, Debug, PartialEq, Eq)]
 pub struct ClaimSettings {
     /// Whether the entries count as idle for `idle` milliseconds.
-    pub idles: bool,
+    pub has_idle: bool,
     /// Whether they count as last delivered `time` milliseconds after the start of 1970.
-    pub times: bool,
+    pub has_time: bool,
     /// Whether they count as delivered `retry` times.
-    pub retries: bool,
+    pub has_retry: bool,
     /// Whether an entry that is pending for nobody is claimed too.
     pub force: bool,
     /// Whether the reply has the ids alone.
     pub justid: bool,
     /// Whether `lastid` is noted as the id of the entry that the group was delivered last.
-    pub notes: bool,
+    pub has_lastid: bool,
     /// In milliseconds.
     pub idle: usize,
     /// In milliseconds.
@@ -69,7 +69,7 @@ pub struct ClaimSettings {
 #[derive(Clone, Copy, Debug, PartialEq, Eq)]
 pub struct AutoClaimSettings {
     /// Whether at most `count` entries are claimed.
-    pub counts: bool,
+    pub has_count: bool,
     /// Whether the reply has the ids alone.
     pub justid: bool,
     /// At most so many entries.
@@ -81,9 +81,9 @@ pub struct AutoClaimSettings {
 #[derive(Clone, Copy, Debug, PartialEq, Eq)]
 pub struct PendingSettings {
     /// Whether only those that are pending for `idle` milliseconds.
-    pub idles: bool,
+    pub has_idle: bool,
     /// Whether only those that are pending for the consumer.
-    pub names: bool,
+    pub has_consumer: bool,
     /// In milliseconds.
     pub idle: usize,
 }

@@ -68,7 +68,7 @@ fn bound_in(
     ensures bound { Makes strategy_of result (option_map unlimited (bound_in bytes.now settings.now)) }
     ensures fits { IfOk result (λ strategy. StrategyFits (strategy_of strategy)) }
 {
-    let mode = mode_by(settings.about);
+    let mode = mode_by(settings.approximate);
     if settings.bound == 1 {
         Ok(StreamTrimStrategy::maxlen(mode, settings.maxlen))
     } else if settings.bound == 2 {
@@ -89,7 +89,7 @@ fn strategy_in(
     ensures fits { IfOk result (λ strategy. StrategyFits (strategy_of strategy)) }
 {
     let strategy = bound_in(alloc, bytes, settings)?;
-    if settings.limits {
+    if settings.has_limit {
         Ok(strategy.limit(settings.limit))
     } else {
         Ok(strategy)
@@ -123,7 +123,7 @@ pub fn trim_in(
     ensures fits { IfOk result (λ options. TrimFits options) }
 {
     let strategy = strategy_in(alloc, bytes, settings)?;
-    let policy = policy_by(settings.references)?;
+    let policy = policy_by(settings.policy)?;
     Ok(with_policy(trim_by(strategy), policy))
 }
 

@@ -9,14 +9,14 @@ returns-clause-is c =
     let old = c.args.self.now in
     let nomkstream = c.takes-nomkstream in
     let references = c.references-references in
-    let idempotency = c.idempotency-recognizes in
+    let idempotency = c.idempotency-idempotency in
     let strategy = c.strategy-trim in
     let s : AddSettings = record {
       nomkstream = nomkstream.result;
-      recognizes = idempotency.result.0;
+      idempotency = idempotency.result.0;
       producer = idempotency.result.1;
-      item = idempotency.result.2;
-      trim = record strategy.result { references = references.result };
+      idempotent_id = idempotency.result.2;
+      trim = record strategy.result { policy = references.result };
     } in
     add_found s old.bytes.now nomkstream.new.self.bytes.now references.new.self.bytes.now idempotency.new.self.bytes.now
     old.places.now nomkstream.new.self.places.now references.new.self.places.now idempotency.new.self.places.now

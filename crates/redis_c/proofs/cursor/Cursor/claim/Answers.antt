@@ -6,19 +6,19 @@ use Rattle.redis_c.proofs.cursor.Cursor.claim.Goals as goal
 pub returns-clause-is : goal.returns-clause-is
 returns-clause-is c =
     let old = c.args.self.now in
-    let idle = c.number_behind-idles in
-    let time = c.number_behind-times in
-    let retry = c.number_behind-retries in
+    let idle = c.number_behind-has_idle in
+    let time = c.number_behind-has_time in
+    let retry = c.number_behind-has_retry in
     let force = c.takes-force in
     let justid = c.takes-justid in
-    let lastid = c.place_behind-notes in
+    let lastid = c.place_behind-has_lastid in
     let s : ClaimSettings = record {
-      idles = idle.result.0;
-      times = time.result.0;
-      retries = retry.result.0;
+      has_idle = idle.result.0;
+      has_time = time.result.0;
+      has_retry = retry.result.0;
       force = force.result;
       justid = justid.result;
-      notes = lastid.result.0;
+      has_lastid = lastid.result.0;
       idle = idle.result.1;
       time = time.result.1;
       retry = retry.result.1;

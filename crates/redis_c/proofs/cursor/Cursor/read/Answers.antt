@@ -7,15 +7,15 @@ use Rattle.redis_c.proofs.cursor.Cursor.read.Goals as goal
 pub returns-clause-is : goal.returns-clause-is
 returns-clause-is c =
     let old = c.args.self.now in
-    let block = c.number_behind-blocks in
-    let count = c.number_behind-counts in
+    let block = c.number_behind-has_block in
+    let count = c.number_behind-has_count in
     let noack = c.takes-noack in
-    let claim = c.number_behind-claims in
+    let claim = c.number_behind-has_claim in
     let s : ReadSettings = record {
-      counts = count.result.0;
-      blocks = block.result.0;
+      has_count = count.result.0;
+      has_block = block.result.0;
       noack = noack.result;
-      claims = claim.result.0;
+      has_claim = claim.result.0;
       count = count.result.1;
       block = block.result.1;
       claim = claim.result.1;

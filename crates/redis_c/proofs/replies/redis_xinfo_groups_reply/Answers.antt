@@ -1,0 +1,6 @@
+use Rattle.redis_c.proofs.TellLemmas.{records_tell}
+use Rattle.redis_c.proofs.replies.redis_xinfo_groups_reply.Goals as goal
+
+pub returns-clause-tells : goal.returns-clause-tells
+returns-clause-tells c =
+    records_tell _ _ _ _ _ _ _ c.copied_groups-records.result c.code.result c.code.ensures c.copied_groups-records.ensures

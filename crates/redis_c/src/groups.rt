@@ -1,0 +1,82 @@
+//! Groups of consumers that are made, moved and removed, packed into a buffer of the caller.
+ghost use Rattle.std.specs.Prelude.{◌≡◌};
+ghost use Rattle.redis_c.specs.Packing.{IsPacking, IsPackedAs};
+ghost use Rattle.redis_c.specs.Commands.{create_args, setid_args, destroy_args};
+
+use crate::argument::Argument;
+use crate::packing::{Packing, packed};
+use std::alloc::Global;
+use stream_commands::{xgroup_create, xgroup_create_mkstream, xgroup_destroy, xgroup_setid};
+
+/// Packs XGROUP CREATE.
+fn packed_create(
+    alloc: Global,
+    key: &[u8],
+    group: &[u8],
+    id: &[u8],
+    mkstream: bool,
+    out: &mut [u8],
+) -> Packing
+    ensures { IsPacking (create_args key.now group.now id.now mkstream) out.new result }
+{
+    let (key, group, id) = (Argument(key), Argument(group), Argument(id));
+    if mkstream {
+        packed(alloc, &xgroup_create_mkstream(key, group, id), out)
+    } else {
+        packed(alloc, &xgroup_create(key, group, id), out)
+    }
+}
+
+/// Packs `XGROUP CREATE key group id`, and `MKSTREAM` after it if a stream that does not exist is made too.
+#[unsafe(no_mangle)]
+pub extern "C" fn redis_xgroup_create(
+    alloc: Global,
+    key: &[u8],
+    group: &[u8],
+    id: &[u8],
+    mkstream: bool,
+    out: &mut [u8],
+    len: &mut usize,
+) -> u32
+    ensures { IsPackedAs (IsPacking (create_args key.now group.now id.now mkstream) out.new)
+        result len.new }
+{
+    let packing = packed_create(alloc, key, group, id, mkstream, out);
+    *len = packing.len();
+    packing.number()
+}
+
+/// Packs `XGROUP SETID key group id`.
+#[unsafe(no_mangle)]
+pub extern "C" fn redis_xgroup_setid(
+    alloc: Global,
+    key: &[u8],
+    group: &[u8],
+    id: &[u8],
+    out: &mut [u8],
+    len: &mut usize,
+) -> u32
+    ensures { IsPackedAs (IsPacking (setid_args key.now group.now id.now) out.new) result len.new }
+{
+    let command = xgroup_setid(Argument(key), Argument(group), Argument(id));
+    let packing = packed(alloc, &command, out);
+    *len = packing.len();
+    packing.number()
+}
+
+/// Packs `XGROUP DESTROY key group`.
+#[unsafe(no_mangle)]
+pub extern "C" fn redis_xgroup_destroy(
+    alloc: Global,
+    key: &[u8],
+    group: &[u8],
+    out: &mut [u8],
+    len: &mut usize,
+) -> u32
+    ensures { IsPackedAs (IsPacking (destroy_args key.now group.now) out.new) result len.new }
+{
+    let command = xgroup_destroy(Argument(key), Argument(group));
+    let packing = packed(alloc, &command, out);
+    *len = packing.len();
+    packing.number()
+}
