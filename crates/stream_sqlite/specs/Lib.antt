@@ -1,0 +1,2 @@
+-- What the program's contracts speak of.
+pub mod Report

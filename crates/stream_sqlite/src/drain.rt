@@ -1,0 +1,112 @@
+//! The loop of the program: it asks, and takes the answers.
+ghost use Rattle.std.specs.Prelude.{◌≡◌, IfOk, IsTrue};
+ghost use Rattle.stream_table.specs.Lived.{LivesFrom};
+ghost use Rattle.stream_worker.specs.Session.{standing_of};
+
+use crate::report::Report;
+use anyhow::{Error, Result, anyhow, bail};
+use redis_connection::{Connection, ConnectionError};
+use redis_wire::Fault as WireFault;
+use row_table::Table;
+use std::alloc::Global;
+use std::io::{Read, Write};
+use stream_table::{Fault, Rows};
+use stream_worker::{Asked, Handler, Pipelined, Progress, RequestError, RunError, Worker};
+
+/// The limit on what a connection holds, as `Limits::default` has it.
+const LARGEST: &str = "1 GiB";
+
+/// Drains until something fails, or until a read finds nothing new if that is asked for.
+pub fn drain<R: Read + Drop, W: Write + Drop, T: Table + Drop>(
+    alloc: Global,
+    connection: &mut Connection<R, W>,
+    worker: &mut Worker,
+    rows: &mut Rows<T>,
+    report: &mut Report,
+    until_empty: bool,
+) -> Result<()>
+    ensures ended { IfOk result (λ _. IsTrue until_empty) }
+    ensures lives { LivesFrom worker.old.settings
+        (standing_of worker.old (⟦<Rows<T> as Handler>⟧.history rows.old))
+        (standing_of worker.new (⟦<Rows<T> as Handler>⟧.history rows.new)) }
+{
+    for _ in 0..u64::MAX {
+        let seen = rows.seen;
+        let asked = turn(alloc, connection, worker, rows, report)?;
+        if until_empty && asked == Asked::News && rows.seen == seen {
+            return Ok(());
+        }
+    }
+    bail!("the last turn came")
+}
+
+/// Makes a round, or two with one write, and counts: what was asked last.
+fn turn<R: Read + Drop, W: Write + Drop, T: Table + Drop>(
+    alloc: Global,
+    connection: &mut Connection<R, W>,
+    worker: &mut Worker,
+    rows: &mut Rows<T>,
+    report: &mut Report,
+) -> Result<Asked>
+    ensures settings { worker.new.settings ≡ worker.old.settings }
+    ensures lives { LivesFrom worker.old.settings
+        (standing_of worker.old (⟦<Rows<T> as Handler>⟧.history rows.old))
+        (standing_of worker.new (⟦<Rows<T> as Handler>⟧.history rows.new)) }
+{
+    let made = round(alloc, connection, worker, rows)?;
+    if made.acknowledged || made.round.asked == Asked::Acknowledgement {
+        report.count(rows.committed);
+    }
+    Ok(made.round.asked)
+}
+
+/// Makes a round, or two with one write, after which the worker goes on.
+fn round<R: Read + Drop, W: Write + Drop, T: Table + Drop>(
+    alloc: Global,
+    connection: &mut Connection<R, W>,
+    worker: &mut Worker,
+    rows: &mut Rows<T>,
+) -> Result<Pipelined>
+    ensures settings { worker.new.settings ≡ worker.old.settings }
+    ensures lives { LivesFrom worker.old.settings
+        (standing_of worker.old (⟦<Rows<T> as Handler>⟧.history rows.old))
+        (standing_of worker.new (⟦<Rows<T> as Handler>⟧.history rows.new)) }
+{
+    match worker.round_pipelined(alloc, connection, rows) {
+        Ok(made) => match made.round.progress {
+            Progress::GoesOn => Ok(made),
+            Progress::Stopped => Err(stopped(&rows.fault)),
+        },
+        Err(error) => Err(broken_off(error, &rows.fault)),
+    }
+}
+
+// Why a round failed.
+fn broken_off(error: RunError, fault: &Option<Fault>) -> Error {
+    match error {
+        RunError::Request(RequestError::NotCommitted) => not_committed(fault),
+        RunError::Receive(ConnectionError::Fault(WireFault::Overfull)) => {
+            anyhow!("an answer is larger than {LARGEST}: take a smaller --count")
+        }
+        RunError::Receive(ConnectionError::Memory) => {
+            anyhow!("out of memory for an answer: take a smaller --count")
+        }
+        error => error.into(),
+    }
+}
+
+// Why what was done was not committed.
+fn not_committed(fault: &Option<Fault>) -> Error {
+    match fault {
+        Some(reason) => anyhow!("cannot commit: {reason}"),
+        None => RunError::Request(RequestError::NotCommitted).into(),
+    }
+}
+
+// Why an entry was not done.
+fn stopped(fault: &Option<Fault>) -> Error {
+    match fault {
+        Some(reason) => anyhow!("cannot make a row: {reason}"),
+        None => anyhow!("an entry was not written"),
+    }
+}

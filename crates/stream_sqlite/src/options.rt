@@ -1,0 +1,121 @@
+//! The words that the program is called with.
+ghost use Rattle.std.specs.Prelude.{◌≤◌, length, IfOk};
+
+use anyhow::{Result, bail};
+use std::alloc::Global;
+use stream_worker::{MakeGroup, Settings};
+
+// In less than 120 bytes, which are all that an error shows.
+const USAGE: &str =
+    "wanted: KEY GROUP CONSUMER FILE [--from 0|$] [--count|block|idle|every N] [--until-empty]";
+
+/// What the program is to do.
+#[derive(Drop)]
+pub struct Options {
+    pub settings: Settings,
+    pub path: String,
+    /// It ends where a read finds nothing new.
+    pub until_empty: bool,
+}
+
+/// An option with a value.
+#[derive(Clone, Copy)]
+enum Valued {
+    /// Makes the group where there is none, with all entries or with those from then on.
+    From,
+    /// At most so many entries at once.
+    Count,
+    /// For so many milliseconds the server waits for new entries.
+    Block,
+    /// Entries that others left for so many milliseconds are claimed.
+    Idle,
+    /// It claims after so many reads.
+    Every,
+}
+
+/// The options of these words.
+pub fn options_of(alloc: Global, words: &[String]) -> Result<Options>
+    ensures { IfOk result (λ _. 4 ≤ length words.now) }
+{
+    let [key, group, consumer, path, rest @ ..] = words else {
+        bail!("{USAGE}");
+    };
+    let mut options = Options {
+        settings: settings_of(key, group, consumer)?,
+        path: String::from_str(alloc, path)?,
+        until_empty: false,
+    };
+    take_all(&mut options, rest)?;
+    Ok(options)
+}
+
+// The settings of a worker for these names.
+fn settings_of(key: &String, group: &String, consumer: &String) -> Result<Settings> {
+    Ok(Settings::new(key.clone()?, group.clone()?, consumer.clone()?)?)
+}
+
+// Takes options and their values, in order.
+fn take_all(options: &mut Options, words: &[String]) -> Result<()> {
+    let mut valued = None;
+    for word in words {
+        valued = take(options, valued, word)?;
+    }
+    if valued.is_some() {
+        bail!("{USAGE}");
+    }
+    Ok(())
+}
+
+// Takes a word: the value of this option, or an option.
+fn take(options: &mut Options, valued: Option<Valued>, word: &str) -> Result<Option<Valued>> {
+    match valued {
+        Some(option) => {
+            set(&mut options.settings, option, word)?;
+            Ok(None)
+        }
+        None if word == "--until-empty" => {
+            options.until_empty = true;
+            Ok(None)
+        }
+        None => Ok(Some(valued_of(word)?)),
+    }
+}
+
+fn valued_of(word: &str) -> Result<Valued> {
+    Ok(match word {
+        "--from" => Valued::From,
+        "--count" => Valued::Count,
+        "--block" => Valued::Block,
+        "--idle" => Valued::Idle,
+        "--every" => Valued::Every,
+        _ => bail!("{word}: {USAGE}"),
+    })
+}
+
+// Takes the value of an option.
+fn set(settings: &mut Settings, option: Valued, value: &str) -> Result<()> {
+    match option {
+        Valued::From => settings.set_make_group(make_group(value)?),
+        Valued::Count => settings.set_count(number(value)?)?,
+        Valued::Block => settings.set_block(number(value)?),
+        Valued::Idle => settings.set_min_idle(number(value)?),
+        Valued::Every => settings.set_every(number(value)?),
+    }
+    Ok(())
+}
+
+// Where a group begins that is made.
+fn make_group(value: &str) -> Result<MakeGroup> {
+    match value {
+        "0" => Ok(MakeGroup::FromTheFirst),
+        "$" => Ok(MakeGroup::FromNow),
+        _ => bail!("--from {value}: {USAGE}"),
+    }
+}
+
+fn number(value: &str) -> Result<usize> {
+    match value.parse::<usize>() {
+        Ok(number) => Ok(number),
+        Err(_) => bail!("no number: {value}"),
+    }
+}

@@ -1,0 +1,42 @@
+//! What the program says of its progress.
+ghost use Rattle.std.specs.Prelude.{◌≡◌, Some};
+ghost use Rattle.stream_sqlite.specs.Report.{report_text};
+
+use std::fmt;
+
+/// Counts, which are shown at the end.
+#[derive(Clone, Copy)]
+pub struct Report {
+    pub entries: u64,
+    pub batches: u64,
+}
+
+impl Report {
+    /// Nothing was done yet.
+    pub fn new() -> Report
+        ensures { (result.entries ≡ 0) × (result.batches ≡ 0) }
+    {
+        Report {
+            entries: 0,
+            batches: 0,
+        }
+    }
+
+    /// So many entries are in the table, and the batches are one more.
+    pub fn count(&mut self, entries: u64)
+        ensures { self.new.entries ≡ entries }
+    {
+        self.entries = entries;
+        self.batches = self.batches.saturating_add(1);
+    }
+}
+
+impl fmt::Display for Report {
+    ghost output = { λ r. Some (report_text r.entries r.batches) };
+
+    fn fmt<W: fmt::Write>(&self, f: &mut fmt::Formatter<W>) -> fmt::Result {
+        let entries = self.entries;
+        let batches = self.batches;
+        write!(f, "{entries} entries in {batches} batches")
+    }
+}
