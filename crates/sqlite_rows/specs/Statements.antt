@@ -1,12 +1,18 @@
 -- The statements that a table runs, and what a database makes of them.
-use Rattle.std.specs.Prelude.{ℕ, ◌==◌, ◌≡◌, List, [], ◌∷◌, Bool, Ok, Err, Option, Some, None, codes, pos}
+use Rattle.std.specs.Prelude.{ℕ, ◌==◌, ◌≡◌, ◌⊎◌, List, [], ◌∷◌, Bool, Ok, Err, Option, Some, None, codes, pos}
 use Rattle.sqlite.specs.Order.{Row as SqlRow, column}
 use Rattle.sqlite.specs.Store.{Ghosts}
 use Rattle.sqlite.specs.Held.{Held, state}
 use Rattle.sqlite.specs.State.{CommitsBy, Executes, HasCleanDisk, QueriesRow, Survives}
 use Rattle.sqlite.specs.declared.error.Error.TheVariants.{QueryReturnedNoRows}
 use Rattle.sqlite.specs.declared.types.Value.TheVariants.{Int, Text}
+use Rattle.row_table.specs.declared.error.TableError.{TableError}
+use Rattle.row_table.specs.declared.error.TableError.TheVariants.{Memory, Refused}
 use Rattle.row_table.specs.declared.row.Row.{Row}
+
+-- memory ran out, or the database refused
+abbrev pub IsNamed : TableError → Type 0
+IsNamed e = (e ≡ Memory) ⊎ ((why : _) × (e ≡ Refused why))
 
 abbrev pub create_text : List ℕ
 create_text = codes "CREATE TABLE entries (milliseconds INTEGER NOT NULL, sequence INTEGER NOT NULL, fields TEXT NOT NULL, PRIMARY KEY (milliseconds, sequence)) STRICT"

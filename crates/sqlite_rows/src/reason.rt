@@ -3,7 +3,7 @@
 use sqlite::{Error, ErrorCode};
 
 /// Why the database refuses, by the name of its error.
-pub fn reason(error: Error) -> &'static str {
+pub(crate) fn reason(error: Error) -> &'static str {
     match error {
         Error::SqliteFailure(code) => code_reason(code),
         Error::SqlInputError(_) => "the database does not understand the statement",

@@ -1,8 +1,8 @@
 //! The table, over a connection to a database.
-ghost use Rattle.std.specs.Prelude.{[], ◌∷◌, option_map, ◌≡◌, ℕ, None, IfOk, OnOk, codes, pos};
+ghost use Rattle.std.specs.Prelude.{[], ◌∷◌, option_map, ◌≡◌, ℕ, None, IfErr, IfOk, OnOk, codes, pos};
 ghost use Rattle.sqlite.specs.Values.{bound};
 ghost use Rattle.sqlite.specs.declared.types.Value.TheVariants.{Int, Text};
-ghost use Rattle.sqlite_rows.specs.Statements.{Found, LeavesBy, Ran, RanOne, find_text, insert_text, key_values, row_values};
+ghost use Rattle.sqlite_rows.specs.Statements.{Found, IsNamed, LeavesBy, Ran, RanOne, find_text, insert_text, key_values, row_values};
 
 use crate::reason::reason;
 use row_table::{Row, Table, TableError};
@@ -28,7 +28,9 @@ pub struct SqliteTable<S: Alter + Drop> {
 
 impl SqliteTable<FileStore<File>> {
     /// Opens the table in this file, and makes the file and the table if they are not there.
-    pub fn open(rt: &HostRuntime, path: &str) -> Result<SqliteTable<FileStore<File>>, TableError> {
+    pub fn open(rt: &HostRuntime, path: &str) -> Result<SqliteTable<FileStore<File>>, TableError>
+        ensures { IfErr result IsNamed }
+    {
         match Connection::open(rt, path) {
             Ok(conn) => SqliteTable::over(rt.alloc(), conn),
             Err(error) => Err(refused(error)),
@@ -36,7 +38,9 @@ impl SqliteTable<FileStore<File>> {
     }
 
     /// Copies what is committed into the file itself, so that it stands alone.
-    pub fn close(self) -> Result<(), TableError> {
+    pub fn close(self) -> Result<(), TableError>
+        ensures { IfErr result IsNamed }
+    {
         match self.conn.close() {
             Ok(()) => Ok(()),
             Err(error) => Err(refused(error)),
@@ -46,7 +50,9 @@ impl SqliteTable<FileStore<File>> {
 
 impl<S: Alter + Drop> SqliteTable<S> {
     /// The table of this database, which is made if it is not there.
-    pub fn over(alloc: Global, conn: Connection<S>) -> Result<SqliteTable<S>, TableError> {
+    pub fn over(alloc: Global, conn: Connection<S>) -> Result<SqliteTable<S>, TableError>
+        ensures { IfErr result IsNamed }
+    {
         let mut conn = conn;
         match definition(alloc, &mut conn)? {
             None => run(&mut conn, CREATE)?,
@@ -112,7 +118,9 @@ impl<S: Alter + Drop> Table for SqliteTable<S> {
 }
 
 // The error of a table for one of the database.
-fn refused(error: Error) -> TableError {
+fn refused(error: Error) -> TableError
+    ensures { IsNamed result }
+{
     TableError::Refused(reason(error))
 }
 
@@ -131,6 +139,7 @@ fn key(row: &Row) -> Result<(i64, i64), TableError>
 
 // Runs a statement without parameters.
 fn run<S: Alter + Drop>(conn: &mut Connection<S>, sql: &str) -> Result<(), TableError>
+    ensures named { IfErr result IsNamed }
     ensures ran { OnOk result ((count : ℕ) × Ran S.Store conn.old conn.new sql.now [] count) }
     ensures leaves { LeavesBy S.Store conn.old conn.new sql.now [] }
 {
@@ -167,7 +176,9 @@ fn insert<S: Alter + Drop>(
 fn definition<S: Alter + Drop>(
     alloc: Global,
     conn: &mut Connection<S>,
-) -> Result<Option<Vec<u8>>, TableError> {
+) -> Result<Option<Vec<u8>>, TableError>
+    ensures named { IfErr result IsNamed }
+{
     text_of(alloc, conn, KNOWN, &[])
 }
 
@@ -178,6 +189,7 @@ fn text_of<S: Alter + Drop>(
     sql: &str,
     params: &[ValueRef<'_>],
 ) -> Result<Option<Vec<u8>>, TableError>
+    ensures named { IfErr result IsNamed }
     ensures found { IfOk result (λ found. Found S.Store conn.old conn.new sql.now (bound params.now)
         (option_map (λ text. text.items) found)) }
 {
