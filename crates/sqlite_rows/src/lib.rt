@@ -3,7 +3,6 @@
 //! The table is `entries`: `milliseconds` and `sequence` are its key, and `fields` is the text of a row.
 #![tactic(auto)]
 
-mod reason;
 mod table;
 
 pub use table::SqliteTable;

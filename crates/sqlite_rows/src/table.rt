@@ -4,10 +4,9 @@ ghost use Rattle.sqlite.specs.Values.{bound};
 ghost use Rattle.sqlite.specs.declared.types.Value.TheVariants.{Int, Text};
 ghost use Rattle.sqlite_rows.specs.Statements.{Found, IsNamed, LeavesBy, Ran, RanOne, find_text, insert_text, key_values, row_values};
 
-use crate::reason::reason;
 use row_table::{Row, Table, TableError};
 use sqlite::types::ValueRef;
-use sqlite::{Alter, Connection, Error, File, FileStore};
+use sqlite::{Alter, Connection, Error, ErrorCode, File, FileStore};
 use std::alloc::Global;
 
 const CREATE: &str =
@@ -201,5 +200,32 @@ fn text_of<S: Alter + Drop>(
     match row.get_ref(0) {
         Ok(ValueRef::Text(text)) => Ok(Some(Vec::from_slice(alloc, text)?)),
         _ => Err(TableError::Refused("its table `entries` is another one")),
+    }
+}
+
+// Why the database refuses, by the name of its error.
+fn reason(error: Error) -> &'static str {
+    match error {
+        Error::SqliteFailure(code) => code_reason(code),
+        Error::SqlInputError(_) => "the database does not understand the statement",
+        _ => "the database refuses the statement",
+    }
+}
+
+// The text of an error of the database.
+fn code_reason(code: ErrorCode) -> &'static str {
+    match code {
+        ErrorCode::ConstraintViolation(_) => "a row breaks a rule of the table",
+        ErrorCode::NotADatabase => "the file is no database, or its rows break its rules",
+        ErrorCode::DatabaseCorrupt => "the database is malformed",
+        ErrorCode::CannotOpen => "the file cannot be opened for writing",
+        ErrorCode::DatabaseBusy => "another process has the file",
+        ErrorCode::TooBig => "the fields of an entry are too long",
+        ErrorCode::OutOfMemory => "out of memory",
+        ErrorCode::SystemIoFailure => "the disk fails",
+        ErrorCode::DiskFull => "the disk is full",
+        ErrorCode::Closed => "the database was closed after an earlier failure",
+        ErrorCode::TransactionState => "another transaction is open, or none is",
+        _ => "the database refuses the statement",
     }
 }
