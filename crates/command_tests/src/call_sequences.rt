@@ -6,9 +6,6 @@ ghost use Rattle.stream_options.specs.Read.{default_read};
 ghost use Rattle.stream_options.specs.ReadCalls.{final_read, after_read};
 ghost use Rattle.command_tests.specs.CallsMeaning.{add_call_of, read_call_of};
 
-#[cfg(test)]
-mod tests;
-
 use redis_resp::RawBytes;
 use std::alloc::{AllocError, Global};
 use stream_options::{

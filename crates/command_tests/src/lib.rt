@@ -1,103 +1,12 @@
 //! Tests of commands: their arguments and options, the readers of sentences, whole commands beside
 //! outside words, and answers that are read.
 //!
-//! They stand in a crate of their own, since a check of tests proves the functions of their crate
-//! a second time. A test ends its process where memory runs out, so that its calls stand one after
-//! the other; those of `memory` alone go on.
+//! They are in a crate of their own, since a check of tests proves the functions of their crate
+//! a second time. A test ends its process if memory runs out, so its calls come one after the
+//! other; those of `memory` alone go on.
 #![tactic(auto)]
 
-#[cfg(test)]
-mod answer;
-#[cfg(test)]
-mod args;
 mod call_sequences;
-#[cfg(test)]
-mod entry;
 mod fixed_args;
 #[cfg(test)]
-mod group;
-#[cfg(test)]
-mod justid;
-#[cfg(test)]
-mod law;
-#[cfg(test)]
-mod memory;
-#[cfg(test)]
-mod options;
-#[cfg(test)]
-mod sentences;
-
-#[cfg(test)]
-use redis_args::{FixedArgs, ToRedisArgs, WriteError};
-#[cfg(test)]
-use std::process::Abort;
-
-/// A text on the heap.
-#[cfg(test)]
-fn text(rt: &(impl AllocGlobal + Abort), text: &str) -> String {
-    String::from_str(rt.alloc(), text).expect(rt, "memory")
-}
-
-/// The words of a line as arguments; none of the empty line.
-#[cfg(test)]
-fn words_of(rt: &(impl AllocGlobal + Abort), line: &str) -> Vec<Vec<u8>> {
-    let mut words = Vec::new(rt.alloc());
-    if line != "" {
-        for word in line.split(' ') {
-            let word = Vec::from_slice(rt.alloc(), word.as_bytes()).expect(rt, "memory");
-            words.push(word).expect(rt, "memory");
-        }
-    }
-    words
-}
-
-/// The value writes the words of this line, each one argument: as a list, behind what a list
-/// holds, and into a place of a fixed size with room.
-#[cfg(test)]
-fn check<T: ToRedisArgs>(rt: &(impl AllocGlobal + Abort), value: &T, line: &str) {
-    let words = words_of(rt, line);
-    assert!(rt; is_listed(rt, value, &words), "of {line}");
-    assert!(rt; is_added(rt, value, &words), "of {line}");
-    check_place(rt, FixedArgs::<16, 128>::new(), value, Ok(()), line);
-}
-
-#[cfg(test)]
-fn is_listed<T: ToRedisArgs>(
-    rt: &(impl AllocGlobal + Abort),
-    value: &T,
-    words: &[Vec<u8>],
-) -> bool {
-    let listed = value.to_redis_args(rt.alloc()).expect(rt, "memory");
-    listed.as_slice() == words
-}
-
-#[cfg(test)]
-fn is_added<T: ToRedisArgs>(rt: &(impl AllocGlobal + Abort), value: &T, words: &[Vec<u8>]) -> bool {
-    let mut behind = words_of(rt, "held");
-    let answer = value.write_redis_args(&mut behind);
-    answer == Ok(()) && behind.get(1..) == Some(words)
-}
-
-/// Written into this empty place the value answers so, and then the words of this line stand there.
-#[cfg(test)]
-fn check_place<T: ToRedisArgs, const N: usize, const B: usize>(
-    rt: &(impl AllocGlobal + Abort),
-    mut place: FixedArgs<N, B>,
-    value: &T,
-    answer: Result<(), WriteError>,
-    line: &str,
-) {
-    assert!(rt; value.write_redis_args(&mut place) == answer, "of {line}");
-    assert!(rt; holds(&place, &words_of(rt, line)), "of {line}");
-}
-
-/// These arguments stand in the place, and nothing else.
-#[cfg(test)]
-fn holds<const N: usize, const B: usize>(place: &FixedArgs<N, B>, args: &[Vec<u8>]) -> bool {
-    for (index, arg) in args.iter().enumerate() {
-        if place.get(index) != Some(arg.as_slice()) {
-            return false;
-        }
-    }
-    place.len() == args.len() && place.get(args.len()) == None
-}
+mod tests;

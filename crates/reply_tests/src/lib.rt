@@ -3,25 +3,9 @@
 //! `cases`: refused memory, values that are moved, types of a user's own, and equality. Those of large
 //! and of deep values are in `size_tests`.
 //!
-//! They stand in a crate of their own, since a check of tests proves the functions of their crate
+//! They are in a crate of their own, since a check of tests proves the functions of their crate
 //! a second time.
 #![tactic(auto)]
 
 #[cfg(test)]
-mod memory;
-#[cfg(test)]
-mod moved;
-#[cfg(test)]
-mod notation;
-#[cfg(test)]
-mod readings;
-#[cfg(test)]
-mod refs;
-#[cfg(test)]
-mod refusals;
-#[cfg(test)]
-mod replies;
-#[cfg(test)]
-mod row_lines;
-#[cfg(test)]
-mod wire;
+mod tests;

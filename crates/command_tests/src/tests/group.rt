@@ -1,5 +1,5 @@
 //! Commands on groups and what is pending for them.
-use crate::check;
+use crate::tests::check;
 use stream_commands::{
     AtLeastOne, JustIdIsSet, xack, xack_del, xautoclaim, xautoclaim_count, xautoclaim_justid,
     xautoclaim_options, xclaim, xclaim_justid, xclaim_options, xgroup_create,

@@ -1,5 +1,5 @@
 //! Config options in and outside their ranges.
-use crate::check;
+use crate::tests::check;
 use std::process::Abort;
 use stream_options::{
     ConfigError, IDMP_DURATION_MAX, IDMP_DURATION_MIN, IDMP_MAXSIZE_MAX, IDMP_MAXSIZE_MIN,

@@ -1,6 +1,6 @@
 use crate::call_sequences::{AddCall, ReadCall, play_add, play_read};
 use crate::fixed_args::fixed_args_of;
-use crate::{holds, is_listed, words_of};
+use crate::tests::{holds, is_listed, words_of};
 use redis_resp::{RawBytes, ToRedisArgs};
 use std::alloc::{AllocError, Global};
 use std::process::Abort;

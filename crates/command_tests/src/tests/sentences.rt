@@ -1,5 +1,5 @@
 //! Argument lists, and the options that are read of them.
-use crate::words_of;
+use crate::tests::words_of;
 use redis_args::ToRedisArgs;
 use std::process::Abort;
 use stream_sentences::{

@@ -1,7 +1,7 @@
 //! Lines, and readers and writers that fail.
 ghost use Rattle.std.specs.Prelude.{◌≡◌, IfOk};
 
-use crate::sentences::rows::ROWS;
+use crate::tests::sentences::rows::ROWS;
 use std::alloc::{AllocError, Global};
 use std::io::{self, ErrorKind, Read, Write};
 use std::process::Abort;

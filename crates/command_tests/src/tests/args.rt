@@ -1,5 +1,5 @@
 //! Plain arguments, and the writers that they go into.
-use crate::{check, check_place, holds, is_listed, text};
+use crate::tests::{check, check_place, holds, is_listed, text};
 use redis_args::{
     FixedArgs, RawBytes, RedisWrite, ToRedisArgs, WriteError, equal_bytes, equal_write_errors,
 };

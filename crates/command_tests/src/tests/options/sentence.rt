@@ -1,5 +1,5 @@
 //! Options and the words that they write.
-use crate::{check, check_place, text};
+use crate::tests::{check, check_place, text};
 use redis_args::{FixedArgs, WriteError};
 use std::process::Abort;
 use stream_options::{

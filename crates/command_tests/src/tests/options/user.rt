@@ -3,7 +3,7 @@ ghost use Rattle.std.specs.Prelude.{◌≡◌, ◌⊎◌, [], ◌∷◌, codes, 
 ghost use Rattle.redis_args.specs.Room.{MayRefuse};
 ghost use Rattle.redis_args.specs.declared.writer.WriteError.TheVariants.{Full};
 
-use crate::{check, check_place, holds, text, words_of};
+use crate::tests::{check, check_place, holds, text, words_of};
 use redis_args::{FixedArgs, RedisWrite, ToRedisArgs, WriteError};
 use std::process::Abort;
 use stream_options::{StreamDeletionPolicy, StreamTrimOptions, StreamTrimmingMode};

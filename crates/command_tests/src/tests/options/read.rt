@@ -1,6 +1,6 @@
 //! Read options, with names of several types.
-use crate::options::user::Flag;
-use crate::{check, check_place};
+use crate::tests::options::user::Flag;
+use crate::tests::{check, check_place};
 use redis_args::{FixedArgs, RawBytes, ToRedisArgs, WriteError};
 use std::process::Abort;
 use stream_options::StreamReadOptions;

@@ -1,5 +1,5 @@
 //! Replies of up to 10,000 items, with ample memory.
-use crate::{Line, check_value, count_of, line_of};
+use crate::tests::{Line, check_value, count_of, line_of};
 use redis_resp::FromRedisValue;
 use redis_streams::{
     StreamAutoClaimReply, StreamClaimReply, StreamInfoConsumersReply, StreamInfoGroupsReply,

@@ -1,7 +1,7 @@
 use Rattle.std.proofs.Common.{rules, ◌≡◌, ◌⊎◌, inl, inr, codes, refl, Result, Ok, Err}
 use Rattle.std.specs.Prelude.{OnErr}
 use Rattle.redis_args.proofs.WriterLemmas.{stops_at_once}
-use Rattle.command_tests.proofs.options.user.WithoutLimitRedisWrite.write_arg.Goals as goal
+use Rattle.command_tests.proofs.tests.options.user.WithoutLimitRedisWrite.write_arg.Goals as goal
 
 -- beside a choice that stays the same
 beside : {P Q X : Type 0} → (P → Q) → X ⊎ P → X ⊎ Q

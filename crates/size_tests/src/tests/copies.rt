@@ -1,5 +1,5 @@
 //! Copies of replies of up to 64 items, of 1,000 and of 10,000, with ample memory.
-use crate::{Line, count_of, line_of};
+use crate::tests::{Line, count_of, line_of};
 use redis_resp::{FromRedisValue, from_redis_value};
 use redis_streams::{
     StreamAutoClaimReply, StreamClaimReply, StreamInfoConsumersReply, StreamInfoGroupsReply,

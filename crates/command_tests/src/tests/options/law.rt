@@ -1,5 +1,5 @@
 //! Argument lists that sentences share, and why the laws leave no doubt over them.
-use crate::{check, text};
+use crate::tests::{check, text};
 use stream_options::{
     StreamAddOptions, StreamClaimOptions, StreamTrimOptions, StreamTrimStrategy, StreamTrimmingMode,
 };

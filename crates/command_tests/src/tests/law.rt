@@ -2,7 +2,7 @@
 ghost use Rattle.std.specs.Prelude.{◌≡◌, [], ◌∷◌, map, IfOk};
 ghost use Rattle.stream_commands.specs.WholeCommands.{add_list, trim_list, read_list, claim_list, autoclaim_list};
 
-use crate::check;
+use crate::tests::check;
 use redis_resp::ToRedisArgs;
 use std::alloc::{AllocError, Global};
 use std::test::Fail;

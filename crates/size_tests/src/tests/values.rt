@@ -1,5 +1,5 @@
 //! Values that are large: their readings as plain types, and their copies.
-use crate::{Line, line_of};
+use crate::tests::{Line, line_of};
 use indexmap::IndexMap;
 use redis_resp::{FromRedisValue, from_redis_value, from_redis_value_ref};
 use std::fmt::Debug;

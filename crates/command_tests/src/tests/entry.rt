@@ -1,5 +1,5 @@
 //! Commands on the entries of a stream.
-use crate::{check, text};
+use crate::tests::{check, text};
 use redis_resp::PairList;
 use std::process::Abort;
 use stream_commands::{

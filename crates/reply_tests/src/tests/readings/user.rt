@@ -4,7 +4,7 @@ ghost use Rattle.redis_resp.specs.Value.{tree};
 ghost use Rattle.redis_resp.specs.declared.value.error.ParsingError.TheVariants.{NotText};
 ghost use Rattle.reply_tests.specs.Flag.{flag_in, flag_reading, flag_word};
 
-use crate::readings::check_value;
+use crate::tests::readings::check_value;
 use redis_resp::{
     FromRedisValue, ParsingError, RedisWrite, ToRedisArgs, ToSingleRedisArg, Value, WriteError,
     from_redis_value,

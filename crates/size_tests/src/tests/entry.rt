@@ -1,6 +1,6 @@
 //! Copies of one entry: of up to 64 fields, of 1,000 and of 10,000, and of an id, a name and a value
 //! of as many bytes, with ample memory.
-use crate::{Line, count_of, line_of};
+use crate::tests::{Line, count_of, line_of};
 use redis_resp::from_redis_value;
 use redis_streams::{StreamId, StreamRangeReply};
 use std::process::Abort;

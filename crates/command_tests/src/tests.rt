@@ -1,0 +1,78 @@
+//! The tests, by what they try, and what they share.
+
+mod answer;
+mod args;
+mod call_sequences;
+mod entry;
+mod group;
+mod justid;
+mod law;
+mod memory;
+mod options;
+mod sentences;
+
+use redis_args::{FixedArgs, ToRedisArgs, WriteError};
+use std::process::Abort;
+
+/// A text on the heap.
+fn text(rt: &(impl AllocGlobal + Abort), text: &str) -> String {
+    String::from_str(rt.alloc(), text).expect(rt, "memory")
+}
+
+/// The words of a line as arguments; none of the empty line.
+fn words_of(rt: &(impl AllocGlobal + Abort), line: &str) -> Vec<Vec<u8>> {
+    let mut words = Vec::new(rt.alloc());
+    if line != "" {
+        for word in line.split(' ') {
+            let word = Vec::from_slice(rt.alloc(), word.as_bytes()).expect(rt, "memory");
+            words.push(word).expect(rt, "memory");
+        }
+    }
+    words
+}
+
+/// The value writes the words of this line, each one argument: as a list, after what a list
+/// holds, and into a place of a fixed size with room.
+fn check<T: ToRedisArgs>(rt: &(impl AllocGlobal + Abort), value: &T, line: &str) {
+    let words = words_of(rt, line);
+    assert!(rt; is_listed(rt, value, &words), "of {line}");
+    assert!(rt; is_added(rt, value, &words), "of {line}");
+    check_place(rt, FixedArgs::<16, 128>::new(), value, Ok(()), line);
+}
+
+fn is_listed<T: ToRedisArgs>(
+    rt: &(impl AllocGlobal + Abort),
+    value: &T,
+    words: &[Vec<u8>],
+) -> bool {
+    let listed = value.to_redis_args(rt.alloc()).expect(rt, "memory");
+    listed.as_slice() == words
+}
+
+fn is_added<T: ToRedisArgs>(rt: &(impl AllocGlobal + Abort), value: &T, words: &[Vec<u8>]) -> bool {
+    let mut held = words_of(rt, "held");
+    let answer = value.write_redis_args(&mut held);
+    answer == Ok(()) && held.get(1..) == Some(words)
+}
+
+/// Written into this empty place the value returns this, and then the words of this line are there.
+fn check_place<T: ToRedisArgs, const N: usize, const B: usize>(
+    rt: &(impl AllocGlobal + Abort),
+    mut place: FixedArgs<N, B>,
+    value: &T,
+    answer: Result<(), WriteError>,
+    line: &str,
+) {
+    assert!(rt; value.write_redis_args(&mut place) == answer, "of {line}");
+    assert!(rt; holds(&place, &words_of(rt, line)), "of {line}");
+}
+
+/// These arguments are in the place, and nothing else.
+fn holds<const N: usize, const B: usize>(place: &FixedArgs<N, B>, args: &[Vec<u8>]) -> bool {
+    for (index, arg) in args.iter().enumerate() {
+        if place.get(index) != Some(arg.as_slice()) {
+            return false;
+        }
+    }
+    place.len() == args.len() && place.get(args.len()) == None
+}

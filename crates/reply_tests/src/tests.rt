@@ -1,0 +1,11 @@
+//! The tests, by what they try.
+
+mod memory;
+mod moved;
+mod notation;
+mod readings;
+mod refs;
+mod refusals;
+mod replies;
+mod row_lines;
+mod wire;
