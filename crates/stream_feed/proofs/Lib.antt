@@ -6,4 +6,6 @@ pub mod StepLemmas
 pub mod LineLemmas
 pub mod SessionLemmas
 pub mod ScheduleLemmas
+pub mod ConfirmedLemmas
+pub mod FailoverLemmas
 mod ScheduleSample

@@ -38,10 +38,10 @@ use Rattle.stream_feed.proofs.SessionLemmas.{IsAtRest, fewer, sent_at, round_res
 use Rattle.stream_feed.proofs.StepLemmas.{sends_then, stands_as, asks_as}
 
 -- the producer of the model with this stage, this on the way to the server and this on the way back
-record Is (st : feed.Stage) (o : Option (Request Fields)) (a : Option Answer) (p : Producer Fields) : Type 0 where
-  stage : p.stage ≡ st
-  sent : p.sent ≡ o
-  answer : p.answer ≡ a
+pub record Is (st : feed.Stage) (o : Option (Request Fields)) (a : Option Answer) (p : Producer Fields) : Type 0 where
+  pub stage : p.stage ≡ st
+  pub sent : p.sent ≡ o
+  pub answer : p.answer ≡ a
 
 module _ (setting : Setting Fields) where
   run_on : (es more : List (Event Fields)) (w : World Fields)
@@ -57,7 +57,7 @@ module _ (setting : Setting Fields) where
     whichever true u v h k = h
     whichever false u v h k = k
 
-    else_keeps : (w : World Fields) (e : Event Fields) → IsOfOthers e → Is st o a w.producer
+    pub else_keeps : (w : World Fields) (e : Event Fields) → IsOfOthers e → Is st o a w.producer
         → Is st o a (happens setting w e).producer
     else_keeps w (Send n) h i = absurd h
     else_keeps w (Arrive b) h i = absurd h
@@ -82,7 +82,7 @@ module _ (setting : Setting Fields) where
 
   -- ---- a request
 
-  sends_it : (s : Settings) → setting.base ≡ s.base → (w : World Fields) (st : feed.Stage) → Is st None None w.producer
+  pub sends_it : (s : Settings) → setting.base ≡ s.base → (w : World Fields) (st : feed.Stage) → Is st None None w.producer
       → Is (stands_at st (next_batch s setting.records st)).stage
       (on_the_way (asks_of st (next_batch s setting.records st)) (next_batch s setting.records st)) None
       (happens setting w (Send s.batch)).producer
@@ -99,12 +99,12 @@ module _ (setting : Setting Fields) where
 
   -- once the fate of what was asked is known: where an answer is on the way back, nothing is on the way there; and nothing is on
   -- either where nothing was asked
-  record Answered (st : feed.Stage) (o : Option (Request Fields)) (p : Producer Fields) : Type 0 where
-    stage : p.stage ≡ st
-    some : (x : Answer) → p.answer ≡ Some x → p.sent ≡ None
-    none : o ≡ None → Is st None None p
+  pub record Answered (st : feed.Stage) (o : Option (Request Fields)) (p : Producer Fields) : Type 0 where
+    pub stage : p.stage ≡ st
+    pub some : (x : Answer) → p.answer ≡ Some x → p.sent ≡ None
+    pub none : o ≡ None → Is st None None p
 
-  arrives : (st : feed.Stage) (o : Option (Request Fields)) (fate : Fate) (w : World Fields) → Is st o None w.producer
+  pub arrives : (st : feed.Stage) (o : Option (Request Fields)) (fate : Fate) (w : World Fields) → Is st o None w.producer
       → Answered st o (run setting (arrival fate) w).producer
   arrives st None (comes b) w i =
       let same : arrived b w.stream w.producer.sent w.producer ≡ w.producer =
@@ -178,7 +178,7 @@ module _ (base count : ℕ) where
       q.1 ∙ queued n old h.0 y h.1 h.3 q.0
 
   -- it hears the answer that is on its way
-  heard_it : (setting : Setting Fields) (n : ℕ) (old new : Link) (y x : Standing) (h : Hears base count n old new y x)
+  pub heard_it : (setting : Setting Fields) (n : ℕ) (old new : Link) (y x : Standing) (h : Hears base count n old new y x)
       → n ≡ y.coming → (o : Option (Request Fields)) → (y.coming ≡ 0 → o ≡ None) → (p : Producer Fields)
       → Answered setting y.stage o p → IsHeard p.answer (heard_last base count n old new y x h)
       → IsProducer x (hears base p.answer p)
@@ -208,14 +208,14 @@ module _ (base count : ℕ) where
         answer = refl;
       })
 
-nothing_sent : (st : feed.Stage) (b : List (Numbered Fields)) → (stands_at st b).coming ≡ 0
+pub nothing_sent : (st : feed.Stage) (b : List (Numbered Fields)) → (stands_at st b).coming ≡ 0
     → on_the_way (asks_of st b) b ≡ None
 nothing_sent asking b none = absurd (omega (arith, none))
 nothing_sent (knows m) [] none = refl
 nothing_sent (knows m) (r ∷ rs) none = absurd (omega (arith, none))
 nothing_sent (waits m n) b none = refl
 
-as_is : (v : Standing) (p : Producer Fields) → IsProducer v p → Is v.stage None None p
+pub as_is : (v : Standing) (p : Producer Fields) → IsProducer v p → Is v.stage None None p
 as_is v p i = record { stage = i.stage; sent = i.sent; answer = i.answer }
 
 -- ---- a round

@@ -9,4 +9,6 @@ pub mod Machine
 pub mod Learnt
 pub mod Step
 pub mod Session
+pub mod Confirmed
 pub mod Schedule
+pub mod Failover

@@ -1,4 +1,6 @@
 //! What holds of producers over every schedule.
+ghost use Rattle.stream_feed.specs.Confirmed.{NoneIsUnconfirmed, UnconfirmedAreRounds, UnconfirmedBreakOff};
+ghost use Rattle.stream_feed.specs.Failover as failover;
 ghost use Rattle.stream_feed.specs.Records.{Fields};
 ghost use Rattle.stream_feed.specs.Schedule.{AskingNothingIsAll, BreaksAreEvents, BrokenSessionsRun, CodeAddsFirstRecords};
 ghost use Rattle.stream_feed.specs.Schedule.{CodeAddsOnce, CodeKnowsWhatIsIn, FinishedIsAll, RoundsAreEvents, RoundsSendIt};
@@ -53,4 +55,26 @@ pub fn the_code_adds_each_record_once()
     ensures known { CodeKnowsWhatIsIn }
     ensures nothing { AskingNothingIsAll }
     ensures all { FinishedIsAll }
+{}
+
+/// Rounds that no WAIT is asked for are rounds as `Producer::run` makes them.
+pub fn rounds_without_wait_are_rounds()
+    ensures finished { UnconfirmedAreRounds }
+    ensures broke { UnconfirmedBreakOff }
+    ensures none { NoneIsUnconfirmed }
+{}
+
+/// A producer whose rounds are confirmed by WAIT (`Producer::round_confirmed`) is that of
+/// `stream_failover`, in which the server may go back to an earlier state. It is so after each schedule
+/// of such rounds, of rounds that break off or are not confirmed, of crashes and of failovers. So as many
+/// records as it takes to be in are in, and stay in. If a round asks nothing, the log is all records, and
+/// stays so. Nobody else adds to the stream.
+///
+/// The premises of a round are those of `rounds_are_those_of_once`, and that the reply to WAIT is the one
+/// that the server sent. The model's premise is that the new master is a replica that confirmed.
+pub fn confirmed_records_stay()
+    ensures runs { failover.RunsAreEvents }
+    ensures waits { failover.RunsWait }
+    ensures known { failover.CodeKnowsWhatStays }
+    ensures all { failover.AskingNothingStaysAll }
 {}

@@ -3,10 +3,11 @@
 //!
 //! Records are numbered from 1, and the record k has the id `(base + k)-0`. They go out in batches
 //! of `MULTI`, `XADD` for each, `EXEC`; after whatever fails the producer asks the server for the
-//! last id, and goes on behind it.
+//! last id, and goes on after it.
 #![tactic(auto)]
 
 mod batch;
+mod confirmed;
 mod error;
 mod executed;
 mod kept;
@@ -17,9 +18,12 @@ mod session;
 mod settings;
 mod source;
 mod stage;
+mod wait;
 
+pub use confirmed::ConfirmedError;
 pub use error::{FeedError, RequestError, RunError};
 pub use producer::Producer;
 pub use settings::{Settings, SettingsError};
 pub use source::{Field, NotRead, Record, Source};
 pub use stage::{Asked, OnTheWay, Stage};
+pub use wait::{ConfirmError, Wait, WaitError, confirm};

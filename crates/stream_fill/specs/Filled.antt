@@ -1,14 +1,16 @@
 -- How a session ends that does not bring all records in.
-use Rattle.std.specs.Prelude.{ℕ, ◌-◌, ◌^◌, false, List, Option}
+use Rattle.std.specs.Prelude.{ℕ, ◌-◌, ◌^◌, List, Option}
 use Rattle.redis_connection.specs.Link.{Link}
-use Rattle.stream_feed.specs.Machine.{Standing}
+use Rattle.stream_feed.specs.Confirmed.{BrokeConfirmed, ConfirmedRounds}
+use Rattle.stream_feed.specs.Machine.{Standing, idle}
 use Rattle.stream_feed.specs.Records.{Fields}
-use Rattle.stream_feed.specs.Session.{Broke, Ran}
 use Rattle.stream_feed.specs.declared.settings.Settings.{Settings}
+use Rattle.stream_feed.specs.declared.wait.Wait.{Wait}
 use Rattle.stream_fill.specs.declared.fill.FillError.{FillError}
 use Rattle.stream_fill.specs.declared.fill.FillError.TheVariants as causes
 
--- a round broke off, by this error; or so many rounds were made that no number is left
-abbrev pub Fails : Settings → Option (List Fields) → ℕ → Link → Link → FillError → Type 0
-Fails s known count old new (causes.Round e) = Broke s known count old new e
-Fails s known count old new causes.NoTurnLeft = (x : Standing) × Ran s known count (2 ^ 64 - 1) old new x false
+-- a round broke off or was not confirmed, by this error; or so many rounds were made that no number is left
+abbrev pub Fails : Option Wait → Settings → Option (List Fields) → ℕ → Link → Link → FillError → Type 0
+Fails wait s known count old new (causes.Round e) = BrokeConfirmed wait s known count old new e
+Fails wait s known count old new causes.NoTurnLeft =
+    (x : Standing) × ConfirmedRounds wait s known count (2 ^ 64 - 1) old new idle x

@@ -1,12 +1,13 @@
-use Rattle.std.proofs.Common.{◌≡◌, ◌-◌, ◌^◌, arith}
-use Rattle.stream_feed.specs.Machine.{standing_of}
-use Rattle.stream_feed.proofs.SessionLemmas.{ran_out}
+use Rattle.std.proofs.Common.{◌≡◌, ◌-◌, ◌^◌, arith, subst, ℕ}
+use Rattle.stream_feed.specs.Confirmed.{ConfirmedRounds}
+use Rattle.stream_feed.specs.Machine.{idle, standing_of}
 use Rattle.stream_fill.proofs.fill.fill.Goals as goal
 
 pub returns-clause-err : goal.returns-clause-err
 returns-clause-err g c =
     let all : c.loop-round._round ≡ 2 ^ 64 - 1 = omega (arith, c.loop-round-test.false, c.loop-round.auto._round-end) in (
       standing_of c.loop-round.producer,
-      ran_out c.args.settings (g.S.Source.records c.args.source.now) c.args.count (2 ^ 64 - 1) c.loop-round._round
-          c.args.connection.now c.loop-round.connection (standing_of c.loop-round.producer) all c.loop-round.invariant.made,
+      subst (λ (n : ℕ). ConfirmedRounds c.args.wait c.args.settings (g.S.Source.records c.args.source.now) c.args.count n
+          c.args.connection.now c.loop-round.connection idle (standing_of c.loop-round.producer)) all
+          c.loop-round.invariant.made,
     )

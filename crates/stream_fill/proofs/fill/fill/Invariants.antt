@@ -1,6 +1,6 @@
 use Rattle.std.proofs.Common.{◌≡◌}
+use Rattle.stream_feed.specs.Confirmed.{ConfirmedRounds}
 use Rattle.stream_feed.specs.Machine.{idle, standing_of}
-use Rattle.stream_feed.specs.Session.{Rounds}
 use Rattle.stream_fill.proofs.fill.fill.Given as goal
 
 -- so many rounds were made
@@ -8,6 +8,6 @@ abbrev pub invariant-loop-round : goal.invariant-loop-round
 invariant-loop-round g l = record {
   settings : l.producer.settings ≡ l.fn.settings;
   records : g.S.Source.records l.source ≡ g.S.Source.records l.fn.source;
-  made : Rounds l.fn.settings (g.S.Source.records l.fn.source) l.fn.count l._round l.fn.connection l.connection
+  made : ConfirmedRounds l.fn.wait l.fn.settings (g.S.Source.records l.fn.source) l.fn.count l._round l.fn.connection l.connection
       idle (standing_of l.producer);
 }

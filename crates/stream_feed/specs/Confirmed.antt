@@ -1,0 +1,118 @@
+-- WAIT, what its reply says, and rounds with one after each.
+use Rattle.std.specs.Prelude.{◌≡◌, ◌<◌, ◌≤◌, ⊥, ℕ, zero, suc, List, [], ◌∷◌, codes, decimal, nat_eq, Option, Some, None}
+use Rattle.std.specs.Prelude.{Result, Ok, Err, if◌then◌else◌}
+use Rattle.redis_connection.specs.Ask.{Asks, HasNoAnswer}
+use Rattle.redis_connection.specs.Link.{Link}
+use Rattle.redis_resp.specs.Number.{unsigned_reading}
+use Rattle.redis_resp.specs.Refusal.{RefusesNumber}
+use Rattle.stream_feed.specs.Machine.{Standing, idle}
+use Rattle.stream_feed.specs.Records.{Fields}
+use Rattle.stream_feed.specs.Session.{IsRound, Breaks, Finished, Broke}
+use Rattle.stream_feed.specs.declared.confirmed.ConfirmedError.{ConfirmedError}
+use Rattle.stream_feed.specs.declared.confirmed.ConfirmedError.TheVariants as ends
+use Rattle.stream_feed.specs.declared.error.RunError.{RunError}
+use Rattle.stream_feed.specs.declared.settings.Settings.{Settings}
+use Rattle.stream_feed.specs.declared.stage.Asked.{Asked}
+use Rattle.stream_feed.specs.declared.stage.Asked.TheVariants as asked
+use Rattle.stream_feed.specs.declared.wait.ConfirmError.{ConfirmError}
+use Rattle.stream_feed.specs.declared.wait.ConfirmError.TheVariants as causes
+use Rattle.stream_feed.specs.declared.wait.Wait.{Wait}
+use Rattle.stream_feed.specs.declared.wait.WaitError.{WaitError}
+use Rattle.stream_feed.specs.declared.wait.WaitError.TheVariants.{NoReplicas, NoTime}
+
+-- a WAIT, or the first cause to refuse it
+abbrev pub checked_wait : ℕ → ℕ → Result Wait WaitError
+checked_wait replicas milliseconds =
+    if nat_eq replicas 0 then Err NoReplicas
+    else if nat_eq milliseconds 0 then Err NoTime
+    else Ok (record { replicas = replicas; milliseconds = milliseconds })
+
+-- `WAIT replicas milliseconds`
+abbrev pub wait_sentence : Wait → List (List ℕ)
+wait_sentence w = codes "WAIT" ∷ decimal w.replicas ∷ decimal w.milliseconds ∷ []
+
+-- the server replied that so many replicas have what came to it before
+abbrev pub HaveIt : Wait → Link → Link → ℕ → Type 0
+HaveIt w old new n = Asks old new (wait_sentence w) (unsigned_reading 64) n
+
+-- as many as are wanted, or more
+abbrev pub IsConfirmed : Wait → Link → Link → Type 0
+IsConfirmed w old new = (n : ℕ) × HaveIt w old new n × (w.replicas ≤ n)
+
+-- it did not say; or so many have it, which are fewer
+abbrev pub IsUnconfirmed : Wait → Link → Link → ConfirmError → Type 0
+IsUnconfirmed w old new (causes.Ask e) =
+    HasNoAnswer old new (wait_sentence w) (unsigned_reading 64) RefusesNumber e
+IsUnconfirmed w old new (causes.TooFew n) = HaveIt w old new n × (n < w.replicas)
+
+-- after a round that asked this, what it did is confirmed, if that is wanted and it asked anything
+abbrev pub Confirms : Option Wait → Asked → Link → Link → Type 0
+Confirms None a old new = new ≡ old
+Confirms (Some w) asked.Nothing old new = new ≡ old
+Confirms (Some w) asked.LastId old new = IsConfirmed w old new
+Confirms (Some w) asked.Records old new = IsConfirmed w old new
+
+-- after a round that asked this, what it did is not confirmed, though that is wanted
+abbrev pub ConfirmsNot : Option Wait → Asked → Link → Link → ConfirmError → Type 0
+ConfirmsNot None a old new e = ⊥
+ConfirmsNot (Some w) asked.Nothing old new e = ⊥
+ConfirmsNot (Some w) asked.LastId old new e = IsUnconfirmed w old new e
+ConfirmsNot (Some w) asked.Records old new e = IsUnconfirmed w old new e
+
+module _ (wait : Option Wait) (s : Settings) (known : Option (List Fields)) (count : ℕ) where
+  -- a round that is confirmed
+  pub record IsConfirmedRound (old new : Link) (v x : Standing) (a : Asked) : Type 0 where
+    pub link : Link
+    pub round : IsRound s known count old link v x a
+    pub confirms : Confirms wait a link new
+
+  -- a round that is not
+  pub record IsUnconfirmedRound (old new : Link) (v : Standing) (e : ConfirmError) : Type 0 where
+    pub link : Link
+    pub standing : Standing
+    pub asked : Asked
+    pub round : IsRound s known count old link v standing asked
+    pub confirms_not : ConfirmsNot wait asked link new e
+
+  -- how such a round breaks off
+  abbrev pub BreaksConfirmed : Link → Link → Standing → ConfirmedError → Type 0
+  BreaksConfirmed old new v (ends.Round e) = Breaks s known count old new v e
+  BreaksConfirmed old new v (ends.Unconfirmed e) = IsUnconfirmedRound old new v e
+
+  -- so many rounds, one after the other, each of which asked something and is confirmed
+  abbrev pub ConfirmedRounds : ℕ → Link → Link → Standing → Standing → Type 0
+  ConfirmedRounds zero old new v x = (new ≡ old) × (x ≡ v)
+  ConfirmedRounds (suc n) old new v x = (l : Link) × (y : Standing) × (a : Asked) × ConfirmedRounds n old l v y
+      × IsConfirmedRound l new y x a
+
+  -- it began with knowing nothing, made such rounds, and the next one asked nothing
+  pub record FinishedConfirmed (old new : Link) : Type 0 where
+    pub count_of : ℕ
+    pub link : Link
+    pub standing : Standing
+    pub ends : Standing
+    pub rounds : ConfirmedRounds count_of old link idle standing
+    pub last : IsConfirmedRound link new standing ends asked.Nothing
+
+  -- it began so, made such rounds, and the next one broke off
+  pub record BrokeConfirmed (old new : Link) (e : ConfirmedError) : Type 0 where
+    pub count_of : ℕ
+    pub link : Link
+    pub standing : Standing
+    pub rounds : ConfirmedRounds count_of old link idle standing
+    pub breaks : BreaksConfirmed link new standing e
+
+-- without a WAIT such a session is one of rounds
+abbrev pub UnconfirmedAreRounds : Type 0
+UnconfirmedAreRounds = (s : Settings) (known : Option (List Fields)) (count : ℕ) (old new : Link)
+    → FinishedConfirmed None s known count old new → Finished s known count old new
+
+-- and so it is if a round breaks off
+abbrev pub UnconfirmedBreakOff : Type 0
+UnconfirmedBreakOff = (s : Settings) (known : Option (List Fields)) (count : ℕ) (old new : Link) (e : RunError)
+    → BrokeConfirmed None s known count old new (ends.Round e) → Broke s known count old new e
+
+-- and no round of it is one that is not confirmed
+abbrev pub NoneIsUnconfirmed : Type 0
+NoneIsUnconfirmed = (s : Settings) (known : Option (List Fields)) (count : ℕ) (old new : Link) (e : ConfirmError)
+    → BrokeConfirmed None s known count old new (ends.Unconfirmed e) → ⊥
