@@ -1,5 +1,5 @@
 -- Rounds that no WAIT is asked for.
-use Rattle.std.proofs.Common.{◌≡◌, refl, sym, subst, ℕ, zero, suc, List, Option, None}
+use Rattle.std.proofs.Common.{sym, subst, ℕ, zero, suc, List, Option, None}
 use Rattle.redis_connection.specs.Link.{Link}
 use Rattle.stream_feed.specs.Confirmed.{ConfirmedRounds, IsConfirmedRound}
 use Rattle.stream_feed.specs.Confirmed.{UnconfirmedAreRounds, UnconfirmedBreakOff, NoneIsUnconfirmed}

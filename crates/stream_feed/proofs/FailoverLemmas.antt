@@ -1,5 +1,5 @@
 -- The confirmed rounds, breaks and starts of a producer's code are events of `stream_failover`.
-use Rattle.std.proofs.Common.{◌≡◌, ◌+◌, ◌<◌, ◌≤◌, refl, sym, ap, subst, ◌∙◌, arith, true, false, ℕ, zero, suc, List, [], ◌∷◌, ◌++◌}
+use Rattle.std.proofs.Common.{◌≡◌, ◌<◌, ◌≤◌, refl, sym, ap, subst, ◌∙◌, arith, true, false, ℕ, List, [], ◌∷◌, ◌++◌}
 use Rattle.std.proofs.Common.{length, take, drop, append-nil, Option, Some, None}
 use Rattle.std.proofs.lemmas.Bool.{false≢true, and_from, not_from_false, lt-ltb, le-ltb}
 use Rattle.std.proofs.lemmas.List.{length-append, length-map, nil_from_length}
@@ -264,9 +264,11 @@ arrival_waits wanted (comes b said) = (tt, tt)
 arrival_waits wanted comes_not = tt
 
 reply_waits : (s : Settings) (w : Wait) (m : Meantime) → ProducerAlwaysWaits (until_replied s w m)
-reply_waits s w m =
-    (tt, waits_on m.earlier (arrival w.replicas m.fate ++ m.later) (besides_wait m.earlier m.earlier_besides)
-    (waits_on (arrival w.replicas m.fate) m.later (arrival_waits w.replicas m.fate) (besides_wait m.later m.later_besides)))
+reply_waits s w m = (
+  tt,
+  waits_on m.earlier (arrival w.replicas m.fate ++ m.later) (besides_wait m.earlier m.earlier_besides)
+      (waits_on (arrival w.replicas m.fate) m.later (arrival_waits w.replicas m.fate) (besides_wait m.later m.later_besides)),
+)
 
 until_waits : (s : Settings) (w : Wait) (moment : Moment) → ProducerAlwaysWaits (events_until s w moment)
 until_waits s w between = tt
@@ -293,7 +295,7 @@ runs_wait setting w s events x (starts k l before v moment r) =
     (waits_on (events_until k w moment) (Plain once.Break ∷ []) (until_waits k w moment) (tt, tt))
 runs_wait setting w s events x (fails k l before v moment which r) =
     waits_on before (events_until k w moment ++ Failover which ∷ Plain once.Break ∷ []) (runs_wait setting w k before v r)
-    (waits_on (events_until k w moment) (Failover which ∷ Plain once.Break ∷ []) (until_waits k w moment) (tt, tt, tt))
+    (waits_on (events_until k w moment) (Failover which ∷ Plain once.Break ∷ []) (until_waits k w moment) (tt, (tt, tt)))
 
 -- ---- what holds after each schedule
 

@@ -1,6 +1,6 @@
 -- WAIT, what its reply says, and rounds with one after each.
-use Rattle.std.specs.Prelude.{◌≡◌, ◌<◌, ◌≤◌, ⊥, ℕ, zero, suc, List, [], ◌∷◌, codes, decimal, nat_eq, Option, Some, None}
-use Rattle.std.specs.Prelude.{Result, Ok, Err, if◌then◌else◌}
+use Rattle.std.specs.Prelude.{◌≡◌, ◌<◌, ◌≤◌, ℕ, zero, suc, List, [], ◌∷◌, codes, decimal, Option, Some, None}
+use Rattle.std.specs.Prelude.{Result, Ok, Err}
 use Rattle.redis_connection.specs.Ask.{Asks, HasNoAnswer}
 use Rattle.redis_connection.specs.Link.{Link}
 use Rattle.redis_resp.specs.Number.{unsigned_reading}
@@ -14,18 +14,22 @@ use Rattle.stream_feed.specs.declared.error.RunError.{RunError}
 use Rattle.stream_feed.specs.declared.settings.Settings.{Settings}
 use Rattle.stream_feed.specs.declared.stage.Asked.{Asked}
 use Rattle.stream_feed.specs.declared.stage.Asked.TheVariants as asked
-use Rattle.stream_feed.specs.declared.wait.ConfirmError.{ConfirmError}
-use Rattle.stream_feed.specs.declared.wait.ConfirmError.TheVariants as causes
+use Rattle.stream_feed.specs.declared.confirming.ConfirmError.{ConfirmError}
+use Rattle.stream_feed.specs.declared.confirming.ConfirmError.TheVariants as causes
 use Rattle.stream_feed.specs.declared.wait.Wait.{Wait}
 use Rattle.stream_feed.specs.declared.wait.WaitError.{WaitError}
 use Rattle.stream_feed.specs.declared.wait.WaitError.TheVariants.{NoReplicas, NoTime}
 
--- a WAIT, or the first cause to refuse it
-abbrev pub checked_wait : ℕ → ℕ → Result Wait WaitError
-checked_wait replicas milliseconds =
-    if nat_eq replicas 0 then Err NoReplicas
-    else if nat_eq milliseconds 0 then Err NoTime
-    else Ok (record { replicas = replicas; milliseconds = milliseconds })
+-- why a WAIT is refused: the first cause that holds
+abbrev pub IsNoWait : ℕ → ℕ → WaitError → Type 0
+IsNoWait replicas milliseconds NoReplicas = replicas ≡ 0
+IsNoWait replicas milliseconds NoTime = (0 < replicas) × (milliseconds ≡ 0)
+
+-- a WAIT for so many replicas and milliseconds, or why there is none
+abbrev pub IsMade : ℕ → ℕ → Result Wait WaitError → Type 0
+IsMade replicas milliseconds (Ok w) =
+    (w.replicas ≡ replicas) × (w.milliseconds ≡ milliseconds) × (0 < milliseconds)
+IsMade replicas milliseconds (Err e) = IsNoWait replicas milliseconds e
 
 -- `WAIT replicas milliseconds`
 abbrev pub wait_sentence : Wait → List (List ℕ)

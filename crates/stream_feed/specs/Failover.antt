@@ -1,6 +1,6 @@
 -- A producer's code whose rounds are confirmed by WAIT is the producer of `stream_failover`, whose server may go back to an
 -- earlier state.
-use Rattle.std.specs.Prelude.{◌≡◌, ◌≤◌, ◌<◌, ⊥, ℕ, Bool, List, [], ◌∷◌, ◌++◌, length, Option, Some}
+use Rattle.std.specs.Prelude.{◌≡◌, ◌≤◌, ◌<◌, ℕ, Bool, List, [], ◌∷◌, ◌++◌, length, Option, Some}
 use Rattle.redis_connection.specs.Link.{Link}
 use Rattle.stream_once.specs.Feed.{entries, known_in}
 use Rattle.stream_once.specs.Law.{Fit, log}

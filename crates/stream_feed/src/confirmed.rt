@@ -3,11 +3,12 @@ ghost use Rattle.std.specs.Prelude.{◌≡◌, IfErr, IfOk, OnErr};
 ghost use Rattle.stream_feed.specs.Confirmed.{BreaksConfirmed, Confirms, ConfirmsNot, IsConfirmedRound};
 ghost use Rattle.stream_feed.specs.Machine.{idle, standing_of};
 
+use crate::confirming::ConfirmError;
 use crate::error::RunError;
 use crate::producer::Producer;
 use crate::source::Source;
 use crate::stage::Asked;
-use crate::wait::{ConfirmError, Wait};
+use crate::wait::Wait;
 use redis_connection::Connection;
 use std::alloc::Global;
 use std::io::{Read, Write};

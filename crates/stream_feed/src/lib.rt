@@ -8,6 +8,7 @@
 
 mod batch;
 mod confirmed;
+mod confirming;
 mod error;
 mod executed;
 mod kept;
@@ -21,9 +22,10 @@ mod stage;
 mod wait;
 
 pub use confirmed::ConfirmedError;
+pub use confirming::{ConfirmError, confirm};
 pub use error::{FeedError, RequestError, RunError};
 pub use producer::Producer;
 pub use settings::{Settings, SettingsError};
 pub use source::{Field, NotRead, Record, Source};
 pub use stage::{Asked, OnTheWay, Stage};
-pub use wait::{ConfirmError, Wait, WaitError, confirm};
+pub use wait::{Wait, WaitError};
