@@ -7,7 +7,8 @@ use Rattle.sqlite.specs.State.{CommitsBy, Executes, HasCleanDisk, QueriesRow, Su
 use Rattle.sqlite.specs.declared.error.Error.TheVariants.{QueryReturnedNoRows}
 use Rattle.sqlite.specs.declared.types.Value.{Value}
 use Rattle.sqlite.specs.declared.types.Value.TheVariants.{Null, Int, Text, Blob}
-use Rattle.row_table.specs.Rows.{Cell, Key, Row, null, integer, text, blob}
+use Rattle.row_table.specs.Rows as rows
+use Rattle.row_table.specs.Rows.{Cell, Key, Row}
 use Rattle.row_table.specs.declared.error.TableError.{TableError}
 use Rattle.row_table.specs.declared.error.TableError.TheVariants.{Memory, Refused}
 use Rattle.sqlite_rows.specs.declared.error.OpenError.{OpenError}
@@ -24,10 +25,10 @@ IsNamedAtOpening (opening.Another there) = Unit {0}
 
 -- a value as a value of SQL
 abbrev pub value_of : Cell → Value
-value_of null = Null
-value_of (integer n) = Int n
-value_of (text t) = Text t
-value_of (blob b) = Blob b
+value_of rows.null = Null
+value_of (rows.integer n) = Int n
+value_of (rows.text t) = Text t
+value_of (rows.blob b) = Blob b
 
 -- values as values of SQL
 abbrev pub values_of : List Cell → SqlRow

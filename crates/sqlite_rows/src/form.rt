@@ -4,7 +4,7 @@ ghost use Rattle.sqlite_rows.specs.Form.{IsFormOf, IsUsual, column_text, conditi
 ghost use Rattle.sqlite_rows.specs.Form.{kind_text, null_text, quoted, quoted_byte, usual_create, usual_holds, usual_insert, value_text};
 
 use row_table::{Column, Kind, TableError};
-use std::alloc::{AllocError, Global};
+use std::alloc::Global;
 
 const CREATE: &str =
     "CREATE TABLE entries (milliseconds INTEGER NOT NULL, sequence INTEGER NOT NULL, fields TEXT NOT NULL, PRIMARY KEY (milliseconds, sequence)) STRICT";
@@ -60,12 +60,19 @@ fn create(alloc: Global, name: &str, columns: &[Column]) -> Result<String, Table
     ensures { IfOk result (λ text. string_bytes text ≡ create_text name.now columns.now) }
 {
     let mut out = Vec::new(alloc);
-    out.extend_from_slice(b"CREATE TABLE ")?;
-    push_name(&mut out, name.as_bytes())?;
-    out.extend_from_slice(b" (milliseconds INTEGER NOT NULL, sequence INTEGER NOT NULL, ")?;
-    push_columns(&mut out, columns)?;
-    out.extend_from_slice(b"PRIMARY KEY (milliseconds, sequence)) STRICT")?;
+    push_create(&mut out, name, columns)?;
     text(out)
+}
+
+// The bytes of it.
+fn push_create(out: &mut Vec<u8>, name: &str, columns: &[Column]) -> Result<(), TableError>
+    ensures { OnOk result (out.new.items ≡ out.old.items ++ create_text name.now columns.now) }
+{
+    out.extend_from_slice(b"CREATE TABLE ")?;
+    push_name(out, name.as_bytes())?;
+    out.extend_from_slice(b" (milliseconds INTEGER NOT NULL, sequence INTEGER NOT NULL, ")?;
+    push_columns(out, columns)?;
+    Ok(out.extend_from_slice(b"PRIMARY KEY (milliseconds, sequence)) STRICT")?)
 }
 
 // The statement that puts in a row.
@@ -73,12 +80,19 @@ fn insert(alloc: Global, name: &str, columns: &[Column]) -> Result<String, Table
     ensures { IfOk result (λ text. string_bytes text ≡ insert_text name.now columns.now) }
 {
     let mut out = Vec::new(alloc);
-    out.extend_from_slice(b"INSERT INTO ")?;
-    push_name(&mut out, name.as_bytes())?;
-    out.extend_from_slice(b" VALUES (?, ?")?;
-    push_values(&mut out, columns)?;
-    out.extend_from_slice(b") ON CONFLICT DO NOTHING")?;
+    push_insert(&mut out, name, columns)?;
     text(out)
+}
+
+// The bytes of it.
+fn push_insert(out: &mut Vec<u8>, name: &str, columns: &[Column]) -> Result<(), TableError>
+    ensures { OnOk result (out.new.items ≡ out.old.items ++ insert_text name.now columns.now) }
+{
+    out.extend_from_slice(b"INSERT INTO ")?;
+    push_name(out, name.as_bytes())?;
+    out.extend_from_slice(b" VALUES (?, ?")?;
+    push_values(out, columns)?;
+    Ok(out.extend_from_slice(b") ON CONFLICT DO NOTHING")?)
 }
 
 // The query for a row with these values.
@@ -86,15 +100,22 @@ fn holds(alloc: Global, name: &str, columns: &[Column]) -> Result<String, TableE
     ensures { IfOk result (λ text. string_bytes text ≡ holds_text name.now columns.now) }
 {
     let mut out = Vec::new(alloc);
-    out.extend_from_slice(b"SELECT 1 FROM ")?;
-    push_name(&mut out, name.as_bytes())?;
-    out.extend_from_slice(b" WHERE milliseconds = ? AND sequence = ?")?;
-    push_conditions(&mut out, columns)?;
+    push_holds(&mut out, name, columns)?;
     text(out)
 }
 
+// The bytes of it.
+fn push_holds(out: &mut Vec<u8>, name: &str, columns: &[Column]) -> Result<(), TableError>
+    ensures { OnOk result (out.new.items ≡ out.old.items ++ holds_text name.now columns.now) }
+{
+    out.extend_from_slice(b"SELECT 1 FROM ")?;
+    push_name(out, name.as_bytes())?;
+    out.extend_from_slice(b" WHERE milliseconds = ? AND sequence = ?")?;
+    push_conditions(out, columns)
+}
+
 // A name in double quotes.
-fn push_name(out: &mut Vec<u8>, name: &[u8]) -> Result<(), AllocError>
+fn push_name(out: &mut Vec<u8>, name: &[u8]) -> Result<(), TableError>
     ensures { OnOk result (out.new.items ≡ out.old.items ++ quoted name.now) }
 {
     out.push(b'"')?;
@@ -103,7 +124,7 @@ fn push_name(out: &mut Vec<u8>, name: &[u8]) -> Result<(), AllocError>
 }
 
 // The bytes of a name within double quotes.
-fn push_bytes(out: &mut Vec<u8>, name: &[u8]) -> Result<(), AllocError>
+fn push_bytes(out: &mut Vec<u8>, name: &[u8]) -> Result<(), TableError>
     ensures { OnOk result (out.new.items ≡ out.old.items ++ flat_map quoted_byte name.now) }
 {
     for byte in name {
@@ -112,18 +133,19 @@ fn push_bytes(out: &mut Vec<u8>, name: &[u8]) -> Result<(), AllocError>
     Ok(())
 }
 
-// A byte of a name: a double quote is written twice.
-fn push_byte(out: &mut Vec<u8>, byte: u8) -> Result<(), AllocError>
+// A byte of a name: a double quote is written twice, and a NUL is refused.
+fn push_byte(out: &mut Vec<u8>, byte: u8) -> Result<(), TableError>
     ensures { OnOk result (out.new.items ≡ out.old.items ++ quoted_byte byte) }
 {
     match byte {
-        b'"' => out.extend_from_slice(b"\"\""),
+        b'"' => Ok(out.extend_from_slice(b"\"\"")?),
+        0 => Err(TableError::Refused("a name has a NUL in it")),
         _ => Ok(out.push(byte)?),
     }
 }
 
 // The columns in a CREATE TABLE.
-fn push_columns(out: &mut Vec<u8>, columns: &[Column]) -> Result<(), AllocError>
+fn push_columns(out: &mut Vec<u8>, columns: &[Column]) -> Result<(), TableError>
     ensures { OnOk result (out.new.items ≡ out.old.items ++ flat_map column_text columns.now) }
 {
     for column in columns {
@@ -133,13 +155,13 @@ fn push_columns(out: &mut Vec<u8>, columns: &[Column]) -> Result<(), AllocError>
 }
 
 // A column in a CREATE TABLE, and a comma.
-fn push_column(out: &mut Vec<u8>, column: &Column) -> Result<(), AllocError>
+fn push_column(out: &mut Vec<u8>, column: &Column) -> Result<(), TableError>
     ensures { OnOk result (out.new.items ≡ out.old.items ++ column_text column.now) }
 {
     push_name(out, column.name.as_bytes())?;
     out.extend_from_slice(kind(column.kind).as_bytes())?;
     out.extend_from_slice(null(column.optional).as_bytes())?;
-    out.extend_from_slice(b", ")
+    Ok(out.extend_from_slice(b", ")?)
 }
 
 // What the database calls the values of a column.
@@ -161,7 +183,7 @@ fn null(optional: bool) -> &'static str
 }
 
 // A place for each value.
-fn push_values(out: &mut Vec<u8>, columns: &[Column]) -> Result<(), AllocError>
+fn push_values(out: &mut Vec<u8>, columns: &[Column]) -> Result<(), TableError>
     ensures { OnOk result (out.new.items ≡ out.old.items ++ flat_map value_text columns.now) }
 {
     for _column in columns {
@@ -171,7 +193,7 @@ fn push_values(out: &mut Vec<u8>, columns: &[Column]) -> Result<(), AllocError>
 }
 
 // A condition for each column.
-fn push_conditions(out: &mut Vec<u8>, columns: &[Column]) -> Result<(), AllocError>
+fn push_conditions(out: &mut Vec<u8>, columns: &[Column]) -> Result<(), TableError>
     ensures { OnOk result (out.new.items ≡ out.old.items ++ flat_map condition_text columns.now) }
 {
     for column in columns {
@@ -181,13 +203,13 @@ fn push_conditions(out: &mut Vec<u8>, columns: &[Column]) -> Result<(), AllocErr
 }
 
 // The condition of a column of this name.
-fn push_condition(out: &mut Vec<u8>, name: &[u8]) -> Result<(), AllocError>
+fn push_condition(out: &mut Vec<u8>, name: &[u8]) -> Result<(), TableError>
     ensures { OnOk result (out.new.items ≡ out.old.items
         ++ (codes " AND " ++ (quoted name.now ++ codes " IS ?"))) }
 {
     out.extend_from_slice(b" AND ")?;
     push_name(out, name)?;
-    out.extend_from_slice(b" IS ?")
+    Ok(out.extend_from_slice(b" IS ?")?)
 }
 
 // Bytes that are UTF-8, as a text.

@@ -46,7 +46,7 @@ fn push_values<'a>(values: &mut Vec<ValueRef<'a>>, cells: &'a [Cell]) -> Result<
 
 // A value.
 fn value_of<'a>(cell: &'a Cell) -> ValueRef<'a>
-    ensures { bound_value (owned result.entry) ≡ value_of (cell_of cell.now) }
+    ensures { bound_value (owned result) ≡ value_of (cell_of cell.now) }
 {
     match cell {
         Cell::Null => ValueRef::Null,

@@ -10,6 +10,7 @@ use redis_wire::Fault as WireFault;
 use row_table::Table;
 use std::alloc::Global;
 use std::io::{Read, Write};
+use stream_refs::FieldError;
 use stream_table::{Fault, Rows};
 use stream_worker::{Asked, Handler, Pipelined, Progress, RequestError, RunError, Worker};
 
@@ -106,7 +107,27 @@ fn not_committed(fault: &Option<Fault>) -> Error {
 // Why an entry was not done.
 fn stopped(fault: &Option<Fault>) -> Error {
     match fault {
+        Some(
+            Fault::Field {
+                first,
+                second,
+                name,
+                why,
+            },
+        ) => anyhow!(
+            "cannot make a row: the field {name} of {first}-{second} {}",
+            lack(*why)
+        ),
         Some(reason) => anyhow!("cannot make a row: {reason}"),
         None => anyhow!("an entry was not written"),
+    }
+}
+
+// What a field is or is not.
+fn lack(why: FieldError) -> &'static str {
+    match why {
+        FieldError::Missing => "is missing",
+        FieldError::NotText => "is not a text in UTF-8",
+        FieldError::NotNumber => "is not an integer of 64 bits",
     }
 }

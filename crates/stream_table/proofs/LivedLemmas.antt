@@ -30,7 +30,7 @@ use Rattle.stream_worker.specs.declared.worker.Progress.{Progress}
 use Rattle.stream_worker.specs.declared.worker.Progress.TheVariants.{GoesOn}
 use Rattle.row_table.specs.Rows.{Row}
 use Rattle.stream_table.specs.Lived.{LivesFrom, LivesOnSo, LivesSo, RoundsAreLived, with_doings}
-use Rattle.stream_table.specs.Kept.{Kept, committed_with, kept_of, kept_too}
+use Rattle.stream_table.specs.Kept.{Beginning, Kept, committed_with, kept_of, kept_too}
 use Rattle.stream_table.proofs.KeptLemmas.{each_commit, each_verdict, with_none}
 
 -- where a worker stands
@@ -145,7 +145,7 @@ module _ {R S : Type 0} (vR : R → List ℕ × Pairs → Verdict → R) (cR : R
 
 -- ---- of rows
 
-module _ (settings : Settings) (first : Option (List Row)) where
+module _ (settings : Settings) (first : Beginning) where
   abbrev drawn : Standing Doings → Standing Kept
   drawn v = standing v.machine v.group v.asked (kept_of first v.history)
 
@@ -208,7 +208,8 @@ lived settings = (
   λ first. record {
     doings = record { loose = []; committed = [] };
     lives = begins;
-    kept = ap (λ (c : Option (List Row)). record { loose = []; committed = c }) (sym (with_none first));
+    kept = ap (λ (c : Option (List Row)). record { columns = first.0; loose = []; committed = c })
+        (sym (with_none first.1));
   },
   λ w x s. elim s.2 [
     | inl t ↦ round_goes_on settings s.0 s.1 w x t.0 t.1 t.2
