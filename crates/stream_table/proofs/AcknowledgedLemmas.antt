@@ -29,7 +29,8 @@ use Rattle.stream_worker.specs.declared.worker.Progress.{Progress}
 use Rattle.redis_wire.specs.Reply as wire
 use Rattle.stream_table.specs.Acknowledged.{AcknowledgedIsARow, AreSettled, IsThere, Reaches, acknowledges, asked_before, begins, turns, fails, crashes}
 use Rattle.stream_table.specs.Kept.{Kept, committed_with, kept_of, kept_too, key_in, row_in, rows_in}
-use Rattle.stream_table.specs.Lived.{LivesSo, with_doings}
+use Rattle.stream_loop.specs.Shown.{with_doings}
+use Rattle.stream_table.specs.Lived.{LivesSo}
 use Rattle.stream_table.proofs.LivedLemmas.{commit_of, lived}
 
 -- ---- what is committed, in a round
@@ -149,13 +150,13 @@ module _ (settings : Settings) (columns : List Column) (gone : List Id) where
   lived_so : (first : List Row) (w : Standing Kept) (deleted acknowledged : List Id)
       → Reaches settings columns gone first w deleted acknowledged → IsLived first w deleted
   lived_so first w deleted acknowledged (begins rows apart) =
-      record { lives = (lived settings).0 (columns, Some rows); says = λ id none. absurd none }
+      record { lives = lived.begins settings (columns, Some rows); says = λ id none. absurd none }
   lived_so first w deleted acknowledged (turns rows v x before more acks old new q p r t l says) =
       record { lives = l; says = says }
   lived_so first w deleted acknowledged (fails rows v x before more acks old new e r f l says) =
       record { lives = l; says = says }
   lived_so first w deleted acknowledged (crashes rows v before acks all left r is starts apart) =
-      record { lives = (lived settings).0 (columns, Some left); says = λ id none. absurd none }
+      record { lives = lived.begins settings (columns, Some left); says = λ id none. absurd none }
 
   -- what was acknowledged before is there after more were put in
   later_there : (rows more : List Row) (acks : List Id) → ((id : Id) → Among id acks → IsThere rows id ⊎ Among id gone)
