@@ -1,2 +1,3 @@
 -- Lemmas.
 mod ValuesLemmas
+mod FormLemmas

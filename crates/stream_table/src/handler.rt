@@ -1,5 +1,5 @@
 //! Entries as rows of a table.
-ghost use Rattle.std.specs.Prelude.{◌≡◌, ◌++◌, ◌∷◌, [], ◌^◌, ◌<◌, ℕ, List, IfOk, OnErr, OnOk};
+ghost use Rattle.std.specs.Prelude.{◌≡◌, ◌++◌, ◌∷◌, [], ◌^◌, ◌<◌, ℕ, List, IfErr, IfOk, OnErr, OnOk};
 ghost use Rattle.row_table.specs.OfRow.{row_of, rows_of};
 ghost use Rattle.row_table.specs.Rows.{AreKnown, LeavesJust, LeavesOldOr, with_known};
 ghost use Rattle.stream_table.specs.Kept.{Kept, committed_with, kept_by, kept_too, row_in};

@@ -3,4 +3,4 @@ use Rattle.sqlite_rows.specs.Form.{value_text}
 use Rattle.sqlite_rows.proofs.form.push_values.Given as goal
 
 abbrev pub invariant-loop-column : goal.invariant-loop-column
-invariant-loop-column l = l.out.items ≡ l.fn.out.items ++ flat_map value_text (take l.column-index l.columns)
+invariant-loop-column l = l.out.items ≡ l.fn.out.items ++ flat_map value_text (take l._column-index l.columns)
