@@ -1,5 +1,5 @@
 //! The statements of a table, in which names are quoted.
-ghost use Rattle.std.specs.Prelude.{◌≡◌, ◌++◌, ◌∷◌, [], codes, flat_map, IfOk, OnOk, string_bytes};
+ghost use Rattle.std.specs.Prelude.{◌≡◌, ◌++◌, codes, flat_map, IfOk, OnOk, string_bytes};
 ghost use Rattle.sqlite_rows.specs.Form.{IsFormOf, IsUsual, column_text, condition_text, create_text, holds_text, insert_text};
 ghost use Rattle.sqlite_rows.specs.Form.{kind_text, null_text, quoted, quoted_byte, usual_create, usual_holds, usual_insert, value_text};
 

@@ -1,5 +1,5 @@
 //! The table, over a connection to a database.
-ghost use Rattle.std.specs.Prelude.{[], ◌∷◌, ◌++◌, option_map, ◌≡◌, ℕ, None, IfErr, IfOk, OnOk, codes, pos, string_bytes};
+ghost use Rattle.std.specs.Prelude.{[], option_map, ◌≡◌, ℕ, None, IfErr, IfOk, OnOk, codes, string_bytes};
 ghost use Rattle.sqlite.specs.Values.{bound};
 ghost use Rattle.row_table.specs.OfRow.{row_of};
 ghost use Rattle.sqlite_rows.specs.Statements.{Found, IsNamed, IsNamedAtOpening, LeavesBy, Ran, RanOne, Shows, row_values};

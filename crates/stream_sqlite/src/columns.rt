@@ -1,6 +1,4 @@
 //! The columns that the table is to have.
-ghost use Rattle.std.specs.Prelude.{◌≡◌};
-
 use anyhow::{Result, bail};
 use row_table::{Column, Kind};
 use std::alloc::Global;

@@ -1,5 +1,5 @@
 //! The fields of an entry as the values of a row.
-ghost use Rattle.std.specs.Prelude.{◌≡◌, ◌++◌, ◌∷◌, [], List, Ok, Err, IfErr, IfOk, OnOk, map, string_bytes};
+ghost use Rattle.std.specs.Prelude.{◌≡◌, ◌++◌, Ok, IfErr, IfOk, OnOk, map};
 ghost use Rattle.row_table.specs.OfRow.{cell_of, cells_of};
 ghost use Rattle.row_table.specs.declared.cell.Kind.TheVariants as Kind;
 ghost use Rattle.redis_resp.specs.Table.{last_with};
