@@ -1,19 +1,28 @@
 //! The words that the program is called with.
 ghost use Rattle.std.specs.Prelude.{◌≤◌, length, IfOk};
 
+use crate::columns::columns_of;
 use anyhow::{Result, bail};
+use row_table::Column;
 use std::alloc::Global;
 use stream_worker::{MakeGroup, Settings};
 
 // In less than 120 bytes, which are all that an error shows.
 const USAGE: &str =
-    "wanted: KEY GROUP CONSUMER FILE [--from 0|$] [--count|block|idle|every N] [--until-empty]";
+    "wanted: KEY GROUP CONSUMER FILE [--from 0|$] [--count|block|idle|every N] [--table|columns X] [--until-empty]";
+
+/// The table, if none is named.
+pub const TABLE: &str = "entries";
 
 /// What the program is to do.
 #[derive(Drop)]
 pub struct Options {
     pub settings: Settings,
     pub path: String,
+    /// The name of the table.
+    pub table: String,
+    /// Its columns; if there are none, all fields are one text.
+    pub columns: Vec<Column>,
     /// It ends where a read finds nothing new.
     pub until_empty: bool,
 }
@@ -31,6 +40,10 @@ enum Valued {
     Idle,
     /// It claims after so many reads.
     Every,
+    /// The name of the table.
+    Table,
+    /// Its columns.
+    Columns,
 }
 
 /// The options of these words.
@@ -43,9 +56,11 @@ pub fn options_of(alloc: Global, words: &[String]) -> Result<Options>
     let mut options = Options {
         settings: settings_of(key, group, consumer)?,
         path: String::from_str(alloc, path)?,
+        table: String::from_str(alloc, TABLE)?,
+        columns: Vec::new(alloc),
         until_empty: false,
     };
-    take_all(&mut options, rest)?;
+    take_all(alloc, &mut options, rest)?;
     Ok(options)
 }
 
@@ -55,10 +70,10 @@ fn settings_of(key: &String, group: &String, consumer: &String) -> Result<Settin
 }
 
 // Takes options and their values, in order.
-fn take_all(options: &mut Options, words: &[String]) -> Result<()> {
+fn take_all(alloc: Global, options: &mut Options, words: &[String]) -> Result<()> {
     let mut valued = None;
     for word in words {
-        valued = take(options, valued, word)?;
+        valued = take(alloc, options, valued, word)?;
     }
     if valued.is_some() {
         bail!("{USAGE}");
@@ -67,10 +82,15 @@ fn take_all(options: &mut Options, words: &[String]) -> Result<()> {
 }
 
 // Takes a word: the value of this option, or an option.
-fn take(options: &mut Options, valued: Option<Valued>, word: &str) -> Result<Option<Valued>> {
+fn take(
+    alloc: Global,
+    options: &mut Options,
+    valued: Option<Valued>,
+    word: &str,
+) -> Result<Option<Valued>> {
     match valued {
         Some(option) => {
-            set(&mut options.settings, option, word)?;
+            set(alloc, options, option, word)?;
             Ok(None)
         }
         None if word == "--until-empty" => {
@@ -88,18 +108,23 @@ fn valued_of(word: &str) -> Result<Valued> {
         "--block" => Valued::Block,
         "--idle" => Valued::Idle,
         "--every" => Valued::Every,
+        "--table" => Valued::Table,
+        "--columns" => Valued::Columns,
         _ => bail!("{word}: {USAGE}"),
     })
 }
 
 // Takes the value of an option.
-fn set(settings: &mut Settings, option: Valued, value: &str) -> Result<()> {
+fn set(alloc: Global, options: &mut Options, option: Valued, value: &str) -> Result<()> {
+    let settings = &mut options.settings;
     match option {
         Valued::From => settings.set_make_group(make_group(value)?),
         Valued::Count => settings.set_count(number(value)?)?,
         Valued::Block => settings.set_block(number(value)?),
         Valued::Idle => settings.set_min_idle(number(value)?),
         Valued::Every => settings.set_every(number(value)?),
+        Valued::Table => options.table = String::from_str(alloc, value)?,
+        Valued::Columns => options.columns = columns_of(alloc, value)?,
     }
     Ok(())
 }
