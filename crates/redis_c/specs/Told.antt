@@ -136,6 +136,12 @@ IsWanting len counts room (outcomes.Room l c) = (l ≡ len) × (c ≡ counts) ×
 IsWanting len counts room outcomes.Memory = Unit {0}
 IsWanting len counts room o = ⊥
 
+-- no more places are told than the tables have
+abbrev pub AreHeld : List StreamPlace → List EntryPlace → List FieldPlace → Outcome → Type 0
+AreHeld streams entries fields (outcomes.InPlace len counts) =
+    (counts.streams ≤ length streams) × (counts.entries ≤ length entries) × (counts.fields ≤ length fields)
+AreHeld streams entries fields o = Unit {0}
+
 module _ (In : List ℕ → ℕ → Held → Type 0) (bytes : List ℕ) (room : Counts) (streams : List StreamPlace)
     (entries : List EntryPlace) (fields : List FieldPlace) where
   -- What reading comes to: the tables begin with the places; or there are places, so many, and one of the tables has
@@ -151,6 +157,7 @@ module _ (In : List ℕ → ℕ → Held → Type 0) (bytes : List ℕ) (room : 
     pub number : n ≡ code outcome
     pub beside : f ≡ found outcome
     pub is : IsOutcome outcome
+    pub held : AreHeld streams entries fields outcome
 
 -- What has to be told of a reply in the form in which servers write it, of so many bytes and so many rows, if a table has
 -- room for so many of them: its length and how many rows it has, with 0 only if there is room for them, and else with

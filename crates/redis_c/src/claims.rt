@@ -6,7 +6,7 @@ ghost use Rattle.stream_refs.specs.Sent.{SentAutoClaim};
 ghost use Rattle.stream_refs.specs.Shapes.{BeginsWithAutoClaim, BeginsWithJustId};
 ghost use Rattle.redis_c.specs.Outcome.{code, found};
 ghost use Rattle.redis_c.specs.Records.{TellsFinding};
-ghost use Rattle.redis_c.specs.Told.{IsRoom, IsOutcome, IsTold, room_of, TellsRows};
+ghost use Rattle.redis_c.specs.Told.{IsRoom, IsOutcome, IsTold, room_of, AreHeld, TellsRows};
 ghost use Rattle.redis_c.specs.Claimed.{AutoClaimIn, JustIdIn, AutoClaimFits, JustIdFits};
 
 use crate::entries::{counts_of, room_of};
@@ -54,7 +54,7 @@ fn justid_room(alloc: Global, bytes: &[u8], room: Counts, claim: &mut AutoClaimP
     }
 }
 
-/// Where the entries of an automatic claim stand.
+/// Where the entries of an automatic claim stand, in tables that have this room.
 fn autoclaim_outcome(
     alloc: Global,
     bytes: &[u8],
@@ -64,6 +64,7 @@ fn autoclaim_outcome(
     claim: &mut AutoClaimPlace,
 ) -> Outcome
     ensures is { IsOutcome (AutoClaimIn claim.new) bytes.now room [] entries.new fields.new result }
+    ensures held { AreHeld [] entries.new fields.new result }
     ensures in_place { AutoClaimFits bytes.now (length entries.old) (length fields.old) → code result ≡ 0 }
     ensures rows { (r : SentAutoClaim) (len : ℕ) → BeginsWithAutoClaim default_limits bytes.now r len
         → TellsRows (length entries.old) (length r.claimed + length r.deleted) len (code result) (found result).len
@@ -92,6 +93,7 @@ fn justid_outcome(
     claim: &mut AutoClaimPlace,
 ) -> Outcome
     ensures is { IsOutcome (JustIdIn claim.new) bytes.now room [] entries.new [] result }
+    ensures held { AreHeld [] entries.new [] result }
     ensures in_place { JustIdFits bytes.now (length entries.old) → code result ≡ 0 }
     ensures rows { (r : JustId) (len : ℕ) → BeginsWithJustId default_limits bytes.now r len
         → TellsRows (length entries.old) (length r.claimed + length r.deleted) len (code result) (found result).len

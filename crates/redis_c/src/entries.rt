@@ -6,7 +6,7 @@ ghost use Rattle.stream_refs.specs.Shapes.{BeginsWithRange, BeginsWithStreams};
 ghost use Rattle.redis_c.specs.Outcome.{code, found};
 ghost use Rattle.redis_c.specs.Records.{TellsFinding};
 ghost use Rattle.redis_c.specs.Told.{RangeIn, StreamsIn, RangeFits, ReadFits, HasCounts, IsRoom, IsOutcome, IsTold};
-ghost use Rattle.redis_c.specs.Told.{room_of, TellsRows};
+ghost use Rattle.redis_c.specs.Told.{room_of, AreHeld, TellsRows};
 
 use crate::other::other;
 use crate::outcome::{Counts, Found, Outcome, wanted};
@@ -66,7 +66,7 @@ fn streams_room(alloc: Global, bytes: &[u8], room: Counts) -> Outcome
     }
 }
 
-/// Where the entries of a range stand.
+/// Where the entries of a range stand, in tables that have this room.
 fn range_outcome(
     alloc: Global,
     bytes: &[u8],
@@ -75,6 +75,7 @@ fn range_outcome(
     fields: &mut [FieldPlace],
 ) -> Outcome
     ensures is { IsOutcome RangeIn bytes.now room [] entries.new fields.new result }
+    ensures held { AreHeld [] entries.new fields.new result }
     ensures in_place { RangeFits bytes.now (length entries.old) (length fields.old) → code result ≡ 0 }
     ensures rows { (es : List SentEntry) (len : ℕ) → BeginsWithRange default_limits bytes.now es len
         → TellsRows (length entries.old) (length es) len (code result) (found result).len (found result).entries }
@@ -90,7 +91,7 @@ fn range_outcome(
     }
 }
 
-/// Where the streams of a read stand.
+/// Where the streams of a read stand, in tables that have room for so many places.
 fn streams_outcome(
     alloc: Global,
     bytes: &[u8],
@@ -103,6 +104,7 @@ fn streams_outcome(
 ) -> Outcome
     ensures is { IsOutcome StreamsIn bytes.now (room_of stream_room entry_room field_room)
         streams.new entries.new fields.new result }
+    ensures held { AreHeld streams.new entries.new fields.new result }
     ensures in_place { ReadFits bytes.now (length streams.old) (length entries.old) (length fields.old)
         → code result ≡ 0 }
     ensures rows { (ss : List SentStream) (len : ℕ) → BeginsWithStreams default_limits false bytes.now ss len
