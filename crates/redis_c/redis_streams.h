@@ -1,19 +1,19 @@
-/* Redis streams for C: replies read where they stand in the bytes of a connection, and commands written
+/* Redis streams for C: replies read in place, in the bytes of a connection, and commands written
    into a buffer of the caller.
 
-   The library is proved: what a comment here says of a call is a contract of the function behind it.
+   The library is proved: what a comment here says of a call is a contract of the function that it calls.
    Three things are the caller's, and nothing checks them:
 
    - A pointer that is followed by a number points to that many bytes or items, which nothing else
      writes during the call. Two things that a call writes to do not overlap each other or what it
-     reads. No pointer is null, also where the number is 0.
+     reads. No pointer is null, also if the number is 0.
    - Tables, and records that a call writes, are zeroed before the first call (`= {0}` or calloc): a `bool`
      holds 0 or 1 at all times.
    - `malloc`, `realloc` and `free` are those of the C library.
 
    No call ends the process, unwinds or keeps anything: there is no state, so any thread may call at any
    time. Texts are not ended by a zero. A place is a number of bytes from the start of the bytes that were
-   handed in, so it stays true where these are moved. */
+   handed in, so it stays true if these are moved. */
 #ifndef REDIS_STREAMS_H
 #define REDIS_STREAMS_H
 
@@ -30,7 +30,7 @@ enum {
     REDIS_OK = 0,           /* it is done */
     REDIS_ROOM = 1,         /* there is too little room, and so much is wanted */
     REDIS_INCOMPLETE = 2,   /* the bytes end before the reply does: call again with more of them */
-    REDIS_SERVER_ERROR = 3, /* the server answered an error */
+    REDIS_SERVER_ERROR = 3, /* the server sent an error */
     REDIS_OTHER = 4,        /* a reply of another shape than the call reads */
     REDIS_MEMORY = 5,       /* out of memory; it says nothing of the bytes */
     REDIS_TOO_LARGE = 6,    /* an argument of 2^32 bytes or more */
@@ -55,34 +55,34 @@ enum {
     REDIS_FAULT_NOT_UTF8 = 26,     /* a text that has to be UTF-8 and is not */
     REDIS_FAULT_BAD_VERBATIM = 27, /* not a verbatim string */
     REDIS_FAULT_BAD_PUSH = 28,     /* not a push */
-    REDIS_FAULT_OVERFULL = 29,     /* no call here answers it */
+    REDIS_FAULT_OVERFULL = 29,     /* no call here returns it */
     REDIS_FAULT_TOO_MANY = 30      /* more than 16,777,216 values, in a reply of another shape */
 };
 
-/* Where a text stands in bytes. */
+/* The place of a text in bytes. */
 typedef struct {
-    size_t start; /* so many bytes stand before it */
+    size_t start; /* so many bytes are before it */
     size_t len;   /* how many bytes it has */
 } redis_span;
 
-/* Where a field stands. The name and the value are any bytes. A name may stand in an entry twice. */
+/* The place of a field. The name and the value are any bytes. An entry may have a name twice. */
 typedef struct {
     redis_span name;
     redis_span value;
 } redis_field;
 
-/* Where an entry stands. Its fields are those from `from` on, up to but without `to`. */
+/* The place of an entry. Its fields are those from `from` on, up to but without `to`. */
 typedef struct {
     redis_span id; /* UTF-8, such as 1526919030474-55 */
     size_t from;
     size_t to;
-    bool deleted;     /* nil stands in place of the fields: the entry was deleted */
+    bool deleted;     /* nil is in place of the fields: the entry was deleted */
     bool delivered;   /* the reply says when and how often the entry was delivered */
-    uint64_t elapsed; /* so many milliseconds ago, and 0 where the reply does not say */
-    uint64_t count;   /* so often, and 0 where the reply does not say */
+    uint64_t elapsed; /* so many milliseconds ago, and 0 if the reply does not say */
+    uint64_t count;   /* so often, and 0 if the reply does not say */
 } redis_entry;
 
-/* Where a stream stands. Its entries are those from `from` on, up to but without `to`. */
+/* The place of a stream. Its entries are those from `from` on, up to but without `to`. */
 typedef struct {
     redis_span name; /* UTF-8 */
     size_t from;
@@ -91,53 +91,61 @@ typedef struct {
 
 /* What a reading found. */
 typedef struct {
-    size_t len;       /* how many bytes the reply has: the next one stands behind them; 0 where there is none */
+    size_t len;       /* how many bytes the reply has: the next one is after them; 0 if there is none */
     size_t streams;   /* how many streams, entries of all of them, and fields of all of these: with */
     size_t entries;   /*     REDIS_OK the tables begin with so many, with REDIS_ROOM so many are wanted, */
     size_t fields;    /*     and else these are 0 */
-    redis_span error; /* where the text of the server's error stands, with REDIS_SERVER_ERROR */
+    redis_span error; /* the place of the text of the server's error, with REDIS_SERVER_ERROR */
 } redis_found;
 
 /* Finds the streams and entries of the reply of XREAD or XREADGROUP at the head of `bytes`, in RESP2 and
-   RESP3, where it has the shape in which servers send it.
+   RESP3, if it has the shape in which servers send it.
 
    REDIS_OK: the first `found->len` bytes are the reply, and these are its streams, entries and fields, in
    the order of the reply and none left out; nil, which says that nothing came in time, has no streams.
-   REDIS_ROOM: such a reply too, of so many streams, entries and fields, for which the tables are too small.
+   REDIS_ROOM: such a reply too, of `found->streams`, `found->entries` and `found->fields`. One of the tables at
+   least has room for fewer.
    REDIS_INCOMPLETE: no beginning of `bytes` is a reply.
-   REDIS_SERVER_ERROR: the first `found->len` bytes are an error, whose text stands at `found->error`.
+   REDIS_SERVER_ERROR: the first `found->len` bytes are an error, whose text is at `found->error`.
    REDIS_OTHER: the first `found->len` bytes are another reply.
-   REDIS_FAULT and above: no beginning of `bytes` is a reply, whatever comes behind.
+   REDIS_FAULT and above: no beginning of `bytes` is a reply, whatever comes after them.
 
-   Where the bytes begin with such a reply as servers write it, and the tables have room for it, the answer is
-   REDIS_OK. But for REDIS_MEMORY, which may be returned at any other time, the answer is REDIS_INCOMPLETE for each
-   proper beginning of a reply, and REDIS_SERVER_ERROR for each error of the server. For bytes with a fault it is the
-   first one, but REDIS_FAULT_TOO_MANY counts only the values of a reply of another shape. Behind another number the tables say nothing, although places may have been written into them.
-   REDIS_OK takes no memory; the other answers take it for the time of the call, to count the places or to tell what
-   stands there. */
+   The other direction holds too. REDIS_MEMORY may be returned whenever REDIS_OK is not promised.
+   - If the bytes begin with such a reply as servers write it, and all tables have room for it, the call returns
+     REDIS_OK. If the table of streams has room for fewer streams than it has, the call returns REDIS_ROOM. In
+     between it returns one of these two. `found->len` and `found->streams` are those of the reply.
+   - For each proper beginning of a reply it returns REDIS_INCOMPLETE, and for each error of the server
+     REDIS_SERVER_ERROR.
+   - For bytes with a fault it returns the first one. REDIS_FAULT_TOO_MANY counts only the values of a reply of
+     another shape.
+
+   With another number than REDIS_OK the tables say nothing, although places may have been written into them.
+   REDIS_OK takes no memory. With the other numbers the call takes memory to count the places or to read the reply, and
+   gives it back before it ends. */
 uint32_t redis_find_streams(const uint8_t *bytes, size_t len, redis_stream *streams, size_t stream_room,
                             redis_entry *entries, size_t entry_room, redis_field *fields, size_t field_room,
                             redis_found *found);
 
-/* Finds the entries of the reply of XRANGE, XREVRANGE or XCLAIM at the head of `bytes`. It answers as
-   `redis_find_streams` does, and `found->streams` is 0. */
+/* Finds the entries of the reply of XRANGE, XREVRANGE or XCLAIM at the head of `bytes`. It returns what
+   `redis_find_streams` does: what is said there of the table of streams is said here of the table of entries.
+   `found->streams` is 0. */
 uint32_t redis_find_range(const uint8_t *bytes, size_t len, redis_entry *entries, size_t entry_room,
                           redis_field *fields, size_t field_room, redis_found *found);
 
-/* Where the reply of XAUTOCLAIM stands. */
+/* What a reply of XAUTOCLAIM says beside its entries. */
 typedef struct {
-    redis_span next; /* the id from which the next XAUTOCLAIM goes on: 0-0 where all pending entries were seen */
+    redis_span next; /* the id from which the next XAUTOCLAIM goes on: 0-0 if all pending entries were seen */
     size_t claimed;  /* so many entries were claimed */
     size_t len;      /* how many bytes the reply has */
 } redis_claim;
 
-/* Finds the entries of the reply of XAUTOCLAIM at the head of `bytes`. It answers as `redis_find_streams` does, and
-   `found->streams` is 0.
+/* Finds the entries of the reply of XAUTOCLAIM at the head of `bytes`. It returns what `redis_find_range` does, and
+   counts the ids of deleted entries as entries.
 
    REDIS_OK: the first `claim->claimed` of the `found->entries` entries are those that were claimed. The others are
    the ids that were pending and are no longer in the stream, which the server has taken off the list of what is
    pending: of them only `id` says something.
-   REDIS_OK and REDIS_ROOM write `claim`; behind another number it says nothing. */
+   REDIS_OK and REDIS_ROOM write `claim`; with another number it says nothing. */
 uint32_t redis_find_autoclaim(const uint8_t *bytes, size_t len, redis_entry *entries, size_t entry_room,
                               redis_field *fields, size_t field_room, redis_claim *claim, redis_found *found);
 
@@ -175,7 +183,7 @@ uint32_t redis_xreadgroup(const redis_read_settings *settings, const uint8_t *gr
 uint32_t redis_xack(const uint8_t *key, size_t key_len, const uint8_t *group, size_t group_len, const uint8_t *id,
                     size_t id_len, uint8_t *out, size_t room, size_t *len);
 
-/* The next three take texts from where they stand in `bytes`, such as the entries or fields that
+/* The next three take texts from their places in `bytes`, such as the entries or fields that
    `redis_find_streams` found there: REDIS_OUTSIDE says that one of the places is not within `bytes`, and
    REDIS_NOTHING that there is none. */
 
@@ -205,7 +213,7 @@ uint32_t redis_xpending(const uint8_t *key, size_t key_len, const uint8_t *group
                         const uint8_t *start, size_t start_len, const uint8_t *end, size_t end_len, size_t count,
                         uint8_t *out, size_t room, size_t *len);
 
-/* XTRIM key MAXLEN = n, and with ~ in place of = where `approximate` is true: about so many, or some more */
+/* XTRIM key MAXLEN = n, and with ~ in place of = if `approximate` is true: some entries more may stay */
 uint32_t redis_xtrim(const uint8_t *key, size_t key_len, bool approximate, size_t maxlen, uint8_t *out, size_t room,
                      size_t *len);
 
@@ -268,24 +276,27 @@ uint32_t redis_xpending_summary(const uint8_t *key, size_t key_len, const uint8_
 
 /* ---- Commands with their options
 
-   Settings are plain numbers, flags and places: a text of them stands in the `bytes` that are handed in with
-   them, is UTF-8, and is looked at only where a number or a flag asks for it. With REDIS_SETTINGS there is no
+   Settings are plain numbers, flags and places: a text of them is in the `bytes` that are handed in with
+   them, is UTF-8, and is looked at only if a number or a flag asks for it. With REDIS_SETTINGS there is no
    command, and `*len` is 0. All zero, settings ask for nothing. */
 
 /* What bounds a stream that is trimmed. */
 enum { REDIS_UNTRIMMED = 0, REDIS_MAXLEN = 1, REDIS_MINID = 2 };
 
-/* What becomes of the references of groups to entries that are deleted. */
+/* What happens to a deleted entry that is in the list of pending entries of a group: it stays there (REDIS_KEEPREF) or
+   is taken off it (REDIS_DELREF); or only entries are deleted that all groups have acknowledged (REDIS_ACKED). With
+   REDIS_UNSAID the command does not say. */
 enum { REDIS_UNSAID = 0, REDIS_KEEPREF = 1, REDIS_DELREF = 2, REDIS_ACKED = 3 };
 
-/* How a duplicate entry is recognized. */
+/* How the server finds out that an entry was added before: not at all (REDIS_DUPLICATES), by the id that the producer
+   gives it (REDIS_IDMP), or by an id that the server makes of its fields (REDIS_IDMPAUTO). */
 enum { REDIS_DUPLICATES = 0, REDIS_IDMP = 1, REDIS_IDMPAUTO = 2 };
 
 /* MAXLEN|MINID =|~ bound [LIMIT n] and [KEEPREF|DELREF|ACKED] */
 typedef struct {
     uint32_t bound;   /* REDIS_UNTRIMMED, REDIS_MAXLEN or REDIS_MINID */
     uint32_t policy;  /* REDIS_UNSAID, REDIS_KEEPREF, REDIS_DELREF or REDIS_ACKED */
-    bool approximate; /* ~ in place of =: about to the bound */
+    bool approximate; /* ~ in place of =: some entries more may stay */
     bool has_limit;   /* LIMIT: one call removes at most `limit` entries */
     size_t maxlen;    /* of REDIS_MAXLEN: so many entries stay */
     redis_span minid; /* of REDIS_MINID: entries from this id on stay */
@@ -331,18 +342,18 @@ typedef struct {
 
 /* XADD key [NOMKSTREAM] [KEEPREF|DELREF|ACKED] [IDMP producer idempotent-id | IDMPAUTO producer]
         [MAXLEN|MINID =|~ bound [LIMIT n]] id name value ..
-   The fields, and the texts of the settings, stand in `bytes`. */
+   The fields, and the texts of the settings, are in `bytes`. */
 uint32_t redis_xadd_options(const uint8_t *key, size_t key_len, const uint8_t *id, size_t id_len,
                             const redis_add_settings *settings, const uint8_t *bytes, size_t bytes_len,
                             const redis_field *fields, size_t field_count, uint8_t *out, size_t room, size_t *len);
 
 /* XTRIM key MAXLEN|MINID =|~ bound [LIMIT n] [KEEPREF|DELREF|ACKED]
-   REDIS_UNTRIMMED is no bound here, so that it is answered by REDIS_SETTINGS. */
+   REDIS_UNTRIMMED is no bound here: for it the call returns REDIS_SETTINGS. */
 uint32_t redis_xtrim_options(const uint8_t *key, size_t key_len, const redis_trim_settings *settings,
                              const uint8_t *bytes, size_t bytes_len, uint8_t *out, size_t room, size_t *len);
 
 /* XCLAIM key group consumer min-idle id .. [IDLE n] [TIME n] [RETRYCOUNT n] [FORCE] [JUSTID] [LASTID id]
-   The ids of these entries, and the text of the settings, stand in `bytes`. */
+   The ids of these entries, and the text of the settings, are in `bytes`. */
 uint32_t redis_xclaim_options(const uint8_t *key, size_t key_len, const uint8_t *group, size_t group_len,
                               const uint8_t *consumer, size_t consumer_len, size_t min_idle,
                               const redis_claim_settings *settings, const uint8_t *bytes, size_t bytes_len,
@@ -356,13 +367,13 @@ uint32_t redis_xautoclaim_options(const uint8_t *key, size_t key_len, const uint
                                   const redis_autoclaim_settings *settings, uint8_t *out, size_t room, size_t *len);
 
 /* XREAD [BLOCK n] [COUNT n] STREAMS key .. id ..
-   Of each stream the key stands as a name, and its id as a value. `noack` and `has_claim` are for a group alone. */
+   Of each stream the key is handed in as a name, and its id as a value. `noack` and `has_claim` are for groups. */
 uint32_t redis_xread_streams(const redis_read_settings *settings, const uint8_t *bytes, size_t bytes_len,
                              const redis_field *streams, size_t stream_count, uint8_t *out, size_t room,
                              size_t *len);
 
 /* XREADGROUP GROUP group consumer [BLOCK n] [COUNT n] [NOACK] [CLAIM n] STREAMS key .. id ..
-   Of each stream the key stands as a name, and its id as a value. */
+   Of each stream the key is handed in as a name, and its id as a value. */
 uint32_t redis_xreadgroup_streams(const redis_read_settings *settings, const uint8_t *group, size_t group_len,
                                   const uint8_t *consumer, size_t consumer_len, const uint8_t *bytes,
                                   size_t bytes_len, const redis_field *streams, size_t stream_count, uint8_t *out,
@@ -455,21 +466,27 @@ uint32_t redis_xpending_summary_reply(const uint8_t *bytes, size_t len, redis_pe
 /* A value. */
 typedef struct {
     uint8_t kind;     /* the first byte of its type, such as '$', ':' or '*'; '_' is a null of any form, and '-' or
-                         '!' an error of the server, which may stand among the members of another value */
+                         '!' an error of the server, which may be among the members of another value */
     redis_span text;  /* what its line or its bulk bytes say; a group and a null have no bytes */
     uint64_t members; /* how many values its members are: a pair of a map ('%') is two, and attributes ('|') have
                          one more, the value that they are of; the first member of a push ('>') is its kind */
-    size_t end;       /* the index of the node behind its last member: where a reader goes on that skips it */
+    size_t end;       /* the index of the node after its last member: a reader that skips it goes on there */
 } redis_node;
 
 /* Finds the values of the reply at the head of `bytes`.
 
    REDIS_OK: the first `*reply_len` bytes are the reply, and the table begins with its `*count` values, all of them, in
    the order of their first bytes.
-   REDIS_ROOM: the first `*reply_len` bytes are a reply, for whose values the table is too small; `*count` nodes
-   are room enough, since no value has fewer than three bytes.
-   REDIS_INCOMPLETE, REDIS_MEMORY, REDIS_FAULT and above: as `redis_find_streams` says, and both are 0. Memory is
-   taken for the groups that are open while the end of the reply is looked for, and given back. */
+   REDIS_ROOM: the first `*reply_len` bytes are a reply. The table has room for fewer than `*count` nodes; so many are
+   enough, since no value has fewer than three bytes.
+   REDIS_INCOMPLETE: no beginning of `bytes` is a reply.
+   REDIS_FAULT and above: no beginning of `bytes` is a reply, whatever comes after them. It is the first fault.
+   With REDIS_MEMORY and the last two, `*reply_len` and `*count` are 0.
+
+   The other direction holds too, but for REDIS_MEMORY, which may be returned at any time. If the bytes begin with a
+   reply, the call returns REDIS_OK or REDIS_ROOM, and `*reply_len` is its length. It returns REDIS_INCOMPLETE for each
+   proper beginning of a reply, and for bytes with a fault the first one. An error of the server is a reply of one
+   value. Memory is taken for the groups that are open while the end of the reply is looked for, and given back. */
 uint32_t redis_find_nodes(const uint8_t *bytes, size_t len, redis_node *nodes, size_t node_room, size_t *reply_len,
                           size_t *count);
 
@@ -477,7 +494,7 @@ uint32_t redis_find_nodes(const uint8_t *bytes, size_t len, redis_node *nodes, s
 
    Each of the calls below reads the options that arguments begin with. The arguments are texts at places of
    `bytes`, such as those of a command that was received. Of all option lists in front of the arguments it is the
-   only one behind which no further word of these options stands.
+   only one after which there is no further word of these options.
 
    REDIS_OK: the first `*count` arguments are the options, `settings` is what they ask for, and the calls above
    write them again from it. Places in it are those of the arguments. What an option does not ask for is 0.
@@ -488,30 +505,30 @@ uint32_t redis_find_nodes(const uint8_t *bytes, size_t len, redis_node *nodes, s
    But for REDIS_OK, `*count` is 0, and `settings` says nothing. Words are read in capitals, and numbers with no
    sign and no leading zero, as clients of this library write them. */
 
-/* Where the names of a group and its consumer stand. */
+/* The places of the names of a group and its consumer. */
 typedef struct {
     bool has_group; /* there are names: it is an XREADGROUP */
     redis_span group;
     redis_span consumer;
 } redis_group_place;
 
-/* The options of XADD, from the arguments behind the key on: the id stands behind them. */
+/* The options of XADD, from the arguments after the key on: the id is after them. */
 uint32_t redis_read_add(const uint8_t *bytes, size_t len, const redis_span *arguments, size_t argument_count,
                         redis_add_settings *settings, size_t *count);
 
-/* The options of XTRIM, from the arguments behind the key on. */
+/* The options of XTRIM, from the arguments after the key on. */
 uint32_t redis_read_trim(const uint8_t *bytes, size_t len, const redis_span *arguments, size_t argument_count,
                          redis_trim_settings *settings, size_t *count);
 
-/* The options of XCLAIM, from the arguments behind the ids on. */
+/* The options of XCLAIM, from the arguments after the ids on. */
 uint32_t redis_read_claim(const uint8_t *bytes, size_t len, const redis_span *arguments, size_t argument_count,
                           redis_claim_settings *settings, size_t *count);
 
-/* The options of XAUTOCLAIM, from the arguments behind the start on. */
+/* The options of XAUTOCLAIM, from the arguments after the start on. */
 uint32_t redis_read_autoclaim(const uint8_t *bytes, size_t len, const redis_span *arguments, size_t argument_count,
                               redis_autoclaim_settings *settings, size_t *count);
 
-/* The options of XREAD and XREADGROUP, from the arguments behind the name of the command on: STREAMS stands behind
+/* The options of XREAD and XREADGROUP, from the arguments after the name of the command on: STREAMS is after
    them. */
 uint32_t redis_read_read(const uint8_t *bytes, size_t len, const redis_span *arguments, size_t argument_count,
                          redis_read_settings *settings, redis_group_place *group, size_t *count);

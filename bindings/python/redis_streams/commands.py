@@ -15,7 +15,7 @@ Text = Union[bytes, str]
 Texts = Union[Mapping[str, Text], Mapping[bytes, Text], Mapping[Text, Text]]
 Fields = Union[Texts, Iterable["tuple[Text, Text]"]]
 Ids = Union[Text, Iterable[Text]]
-_REFERENCES = {None: 0, "KEEPREF": 1, "DELREF": 2, "ACKED": 3}
+_POLICIES = {None: 0, "KEEPREF": 1, "DELREF": 2, "ACKED": 3}
 
 
 class Command(bytes):
@@ -41,11 +41,11 @@ def pack(*words: Text | int) -> Command:
 
 
 def xadd(key: Text, fields: Fields, id: Text = b"*", *, nomkstream: bool = False, maxlen: int | None = None,
-         minid: Text | None = None, approximate: bool = False, limit: int | None = None, references: str | None = None,
+         minid: Text | None = None, approximate: bool = False, limit: int | None = None, policy: str | None = None,
          idmp: tuple[Text, Text] | None = None, idmpauto: Text | None = None) -> Command:
     """XADD: `idmp` is the producer and the id that it gives the entry, `idmpauto` the producer."""
     texts = _Texts()
-    settings = c.AddSettings(nomkstream=nomkstream, trim=_trimming(texts, maxlen, minid, approximate, limit, references))
+    settings = c.AddSettings(nomkstream=nomkstream, trim=_trimming(texts, maxlen, minid, approximate, limit, policy))
     if idmp is not None and idmpauto is not None:
         raise BadSettings("idmp and idmpauto exclude one another")
     if idmp is not None:
@@ -57,10 +57,10 @@ def xadd(key: Text, fields: Fields, id: Text = b"*", *, nomkstream: bool = False
 
 
 def xtrim(key: Text, *, maxlen: int | None = None, minid: Text | None = None, approximate: bool = False,
-          limit: int | None = None, references: str | None = None) -> Command:
+          limit: int | None = None, policy: str | None = None) -> Command:
     """XTRIM by `maxlen` or by `minid`."""
     texts = _Texts()
-    settings = _trimming(texts, maxlen, minid, approximate, limit, references)
+    settings = _trimming(texts, maxlen, minid, approximate, limit, policy)
     return _packed("redis_xtrim_options", *_text(key), ctypes.byref(settings), *texts.joined())
 
 
@@ -236,12 +236,12 @@ def _reading(count: int | None, block: int | None, noack: bool = False, claim: i
 
 
 def _trimming(texts: _Texts, maxlen: int | None, minid: Text | None, approximate: bool, limit: int | None,
-              references: str | None) -> c.TrimSettings:
-    if references not in _REFERENCES:
-        raise BadSettings(f"references is KEEPREF, DELREF or ACKED, and not {references}")
+              policy: str | None) -> c.TrimSettings:
+    if policy not in _POLICIES:
+        raise BadSettings(f"policy is KEEPREF, DELREF or ACKED, and not {policy}")
     if maxlen is not None and minid is not None:
         raise BadSettings("maxlen and minid exclude one another")
-    settings = c.TrimSettings(approximate=approximate, policy=_REFERENCES[references])
+    settings = c.TrimSettings(approximate=approximate, policy=_POLICIES[policy])
     settings.has_limit, settings.limit = _given(limit)
     if maxlen is not None:
         settings.bound, settings.maxlen = 1, _number(maxlen)

@@ -21,7 +21,7 @@ class CommandsTest(unittest.TestCase):
     def test_xadd(self) -> None:
         self.written(commands.xadd("orders", FIELDS), "XADD orders * item tea cups 2")
         self.written(commands.xadd("orders", [("a", "1"), ("a", "2")], "5-*"), "XADD orders 5-* a 1 a 2")
-        self.written(commands.xadd("k", FIELDS, nomkstream=True, references="ACKED", idmp=("shop", "o-17"), maxlen=1000,
+        self.written(commands.xadd("k", FIELDS, nomkstream=True, policy="ACKED", idmp=("shop", "o-17"), maxlen=1000,
                                    approximate=True, limit=50),
                      "XADD k NOMKSTREAM ACKED IDMP shop o-17 MAXLEN ~ 1000 LIMIT 50 * item tea cups 2")
         self.written(commands.xadd("k", FIELDS, idmpauto="shop", minid="5-0"),
@@ -29,7 +29,7 @@ class CommandsTest(unittest.TestCase):
 
     def test_xtrim(self) -> None:
         self.written(commands.xtrim("k", maxlen=0), "XTRIM k MAXLEN = 0")
-        self.written(commands.xtrim("k", minid="5-0", approximate=True, references="DELREF"), "XTRIM k MINID ~ 5-0 DELREF")
+        self.written(commands.xtrim("k", minid="5-0", approximate=True, policy="DELREF"), "XTRIM k MINID ~ 5-0 DELREF")
 
     def test_reads(self) -> None:
         self.written(commands.xread({"a": "0-0", "b": "$"}, count=2, block=0), "XREAD BLOCK 0 COUNT 2 STREAMS a b 0-0 $")
@@ -79,7 +79,7 @@ class CommandsTest(unittest.TestCase):
             self.assertRaises(NothingGiven, call)
         for call in (lambda: commands.xtrim("k"), lambda: commands.xtrim("k", maxlen=-1), lambda: commands.xtrim("k", minid=b"\xff"),
                      lambda: commands.xtrim("k", maxlen=1, minid="1"), lambda: commands.xadd("k", FIELDS, limit=1),
-                     lambda: commands.xadd("k", FIELDS, references="OTHER"), lambda: commands.xread({"k": "0"}, count=1 << 64),
+                     lambda: commands.xadd("k", FIELDS, policy="OTHER"), lambda: commands.xread({"k": "0"}, count=1 << 64),
                      lambda: commands.xadd("k", FIELDS, idmp=("p", "i"), idmpauto="p")):
             self.assertRaises(BadSettings, call)
         self.assertRaises(TypeError, lambda: commands.xack("k", "g", 5))  # type: ignore[arg-type]

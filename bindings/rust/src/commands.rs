@@ -5,7 +5,7 @@
 //! ```
 //! use redis_streams::commands::{Ack, Add, Bound, ReadGroup};
 //!
-//! let add = Add::new("orders").trim(Bound::MaxLen(1000).about()).field("item", "tea").pack()?;
+//! let add = Add::new("orders").trim(Bound::MaxLen(1000).approximate()).field("item", "tea").pack()?;
 //! let read = ReadGroup::new("workers", "ann").count(100).block(5000).stream("orders", ">").pack()?;
 //! let ack = Ack::new("orders", "workers").id("1-0").id("2-0").pack()?;
 //! assert_eq!(ack, b"*5\r\n$4\r\nXACK\r\n$6\r\norders\r\n$7\r\nworkers\r\n$3\r\n1-0\r\n$3\r\n2-0\r\n");
@@ -86,12 +86,12 @@ pub enum Bound {
 impl Bound {
     /// `=`: exactly to the bound.
     pub fn exactly(self) -> Trimming {
-        Trimming { bound: self, about: false, limit: None }
+        Trimming { bound: self, approximate: false, limit: None }
     }
 
-    /// `~`: about to the bound.
-    pub fn about(self) -> Trimming {
-        Trimming { bound: self, about: true, limit: None }
+    /// `~`: some entries more may stay.
+    pub fn approximate(self) -> Trimming {
+        Trimming { bound: self, approximate: true, limit: None }
     }
 }
 
@@ -99,7 +99,7 @@ impl Bound {
 #[derive(Clone, Debug, PartialEq, Eq)]
 pub struct Trimming {
     bound: Bound,
-    about: bool,
+    approximate: bool,
     limit: Option<usize>,
 }
 
@@ -111,7 +111,7 @@ impl Trimming {
     }
 
     fn set(&self, texts: &mut Texts, settings: &mut raw::TrimSettings) {
-        settings.approximate = self.about;
+        settings.approximate = self.approximate;
         settings.has_limit = self.limit.is_some();
         settings.limit = self.limit.unwrap_or(0);
         match &self.bound {
@@ -121,9 +121,9 @@ impl Trimming {
     }
 }
 
-/// What becomes of the references of groups to entries that are deleted.
+/// What happens to a deleted entry that is in the list of pending entries of a group.
 #[derive(Clone, Copy, Debug, PartialEq, Eq)]
-pub enum References {
+pub enum Policy {
     KeepRef = 1,
     DelRef = 2,
     Acked = 3,
@@ -168,8 +168,8 @@ impl Add {
         self
     }
 
-    pub fn references(mut self, references: References) -> Add {
-        self.settings.trim.policy = references as u32;
+    pub fn policy(mut self, policy: Policy) -> Add {
+        self.settings.trim.policy = policy as u32;
         self
     }
 
@@ -212,8 +212,8 @@ impl Trim {
         trim
     }
 
-    pub fn references(mut self, references: References) -> Trim {
-        self.settings.policy = references as u32;
+    pub fn policy(mut self, policy: Policy) -> Trim {
+        self.settings.policy = policy as u32;
         self
     }
 

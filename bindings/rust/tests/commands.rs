@@ -1,6 +1,6 @@
 //! Commands, as their words.
 use redis_streams::commands::{self, pack, Ack, Add, Autoclaim, Bound, Claim, Pending, Range, Read, ReadGroup};
-use redis_streams::commands::{References, Trim};
+use redis_streams::commands::{Policy, Trim};
 use redis_streams::Error;
 
 fn same(command: Result<Vec<u8>, Error>, words: &str) {
@@ -10,15 +10,15 @@ fn same(command: Result<Vec<u8>, Error>, words: &str) {
 #[test]
 fn adding_and_trimming() {
     same(Add::new("k").field("item", "tea").field("cups", "2").pack(), "XADD k * item tea cups 2");
-    let add = Add::new("k").id("5-*").nomkstream().references(References::Acked).idmp("shop", "o-17");
+    let add = Add::new("k").id("5-*").nomkstream().policy(Policy::Acked).idmp("shop", "o-17");
     same(
-        add.trim(Bound::MaxLen(1000).about().limit(50)).field("item", "tea").pack(),
+        add.trim(Bound::MaxLen(1000).approximate().limit(50)).field("item", "tea").pack(),
         "XADD k NOMKSTREAM ACKED IDMP shop o-17 MAXLEN ~ 1000 LIMIT 50 5-* item tea",
     );
     let add = Add::new("k").field("a", "1").idmpauto("shop").trim(Bound::MinId("5-0".into()).exactly());
     same(add.pack(), "XADD k IDMPAUTO shop MINID = 5-0 * a 1");
     same(Trim::new("k", Bound::MaxLen(0).exactly()).pack(), "XTRIM k MAXLEN = 0");
-    let trim = Trim::new("k", Bound::MinId("5-0".into()).about()).references(References::DelRef);
+    let trim = Trim::new("k", Bound::MinId("5-0".into()).approximate()).policy(Policy::DelRef);
     same(trim.pack(), "XTRIM k MINID ~ 5-0 DELREF");
 }
 

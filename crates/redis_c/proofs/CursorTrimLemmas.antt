@@ -36,18 +36,18 @@ second_text bytes (v ∷ vs) y ys e =
 
 -- a mode and a value
 two_found : {V : Type 0} (make : Mode → V → Bound) (of : List ℕ → Option V) (val : Option V) (bytes : List ℕ)
-    (places mid left : List Span) (about : Bool) (m y : List ℕ) (ys : List (List ℕ)) (x : Option Bound)
+    (places mid left : List Span) (approximate : Bool) (m y : List ℕ) (ys : List (List ℕ)) (x : Option Bound)
     (rest : List (List ℕ)) → texts_at bytes places ≡ Some (m ∷ y ∷ ys)
-    → Finds (argument_at mode_of) (λ m. mode_by about ≡ m) bytes places mid
+    → Finds (argument_at mode_of) (λ m. mode_by approximate ≡ m) bytes places mid
     → ((v : V) → option_and_then of (text_at bytes (first_place mid)) ≡ Some v → val ≡ Some v) → left ≡ drop 1 mid
     → option_map set (two make (mode_of m) (of y) ys) ≡ Some (x, rest)
-    → (option_map (λ b. Some b) (option_map (make (mode_by about)) val) ≡ Some x) × (texts_at bytes left ≡ Some rest)
-two_found {V} make of val bytes places mid left about m y ys x rest there found value behind r =
+    → (option_map (λ b. Some b) (option_map (make (mode_by approximate)) val) ≡ Some x) × (texts_at bytes left ≡ Some rest)
+two_found {V} make of val bytes places mid left approximate m y ys x rest there found value behind r =
     by (mode_of m) refl (of y) refl r
   where
     by : (mo : Option Mode) → mode_of m ≡ mo → (v : Option V) → of y ≡ v
         → option_map set (two make mo v ys) ≡ Some (x, rest)
-        → (option_map (λ b. Some b) (option_map (make (mode_by about)) val) ≡ Some x) × (texts_at bytes left ≡ Some rest)
+        → (option_map (λ b. Some b) (option_map (make (mode_by approximate)) val) ≡ Some x) × (texts_at bytes left ≡ Some rest)
     by None a v b h = absurd cc
     by (Some mo) a None b h = absurd cc
     by (Some mo) a (Some v) b h =
@@ -55,42 +55,42 @@ two_found {V} make of val bytes places mid left about m y ys x rest there found 
         let q = found (m ∷ y ∷ ys) (y ∷ ys) mo there (ap (λ (z : Option Mode). one (λ w. w) z (y ∷ ys)) a) in
         let t = second_text bytes mid y ys q.1 in
         let is = value v (ap (option_and_then of) t.0 ∙ b) in (
-          ap (λ (z : Option V). option_map (λ b. Some b) (option_map (make (mode_by about)) z)) is
+          ap (λ (z : Option V). option_map (λ b. Some b) (option_map (make (mode_by approximate)) z)) is
               ∙ ap (λ (w : Mode). Some (Some (make w v))) q.0 ∙ ap (λ (z : Option Bound). Some z) s.0,
           ap (texts_at bytes) behind ∙ t.1 ∙ ap (λ (z : List (List ℕ)). Some z) s.1,
         )
 
 -- `MAXLEN mode n`
-pub maxlen_found : (bytes : List ℕ) (places mid left : List Span) (about : Bool) (n : ℕ)
+pub maxlen_found : (bytes : List ℕ) (places mid left : List Span) (approximate : Bool) (n : ℕ)
     → is_next bytes places (codes "MAXLEN") ≡ true
-    → Finds (argument_at mode_of) (λ m. mode_by about ≡ m) bytes (drop 1 places) mid
+    → Finds (argument_at mode_of) (λ m. mode_by approximate ≡ m) bytes (drop 1 places) mid
     → ((m : ℕ) → number_at bytes (first_place mid) ≡ Some m → n ≡ m) → left ≡ drop 1 mid
-    → Finds bound_clause (λ b. Some (Some (max_len (mode_by about) n)) ≡ Some b) bytes places left
-maxlen_found bytes [] mid left about n next found value behind args rest x e r = absurd cc
-maxlen_found bytes (p ∷ ps) mid left about n next found value behind args rest x e r =
+    → Finds bound_clause (λ b. Some (Some (max_len (mode_by approximate) n)) ≡ Some b) bytes places left
+maxlen_found bytes [] mid left approximate n next found value behind args rest x e r = absurd cc
+maxlen_found bytes (p ∷ ps) mid left approximate n next found value behind args rest x e r =
     let f = first_text bytes p ps args e in
     of f.text f.others (sym (ap (is_word (codes "MAXLEN")) f.there) ∙ next) f.behind
     (subst (λ (t : List (List ℕ)). bound_clause t ≡ Some (x, rest)) (sym f.is) r)
   where
     of : (t : List ℕ) (others : List (List ℕ)) → bytes_eq t (codes "MAXLEN") ≡ true → texts_at bytes ps ≡ Some others
         → bound_clause (t ∷ others) ≡ Some (x, rest)
-        → (Some (Some (max_len (mode_by about) n)) ≡ Some x) × (texts_at bytes left ≡ Some rest)
+        → (Some (Some (max_len (mode_by approximate) n)) ≡ Some x) × (texts_at bytes left ≡ Some rest)
     of t [] w b r = let h = rw w at r in absurd cc
     of t (m ∷ []) w b r = let h = rw w at r in absurd cc
     of t (m ∷ y ∷ ys) w b r =
-        two_found max_len number_of (Some n) bytes ps mid left about m y ys x rest b found
+        two_found max_len number_of (Some n) bytes ps mid left approximate m y ys x rest b found
         (λ v is. ap (λ (k : ℕ). Some k) (value v is)) behind (rw w at r)
 
 -- `MINID mode id`
-pub minid_found : (bytes : List ℕ) (places mid left : List Span) (about : Bool) (minid : Span)
+pub minid_found : (bytes : List ℕ) (places mid left : List Span) (approximate : Bool) (minid : Span)
     → is_next bytes places (codes "MAXLEN") ≡ false → is_next bytes places (codes "MINID") ≡ true
-    → Finds (argument_at mode_of) (λ m. mode_by about ≡ m) bytes (drop 1 places) mid → minid ≡ first_place mid
+    → Finds (argument_at mode_of) (λ m. mode_by approximate ≡ m) bytes (drop 1 places) mid → minid ≡ first_place mid
     → left ≡ drop 1 mid
     → Finds bound_clause
-    (λ b. option_map (λ x. Some x) (option_map (min_id (mode_by about)) (utf8_at bytes minid)) ≡ Some b) bytes places left
+    (λ b. option_map (λ x. Some x) (option_map (min_id (mode_by approximate)) (utf8_at bytes minid)) ≡ Some b) bytes places left
 unfolding text_of
-minid_found bytes [] mid left about minid other next found value behind args rest x e r = absurd cc
-minid_found bytes (p ∷ ps) mid left about minid other next found value behind args rest x e r =
+minid_found bytes [] mid left approximate minid other next found value behind args rest x e r = absurd cc
+minid_found bytes (p ∷ ps) mid left approximate minid other next found value behind args rest x e r =
     let f = first_text bytes p ps args e in
     of f.text f.others (sym (ap (is_word (codes "MAXLEN")) f.there) ∙ other)
     (sym (ap (is_word (codes "MINID")) f.there) ∙ next) f.behind
@@ -98,22 +98,22 @@ minid_found bytes (p ∷ ps) mid left about minid other next found value behind 
   where
     of : (t : List ℕ) (others : List (List ℕ)) → bytes_eq t (codes "MAXLEN") ≡ false → bytes_eq t (codes "MINID") ≡ true
         → texts_at bytes ps ≡ Some others → bound_clause (t ∷ others) ≡ Some (x, rest)
-        → (option_map (λ x. Some x) (option_map (min_id (mode_by about)) (utf8_at bytes minid)) ≡ Some x)
+        → (option_map (λ x. Some x) (option_map (min_id (mode_by approximate)) (utf8_at bytes minid)) ≡ Some x)
         × (texts_at bytes left ≡ Some rest)
     of t [] v w b r = let h = rw (v, w) at r in absurd cc
     of t (m ∷ []) v w b r = let h = rw (v, w) at r in absurd cc
     of t (m ∷ y ∷ ys) v w b r =
-        two_found min_id text_of (utf8_at bytes minid) bytes ps mid left about m y ys x rest b found
+        two_found min_id text_of (utf8_at bytes minid) bytes ps mid left approximate m y ys x rest b found
         (λ u is. ap (utf8_at bytes) value ∙ is) behind (rw (v, w) at r)
 
 -- the mode after a word
-pub mode_after : (bytes again : List ℕ) (places mid left : List Span) (taken about : Bool) → again ≡ bytes
+pub mode_after : (bytes again : List ℕ) (places mid left : List Span) (taken approximate : Bool) → again ≡ bytes
     → taken ≡ true → mid ≡ after_word taken places
-    → Finds (argument_at mode_of) (λ m. mode_by about ≡ m) again mid left
-    → Finds (argument_at mode_of) (λ m. mode_by about ≡ m) bytes (drop 1 places) left
-mode_after bytes again places mid left taken about same is at found =
-    subst (λ (b : List ℕ). Finds (argument_at mode_of) (λ m. mode_by about ≡ m) b (drop 1 places) left) same
-    (subst (λ (ps : List Span). Finds (argument_at mode_of) (λ m. mode_by about ≡ m) again ps left)
+    → Finds (argument_at mode_of) (λ m. mode_by approximate ≡ m) again mid left
+    → Finds (argument_at mode_of) (λ m. mode_by approximate ≡ m) bytes (drop 1 places) left
+mode_after bytes again places mid left taken approximate same is at found =
+    subst (λ (b : List ℕ). Finds (argument_at mode_of) (λ m. mode_by approximate ≡ m) b (drop 1 places) left) same
+    (subst (λ (ps : List Span). Finds (argument_at mode_of) (λ m. mode_by approximate ≡ m) again ps left)
     (at ∙ ap (λ (b : Bool). after_word b places) is) found)
 
 -- ---- a strategy
@@ -268,22 +268,22 @@ strategy_required bytes places left s found args rest x e r = by (bound_at args)
         let q = found args rest (Some x) e (rw (w, r) refl) in
         (there (nat_eq s.bound 0) refl q.0, q.1)
 
-trim_says : (bytes : List ℕ) (s : TrimSettings) (references : ℕ) (t : Strategy × Option Policy)
-    → (strategy_in bytes s ≡ Some t.0) × (policy_by references ≡ Some t.1)
-    → trim_in bytes (record s { policy = references }) ≡ Some (trim_with t)
-trim_says bytes s references (strategy, policy) p =
+trim_says : (bytes : List ℕ) (s : TrimSettings) (number : ℕ) (t : Strategy × Option Policy)
+    → (strategy_in bytes s ≡ Some t.0) × (policy_by number ≡ Some t.1)
+    → trim_in bytes (record s { policy = number }) ≡ Some (trim_with t)
+trim_says bytes s number (strategy, policy) p =
     ap (option_map settings_with)
-    (both_there (strategy_in bytes s) (policy_by references) strategy policy p.0 p.1)
+    (both_there (strategy_in bytes s) (policy_by number) strategy policy p.0 p.1)
 
 -- the options of XTRIM
-pub trim_found : (bytes again : List ℕ) (places mid left : List Span) (s : TrimSettings) (references : ℕ)
+pub trim_found : (bytes again : List ℕ) (places mid left : List Span) (s : TrimSettings) (number : ℕ)
     → Finds strategy_clause (λ o. any_strategy_in bytes s ≡ Some o) bytes places mid → again ≡ bytes
-    → Finds policy_clause (λ p. policy_by references ≡ Some p) again mid left
-    → Finds trim_at (λ t. trim_in bytes (record s { policy = references }) ≡ Some t) bytes places left
-trim_found bytes again places mid left s references first same second =
+    → Finds policy_clause (λ p. policy_by number ≡ Some p) again mid left
+    → Finds trim_at (λ t. trim_in bytes (record s { policy = number }) ≡ Some t) bytes places left
+trim_found bytes again places mid left s number first same second =
     let P : Strategy → Type 0 = λ x. strategy_in bytes s ≡ Some x in
-    let Q : Option Policy → Type 0 = λ p. policy_by references ≡ Some p in
+    let Q : Option Policy → Type 0 = λ p. policy_by number ≡ Some p in
     seen_found trim_with (both strategy_at policy_clause) (λ x. P x.0 × Q x.1)
-    (λ t. trim_in bytes (record s { policy = references }) ≡ Some t) bytes places left (trim_says bytes s references)
+    (λ t. trim_in bytes (record s { policy = number }) ≡ Some t) bytes places left (trim_says bytes s number)
     (both_found strategy_at policy_clause P Q bytes again places mid left
     (strategy_required bytes places mid s first) same second)

@@ -24,6 +24,7 @@ use Rattle.redis_c.specs.Claimed.{AutoClaimIn, JustIdIn}
 use Rattle.redis_c.specs.Outcome.{code}
 use Rattle.redis_c.specs.Records.{HasNoRecord, IsUnread, TellsFinding}
 use Rattle.redis_c.specs.Told.{IsNoError, IsOther, IsOutcome, RangeIn, StreamsIn, first_of}
+use Rattle.redis_c.specs.declared.outcome.Counts.{Counts}
 use Rattle.redis_c.specs.declared.outcome.Outcome.{Outcome}
 use Rattle.redis_c.specs.declared.outcome.Outcome.TheVariants as outcomes
 use Rattle.redis_c.proofs.TellLemmas.{is_whole, same_answer, early_unread, error_unread, fault_unread}
@@ -85,11 +86,11 @@ other_told bytes o is = record {
 module _ (In : List ℕ → ℕ → Held → Type 0) (bytes : List ℕ)
     (whole : (len : ℕ) (held : Held) → In bytes len held
     → (t : Tree) × IsAnyReply default_limits (take len bytes) (value t))
-    (streams : List StreamPlace) (entries : List EntryPlace) (fields : List FieldPlace) where
+    (room : Counts) (streams : List StreamPlace) (entries : List EntryPlace) (fields : List FieldPlace) where
   found_told : (len : ℕ) (held : Held) (n : ℕ) → In bytes len held → TellsFinding bytes n
   found_told len held n is = let w = whole len held is in value_found bytes len (value w.0) w.1 n tt
 
-  outcome_told : (o : Outcome) → IsOutcome In bytes streams entries fields o → TellsFinding bytes (code o)
+  outcome_told : (o : Outcome) → IsOutcome In bytes room streams entries fields o → TellsFinding bytes (code o)
   outcome_told (outcomes.InPlace len counts) is = found_told len (first_of counts streams entries fields) 0 is
   outcome_told (outcomes.Room len counts) is = found_told len is.0 1 is.1
   outcome_told outcomes.Incomplete is = other_told bytes outcomes.Incomplete is
@@ -99,7 +100,7 @@ module _ (In : List ℕ → ℕ → Held → Type 0) (bytes : List ℕ)
   outcome_told (outcomes.Fault f) is = other_told bytes (outcomes.Fault f) is
 
   -- which outcome is told of which bytes
-  pub finding_told : (o : Outcome) (n : ℕ) → n ≡ code o → IsOutcome In bytes streams entries fields o
+  pub finding_told : (o : Outcome) (n : ℕ) → n ≡ code o → IsOutcome In bytes room streams entries fields o
       → TellsFinding bytes n
   finding_told o n number is = subst (TellsFinding bytes) (sym number) (outcome_told o is)
 

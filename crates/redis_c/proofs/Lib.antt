@@ -10,3 +10,5 @@ pub mod CursorAddLemmas
 pub mod RecordLemmas
 pub mod TellLemmas
 pub mod FindLemmas
+pub mod RoomLemmas
+pub mod NodesLemmas

@@ -100,7 +100,7 @@ module _ {M : Type 0} (reading : Tree → Option M) (bytes : List ℕ) where
   error_unread (outcomes.Room len counts) u text rest e s is = absurd u
 
   -- a fault is not where a reply is
-  no_fault : (f : Fault) (len : ℕ) (a : Answer) → IsFirstFault default_limits bytes (errors.Fault f)
+  pub no_fault : (f : Fault) (len : ℕ) (a : Answer) → IsFirstFault default_limits bytes (errors.Fault f)
       → IsAnswered bytes len a → ⊥
   no_fault f len a first at =
       fault_whole default_limits bytes f first (take len bytes) (drop len bytes) a at.reply

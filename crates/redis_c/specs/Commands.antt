@@ -52,7 +52,7 @@ autoclaim_args key group consumer min_idle start count =
 abbrev pub pending_args : List ℕ → List ℕ → List ℕ → List ℕ → ℕ → List (List ℕ)
 pending_args key group start end count = codes "XPENDING" ∷ key ∷ group ∷ start ∷ end ∷ decimal count ∷ []
 
--- `XTRIM key MAXLEN = n`, and with `~` in place of `=` where it may be about so many
+-- `XTRIM key MAXLEN = n`, and with `~` in place of `=` if some entries more may stay
 abbrev pub trim_args : List ℕ → Bool → ℕ → List (List ℕ)
 trim_args key approximate n =
     codes "XTRIM" ∷ key ∷ maxlen_sentence (record { mode = if approximate then approx else exact; count = n })

@@ -1,7 +1,6 @@
 pub mod Outcome
 pub mod Told
 pub mod Claimed
-pub mod Nodes
 pub mod Packing
 pub mod Placed
 pub mod Settings
@@ -9,3 +8,4 @@ pub mod Commands
 pub mod Server
 pub mod Cursor
 pub mod Records
+pub mod Nodes

@@ -32,14 +32,14 @@ utf8_at bytes place = option_and_then if_utf8 (text_at bytes place)
 
 -- ---- trimming
 
--- what becomes of references, if the number says so; None where it names nothing
+-- what the number says to do with the entry in the pending lists of groups; None where it names nothing
 abbrev pub policy_by : ℕ → Option (Option Policy)
 policy_by n = if nat_eq n 0 then Some None else if nat_eq n 1 then Some (Some keep_ref)
     else if nat_eq n 2 then Some (Some del_ref) else if nat_eq n 3 then Some (Some acked) else None
 
--- about so, or to the bound itself
+-- `~` if some entries more may stay, and else `=`
 abbrev pub mode_by : Bool → Mode
-mode_by about = if about then approx else exact
+mode_by approximate = if approximate then approx else exact
 
 -- the bound; None where the number names none, or the id is no text within the bytes
 abbrev pub bound_in : List ℕ → TrimSettings → Option Bound
@@ -76,13 +76,13 @@ manual_by x = Some (manual x.0 x.1)
 abbrev pub automatic_by : List ℕ → Option Idempotency
 automatic_by producer = Some (automatic producer)
 
--- how a duplicate entry is recognized by the number and the texts at these places, if it is
+-- how the server finds out that an entry was added before, by the number and the texts at these places, if it does
 abbrev pub idempotency_by : List ℕ → ℕ → Span → Span → Option (Option Idempotency)
-idempotency_by bytes recognizes producer item = if nat_eq recognizes 0 then Some None
-    else if nat_eq recognizes 1 then option_map manual_by (both_read (utf8_at bytes producer) (utf8_at bytes item))
-    else if nat_eq recognizes 2 then option_map automatic_by (utf8_at bytes producer) else None
+idempotency_by bytes way producer item = if nat_eq way 0 then Some None
+    else if nat_eq way 1 then option_map manual_by (both_read (utf8_at bytes producer) (utf8_at bytes item))
+    else if nat_eq way 2 then option_map automatic_by (utf8_at bytes producer) else None
 
--- how a duplicate entry is recognized, if it is
+-- how the server finds out that an entry was added before, if it does
 abbrev pub idempotency_in : List ℕ → AddSettings → Option (Option Idempotency)
 idempotency_in bytes s = idempotency_by bytes s.idempotency s.producer s.idempotent_id
 

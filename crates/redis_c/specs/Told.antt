@@ -1,5 +1,5 @@
 -- What C is told of the bytes of a reply.
-use Rattle.std.specs.Prelude.{◌≡◌, ◌≤◌, ◌++◌, ℕ, List, length, take, map, false}
+use Rattle.std.specs.Prelude.{◌≡◌, ◌≤◌, ◌<◌, ◌⊎◌, ◌++◌, ℕ, List, length, take, map, false}
 use Rattle.redis_wire.specs.Limits.{default_limits}
 use Rattle.redis_wire.specs.Reply.{Answer, refused}
 use Rattle.redis_wire.specs.Grammar.{IsReply}
@@ -109,19 +109,46 @@ first_of counts streams entries fields = record {
   fields = take counts.fields fields;
 }
 
--- What reading comes to where the tables have too little room: there are places, so many; or there are none.
-abbrev pub IsRoom : (List ℕ → ℕ → Held → Type 0) → List ℕ → Outcome → Type 0
-IsRoom In bytes (outcomes.InPlace len counts) = ⊥
-IsRoom In bytes (outcomes.Room len counts) = (held : Held) × In bytes len held × HasCounts counts held
-IsRoom In bytes o = IsOther bytes o
+-- room for so many streams, entries and fields
+abbrev pub room_of : ℕ → ℕ → ℕ → Counts
+room_of streams entries fields = record { streams = streams; entries = entries; fields = fields }
 
-module _ (In : List ℕ → ℕ → Held → Type 0) (bytes : List ℕ) (streams : List StreamPlace) (entries : List EntryPlace)
-    (fields : List FieldPlace) where
-  -- What reading comes to: the tables begin with the places; or there are places, so many, but no room for
-  -- them; or there are none.
+-- one table has room for fewer than that
+abbrev pub IsTooMuch : Counts → Counts → Type 0
+IsTooMuch counts room =
+    (room.streams < counts.streams) ⊎ ((room.entries < counts.entries) ⊎ (room.fields < counts.fields))
+
+-- There are places, so many, and one of the tables has room for fewer.
+abbrev pub IsWanted : (List ℕ → ℕ → Held → Type 0) → List ℕ → Counts → ℕ → Counts → Type 0
+IsWanted In bytes room len counts =
+    (held : Held) × In bytes len held × HasCounts counts held × IsTooMuch counts room
+
+-- What reading comes to if tables with this room were not filled: there are places, so many, and one of the tables has
+-- room for fewer; or there are none.
+abbrev pub IsRoom : (List ℕ → ℕ → Held → Type 0) → List ℕ → Counts → Outcome → Type 0
+IsRoom In bytes room (outcomes.InPlace len counts) = ⊥
+IsRoom In bytes room (outcomes.Room len counts) = IsWanted In bytes room len counts
+IsRoom In bytes room o = IsOther bytes o
+
+-- that so many places are wanted, and one of the tables has room for fewer; or that memory ran out
+abbrev pub IsWanting : ℕ → Counts → Counts → Outcome → Type 0
+IsWanting len counts room (outcomes.Room l c) = (l ≡ len) × (c ≡ counts) × IsTooMuch counts room
+IsWanting len counts room outcomes.Memory = Unit {0}
+IsWanting len counts room o = ⊥
+
+-- no more places are told than the tables have
+abbrev pub AreHeld : List StreamPlace → List EntryPlace → List FieldPlace → Outcome → Type 0
+AreHeld streams entries fields (outcomes.InPlace len counts) =
+    (counts.streams ≤ length streams) × (counts.entries ≤ length entries) × (counts.fields ≤ length fields)
+AreHeld streams entries fields o = Unit {0}
+
+module _ (In : List ℕ → ℕ → Held → Type 0) (bytes : List ℕ) (room : Counts) (streams : List StreamPlace)
+    (entries : List EntryPlace) (fields : List FieldPlace) where
+  -- What reading comes to: the tables begin with the places; or there are places, so many, and one of the tables has
+  -- room for fewer; or there are none.
   abbrev pub IsOutcome : Outcome → Type 0
   IsOutcome (outcomes.InPlace len counts) = In bytes len (first_of counts streams entries fields)
-  IsOutcome (outcomes.Room len counts) = (held : Held) × In bytes len held × HasCounts counts held
+  IsOutcome (outcomes.Room len counts) = IsWanted In bytes room len counts
   IsOutcome o = IsOther bytes o
 
   -- C is told the outcome by its number and what was found.
@@ -130,3 +157,11 @@ module _ (In : List ℕ → ℕ → Held → Type 0) (bytes : List ℕ) (streams
     pub number : n ≡ code outcome
     pub beside : f ≡ found outcome
     pub is : IsOutcome outcome
+    pub held : AreHeld streams entries fields outcome
+
+-- What has to be told of a reply in the form in which servers write it, of so many bytes and so many rows, if a table has
+-- room for so many of them: its length and how many rows it has, with 0 only if there is room for them, and else with
+-- 1; or that memory ran out.
+abbrev pub TellsRows : (room rows len n told_len told_rows : ℕ) → Type 0
+TellsRows room rows len n told_len told_rows =
+    (n ≡ 5) ⊎ ((((n ≡ 0) × (rows ≤ room)) ⊎ (n ≡ 1)) × ((told_len ≡ len) × (told_rows ≡ rows)))

@@ -12,7 +12,7 @@ use stream_options::{
     StreamAddOptions, StreamDeletionPolicy, StreamIdempotencyMode, StreamTrimStrategy,
 };
 
-/// How a duplicate entry is recognized, if it is.
+/// How the server finds out that an entry was added before, if it does.
 fn idempotency_in(
     alloc: Global,
     bytes: &[u8],
@@ -78,7 +78,7 @@ fn with_policy(options: StreamAddOptions, policy: Option<StreamDeletionPolicy>) 
     }
 }
 
-/// The way to recognize a duplicate, where there is one.
+/// The way to find out that an entry was added before, where there is one.
 fn with_idempotency(
     options: StreamAddOptions,
     mode: Option<StreamIdempotencyMode>,

@@ -57,9 +57,7 @@ pub extern "C" fn redis_xack_entries(
     ensures { IsPackedAs (IsPackingOf (ack_args key.now group.now) (ids_at bytes.now entries.now) out.new)
         result len.new }
 {
-    let packing = packed_ack(alloc, key, group, bytes, entries, out);
-    *len = packing.len();
-    packing.number()
+    packed_ack(alloc, key, group, bytes, entries, out).tell(len)
 }
 
 /// Packs XCLAIM of the entries at these places.
@@ -110,9 +108,7 @@ pub extern "C" fn redis_xclaim_entries(
     ensures { IsPackedAs (IsPackingOf (claim_args key.now group.now consumer.now min_idle)
         (ids_at bytes.now entries.now) out.new) result len.new }
 {
-    let packing = packed_claim(alloc, key, group, consumer, min_idle, bytes, entries, out);
-    *len = packing.len();
-    packing.number()
+    packed_claim(alloc, key, group, consumer, min_idle, bytes, entries, out).tell(len)
 }
 
 /// Packs XADD of the fields at these places.
@@ -151,7 +147,5 @@ pub extern "C" fn redis_xadd_fields(
     ensures { IsPackedAs (IsPackingOf (add_args key.now id.now) (fields_at bytes.now fields.now) out.new)
         result len.new }
 {
-    let packing = packed_add(alloc, key, id, bytes, fields, out);
-    *len = packing.len();
-    packing.number()
+    packed_add(alloc, key, id, bytes, fields, out).tell(len)
 }

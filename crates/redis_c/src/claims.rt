@@ -1,13 +1,17 @@
 //! Entries and ids that XAUTOCLAIM claimed, where they stand, in tables of the caller.
-ghost use Rattle.std.specs.Prelude.{◌≡◌, [], length};
-ghost use Rattle.redis_c.specs.Outcome.{code};
+ghost use Rattle.std.specs.Prelude.{◌≡◌, ◌+◌, [], ℕ, length};
+ghost use Rattle.redis_wire.specs.Limits.{default_limits};
+ghost use Rattle.stream_entries.specs.JustId.{JustId};
+ghost use Rattle.stream_refs.specs.Sent.{SentAutoClaim};
+ghost use Rattle.stream_refs.specs.Shapes.{BeginsWithAutoClaim, BeginsWithJustId};
+ghost use Rattle.redis_c.specs.Outcome.{code, found};
 ghost use Rattle.redis_c.specs.Records.{TellsFinding};
-ghost use Rattle.redis_c.specs.Told.{IsRoom, IsOutcome, IsTold};
+ghost use Rattle.redis_c.specs.Told.{IsRoom, IsOutcome, IsTold, room_of, AreHeld, TellsRows};
 ghost use Rattle.redis_c.specs.Claimed.{AutoClaimIn, JustIdIn, AutoClaimFits, JustIdFits};
 
-use crate::entries::counts_of;
+use crate::entries::{counts_of, room_of};
 use crate::other::other;
-use crate::outcome::{Found, Outcome};
+use crate::outcome::{Counts, Found, Outcome, wanted};
 use redis_wire::Limits;
 use std::alloc::Global;
 use stream_refs::{
@@ -15,8 +19,11 @@ use stream_refs::{
 };
 
 /// How much room the entries of an automatic claim want.
-fn autoclaim_room(alloc: Global, bytes: &[u8], claim: &mut AutoClaimPlace) -> Outcome
-    ensures { IsRoom (AutoClaimIn claim.new) bytes.now result }
+fn autoclaim_room(alloc: Global, bytes: &[u8], room: Counts, claim: &mut AutoClaimPlace) -> Outcome
+    ensures is { IsRoom (AutoClaimIn claim.new) bytes.now room result }
+    ensures rows { (most : ℕ) (r : SentAutoClaim) (len : ℕ) → BeginsWithAutoClaim default_limits bytes.now r len
+        → TellsRows most (length r.claimed + length r.deleted) len (code result) (found result).len
+        (found result).entries }
 {
     let mut tape = EntryTape::new(alloc);
     match find_autoclaim(Limits::default(), bytes, &mut tape) {
@@ -24,17 +31,17 @@ fn autoclaim_room(alloc: Global, bytes: &[u8], claim: &mut AutoClaimPlace) -> Ou
         Ok(None) => other(alloc, bytes),
         Ok(Some(place)) => {
             *claim = place;
-            Outcome::Room {
-                len: place.len,
-                counts: counts_of(&tape),
-            }
+            wanted(place.len, counts_of(&tape), room)
         }
     }
 }
 
 /// How much room the ids of an automatic claim want.
-fn justid_room(alloc: Global, bytes: &[u8], claim: &mut AutoClaimPlace) -> Outcome
-    ensures { IsRoom (JustIdIn claim.new) bytes.now result }
+fn justid_room(alloc: Global, bytes: &[u8], room: Counts, claim: &mut AutoClaimPlace) -> Outcome
+    ensures is { IsRoom (JustIdIn claim.new) bytes.now room result }
+    ensures rows { (most : ℕ) (r : JustId) (len : ℕ) → BeginsWithJustId default_limits bytes.now r len
+        → TellsRows most (length r.claimed + length r.deleted) len (code result) (found result).len
+        (found result).entries }
 {
     let mut tape = EntryTape::new(alloc);
     match find_justid(Limits::default(), bytes, &mut tape) {
@@ -42,28 +49,30 @@ fn justid_room(alloc: Global, bytes: &[u8], claim: &mut AutoClaimPlace) -> Outco
         Ok(None) => other(alloc, bytes),
         Ok(Some(place)) => {
             *claim = place;
-            Outcome::Room {
-                len: place.len,
-                counts: counts_of(&tape),
-            }
+            wanted(place.len, counts_of(&tape), room)
         }
     }
 }
 
-/// Where the entries of an automatic claim stand.
+/// Where the entries of an automatic claim stand, in tables that have this room.
 fn autoclaim_outcome(
     alloc: Global,
     bytes: &[u8],
+    room: Counts,
     entries: &mut [EntryPlace],
     fields: &mut [FieldPlace],
     claim: &mut AutoClaimPlace,
 ) -> Outcome
-    ensures is { IsOutcome (AutoClaimIn claim.new) bytes.now [] entries.new fields.new result }
+    ensures is { IsOutcome (AutoClaimIn claim.new) bytes.now room [] entries.new fields.new result }
+    ensures held { AreHeld [] entries.new fields.new result }
     ensures in_place { AutoClaimFits bytes.now (length entries.old) (length fields.old) → code result ≡ 0 }
+    ensures rows { (r : SentAutoClaim) (len : ℕ) → BeginsWithAutoClaim default_limits bytes.now r len
+        → TellsRows (length entries.old) (length r.claimed + length r.deleted) len (code result) (found result).len
+        (found result).entries }
 {
     let mut tables = EntryTables::new(&mut [], entries, fields);
     match find_autoclaim(Limits::default(), bytes, &mut tables) {
-        Err(_) => autoclaim_room(alloc, bytes, claim),
+        Err(_) => autoclaim_room(alloc, bytes, room, claim),
         Ok(None) => other(alloc, bytes),
         Ok(Some(place)) => {
             *claim = place;
@@ -79,15 +88,20 @@ fn autoclaim_outcome(
 fn justid_outcome(
     alloc: Global,
     bytes: &[u8],
+    room: Counts,
     entries: &mut [EntryPlace],
     claim: &mut AutoClaimPlace,
 ) -> Outcome
-    ensures is { IsOutcome (JustIdIn claim.new) bytes.now [] entries.new [] result }
+    ensures is { IsOutcome (JustIdIn claim.new) bytes.now room [] entries.new [] result }
+    ensures held { AreHeld [] entries.new [] result }
     ensures in_place { JustIdFits bytes.now (length entries.old) → code result ≡ 0 }
+    ensures rows { (r : JustId) (len : ℕ) → BeginsWithJustId default_limits bytes.now r len
+        → TellsRows (length entries.old) (length r.claimed + length r.deleted) len (code result) (found result).len
+        (found result).entries }
 {
     let mut tables = EntryTables::new(&mut [], entries, &mut []);
     match find_justid(Limits::default(), bytes, &mut tables) {
-        Err(_) => justid_room(alloc, bytes, claim),
+        Err(_) => justid_room(alloc, bytes, room, claim),
         Ok(None) => other(alloc, bytes),
         Ok(Some(place)) => {
             *claim = place;
@@ -110,13 +124,16 @@ pub extern "C" fn redis_find_autoclaim(
     claim: &mut AutoClaimPlace,
     found: &mut Found,
 ) -> u32
-    ensures told { IsTold (AutoClaimIn claim.new) bytes.now [] entries.new fields.new result found.new }
+    ensures told { IsTold (AutoClaimIn claim.new) bytes.now (room_of 0 (length entries.old) (length fields.old))
+        [] entries.new fields.new result found.new }
     ensures in_place { AutoClaimFits bytes.now (length entries.old) (length fields.old) → result ≡ 0 }
+    ensures rows { (r : SentAutoClaim) (len : ℕ) → BeginsWithAutoClaim default_limits bytes.now r len
+        → TellsRows (length entries.old) (length r.claimed + length r.deleted) len result found.new.len
+        found.new.entries }
     ensures tells { TellsFinding bytes.now result }
 {
-    let outcome = autoclaim_outcome(alloc, bytes, entries, fields, claim);
-    *found = outcome.found();
-    outcome.code()
+    let room = room_of(0, entries.len(), fields.len());
+    autoclaim_outcome(alloc, bytes, room, entries, fields, claim).tell(found)
 }
 
 /// Finds where the ids stand of the reply of XAUTOCLAIM with JUSTID at the head of bytes, and behind
@@ -129,11 +146,14 @@ pub extern "C" fn redis_find_justid(
     claim: &mut AutoClaimPlace,
     found: &mut Found,
 ) -> u32
-    ensures told { IsTold (JustIdIn claim.new) bytes.now [] entries.new [] result found.new }
+    ensures told { IsTold (JustIdIn claim.new) bytes.now (room_of 0 (length entries.old) 0)
+        [] entries.new [] result found.new }
     ensures in_place { JustIdFits bytes.now (length entries.old) → result ≡ 0 }
+    ensures rows { (r : JustId) (len : ℕ) → BeginsWithJustId default_limits bytes.now r len
+        → TellsRows (length entries.old) (length r.claimed + length r.deleted) len result found.new.len
+        found.new.entries }
     ensures tells { TellsFinding bytes.now result }
 {
-    let outcome = justid_outcome(alloc, bytes, entries, claim);
-    *found = outcome.found();
-    outcome.code()
+    let room = room_of(0, entries.len(), 0);
+    justid_outcome(alloc, bytes, room, entries, claim).tell(found)
 }

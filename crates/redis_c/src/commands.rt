@@ -105,9 +105,7 @@ pub extern "C" fn redis_xreadgroup(
     ensures { IsPackedAs (IsPacking (read_list
         (read_parts settings.now group.now consumer.now key.now id.now)) out.new) result len.new }
 {
-    let packing = packed_read(alloc, settings, group, consumer, key, id, out);
-    *len = packing.len();
-    packing.number()
+    packed_read(alloc, settings, group, consumer, key, id, out).tell(len)
 }
 
 /// Packs `XACK key group id`.
@@ -124,9 +122,7 @@ pub extern "C" fn redis_xack(
 {
     let id = Argument(id);
     let command = xack(Argument(key), Argument(group), AtLeastOne::one(&id));
-    let packing = packed(alloc, &command, out);
-    *len = packing.len();
-    packing.number()
+    packed(alloc, &command, out).tell(len)
 }
 
 /// Packs `XAUTOCLAIM key group consumer min-idle start COUNT count`.
@@ -153,9 +149,7 @@ pub extern "C" fn redis_xautoclaim(
         Argument(start),
         count,
     );
-    let packing = packed(alloc, &command, out);
-    *len = packing.len();
-    packing.number()
+    packed(alloc, &command, out).tell(len)
 }
 
 /// Packs `XPENDING key group start end count`.
@@ -180,12 +174,10 @@ pub extern "C" fn redis_xpending(
         Argument(end),
         count,
     );
-    let packing = packed(alloc, &command, out);
-    *len = packing.len();
-    packing.number()
+    packed(alloc, &command, out).tell(len)
 }
 
-/// Packs `XTRIM key MAXLEN = n`, and with `~` in place of `=` where it may be about so many.
+/// Packs `XTRIM key MAXLEN = n`, and with `~` in place of `=` if some entries more may stay.
 #[unsafe(no_mangle)]
 pub extern "C" fn redis_xtrim(
     alloc: Global,
@@ -202,7 +194,5 @@ pub extern "C" fn redis_xtrim(
     } else {
         StreamMaxlen::Equals(maxlen)
     };
-    let packing = packed(alloc, &xtrim(Argument(key), most), out);
-    *len = packing.len();
-    packing.number()
+    packed(alloc, &xtrim(Argument(key), most), out).tell(len)
 }

@@ -77,8 +77,8 @@ impl<'a> Cursor<'a> {
         }
     }
 
-    /// What becomes of references, as a number.
-    fn references(&mut self) -> u32
+    /// What happens to deleted entries in the pending lists of groups, as a number.
+    fn policy(&mut self) -> u32
         ensures fewer { length self.new.places.now ≤ length self.old.places.now }
         ensures bytes { self.new.bytes.now ≡ self.old.bytes.now }
         ensures is { Finds policy_clause (λ p. policy_by result ≡ Some p)
@@ -95,7 +95,7 @@ impl<'a> Cursor<'a> {
         }
     }
 
-    /// How a stream is trimmed, but for the references.
+    /// How a stream is trimmed, but for the policy.
     fn strategy(&mut self) -> TrimSettings
         ensures fewer { length self.new.places.now ≤ length self.old.places.now }
         ensures bytes { self.new.bytes.now ≡ self.old.bytes.now }
@@ -119,18 +119,18 @@ impl<'a> Cursor<'a> {
         let mut settings = untrimmed();
         if self.takes(b"MAXLEN") {
             settings.bound = 1;
-            settings.approximate = self.about();
+            settings.approximate = self.is_approximate();
             settings.maxlen = self.number();
         } else if self.takes(b"MINID") {
             settings.bound = 2;
-            settings.approximate = self.about();
+            settings.approximate = self.is_approximate();
             settings.minid = self.place();
         }
         settings
     }
 
     /// Takes `~` or `=`: whether it is `~`.
-    fn about(&mut self) -> bool
+    fn is_approximate(&mut self) -> bool
         ensures fewer { length self.new.places.now ≤ length self.old.places.now }
         ensures bytes { self.new.bytes.now ≡ self.old.bytes.now }
         ensures is { Finds (argument_at mode_of) (λ m. mode_by result ≡ m)
@@ -147,7 +147,7 @@ impl<'a> Cursor<'a> {
             self.old.bytes.now self.old.places.now self.new.places.now }
     {
         let mut settings = self.strategy();
-        settings.policy = self.references();
+        settings.policy = self.policy();
         settings
     }
 
@@ -159,10 +159,10 @@ impl<'a> Cursor<'a> {
             self.old.bytes.now self.old.places.now self.new.places.now }
     {
         let nomkstream = self.takes(b"NOMKSTREAM");
-        let references = self.references();
+        let policy = self.policy();
         let (idempotency, producer, idempotent_id) = self.idempotency();
         let mut trim = self.strategy();
-        trim.policy = references;
+        trim.policy = policy;
         AddSettings {
             nomkstream,
             idempotency,
@@ -172,7 +172,7 @@ impl<'a> Cursor<'a> {
         }
     }
 
-    /// How a duplicate entry is recognized, and where its texts stand.
+    /// How the server finds out that an entry was added before, and where its texts stand.
     fn idempotency(&mut self) -> (u32, Span, Span)
         ensures fewer { length self.new.places.now ≤ length self.old.places.now }
         ensures bytes { self.new.bytes.now ≡ self.old.bytes.now }
@@ -309,7 +309,7 @@ fn nowhere() -> Span
     Span { start: 0, len: 0 }
 }
 
-/// No bound, no limit, and no word on references.
+/// No bound, no limit and no policy.
 fn untrimmed() -> TrimSettings
     ensures bound { result.bound ≡ 0 }
     ensures limit { result.has_limit ≡ false }

@@ -1,11 +1,15 @@
 //! Entries where they stand, in tables of the caller.
-ghost use Rattle.std.specs.Prelude.{◌≡◌, [], length};
-ghost use Rattle.redis_c.specs.Outcome.{code};
+ghost use Rattle.std.specs.Prelude.{◌≡◌, [], ℕ, List, false, length};
+ghost use Rattle.redis_wire.specs.Limits.{default_limits};
+ghost use Rattle.stream_refs.specs.Sent.{SentEntry, SentStream};
+ghost use Rattle.stream_refs.specs.Shapes.{BeginsWithRange, BeginsWithStreams};
+ghost use Rattle.redis_c.specs.Outcome.{code, found};
 ghost use Rattle.redis_c.specs.Records.{TellsFinding};
 ghost use Rattle.redis_c.specs.Told.{RangeIn, StreamsIn, RangeFits, ReadFits, HasCounts, IsRoom, IsOutcome, IsTold};
+ghost use Rattle.redis_c.specs.Told.{room_of, AreHeld, TellsRows};
 
 use crate::other::other;
-use crate::outcome::{Counts, Found, Outcome};
+use crate::outcome::{Counts, Found, Outcome, wanted};
 use redis_wire::Limits;
 use std::alloc::Global;
 use stream_refs::{
@@ -23,49 +27,62 @@ pub fn counts_of<P: Places>(places: &P) -> Counts
     }
 }
 
+/// How many places the tables have room for.
+pub fn room_of(streams: usize, entries: usize, fields: usize) -> Counts
+    ensures { result ≡ room_of streams entries fields }
+{
+    Counts {
+        streams,
+        entries,
+        fields,
+    }
+}
+
 /// How much room the entries of a range want.
-fn range_room(alloc: Global, bytes: &[u8]) -> Outcome
-    ensures { IsRoom RangeIn bytes.now result }
+fn range_room(alloc: Global, bytes: &[u8], room: Counts) -> Outcome
+    ensures is { IsRoom RangeIn bytes.now room result }
+    ensures rows { (most : ℕ) (es : List SentEntry) (len : ℕ) → BeginsWithRange default_limits bytes.now es len
+        → TellsRows most (length es) len (code result) (found result).len (found result).entries }
 {
     let mut tape = EntryTape::new(alloc);
     match find_range(Limits::default(), bytes, &mut tape) {
         Err(_) => Outcome::Memory,
         Ok(None) => other(alloc, bytes),
-        Ok(Some(len)) => Outcome::Room {
-            len,
-            counts: counts_of(&tape),
-        },
+        Ok(Some(len)) => wanted(len, counts_of(&tape), room),
     }
 }
 
 /// How much room the streams of a read want.
-fn streams_room(alloc: Global, bytes: &[u8]) -> Outcome
-    ensures { IsRoom StreamsIn bytes.now result }
+fn streams_room(alloc: Global, bytes: &[u8], room: Counts) -> Outcome
+    ensures is { IsRoom StreamsIn bytes.now room result }
+    ensures rows { (most : ℕ) (ss : List SentStream) (len : ℕ) → BeginsWithStreams default_limits false bytes.now ss len
+        → TellsRows most (length ss) len (code result) (found result).len (found result).streams }
 {
     let mut tape = EntryTape::new(alloc);
     match find_streams(Limits::default(), bytes, &mut tape) {
         Err(_) => Outcome::Memory,
         Ok(None) => other(alloc, bytes),
-        Ok(Some(len)) => Outcome::Room {
-            len,
-            counts: counts_of(&tape),
-        },
+        Ok(Some(len)) => wanted(len, counts_of(&tape), room),
     }
 }
 
-/// Where the entries of a range stand.
+/// Where the entries of a range stand, in tables that have this room.
 fn range_outcome(
     alloc: Global,
     bytes: &[u8],
+    room: Counts,
     entries: &mut [EntryPlace],
     fields: &mut [FieldPlace],
 ) -> Outcome
-    ensures is { IsOutcome RangeIn bytes.now [] entries.new fields.new result }
+    ensures is { IsOutcome RangeIn bytes.now room [] entries.new fields.new result }
+    ensures held { AreHeld [] entries.new fields.new result }
     ensures in_place { RangeFits bytes.now (length entries.old) (length fields.old) → code result ≡ 0 }
+    ensures rows { (es : List SentEntry) (len : ℕ) → BeginsWithRange default_limits bytes.now es len
+        → TellsRows (length entries.old) (length es) len (code result) (found result).len (found result).entries }
 {
     let mut tables = EntryTables::new(&mut [], entries, fields);
     match find_range(Limits::default(), bytes, &mut tables) {
-        Err(_) => range_room(alloc, bytes),
+        Err(_) => range_room(alloc, bytes, room),
         Ok(None) => other(alloc, bytes),
         Ok(Some(len)) => Outcome::InPlace {
             len,
@@ -74,21 +91,28 @@ fn range_outcome(
     }
 }
 
-/// Where the streams of a read stand.
+/// Where the streams of a read stand, in tables that have room for so many places.
 fn streams_outcome(
     alloc: Global,
     bytes: &[u8],
+    stream_room: usize,
+    entry_room: usize,
+    field_room: usize,
     streams: &mut [StreamPlace],
     entries: &mut [EntryPlace],
     fields: &mut [FieldPlace],
 ) -> Outcome
-    ensures is { IsOutcome StreamsIn bytes.now streams.new entries.new fields.new result }
+    ensures is { IsOutcome StreamsIn bytes.now (room_of stream_room entry_room field_room)
+        streams.new entries.new fields.new result }
+    ensures held { AreHeld streams.new entries.new fields.new result }
     ensures in_place { ReadFits bytes.now (length streams.old) (length entries.old) (length fields.old)
         → code result ≡ 0 }
+    ensures rows { (ss : List SentStream) (len : ℕ) → BeginsWithStreams default_limits false bytes.now ss len
+        → TellsRows (length streams.old) (length ss) len (code result) (found result).len (found result).streams }
 {
     let mut tables = EntryTables::new(streams, entries, fields);
     match find_streams(Limits::default(), bytes, &mut tables) {
-        Err(_) => streams_room(alloc, bytes),
+        Err(_) => streams_room(alloc, bytes, room_of(stream_room, entry_room, field_room)),
         Ok(None) => other(alloc, bytes),
         Ok(Some(len)) => Outcome::InPlace {
             len,
@@ -106,13 +130,15 @@ pub extern "C" fn redis_find_range(
     fields: &mut [FieldPlace],
     found: &mut Found,
 ) -> u32
-    ensures told { IsTold RangeIn bytes.now [] entries.new fields.new result found.new }
+    ensures told { IsTold RangeIn bytes.now (room_of 0 (length entries.old) (length fields.old))
+        [] entries.new fields.new result found.new }
     ensures in_place { RangeFits bytes.now (length entries.old) (length fields.old) → result ≡ 0 }
+    ensures rows { (es : List SentEntry) (len : ℕ) → BeginsWithRange default_limits bytes.now es len
+        → TellsRows (length entries.old) (length es) len result found.new.len found.new.entries }
     ensures tells { TellsFinding bytes.now result }
 {
-    let outcome = range_outcome(alloc, bytes, entries, fields);
-    *found = outcome.found();
-    outcome.code()
+    let room = room_of(0, entries.len(), fields.len());
+    range_outcome(alloc, bytes, room, entries, fields).tell(found)
 }
 
 /// Finds where the streams and their entries stand of the reply of XREAD or XREADGROUP at the head of
@@ -126,12 +152,25 @@ pub extern "C" fn redis_find_streams(
     fields: &mut [FieldPlace],
     found: &mut Found,
 ) -> u32
-    ensures told { IsTold StreamsIn bytes.now streams.new entries.new fields.new result found.new }
+    ensures told { IsTold StreamsIn bytes.now
+        (room_of (length streams.old) (length entries.old) (length fields.old))
+        streams.new entries.new fields.new result found.new }
     ensures in_place { ReadFits bytes.now (length streams.old) (length entries.old) (length fields.old)
         → result ≡ 0 }
+    ensures rows { (ss : List SentStream) (len : ℕ) → BeginsWithStreams default_limits false bytes.now ss len
+        → TellsRows (length streams.old) (length ss) len result found.new.len found.new.streams }
     ensures tells { TellsFinding bytes.now result }
 {
-    let outcome = streams_outcome(alloc, bytes, streams, entries, fields);
-    *found = outcome.found();
-    outcome.code()
+    let (stream_room, entry_room, field_room) = (streams.len(), entries.len(), fields.len());
+    streams_outcome(
+        alloc,
+        bytes,
+        stream_room,
+        entry_room,
+        field_room,
+        streams,
+        entries,
+        fields,
+    )
+    .tell(found)
 }

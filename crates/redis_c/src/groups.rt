@@ -41,9 +41,7 @@ pub extern "C" fn redis_xgroup_create(
     ensures { IsPackedAs (IsPacking (create_args key.now group.now id.now mkstream) out.new)
         result len.new }
 {
-    let packing = packed_create(alloc, key, group, id, mkstream, out);
-    *len = packing.len();
-    packing.number()
+    packed_create(alloc, key, group, id, mkstream, out).tell(len)
 }
 
 /// Packs `XGROUP SETID key group id`.
@@ -59,9 +57,7 @@ pub extern "C" fn redis_xgroup_setid(
     ensures { IsPackedAs (IsPacking (setid_args key.now group.now id.now) out.new) result len.new }
 {
     let command = xgroup_setid(Argument(key), Argument(group), Argument(id));
-    let packing = packed(alloc, &command, out);
-    *len = packing.len();
-    packing.number()
+    packed(alloc, &command, out).tell(len)
 }
 
 /// Packs `XGROUP DESTROY key group`.
@@ -76,7 +72,5 @@ pub extern "C" fn redis_xgroup_destroy(
     ensures { IsPackedAs (IsPacking (destroy_args key.now group.now) out.new) result len.new }
 {
     let command = xgroup_destroy(Argument(key), Argument(group));
-    let packing = packed(alloc, &command, out);
-    *len = packing.len();
-    packing.number()
+    packed(alloc, &command, out).tell(len)
 }

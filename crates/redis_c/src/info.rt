@@ -19,9 +19,7 @@ pub extern "C" fn redis_xinfo_stream(
 ) -> u32
     ensures { IsPackedAs (IsPacking (info_stream_args key.now) out.new) result len.new }
 {
-    let packing = packed(alloc, &xinfo_stream(Argument(key)), out);
-    *len = packing.len();
-    packing.number()
+    packed(alloc, &xinfo_stream(Argument(key)), out).tell(len)
 }
 
 /// Packs `XINFO GROUPS key`.
@@ -34,9 +32,7 @@ pub extern "C" fn redis_xinfo_groups(
 ) -> u32
     ensures { IsPackedAs (IsPacking (info_groups_args key.now) out.new) result len.new }
 {
-    let packing = packed(alloc, &xinfo_groups(Argument(key)), out);
-    *len = packing.len();
-    packing.number()
+    packed(alloc, &xinfo_groups(Argument(key)), out).tell(len)
 }
 
 /// Packs `XINFO CONSUMERS key group`.
@@ -51,9 +47,7 @@ pub extern "C" fn redis_xinfo_consumers(
     ensures { IsPackedAs (IsPacking (info_consumers_args key.now group.now) out.new) result len.new }
 {
     let command = xinfo_consumers(Argument(key), Argument(group));
-    let packing = packed(alloc, &command, out);
-    *len = packing.len();
-    packing.number()
+    packed(alloc, &command, out).tell(len)
 }
 
 /// Packs `XPENDING key group`: how much is pending for the group, and for whom.
@@ -68,7 +62,5 @@ pub extern "C" fn redis_xpending_summary(
     ensures { IsPackedAs (IsPacking (pending_summary_args key.now group.now) out.new) result len.new }
 {
     let command = xpending(Argument(key), Argument(group));
-    let packing = packed(alloc, &command, out);
-    *len = packing.len();
-    packing.number()
+    packed(alloc, &command, out).tell(len)
 }

@@ -9,6 +9,7 @@ mod argument;
 mod at_places;
 mod claiming;
 mod claims;
+mod code;
 mod commands;
 mod copying;
 mod cursor;

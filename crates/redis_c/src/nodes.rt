@@ -1,7 +1,10 @@
 //! Any reply where it stands, as a flat list of its values, in a table of the caller.
-ghost use Rattle.std.specs.Prelude.{◌≡◌};
-ghost use Rattle.redis_c.specs.Nodes.{AreNodesTold, nodes_code, nodes_count, nodes_len};
+ghost use Rattle.std.specs.Prelude.{◌≡◌, length};
+ghost use Rattle.redis_wire.specs.Limits.{default_limits};
+ghost use Rattle.redis_wire.specs.Nodes.{Finds};
+ghost use Rattle.redis_c.specs.Nodes.{AreNodesTold, HasTooFew, TellsNodes, nodes_code, nodes_count, nodes_len};
 
+use crate::code;
 use crate::outcome::code_of_fault;
 use redis_wire::{Found, Limits, Node, WireError, find_nodes};
 use std::alloc::Global;
@@ -11,10 +14,10 @@ fn nodes_code(found: &Result<Found, WireError>) -> u32
     ensures { result ≡ nodes_code found.now }
 {
     match found {
-        Ok(Found::Whole { .. }) => 0,
-        Ok(Found::NoRoom { .. }) => 1,
-        Ok(Found::Incomplete) => 2,
-        Err(WireError::Memory) => 5,
+        Ok(Found::Whole { .. }) => code::OK,
+        Ok(Found::NoRoom { .. }) => code::ROOM,
+        Ok(Found::Incomplete) => code::INCOMPLETE,
+        Err(WireError::Memory) => code::MEMORY,
         Err(WireError::Fault(fault)) => code_of_fault(*fault),
     }
 }
@@ -40,6 +43,26 @@ fn nodes_count(found: &Result<Found, WireError>) -> usize
     }
 }
 
+/// What the values at the head of bytes come to in this table.
+fn nodes_found(alloc: Global, bytes: &[u8], nodes: &mut [Node]) -> Result<Found, WireError>
+    ensures is { Finds default_limits bytes.now nodes.new result }
+    ensures few { HasTooFew (length nodes.new) result }
+{
+    match find_nodes(alloc, Limits::default(), bytes, nodes) {
+        Ok(Found::Whole { len, count }) => Ok(Found::Whole { len, count }),
+        Ok(Found::NoRoom { len }) => {
+            if nodes.len() < len / 3 {
+                Ok(Found::NoRoom { len })
+            } else {
+                // No value has fewer than three bytes, so such a table is filled.
+                Err(WireError::Memory)
+            }
+        }
+        Ok(Found::Incomplete) => Ok(Found::Incomplete),
+        Err(e) => Err(e),
+    }
+}
+
 /// Finds where the values of the reply at the head of bytes stand, each in front of its members.
 #[unsafe(no_mangle)]
 pub extern "C" fn redis_find_nodes(
@@ -49,9 +72,10 @@ pub extern "C" fn redis_find_nodes(
     len: &mut usize,
     count: &mut usize,
 ) -> u32
-    ensures { AreNodesTold bytes.now nodes.new result len.new count.new }
+    ensures are { AreNodesTold bytes.now nodes.new result len.new count.new }
+    ensures tells { TellsNodes bytes.now result len.new }
 {
-    let found = find_nodes(alloc, Limits::default(), bytes, nodes);
+    let found = nodes_found(alloc, bytes, nodes);
     *len = nodes_len(&found);
     *count = nodes_count(&found);
     nodes_code(&found)

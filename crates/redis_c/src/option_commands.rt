@@ -102,9 +102,7 @@ pub extern "C" fn redis_xadd_options(
     ensures { IsPackedAs (IsPackingBy (add_options_args key.now id.now) (add_in bytes.now settings.now)
         (fields_at bytes.now fields.now) out.new) result len.new }
 {
-    let packing = packed_add(alloc, key, id, settings, bytes, fields, out);
-    *len = packing.len();
-    packing.number()
+    packed_add(alloc, key, id, settings, bytes, fields, out).tell(len)
 }
 
 /// Packs XTRIM with options.
@@ -137,9 +135,7 @@ pub extern "C" fn redis_xtrim_options(
     ensures { IsPackedAs (IsPackingWith (trim_options_args key.now) (trim_in bytes.now settings.now) out.new)
         result len.new }
 {
-    let packing = packed_trim(alloc, key, settings, bytes, out);
-    *len = packing.len();
-    packing.number()
+    packed_trim(alloc, key, settings, bytes, out).tell(len)
 }
 
 /// Packs XCLAIM of these ids with these options.
@@ -214,11 +210,10 @@ pub extern "C" fn redis_xclaim_options(
     ensures { IsPackedAs (IsPackingBy (claim_options_args key.now group.now consumer.now min_idle)
         (claim_in bytes.now settings.now) (ids_at bytes.now entries.now) out.new) result len.new }
 {
-    let packing = packed_claim(
+    packed_claim(
         alloc, key, group, consumer, min_idle, settings, bytes, entries, out,
-    );
-    *len = packing.len();
-    packing.number()
+    )
+    .tell(len)
 }
 
 /// Packs XAUTOCLAIM with options.
@@ -264,9 +259,7 @@ pub extern "C" fn redis_xautoclaim_options(
         (autoclaim_options_args key.now group.now consumer.now min_idle start.now settings.now) out.new)
         result len.new }
 {
-    let packing = packed_autoclaim(alloc, key, group, consumer, min_idle, start, settings, out);
-    *len = packing.len();
-    packing.number()
+    packed_autoclaim(alloc, key, group, consumer, min_idle, start, settings, out).tell(len)
 }
 
 /// Packs a read of the streams at these places with these options.
@@ -304,9 +297,7 @@ pub extern "C" fn redis_xread_streams(
     ensures { IsPackedAs (IsPackingOf (read_streams_args settings.now) (fields_at bytes.now streams.now)
         out.new) result len.new }
 {
-    let packing = packed_streams(alloc, &reading_of(settings), bytes, streams, out);
-    *len = packing.len();
-    packing.number()
+    packed_streams(alloc, &reading_of(settings), bytes, streams, out).tell(len)
 }
 
 /// Packs XREADGROUP of the streams at these places.
@@ -344,9 +335,7 @@ pub extern "C" fn redis_xreadgroup_streams(
     ensures { IsPackedAs (IsPackingOf (read_group_args settings.now group.now consumer.now)
         (fields_at bytes.now streams.now) out.new) result len.new }
 {
-    let packing = packed_group(alloc, settings, group, consumer, bytes, streams, out);
-    *len = packing.len();
-    packing.number()
+    packed_group(alloc, settings, group, consumer, bytes, streams, out).tell(len)
 }
 
 /// Packs XPENDING of a consumer or of all.
@@ -398,9 +387,8 @@ pub extern "C" fn redis_xpending_options(
         (pending_options_args key.now group.now settings.now start.now end.now count consumer.now) out.new)
         result len.new }
 {
-    let packing = packed_pending(
+    packed_pending(
         alloc, key, group, settings, start, end, count, consumer, out,
-    );
-    *len = packing.len();
-    packing.number()
+    )
+    .tell(len)
 }

@@ -1,7 +1,9 @@
 //! What reading the bytes of a reply comes to, and the numbers by which C is told.
 ghost use Rattle.std.specs.Prelude.{◌≡◌};
 ghost use Rattle.redis_c.specs.Outcome.{code_of_fault, code, found};
+ghost use Rattle.redis_c.specs.Told.{IsWanting};
 
+use crate::code;
 use redis_wire::Fault;
 use redis_wire::place::Span;
 
@@ -73,12 +75,12 @@ impl Outcome {
         ensures { result ≡ code self }
     {
         match self {
-            Outcome::InPlace { .. } => 0,
-            Outcome::Room { .. } => 1,
-            Outcome::Incomplete => 2,
-            Outcome::ServerError { .. } => 3,
-            Outcome::OtherShape { .. } => 4,
-            Outcome::Memory => 5,
+            Outcome::InPlace { .. } => code::OK,
+            Outcome::Room { .. } => code::ROOM,
+            Outcome::Incomplete => code::INCOMPLETE,
+            Outcome::ServerError { .. } => code::SERVER_ERROR,
+            Outcome::OtherShape { .. } => code::OTHER,
+            Outcome::Memory => code::MEMORY,
             Outcome::Fault(fault) => code_of_fault(fault),
         }
     }
@@ -101,6 +103,32 @@ impl Outcome {
             Outcome::Incomplete | Outcome::Memory | Outcome::Fault(_) => found_of(0, none, nowhere),
         }
     }
+
+    /// Tells C of it: sets what was found, and returns the number.
+    pub fn tell(self, beside: &mut Found) -> u32
+        ensures number { result ≡ code self }
+        ensures beside { beside.new ≡ found self }
+    {
+        *beside = self.found();
+        self.code()
+    }
+}
+
+/// What is told of a reply of so many bytes with so many places, if tables with this room were not filled.
+pub fn wanted(len: usize, counts: Counts, room: Counts) -> Outcome
+    ensures { IsWanting len counts room result }
+{
+    if counts.streams > room.streams {
+        return Outcome::Room { len, counts };
+    }
+    if counts.entries > room.entries {
+        return Outcome::Room { len, counts };
+    }
+    if counts.fields > room.fields {
+        return Outcome::Room { len, counts };
+    }
+    // Tables with room for all places are filled.
+    Outcome::Memory
 }
 
 /// A length, counts and a place, for C.
@@ -127,20 +155,20 @@ pub fn code_of_fault(fault: Fault) -> u32
     ensures { result ≡ code_of_fault fault }
 {
     match fault {
-        Fault::UnknownType => 16,
-        Fault::Streamed => 17,
-        Fault::BadEnd => 18,
-        Fault::BadLength => 19,
-        Fault::TooLong => 20,
-        Fault::LongLine => 21,
-        Fault::TooDeep => 22,
-        Fault::BadNumber => 23,
-        Fault::BadNull => 24,
-        Fault::BadBoolean => 25,
-        Fault::NotUtf8 => 26,
-        Fault::BadVerbatim => 27,
-        Fault::BadPush => 28,
-        Fault::Overfull => 29,
-        Fault::TooMany => 30,
+        Fault::UnknownType => code::FAULT_UNKNOWN_TYPE,
+        Fault::Streamed => code::FAULT_STREAMED,
+        Fault::BadEnd => code::FAULT_BAD_END,
+        Fault::BadLength => code::FAULT_BAD_LENGTH,
+        Fault::TooLong => code::FAULT_TOO_LONG,
+        Fault::LongLine => code::FAULT_LONG_LINE,
+        Fault::TooDeep => code::FAULT_TOO_DEEP,
+        Fault::BadNumber => code::FAULT_BAD_NUMBER,
+        Fault::BadNull => code::FAULT_BAD_NULL,
+        Fault::BadBoolean => code::FAULT_BAD_BOOLEAN,
+        Fault::NotUtf8 => code::FAULT_NOT_UTF8,
+        Fault::BadVerbatim => code::FAULT_BAD_VERBATIM,
+        Fault::BadPush => code::FAULT_BAD_PUSH,
+        Fault::Overfull => code::FAULT_OVERFULL,
+        Fault::TooMany => code::FAULT_TOO_MANY,
     }
 }

@@ -2,6 +2,7 @@
 ghost use Rattle.std.specs.Prelude.{◌≡◌};
 ghost use Rattle.redis_c.specs.Packing.{number, len_of, IsPacking, IsWritten};
 
+use crate::code;
 use redis_resp::ToRedisArgs;
 use redis_wire::{PackError, pack_command};
 use std::alloc::Global;
@@ -33,22 +34,22 @@ pub enum Packing {
 
 impl Packing {
     /// The number by which C is told.
-    pub fn number(self) -> u32
+    fn number(self) -> u32
         ensures { result ≡ number self }
     {
         match self {
-            Packing::Written { .. } => 0,
-            Packing::Room { .. } => 1,
-            Packing::Memory => 5,
-            Packing::TooLarge => 6,
-            Packing::Outside => 7,
-            Packing::Nothing => 8,
-            Packing::Refused => 9,
+            Packing::Written { .. } => code::OK,
+            Packing::Room { .. } => code::ROOM,
+            Packing::Memory => code::MEMORY,
+            Packing::TooLarge => code::TOO_LARGE,
+            Packing::Outside => code::OUTSIDE,
+            Packing::Nothing => code::NOTHING,
+            Packing::Refused => code::SETTINGS,
         }
     }
 
     /// How many bytes were written or are wanted.
-    pub fn len(self) -> usize
+    fn len(self) -> usize
         ensures { result ≡ len_of self }
     {
         match self {
@@ -59,6 +60,15 @@ impl Packing {
             | Packing::Nothing
             | Packing::Refused => 0,
         }
+    }
+
+    /// Tells C of it: sets how many bytes were written or are wanted, and returns the number.
+    pub fn tell(self, len: &mut usize) -> u32
+        ensures told { result ≡ number self }
+        ensures counted { len.new ≡ len_of self }
+    {
+        *len = self.len();
+        self.number()
     }
 }
 

@@ -18,9 +18,7 @@ use stream_refs::EntryPlace;
 pub extern "C" fn redis_xlen(alloc: Global, key: &[u8], out: &mut [u8], len: &mut usize) -> u32
     ensures { IsPackedAs (IsPacking (len_args key.now) out.new) result len.new }
 {
-    let packing = packed(alloc, &xlen(Argument(key)), out);
-    *len = packing.len();
-    packing.number()
+    packed(alloc, &xlen(Argument(key)), out).tell(len)
 }
 
 /// Packs `XRANGE key start end`: all entries from `start` to `end`, both included, the least id first.
@@ -35,13 +33,12 @@ pub extern "C" fn redis_xrange(
 ) -> u32
     ensures { IsPackedAs (IsPacking (range_args key.now start.now end.now) out.new) result len.new }
 {
-    let packing = packed(
+    packed(
         alloc,
         &xrange(Argument(key), Argument(start), Argument(end)),
         out,
-    );
-    *len = packing.len();
-    packing.number()
+    )
+    .tell(len)
 }
 
 /// Packs `XRANGE key start end COUNT count`: at most `count` of these entries.
@@ -58,9 +55,7 @@ pub extern "C" fn redis_xrange_count(
     ensures { IsPackedAs (IsPacking (range_count_args key.now start.now end.now count) out.new) result len.new }
 {
     let command = xrange_count(Argument(key), Argument(start), Argument(end), count);
-    let packing = packed(alloc, &command, out);
-    *len = packing.len();
-    packing.number()
+    packed(alloc, &command, out).tell(len)
 }
 
 /// Packs `XREVRANGE key end start`: all entries from `end` back to `start`, both included, the greatest id first.
@@ -75,13 +70,12 @@ pub extern "C" fn redis_xrevrange(
 ) -> u32
     ensures { IsPackedAs (IsPacking (revrange_args key.now end.now start.now) out.new) result len.new }
 {
-    let packing = packed(
+    packed(
         alloc,
         &xrevrange(Argument(key), Argument(end), Argument(start)),
         out,
-    );
-    *len = packing.len();
-    packing.number()
+    )
+    .tell(len)
 }
 
 /// Packs `XREVRANGE key end start COUNT count`: at most `count` of these entries.
@@ -98,9 +92,7 @@ pub extern "C" fn redis_xrevrange_count(
     ensures { IsPackedAs (IsPacking (revrange_count_args key.now end.now start.now count) out.new) result len.new }
 {
     let command = xrevrange_count(Argument(key), Argument(end), Argument(start), count);
-    let packing = packed(alloc, &command, out);
-    *len = packing.len();
-    packing.number()
+    packed(alloc, &command, out).tell(len)
 }
 
 /// Packs `XDEL key id`.
@@ -115,9 +107,7 @@ pub extern "C" fn redis_xdel(
     ensures { IsPackedAs (IsPacking (del_args key.now (id.now ∷ [])) out.new) result len.new }
 {
     let id = Argument(id);
-    let packing = packed(alloc, &xdel(Argument(key), AtLeastOne::one(&id)), out);
-    *len = packing.len();
-    packing.number()
+    packed(alloc, &xdel(Argument(key), AtLeastOne::one(&id)), out).tell(len)
 }
 
 /// Packs XDEL of the entries at these places.
@@ -153,7 +143,5 @@ pub extern "C" fn redis_xdel_entries(
     ensures { IsPackedAs (IsPackingOf (del_args key.now) (ids_at bytes.now entries.now) out.new)
         result len.new }
 {
-    let packing = packed_del(alloc, key, bytes, entries, out);
-    *len = packing.len();
-    packing.number()
+    packed_del(alloc, key, bytes, entries, out).tell(len)
 }

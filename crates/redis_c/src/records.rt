@@ -2,6 +2,7 @@
 ghost use Rattle.std.specs.Prelude.{◌≡◌};
 ghost use Rattle.redis_c.specs.Records.{records_code, records_found};
 
+use crate::code;
 use crate::outcome::Outcome;
 use redis_wire::place::Span;
 
@@ -104,18 +105,18 @@ pub enum Records {
 
 impl Records {
     /// The number of the outcome.
-    pub fn code(self) -> u32
+    fn code(self) -> u32
         ensures { result ≡ records_code self }
     {
         match self {
-            Records::Copied { .. } => 0,
-            Records::Room { .. } => 1,
+            Records::Copied { .. } => code::OK,
+            Records::Room { .. } => code::ROOM,
             Records::Unread(outcome) => outcome.code(),
         }
     }
 
     /// What C is told beside it.
-    pub fn found(self) -> RecordsFound
+    fn found(self) -> RecordsFound
         ensures { result ≡ records_found self }
     {
         match self {
@@ -137,5 +138,14 @@ impl Records {
                 }
             }
         }
+    }
+
+    /// Tells C of it: sets what was found, and returns the number.
+    pub fn tell(self, found: &mut RecordsFound) -> u32
+        ensures number { result ≡ records_code self }
+        ensures beside { found.new ≡ records_found self }
+    {
+        *found = self.found();
+        self.code()
     }
 }

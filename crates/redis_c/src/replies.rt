@@ -126,9 +126,7 @@ pub extern "C" fn redis_xinfo_groups_reply(
     ensures tells { TellsRecords groups_reading length (flat_map group_text) (length groups.old) (length texts.old)
         bytes.now result }
 {
-    let records = copied_groups(alloc, bytes, groups, texts);
-    *found = records.found();
-    records.code()
+    copied_groups(alloc, bytes, groups, texts).tell(found)
 }
 
 /// The pending entries that a reply tells of, in tables of the caller.
@@ -167,9 +165,7 @@ pub extern "C" fn redis_xpending_reply(
     ensures tells { TellsRecords pending_count_reading length (flat_map pending_text) (length entries.old)
         (length texts.old) bytes.now result }
 {
-    let records = copied_entries(alloc, bytes, entries, texts);
-    *found = records.found();
-    records.code()
+    copied_entries(alloc, bytes, entries, texts).tell(found)
 }
 
 /// What a reply tells is pending, in tables of the caller.
@@ -211,7 +207,5 @@ pub extern "C" fn redis_xpending_summary_reply(
     ensures tells { TellsRecords pending_reading (λ s. length (summary_consumers s)) summary_text
         (length consumers.old) (length texts.old) bytes.now result }
 {
-    let records = copied_summary(alloc, bytes, summary, consumers, texts);
-    *found = records.found();
-    records.code()
+    copied_summary(alloc, bytes, summary, consumers, texts).tell(found)
 }

@@ -15,6 +15,7 @@ ghost use Rattle.redis_c.specs.Server.{reading_number, reading_count, read_in, I
 
 use crate::adding::add_in;
 use crate::claiming::{autoclaim_of, claim_in};
+use crate::code;
 use crate::commands::{ReadSettings, options_of, reading_of};
 use crate::cursor::Cursor;
 use crate::placed::{Unplaced, text_at, texts_at};
@@ -56,25 +57,34 @@ pub enum Reading {
 
 impl Reading {
     /// The number by which C is told.
-    pub fn number(self) -> u32
+    fn number(self) -> u32
         ensures { result ≡ reading_number self }
     {
         match self {
-            Reading::Options { .. } => 0,
-            Reading::Memory => 5,
-            Reading::Outside => 7,
-            Reading::NoOptions => 10,
+            Reading::Options { .. } => code::OK,
+            Reading::Memory => code::MEMORY,
+            Reading::Outside => code::OUTSIDE,
+            Reading::NoOptions => code::NO_OPTIONS,
         }
     }
 
     /// How many arguments the options are.
-    pub fn count(self) -> usize
+    fn count(self) -> usize
         ensures { result ≡ reading_count self }
     {
         match self {
             Reading::Options { count } => count,
             Reading::Memory | Reading::Outside | Reading::NoOptions => 0,
         }
+    }
+
+    /// Tells C of it: sets how many arguments the options are, and returns the number.
+    fn tell(self, count: &mut usize) -> u32
+        ensures told { result ≡ reading_number self }
+        ensures counted { count.new ≡ reading_count self }
+    {
+        *count = self.count();
+        self.number()
     }
 }
 
@@ -163,9 +173,7 @@ pub extern "C" fn redis_read_add(
     ensures { IsReadAs (IsReading AddFits add_sentence add_words Equal (texts_at bytes.now places.now)
         (add_in bytes.now settings.new)) result count.new }
 {
-    let reading = add_reading(alloc, bytes, places, settings);
-    *count = reading.count();
-    reading.number()
+    add_reading(alloc, bytes, places, settings).tell(count)
 }
 
 /// The options of XTRIM in front of the arguments at these places.
@@ -208,9 +216,7 @@ pub extern "C" fn redis_read_trim(
     ensures { IsReadAs (IsReading TrimFits trim_sentence trim_words Equal (texts_at bytes.now places.now)
         (trim_in bytes.now settings.new)) result count.new }
 {
-    let reading = trim_reading(alloc, bytes, places, settings);
-    *count = reading.count();
-    reading.number()
+    trim_reading(alloc, bytes, places, settings).tell(count)
 }
 
 /// The options of XCLAIM in front of the arguments at these places.
@@ -253,9 +259,7 @@ pub extern "C" fn redis_read_claim(
     ensures { IsReadAs (IsReading ClaimFits claim_sentence claim_words Equal (texts_at bytes.now places.now)
         (claim_in bytes.now settings.new)) result count.new }
 {
-    let reading = claim_reading(alloc, bytes, places, settings);
-    *count = reading.count();
-    reading.number()
+    claim_reading(alloc, bytes, places, settings).tell(count)
 }
 
 /// The options of XAUTOCLAIM in front of the arguments at these places.
@@ -299,9 +303,7 @@ pub extern "C" fn redis_read_autoclaim(
     ensures { IsReadAs (IsReading AutoClaimFits autoclaim_sentence autoclaim_words Equal
         (texts_at bytes.now places.now) (Some (autoclaim_of settings.new))) result count.new }
 {
-    let reading = autoclaim_reading(alloc, bytes, places, settings);
-    *count = reading.count();
-    reading.number()
+    autoclaim_reading(alloc, bytes, places, settings).tell(count)
 }
 
 /// The settings of a read, for a consumer of a group where one is named.
@@ -373,7 +375,5 @@ pub extern "C" fn redis_read_read(
     ensures { IsReadAs (IsReading ReadFits read_sentence read_words CountAlike (texts_at bytes.now places.now)
         (read_in bytes.now settings.new group.new)) result count.new }
 {
-    let reading = read_reading(alloc, bytes, places, settings, group);
-    *count = reading.count();
-    reading.number()
+    read_reading(alloc, bytes, places, settings, group).tell(count)
 }

@@ -7,10 +7,10 @@ use redis_wire::place::Span;
 pub struct TrimSettings {
     /// 0 where nothing is trimmed, 1 for `MAXLEN` and 2 for `MINID`.
     pub bound: u32,
-    /// What becomes of references to what is trimmed: 0 where nothing is said of them, 1 for `KEEPREF`, 2
+    /// What happens to deleted entries in the pending lists of groups: 0 to say nothing of it, 1 for `KEEPREF`, 2
     /// for `DELREF` and 3 for `ACKED`.
     pub policy: u32,
-    /// Whether it is about the bound alone: `~` in place of `=`.
+    /// Whether some entries more may stay: `~` in place of `=`.
     pub approximate: bool,
     /// Whether one call removes at most `limit` entries.
     pub has_limit: bool,
@@ -28,7 +28,7 @@ pub struct TrimSettings {
 pub struct AddSettings {
     /// Whether a stream that does not exist is not made.
     pub nomkstream: bool,
-    /// How a duplicate entry is recognized: 0 for not at all, 1 for `IDMP` and 2 for `IDMPAUTO`.
+    /// How the server finds out that an entry was added before: 0 for not at all, 1 for `IDMP` and 2 for `IDMPAUTO`.
     pub idempotency: u32,
     /// Where the name of the producer stands.
     pub producer: Span,

@@ -31,28 +31,28 @@ pub fn utf8_at(alloc: Global, bytes: &[u8], place: Span) -> Result<String, Unset
     }
 }
 
-/// What becomes of references, if the number says so.
-pub fn policy_by(references: u32) -> Result<Option<StreamDeletionPolicy>, Unset>
-    ensures { Makes (option_map policy_of) result (policy_by references) }
+/// What the number says to do with the entry in the pending lists of groups, if it says anything.
+pub fn policy_by(number: u32) -> Result<Option<StreamDeletionPolicy>, Unset>
+    ensures { Makes (option_map policy_of) result (policy_by number) }
 {
-    if references == 0 {
+    if number == 0 {
         Ok(None)
-    } else if references == 1 {
+    } else if number == 1 {
         Ok(Some(StreamDeletionPolicy::KeepRef))
-    } else if references == 2 {
+    } else if number == 2 {
         Ok(Some(StreamDeletionPolicy::DelRef))
-    } else if references == 3 {
+    } else if number == 3 {
         Ok(Some(StreamDeletionPolicy::Acked))
     } else {
         Err(Unset::Refused)
     }
 }
 
-/// About so, or to the bound itself.
-fn mode_by(about: bool) -> StreamTrimmingMode
-    ensures { mode_of result ≡ mode_by about }
+/// `~` if the trimming may keep some entries more, and else `=`.
+fn mode_by(approximate: bool) -> StreamTrimmingMode
+    ensures { mode_of result ≡ mode_by approximate }
 {
-    if about {
+    if approximate {
         StreamTrimmingMode::Approx
     } else {
         StreamTrimmingMode::Exact

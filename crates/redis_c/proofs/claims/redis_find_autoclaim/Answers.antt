@@ -1,11 +1,18 @@
-use Rattle.std.proofs.Common.{[]}
+use Rattle.std.proofs.Common.{[], ◌+◌, length}
 use Rattle.redis_c.specs.Claimed.{AutoClaimIn}
 use Rattle.redis_c.proofs.FindLemmas.{autoclaim_whole, finding_told}
+use Rattle.redis_c.proofs.RoomLemmas.{told_rows}
 use Rattle.redis_c.proofs.claims.redis_find_autoclaim.Goals as goal
 
 pub returns-clause-tells : goal.returns-clause-tells
 returns-clause-tells c =
-    let o = c.autoclaim_outcome-outcome in
+    let o = c.autoclaim_outcome in
     let place = o.new.claim in
-    finding_told (AutoClaimIn place) c.args.bytes.now (λ len held. autoclaim_whole c.args.bytes.now len held place) [] _ _
-    o.result c.code.result c.code.ensures o.ensures.is
+    finding_told (AutoClaimIn place) c.args.bytes.now (λ len held. autoclaim_whole c.args.bytes.now len held place) _ [] _ _
+    o.result c.tell.result c.tell.ensures.number o.ensures.is
+
+pub returns-clause-rows : goal.returns-clause-rows
+returns-clause-rows c = λ r len b.
+    let o = c.autoclaim_outcome in
+    told_rows (λ f. f.entries) o.result c.tell.result c.tell.new.beside (length c.args.entries.now)
+    (length r.claimed + length r.deleted) len c.tell.ensures.number c.tell.ensures.beside (o.ensures.rows r len b)

@@ -1,10 +1,17 @@
-use Rattle.std.proofs.Common.{[]}
+use Rattle.std.proofs.Common.{[], length}
 use Rattle.redis_c.specs.Told.{RangeIn}
 use Rattle.redis_c.proofs.FindLemmas.{finding_told, range_whole}
+use Rattle.redis_c.proofs.RoomLemmas.{told_rows}
 use Rattle.redis_c.proofs.entries.redis_find_range.Goals as goal
 
 pub returns-clause-tells : goal.returns-clause-tells
 returns-clause-tells c =
-    let o = c.range_outcome-outcome in
-    finding_told RangeIn c.args.bytes.now (range_whole c.args.bytes.now) [] _ _ o.result c.code.result c.code.ensures
+    let o = c.range_outcome in
+    finding_told RangeIn c.args.bytes.now (range_whole c.args.bytes.now) _ [] _ _ o.result c.tell.result c.tell.ensures.number
     o.ensures.is
+
+pub returns-clause-rows : goal.returns-clause-rows
+returns-clause-rows c = λ es len b.
+    let o = c.range_outcome in
+    told_rows (λ f. f.entries) o.result c.tell.result c.tell.new.beside (length c.args.entries.now) (length es) len
+    c.tell.ensures.number c.tell.ensures.beside (o.ensures.rows es len b)

@@ -1,9 +1,17 @@
+use Rattle.std.proofs.Common.{length}
 use Rattle.redis_c.specs.Told.{StreamsIn}
 use Rattle.redis_c.proofs.FindLemmas.{finding_told, streams_whole}
+use Rattle.redis_c.proofs.RoomLemmas.{told_rows}
 use Rattle.redis_c.proofs.entries.redis_find_streams.Goals as goal
 
 pub returns-clause-tells : goal.returns-clause-tells
 returns-clause-tells c =
-    let o = c.streams_outcome-outcome in
-    finding_told StreamsIn c.args.bytes.now (streams_whole c.args.bytes.now) _ _ _ o.result c.code.result c.code.ensures
+    let o = c.streams_outcome in
+    finding_told StreamsIn c.args.bytes.now (streams_whole c.args.bytes.now) _ _ _ _ o.result c.tell.result c.tell.ensures.number
     o.ensures.is
+
+pub returns-clause-rows : goal.returns-clause-rows
+returns-clause-rows c = λ ss len b.
+    let o = c.streams_outcome in
+    told_rows (λ f. f.streams) o.result c.tell.result c.tell.new.beside (length c.args.streams.now) (length ss) len
+    c.tell.ensures.number c.tell.ensures.beside (o.ensures.rows ss len b)

@@ -3,4 +3,4 @@ use Rattle.redis_c.proofs.replies.redis_xpending_reply.Goals as goal
 
 pub returns-clause-tells : goal.returns-clause-tells
 returns-clause-tells c =
-    records_tell _ _ _ _ _ _ _ c.copied_entries-records.result c.code.result c.code.ensures c.copied_entries-records.ensures
+    records_tell _ _ _ _ _ _ _ c.copied_entries.result c.tell.result c.tell.ensures.number c.copied_entries.ensures

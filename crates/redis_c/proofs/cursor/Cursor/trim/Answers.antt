@@ -4,7 +4,7 @@ use Rattle.redis_c.proofs.cursor.Cursor.trim.Goals as goal
 pub returns-clause-is : goal.returns-clause-is
 returns-clause-is c =
     let strategy = c.strategy-settings in
-    let references = c.references in
+    let policy = c.policy in
     trim_found c.args.self.now.bytes.now strategy.new.self.bytes.now c.args.self.now.places.now strategy.new.self.places.now
-    references.new.self.places.now strategy.result references.result strategy.ensures.is strategy.ensures.bytes
-    references.ensures.is
+    policy.new.self.places.now strategy.result policy.result strategy.ensures.is strategy.ensures.bytes
+    policy.ensures.is

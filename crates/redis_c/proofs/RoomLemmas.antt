@@ -1,0 +1,104 @@
+-- What is told of places that are found, and of tables that have too little room for them.
+use Rattle.std.proofs.Common.{◌≡◌, ◌≤◌, ◌+◌, ◌∙◌, ℕ, List, length, take, drop, map, refl, sym, ap, arith, subst, inl, inr}
+use Rattle.std.proofs.Common.{Option, Some, None}
+use Rattle.std.proofs.lemmas.List.{length-append, length-map, length-take, take-append-drop}
+use Rattle.std.specs.Prelude.{IsSomeAnd}
+use Rattle.stream_refs.specs.Held.{Held}
+use Rattle.stream_refs.specs.Lent.{Lent}
+use Rattle.redis_c.specs.Outcome.{code, found}
+use Rattle.redis_c.specs.Told.{HasCounts, IsRoom, IsTooMuch, IsWanting, TellsRows}
+use Rattle.redis_c.specs.declared.outcome.Counts.{Counts}
+use Rattle.redis_c.specs.declared.outcome.Found.{Found}
+use Rattle.redis_c.specs.declared.outcome.Outcome.{Outcome}
+use Rattle.redis_c.specs.declared.outcome.Outcome.TheVariants as outcomes
+
+module _ (len : ℕ) (counts room : Counts) where
+  -- what is wanted for places is told of them
+  pub wanting_is : (In : List ℕ → ℕ → Held → Type 0) (bytes : List ℕ) (held : Held) (o : Outcome)
+      → IsWanting len counts room o → In bytes len held → HasCounts counts held → IsRoom In bytes room o
+  wanting_is In bytes held (outcomes.Room l c) w at many = (
+    held,
+    subst (λ (n : ℕ). In bytes n held) (sym w.0) at,
+    subst (λ (x : Counts). HasCounts x held) (sym w.1) many,
+    subst (λ (x : Counts). IsTooMuch x room) (sym w.1) w.2,
+  )
+  wanting_is In bytes held outcomes.Memory w at many = tt
+  wanting_is In bytes held (outcomes.InPlace l c) w at many = absurd w
+  wanting_is In bytes held outcomes.Incomplete w at many = absurd w
+  wanting_is In bytes held (outcomes.ServerError l text) w at many = absurd w
+  wanting_is In bytes held (outcomes.OtherShape l) w at many = absurd w
+  wanting_is In bytes held (outcomes.Fault f) w at many = absurd w
+
+  -- so many entries are wanted
+  pub entries_wanted : (some rows n : ℕ) (o : Outcome) → IsWanting len counts room o → len ≡ n → counts.entries ≡ rows
+      → TellsRows some rows n (code o) (found o).len (found o).entries
+  entries_wanted some rows n (outcomes.Room l c) w same many =
+      inr (inr refl, (w.0 ∙ same, ap (λ (x : Counts). x.entries) w.1 ∙ many))
+  entries_wanted some rows n outcomes.Memory w same many = inl refl
+  entries_wanted some rows n (outcomes.InPlace l c) w same many = absurd w
+  entries_wanted some rows n outcomes.Incomplete w same many = absurd w
+  entries_wanted some rows n (outcomes.ServerError l text) w same many = absurd w
+  entries_wanted some rows n (outcomes.OtherShape l) w same many = absurd w
+  entries_wanted some rows n (outcomes.Fault f) w same many = absurd w
+
+  -- so many streams are wanted
+  pub streams_wanted : (some rows n : ℕ) (o : Outcome) → IsWanting len counts room o → len ≡ n → counts.streams ≡ rows
+      → TellsRows some rows n (code o) (found o).len (found o).streams
+  streams_wanted some rows n (outcomes.Room l c) w same many =
+      inr (inr refl, (w.0 ∙ same, ap (λ (x : Counts). x.streams) w.1 ∙ many))
+  streams_wanted some rows n outcomes.Memory w same many = inl refl
+  streams_wanted some rows n (outcomes.InPlace l c) w same many = absurd w
+  streams_wanted some rows n outcomes.Incomplete w same many = absurd w
+  streams_wanted some rows n (outcomes.ServerError l text) w same many = absurd w
+  streams_wanted some rows n (outcomes.OtherShape l) w same many = absurd w
+  streams_wanted some rows n (outcomes.Fault f) w same many = absurd w
+
+-- so many rows are in a table that has room for them
+pub rows_there : (some rows n told_len told_rows : ℕ) → told_len ≡ n → told_rows ≡ rows → told_rows ≤ some
+    → TellsRows some rows n 0 told_len told_rows
+rows_there some rows n told_len told_rows same many fits =
+    inr (inl (refl, omega (arith, many, fits)), (same, many))
+
+-- as many rows as there are places
+pub as_many : {A B : Type 0} (f : A → B) (places : List A) (rows : List B) (count : ℕ) → map f places ≡ rows
+    → count ≡ length places → count ≡ length rows
+as_many f places rows count is many = many ∙ sym (length-map places f) ∙ ap length is
+
+-- as many as in two parts
+pub as_many_parts : {A B C : Type 0} (f : A → B) (g : A → C) (places : List A) (k : ℕ) (bs : List B) (cs : List C)
+    (count : ℕ) → map f (take k places) ≡ bs → map g (drop k places) ≡ cs → count ≡ length places
+    → count ≡ length bs + length cs
+as_many_parts f g places k bs cs count first second many =
+    many ∙ ap length (sym (take-append-drop k places)) ∙ length-append (take k places) (drop k places)
+    ∙ ap (λ (n : ℕ). n + length (drop k places)) (as_many f (take k places) bs (length (take k places)) first refl)
+    ∙ ap (λ (n : ℕ). length bs + n) (as_many g (drop k places) cs (length (drop k places)) second refl)
+
+-- how many entries, or streams, the slices have room for
+abbrev pub entry_room : Option Lent → ℕ
+entry_room None = 0
+entry_room (Some lent) = lent.entry_room
+
+abbrev pub stream_room : Option Lent → ℕ
+stream_room None = 0
+stream_room (Some lent) = lent.stream_room
+
+-- no more are held in a table than it has room for
+pub held_fits : {A : Type 0} (k : ℕ) (table : List A) (count room : ℕ) → count ≡ length (take k table)
+    → length table ≡ room → count ≤ room
+held_fits k table count room many whole = omega (arith, many, whole, length-take k table)
+
+-- C is told what the outcome tells
+pub told_rows : (of : Found → ℕ) (o : Outcome) (n : ℕ) (f : Found) (some rows len : ℕ) → n ≡ code o → f ≡ found o
+    → TellsRows some rows len (code o) (found o).len (of (found o)) → TellsRows some rows len n f.len (of f)
+told_rows of o n f some rows len number beside tells =
+    subst (λ (x : ℕ). TellsRows some rows len x f.len (of f)) (sym number)
+    (subst (λ (x : Found). TellsRows some rows len (code o) x.len (of x)) (sym beside) tells)
+
+-- nothing is found where something is
+pub none_found : {A : Type 0} (o : Option A) (P : A → Type 0) → o ≡ None → IsSomeAnd o P → ⊥
+none_found None P is some = some
+none_found (Some x) P is some = absurd cc
+
+-- what is found is this
+pub some_found : {A : Type 0} (o : Option A) (x : A) (P : A → Type 0) → o ≡ Some x → IsSomeAnd o P → P x
+some_found {A} o x P is some = subst (λ (z : Option A). IsSomeAnd z P) is some
