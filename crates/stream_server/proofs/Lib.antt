@@ -3,6 +3,7 @@ pub mod SentLemmas
 pub mod SentReadLemmas
 mod AcknowledgeLemmas
 mod AddLemmas
+mod AddModelLemmas
 mod CommandLemmas
 mod DeleteLemmas
 mod DeletingLemmas

@@ -1,10 +1,10 @@
 -- What XADD does.
-use Rattle.std.specs.Prelude.{◌≡◌, ◌+◌, ◌==◌, ◌⊎◌, ℕ, List, Option, Some, None, false, drop, nat_lt, if◌then◌else◌}
+use Rattle.std.specs.Prelude.{◌≡◌, ◌+◌, ◌==◌, ◌⊎◌, ◌∷◌, ℕ, List, Option, Some, None, true, false, codes, drop, nat_lt, if◌then◌else◌}
 use Rattle.std.specs.Bool.{MatchBool}
 use Rattle.std.specs.Global.{Vec}
 use Rattle.std.specs.List.{HoldsAt}
 use Rattle.std.specs.declared.cmp.Ordering.TheVariants.{Less}
-use Rattle.stream_store.specs.EntryId.{id_number}
+use Rattle.stream_store.specs.EntryId.{id_number, id_text}
 use Rattle.stream_store.specs.Order.{id_order}
 use Rattle.stream_store.specs.Stream.{IsLonger}
 use Rattle.stream_store.specs.Trim.{IsTrimmed}
@@ -13,11 +13,23 @@ use Rattle.stream_store.specs.declared.stream.Entry.{Entry}
 use Rattle.stream_store.specs.declared.stream.Stream.{Stream}
 use Rattle.stream_store.specs.declared.trim.Trim.{Trim}
 use Rattle.stream_server.specs.Changed.{IsChangedAt, IsMade}
+use Rattle.stream_server.specs.IdWords.{Fits, texts_of}
+use Rattle.stream_server.specs.Places.{AreInOrder, IsMissing, keys_of}
 use Rattle.stream_server.specs.declared.answer.Answer.{Answer}
 use Rattle.stream_server.specs.declared.answer.Answer.TheVariants.{Id, Nil}
 use Rattle.stream_server.specs.declared.commands.NewId.{NewId}
 use Rattle.stream_server.specs.declared.commands.NewId.TheVariants.{Automatic, Within, Given}
 use Rattle.stream_server.specs.declared.commands.retention.Retention.{Retention}
+
+-- the options that are an id alone
+abbrev pub id_alone : NewId → Retention
+id_alone id = record { makes_stream = true; trim = None; id = id; len = 1 }
+
+-- The options that words begin with: an id alone, if the first word is the text of one, or `*`.
+pub record AreOptions (words : List (Vec ℕ)) (options : Retention) : Type 0 where
+  pub given : (id : EntryId) (others : List (List ℕ)) → Fits id → texts_of words ≡ id_text id ∷ others
+      → options ≡ id_alone (Given id)
+  pub automatic : (others : List (List ℕ)) → texts_of words ≡ codes "*" ∷ others → options ≡ id_alone Automatic
 
 -- the id that a new entry gets: the one that is given; the next one of a millisecond; or one of now, or the next one
 abbrev pub IsIdFor : EntryId → NewId → ℕ → EntryId → Type 0
@@ -37,6 +49,7 @@ pub record IsAdded (fields : Vec (Vec ℕ)) (options : Retention) (now : ℕ) (a
   pub entry : Entry
   pub longer : Stream
   pub fielded : entry.fields ≡ fields
+  pub fit : Fits entry.id
   pub above : id_order old.last_id entry.id ≡ Less
   pub wanted : IsIdFor old.last_id options.id now entry.id
   pub added : IsLonger entry old longer
@@ -49,12 +62,18 @@ pub record IsNotMade (options : Retention) (answer : Answer) (old new : List Str
   pub same : new ≡ old
   pub answered : answer ≡ Nil
 
--- the entry, whose fields are the words behind the options, is added to the stream of the key, or to a new one
+-- there is no stream of this key: one is made, to which the entry is added, or none is
+pub record IsXaddOfNone (key : List ℕ) (fields : Vec (Vec ℕ)) (options : Retention) (now : ℕ) (answer : Answer) (old new : List Stream) : Type 0 where
+  pub none : AreInOrder (keys_of old) → IsMissing key (keys_of old)
+  pub how : IsMade key (IsAdded fields options now answer) old new ⊎ IsNotMade options answer old new
+
+-- the entry, whose fields are the words after the options, is added to the stream of the key, or to a new one
 pub record IsXadd (words : List (Vec ℕ)) (now : ℕ) (answer : Answer) (old new : List Stream) : Type 0 where
   pub key : List ℕ
   pub options : Retention
   pub fields : Vec (Vec ℕ)
   pub keyed : HoldsAt (λ word. word.items ≡ key) words 1
+  pub read : AreOptions (drop 2 words) options
   pub fielded : fields.items ≡ drop (2 + options.len) words
   pub how : IsChangedAt key (IsAdded fields options now answer) old new
-      ⊎ (IsMade key (IsAdded fields options now answer) old new ⊎ IsNotMade options answer old new)
+      ⊎ IsXaddOfNone key fields options now answer old new

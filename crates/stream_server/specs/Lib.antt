@@ -9,6 +9,7 @@ pub mod Incoming
 pub mod Kinds
 pub mod Loopback
 pub mod Model
+pub mod ModelAdding
 pub mod Places
 pub mod Quoted
 pub mod ReadBack

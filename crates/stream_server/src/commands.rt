@@ -1,11 +1,15 @@
 //! The commands by their names, and what they share.
-ghost use Rattle.std.specs.Prelude.{◌≡◌, ◌≤◌, ◌<◌, length as length_of, IfErr, IfOk, OnErr, take};
+ghost use Rattle.std.specs.Prelude.{◌≡◌, ◌≤◌, ◌<◌, codes, length as length_of, IfErr, IfOk, OnErr, Some, take};
 ghost use Rattle.std.specs.List.{HoldsAt, prefix_len};
 ghost use Rattle.std.specs.List.Sorted.{IsSearchInRange};
 ghost use Rattle.stream_server.specs.Acknowledging.{count_answer};
+ghost use Rattle.stream_server.specs.IdWords.{Fits};
 ghost use Rattle.stream_server.specs.Places.{AreInOrder, IsMissing, group_names, keys_of};
 ghost use Rattle.stream_server.specs.Shown.{is_not_nul, text_before_nul};
 ghost use Rattle.stream_server.specs.Streams.{seen_streams};
+ghost use Rattle.stream_server.specs.declared.commands.NewId.TheVariants.{Automatic, Given};
+ghost use Rattle.stream_store.specs.EntryId.{id_text};
+ghost use Rattle.stream_store.specs.declared.entry_id.EntryId.{EntryId};
 
 mod add;
 mod claim;
@@ -820,7 +824,10 @@ fn loose_id(text: &[u8], missing: u64) -> Option<EntryId> {
 }
 
 /// `*`, `ms-*`, `ms-seq` or `ms`.
-fn new_id(text: &[u8]) -> Option<NewId> {
+fn new_id(text: &[u8]) -> Option<NewId>
+    ensures given { (id : EntryId) → Fits id → text.now ≡ id_text id → result ≡ Some (Given id) }
+    ensures automatic { text.now ≡ codes "*" → result ≡ Some Automatic }
+{
     if before_nul(text) == b"*".as_slice() {
         return Some(NewId::Automatic);
     }

@@ -1,5 +1,6 @@
 //! Laws of replies that are sent, and of what commands do.
 ghost use Rattle.stream_server.specs.Model.{XackIsTheEvent, XdelIsTheEvents};
+ghost use Rattle.stream_server.specs.ModelAdding.{XaddIsTheEvent};
 ghost use Rattle.stream_server.specs.ReadBack.{RepliesAreRead};
 
 /// The bytes that `append_reply` appends of a reply are read back as one answer, and nothing more:
@@ -18,4 +19,11 @@ pub fn xack_is_the_event()
 /// XDEL, of the world in which each of the entries is deleted.
 pub fn xdel_is_the_events()
     ensures { XdelIsTheEvents }
+{}
+
+/// If the entries and a group of a stream are those of a world of `stream_group`, they are so after
+/// XADD of an id alone, of the world in which the entry is added: with that id, or for `*` with the
+/// id that is the answer. Its fields are the words after the id, in order.
+pub fn xadd_is_the_event()
+    ensures { XaddIsTheEvent }
 {}

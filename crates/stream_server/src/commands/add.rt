@@ -2,6 +2,7 @@
 ghost use Rattle.std.specs.Prelude.{◌≡◌, IfOk, IfSome, OnErr};
 ghost use Rattle.std.specs.declared.cmp.Ordering.TheVariants.{Less};
 ghost use Rattle.stream_server.specs.Adding.{IsAdded, IsIdFor, IsXadd};
+ghost use Rattle.stream_server.specs.IdWords.{Fits};
 ghost use Rattle.stream_server.specs.Streams.{seen_streams};
 ghost use Rattle.stream_store.specs.Order.{id_order};
 ghost use Rattle.stream_store.specs.Stream.{seen_stream};
@@ -93,6 +94,7 @@ fn append(
 fn id_for(last: EntryId, wanted: NewId, now: u64) -> Option<EntryId>
     ensures above { IfSome result (λ id. id_order last id ≡ Less) }
     ensures wanted { IfSome result (IsIdFor last wanted now) }
+    ensures fit { IfSome result Fits }
 {
     let id = match wanted {
         NewId::Automatic if now > last.milliseconds => EntryId {

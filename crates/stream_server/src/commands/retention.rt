@@ -1,5 +1,10 @@
 //! The options of XADD and XTRIM.
-ghost use Rattle.std.specs.Prelude.{◌≤◌, length, IfOk};
+ghost use Rattle.std.specs.Prelude.{◌≡◌, ◌≤◌, ◌∷◌, ℕ, List, codes, length, true, IfOk, IfSome, Ok, Some};
+ghost use Rattle.stream_server.specs.Adding.{id_alone};
+ghost use Rattle.stream_server.specs.IdWords.{Fits, texts_of};
+ghost use Rattle.stream_server.specs.declared.commands.NewId.TheVariants.{Automatic, Given};
+ghost use Rattle.stream_store.specs.EntryId.{id_text};
+ghost use Rattle.stream_store.specs.declared.entry_id.EntryId.{EntryId};
 
 use super::{INVALID_ID, NewId, SYNTAX, id, integer, is_word, new_id};
 use crate::refusal::Refusal;
@@ -31,8 +36,20 @@ struct Draft {
 /// `[NOMKSTREAM] [MAXLEN | MINID [= | ~] threshold [LIMIT count]]`, and for XADD the id, in any
 /// order before the id.
 pub(super) fn retention_in(words: &[Vec<u8>], is_add: bool) -> Result<Retention, Refusal>
-    ensures { IfOk result (λ r. r.len ≤ length words.now) }
+    ensures len { IfOk result (λ r. r.len ≤ length words.now) }
+    ensures given { (id : EntryId) (others : List (List ℕ)) → is_add ≡ true → Fits id
+        → texts_of words.now ≡ id_text id ∷ others → result ≡ Ok (id_alone (Given id)) }
+    ensures automatic { (others : List (List ℕ)) → is_add ≡ true
+        → texts_of words.now ≡ codes "*" ∷ others → result ≡ Ok (id_alone Automatic) }
 {
+    if let Some(id) = id_in_front(words, is_add) {
+        return Ok(Retention {
+            makes_stream: true,
+            trim: None,
+            id,
+            len: 1,
+        });
+    }
     let mut draft = Draft {
         makes_stream: true,
         bound: None,
@@ -48,6 +65,20 @@ pub(super) fn retention_in(words: &[Vec<u8>], is_add: bool) -> Result<Retention,
         id: draft.id.unwrap_or(NewId::Automatic),
         len: words.len().saturating_sub(rest.len()),
     })
+}
+
+/// The id of XADD, if no option is before it.
+fn id_in_front(words: &[Vec<u8>], is_add: bool) -> Option<NewId>
+    ensures len { IfSome result (λ _. 1 ≤ length words.now) }
+    ensures given { (id : EntryId) (others : List (List ℕ)) → is_add ≡ true → Fits id
+        → texts_of words.now ≡ id_text id ∷ others → result ≡ Some (Given id) }
+    ensures automatic { (others : List (List ℕ)) → is_add ≡ true
+        → texts_of words.now ≡ codes "*" ∷ others → result ≡ Some Automatic }
+{
+    match words {
+        [word, ..] if is_add => new_id(word),
+        _ => None,
+    }
 }
 
 /// Reads the options, up to the id of XADD, and gives the words behind them.

@@ -7,6 +7,7 @@ returns-clause-ok c = record {
   entry = record { id = c.in-Some.id; fields = c.args.fields };
   longer = c.append.new.self;
   fielded = refl;
+  fit = c.in-Some.ensures.fit;
   above = c.in-Some.ensures.above;
   wanted = c.in-Some.ensures.wanted;
   added = c.in_ok-append.ensures.ok;
