@@ -261,7 +261,7 @@ module _ {R : Type 0} (with_verdict : R → List ℕ × Pairs → Verdict → R)
       → Breaks with_verdict with_commit settings old new w x e
   failing old new w x (causes.Request e) u = u
   failing old new w x (causes.Send e) u = u
-  failing old new w x (causes.Receive e) u = u
+  failing old new w x (causes.Receive named e) u = u
   failing old new w x (causes.Answer e) u = absurd u
 
   pub ran_all : (old new : Link) (w x : Standing R) (rounds n : ℕ) → n ≡ rounds
@@ -327,7 +327,7 @@ phase_kept m = elim (commits m) as (λ b. (if b then after_commit m else m).phas
 begun_again : (e : RunError) (m : Machine) → (IsUnsent e → ⊥) → (machine_after e m).phase ≡ own (codes "0")
 begun_again (causes.Request e) m sent = absurd (sent tt)
 begun_again (causes.Send e) m sent = refl
-begun_again (causes.Receive e) m sent = refl
+begun_again (causes.Receive named e) m sent = refl
 begun_again (causes.Answer e) m sent = refl
 
 pub failures_begin_again : FailuresBeginAgain
