@@ -1,7 +1,7 @@
 -- The last rounds of a worker.
 use Rattle.std.proofs.Common.{◌≡◌, inl, inr, ℕ, Bool, true, false, List, [], ◌∷◌, ◌++◌, Option, Some, None, arith}
 use Rattle.std.proofs.Common.{refl, sym, ◌∙◌, ap, subst, if◌then◌else◌, append-nil}
-use Rattle.std.specs.Prelude.{not, ◌&&◌}
+use Rattle.std.specs.Prelude.{not, ◌&&◌, OnOk, Result, Ok, Err}
 use Rattle.redis_wire.specs.Reply as wire
 use Rattle.redis_connection.specs.Link.{Link}
 use Rattle.stream_group.specs.Worker as machine
@@ -21,7 +21,11 @@ use Rattle.stream_worker.specs.declared.state.Settings.{Settings}
 use Rattle.stream_worker.specs.declared.worker.Progress.{Progress}
 use Rattle.stream_worker.specs.declared.worker.Progress.TheVariants.{GoesOn}
 use Rattle.stream_worker.proofs.PipelinedLemmas.{acknowledgement_said, goes_through}
-use Rattle.stream_worker.proofs.SessionLemmas.{rounds_none, rounds_more}
+use Rattle.stream_worker.proofs.SessionLemmas.{rounds_none, rounds_more, none_turns, more_turns}
+
+-- the answer to an acknowledgement
+abbrev count_answer : machine.Answer Pairs
+count_answer = acknowledged
 
 -- ---- machines
 
@@ -83,7 +87,7 @@ module _ {R : Type 0} (with_verdict : R → List ℕ × Pairs → Verdict → R)
         subst (λ (k : Asked). Turned with_verdict with_commit settings old new w x k GoesOn) (t.asked ∙ asks_it w due)
         (subst (λ (k : Progress). Turned with_verdict with_commit settings old new w x q k) heard.1 t)
 
-    machine_then : x.machine ≡ machine.after (at_request w.machine) acknowledged t.turn.verdicts
+    machine_then : x.machine ≡ machine.after (at_request w.machine) count_answer t.turn.verdicts
     machine_then =
         ap (λ (v : Standing R). v.machine) t.stands
         ∙ ap (λ o. (having_heard with_verdict y (group_after settings y.group y.asked t.turn.answer) o
@@ -100,8 +104,9 @@ module _ {R : Type 0} (with_verdict : R → List ℕ × Pairs → Verdict → R)
 
   acks_none : (link : Link) (w : Standing R)
       → Acknowledge with_verdict with_commit settings w (rounds_none with_verdict with_commit settings link w).turns
-  unfolding rounds_none
-  acks_none link w = tt
+  acks_none link w =
+      subst (λ (l : List Turn). Acknowledge with_verdict with_commit settings w l)
+      (sym (none_turns with_verdict with_commit settings link w)) tt
 
   acks_more : (w : Standing R) (turns : List Turn) (t : Turn) → Acknowledge with_verdict with_commit settings w turns
       → (asking with_commit settings (after_turns with_verdict with_commit settings w turns)).asked ≡ Acknowledgement
@@ -117,20 +122,20 @@ module _ {R : Type 0} (with_verdict : R → List ℕ × Pairs → Verdict → R)
       → (asking with_commit settings y).asked ≡ Acknowledgement
       → Acknowledge with_verdict with_commit settings w
       (rounds_more with_verdict with_commit settings old mid new w y x n q p r t).turns
-  unfolding rounds_more
   acks_on old mid new w y x n q p r t h e =
-      acks_more w r.turns t.turn h
-      (subst (λ (v : Standing R). (asking with_commit settings v).asked ≡ Acknowledgement) r.stands e)
+      subst (λ (l : List Turn). Acknowledge with_verdict with_commit settings w l)
+      (sym (more_turns with_verdict with_commit settings old mid new w y x n q p r t))
+      (acks_more w r.turns t.turn h
+      (subst (λ (v : Standing R). (asking with_commit settings v).asked ≡ Acknowledgement) r.stands e))
 
   -- one such round
   module _ (old mid : Link) (w y : Standing R) (due : is_settled w.machine ≡ false)
       (t : Turned with_verdict with_commit settings old mid w y Acknowledgement GoesOn) where
-    one : Rounds with_verdict with_commit settings old mid w y 1 GoesOn
+    abbrev one : Rounds with_verdict with_commit settings old mid w y 1 GoesOn
     one = rounds_more with_verdict with_commit settings old old mid w w y 0 Acknowledgement GoesOn
         (rounds_none with_verdict with_commit settings old w) t
 
     one_asked : Acknowledge with_verdict with_commit settings w one.turns
-    unfolding one
     one_asked = acks_on old old mid w w y 0 Acknowledgement GoesOn
         (rounds_none with_verdict with_commit settings old w) t (acks_none old w) (asks_it w due)
 
@@ -223,3 +228,7 @@ module _ {R : Type 0} (with_verdict : R → List ℕ × Pairs → Verdict → R)
     asked = one_asked old mid w y a.0 a.1;
     last = asks_it y f.0;
   }
+
+pub on_ok_so : {A E : Type 0} (r : Result A E) (P Q : Type 0) → (P → Q) → OnOk r P → OnOk r Q
+on_ok_so (Ok x) P Q f p = f p
+on_ok_so (Err e) P Q f p = tt

@@ -1,6 +1,7 @@
 -- From decoded streams to those of an answer.
 use Rattle.std.proofs.Common.{◌≡◌, ◌∙◌, refl, sym, ap, List, [], ◌∷◌, ◌++◌, map, flat_map, option_map, Option, Some, None, String}
 use Rattle.std.proofs.Common.{Global, Bool, true, false, ℕ, ◌+◌, ◌<◌, get_or, length, take, string_bytes, if◌then◌else◌}
+use Rattle.std.specs.Option.{is_some}
 use Rattle.std.specs.Prelude.{Vec, ◌&&◌, not}
 use Rattle.std.proofs.lemmas.List.{map-append, take_more}
 use Rattle.redis_resp.specs.Reading.{list_reading}
@@ -95,23 +96,23 @@ there_not (e ∷ es) id h =
 
 -- ---- the same of rows
 
-fields_none : (o : Option OctetPairs) → is_none (option_map octet_pairs o) ≡ is_none o
+fields_none : (o : Option OctetPairs) → is_none (option_map octet_pairs o) ≡ not (is_some o)
 fields_none None = refl
 fields_none (Some ps) = refl
 
 pub rows_more : (rows : List SentRow) (i : ℕ) (r : SentRow) → i < length rows → r ≡ get_or rows i r
-    → first_nil (map sent_of (take i rows)) ≡ None → is_none r.fields ≡ false
+    → first_nil (map sent_of (take i rows)) ≡ None → is_some r.fields ≡ true
     → first_nil (map sent_of (take (i + 1) rows)) ≡ None
 rows_more rows i r l e none there =
     let more : map sent_of (take (i + 1) rows) ≡ map sent_of (take i rows) ++ sent_of r ∷ [] =
     ap (map sent_of) (take_more rows i r l ∙ ap (λ y. take i rows ++ y ∷ []) (sym e))
     ∙ map-append sent_of (take i rows) (r ∷ []) in
-    ap first_nil more ∙ none_more (map sent_of (take i rows)) (sent_of r) none (fields_none r.fields ∙ there)
+    ap first_nil more ∙ none_more (map sent_of (take i rows)) (sent_of r) none (fields_none r.fields ∙ ap not there)
 
 pub rows_found : (rows : List SentRow) (i : ℕ) (r : SentRow) → i < length rows → r ≡ get_or rows i r
-    → first_nil (map sent_of (take i rows)) ≡ None → is_none r.fields ≡ true
+    → first_nil (map sent_of (take i rows)) ≡ None → is_some r.fields ≡ false
     → first_nil (map sent_of rows) ≡ Some (string_bytes r.id)
 rows_found rows i r l e none missing =
     let k = split rows i r l e in
     ap first_nil (ap (map sent_of) k.is ∙ map-append sent_of (take i rows) (r ∷ k.rest))
-    ∙ nil_found (map sent_of (take i rows)) (map sent_of k.rest) (sent_of r) none (fields_none r.fields ∙ missing)
+    ∙ nil_found (map sent_of (take i rows)) (map sent_of k.rest) (sent_of r) none (fields_none r.fields ∙ ap not missing)

@@ -230,6 +230,10 @@ module _ {R : Type 0} (with_verdict : R → List ℕ × Pairs → Verdict → R)
   pub rounds_none : (link : Link) (w : Standing R) → Rounds with_verdict with_commit settings link link w w 0 GoesOn
   rounds_none link w = record { turns = []; count = refl; converses = converses_none link; stands = refl; ends = tt }
 
+  pub none_turns : (link : Link) (w : Standing R) → (rounds_none link w).turns ≡ []
+  unfolding rounds_none
+  none_turns link w = refl
+
   pub rounds_more : (old mid new : Link) (w y x : Standing R) (n : ℕ) (question : Asked) (p : Progress)
       → Rounds with_verdict with_commit settings old mid w y n GoesOn
       → Turned with_verdict with_commit settings mid new y x question p
@@ -254,6 +258,13 @@ module _ {R : Type 0} (with_verdict : R → List ℕ × Pairs → Verdict → R)
             (subst (λ (v : Standing R). EndsBy (hears settings (asking with_commit settings v).asked t.turn.answer)
             t.turn.verdicts p) r.stands t.ends);
       }
+
+  pub more_turns : (old mid new : Link) (w y x : Standing R) (n : ℕ) (question : Asked) (p : Progress)
+      (r : Rounds with_verdict with_commit settings old mid w y n GoesOn)
+      (t : Turned with_verdict with_commit settings mid new y x question p)
+      → (rounds_more old mid new w y x n question p r t).turns ≡ r.turns ++ t.turn ∷ []
+  unfolding rounds_more
+  more_turns old mid new w y x n question p r t = refl
 
   -- ---- how a session ends
 
