@@ -42,8 +42,8 @@ use std::{io, mem};
 use stream_feed::{FeedError, Producer, Record, Settings as FeedSettings, Stage};
 use stream_server::{Client, Server};
 use stream_worker::{
-    EntryRef, Handler, InPlaceError, MakeGroup, NotCommitted, Progress, RequestError, Settings,
-    Verdict, Worker, WorkerError,
+    AnswerError, EntryRef, Handler, InPlaceError, MakeGroup, NotCommitted, Progress, RequestError,
+    Settings, Verdict, Worker, WorkerError,
 };
 
 /// Memory ran out, an end refused a reply, or standard input or output failed.
@@ -851,7 +851,14 @@ fn hear_entries(alloc: Global, drain: &mut Drain) -> Result<Turn, AllocError> {
     match heard {
         Ok(Progress::GoesOn) => {}
         Ok(Progress::Stopped)
-        | Err(InPlaceError::Answer(WorkerError::Memory))
+        | Err(
+            InPlaceError::Answer(
+                AnswerError {
+                    error: WorkerError::Memory,
+                    ..
+                },
+            ),
+        )
         | Err(InPlaceError::Unread(WireError::Memory)) => return Err(AllocError),
         Err(_) => drain.is_refused = true,
     }

@@ -21,8 +21,8 @@ use std::alloc::{AllocError, Global};
 use std::mem;
 use stream_server::{Protocol, Server, Session};
 use stream_worker::{
-    EntryRef, Handler, InPlaceError, MakeGroup, NotCommitted, RequestError, Verdict, Worker,
-    WorkerError,
+    AnswerError, EntryRef, Handler, InPlaceError, MakeGroup, NotCommitted, RequestError, Verdict,
+    Worker, WorkerError,
 };
 
 /// Plays workers over a server in memory; false if the script is another one.
@@ -593,7 +593,13 @@ fn hears_by_value(alloc: Global, line: &mut Line) -> bool {
         return false;
     };
     match line.worker.answered(alloc, reply, &mut line.book) {
-        Ok(_) | Err(WorkerError::Memory) => true,
+        Ok(_) => true,
+        Err(
+            AnswerError {
+                error: WorkerError::Memory,
+                ..
+            },
+        ) => true,
         Err(_) => {
             line.is_refused = true;
             false
@@ -611,7 +617,15 @@ fn hears_in_place(alloc: Global, line: &mut Line) -> bool {
         .worker
         .answered_in_place(alloc, bytes, Limits::default(), &mut line.book);
     match heard {
-        Ok(_) | Err(InPlaceError::Answer(WorkerError::Memory)) => {
+        Ok(_)
+        | Err(
+            InPlaceError::Answer(
+                AnswerError {
+                    error: WorkerError::Memory,
+                    ..
+                },
+            ),
+        ) => {
             line.answers.give_out(len);
             true
         }

@@ -28,8 +28,8 @@ use crate::{
 use redis_wire::{Decoded, Limits, WireError, decode};
 use std::alloc::{AllocError, Global};
 use stream_worker::{
-    EntryRef, Gathered, Handler, InPlaceError, MakeGroup, NotCommitted, Progress, RequestError,
-    Settings, Verdict, Worker, WorkerError,
+    AnswerError, EntryRef, Gathered, Handler, InPlaceError, MakeGroup, NotCommitted, Progress,
+    RequestError, Settings, Verdict, Worker, WorkerError,
 };
 
 /// Plays a session of a worker; false if the script is another one.
@@ -146,12 +146,13 @@ fn taken(
 }
 
 /// The name and the text of an error of a worker.
-fn error_text(alloc: Global, error: &WorkerError) -> Result<String, AllocError> {
-    match error {
+fn error_text(alloc: Global, answer: &AnswerError) -> Result<String, AllocError> {
+    match &answer.error {
         WorkerError::Memory => Err(AllocError),
-        WorkerError::Server(_) => format!(in alloc; "Server: {error}"),
-        WorkerError::GroupIsGone(_) => format!(in alloc; "GroupIsGone: {error}"),
-        error => format!(in alloc; "{error:?}: {error}"),
+        WorkerError::Server(_) => format!(in alloc; "Server: {answer}"),
+        WorkerError::GroupIsGone(_) => format!(in alloc; "GroupIsGone: {answer}"),
+        WorkerError::NilFields(_) => format!(in alloc; "NilFields: {answer}"),
+        error => format!(in alloc; "{error:?}: {answer}"),
     }
 }
 

@@ -124,7 +124,7 @@ fn round<R: Read + Drop, W: Write + Drop, D: LogFile + Drop>(
     if together {
         match worker.round_pipelined(alloc, connection, lines) {
             Ok(made) => {
-                goes_on(made.round.progress, &lines.fault)?;
+                goes_on(made.round.progress, &lines.fault, &lines.undone)?;
                 Ok(made)
             }
             Err(error) => Err(broken_off(error, &lines.fault)),
@@ -132,7 +132,7 @@ fn round<R: Read + Drop, W: Write + Drop, D: LogFile + Drop>(
     } else {
         match worker.round(alloc, connection, lines) {
             Ok(round) => {
-                goes_on(round.progress, &lines.fault)?;
+                goes_on(round.progress, &lines.fault, &lines.undone)?;
                 Ok(alone(round))
             }
             Err(error) => Err(broken_off(error, &lines.fault)),
@@ -151,13 +151,13 @@ fn alone(round: Round) -> Pipelined
 }
 
 // An error if the handler said to stop.
-fn goes_on(progress: Progress, fault: &Option<LogError>) -> Result<()>
+fn goes_on(progress: Progress, fault: &Option<LogError>, undone: &Option<String>) -> Result<()>
     ensures ok { OnOk result (progress ≡ Progress.GoesOn) }
     ensures err { OnErr result (progress ≡ Progress.Stopped) }
 {
     match progress {
         Progress::GoesOn => Ok(()),
-        Progress::Stopped => Err(stopped(fault)),
+        Progress::Stopped => Err(stopped(fault, undone)),
     }
 }
 
@@ -251,12 +251,14 @@ fn backlog_in(reply: &StreamInfoGroupsReply, name: &str) -> Option<Backlog> {
 fn broken_off(error: RunError, fault: &Option<LogError>) -> Error {
     match error {
         RunError::Request(RequestError::NotCommitted) => not_committed(fault),
-        RunError::Receive(ConnectionError::Fault(Fault::Overfull)) => {
-            anyhow!("an answer is larger than {LARGEST}: take a smaller --count")
-        }
-        RunError::Receive(ConnectionError::Memory) => {
-            anyhow!("out of memory for an answer: take a smaller --count")
-        }
+        RunError::Receive {
+            error: ConnectionError::Fault(Fault::Overfull),
+            ..
+        } => { anyhow!("an answer is larger than {LARGEST}: take a smaller --count") }
+        RunError::Receive {
+            error: ConnectionError::Memory,
+            ..
+        } => { anyhow!("out of memory for an answer: take a smaller --count") }
         error => error.into(),
     }
 }
@@ -269,10 +271,12 @@ fn not_committed(fault: &Option<LogError>) -> Error {
     }
 }
 
-// Why an entry was not done.
-fn stopped(fault: &Option<LogError>) -> Error {
-    match fault {
-        Some(reason) => anyhow!("cannot write a line: {reason}"),
-        None => anyhow!("an entry was not written"),
+// Why an entry was not done, and which one if its id is known.
+fn stopped(fault: &Option<LogError>, undone: &Option<String>) -> Error {
+    match (fault, undone) {
+        (Some(reason), Some(id)) => anyhow!("cannot write the line of the entry {id}: {reason}"),
+        (Some(reason), None) => anyhow!("cannot write a line: {reason}"),
+        (None, Some(id)) => anyhow!("the entry {id} was not written"),
+        (None, None) => anyhow!("an entry was not written"),
     }
 }

@@ -32,6 +32,8 @@ pub struct Lines<D: LogFile + Drop> {
     pub committed: u64,
     /// Why it stopped, or did not commit: the log did not take a line, or memory ran out for one.
     pub fault: Option<LogError>,
+    /// The id of the entry at which it stopped, if there was memory to keep it.
+    pub undone: Option<String>,
     ghost held: { ∥ IsHeld D.seen D.may_leave D.is_sound log.file log.len log.is_broken ∥₁ },
 }
 
@@ -54,6 +56,7 @@ impl<D: LogFile + Drop> Lines<D> {
             done: 0,
             committed: 0,
             fault: None,
+            undone: None,
         })
     }
 
@@ -107,6 +110,7 @@ impl<D: LogFile + Drop> Handler for Lines<D> {
             }
             Err(fault) => {
                 self.fault = Some(fault);
+                self.undone = String::from_str(alloc, entry.id()).ok();
                 Verdict::Stop
             }
         }

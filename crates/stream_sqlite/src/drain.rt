@@ -107,12 +107,14 @@ fn goes_on(progress: Progress, fault: &Option<Fault>) -> Result<()>
 fn broken_off(error: RunError, fault: &Option<Fault>) -> Error {
     match error {
         RunError::Request(RequestError::NotCommitted) => not_committed(fault),
-        RunError::Receive(ConnectionError::Fault(WireFault::Overfull)) => {
-            anyhow!("an answer is larger than {LARGEST}: take a smaller --count")
-        }
-        RunError::Receive(ConnectionError::Memory) => {
-            anyhow!("out of memory for an answer: take a smaller --count")
-        }
+        RunError::Receive {
+            error: ConnectionError::Fault(WireFault::Overfull),
+            ..
+        } => { anyhow!("an answer is larger than {LARGEST}: take a smaller --count") }
+        RunError::Receive {
+            error: ConnectionError::Memory,
+            ..
+        } => { anyhow!("out of memory for an answer: take a smaller --count") }
         error => error.into(),
     }
 }

@@ -308,7 +308,7 @@ module _ (s : Setting Fields) where
     refused a h faults.NotAnAnswer f = stays f.2 f.3
     refused a h (faults.Parsing e) f = starts_over f.2 f.3
     refused a h faults.OtherStream f = starts_over f.2 f.3
-    refused a h faults.NilFields f = starts_over f.2 f.3
+    refused a h (faults.NilFields id) f = starts_over f.2 f.3
     refused a h faults.Memory f = memory a f.0 f.1 h f.2
 
     unasked_is : (r : RequestError) → Unasked committed_too v.machine y.machine v.history y.history r
@@ -329,8 +329,8 @@ module _ (s : Setting Fields) where
         (run s (failure_events settings old new v x m e (y, b, is)) w).consumer
     failed x y (causes.Request e) b is h = unasked_is settings v y m w i e b.1
     failed x y (causes.Send e) b is h = no_reply settings v y m w i b.0
-    failed x y (causes.Receive e) b is h = no_reply settings v y m w i b.0
-    failed x y (causes.Answer e) b is h = refused settings v y m w i b.0 h e b.2
+    failed x y (causes.Receive named e) b is h = no_reply settings v y m w i b.0
+    failed x y (causes.Answer e) b is h = refused settings v y m w i b.0 h e.error b.2
 
 -- between rounds
 as_is : (v : Standing Doings) (c : Consumer Fields) → IsConsumer v c → Is v.machine None v.history c

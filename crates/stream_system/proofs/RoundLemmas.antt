@@ -192,7 +192,7 @@ module _ (form : Form) (name : Name) (settings : Settings) where
       refused faults.NotAnAnswer f = stays f.2 f.3
       refused (faults.Parsing e) f = starts_over f.2 f.3
       refused faults.OtherStream f = starts_over f.2 f.3
-      refused faults.NilFields f = starts_over f.2 f.3
+      refused (faults.NilFields id) f = starts_over f.2 f.3
       refused faults.Memory f = elim f.2 [
         | inl p ↦ starts_over p.0 p.1
         | inr c ↦ cut f.0 f.1 c
@@ -202,8 +202,8 @@ module _ (form : Form) (name : Name) (settings : Settings) where
       → Breaks done_too committed_too settings old new (s.workers name) y e → ℕ → Led s (after_failure e y)
   broken s old new y (causes.Request r) f which = unasked s y r f.1 f.2 f.3
   broken s old new y (causes.Send r) f which = no_reply s y f.0
-  broken s old new y (causes.Receive r) f which = no_reply s y f.0
-  broken s old new y (causes.Answer r) f which = refused s y which f.0 r f.2
+  broken s old new y (causes.Receive named r) f which = no_reply s y f.0
+  broken s old new y (causes.Answer r) f which = refused s y which f.0 r.error f.2
 
 pub rounds_are_moves : RoundsAreMoves
 rounds_are_moves form s name settings old new x question p t = (

@@ -159,18 +159,18 @@ module _ (settings : Settings) (old new : Link) (v x : Standing Doings) (m : Mea
   abbrev pub failure_events : (e : RunError) → Fails done_too committed_too settings old new v x e → List (Event Fields)
   failure_events (causes.Request e) f = unasked_events v.machine e
   failure_events (causes.Send e) f = until_replied settings v m ++ Reconnect ∷ []
-  failure_events (causes.Receive e) f = until_replied settings v m ++ Reconnect ∷ []
+  failure_events (causes.Receive named e) f = until_replied settings v m ++ Reconnect ∷ []
   failure_events (causes.Answer e) f =
       let u : Standing Doings = asking committed_too settings v in
       until_replied settings v m
-      ++ (handled_of settings u.asked f.1.0 u.machine f.0.machine u.history f.0.history e f.1.2 ++ Reconnect ∷ [])
+      ++ (handled_of settings u.asked f.1.0 u.machine f.0.machine u.history f.0.history e.error f.1.2 ++ Reconnect ∷ [])
 
   -- the same premise of the reply, if one came
   abbrev pub FailsHearing : Setting Fields → World Fields → (e : RunError)
       → Fails done_too committed_too settings old new v x e → Type 0
   FailsHearing s w (causes.Request e) f = Unit {0}
   FailsHearing s w (causes.Send e) f = Unit {0}
-  FailsHearing s w (causes.Receive e) f = Unit {0}
+  FailsHearing s w (causes.Receive named e) f = Unit {0}
   FailsHearing s w (causes.Answer e) f = HearsTheAnswer settings v m s w f.1.0
 
 -- after it the worker is the consumer after these events

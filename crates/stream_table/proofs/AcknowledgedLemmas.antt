@@ -70,7 +70,7 @@ module _ (settings : Settings) where
   failed_keeps q a m n r s faults.NotAnAnswer h = ap (λ (k : Kept). k.committed) h.3
   failed_keeps q a m n r s (faults.Parsing e) h = ap (λ (k : Kept). k.committed) h.3
   failed_keeps q a m n r s faults.OtherStream h = ap (λ (k : Kept). k.committed) h.3
-  failed_keeps q a m n r s faults.NilFields h = ap (λ (k : Kept). k.committed) h.3
+  failed_keeps q a m n r s (faults.NilFields id) h = ap (λ (k : Kept). k.committed) h.3
   failed_keeps q a m n r s faults.Memory h = elim h.2 [
     | inl p ↦ ap (λ (k : Kept). k.committed) p.1
     | inr c ↦ ap (λ (k : Kept). k.committed) c.took.history ∙ all_keep r (told_in (entries_in c.answer) c.took.verdicts)
@@ -210,11 +210,11 @@ module _ (settings : Settings) (columns : List Column) (gone : List Id) where
       without_asking w y acks s (unasked_keeps settings w y.machine y.history e h.1)
   after_breaking first w y deleted acks old new (causes.Send e) l s h =
       after_asking first w y deleted acks l s (ap (λ (v : Standing Kept). v.history.committed) h.0)
-  after_breaking first w y deleted acks old new (causes.Receive e) l s h =
+  after_breaking first w y deleted acks old new (causes.Receive named e) l s h =
       after_asking first w y deleted acks l s (ap (λ (v : Standing Kept). v.history.committed) h.0)
   after_breaking first w y deleted acks old new (causes.Answer e) l s h =
       after_asking first w y deleted acks l s
-      (failed_keeps settings _ h.0 (at_request w.machine) y.machine (asking committed_with settings w).history y.history e h.2)
+      (failed_keeps settings _ h.0 (at_request w.machine) y.machine (asking committed_with settings w).history y.history e.error h.2)
 
   -- seen after the failure
   settled_as : (x y : Standing Kept) (acks : List Id) → x.history ≡ y.history → AreSettled settings columns gone y acks

@@ -17,10 +17,11 @@ use Rattle.stream_refs.specs.SentReading.{sent_autoclaim_reading, sent_streams_r
 use Rattle.stream_worker.specs.Answered.{Failed, Went}
 use Rattle.stream_worker.specs.Answers.{told, all_there, by_value, claim_read, claim_there, group_after, entries_read}
 use Rattle.stream_worker.specs.Answers.{news_read, only_stream, shows_group, those_there}
-use Rattle.stream_worker.specs.InPlace.{FailedInPlace, Heads, TakenByValue, TakenInPlace, WentInPlace}
+use Rattle.stream_worker.specs.InPlace.{FailedInPlace, Heads, TakenByValue, TakenInPlace, WentInPlace, in_answer}
 use Rattle.stream_worker.specs.Parts.{reads_own}
 use Rattle.stream_worker.specs.Session.{Standing}
 use Rattle.stream_worker.specs.Taking.{all_delivered}
+use Rattle.stream_worker.specs.declared.error.AnswerError.{AnswerError}
 use Rattle.stream_worker.specs.declared.error.InPlaceError.{InPlaceError}
 use Rattle.stream_worker.specs.declared.error.InPlaceError.TheVariants as causes
 use Rattle.stream_worker.specs.declared.error.WorkerError.{WorkerError}
@@ -31,6 +32,7 @@ use Rattle.stream_worker.specs.declared.state.Asked.TheVariants.{Nothing}
 use Rattle.stream_worker.specs.declared.state.GroupState.TheVariants.{Known}
 use Rattle.stream_worker.specs.declared.state.Settings.{Settings}
 use Rattle.stream_worker.specs.declared.worker.Progress.{Progress}
+use Rattle.stream_worker.proofs.WorkerLemmas.{own_as_asked, own_failed_as_asked}
 
 -- the entries of the streams that a value holds
 pub streams_say : (key : List ℕ) (t : Tree) (ss : List SentStream) (o : Option (List SentEntry))
@@ -108,11 +110,11 @@ module _ {R : Type 0} (with_verdict : R → List ℕ × Pairs → Verdict → R)
       → WentInPlace with_verdict settings limits bytes w x p
   went_at len a p r went group answered = (a, heads limits bytes len a r, went, group, answered)
 
-  pub failed_at : (len : ℕ) (a : wire.Answer) (e : WorkerError) → IsAnyReply limits (take len bytes) a
-      → Failed with_verdict settings w.asked a w.machine x.machine w.history x.history e
-      → x.group ≡ group_after settings w.group w.asked a → x.asked ≡ Nothing
+  pub failed_at : (len : ℕ) (a : wire.Answer) (e : AnswerError) → IsAnyReply limits (take len bytes) a
+      → Failed with_verdict settings w.asked a w.machine x.machine w.history x.history e.error
+      → x.group ≡ group_after settings w.group w.asked a → x.asked ≡ Nothing → e.asked ≡ w.asked
       → FailedInPlace with_verdict settings limits bytes w x (causes.Answer e)
-  failed_at len a e r failed group answered = (a, heads limits bytes len a r, failed, group, answered)
+  failed_at len a e r failed group answered named = (a, heads limits bytes len a r, failed, group, answered, named)
 
   pub unread : (e : WireError) → x ≡ w → Decodes limits bytes (Err e) → IsFirstFault limits bytes e
       → FailedInPlace with_verdict settings limits bytes w x (causes.Unread e)
@@ -125,7 +127,7 @@ module _ {R : Type 0} (with_verdict : R → List ℕ × Pairs → Verdict → R)
       known ∙ sym (ap (λ (b : Bool). if b then Known else w.group) (ap shows_group is ∙ shows))
 
   -- a value that was taken where it stands
-  pub value_went : (q : Asked) (len : ℕ) (t : Tree) (p : Progress) → w.asked ≡ q
+  value_went : (q : Asked) (len : ℕ) (t : Tree) (p : Progress) → w.asked ≡ q
       → IsAnyReply limits (take len bytes) (wire.value t)
       → Went with_verdict settings q (wire.value t) w.machine x.machine w.history x.history p
       → shows_group q ≡ true → x.group ≡ Known → x.asked ≡ Nothing
@@ -136,17 +138,29 @@ module _ {R : Type 0} (with_verdict : R → List ℕ × Pairs → Verdict → R)
       (sym is) went)
       (known_after q is shows known) answered
 
-  pub value_failed : (q : Asked) (len : ℕ) (t : Tree) (e : WorkerError) → w.asked ≡ q
+  -- the error, which says what was asked
+  abbrev saying : WorkerError → AnswerError
+  saying e = record { asked = w.asked; error = e }
+
+  value_failed : (q : Asked) (len : ℕ) (t : Tree) (e : WorkerError) → w.asked ≡ q
       → IsAnyReply limits (take len bytes) (wire.value t)
       → Failed with_verdict settings q (wire.value t) w.machine x.machine w.history x.history e
       → shows_group q ≡ true → x.group ≡ Known → x.asked ≡ Nothing
-      → FailedInPlace with_verdict settings limits bytes w x (causes.Answer e)
+      → FailedInPlace with_verdict settings limits bytes w x (causes.Answer (saying e))
   value_failed q len t e is r failed shows known answered =
-      failed_at len (wire.value t) e r
+      failed_at len (wire.value t) (saying e) r
       (subst (λ (y : Asked). Failed with_verdict settings y (wire.value t) w.machine x.machine w.history x.history e)
-      (sym is) failed) (known_after q is shows known) answered
+      (sym is) failed) (known_after q is shows known) answered refl
 
-  pub answer_taken : (r : Result Progress InPlaceError) (e : WorkerError) → IsErrAnd r (λ i. i ≡ causes.Answer e)
+  pub value_taken : (q : Asked) (len : ℕ) (t : Tree) (o : Result Progress WorkerError) → w.asked ≡ q
+      → IsAnyReply limits (take len bytes) (wire.value t)
+      → TakenByValue with_verdict settings q t w.machine x.machine w.history x.history o
+      → shows_group q ≡ true → x.group ≡ Known → x.asked ≡ Nothing
+      → TakenInPlace with_verdict settings limits bytes w x (in_answer w.asked o)
+  value_taken q len t (Ok p) is r took shows known answered = value_went q len t p is r took shows known answered
+  value_taken q len t (Err e) is r took shows known answered = value_failed q len t e is r took shows known answered
+
+  pub answer_taken : (r : Result Progress InPlaceError) (e : AnswerError) → IsErrAnd r (λ i. i ≡ causes.Answer e)
       → FailedInPlace with_verdict settings limits bytes w x (causes.Answer e)
       → TakenInPlace with_verdict settings limits bytes w x r
   answer_taken (Ok p) e h f = absurd h
@@ -159,3 +173,12 @@ pub memory_taken : {R : Type 0} (with_verdict : R → List ℕ × Pairs → Verd
 memory_taken with_verdict settings q t m n r s (Ok p) h f = absurd h
 memory_taken with_verdict settings q t m n r s (Err e) h f =
     subst (Failed with_verdict settings q (wire.value t) m n r s) (sym h) f
+
+-- its own pending entries are taken in the same way before anything is known of the group
+pub own_taken_as_asked : {R : Type 0} (with_verdict : R → List ℕ × Pairs → Verdict → R) (settings : Settings)
+    (t : Tree) (m n : Machine) (r s : R) (q : Asked) (o : Result Progress WorkerError) → reads_own q ≡ true
+    → TakenByValue with_verdict settings asked.Own t m n r s o → TakenByValue with_verdict settings q t m n r s o
+own_taken_as_asked with_verdict settings t m n r s q (Ok p) own took =
+    own_as_asked with_verdict settings t m n r s q p own took
+own_taken_as_asked with_verdict settings t m n r s q (Err e) own took =
+    own_failed_as_asked with_verdict settings t m n r s q e own took

@@ -219,7 +219,7 @@ module _ (settings : Settings) where
     failed_sound faults.NotAnAnswer f = stays f.2 f.3
     failed_sound (faults.Parsing e) f = starts_over f.2 f.3
     failed_sound faults.OtherStream f = starts_over f.2 f.3
-    failed_sound faults.NilFields f = starts_over f.2 f.3
+    failed_sound (faults.NilFields id) f = starts_over f.2 f.3
     failed_sound faults.Memory f = elim f.2 [
       | inl p ↦ starts_over p.0 p.1
       | inr c ↦ was_cut f.0 f.1 c
@@ -234,7 +234,7 @@ module _ (settings : Settings) where
       by : (e : RunError) → Stands (after_failure e y) deleted
       by (causes.Request e) = s
       by (causes.Send e) = sound_again y.machine y.history deleted s
-      by (causes.Receive e) = sound_again y.machine y.history deleted s
+      by (causes.Receive named e) = sound_again y.machine y.history deleted s
       by (causes.Answer e) = sound_again y.machine y.history deleted s
 
   broken_stands : (old new : Link) (w y : Standing Doings) (deleted : List Id) (e : RunError) → Stands w deleted
@@ -242,10 +242,10 @@ module _ (settings : Settings) where
       → Stands y (deleted ++ deleted_at settings old new w x e (y, f, is))
   broken_stands old new w y deleted (causes.Request e) s f x is = unasked_stands w y deleted e s f.1
   broken_stands old new w y deleted (causes.Send e) s f x is = as_asking w y deleted s f.0
-  broken_stands old new w y deleted (causes.Receive e) s f x is = as_asking w y deleted s f.0
+  broken_stands old new w y deleted (causes.Receive named e) s f x is = as_asking w y deleted s f.0
   broken_stands old new w y deleted (causes.Answer e) s f x is =
       failed_sound (asking committed_too settings w).asked f.0 (at_request w.machine) y.machine
-      (asking committed_too settings w).history y.history deleted (asking_stands w deleted s) e f.2
+      (asking committed_too settings w).history y.history deleted (asking_stands w deleted s) e.error f.2
 
   failed_stands : (old new : Link) (w x : Standing Doings) (deleted : List Id) (e : RunError) → Stands w deleted
       → (f : Fails done_too committed_too settings old new w x e)

@@ -16,7 +16,7 @@ use Rattle.stream_refs.specs.Sent.{Pairs}
 use Rattle.stream_worker.specs.Answers.{Heard, told, hears, group_after}
 use Rattle.stream_worker.specs.Answered.{Took, Went, GoesBy}
 use Rattle.stream_worker.specs.Machine.{is_empty, commits, ending_of, machine_of}
-use Rattle.stream_worker.specs.Pipelined.{AcknowledgesAll, next_command, next_asked, waiting_for, PassesNext, LeavesNext}
+use Rattle.stream_worker.specs.Pipelined.{AcknowledgesAll, next_command, next_asked, waiting_for, PassesNext, NamesNext, LeavesNext}
 use Rattle.stream_worker.specs.Pipelined.{SentFront, SentNeither, WentPipelined, FirstBreaks, BreaksPipelined}
 use Rattle.stream_worker.specs.Pipelined.{FailsPipelined, TakesBoth, BreaksBoth}
 use Rattle.stream_worker.specs.Questions.{asks, sentence}
@@ -202,12 +202,12 @@ progress_of went_through = GoesOn
 progress_of stopped = Stopped
 progress_of cut_off = Stopped
 
-goes_through : (p : Progress) → ending_of p ≡ went_through → p ≡ GoesOn
+pub goes_through : (p : Progress) → ending_of p ≡ went_through → p ≡ GoesOn
 unfolding progress_of
 goes_through GoesOn h = refl
 goes_through Stopped h = ap progress_of h
 
-acknowledgement_said : (settings : Settings) (a : wire.Answer) (h : Heard)
+pub acknowledgement_said : (settings : Settings) (a : wire.Answer) (h : Heard)
     → hears settings Acknowledgement a ≡ Some h → h ≡ told acknowledged
 unfolding heard_or
 acknowledgement_said settings (wire.value t) h is =
@@ -370,33 +370,50 @@ module _ {R : Type 0} (with_verdict : R → List ℕ × Pairs → Verdict → R)
         (asked_next here z q next asked first) settings refl question p same second,
   )
 
-  first_breaks : (here new : Link) (x : Standing R) (e f : RunError) → TakesNot with_verdict settings sent here y x e
-      → PassesNext here new e f → FirstBreaks with_verdict with_commit settings old new w x f
-  first_breaks here new x (causes.Request e) f n passes = absurd n
-  first_breaks here new x (causes.Send e) f n passes = absurd n
-  first_breaks here new x (causes.Receive e) f n passes = (
+  -- the error names the second command
+  names_so : (next : Asked) (e f : RunError) → next ≡ next_asked y → NamesNext next e f
+      → NamesNext (next_asked (asking with_commit settings w)) e f
+  names_so next e f asked names =
+      subst (λ (k : Asked). NamesNext k e f) (asked ∙ ap (λ (v : Standing R). next_asked v) is) names
+
+  first_breaks : (here new : Link) (x : Standing R) (next : Asked) (e f : RunError) → next ≡ next_asked y
+      → TakesNot with_verdict settings sent here y x e → PassesNext here new e f → NamesNext next e f
+      → FirstBreaks with_verdict with_commit settings old new w x f
+  first_breaks here new x next (causes.Request e) f asked n passes names = absurd n
+  first_breaks here new x next (causes.Send e) f asked n passes names = absurd n
+  first_breaks here new x next (causes.Receive named e) f asked n passes names = (
     seen_first here,
-    causes.Receive e,
+    causes.Receive named e,
     breaks_so with_verdict with_commit settings old (seen_first old) (seen_first here) w y x asked_first settings refl
-        (causes.Receive e)
-        (n.0, (then_awaits old sent front back s here n.1.0, ended_so (append_known old.written front) here e n.1.1, n.1.2)),
-    subst (λ (v : Standing R). LeavesNext (seen_first here) new (next_command settings v) (causes.Receive e) f) is
+        (causes.Receive named e) (
+          n.0,
+          (
+            then_awaits old sent front back s here n.1.0,
+            ended_so (append_known old.written front) here e n.1.1,
+            n.1.2,
+            n.1.3,
+          ),
+        ),
+    subst (λ (v : Standing R). LeavesNext (seen_first here) new (next_command settings v) (causes.Receive named e) f) is
         (here, then_sent old sent front back s here (awaits_written sent here n.1.0), passes),
+    names_so next (causes.Receive named e) f asked names,
   )
-  first_breaks here new x (causes.Answer e) f n passes = (
+  first_breaks here new x next (causes.Answer e) f asked n passes names = (
     seen_first here,
     causes.Answer e,
     breaks_so with_verdict with_commit settings old (seen_first old) (seen_first here) w y x asked_first settings refl
-        (causes.Answer e) (n.0, then_answer old sent front back s here n.0 n.1, n.2, n.3, n.4),
+        (causes.Answer e) (n.0, then_answer old sent front back s here n.0 n.1, n.2, n.3, n.4, n.5),
     subst (λ (v : Standing R). LeavesNext (seen_first here) new (next_command settings v) (causes.Answer e) f) is
         (here, then_sent old sent front back s here (answer_written sent here n.0 n.1), passes),
+    names_so next (causes.Answer e) f asked names,
   )
 
   -- one of them did not
   pub broke_both : (new : Link) (x : Standing R) (next : Asked) (f : RunError) → next ≡ next_asked y
       → BreaksBoth with_verdict settings sent new y x next f
       → BreaksPipelined with_verdict with_commit settings old new w x f
-  broke_both new x next f asked (inl first) = inr (inl (first_breaks first.0 new x first.1 f first.2 first.3))
+  broke_both new x next f asked (inl first) =
+      inr (inl (first_breaks first.0 new x next first.1 f asked first.2 first.3 first.4))
   broke_both new x next f asked (inr second) = inr (inr (
     seen_first second.0,
     second.1,
@@ -410,7 +427,7 @@ module _ {R : Type 0} (with_verdict : R → List ℕ × Pairs → Verdict → R)
   front_broke : (y : Standing R) (e : RunError) → SentFront with_commit settings old new w y e
       → BreaksPipelined with_verdict with_commit settings old new w y e
   front_broke y (causes.Request e) h = absurd h
-  front_broke y (causes.Receive e) h = absurd h
+  front_broke y (causes.Receive named e) h = absurd h
   front_broke y (causes.Answer e) h = absurd h
   front_broke y (causes.Send e) h =
       let cut = front_of_both old new (command_bytes (command settings w)) (command_bytes (next_command settings y)) h.2 in
@@ -420,6 +437,7 @@ module _ {R : Type 0} (with_verdict : R → List ℕ × Pairs → Verdict → R)
         (h.0, cut.1, h.3),
         subst (λ (v : Standing R). LeavesNext cut.0 new (next_command settings v) (causes.Send e) (causes.Send e)) h.0
             (refl, cut.2),
+        tt,
       ))
 
   -- no command went out whole
@@ -434,17 +452,17 @@ module _ {R : Type 0} (with_verdict : R → List ℕ × Pairs → Verdict → R)
       → LeavesNext here last args e f → machine_after f m ≡ machine_after e m
   same_after here last args (causes.Request e) f m h = absurd h
   same_after here last args (causes.Send e) f m h = ap (λ (v : RunError). machine_after v m) h.0
-  same_after here last args (causes.Receive e) f m h = ap (λ (v : RunError). machine_after v m) h.2.0
+  same_after here last args (causes.Receive named e) f m h = ap (λ (v : RunError). machine_after v m) h.2.0
   same_after here last args (causes.Answer e) (causes.Request f) m h = absurd h.2
   same_after here last args (causes.Answer e) (causes.Send f) m h = absurd h.2
-  same_after here last args (causes.Answer e) (causes.Receive f) m h = refl
+  same_after here last args (causes.Answer e) (causes.Receive other f) m h = refl
   same_after here last args (causes.Answer e) (causes.Answer f) m h = refl
 
   fails_so : (y x : Standing R) (e : RunError) → x ≡ after_failure e y
       → BreaksPipelined with_verdict with_commit settings old new w y e
       → FailsPipelined with_verdict with_commit settings old new w x e
   fails_so y x e is (inl b) = inl (y, b, is)
-  fails_so y x e is (inr (inl (here, f, b, leaves))) = inr (inl (
+  fails_so y x e is (inr (inl (here, f, b, leaves, names))) = inr (inl (
     here,
     f,
     (
@@ -454,6 +472,7 @@ module _ {R : Type 0} (with_verdict : R → List ℕ × Pairs → Verdict → R)
           (same_after here new (next_command settings (asking with_commit settings w)) f e y.machine leaves),
     ),
     leaves,
+    names,
   ))
   fails_so y x e is (inr (inr (here, z, t, b))) = inr (inr (here, z, t, (y, b, is)))
 

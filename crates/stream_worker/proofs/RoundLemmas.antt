@@ -1,5 +1,5 @@
 -- A round over a connection: an answer that is taken where it stands.
-use Rattle.std.proofs.Common.{◌≡◌, ◌≤◌, ℕ, List, [], ◌++◌, length, take, Ok, Err, sym, ◌∙◌, ap, subst}
+use Rattle.std.proofs.Common.{◌≡◌, ◌≤◌, ℕ, List, [], ◌++◌, length, take, Ok, Err, refl, sym, ◌∙◌, ap, subst}
 use Rattle.std.proofs.Common.{append-nil}
 use Rattle.std.proofs.Math.Seq.{take-length}
 use Rattle.redis_wire.specs.Decoded.{NoReply}
@@ -20,10 +20,10 @@ use Rattle.stream_worker.specs.Answers.{group_after, hears}
 use Rattle.stream_worker.specs.InPlace.{Heads, WentInPlace, FailedInPlace}
 use Rattle.stream_worker.specs.Session.{Standing, Breaks, HasAsked, Turned, EndsBy, command, having_heard}
 use Rattle.stream_worker.specs.Taken.{Takes, TakesNot}
+use Rattle.stream_worker.specs.declared.error.AnswerError.{AnswerError}
 use Rattle.stream_worker.specs.declared.error.InPlaceError.TheVariants as in_place
 use Rattle.stream_worker.specs.declared.error.RunError.{RunError}
 use Rattle.stream_worker.specs.declared.error.RunError.TheVariants as causes
-use Rattle.stream_worker.specs.declared.error.WorkerError.{WorkerError}
 use Rattle.stream_worker.specs.declared.state.Asked.{Asked}
 use Rattle.stream_worker.specs.declared.state.Settings.{Settings}
 use Rattle.stream_worker.specs.declared.worker.Progress.{Progress}
@@ -70,7 +70,7 @@ module _ {R : Type 0} (with_verdict : R → List ℕ × Pairs → Verdict → R)
   not_short none = none (length text) answer
       (subst (λ (t : List ℕ). IsReply limits t answer) (sym (take-length text)) is_reply)
 
-  pub held : x ≡ y → TakesNot with_verdict settings old here y x (causes.Receive Memory)
+  pub held : x ≡ y → TakesNot with_verdict settings old here y x (causes.Receive y.asked Memory)
   held same = (
     same,
     (
@@ -82,6 +82,7 @@ module _ {R : Type 0} (with_verdict : R → List ℕ × Pairs → Verdict → R)
       },
       tt,
       tt,
+      refl,
     ),
   )
 
@@ -102,9 +103,9 @@ module _ {R : Type 0} (with_verdict : R → List ℕ × Pairs → Verdict → R)
           → Takes with_verdict settings old new y x p
       taken p g = (g.0, came g.0 g.1, g.2, g.3, g.4)
 
-      pub refused : (e : WorkerError) → FailedInPlace with_verdict settings limits text y x (in_place.Answer e)
+      pub refused : (e : AnswerError) → FailedInPlace with_verdict settings limits text y x (in_place.Answer e)
           → TakesNot with_verdict settings old new y x (causes.Answer e)
-      refused e g = (g.0, came g.0 g.1, g.2, g.3, g.4)
+      refused e g = (g.0, came g.0 g.1, g.2, g.3, g.4, g.5)
 
 -- a command that went out, and what was made of the next answer
 module _ {R : Type 0} (with_verdict : R → List ℕ × Pairs → Verdict → R) (with_commit : R → R)
@@ -131,14 +132,21 @@ module _ {R : Type 0} (with_verdict : R → List ℕ × Pairs → Verdict → R)
       → Breaks with_verdict with_commit settings old new w x e
   broken (causes.Request e) n = absurd n
   broken (causes.Send e) n = absurd n
-  broken (causes.Receive e) n = (n.0 ∙ asked.0, (mid, asked.1, n.1.0), n.1.1, n.1.2)
+  broken (causes.Receive named e) n = (
+    n.0 ∙ asked.0,
+    (mid, asked.1, n.1.0),
+    n.1.1,
+    n.1.2,
+    n.1.3 ∙ sym (ap (λ (v : Standing R). v.asked) n.0),
+  )
   broken (causes.Answer e) n = (
     n.0,
     exchanged n.0 n.1,
-    subst (λ (v : Standing R). Failed with_verdict settings v.asked n.0 v.machine x.machine v.history x.history e)
+    subst (λ (v : Standing R). Failed with_verdict settings v.asked n.0 v.machine x.machine v.history x.history e.error)
         asked.0 n.2,
     n.3 ∙ ap (λ (v : Standing R). group_after settings v.group v.asked n.0) asked.0,
     n.4,
+    n.5 ∙ ap (λ (v : Standing R). v.asked) asked.0,
   )
 
   pub breaks_so : (e : RunError) → TakesNot with_verdict s mid new y x e

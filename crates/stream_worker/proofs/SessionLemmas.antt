@@ -230,6 +230,10 @@ module _ {R : Type 0} (with_verdict : R → List ℕ × Pairs → Verdict → R)
   pub rounds_none : (link : Link) (w : Standing R) → Rounds with_verdict with_commit settings link link w w 0 GoesOn
   rounds_none link w = record { turns = []; count = refl; converses = converses_none link; stands = refl; ends = tt }
 
+  pub none_turns : (link : Link) (w : Standing R) → (rounds_none link w).turns ≡ []
+  unfolding rounds_none
+  none_turns link w = refl
+
   pub rounds_more : (old mid new : Link) (w y x : Standing R) (n : ℕ) (question : Asked) (p : Progress)
       → Rounds with_verdict with_commit settings old mid w y n GoesOn
       → Turned with_verdict with_commit settings mid new y x question p
@@ -255,13 +259,20 @@ module _ {R : Type 0} (with_verdict : R → List ℕ × Pairs → Verdict → R)
             t.turn.verdicts p) r.stands t.ends);
       }
 
+  pub more_turns : (old mid new : Link) (w y x : Standing R) (n : ℕ) (question : Asked) (p : Progress)
+      (r : Rounds with_verdict with_commit settings old mid w y n GoesOn)
+      (t : Turned with_verdict with_commit settings mid new y x question p)
+      → (rounds_more old mid new w y x n question p r t).turns ≡ r.turns ++ t.turn ∷ []
+  unfolding rounds_more
+  more_turns old mid new w y x n question p r t = refl
+
   -- ---- how a session ends
 
   pub failing : (old new : Link) (w x : Standing R) (e : RunError) → IsUnanswered with_commit settings old new w x e
       → Breaks with_verdict with_commit settings old new w x e
   failing old new w x (causes.Request e) u = u
   failing old new w x (causes.Send e) u = u
-  failing old new w x (causes.Receive e) u = u
+  failing old new w x (causes.Receive named e) u = u
   failing old new w x (causes.Answer e) u = absurd u
 
   pub ran_all : (old new : Link) (w x : Standing R) (rounds n : ℕ) → n ≡ rounds
@@ -327,7 +338,7 @@ phase_kept m = elim (commits m) as (λ b. (if b then after_commit m else m).phas
 begun_again : (e : RunError) (m : Machine) → (IsUnsent e → ⊥) → (machine_after e m).phase ≡ own (codes "0")
 begun_again (causes.Request e) m sent = absurd (sent tt)
 begun_again (causes.Send e) m sent = refl
-begun_again (causes.Receive e) m sent = refl
+begun_again (causes.Receive named e) m sent = refl
 begun_again (causes.Answer e) m sent = refl
 
 pub failures_begin_again : FailuresBeginAgain

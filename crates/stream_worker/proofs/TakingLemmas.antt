@@ -75,7 +75,7 @@ pub record Split {T : Type 0} (xs : List T) (i : ℕ) (x : T) : Type 0 where
   pub rest : List T
   pub is : xs ≡ take i xs ++ x ∷ rest
 
-split : {T : Type 0} (xs : List T) (i : ℕ) (x : T) → i < length xs → x ≡ get_or xs i x → Split xs i x
+pub split : {T : Type 0} (xs : List T) (i : ℕ) (x : T) → i < length xs → x ≡ get_or xs i x → Split xs i x
 split [] i x l e = absurd (omega arith)
 split (y ∷ xs) zero x l e = record { rest = xs; is = ap (λ z. z ∷ xs) (sym e) }
 split (y ∷ xs) (suc i) x l e =

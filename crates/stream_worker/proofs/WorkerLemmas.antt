@@ -1,6 +1,6 @@
 -- From what an answer says to what a worker did with it.
 use Rattle.std.proofs.Common.{◌≡◌, ◌≢◌, inl, inr, refl, sym, ap, subst, ◌∙◌, ℕ, List, [], ◌∷◌, ◌++◌, Option, Some, None}
-use Rattle.std.proofs.Common.{option_map, string_bytes, Result, Ok, Err}
+use Rattle.std.proofs.Common.{option_map, string_bytes, Result, Ok, Err, String, Global}
 use Rattle.std.specs.Prelude.{option_and_then, OnOk, true, false, Bool, if◌then◌else◌}
 use Rattle.std.specs.Result.{IfOk, IfErr, IsErrAnd}
 use Rattle.redis_resp.specs.Number.{unsigned_reading}
@@ -21,7 +21,8 @@ use Rattle.stream_worker.specs.Answers.{Heard, told, no_group, group_made, is_go
 use Rattle.stream_worker.specs.Answers.{claim_read, claim_there, news_read, those_there}
 use Rattle.stream_worker.specs.Errors.{read_error}
 use Rattle.stream_worker.specs.Machine.{Moved, ending_of}
-use Rattle.stream_worker.specs.Parts.{IsAcknowledged, IsOfGroup, IsRefused, NoStreams, NotClaimed, NotNews, NotRead, Unread, reads_own}
+use Rattle.stream_worker.specs.Parts.{IsAcknowledged, IsOfGroup, IsRefused, NoClaim, NoStreams, NotClaimed, NotNews, NotRead, Unread}
+use Rattle.stream_worker.specs.Parts.{reads_own}
 use Rattle.stream_worker.specs.Taking.{all_delivered}
 use Rattle.stream_worker.specs.declared.error.WorkerError.{WorkerError}
 use Rattle.stream_worker.specs.declared.error.WorkerError.TheVariants as causes
@@ -30,6 +31,7 @@ use Rattle.stream_worker.specs.declared.state.Asked.TheVariants as asked
 use Rattle.stream_worker.specs.declared.state.Settings.{Settings}
 use Rattle.stream_worker.specs.declared.worker.Progress.{Progress}
 use Rattle.stream_worker.specs.declared.worker.Progress.TheVariants.{GoesOn}
+use Rattle.stream_worker.proofs.ReadLemmas.{there_not}
 
 -- what was moved is what the answer does to the machine
 took : {R : Type 0} (with_verdict : R → List ℕ × Pairs → Verdict → R) (answer : Answer Pairs)
@@ -253,22 +255,28 @@ module _ {R : Type 0} (with_verdict : R → List ℕ × Pairs → Verdict → R)
       )
 
   -- nil in a new entry
-  nil_in_news : HasNil (string_bytes settings.key) asked.News t → news_read (string_bytes settings.key) t ≡ None
-  nil_in_news h =
-      ap (option_and_then those_there) h.1 ∙ ap (λ (b : Bool). if b then Some h.0 else None) h.2
+  nil_in_news : (id : List ℕ) → HasNil (string_bytes settings.key) asked.News t id
+      → news_read (string_bytes settings.key) t ≡ None
+  nil_in_news id h =
+      ap (option_and_then those_there) h.1 ∙ ap (λ (b : Bool). if b then Some h.0 else None) (there_not h.0 id h.2)
 
-  pub news_nil : HasNil (string_bytes settings.key) asked.News t → n ≡ begins_again m → s ≡ r
-      → Failed with_verdict settings asked.News (wire.value t) m n r s causes.NilFields
-  news_nil h i j =
-      ((t, refl, h), ap (option_map (λ xs. told (news (all_delivered xs)))) (nil_in_news h), i, j)
+  pub news_nil : (id : String Global) → HasNil (string_bytes settings.key) asked.News t (string_bytes id)
+      → n ≡ begins_again m → s ≡ r
+      → Failed with_verdict settings asked.News (wire.value t) m n r s (causes.NilFields id)
+  news_nil id h i j = (
+    (t, refl, h),
+    ap (option_map (λ xs. told (news (all_delivered xs)))) (nil_in_news (string_bytes id) h),
+    i,
+    j,
+  )
 
   -- a value that holds no new entries of the stream
   pub news_refused : (e : WorkerError) → NotNews (string_bytes settings.key) t e → n ≡ begins_again m → s ≡ r
       → Failed with_verdict settings asked.News (wire.value t) m n r s e
   news_refused e (inl u) i j = news_not_read e u i j
   news_refused e (inr h) i j =
-      subst (λ (x : WorkerError). Failed with_verdict settings asked.News (wire.value t) m n r s x) (sym h.0)
-      (news_nil h.1 i j)
+      subst (λ (x : WorkerError). Failed with_verdict settings asked.News (wire.value t) m n r s x) (sym h.1)
+      (news_nil h.0 h.2 i j)
 
   -- a value that is no answer to a claim
   pub claim_unread : (e : WorkerError) → Unread sent_autoclaim_reading RefusesSentAutoClaim t e → n ≡ begins_again m → s ≡ r
@@ -286,25 +294,35 @@ module _ {R : Type 0} (with_verdict : R → List ℕ × Pairs → Verdict → R)
       )))
 
   -- nil in a claimed entry
-  nil_in_claim : HasNil (string_bytes settings.key) asked.Claim t → claim_read t ≡ None
-  nil_in_claim h =
-      ap (option_and_then claim_there) h.1 ∙ ap (λ (b : Bool). if b then Some h.0 else None) h.2
+  nil_in_claim : (id : List ℕ) → HasNil (string_bytes settings.key) asked.Claim t id → claim_read t ≡ None
+  nil_in_claim id h =
+      ap (option_and_then claim_there) h.1
+      ∙ ap (λ (b : Bool). if b then Some h.0 else None) (there_not h.0.claimed id h.2)
 
-  pub claim_nil : HasNil (string_bytes settings.key) asked.Claim t → n ≡ begins_again m → s ≡ r
-      → Failed with_verdict settings asked.Claim (wire.value t) m n r s causes.NilFields
-  claim_nil h i j = (
+  pub claim_nil : (id : String Global) → HasNil (string_bytes settings.key) asked.Claim t (string_bytes id)
+      → n ≡ begins_again m → s ≡ r
+      → Failed with_verdict settings asked.Claim (wire.value t) m n r s (causes.NilFields id)
+  claim_nil id h i j = (
     (t, refl, h),
-    ap (option_map (λ (c : SentAutoClaim). told (taken_over c.next (all_delivered c.claimed)))) (nil_in_claim h),
+    ap (option_map (λ (c : SentAutoClaim). told (taken_over c.next (all_delivered c.claimed))))
+        (nil_in_claim (string_bytes id) h),
     i,
     j,
   )
 
+  claim_not_read : (e : WorkerError) → NoClaim t e → n ≡ begins_again m → s ≡ r
+      → Failed with_verdict settings asked.Claim (wire.value t) m n r s e
+  claim_not_read e (inl h) i j =
+      subst (λ (x : WorkerError). Failed with_verdict settings asked.Claim (wire.value t) m n r s x) (sym h)
+      (t, refl, inl (i, j))
+  claim_not_read e (inr u) i j = claim_unread e u i j
+
   pub claim_refused : (key : List ℕ) (e : WorkerError) → NotClaimed key t e → n ≡ begins_again m → s ≡ r
       → Failed with_verdict settings asked.Claim (wire.value t) m n r s e
-  claim_refused key e (inl u) i j = claim_unread e u i j
+  claim_refused key e (inl u) i j = claim_not_read e u i j
   claim_refused key e (inr h) i j =
-      subst (λ (x : WorkerError). Failed with_verdict settings asked.Claim (wire.value t) m n r s x) (sym h.0)
-      (claim_nil h.1 i j)
+      subst (λ (x : WorkerError). Failed with_verdict settings asked.Claim (wire.value t) m n r s x) (sym h.1)
+      (claim_nil h.0 h.2 i j)
 
   -- a value that is no count
   pub ack_unread : (e : WorkerError) → Unread (unsigned_reading 64) RefusesNumber t e → n ≡ begins_again m → s ≡ r
@@ -388,7 +406,7 @@ module _ {R : Type 0} (with_verdict : R → List ℕ × Pairs → Verdict → R)
   refused_failed text causes.NotAnAnswer j k h = absurd h.0
   refused_failed text (causes.Parsing e) j k h = absurd h.0
   refused_failed text causes.OtherStream j k h = absurd h.0
-  refused_failed text causes.NilFields j k h = absurd h.0
+  refused_failed text (causes.NilFields id) j k h = absurd h.0
   refused_failed text causes.Memory j k h = absurd h.0
 
 -- before anything is known of the group, entries of its own are taken in the same way
@@ -410,7 +428,7 @@ module _ {R : Type 0} (with_verdict : R → List ℕ × Pairs → Verdict → R)
   first_failed causes.NotAnAnswer f = absurd f.0
   first_failed (causes.Parsing e) f = f
   first_failed causes.OtherStream f = f
-  first_failed causes.NilFields f = absurd f.0.2
+  first_failed (causes.NilFields id) f = absurd f.0.2
   first_failed causes.Memory f = (
     f.0,
     f.1,

@@ -10,7 +10,7 @@ use Rattle.stream_group.specs.Worker.{begins_again}
 use Rattle.stream_refs.specs.Sent.{Pairs, SentAutoClaim, SentEntry}
 use Rattle.stream_refs.specs.SentReading.{sent_autoclaim_reading, sent_streams_reading}
 use Rattle.stream_refs.specs.SentRefusal.{RefusesSentAutoClaim, RefusesSentStreams}
-use Rattle.stream_worker.specs.Answers.{Heard, told, no_group, group_made, hears, is_gone, all_there, entries_read}
+use Rattle.stream_worker.specs.Answers.{Heard, told, no_group, group_made, hears, is_gone, entries_read, first_nil}
 use Rattle.stream_worker.specs.Handling.{with_all}
 use Rattle.stream_worker.specs.Machine.{ending_of}
 use Rattle.stream_worker.specs.declared.error.WorkerError.{WorkerError}
@@ -31,16 +31,17 @@ MayRefuse asked.Own t error = Refuses sent_streams_reading RefusesSentStreams t 
 MayRefuse asked.Claim t error = Refuses sent_autoclaim_reading RefusesSentAutoClaim t error
 MayRefuse asked.News t error = Refuses sent_streams_reading RefusesSentStreams t error
 
--- nil stands in place of the fields of an entry, in an answer in which no server says so of a deleted one
-abbrev pub HasNil : List ℕ → Asked → Tree → Type 0
-HasNil key asked.Nothing t = ⊥
-HasNil key asked.Acknowledgement t = ⊥
-HasNil key asked.Group t = ⊥
-HasNil key asked.First t = ⊥
-HasNil key asked.Own t = ⊥
-HasNil key asked.Claim t =
-    (c : SentAutoClaim) × (sent_autoclaim_reading t ≡ Some c) × (all_there c.claimed ≡ false)
-HasNil key asked.News t = (es : List SentEntry) × (entries_read key t ≡ Some es) × (all_there es ≡ false)
+-- nil stands in place of the fields of an entry, in an answer in which no server says so of a deleted one: the first
+-- such entry has this id
+abbrev pub HasNil : List ℕ → Asked → Tree → List ℕ → Type 0
+HasNil key asked.Nothing t id = ⊥
+HasNil key asked.Acknowledgement t id = ⊥
+HasNil key asked.Group t id = ⊥
+HasNil key asked.First t id = ⊥
+HasNil key asked.Own t id = ⊥
+HasNil key asked.Claim t id =
+    (c : SentAutoClaim) × (sent_autoclaim_reading t ≡ Some c) × (first_nil c.claimed ≡ Some id)
+HasNil key asked.News t id = (es : List SentEntry) × (entries_read key t ≡ Some es) × (first_nil es ≡ Some id)
 
 module _ {R : Type 0} (with_verdict : R → List ℕ × Pairs → Verdict → R) where
   -- the machine went on by the answer, and its handler said this of the entries, which so came to an end
@@ -93,8 +94,8 @@ module _ {R : Type 0} (with_verdict : R → List ℕ × Pairs → Verdict → R)
       ((t : Tree) × (a ≡ wire.value t) × (entries_read (string_bytes settings.key) t ≡ None)
       × (sent_streams_reading t ≢ None)) × (hears settings question a ≡ None)
       × (n ≡ begins_again m) × (s ≡ r)
-  Failed settings question a m n r s causes.NilFields =
-      ((t : Tree) × (a ≡ wire.value t) × HasNil (string_bytes settings.key) question t)
+  Failed settings question a m n r s (causes.NilFields id) =
+      ((t : Tree) × (a ≡ wire.value t) × HasNil (string_bytes settings.key) question t (string_bytes id))
       × (hears settings question a ≡ None) × (n ≡ begins_again m) × (s ≡ r)
   Failed settings question a m n r s causes.Memory =
       (t : Tree) × (a ≡ wire.value t) × (((n ≡ begins_again m) × (s ≡ r)) ⊎ WasCut settings question t m n r s)

@@ -39,6 +39,11 @@ entries_read key t = option_and_then (only_stream key) (sent_streams_reading t)
 abbrev pub all_there : List SentEntry → Bool
 all_there es = list_all (λ e. not (is_none e.fields)) es
 
+-- the id of the first entry for whose fields nil stands
+abbrev pub first_nil : List SentEntry → Option (List ℕ)
+first_nil [] = None
+first_nil (e ∷ es) = if is_none e.fields then Some e.id else first_nil es
+
 -- new entries: nil in one of them is no answer, since a server says only of pending entries that they were deleted
 abbrev pub those_there : List SentEntry → Option (List SentEntry)
 those_there es = if all_there es then Some es else None

@@ -11,6 +11,7 @@ use Rattle.stream_refs.specs.Sent.{Pairs}
 use Rattle.stream_worker.specs.Answered.{Failed, Went}
 use Rattle.stream_worker.specs.Answers.{group_after}
 use Rattle.stream_worker.specs.Session.{Standing}
+use Rattle.stream_worker.specs.declared.error.AnswerError.{AnswerError}
 use Rattle.stream_worker.specs.declared.error.InPlaceError.{InPlaceError}
 use Rattle.stream_worker.specs.declared.error.InPlaceError.TheVariants as causes
 use Rattle.stream_worker.specs.declared.error.WorkerError.{WorkerError}
@@ -42,8 +43,8 @@ module _ {R : Type 0} (with_verdict : R → List ℕ × Pairs → Verdict → R)
       (x ≡ w) × ((more : List ℕ) → NoReply limits (bytes ++ more))
       × IsFirstFault limits bytes (wire_errors.Fault fault)
   FailedInPlace w x (causes.Answer e) = (a : wire.Answer) × Heads limits bytes a
-      × Failed with_verdict settings w.asked a w.machine x.machine w.history x.history e
-      × (x.group ≡ group_after settings w.group w.asked a) × (x.asked ≡ Nothing)
+      × Failed with_verdict settings w.asked a w.machine x.machine w.history x.history e.error
+      × (x.group ≡ group_after settings w.group w.asked a) × (x.asked ≡ Nothing) × (e.asked ≡ w.asked)
 
   -- one or the other, by what is returned
   abbrev pub TakenInPlace : Standing R → Standing R → Result Progress InPlaceError → Type 0
@@ -56,3 +57,8 @@ abbrev pub TakenByValue : {R : Type 0} → (R → List ℕ × Pairs → Verdict 
 TakenByValue with_verdict settings question t m n r s (Ok p) = Went with_verdict settings question (wire.value t) m n r s p
 TakenByValue with_verdict settings question t m n r s (Err e) =
     Failed with_verdict settings question (wire.value t) m n r s e
+
+-- what came of the answer to this: an error says what was asked
+abbrev pub in_answer : Asked → Result Progress WorkerError → Result Progress InPlaceError
+in_answer question (Ok p) = Ok p
+in_answer question (Err e) = Err (causes.Answer (let a : AnswerError = record { asked = question; error = e } in a))

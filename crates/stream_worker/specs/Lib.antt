@@ -16,6 +16,7 @@ pub mod Gathered
 pub mod Letters
 pub mod Session
 pub mod Taken
+pub mod Finish
 pub mod Pipelined
 pub mod InPlace
 pub mod Life

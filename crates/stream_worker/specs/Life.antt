@@ -63,7 +63,7 @@ module _ (settings : Settings) where
       → Fails done_too committed_too settings old new w x e → List Id
   deleted_at old new w x (causes.Request e) f = []
   deleted_at old new w x (causes.Send e) f = []
-  deleted_at old new w x (causes.Receive e) f = []
+  deleted_at old new w x (causes.Receive named e) f = []
   deleted_at old new w x (causes.Answer e) f = deleted_told w f.1.0
 
   -- and of those that came in turns, one after the other

@@ -30,6 +30,10 @@ abbrev pub is_empty : {A : Type 0} → List A → Bool
 is_empty [] = true
 is_empty (x ∷ xs) = false
 
+-- nothing is to be committed, and nothing to be acknowledged
+abbrev pub is_settled : Machine → Bool
+is_settled m = is_empty m.to_commit && is_empty m.to_acknowledge
+
 -- a worker commits before it asks: where something is to be committed, and nothing to be acknowledged
 abbrev pub commits : Machine → Bool
 commits m = is_empty m.to_acknowledge && not (is_empty m.to_commit)

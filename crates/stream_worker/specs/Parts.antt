@@ -1,5 +1,6 @@
 -- What the parts of a worker say to one another.
-use Rattle.std.specs.Prelude.{◌≡◌, ◌≢◌, ◌⊎◌, ℕ, Bool, true, false, List, [], Option, Some, None}
+use Rattle.std.specs.Prelude.{◌≡◌, ◌≢◌, ◌⊎◌, ℕ, Bool, true, false, List, [], Option, Some, None, String, string_bytes}
+use Rattle.std.specs.declared.alloc.Global.{Global}
 use Rattle.redis_resp.specs.Number.{unsigned_reading}
 use Rattle.redis_resp.specs.Refusal.{Refuses}
 use Rattle.redis_resp.specs.Tree.{Tree}
@@ -33,14 +34,21 @@ IsOther key t e = (e ≡ causes.OtherStream) × (entries_read key t ≡ None) ×
 abbrev pub NotRead : List ℕ → Tree → WorkerError → Type 0
 NotRead key t e = NoStreams t e ⊎ IsOther key t e
 
+-- nil stands in place of the fields of the entry that the error names
+abbrev pub IsNil : List ℕ → Asked → Tree → WorkerError → Type 0
+IsNil key question t e = (id : String Global) × (e ≡ causes.NilFields id) × HasNil key question t (string_bytes id)
+
 -- why it holds no new entries of the stream
 abbrev pub NotNews : List ℕ → Tree → WorkerError → Type 0
-NotNews key t e = NotRead key t e ⊎ ((e ≡ causes.NilFields) × HasNil key asked.News t)
+NotNews key t e = NotRead key t e ⊎ IsNil key asked.News t e
+
+-- memory ran out, or a value holds no claim
+abbrev pub NoClaim : Tree → WorkerError → Type 0
+NoClaim t e = (e ≡ causes.Memory) ⊎ Unread sent_autoclaim_reading RefusesSentAutoClaim t e
 
 -- why a value is no claim
 abbrev pub NotClaimed : List ℕ → Tree → WorkerError → Type 0
-NotClaimed key t e = Unread sent_autoclaim_reading RefusesSentAutoClaim t e
-    ⊎ ((e ≡ causes.NilFields) × HasNil key asked.Claim t)
+NotClaimed key t e = NoClaim t e ⊎ IsNil key asked.Claim t e
 
 -- what an error says of the group
 abbrev pub state_by : Option Heard → Option GroupState
@@ -65,7 +73,7 @@ IsRefused question text (causes.GroupIsGone e) = (text ≡ e.text.items) × (is_
 IsRefused question text causes.NotAnAnswer = ⊥
 IsRefused question text (causes.Parsing e) = ⊥
 IsRefused question text causes.OtherStream = ⊥
-IsRefused question text causes.NilFields = ⊥
+IsRefused question text (causes.NilFields id) = ⊥
 IsRefused question text causes.Memory = ⊥
 
 -- its own pending entries were asked for

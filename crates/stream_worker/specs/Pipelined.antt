@@ -38,20 +38,30 @@ waiting_for next z = record z { asked = next }
 -- come, that is the error
 abbrev pub PassesNext : Link → Link → RunError → RunError → Type 0
 PassesNext old new (causes.Answer e) (causes.Answer f) = (f ≡ e) × ((a : wire.Answer) × ReceivesAnswer old new a)
-PassesNext old new (causes.Answer e) (causes.Receive f) = Awaited old new (causes.Receive f)
+PassesNext old new (causes.Answer e) (causes.Receive named f) = Awaited named old new (causes.Receive named f)
 PassesNext old new (causes.Answer e) (causes.Request f) = ⊥
 PassesNext old new (causes.Answer e) (causes.Send f) = ⊥
 PassesNext old new (causes.Request e) f = (f ≡ causes.Request e) × (new ≡ old)
 PassesNext old new (causes.Send e) f = (f ≡ causes.Send e) × (new ≡ old)
-PassesNext old new (causes.Receive e) f = (f ≡ causes.Receive e) × (new ≡ old)
+PassesNext old new (causes.Receive named e) f = (f ≡ causes.Receive named e) × (new ≡ old)
+
+-- if the answer to the second command, which asked this, did not come, the error says so
+abbrev pub NamesNext : Asked → RunError → RunError → Type 0
+NamesNext next (causes.Answer e) (causes.Receive named f) = named ≡ next
+NamesNext next (causes.Answer e) (causes.Request f) = Unit {0}
+NamesNext next (causes.Answer e) (causes.Send f) = Unit {0}
+NamesNext next (causes.Answer e) (causes.Answer f) = Unit {0}
+NamesNext next (causes.Request e) f = Unit {0}
+NamesNext next (causes.Send e) f = Unit {0}
+NamesNext next (causes.Receive named e) f = Unit {0}
 
 -- what becomes of the second command after the first one failed for e: a front of it went out; or all of it, and
 -- its answer was passed over
 abbrev pub LeavesNext : Link → Link → List (List ℕ) → RunError → RunError → Type 0
 LeavesNext old new args (causes.Request e) f = ⊥
 LeavesNext old new args (causes.Send e) f = (f ≡ causes.Send e) × SendsFront old new (command_bytes args)
-LeavesNext old new args (causes.Receive e) f = (between : Link) × Sends old between (command_bytes args)
-    × PassesNext between new (causes.Receive e) f
+LeavesNext old new args (causes.Receive named e) f = (between : Link) × Sends old between (command_bytes args)
+    × PassesNext between new (causes.Receive named e) f
 LeavesNext old new args (causes.Answer e) f = (between : Link) × Sends old between (command_bytes args)
     × PassesNext between new (causes.Answer e) f
 
@@ -67,7 +77,7 @@ module _ {R : Type 0} (with_commit : R → R) (settings : Settings) where
   SentFront old new w y (causes.Send e) = (y ≡ asking with_commit settings w) × AcknowledgesAll y
       × SendsFront old new (command_bytes (command settings w) ++ command_bytes (next_command settings y)) × (e ≢ TooLong)
   SentFront old new w y (causes.Request e) = ⊥
-  SentFront old new w y (causes.Receive e) = ⊥
+  SentFront old new w y (causes.Receive named e) = ⊥
   SentFront old new w y (causes.Answer e) = ⊥
 
   -- nothing went out, or a front of one command, or of both
@@ -88,6 +98,7 @@ module _ {R : Type 0} (with_verdict : R → List ℕ × Pairs → Verdict → R)
   abbrev pub FirstBreaks : Link → Link → Standing R → Standing R → RunError → Type 0
   FirstBreaks old new w x f = (m : Link) × (e : RunError) × Breaks with_verdict with_commit settings old m w x e
       × LeavesNext m new (next_command settings (asking with_commit settings w)) e f
+      × NamesNext (next_asked (asking with_commit settings w)) e f
 
   -- the first goes on, and the second breaks
   abbrev pub SecondBreaks : Link → Link → Standing R → Standing R → RunError → Type 0
@@ -104,6 +115,7 @@ module _ {R : Type 0} (with_verdict : R → List ℕ × Pairs → Verdict → R)
   abbrev pub FirstFails : Link → Link → Standing R → Standing R → RunError → Type 0
   FirstFails old new w x f = (m : Link) × (e : RunError) × Fails with_verdict with_commit settings old m w x e
       × LeavesNext m new (next_command settings (asking with_commit settings w)) e f
+      × NamesNext (next_asked (asking with_commit settings w)) e f
 
   -- the first goes on, and the second fails
   abbrev pub SecondFails : Link → Link → Standing R → Standing R → RunError → Type 0
@@ -126,6 +138,7 @@ module _ {R : Type 0} (with_verdict : R → List ℕ × Pairs → Verdict → R)
   -- the first did not bring it on, or the second did not
   abbrev pub BreaksBoth : Link → Link → Standing R → Standing R → Asked → RunError → Type 0
   BreaksBoth old new y x next f =
-      ((m : Link) × (e : RunError) × TakesNot with_verdict settings old m y x e × PassesNext m new e f)
+      ((m : Link) × (e : RunError) × TakesNot with_verdict settings old m y x e × PassesNext m new e f
+      × NamesNext next e f)
       ⊎ ((m : Link) × (z : Standing R) × (q : Progress) × Takes with_verdict settings old m y z q
       × TakesNot with_verdict settings m new (waiting_for next z) x f)

@@ -20,6 +20,16 @@ phase_of phases.Stalled = claiming (codes "0-0")
 phase_of (phases.Claiming id) = claiming (string_bytes id)
 phase_of (phases.Reading rounds) = reading rounds
 
+-- what is asked, as an error names it
+abbrev pub asked_name : Asked → List ℕ
+asked_name asked.Nothing = codes "no command"
+asked_name asked.Acknowledgement = codes "XACK"
+asked_name asked.Group = codes "XGROUP CREATE"
+asked_name asked.First = codes "XREADGROUP of pending entries"
+asked_name asked.Own = codes "XREADGROUP of pending entries"
+asked_name asked.Claim = codes "XAUTOCLAIM"
+asked_name asked.News = codes "XREADGROUP of new entries"
+
 -- `XACK key group id..`
 abbrev pub ack_sentence : Settings → List Id → List (List ℕ)
 ack_sentence s ids = codes "XACK" ∷ string_bytes s.key ∷ string_bytes s.group ∷ ids

@@ -116,16 +116,16 @@ module _ {R : Type 0} (with_commit : R → R) (settings : Settings) where
   abbrev pub IsAsked : Link → Link → Standing R → Standing R → wire.Answer → Type 0
   IsAsked old new w x a = (x ≡ asking w) × Exchanges old new (command settings w) a
 
-  -- it asked nothing; or a front of its command went out; or all of it, and no answer came
+  -- it asked nothing; or a front of its command went out; or all of it, and no answer came to what the error names
   abbrev pub IsUnanswered : Link → Link → Standing R → Standing R → RunError → Type 0
   IsUnanswered old new w x (causes.Request e) =
       (new ≡ old) × Unasked with_commit w.machine x.machine w.history x.history e
       × (x.group ≡ w.group) × (x.asked ≡ w.asked)
   IsUnanswered old new w x (causes.Send e) =
       (x ≡ asking w) × SendsFront old new (command_bytes (command settings w)) × (e ≢ TooLong)
-  IsUnanswered old new w x (causes.Receive e) =
+  IsUnanswered old new w x (causes.Receive named e) =
       (x ≡ asking w) × ((between : Link) × Sends old between (command_bytes (command settings w)) × AwaitsAnswer between new)
-      × IsEnded new e × IsFaulty new.held e
+      × IsEnded new e × IsFaulty new.held e × (named ≡ x.asked)
   IsUnanswered old new w x (causes.Answer e) = ⊥
 
   -- the same, and if its command may have gone out, the worker begins again
@@ -213,12 +213,13 @@ module _ {R : Type 0} (with_verdict : R → List ℕ × Pairs → Verdict → R)
   abbrev pub Ran : Link → Link → Standing R → Standing R → ℕ → Progress → Type 0
   Ran old new w x rounds p = (n : ℕ) × IsCount rounds n p × Rounds old new w x n p
 
-  -- a round breaks: it has no answer, or one that does not bring it on
+  -- a round breaks: it has no answer, or one that does not bring it on, to what the error names
   abbrev pub Breaks : Link → Link → Standing R → Standing R → RunError → Type 0
   Breaks old new w x (causes.Answer e) = (a : wire.Answer) × Exchanges old new (command settings w) a
       × Failed with_verdict settings (asking with_commit settings w).asked a (at_request w.machine) x.machine
-      (asking with_commit settings w).history x.history e
+      (asking with_commit settings w).history x.history e.error
       × (x.group ≡ group_after settings w.group (asking with_commit settings w).asked a) × (x.asked ≡ Nothing)
+      × (e.asked ≡ (asking with_commit settings w).asked)
   Breaks old new w x e = IsUnanswered with_commit settings old new w x e
 
   -- a round fails: it breaks, and if its command may have gone out, the worker begins again

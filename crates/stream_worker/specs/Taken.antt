@@ -10,16 +10,18 @@ use Rattle.stream_worker.specs.Answers.{group_after}
 use Rattle.stream_worker.specs.Session.{Standing}
 use Rattle.stream_worker.specs.declared.error.RunError.{RunError}
 use Rattle.stream_worker.specs.declared.error.RunError.TheVariants as causes
+use Rattle.stream_worker.specs.declared.state.Asked.{Asked}
 use Rattle.stream_worker.specs.declared.state.Asked.TheVariants.{Nothing}
 use Rattle.stream_worker.specs.declared.state.Settings.{Settings}
 use Rattle.stream_worker.specs.declared.worker.Progress.{Progress}
 
--- no answer came, and this is why
-abbrev pub Awaited : Link → Link → RunError → Type 0
-Awaited old new (causes.Receive e) = AwaitsAnswer old new × IsEnded new e × IsFaulty new.held e
-Awaited old new (causes.Request e) = ⊥
-Awaited old new (causes.Send e) = ⊥
-Awaited old new (causes.Answer e) = ⊥
+-- no answer to this came, and the error says so, and why
+abbrev pub Awaited : Asked → Link → Link → RunError → Type 0
+Awaited question old new (causes.Receive named e) =
+    AwaitsAnswer old new × IsEnded new e × IsFaulty new.held e × (named ≡ question)
+Awaited question old new (causes.Request e) = ⊥
+Awaited question old new (causes.Send e) = ⊥
+Awaited question old new (causes.Answer e) = ⊥
 
 module _ {R : Type 0} (with_verdict : R → List ℕ × Pairs → Verdict → R) (settings : Settings) where
   -- an answer came, which brought the worker on
@@ -28,11 +30,11 @@ module _ {R : Type 0} (with_verdict : R → List ℕ × Pairs → Verdict → R)
       × Went with_verdict settings w.asked a w.machine x.machine w.history x.history p
       × (x.group ≡ group_after settings w.group w.asked a) × (x.asked ≡ Nothing)
 
-  -- no answer came, and nothing changed; or one that does not bring it on
+  -- no answer came, and nothing changed; or one that does not bring it on. The error names what was asked
   abbrev pub TakesNot : Link → Link → Standing R → Standing R → RunError → Type 0
-  TakesNot old new w x (causes.Receive e) = (x ≡ w) × Awaited old new (causes.Receive e)
+  TakesNot old new w x (causes.Receive named e) = (x ≡ w) × Awaited w.asked old new (causes.Receive named e)
   TakesNot old new w x (causes.Answer e) = (a : wire.Answer) × ReceivesAnswer old new a
-      × Failed with_verdict settings w.asked a w.machine x.machine w.history x.history e
-      × (x.group ≡ group_after settings w.group w.asked a) × (x.asked ≡ Nothing)
+      × Failed with_verdict settings w.asked a w.machine x.machine w.history x.history e.error
+      × (x.group ≡ group_after settings w.group w.asked a) × (x.asked ≡ Nothing) × (e.asked ≡ w.asked)
   TakesNot old new w x (causes.Request e) = ⊥
   TakesNot old new w x (causes.Send e) = ⊥

@@ -65,7 +65,7 @@ fn as_first(phase: &Phase, asked: Asked) -> Asked
     }
 }
 
-/// `XACK`, of these ids; nothing where there are none.
+/// `XACK`, of these ids.
 fn append_acknowledgement(
     alloc: Global,
     out: &mut Vec<u8>,
@@ -121,7 +121,7 @@ fn append_by_phase(
     }
 }
 
-/// `XREADGROUP` of its own pending entries behind this id.
+/// `XREADGROUP` of its own pending entries after this id.
 fn append_own(
     alloc: Global,
     out: &mut Vec<u8>,

@@ -8,7 +8,7 @@ use std::alloc::{AllocError, Global};
 use stream_refs::{EntriesRef, EntryRef, EntryRoom, SentRow};
 
 /// Hands one entry to the handler. Its id is remembered before the handler sees it, and forgotten
-/// where it is not done, so that memory cannot run out between the two. False where the handler
+/// if it is not done, so that memory cannot run out between the two. False if the handler
 /// says to stop.
 fn take_entry<H: Handler>(
     alloc: Global,
@@ -38,7 +38,7 @@ fn take_entry<H: Handler>(
     }
 }
 
-/// Hands a decoded entry to the handler, in the form of one where it stands.
+/// Hands a decoded entry to the handler, in the form of one in its bytes.
 fn take_row<H: Handler>(
     alloc: Global,
     room: &mut EntryRoom,
@@ -54,7 +54,7 @@ fn take_row<H: Handler>(
     take_entry(alloc, ids, &entry, handler)
 }
 
-/// Hands decoded entries to the handler, in order. False where the handler says to stop.
+/// Hands decoded entries to the handler, in order. False if the handler says to stop.
 pub fn take_entries<H: Handler>(
     alloc: Global,
     ids: &mut Vec<String>,
@@ -74,7 +74,7 @@ pub fn take_entries<H: Handler>(
     Ok(true)
 }
 
-/// Hands entries to the handler where they stand, in order. False where the handler says to stop.
+/// Hands entries to the handler in their bytes, in order. False if the handler says to stop.
 pub fn take_in_place<H: Handler>(
     alloc: Global,
     ids: &mut Vec<String>,

@@ -1,5 +1,6 @@
 //! Why a worker asks nothing, or an answer does not bring it on.
 use crate::handler::NotCommitted;
+use crate::state::Asked;
 use redis_connection::ConnectionError;
 use redis_resp::{ParsingError, WriteError};
 use redis_wire::{ServerError, WireError};
@@ -45,6 +46,16 @@ impl From<WriteError> for RequestError {
     }
 }
 
+/// Which command was asked, and why the answer to it does not bring a worker on.
+#[derive(Debug, Drop, Error)]
+#[error("{asked}: {error}")]
+pub struct AnswerError {
+    /// What was asked.
+    pub asked: Asked,
+    /// Why.
+    pub error: WorkerError,
+}
+
 /// Why an answer does not bring a worker on. What is done stays remembered, and what is not stays
 /// pending.
 #[derive(Debug, Drop, Error)]
@@ -62,7 +73,7 @@ pub enum WorkerError {
     /// where it was; `round` and `run` begin again.
     #[error("the group is gone: the server answers {0}")]
     GroupIsGone(ServerError),
-    /// The reply answers no command: the server pushed it unasked, or it is a group with an error
+    /// The reply is one to no command: the server pushed it unasked, or it is a group with an error
     /// in it. `answered` leaves the worker where it was; `round` and `run` begin again.
     #[error("no answer of a command")]
     NotAnAnswer,
@@ -72,10 +83,10 @@ pub enum WorkerError {
     /// The answer tells of another stream than the one that was asked for.
     #[error("an answer about another stream")]
     OtherStream,
-    /// Nil stands in place of the fields of an entry, in answer to a claim or to a read of new entries. Servers
-    /// say so only of pending entries that were deleted.
-    #[error("nil in place of the fields of an entry")]
-    NilFields,
+    /// Nil is in place of the fields of an entry, in answer to a claim or to a read of new entries: the id of
+    /// the first such entry. Servers say so only of pending entries that were deleted.
+    #[error("nil in place of the fields of the entry {0}")]
+    NilFields(String),
     /// Out of memory.
     #[error("out of memory")]
     Memory,
@@ -118,7 +129,7 @@ pub enum InPlaceError {
     Unread(WireError),
     /// The reply does not bring it on.
     #[error("{0}")]
-    Answer(WorkerError),
+    Answer(AnswerError),
 }
 
 impl From<AllocError> for InPlaceError {
@@ -133,13 +144,13 @@ impl From<AllocError> for InPlaceError {
     }
 }
 
-impl From<WorkerError> for InPlaceError {
+impl From<AnswerError> for InPlaceError {
     ghost use Rattle.std.specs.Prelude.{◌≡◌};
     ghost use Rattle.stream_worker.specs.declared.error.InPlaceError.TheVariants as causes;
 
-    ghost from_gives = { λ w e. e ≡ causes.Answer w };
+    ghost from_gives = { λ a e. e ≡ causes.Answer a };
 
-    fn from(error: WorkerError) -> InPlaceError {
+    fn from(error: AnswerError) -> InPlaceError {
         InPlaceError::Answer(error)
     }
 }
@@ -154,13 +165,18 @@ pub enum RunError {
     /// Some front of its command was sent.
     #[error("{0}")]
     Send(ConnectionError),
-    /// Its command was sent, and no reply was given out: what came of one is held. It may be whole
-    /// where memory ran out.
-    #[error("{0}")]
-    Receive(ConnectionError),
+    /// Its command was sent, and no reply to it was given out: what came of one is held. It may be whole if
+    /// memory ran out.
+    #[error("{asked}: {error}")]
+    Receive {
+        /// What was asked.
+        asked: Asked,
+        /// Why no reply was given out.
+        error: ConnectionError,
+    },
     /// A reply came, which does not bring it on.
     #[error("{0}")]
-    Answer(WorkerError),
+    Answer(AnswerError),
 }
 
 impl From<RequestError> for RunError {
@@ -174,13 +190,13 @@ impl From<RequestError> for RunError {
     }
 }
 
-impl From<WorkerError> for RunError {
+impl From<AnswerError> for RunError {
     ghost use Rattle.std.specs.Prelude.{◌≡◌};
     ghost use Rattle.stream_worker.specs.declared.error.RunError.TheVariants as causes;
 
-    ghost from_gives = { λ w e. e ≡ causes.Answer w };
+    ghost from_gives = { λ a e. e ≡ causes.Answer a };
 
-    fn from(error: WorkerError) -> RunError {
+    fn from(error: AnswerError) -> RunError {
         RunError::Answer(error)
     }
 }

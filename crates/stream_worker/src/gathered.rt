@@ -6,7 +6,7 @@ use crate::handler::{Handler, NotCommitted, Verdict};
 use std::alloc::Global;
 use stream_refs::{EntryRef, SentRow};
 
-/// Keeps a copy of each entry, and stops where there is no memory for one.
+/// Keeps a copy of each entry, and stops if there is no memory for one.
 #[derive(Debug, Drop)]
 pub struct Gathered {
     /// What it kept and has not committed.

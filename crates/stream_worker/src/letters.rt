@@ -13,7 +13,7 @@ use std::mem;
 use stream_commands::{AtLeastOne, ToFieldArgs, xack};
 use thiserror::Error;
 
-/// What a desk of dead letters waits to be answered.
+/// The command to which a desk of dead letters waits for the reply.
 #[derive(Clone, Copy, Debug, PartialEq, Eq)]
 pub enum LetterAsked {
     /// Nothing.
@@ -24,17 +24,16 @@ pub enum LetterAsked {
     Acknowledge,
 }
 
-/// Why an answer does not bring a desk of dead letters on. It is where it was, and asks the same
-/// again.
+/// Why a reply does not bring a desk of dead letters on. It is as it was, and asks the same again.
 #[derive(Debug, Drop, Error)]
 pub enum LetterError {
     /// Nothing was asked.
     #[error("an answer to no question")]
     NotAsked,
-    /// The server answered an error.
+    /// The server returned an error.
     #[error("the server answers {0}")]
     Server(ServerError),
-    /// The reply is no id where a letter was to be added, or no count where an entry was to be
+    /// The reply is no id after a letter was to be added, or no count after an entry was to be
     /// acknowledged.
     #[error("no answer of the command")]
     NotAnAnswer,
@@ -48,7 +47,7 @@ struct Letter {
 }
 
 /// Entries that are given up, without input and output: each goes to a stream of dead letters, with
-/// its id, its deliveries and its fields, and is acknowledged once the server has answered the id
+/// its id, its deliveries and its fields, and is acknowledged once the server has returned the id
 /// that the letter has there.
 ///
 /// An entry stays pending until then, so a handler leaves it so (`Verdict::LeavePending`) and gives
@@ -110,9 +109,8 @@ impl DeadLetters {
         Ok(())
     }
 
-    /// Appends the bytes of the next command: the letter of the first entry, or, where it was
-    /// added, the acknowledgement of that entry; nothing where no entry is given up. An `Err`
-    /// appends nothing.
+    /// Appends the bytes of the next command: the letter of the first entry, or, if it was added,
+    /// the acknowledgement of that entry; nothing if no entry is given up. An `Err` appends nothing.
     pub fn request(&mut self, alloc: Global, out: &mut Vec<u8>) -> Result<LetterAsked, WriteError>
         ensures bytes { OnOk result (out.new.items ≡ out.old.items
             ++ letter_bytes (names_of self.old) (desk_of self.old)) }
@@ -143,7 +141,7 @@ impl DeadLetters {
         Ok(asked)
     }
 
-    /// Takes the answer to the command that was requested last: the id of a letter, after which its
+    /// Takes the reply to the command that was requested last: the id of a letter, after which its
     /// entry is acknowledged, or how many were acknowledged, after which the next one follows.
     pub fn answered(&mut self, reply: Reply) -> Result<(), LetterError>
         ensures ok { OnOk result ((serves self.old.asked (answer reply) ≡ true)

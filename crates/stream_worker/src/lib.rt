@@ -18,7 +18,7 @@ mod session;
 mod state;
 mod worker;
 
-pub use error::{InPlaceError, RequestError, RunError, WorkerError};
+pub use error::{AnswerError, InPlaceError, RequestError, RunError, WorkerError};
 pub use gathered::Gathered;
 pub use handler::{Handler, NotCommitted, Verdict};
 pub use letters::{DeadLetters, LetterAsked, LetterError};

@@ -1,4 +1,4 @@
-//! Commands that have a name, as bytes behind others.
+//! Commands that have a name, as bytes after others.
 ghost use Rattle.std.specs.Prelude.{◌≡◌, ◌≢◌, ◌++◌, [], OnOk, OnErr};
 ghost use Rattle.redis_wire.specs.Packed.{command_bytes};
 

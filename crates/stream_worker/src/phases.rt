@@ -22,7 +22,7 @@ pub fn next_own(entries: &[SentRow]) -> Result<Phase, AllocError>
     }
 }
 
-/// The same of entries where they stand, where there are any.
+/// The same of entries in their bytes, if there are any.
 pub fn next_own_in_place(
     alloc: Global,
     entries: &Option<EntriesRef<'_>>,
@@ -31,12 +31,12 @@ pub fn next_own_in_place(
 {
     match entries {
         None => Ok(Phase::Stalled),
-        Some(entries) => behind_last(alloc, entries.again()),
+        Some(entries) => phase_after_last(alloc, entries.again()),
     }
 }
 
-/// Behind the last of these entries.
-fn behind_last(alloc: Global, entries: EntriesRef<'_>) -> Result<Phase, AllocError>
+/// After the last of these entries.
+fn phase_after_last(alloc: Global, entries: EntriesRef<'_>) -> Result<Phase, AllocError>
     ensures { IfOk result (λ p. phase_of p ≡ after_own (all_delivered entries.entry)) }
 {
     let mut last = None;

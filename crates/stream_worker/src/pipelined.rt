@@ -1,6 +1,6 @@
 //! An acknowledgement and the next question in one write.
 ghost use Rattle.std.specs.Prelude.{◌≡◌, IfErr, IfOk};
-ghost use Rattle.stream_worker.specs.Pipelined.{BreaksBoth, BreaksPipelined, FailsPipelined, PassesNext};
+ghost use Rattle.stream_worker.specs.Pipelined.{BreaksBoth, BreaksPipelined, FailsPipelined, NamesNext, PassesNext};
 ghost use Rattle.stream_worker.specs.Pipelined.{SentBoth, SentNeither, TakesBoth, WentPipelined};
 ghost use Rattle.stream_worker.specs.Session.{standing_of};
 
@@ -47,7 +47,7 @@ impl Worker {
     {
         match self.try_pipelined(alloc, connection, handler) {
             Ok(made) => Ok(made),
-            Err(error) => Err(self.failed(error)),
+            Err(error) => Err(self.begin_again_after(error)),
         }
     }
 
@@ -136,24 +136,26 @@ impl Worker {
                     progress,
                 })
             }
-            Err(error) => Err(pass_next(alloc, connection, error)),
+            Err(error) => Err(pass_next(alloc, connection, error, next)),
         }
     }
 }
 
-/// Passes over the answer to the second command, if the first answer came and did not bring the worker on:
-/// the error then.
+/// Passes over the answer to the second command, which asked this, if the first answer came and did not bring
+/// the worker on: the error then.
 fn pass_next<R: Read + Drop, W: Write + Drop>(
     alloc: Global,
     connection: &mut Connection<R, W>,
     error: RunError,
+    next: Asked,
 ) -> RunError
-    ensures { PassesNext connection.old connection.new error result }
+    ensures passes { PassesNext connection.old connection.new error result }
+    ensures names { NamesNext next error result }
 {
     match error {
         RunError::Answer(error) => match connection.receive(alloc) {
             Ok(_) => RunError::Answer(error),
-            Err(error) => RunError::Receive(error),
+            Err(error) => RunError::Receive { asked: next, error },
         },
         error => error,
     }

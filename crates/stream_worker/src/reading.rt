@@ -1,11 +1,9 @@
 //! The entries that an answer holds.
-ghost use Rattle.std.specs.Prelude.{◌≡◌, [], IfErr, IfOk, Some, map, option_map};
-ghost use Rattle.std.specs.List.{list_all};
-ghost use Rattle.std.specs.Option.{is_some};
+ghost use Rattle.std.specs.Prelude.{◌≡◌, [], IfErr, IfOk, Some, map, option_map, string_bytes};
 ghost use Rattle.redis_resp.specs.Value.{tree};
 ghost use Rattle.stream_refs.specs.SentMeaning.{claim_of, sent_all, sent_of};
 ghost use Rattle.stream_refs.specs.SentReading.{sent_streams_reading};
-ghost use Rattle.stream_worker.specs.Answers.{all_there, claim_read, entries_read, news_read, only_stream};
+ghost use Rattle.stream_worker.specs.Answers.{claim_read, entries_read, first_nil, news_read, only_stream};
 ghost use Rattle.stream_worker.specs.Handed.{entries_sent};
 ghost use Rattle.stream_worker.specs.Parts.{NoStreams, NotClaimed, NotNews, NotRead};
 ghost use Rattle.stream_worker.specs.Read.{named, streams_named};
@@ -15,7 +13,7 @@ use redis_resp::{PairList, Value, from_redis_value};
 use std::alloc::{AllocError, Global};
 use stream_refs::{EntriesRef, SentClaim, SentRow, StreamsRef};
 
-/// The entries of the one stream that an XREADGROUP answers.
+/// The entries of the one stream in a reply to XREADGROUP.
 pub fn read_entries(alloc: Global, key: &str, value: Value) -> Result<Vec<SentRow>, WorkerError>
     ensures ok { IfOk result (λ es. entries_read key.now (tree value) ≡ Some (sent_all es)) }
     ensures err { IfErr result (NotRead key.now (tree value)) }
@@ -27,7 +25,7 @@ pub fn read_entries(alloc: Global, key: &str, value: Value) -> Result<Vec<SentRo
     }
 }
 
-/// The streams that an XREADGROUP answers.
+/// The streams in a reply to XREADGROUP.
 fn read_streams(alloc: Global, value: Value) -> Result<Vec<(String, Vec<SentRow>)>, WorkerError>
     ensures ok { IfOk result (λ r. sent_streams_reading (tree value) ≡ Some (map named r.items)) }
     ensures err { IfErr result (NoStreams (tree value)) }
@@ -50,7 +48,7 @@ fn join(
     Ok(streams)
 }
 
-/// The entries of the one stream, and none where there is no stream.
+/// The entries of the one stream, and none if there is no stream.
 fn only_entries(
     alloc: Global,
     key: &str,
@@ -69,67 +67,64 @@ fn only_entries(
 }
 
 /// The new entries of the one stream.
-pub fn read_news(alloc: Global, key: &str, value: Value) -> Result<Vec<SentRow>, WorkerError>
+pub fn read_new(alloc: Global, key: &str, value: Value) -> Result<Vec<SentRow>, WorkerError>
     ensures ok { IfOk result (λ es. news_read key.now (tree value) ≡ Some (sent_all es)) }
     ensures err { IfErr result (NotNews key.now (tree value)) }
 {
     let entries = read_entries(alloc, key, value)?;
-    if !are_there(&entries) {
-        return Err(WorkerError::NilFields);
+    match nil_id(&entries)? {
+        None => Ok(entries),
+        Some(id) => Err(WorkerError::NilFields(id)),
     }
-    Ok(entries)
 }
 
-/// What an XAUTOCLAIM answers.
+/// The claim in a reply to XAUTOCLAIM.
 pub fn read_claim(alloc: Global, value: Value) -> Result<SentClaim, WorkerError>
     ensures ok { IfOk result (λ c. claim_read (tree value) ≡ Some (claim_of c)) }
     ensures err { IfErr result (NotClaimed [] (tree value)) }
 {
     let claim: SentClaim = from_redis_value(alloc, value)?;
-    if !are_there(&claim.claimed) {
-        return Err(WorkerError::NilFields);
+    match nil_id(&claim.claimed)? {
+        None => Ok(claim),
+        Some(id) => Err(WorkerError::NilFields(id)),
     }
-    Ok(claim)
 }
 
-/// Whether nil stands for the fields of none.
-#[tactic(auto, using(crate::proofs::ReadLemmas::there_each))]
-fn are_there(entries: &[SentRow]) -> bool
-    ensures { result ≡ all_there (map sent_of entries.now) }
+/// The id of the first entry with nil in place of its fields.
+fn nil_id(entries: &[SentRow]) -> Result<Option<String>, AllocError>
+    ensures { IfOk result (λ id. option_map string_bytes id ≡ first_nil (map sent_of entries.now)) }
 {
-    have_fields(entries)
+    for entry in entries {
+        if entry.fields.is_none() {
+            return Ok(Some(entry.id.clone()?));
+        }
+    }
+    Ok(None)
 }
 
-/// Whether each has fields.
-fn have_fields(entries: &[SentRow]) -> bool
-    ensures { result ≡ list_all (λ e. is_some e.fields) entries.now }
-{
-    entries.iter().all(|entry| entry.fields.is_some())
-}
-
-/// The same of entries where they stand.
-pub fn are_there_in_place(entries: EntriesRef<'_>) -> bool
-    ensures { result ≡ all_there entries.entry }
+/// The same of entries in their bytes.
+pub fn nil_id_in_place<'a>(entries: EntriesRef<'a>) -> Option<&'a str>
+    ensures { option_map (λ id. id.now) result ≡ first_nil entries.entry }
 {
     for entry in entries {
         if entry.is_deleted() {
-            return false;
+            return Some(entry.id());
         }
     }
-    true
+    None
 }
 
-/// The same of entries where they stand, if there are any.
-pub fn news_are_there(entries: &Option<EntriesRef<'_>>) -> bool
-    ensures { result ≡ all_there (entries_sent entries.now) }
+/// The same, if there are any.
+pub fn new_nil_id<'a>(entries: &Option<EntriesRef<'a>>) -> Option<&'a str>
+    ensures { option_map (λ id. id.now) result ≡ first_nil (entries_sent entries.now) }
 {
     match entries {
-        None => true,
-        Some(entries) => are_there_in_place(entries.again()),
+        None => None,
+        Some(entries) => nil_id_in_place(entries.again()),
     }
 }
 
-/// The same where they stand: what there is of the one stream, which is nothing where there is none.
+/// The entries of the one stream in their bytes: what there is of it, which is nothing if there is none.
 pub fn only_in_place<'a>(key: &str, mut streams: StreamsRef<'a>) -> Option<Option<EntriesRef<'a>>>
     ensures { option_map entries_sent result ≡ only_stream key.now streams.entry }
 {

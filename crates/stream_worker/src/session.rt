@@ -5,6 +5,7 @@ ghost use Rattle.stream_worker.specs.Machine.{machine_of};
 ghost use Rattle.redis_connection.specs.Passing.{IsAnswerInPlace};
 ghost use Rattle.stream_worker.specs.Session.{Breaks, Broke, Fails, FailsUnanswered, HasAsked, IsAsked, IsUnanswered};
 ghost use Rattle.stream_worker.specs.Session.{Ran, Turned, machine_after, standing_of};
+ghost use Rattle.stream_worker.specs.Finish.{FinishBroke, Finished, Settles, SettlesNot};
 ghost use Rattle.stream_worker.specs.Taken.{Awaited, Takes, TakesNot};
 
 use crate::error::{InPlaceError, RunError};
@@ -67,7 +68,10 @@ impl Worker {
         self.send_next(alloc, connection, handler)?;
         match connection.receive(alloc) {
             Ok(reply) => Ok(reply),
-            Err(error) => Err(RunError::Receive(error)),
+            Err(error) => Err(RunError::Receive {
+                asked: self.asked(),
+                error,
+            }),
         }
     }
 
@@ -90,12 +94,12 @@ impl Worker {
     {
         match self.try_ask(alloc, connection, handler) {
             Ok(reply) => Ok(reply),
-            Err(error) => Err(self.failed(error)),
+            Err(error) => Err(self.begin_again_after(error)),
         }
     }
 
     /// Begins again with what is pending for it, if a command may have gone out.
-    pub(crate) fn failed(&mut self, error: RunError) -> RunError
+    pub(crate) fn begin_again_after(&mut self, error: RunError) -> RunError
         ensures same { result ≡ error }
         ensures machine { machine_of self.new ≡ machine_after error (machine_of self.old) }
         ensures group { self.new.group ≡ self.old.group }
@@ -125,7 +129,8 @@ impl Worker {
             (standing_of self.new (H.history handler.new))) }
         ensures settings { self.new.settings ≡ self.old.settings }
     {
-        let len = received_len(alloc, connection)?;
+        let asked = self.asked();
+        let len = received_len(alloc, connection, asked)?;
         let limits = connection.limits();
         match self.answered_in_place(alloc, connection.received(len), limits, handler) {
             Ok(progress) => {
@@ -136,9 +141,10 @@ impl Worker {
                 connection.give_out(len);
                 Err(RunError::Answer(error))
             }
-            Err(InPlaceError::Unread(WireError::Memory)) => {
-                Err(RunError::Receive(ConnectionError::Memory))
-            }
+            Err(InPlaceError::Unread(WireError::Memory)) => Err(RunError::Receive {
+                asked,
+                error: ConnectionError::Memory,
+            }),
             Err(InPlaceError::Unread(WireError::Fault(_))) => unreachable!(),
             Err(InPlaceError::Incomplete) => unreachable!(),
         }
@@ -165,10 +171,10 @@ impl Worker {
         Ok(Round { asked, progress })
     }
 
-    /// Makes one round of `run`, in which it asks, and takes the answer where it stands in the bytes that
-    /// came, which are given out then. Where memory runs out before the answer is read, it is `Receive`,
-    /// and the answer is held. After an `Err` the worker begins again with what is pending for it, unless
-    /// it is `Request`: then nothing went out.
+    /// Makes one round of `run`, in which it asks, and takes the answer in the bytes that came, which are
+    /// given out then. If memory runs out before the answer is read, it is `Receive`, and the answer is
+    /// held. After an `Err` the worker begins again with what is pending for it, unless it is `Request`:
+    /// then nothing went out.
     pub fn round<H: Handler, R: Read + Drop, W: Write + Drop>(
         &mut self,
         alloc: Global,
@@ -185,13 +191,13 @@ impl Worker {
     {
         match self.try_round(alloc, connection, handler) {
             Ok(round) => Ok(round),
-            Err(error) => Err(self.failed(error)),
+            Err(error) => Err(self.begin_again_after(error)),
         }
     }
 
-    /// Runs for so many rounds, in each of which it asks, and takes the answer where it stands;
-    /// `Stopped` where the handler says so before. What goes out are the commands of these rounds, and
-    /// what comes in are their answers.
+    /// Runs for so many rounds, in each of which it asks, and takes the answer in its bytes; `Stopped` if
+    /// the handler says so before. What goes out are the commands of these rounds, and what comes in are
+    /// their answers.
     ///
     /// After an `Err` in place of an answer that answer may still come, so close the connection: over
     /// another one the worker begins again with what is pending for it, and no entry is lost.
@@ -219,18 +225,64 @@ impl Worker {
         }
         Ok(Progress::GoesOn)
     }
+
+    /// Acknowledges what is done, and asks for nothing else: rounds until nothing that is done is uncommitted,
+    /// and nothing that is committed is unacknowledged. There are two of them at most. The handler commits
+    /// before the second, and before the first if there is nothing else to acknowledge.
+    ///
+    /// It is for a worker that is to end, as after its handler said to stop. An `Err` is as of `run`.
+    pub fn finish<H: Handler, R: Read + Drop, W: Write + Drop>(
+        &mut self,
+        alloc: Global,
+        connection: &mut Connection<R, W>,
+        handler: &mut H,
+    ) -> Result<(), RunError>
+        ensures ok { OnOk result (Finished H.with_verdict H.with_commit self.old.settings
+            connection.old connection.new (standing_of self.old (H.history handler.old))
+            (standing_of self.new (H.history handler.new))) }
+        ensures err { IfErr result (FinishBroke H.with_verdict H.with_commit self.old.settings
+            connection.old connection.new (standing_of self.old (H.history handler.old))
+            (standing_of self.new (H.history handler.new))) }
+        ensures settings { self.new.settings ≡ self.old.settings }
+    {
+        self.settle(alloc, connection, handler)?;
+        self.settle(alloc, connection, handler)
+    }
+
+    /// Makes one round, unless nothing is to be committed or acknowledged.
+    fn settle<H: Handler, R: Read + Drop, W: Write + Drop>(
+        &mut self,
+        alloc: Global,
+        connection: &mut Connection<R, W>,
+        handler: &mut H,
+    ) -> Result<(), RunError>
+        ensures ok { OnOk result (Settles H.with_verdict H.with_commit self.old.settings
+            connection.old connection.new (standing_of self.old (H.history handler.old))
+            (standing_of self.new (H.history handler.new))) }
+        ensures err { IfErr result (SettlesNot H.with_verdict H.with_commit self.old.settings
+            connection.old connection.new (standing_of self.old (H.history handler.old))
+            (standing_of self.new (H.history handler.new))) }
+        ensures settings { self.new.settings ≡ self.old.settings }
+    {
+        if self.is_settled() {
+            return Ok(());
+        }
+        let _round = self.round(alloc, connection, handler)?;
+        Ok(())
+    }
 }
 
-/// Waits until the next answer is held whole: how many bytes it has.
+/// Waits until the next answer is held whole, which is the one to this: how many bytes it has.
 fn received_len<R: Read + Drop, W: Write + Drop>(
     alloc: Global,
     connection: &mut Connection<R, W>,
+    asked: Asked,
 ) -> Result<usize, RunError>
     ensures ok { IfOk result (IsAnswerInPlace connection.old connection.new) }
-    ensures err { IfErr result (Awaited connection.old connection.new) }
+    ensures err { IfErr result (Awaited asked connection.old connection.new) }
 {
     match connection.receive_in_place(alloc) {
         Ok(len) => Ok(len),
-        Err(error) => Err(RunError::Receive(error)),
+        Err(error) => Err(RunError::Receive { asked, error }),
     }
 }

@@ -2,6 +2,7 @@
 ghost use Rattle.std.specs.Prelude.{◌≡◌, OnOk, OnErr, string_bytes};
 ghost use Rattle.stream_worker.specs.Checked.{checked, counted};
 
+use std::fmt::{self, Display};
 use thiserror::Error;
 
 /// Where a group begins that a worker makes.
@@ -172,12 +173,12 @@ impl Settings {
     }
 }
 
-/// Where a worker stands.
+/// Where a worker is.
 #[derive(Debug, Drop)]
 pub enum Phase {
     /// It asks for its own pending entries from the first on.
     Start,
-    /// It asks for its own pending entries behind this id.
+    /// It asks for its own pending entries after this id.
     Own(String),
     /// It claims what others left, from the first on.
     Stalled,
@@ -215,4 +216,23 @@ pub enum Asked {
     Claim,
     /// XREADGROUP of new entries.
     News,
+}
+
+/// The command, as an error names it.
+impl Display for Asked {
+    ghost use Rattle.std.specs.Prelude.{Some};
+    ghost use Rattle.stream_worker.specs.Questions.{asked_name};
+
+    ghost output = { λ asked. Some (asked_name asked) };
+
+    fn fmt<W: fmt::Write>(&self, f: &mut fmt::Formatter<W>) -> fmt::Result {
+        f.write_str(match self {
+            Asked::Nothing => "no command",
+            Asked::Acknowledgement => "XACK",
+            Asked::Group => "XGROUP CREATE",
+            Asked::First | Asked::Own => "XREADGROUP of pending entries",
+            Asked::Claim => "XAUTOCLAIM",
+            Asked::News => "XREADGROUP of new entries",
+        })
+    }
 }

@@ -11,7 +11,7 @@ ghost use Rattle.stream_refs.specs.SentMeaning.{sent_of};
 ghost use Rattle.stream_worker.specs.Answered.{Failed, Went};
 ghost use Rattle.stream_worker.specs.Answers.{by_error, by_value, group_after, is_gone, means};
 ghost use Rattle.stream_worker.specs.Machine.{Moved, at_request, commits, ending_said};
-ghost use Rattle.stream_worker.specs.Machine.{history_at_request, ids_of, machine_of};
+ghost use Rattle.stream_worker.specs.Machine.{history_at_request, ids_of, is_settled, machine_of};
 ghost use Rattle.stream_worker.specs.Parts.{IsAcknowledged, IsOfGroup, IsRefused, Unread, state_by};
 ghost use Rattle.stream_worker.specs.Questions.{asks, phase_of, sentence};
 ghost use Rattle.stream_worker.specs.Requested.{Unasked};
@@ -21,10 +21,10 @@ mod in_place;
 
 use crate::commands::append_question;
 use crate::entries::take_entries;
-use crate::error::{RequestError, WorkerError};
+use crate::error::{AnswerError, RequestError, WorkerError};
 use crate::handler::{Handler, NotCommitted};
 use crate::phases::{next_claim, next_own, next_round};
-use crate::reading::{read_claim, read_entries, read_news};
+use crate::reading::{read_claim, read_entries, read_new};
 use crate::state::{Asked, GroupState, MakeGroup, Phase, Settings};
 use redis_resp::{Value, from_redis_value};
 use redis_wire::{Reply, ServerError};
@@ -42,7 +42,7 @@ pub enum Progress {
 }
 
 /// A worker of a consumer group, without input and output: `request` says the next command, and
-/// `answered_in_place` takes its answer out of the bytes that came, or `answered` where it is decoded.
+/// `answered_in_place` takes its answer out of the bytes that came, or `answered` if it is decoded.
 ///
 /// It acknowledges just what its handler has done and committed, and what came with nil in place of
 /// its fields as its own pending entries were asked for, since it was deleted from the stream.
@@ -97,10 +97,17 @@ impl Worker {
         self.asked
     }
 
+    /// Whether nothing is to be committed, and nothing to be acknowledged.
+    pub(crate) fn is_settled(&self) -> bool
+        ensures { result ≡ is_settled (machine_of self.now) }
+    {
+        self.to_commit.is_empty() && self.to_acknowledge.is_empty()
+    }
+
     /// Appends the bytes of the next command: an acknowledgement of what is committed; if there is
     /// nothing to acknowledge a group, if one is to be made; and else what the phase asks.
     ///
-    /// Where something is done and not committed, the handler commits first. An `Err` appends
+    /// If something is done and not committed, the handler commits first. An `Err` appends
     /// nothing, and after it the same is requested again.
     pub fn request<H: Handler>(
         &mut self,
@@ -183,31 +190,57 @@ impl Worker {
         Ok(())
     }
 
-    /// Takes the answer to the command that was requested last.
+    /// Takes the answer to the command that was requested last. An error says which it was.
     pub fn answered<H: Handler>(
         &mut self,
         alloc: Global,
         reply: Reply,
         handler: &mut H,
-    ) -> Result<Progress, WorkerError>
+    ) -> Result<Progress, AnswerError>
         ensures ok { IfOk result (Went H.with_verdict self.old.settings self.old.asked (answer reply)
             (machine_of self.old) (machine_of self.new)
             (H.history handler.old) (H.history handler.new)) }
-        ensures err { IfErr result (Failed H.with_verdict self.old.settings self.old.asked
+        ensures err { IfErr result (λ e. Failed H.with_verdict self.old.settings self.old.asked
             (answer reply) (machine_of self.old) (machine_of self.new)
-            (H.history handler.old) (H.history handler.new)) }
+            (H.history handler.old) (H.history handler.new) e.error) }
+        ensures err_asked { IfErr result (λ e. e.asked ≡ self.old.asked) }
         ensures group { self.new.group
             ≡ group_after self.old.settings self.old.group self.old.asked (answer reply) }
         ensures settings { self.new.settings ≡ self.old.settings }
         ensures asked { self.new.asked ≡ Asked.Nothing }
     {
         let asked = mem::replace(&mut self.asked, Asked::Nothing);
+        match self.take_reply(alloc, asked, reply, handler) {
+            Ok(progress) => Ok(progress),
+            Err(error) => Err(AnswerError { asked, error }),
+        }
+    }
+
+    /// Takes the answer to this.
+    fn take_reply<H: Handler>(
+        &mut self,
+        alloc: Global,
+        asked: Asked,
+        reply: Reply,
+        handler: &mut H,
+    ) -> Result<Progress, WorkerError>
+        ensures ok { IfOk result (Went H.with_verdict self.old.settings asked (answer reply)
+            (machine_of self.old) (machine_of self.new)
+            (H.history handler.old) (H.history handler.new)) }
+        ensures err { IfErr result (Failed H.with_verdict self.old.settings asked
+            (answer reply) (machine_of self.old) (machine_of self.new)
+            (H.history handler.old) (H.history handler.new)) }
+        ensures group { self.new.group
+            ≡ group_after self.old.settings self.old.group asked (answer reply) }
+        ensures settings { self.new.settings ≡ self.old.settings }
+        ensures asked { self.new.asked ≡ self.old.asked }
+    {
         match reply {
             Reply::Value(value) => {
-                self.group = known_by(self.group, asked);
-                self.told(alloc, asked, value, handler)
+                self.group = group_after_value(self.group, asked);
+                self.take_value(alloc, asked, value, handler)
             }
-            Reply::Error(error) => self.refused(asked, error),
+            Reply::Error(error) => self.take_error(asked, error),
             Reply::Group { .. } | Reply::Push { .. } => Err(WorkerError::NotAnAnswer),
         }
     }
@@ -224,7 +257,7 @@ impl Worker {
     }
 
     /// Takes an error in place of a value.
-    fn refused(&mut self, asked: Asked, error: ServerError) -> Result<Progress, WorkerError>
+    fn take_error(&mut self, asked: Asked, error: ServerError) -> Result<Progress, WorkerError>
         ensures ok { IfOk result (λ p. (p ≡ Progress.GoesOn)
             × IsOfGroup (means self.old.settings.make_group asked error.text.items)) }
         ensures err { IfErr result (λ e. IsRefused asked error.text.items e
@@ -238,7 +271,7 @@ impl Worker {
         if asked == Asked::Nothing {
             return Err(WorkerError::NotAsked);
         }
-        match group_told(self.settings.make_group, asked, &error) {
+        match group_after_error(self.settings.make_group, asked, &error) {
             Some(group) => {
                 self.group = group;
                 Ok(Progress::GoesOn)
@@ -248,7 +281,7 @@ impl Worker {
     }
 
     /// Takes a value.
-    fn told<H: Handler>(
+    fn take_value<H: Handler>(
         &mut self,
         alloc: Global,
         asked: Asked,
@@ -267,17 +300,17 @@ impl Worker {
     {
         match asked {
             Asked::Nothing => Err(WorkerError::NotAsked),
-            Asked::Acknowledgement => self.acknowledged(alloc, value),
+            Asked::Acknowledgement => self.take_count(alloc, value),
             Asked::Group => Ok(Progress::GoesOn),
-            Asked::First => self.own(alloc, value, handler),
-            Asked::Own => self.own(alloc, value, handler),
-            Asked::Claim => self.claimed(alloc, value, handler),
-            Asked::News => self.news(alloc, value, handler),
+            Asked::First => self.take_own(alloc, value, handler),
+            Asked::Own => self.take_own(alloc, value, handler),
+            Asked::Claim => self.take_claimed(alloc, value, handler),
+            Asked::News => self.take_new(alloc, value, handler),
         }
     }
 
     /// Takes the value of an XACK: what was to be acknowledged is.
-    fn acknowledged(&mut self, alloc: Global, value: Value) -> Result<Progress, WorkerError>
+    fn take_count(&mut self, alloc: Global, value: Value) -> Result<Progress, WorkerError>
         ensures ok { IfOk result (λ p. (p ≡ Progress.GoesOn)
             × IsAcknowledged (tree value) (machine_of self.old) (machine_of self.new)) }
         ensures err { IfErr result (λ e. Unread (unsigned_reading 64) RefusesNumber (tree value) e
@@ -294,7 +327,7 @@ impl Worker {
     }
 
     /// Takes a value with its own pending entries.
-    fn own<H: Handler>(
+    fn take_own<H: Handler>(
         &mut self,
         alloc: Global,
         value: Value,
@@ -317,7 +350,7 @@ impl Worker {
     }
 
     /// Takes a value with what was claimed.
-    fn claimed<H: Handler>(
+    fn take_claimed<H: Handler>(
         &mut self,
         alloc: Global,
         value: Value,
@@ -340,7 +373,7 @@ impl Worker {
     }
 
     /// Takes a value with new entries.
-    fn news<H: Handler>(
+    fn take_new<H: Handler>(
         &mut self,
         alloc: Global,
         value: Value,
@@ -357,13 +390,13 @@ impl Worker {
         ensures asked { self.new.asked ≡ self.old.asked }
     {
         let phase = mem::replace(&mut self.phase, Phase::Start);
-        let entries = read_news(alloc, &self.settings.key, value)?;
+        let entries = read_new(alloc, &self.settings.key, value)?;
         let next = next_round(self.settings.every, phase);
         Ok(self.take(alloc, &entries, next, handler)?)
     }
 
-    /// Hands entries to the handler, and goes on in this phase; where it does not get through them
-    /// it begins again.
+    /// Hands entries to the handler, and goes on in this phase; if it does not get through them it begins
+    /// again.
     fn take<H: Handler>(
         &mut self,
         alloc: Global,
@@ -389,7 +422,7 @@ impl Worker {
 }
 
 /// What is known of the group after a value: it is there, if entries of it were asked for, or it was made.
-fn known_by(group: GroupState, asked: Asked) -> GroupState
+fn group_after_value(group: GroupState, asked: Asked) -> GroupState
     ensures { result ≡ by_value group asked }
 {
     match asked {
@@ -400,7 +433,7 @@ fn known_by(group: GroupState, asked: Asked) -> GroupState
 
 /// What an error says of the group: that it is to be made, or that it was. Only the first question of all
 /// may find that there is none.
-fn group_told(make: MakeGroup, asked: Asked, error: &ServerError) -> Option<GroupState>
+fn group_after_error(make: MakeGroup, asked: Asked, error: &ServerError) -> Option<GroupState>
     ensures { result ≡ state_by (means make asked error.now.text.items) }
 {
     match asked {

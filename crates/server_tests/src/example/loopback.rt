@@ -94,6 +94,23 @@ fn an_acknowledgement_goes_out_with_the_next_question(rt: HostRuntime) -> Result
 }
 
 #[test]
+fn a_worker_that_ends_acknowledges_what_is_done(rt: HostRuntime) -> Result<(), Fail> {
+    let alloc = rt.alloc();
+    let loopback = Loopback::new(alloc, Server::new(alloc))?;
+    let mut producer = connected(alloc, &loopback)?;
+    add_three(alloc, &mut producer)?;
+    let mut connection = connected(alloc, &loopback)?;
+    let mut worker = worker_of(alloc, "ann")?;
+    let mut handler = Count { done: 0 };
+    let _progress = worker.run(alloc, &mut connection, &mut handler, 5)?;
+    assert_eq!(rt; handler.done, 3);
+    assert_eq!(rt; pending(alloc, &mut producer)?, 3);
+    worker.finish(alloc, &mut connection, &mut handler)?;
+    assert_eq!(rt; pending(alloc, &mut producer)?, 0);
+    Ok(())
+}
+
+#[test]
 fn an_end_that_breaks_says_so(rt: HostRuntime) -> Result<(), Fail> {
     let alloc = rt.alloc();
     let loopback = Loopback::new(alloc, Server::new(alloc))?;

@@ -27,7 +27,7 @@ use std::alloc::{AllocError, Global};
 use std::fmt::Display;
 use std::io;
 use std::io::{ErrorKind, Read, Write};
-use stream_worker::{Pipelined, Progress, RequestError, RunError};
+use stream_worker::{Asked, Pipelined, Progress, RequestError, RunError};
 
 /// Plays a connection; false if the script is another one.
 pub fn play(
@@ -270,7 +270,7 @@ fn run_text(alloc: Global, outcome: &Result<Progress, RunError>) -> Result<Strin
         Err(RunError::Request(RequestError::Memory)) => Err(AllocError),
         Err(RunError::Request(error)) => format!(in alloc; "Request: {error:?}: {error}"),
         Err(RunError::Send(error)) => kind_text(alloc, "Send: ", error),
-        Err(RunError::Receive(error)) => kind_text(alloc, "Receive: ", error),
+        Err(RunError::Receive { asked, error }) => unanswered_text(alloc, *asked, error),
         Err(RunError::Answer(error)) => error_text(alloc, error),
     }
 }
@@ -279,6 +279,16 @@ fn run_text(alloc: Global, outcome: &Result<Progress, RunError>) -> Result<Strin
 fn kind_text(alloc: Global, kind: &str, error: &ConnectionError) -> Result<String, AllocError> {
     let text = failure_text(alloc, error)?;
     format!(in alloc; "{kind}{}", text.as_str())
+}
+
+/// An error in place of the answer to this.
+fn unanswered_text(
+    alloc: Global,
+    asked: Asked,
+    error: &ConnectionError,
+) -> Result<String, AllocError> {
+    let text = failure_text(alloc, error)?;
+    format!(in alloc; "Receive: {asked}: {}", text.as_str())
 }
 
 /// The worker makes so many rounds.

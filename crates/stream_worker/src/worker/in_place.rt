@@ -1,9 +1,9 @@
-//! Answers out of the bytes that came, with their entries where they stand.
+//! Answers out of the bytes that came, with their entries in them.
 ghost use Rattle.std.specs.Prelude.{◌≡◌, IfErr, IfOk, Some, true};
 ghost use Rattle.redis_resp.specs.Tree.{Tree};
 ghost use Rattle.stream_refs.specs.SentReading.{sent_autoclaim_reading, sent_streams_reading};
 ghost use Rattle.stream_worker.specs.Handed.{entries_sent};
-ghost use Rattle.stream_worker.specs.InPlace.{FailedInPlace, TakenByValue, TakenInPlace, WentInPlace};
+ghost use Rattle.stream_worker.specs.InPlace.{FailedInPlace, TakenByValue, TakenInPlace, WentInPlace, in_answer};
 ghost use Rattle.stream_worker.specs.Machine.{Moved, ending_said, machine_of};
 ghost use Rattle.stream_worker.specs.Parts.{reads_own};
 ghost use Rattle.stream_worker.specs.Questions.{phase_of};
@@ -11,10 +11,10 @@ ghost use Rattle.stream_worker.specs.Session.{standing_of};
 ghost use Rattle.stream_worker.specs.Taking.{all_delivered};
 
 use crate::entries::take_in_place;
-use crate::error::{InPlaceError, WorkerError};
+use crate::error::{AnswerError, InPlaceError, WorkerError};
 use crate::handler::Handler;
 use crate::phases::{next_claim, next_own_in_place, next_round};
-use crate::reading::{are_there_in_place, news_are_there, only_in_place};
+use crate::reading::{new_nil_id, nil_id_in_place, only_in_place};
 use crate::state::{Asked, GroupState, Phase};
 use crate::worker::{Progress, Worker};
 use redis_wire::{Decoded, Limits, decode};
@@ -24,9 +24,9 @@ use stream_refs::{AutoClaimRef, EntriesRef, EntryTape, StreamsRef};
 
 impl Worker {
     /// Takes the answer to the command that was requested last, which is the reply at the head of
-    /// bytes. Its entries are handed to the handler where they stand: of an answer in a shape in which
+    /// bytes. Its entries are handed to the handler in these bytes: of an answer in a shape in which
     /// servers write, nothing is copied but ids to acknowledge and the one to go on from. An answer in
-    /// another shape is decoded, and taken as `answered` takes it.
+    /// another shape is decoded, and taken as `answered` takes it. An error says what was asked.
     pub fn answered_in_place<H: Handler>(
         &mut self,
         alloc: Global,
@@ -43,13 +43,13 @@ impl Worker {
         ensures settings { self.new.settings ≡ self.old.settings }
     {
         let mut tape = mem::replace(&mut self.tape, EntryTape::new(alloc));
-        let result = self.taken(alloc, &mut tape, bytes, limits, handler);
+        let result = self.take_with(alloc, &mut tape, bytes, limits, handler);
         self.tape = tape;
         result
     }
 
     /// The same with these tables.
-    fn taken<H: Handler>(
+    fn take_with<H: Handler>(
         &mut self,
         alloc: Global,
         tape: &mut EntryTape,
@@ -63,18 +63,18 @@ impl Worker {
         ensures settings { self.new.settings ≡ self.old.settings }
     {
         match self.asked {
-            Asked::First => self.own_in_place(alloc, tape, bytes, limits, handler),
-            Asked::Own => self.own_in_place(alloc, tape, bytes, limits, handler),
-            Asked::Claim => self.claim_in_place(alloc, tape, bytes, limits, handler),
-            Asked::News => self.news_in_place(alloc, tape, bytes, limits, handler),
+            Asked::First => self.take_own_in_place(alloc, tape, bytes, limits, handler),
+            Asked::Own => self.take_own_in_place(alloc, tape, bytes, limits, handler),
+            Asked::Claim => self.take_claimed_in_place(alloc, tape, bytes, limits, handler),
+            Asked::News => self.take_new_in_place(alloc, tape, bytes, limits, handler),
             Asked::Nothing | Asked::Acknowledgement | Asked::Group => {
-                self.decoded(alloc, bytes, limits, handler)
+                self.take_decoded(alloc, bytes, limits, handler)
             }
         }
     }
 
     /// Takes the reply at the head of bytes decoded.
-    fn decoded<H: Handler>(
+    fn take_decoded<H: Handler>(
         &mut self,
         alloc: Global,
         bytes: &[u8],
@@ -94,7 +94,7 @@ impl Worker {
     }
 
     /// Takes its own pending entries.
-    fn own_in_place<H: Handler>(
+    fn take_own_in_place<H: Handler>(
         &mut self,
         alloc: Global,
         tape: &mut EntryTape,
@@ -108,14 +108,18 @@ impl Worker {
             (standing_of self.new (H.history handler.new)) result }
         ensures settings { self.new.settings ≡ self.old.settings }
     {
+        let asked = self.asked;
         match tape.read_either_form(bytes, limits)? {
-            Some(found) => Ok(self.own_found(alloc, found.streams, handler)?),
-            None => self.decoded(alloc, bytes, limits, handler),
+            Some(found) => {
+                let outcome = self.take_found_own(alloc, found.streams, handler);
+                in_answer_to(asked, outcome)
+            }
+            None => self.take_decoded(alloc, bytes, limits, handler),
         }
     }
 
     /// Takes what was claimed.
-    fn claim_in_place<H: Handler>(
+    fn take_claimed_in_place<H: Handler>(
         &mut self,
         alloc: Global,
         tape: &mut EntryTape,
@@ -129,14 +133,18 @@ impl Worker {
             (standing_of self.new (H.history handler.new)) result }
         ensures settings { self.new.settings ≡ self.old.settings }
     {
+        let asked = self.asked;
         match tape.read_autoclaim(bytes, limits)? {
-            Some(found) => Ok(self.claim_found(alloc, found, handler)?),
-            None => self.decoded(alloc, bytes, limits, handler),
+            Some(found) => {
+                let outcome = self.take_found_claimed(alloc, found, handler);
+                in_answer_to(asked, outcome)
+            }
+            None => self.take_decoded(alloc, bytes, limits, handler),
         }
     }
 
     /// Takes new entries.
-    fn news_in_place<H: Handler>(
+    fn take_new_in_place<H: Handler>(
         &mut self,
         alloc: Global,
         tape: &mut EntryTape,
@@ -150,14 +158,18 @@ impl Worker {
             (standing_of self.new (H.history handler.new)) result }
         ensures settings { self.new.settings ≡ self.old.settings }
     {
+        let asked = self.asked;
         match tape.read_either_form(bytes, limits)? {
-            Some(found) => Ok(self.news_found(alloc, found.streams, handler)?),
-            None => self.decoded(alloc, bytes, limits, handler),
+            Some(found) => {
+                let outcome = self.take_found_new(alloc, found.streams, handler);
+                in_answer_to(asked, outcome)
+            }
+            None => self.take_decoded(alloc, bytes, limits, handler),
         }
     }
 
-    /// Takes its own pending entries where they stand.
-    fn own_found<H: Handler>(
+    /// Takes its own pending entries in their bytes.
+    fn take_found_own<H: Handler>(
         &mut self,
         alloc: Global,
         streams: StreamsRef<'_>,
@@ -180,8 +192,8 @@ impl Worker {
         Ok(self.take_in_place(alloc, entries, next, handler)?)
     }
 
-    /// Takes what was claimed where it stands.
-    fn claim_found<H: Handler>(
+    /// Takes what was claimed in its bytes.
+    fn take_found_claimed<H: Handler>(
         &mut self,
         alloc: Global,
         found: AutoClaimRef<'_>,
@@ -201,15 +213,17 @@ impl Worker {
         self.asked = Asked::Nothing;
         self.group = GroupState::Known;
         self.phase = Phase::Start;
-        if !are_there_in_place(found.claimed.again()) {
-            return Err(WorkerError::NilFields);
+        match nil_id_in_place(found.claimed.again()) {
+            Some(id) => Err(WorkerError::NilFields(String::from_str(alloc, id)?)),
+            None => {
+                let next = next_claim(String::from_str(alloc, found.next_stream_id)?);
+                Ok(self.take_in_place(alloc, Some(found.claimed), next, handler)?)
+            }
         }
-        let next = next_claim(String::from_str(alloc, found.next_stream_id)?);
-        Ok(self.take_in_place(alloc, Some(found.claimed), next, handler)?)
     }
 
-    /// Takes new entries where they stand.
-    fn news_found<H: Handler>(
+    /// Takes new entries in their bytes.
+    fn take_found_new<H: Handler>(
         &mut self,
         alloc: Global,
         streams: StreamsRef<'_>,
@@ -228,15 +242,17 @@ impl Worker {
         let Some(entries) = only_in_place(&self.settings.key, streams) else {
             return Err(WorkerError::OtherStream);
         };
-        if !news_are_there(&entries) {
-            return Err(WorkerError::NilFields);
+        match new_nil_id(&entries) {
+            Some(id) => Err(WorkerError::NilFields(String::from_str(alloc, id)?)),
+            None => {
+                let next = next_round(self.settings.every, phase);
+                Ok(self.take_in_place(alloc, entries, next, handler)?)
+            }
         }
-        let next = next_round(self.settings.every, phase);
-        Ok(self.take_in_place(alloc, entries, next, handler)?)
     }
 
-    /// Hands entries to the handler where they stand, and goes on in this phase; where it does not get
-    /// through them it begins again.
+    /// Hands entries to the handler in their bytes, and goes on in this phase; if it does not get through
+    /// them it begins again.
     fn take_in_place<H: Handler>(
         &mut self,
         alloc: Global,
@@ -259,5 +275,18 @@ impl Worker {
         }
         self.phase = next;
         Ok(Progress::GoesOn)
+    }
+}
+
+/// What came of the answer to this: an error says what was asked.
+fn in_answer_to(
+    asked: Asked,
+    outcome: Result<Progress, WorkerError>,
+) -> Result<Progress, InPlaceError>
+    ensures { result ≡ in_answer asked outcome }
+{
+    match outcome {
+        Ok(progress) => Ok(progress),
+        Err(error) => Err(InPlaceError::Answer(AnswerError { asked, error })),
     }
 }

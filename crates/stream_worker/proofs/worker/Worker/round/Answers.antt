@@ -8,7 +8,7 @@ returns-in-Err-clause-err g c =
     let r = h c.try_round.new.handler in
     failed_round g.H.Handler.with_verdict g.H.Handler.with_commit c.args.self.now.settings c.args.connection.now
     c.try_round.new.connection (standing_of c.args.self.now (h c.args.handler.now))
-    (standing_of c.try_round.new.self r) (standing_of c.failed.new.self r) c.in-Err.error c.failed.result
-    c.failed.ensures.same
-    (stands_failed c.try_round.new.self c.failed.new.self r c.in-Err.error c.failed.ensures.machine
-    c.failed.ensures.group c.failed.ensures.asked) c.in-Err.ensures.err
+    (standing_of c.try_round.new.self r) (standing_of c.begin_again_after.new.self r) c.in-Err.error c.begin_again_after.result
+    c.begin_again_after.ensures.same
+    (stands_failed c.try_round.new.self c.begin_again_after.new.self r c.in-Err.error c.begin_again_after.ensures.machine
+    c.begin_again_after.ensures.group c.begin_again_after.ensures.asked) c.in-Err.ensures.err
