@@ -88,7 +88,7 @@ module _ {R S : Type 0} (vR : R → List ℕ × Pairs → Verdict → R) (cR : R
   failed_back q a m n r s faults.NotAnAnswer h = (r, h.3, (no_answer_back a h.0, h.1, h.2, refl))
   failed_back q a m n r s (faults.Parsing e) h = (r, h.3, (h.0, h.1, h.2, refl))
   failed_back q a m n r s faults.OtherStream h = (r, h.3, (h.0, h.1, h.2, refl))
-  failed_back q a m n r s faults.NilFields h = (r, h.3, (h.0, h.1, h.2, refl))
+  failed_back q a m n r s (faults.NilFields id) h = (r, h.3, (h.0, h.1, h.2, refl))
   failed_back q a m n r s faults.Memory h = elim h.2 [
     | inl p ↦ (r, p.1, (h.0, h.1, inl (p.0, refl)))
     | inr c ↦ (
@@ -124,14 +124,18 @@ module _ {R S : Type 0} (vR : R → List ℕ × Pairs → Verdict → R) (cR : R
       let b = unasked_back w.machine y.machine w.history y.history e h.1 in
       (standing y.machine y.group y.asked b.0, ap (standing y.machine y.group y.asked) b.1, (h.0, b.2, h.2, h.3))
   breaks_back old new w y (causes.Send e) h = (asking cR settings w, h.0 ∙ asking_map w, (refl, h.1, h.2))
-  breaks_back old new w y (causes.Receive e) h = (asking cR settings w, h.0 ∙ asking_map w, (refl, h.1, h.2, h.3))
+  breaks_back old new w y (causes.Receive named e) h = (
+    asking cR settings w,
+    h.0 ∙ asking_map w,
+    (refl, h.1, h.2, h.3, h.4 ∙ ap (λ (v : Standing S). v.asked) h.0),
+  )
   breaks_back old new w y (causes.Answer e) h =
       let q = (asking cR settings w).asked in
-      let failed = subst (λ (r : S). Failed vS settings q h.0 (at_request w.machine) y.machine r y.history e)
+      let failed = subst (λ (r : S). Failed vS settings q h.0 (at_request w.machine) y.machine r y.history e.error)
       (commit_map w.machine w.history) h.2 in
-      let b = failed_back q h.0 (at_request w.machine) y.machine (history_at_request cR w.machine w.history) y.history e
+      let b = failed_back q h.0 (at_request w.machine) y.machine (history_at_request cR w.machine w.history) y.history e.error
       failed in
-      (standing y.machine y.group y.asked b.0, ap (standing y.machine y.group y.asked) b.1, (h.0, h.1, b.2, h.3, h.4))
+      (standing y.machine y.group y.asked b.0, ap (standing y.machine y.group y.asked) b.1, (h.0, h.1, b.2, h.3, h.4, h.5))
 
   pub fails_back : (old new : Link) (w : Standing R) (x : Standing S) (e : RunError)
       → Fails vS cS settings old new (seen w) x e
@@ -315,7 +319,7 @@ module _ {H P : Type 0} (vH : H → List ℕ × Pairs → Verdict → H) (cH : H
   pub pipelined_fails : (settings : Settings) (old new : Link) (w x : Standing H) (e : RunError)
       → FailsPipelined vH cH settings old new w x e → Leads shown (Stops settings) old new w x
   pipelined_fails settings old new w x e (inl f) = round_fails settings old new w x e f
-  pipelined_fails settings old new w x e (inr (inl (m, c, f, leaves))) =
+  pipelined_fails settings old new w x e (inr (inl (m, c, f, leaves, names))) =
       fails_leaving settings old m new w x c f (λ d. inr (c, e, leaves))
   pipelined_fails settings old new w x e (inr (inr (m, y, t, f))) =
       leads_stop settings old m new w y x (round_goes_on settings old m w y Acknowledgement t)
