@@ -8,8 +8,9 @@
 //! The line k is a record with the id `(base + k)-0` and one field, `line` or what `--field` says. With
 //! `--json` each line is an object of texts, `{"name":"value",..}`, or a line that `stream_drain --json`
 //! wrote, whose fields it has; a text that is not UTF-8 stands there as `{"base64":".."}`. Batches of
-//! `--batch` records go out, 1,000 where nothing is said. It keeps nothing on a disk: it asks the
-//! server how many of the lines are in, and goes on behind them. So after whatever failed it is called
+//! `--batch` records go out, 1,000 if nothing is said. With `--wait REPLICAS MS` so many replicas are to
+//! confirm each batch in so many milliseconds. It keeps nothing on a disk: it asks the server how many of
+//! the lines are in, and goes on after them. So after whatever failed it is called
 //! again with the same words.
 //!
 //! What it did stands on standard error at the end. It ends with 0 where all lines are in, and else
@@ -33,7 +34,7 @@ use redis_connection::Connection;
 use redis_wire::Limits;
 use std::alloc::{AllocError, Global};
 use std::{env, io};
-use stream_feed::{RequestError, RunError};
+use stream_feed::{ConfirmedError, RequestError, RunError};
 
 fn main(rt: HostRuntime) -> Result<()> {
     let words = words_of(&rt)?;
@@ -81,6 +82,7 @@ fn fill_by(rt: &HostRuntime, options: Options) -> Result<()> {
         settings,
         path,
         form,
+        wait,
     } = options;
     let alloc = rt.alloc();
     let mut lines = Lines::open(rt, &path, form)?;
@@ -93,6 +95,7 @@ fn fill_by(rt: &HostRuntime, options: Options) -> Result<()> {
         settings,
         &mut lines,
         count,
+        wait,
         &mut counts,
     );
     eprintln!(rt; "{counts}")?;
@@ -107,11 +110,14 @@ fn fill_by(rt: &HostRuntime, options: Options) -> Result<()> {
 
 // Why not all lines are in. If records were not read, it is the fault of the file.
 fn told(error: FillError, fault: Option<Error>) -> Error
-    ensures { error ≡ FillError.Round (RunError.Request RequestError.NotRead)
+    ensures { error ≡ FillError.Round (ConfirmedError.Round (RunError.Request RequestError.NotRead))
         → IfSome fault (λ f. result ≡ f) }
 {
     match (error, fault) {
-        (FillError::Round(RunError::Request(RequestError::NotRead)), Some(fault)) => fault,
+        (
+            FillError::Round(ConfirmedError::Round(RunError::Request(RequestError::NotRead))),
+            Some(fault),
+        ) => fault,
         (error, _) => error.into(),
     }
 }

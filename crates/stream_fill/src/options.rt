@@ -4,10 +4,11 @@ ghost use Rattle.std.specs.Prelude.{◌≤◌, length, IfOk};
 use crate::lines::Form;
 use anyhow::{Result, bail};
 use std::alloc::Global;
-use stream_feed::Settings;
+use stream_feed::{Settings, Wait};
 
 // In less than 120 bytes, which are all that an error shows.
-const USAGE: &str = "wanted: KEY FILE [--field NAME | --json] [--batch N] [--base N]";
+const USAGE: &str =
+    "wanted: KEY FILE [--field NAME | --json] [--batch N] [--base N] [--wait REPLICAS MS]";
 
 /// What the program is to do.
 #[derive(Drop)]
@@ -15,6 +16,8 @@ pub struct Options {
     pub settings: Settings,
     pub path: String,
     pub form: Form,
+    /// So many replicas are to confirm each batch.
+    pub wait: Option<Wait>,
 }
 
 /// What the options say.
@@ -26,6 +29,7 @@ struct Chosen {
     field: String,
     batch: usize,
     base: u64,
+    wait: Option<Wait>,
 }
 
 /// An option with a value.
@@ -35,8 +39,12 @@ enum Valued {
     Field,
     /// At most so many records at once.
     Batch,
-    /// The first record has the id behind this one.
+    /// The first record has the id after this one.
     Base,
+    /// So many replicas are to confirm each batch, and a time follows.
+    Wait,
+    /// The time, after how many replicas.
+    WaitFor(u64),
 }
 
 /// The options of these words.
@@ -50,6 +58,7 @@ pub fn options_of(alloc: Global, words: &[String]) -> Result<Options>
     Ok(Options {
         settings: Settings::new(key.clone()?, chosen.base, chosen.batch)?,
         path: path.clone()?,
+        wait: chosen.wait,
         form: form_of(chosen),
     })
 }
@@ -70,6 +79,7 @@ fn chosen_of(alloc: Global, words: &[String]) -> Result<Chosen> {
         field: String::from_str(alloc, "line")?,
         batch: 1_000,
         base: 0,
+        wait: None,
     };
     let mut valued = None;
     for word in words {
@@ -89,10 +99,7 @@ fn take(
     word: &str,
 ) -> Result<Option<Valued>> {
     match valued {
-        Some(option) => {
-            set(alloc, chosen, option, word)?;
-            Ok(None)
-        }
+        Some(option) => set(alloc, chosen, option, word),
         None => begin(chosen, word),
     }
 }
@@ -107,22 +114,29 @@ fn begin(chosen: &mut Chosen, word: &str) -> Result<Option<Valued>> {
         "--field" => Ok(Some(Valued::Field)),
         "--batch" => Ok(Some(Valued::Batch)),
         "--base" => Ok(Some(Valued::Base)),
+        "--wait" => Ok(Some(Valued::Wait)),
         _ => bail!("{word}: {USAGE}"),
     }
 }
 
-// Takes the value of an option.
-fn set(alloc: Global, chosen: &mut Chosen, option: Valued, value: &str) -> Result<()> {
+// Takes the value of an option; a second value may follow.
+fn set(alloc: Global, chosen: &mut Chosen, option: Valued, value: &str) -> Result<Option<Valued>> {
     match option {
         Valued::Field => chosen.field = String::from_str(alloc, value)?,
         Valued::Batch => match value.parse::<usize>() {
             Ok(number) => chosen.batch = number,
             Err(_) => bail!("no number: {value}"),
         },
-        Valued::Base => match value.parse::<u64>() {
-            Ok(number) => chosen.base = number,
-            Err(_) => bail!("no number: {value}"),
-        },
+        Valued::Base => chosen.base = number(value)?,
+        Valued::Wait => return Ok(Some(Valued::WaitFor(number(value)?))),
+        Valued::WaitFor(replicas) => chosen.wait = Some(Wait::new(replicas, number(value)?)?),
     }
-    Ok(())
+    Ok(None)
+}
+
+fn number(value: &str) -> Result<u64> {
+    match value.parse::<u64>() {
+        Ok(number) => Ok(number),
+        Err(_) => bail!("no number: {value}"),
+    }
 }
