@@ -128,7 +128,7 @@ uint32_t redis_find_streams(const uint8_t *bytes, size_t len, redis_stream *stre
 
 /* Finds the entries of the reply of XRANGE, XREVRANGE or XCLAIM at the head of `bytes`. It returns what
    `redis_find_streams` does: what is said there of the table of streams is said here of the table of entries.
-   `found->streams` is 0. */
+   With REDIS_OK `found->streams` is 0. */
 uint32_t redis_find_range(const uint8_t *bytes, size_t len, redis_entry *entries, size_t entry_room,
                           redis_field *fields, size_t field_room, redis_found *found);
 

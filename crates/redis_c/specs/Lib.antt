@@ -7,5 +7,6 @@ pub mod Settings
 pub mod Commands
 pub mod Server
 pub mod Cursor
+pub mod Plain
 pub mod Records
 pub mod Nodes

@@ -5,6 +5,9 @@ ghost use Rattle.stream_options.specs.ReadBack.{number_clause, optional, argumen
 ghost use Rattle.stream_options.specs.ReadBack.{autoclaim_at, group_at, idempotency_clause, strategy_clause, trim_at, add_at};
 ghost use Rattle.redis_c.specs.Cursor.{is_next, after_word, after_both, first_place, number_at, Finds};
 ghost use Rattle.redis_c.specs.Cursor.{reading_at, asked_by, group_in, bound_clause, any_bound_in};
+ghost use Rattle.redis_c.specs.Outcome.{nowhere};
+ghost use Rattle.redis_c.specs.Plain.{IsZeroUnless, IsNowhereUnless, IsPlainTrim, IsPlainAdd, IsPlainClaim};
+ghost use Rattle.redis_c.specs.Plain.{IsPlainAutoClaim, IsPlainRead, IsPlainGroup};
 ghost use Rattle.redis_c.specs.Settings.{if_set, claim_in, autoclaim_of, policy_by, mode_by, any_strategy_in, trim_in, add_in};
 ghost use Rattle.redis_c.specs.Settings.{idempotency_by};
 
@@ -99,6 +102,7 @@ impl<'a> Cursor<'a> {
     fn strategy(&mut self) -> TrimSettings
         ensures fewer { length self.new.places.now ≤ length self.old.places.now }
         ensures bytes { self.new.bytes.now ≡ self.old.bytes.now }
+        ensures plain { IsPlainTrim result }
         ensures is { Finds strategy_clause (λ o. any_strategy_in self.old.bytes.now result ≡ Some o)
             self.old.bytes.now self.old.places.now self.new.places.now }
     {
@@ -113,6 +117,7 @@ impl<'a> Cursor<'a> {
     fn bound(&mut self) -> TrimSettings
         ensures fewer { length self.new.places.now ≤ length self.old.places.now }
         ensures bytes { self.new.bytes.now ≡ self.old.bytes.now }
+        ensures plain { IsPlainTrim result }
         ensures is { Finds bound_clause (λ b. any_bound_in self.old.bytes.now result ≡ Some b)
             self.old.bytes.now self.old.places.now self.new.places.now }
     {
@@ -143,6 +148,7 @@ impl<'a> Cursor<'a> {
     pub fn trim(&mut self) -> TrimSettings
         ensures fewer { length self.new.places.now ≤ length self.old.places.now }
         ensures bytes { self.new.bytes.now ≡ self.old.bytes.now }
+        ensures plain { IsPlainTrim result }
         ensures is { Finds trim_at (λ t. trim_in self.old.bytes.now result ≡ Some t)
             self.old.bytes.now self.old.places.now self.new.places.now }
     {
@@ -155,6 +161,7 @@ impl<'a> Cursor<'a> {
     pub fn add(&mut self) -> AddSettings
         ensures fewer { length self.new.places.now ≤ length self.old.places.now }
         ensures bytes { self.new.bytes.now ≡ self.old.bytes.now }
+        ensures plain { IsPlainAdd result }
         ensures is { Finds add_at (λ a. add_in self.old.bytes.now result ≡ Some a)
             self.old.bytes.now self.old.places.now self.new.places.now }
     {
@@ -176,6 +183,8 @@ impl<'a> Cursor<'a> {
     fn idempotency(&mut self) -> (u32, Span, Span)
         ensures fewer { length self.new.places.now ≤ length self.old.places.now }
         ensures bytes { self.new.bytes.now ≡ self.old.bytes.now }
+        ensures producer { result.0 ≡ 0 → result.1 ≡ nowhere }
+        ensures idempotent_id { (result.0 ≡ 1 → ⊥) → result.2 ≡ nowhere }
         ensures is { Finds idempotency_clause
             (λ i. idempotency_by self.old.bytes.now result.0 result.1 result.2 ≡ Some i)
             self.old.bytes.now self.old.places.now self.new.places.now }
@@ -194,6 +203,7 @@ impl<'a> Cursor<'a> {
     pub fn claim(&mut self) -> ClaimSettings
         ensures fewer { length self.new.places.now ≤ length self.old.places.now }
         ensures bytes { self.new.bytes.now ≡ self.old.bytes.now }
+        ensures plain { IsPlainClaim result }
         ensures is { Finds claim_at (λ c. claim_in self.old.bytes.now result ≡ Some c)
             self.old.bytes.now self.old.places.now self.new.places.now }
     {
@@ -221,6 +231,7 @@ impl<'a> Cursor<'a> {
     pub fn autoclaim(&mut self) -> AutoClaimSettings
         ensures fewer { length self.new.places.now ≤ length self.old.places.now }
         ensures bytes { self.new.bytes.now ≡ self.old.bytes.now }
+        ensures plain { IsPlainAutoClaim result }
         ensures is { Finds autoclaim_at (λ a. autoclaim_of result ≡ a)
             self.old.bytes.now self.old.places.now self.new.places.now }
     {
@@ -237,6 +248,7 @@ impl<'a> Cursor<'a> {
     pub fn group(&mut self) -> GroupPlace
         ensures fewer { length self.new.places.now ≤ length self.old.places.now }
         ensures bytes { self.new.bytes.now ≡ self.old.bytes.now }
+        ensures plain { IsPlainGroup result }
         ensures is { Finds (optional (codes "GROUP" ∷ []) group_at)
             (λ g. group_in self.old.bytes.now result ≡ Some g)
             self.old.bytes.now self.old.places.now self.new.places.now }
@@ -254,6 +266,7 @@ impl<'a> Cursor<'a> {
     pub fn read(&mut self) -> ReadSettings
         ensures fewer { length self.new.places.now ≤ length self.old.places.now }
         ensures bytes { self.new.bytes.now ≡ self.old.bytes.now }
+        ensures plain { IsPlainRead result }
         ensures is { Finds reading_at (λ x. x ≡ asked_by result)
             self.old.bytes.now self.old.places.now self.new.places.now }
     {
@@ -276,6 +289,7 @@ impl<'a> Cursor<'a> {
     fn number_behind(&mut self, word: &[u8]) -> (bool, usize)
         ensures fewer { length self.new.places.now ≤ length self.old.places.now }
         ensures bytes { self.new.bytes.now ≡ self.old.bytes.now }
+        ensures plain { IsZeroUnless result.0 result.1 }
         ensures is { Finds (number_clause word.now) (λ n. n ≡ if_set result.0 result.1)
             self.old.bytes.now self.old.places.now self.new.places.now }
     {
@@ -290,6 +304,7 @@ impl<'a> Cursor<'a> {
     fn place_behind(&mut self, word: &[u8]) -> (bool, Span)
         ensures fewer { length self.new.places.now ≤ length self.old.places.now }
         ensures bytes { self.new.bytes.now ≡ self.old.bytes.now }
+        ensures plain { IsNowhereUnless result.0 result.1 }
         ensures is { result.0 ≡ is_next self.old.bytes.now self.old.places.now word.now }
         ensures at { result.0 ≡ true → result.1 ≡ first_place (drop 1 self.old.places.now) }
         ensures left { self.new.places.now ≡ after_both result.0 self.old.places.now }
@@ -314,6 +329,7 @@ fn untrimmed() -> TrimSettings
     ensures bound { result.bound ≡ 0 }
     ensures limit { result.has_limit ≡ false }
     ensures policy { result.policy ≡ 0 }
+    ensures plain { IsPlainTrim result }
 {
     TrimSettings {
         bound: 0,

@@ -10,6 +10,7 @@ ghost use Rattle.stream_options.specs.Laws.{Equal};
 ghost use Rattle.stream_options.specs.Read.{ReadFits, CountAlike, read_sentence, read_words};
 ghost use Rattle.stream_options.specs.Trim.{TrimFits, trim_sentence, trim_words};
 ghost use Rattle.redis_c.specs.Placed.{texts_at};
+ghost use Rattle.redis_c.specs.Plain.{IsPlainAdd, IsPlainTrim, IsPlainClaim, IsPlainAutoClaim, IsPlainRead, IsPlainGroup};
 ghost use Rattle.redis_c.specs.Settings.{add_in, trim_in, claim_in, autoclaim_of, Makes};
 ghost use Rattle.redis_c.specs.Server.{reading_number, reading_count, read_in, IsReading, IsReadAs};
 
@@ -92,6 +93,7 @@ impl Reading {
 fn of_unplaced(unplaced: Unplaced) -> Reading
     ensures memory { unplaced ≡ Unplaced.Memory → result ≡ Reading.Memory }
     ensures outside { unplaced ≡ Unplaced.Outside → result ≡ Reading.Outside }
+    ensures unread { reading_number result ≡ 0 → ⊥ }
 {
     match unplaced {
         Unplaced::Memory => Reading::Memory,
@@ -103,6 +105,7 @@ fn of_unplaced(unplaced: Unplaced) -> Reading
 fn of_error(error: SentenceError) -> Reading
     ensures memory { error ≡ SentenceError.Memory → result ≡ Reading.Memory }
     ensures none { error ≡ SentenceError.NotASentence → result ≡ Reading.NoOptions }
+    ensures unread { reading_number result ≡ 0 → ⊥ }
 {
     match error {
         SentenceError::Memory => Reading::Memory,
@@ -141,8 +144,9 @@ fn write_same<A: ToRedisArgs, B: ToRedisArgs>(alloc: Global, a: &A, b: &B) -> bo
 /// The options of XADD in front of the arguments at these places.
 #[tactic(auto, using(crate::proofs::ServerLemmas::same_add))]
 fn add_reading(alloc: Global, bytes: &[u8], places: &[Span], settings: &mut AddSettings) -> Reading
-    ensures { IsReading AddFits add_sentence add_words Equal (texts_at bytes.now places.now)
+    ensures is { IsReading AddFits add_sentence add_words Equal (texts_at bytes.now places.now)
         (add_in bytes.now settings.new) result }
+    ensures plain { reading_number result ≡ 0 → IsPlainAdd settings.new }
 {
     let args = match texts_at(alloc, bytes, places) {
         Ok(args) => args,
@@ -170,8 +174,9 @@ pub extern "C" fn redis_read_add(
     settings: &mut AddSettings,
     count: &mut usize,
 ) -> u32
-    ensures { IsReadAs (IsReading AddFits add_sentence add_words Equal (texts_at bytes.now places.now)
+    ensures is { IsReadAs (IsReading AddFits add_sentence add_words Equal (texts_at bytes.now places.now)
         (add_in bytes.now settings.new)) result count.new }
+    ensures plain { result ≡ 0 → IsPlainAdd settings.new }
 {
     add_reading(alloc, bytes, places, settings).tell(count)
 }
@@ -184,8 +189,9 @@ fn trim_reading(
     places: &[Span],
     settings: &mut TrimSettings,
 ) -> Reading
-    ensures { IsReading TrimFits trim_sentence trim_words Equal (texts_at bytes.now places.now)
+    ensures is { IsReading TrimFits trim_sentence trim_words Equal (texts_at bytes.now places.now)
         (trim_in bytes.now settings.new) result }
+    ensures plain { reading_number result ≡ 0 → IsPlainTrim settings.new }
 {
     let args = match texts_at(alloc, bytes, places) {
         Ok(args) => args,
@@ -213,8 +219,9 @@ pub extern "C" fn redis_read_trim(
     settings: &mut TrimSettings,
     count: &mut usize,
 ) -> u32
-    ensures { IsReadAs (IsReading TrimFits trim_sentence trim_words Equal (texts_at bytes.now places.now)
+    ensures is { IsReadAs (IsReading TrimFits trim_sentence trim_words Equal (texts_at bytes.now places.now)
         (trim_in bytes.now settings.new)) result count.new }
+    ensures plain { result ≡ 0 → IsPlainTrim settings.new }
 {
     trim_reading(alloc, bytes, places, settings).tell(count)
 }
@@ -227,8 +234,9 @@ fn claim_reading(
     places: &[Span],
     settings: &mut ClaimSettings,
 ) -> Reading
-    ensures { IsReading ClaimFits claim_sentence claim_words Equal (texts_at bytes.now places.now)
+    ensures is { IsReading ClaimFits claim_sentence claim_words Equal (texts_at bytes.now places.now)
         (claim_in bytes.now settings.new) result }
+    ensures plain { reading_number result ≡ 0 → IsPlainClaim settings.new }
 {
     let args = match texts_at(alloc, bytes, places) {
         Ok(args) => args,
@@ -256,8 +264,9 @@ pub extern "C" fn redis_read_claim(
     settings: &mut ClaimSettings,
     count: &mut usize,
 ) -> u32
-    ensures { IsReadAs (IsReading ClaimFits claim_sentence claim_words Equal (texts_at bytes.now places.now)
+    ensures is { IsReadAs (IsReading ClaimFits claim_sentence claim_words Equal (texts_at bytes.now places.now)
         (claim_in bytes.now settings.new)) result count.new }
+    ensures plain { result ≡ 0 → IsPlainClaim settings.new }
 {
     claim_reading(alloc, bytes, places, settings).tell(count)
 }
@@ -270,8 +279,9 @@ fn autoclaim_reading(
     places: &[Span],
     settings: &mut AutoClaimSettings,
 ) -> Reading
-    ensures { IsReading AutoClaimFits autoclaim_sentence autoclaim_words Equal
+    ensures is { IsReading AutoClaimFits autoclaim_sentence autoclaim_words Equal
         (texts_at bytes.now places.now) (Some (autoclaim_of settings.new)) result }
+    ensures plain { reading_number result ≡ 0 → IsPlainAutoClaim settings.new }
 {
     let args = match texts_at(alloc, bytes, places) {
         Ok(args) => args,
@@ -300,8 +310,9 @@ pub extern "C" fn redis_read_autoclaim(
     settings: &mut AutoClaimSettings,
     count: &mut usize,
 ) -> u32
-    ensures { IsReadAs (IsReading AutoClaimFits autoclaim_sentence autoclaim_words Equal
+    ensures is { IsReadAs (IsReading AutoClaimFits autoclaim_sentence autoclaim_words Equal
         (texts_at bytes.now places.now) (Some (autoclaim_of settings.new))) result count.new }
+    ensures plain { result ≡ 0 → IsPlainAutoClaim settings.new }
 {
     autoclaim_reading(alloc, bytes, places, settings).tell(count)
 }
@@ -340,8 +351,10 @@ fn read_reading(
     settings: &mut ReadSettings,
     group: &mut GroupPlace,
 ) -> Reading
-    ensures { IsReading ReadFits read_sentence read_words CountAlike (texts_at bytes.now places.now)
+    ensures is { IsReading ReadFits read_sentence read_words CountAlike (texts_at bytes.now places.now)
         (read_in bytes.now settings.new group.new) result }
+    ensures plain { reading_number result ≡ 0 → IsPlainRead settings.new }
+    ensures named { reading_number result ≡ 0 → IsPlainGroup group.new }
 {
     let args = match texts_at(alloc, bytes, places) {
         Ok(args) => args,
@@ -372,8 +385,10 @@ pub extern "C" fn redis_read_read(
     group: &mut GroupPlace,
     count: &mut usize,
 ) -> u32
-    ensures { IsReadAs (IsReading ReadFits read_sentence read_words CountAlike (texts_at bytes.now places.now)
+    ensures is { IsReadAs (IsReading ReadFits read_sentence read_words CountAlike (texts_at bytes.now places.now)
         (read_in bytes.now settings.new group.new)) result count.new }
+    ensures plain { result ≡ 0 → IsPlainRead settings.new }
+    ensures named { result ≡ 0 → IsPlainGroup group.new }
 {
     read_reading(alloc, bytes, places, settings, group).tell(count)
 }
