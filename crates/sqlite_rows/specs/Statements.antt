@@ -14,12 +14,15 @@ use Rattle.row_table.specs.declared.row.Row.{Row}
 abbrev pub IsNamed : TableError → Type 0
 IsNamed e = (e ≡ Memory) ⊎ ((why : _) × (e ≡ Refused why))
 
+-- the statement that makes the table: two numbers that are its key, and a text
 abbrev pub create_text : List ℕ
 create_text = codes "CREATE TABLE entries (milliseconds INTEGER NOT NULL, sequence INTEGER NOT NULL, fields TEXT NOT NULL, PRIMARY KEY (milliseconds, sequence)) STRICT"
 
+-- the statement that puts in a row, unless its key is there
 abbrev pub insert_text : List ℕ
 insert_text = codes "INSERT INTO entries (milliseconds, sequence, fields) VALUES (?1, ?2, ?3) ON CONFLICT DO NOTHING"
 
+-- the query for the text of the row of a key
 abbrev pub find_text : List ℕ
 find_text = codes "SELECT fields FROM entries WHERE milliseconds = ?1 AND sequence = ?2"
 

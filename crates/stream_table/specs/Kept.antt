@@ -16,6 +16,7 @@ abbrev pub key_by : Option StreamIdParts → Key
 key_by None = (0, 0)
 key_by (Some id) = (id.ms, id.seq)
 
+-- the two numbers of an id that is a text
 abbrev pub key_in : Id → Key
 key_in id = key_by (id_in id)
 
@@ -27,6 +28,7 @@ row_in e = (key_in e.0, print (fields_tokens e.1))
 abbrev pub rows_in : List (Entry Pairs) → List Row
 rows_in es = map row_in es
 
+-- what a handler keeps
 pub record Kept : Type 0 where
   pub loose : List Row  -- gathered and not committed
   pub committed : Option (List Row)  -- committed, where the table is known
