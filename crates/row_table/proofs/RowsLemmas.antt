@@ -1,10 +1,10 @@
 -- Rows that are put in.
-use Rattle.std.proofs.Common.{◌≡◌, ◌∙◌, refl, sym, ap, subst, ℕ, Bool, true, false, true≢false, eq-eqb, ◌&&◌, ◌==◌, List, [], ◌∷◌, ◌++◌}
+use Rattle.std.proofs.Common.{◌≡◌, ◌∙◌, refl, sym, ap, subst, Bool, true, false, true≢false, eq-eqb, ◌&&◌, ◌==◌, List, [], ◌∷◌, ◌++◌}
 use Rattle.std.proofs.Common.{Option, Some, None, is_some, IsSome, IfSome, if◌then◌else◌, append_assoc, append-nil}
 use Rattle.std.proofs.lemmas.Bool.{eqb-true}
 use Rattle.std.proofs.lemmas.Option.{none-some}
 use Rattle.row_table.specs.Laws.{RowsArePutIn}
-use Rattle.row_table.specs.Rows.{Key, Row, same_key, find, with_row, with_rows, KeysApart, BeginsWith}
+use Rattle.row_table.specs.Rows.{Cell, Key, Row, same_key, find, with_row, with_rows, KeysApart, BeginsWith}
 
 -- ---- keys
 
@@ -30,19 +30,19 @@ other_way a b differ = by (same_key b a) refl
 -- ---- what is found
 
 -- in front of others
-front_step : (b : Bool) (text other : List ℕ) (o more : Option (List ℕ)) → (o ≡ Some text → more ≡ Some text)
+front_step : (b : Bool) (text other : List Cell) (o more : Option (List Cell)) → (o ≡ Some text → more ≡ Some text)
     → (if b then Some other else o) ≡ Some text → (if b then Some other else more) ≡ Some text
 front_step true text other o more on h = h
 front_step false text other o more on h = on h
 
-pub found_front : (rows more : List Row) (k : Key) (text : List ℕ) → find k rows ≡ Some text
+pub found_front : (rows more : List Row) (k : Key) (text : List Cell) → find k rows ≡ Some text
     → find k (rows ++ more) ≡ Some text
 found_front [] more k text h = absurd (none-some text h)
 found_front (r ∷ rs) more k text h =
     front_step (same_key r.0 k) text r.1 (find k rs) (find k (rs ++ more)) (found_front rs more k text) h
 
 -- behind others
-behind_step : (b : Bool) (text other : List ℕ) (o more : Option (List ℕ)) → (o ≡ None → more ≡ Some text)
+behind_step : (b : Bool) (text other : List Cell) (o more : Option (List Cell)) → (o ≡ None → more ≡ Some text)
     → (if b then Some other else o) ≡ None → (if b then Some other else more) ≡ Some text
 behind_step true text other o more on h = absurd (none-some other (sym h))
 behind_step false text other o more on h = on h
@@ -53,7 +53,7 @@ found_behind (x ∷ xs) r h = behind_step (same_key x.0 r.0) r.1 x.1 (find r.0 x
     (found_behind xs r) h
 
 -- and what is not
-none_step : (b : Bool) (other : List ℕ) (o more : Option (List ℕ)) → (o ≡ None → more ≡ None)
+none_step : (b : Bool) (other : List Cell) (o more : Option (List Cell)) → (o ≡ None → more ≡ None)
     → (if b then Some other else o) ≡ None → (if b then Some other else more) ≡ None
 none_step true other o more on h = h
 none_step false other o more on h = on h
@@ -66,7 +66,7 @@ not_there (x ∷ xs) r k differ h =
 
 -- ---- one row
 
-row_stays : (rows : List Row) (r : Row) (k : Key) (text : List ℕ) → find k rows ≡ Some text
+row_stays : (rows : List Row) (r : Row) (k : Key) (text : List Cell) → find k rows ≡ Some text
     → find k (with_row rows r) ≡ Some text
 row_stays rows r k text h = by (is_some (find r.0 rows))
   where
@@ -81,7 +81,7 @@ row_front rows r = by (is_some (find r.0 rows))
     by true = ([], sym (append-nil rows))
     by false = (r ∷ [], refl)
 
-apart_step : (b : Bool) (other : List ℕ) (o : Option (List ℕ)) → (if b then Some other else o) ≡ None
+apart_step : (b : Bool) (other : List Cell) (o : Option (List Cell)) → (if b then Some other else o) ≡ None
     → (b ≡ false) × (o ≡ None)
 apart_step true other o h = absurd (none-some other (sym h))
 apart_step false other o h = (refl, h)
@@ -95,20 +95,20 @@ apart_more (x ∷ xs) r apart h =
 row_apart : (rows : List Row) (r : Row) → KeysApart rows → KeysApart (with_row rows r)
 row_apart rows r apart = by (find r.0 rows) refl
   where
-    by : (o : Option (List ℕ)) → find r.0 rows ≡ o → KeysApart (if is_some o then rows else rows ++ r ∷ [])
+    by : (o : Option (List Cell)) → find r.0 rows ≡ o → KeysApart (if is_some o then rows else rows ++ r ∷ [])
     by None e = apart_more rows r apart e
     by (Some text) e = apart
 
 row_there : (rows : List Row) (r : Row) → IsSome (find r.0 (with_row rows r))
 row_there rows r = by (find r.0 rows) refl
   where
-    by : (o : Option (List ℕ)) → find r.0 rows ≡ o → IsSome (find r.0 (if is_some o then rows else rows ++ r ∷ []))
+    by : (o : Option (List Cell)) → find r.0 rows ≡ o → IsSome (find r.0 (if is_some o then rows else rows ++ r ∷ []))
     by None e = subst IsSome (sym (found_behind rows r e)) refl
     by (Some text) e = subst IsSome (sym e) refl
 
 -- ---- all of them
 
-stays : (rows more : List Row) (k : Key) (text : List ℕ) → find k rows ≡ Some text
+stays : (rows more : List Row) (k : Key) (text : List Cell) → find k rows ≡ Some text
     → find k (with_rows rows more) ≡ Some text
 stays rows [] k text h = h
 stays rows (r ∷ more) k text h = stays (with_row rows r) more k text (row_stays rows r k text h)
@@ -129,7 +129,7 @@ apart_all rows (r ∷ more) apart = apart_all (with_row rows r) more (row_apart 
 some_stays : (k : Key) (rows more : List Row) → IsSome (find k rows) → IsSome (find k (with_rows rows more))
 some_stays k rows more = by (find k rows) refl
   where
-    by : (o : Option (List ℕ)) → find k rows ≡ o → IsSome o → IsSome (find k (with_rows rows more))
+    by : (o : Option (List Cell)) → find k rows ≡ o → IsSome o → IsSome (find k (with_rows rows more))
     by None e h = absurd (true≢false (sym h))
     by (Some text) e h = subst IsSome (sym (stays rows more k text e)) refl
 
@@ -148,7 +148,7 @@ law = record { stays = stays; in_front = in_front; apart = apart_all; there = th
 pub is_row_now : (rows : List Row) (r : Row) → is_some (find r.0 rows) ≡ false → find r.0 (with_row rows r) ≡ Some r.1
 is_row_now rows r = by (find r.0 rows) refl
   where
-    by : (o : Option (List ℕ)) → find r.0 rows ≡ o → is_some o ≡ false
+    by : (o : Option (List Cell)) → find r.0 rows ≡ o → is_some o ≡ false
         → find r.0 (if is_some o then rows else rows ++ r ∷ []) ≡ Some r.1
     by None e none = found_behind rows r e
     by (Some text) e none = absurd (true≢false none)

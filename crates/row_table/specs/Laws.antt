@@ -1,12 +1,12 @@
 -- What holds of rows that are put in.
-use Rattle.std.specs.Prelude.{◌≡◌, ◌++◌, ◌∷◌, ℕ, List, Some, IsSome}
-use Rattle.row_table.specs.Rows.{Key, Row, find, with_rows, KeysApart, BeginsWith}
+use Rattle.std.specs.Prelude.{◌≡◌, ◌++◌, ◌∷◌, List, Some, IsSome}
+use Rattle.row_table.specs.Rows.{Cell, Key, Row, find, with_rows, KeysApart, BeginsWith}
 
--- the law: an id that is there keeps its text, whatever is put in; what was there comes first; rows whose keys are apart
+-- the law: an id that is there keeps its values, whatever is put in; what was there comes first; rows whose keys are apart
 -- stay so; each row that was put in has its key there; and rows may be put in at once or in turn
 pub record RowsArePutIn : Type 0 where
-  pub stays : (rows more : List Row) (k : Key) (text : List ℕ) → find k rows ≡ Some text
-      → find k (with_rows rows more) ≡ Some text
+  pub stays : (rows more : List Row) (k : Key) (cells : List Cell) → find k rows ≡ Some cells
+      → find k (with_rows rows more) ≡ Some cells
   pub in_front : (rows more : List Row) → BeginsWith rows (with_rows rows more)
   pub apart : (rows more : List Row) → KeysApart rows → KeysApart (with_rows rows more)
   pub there : (rows before : List Row) (r : Row) (behind : List Row)

@@ -1,5 +1,5 @@
 -- Rows by their keys: which is there, and what is there after more were put in.
-use Rattle.std.specs.Prelude.{◌≡◌, ◌⊎◌, ◌&&◌, ◌==◌, ℕ, Bool, List, [], ◌∷◌, ◌++◌, Option, Some, None, is_some}
+use Rattle.std.specs.Prelude.{◌≡◌, ◌⊎◌, ◌&&◌, ◌==◌, ℕ, ℤ, Bool, List, [], ◌∷◌, ◌++◌, Option, Some, None, is_some}
 use Rattle.std.specs.Prelude.{option_map, if◌then◌else◌, IfSome}
 use Rattle.std.specs.List.{AllByRecursion}
 
@@ -7,16 +7,23 @@ use Rattle.std.specs.List.{AllByRecursion}
 abbrev pub Key : Type 0
 Key = ℕ × ℕ
 
--- a row: its key and its text
+-- a value in a row: none, a number, a text or bytes
+pub data Cell : Type 0 where
+  null : Cell
+  integer : ℤ → Cell
+  text : List ℕ → Cell
+  blob : List ℕ → Cell
+
+-- a row: its key and its values
 abbrev pub Row : Type 0
-Row = Key × List ℕ
+Row = Key × List Cell
 
 -- both numbers are the same
 abbrev pub same_key : Key → Key → Bool
 same_key a b = (a.0 == b.0) && (a.1 == b.1)
 
--- the text of the first row of this key
-abbrev pub find : Key → List Row → Option (List ℕ)
+-- the values of the first row of this key
+abbrev pub find : Key → List Row → Option (List Cell)
 find k [] = None
 find k (r ∷ rs) = if same_key r.0 k then Some r.1 else find k rs
 
@@ -29,11 +36,11 @@ abbrev pub with_rows : List Row → List Row → List Row
 with_rows rows [] = rows
 with_rows rows (r ∷ more) = with_rows (with_row rows r) more
 
--- the row is there, with its own text
+-- the row is there, with its own values
 abbrev pub IsRow : List Row → Row → Type 0
 IsRow rows r = find r.0 rows ≡ Some r.1
 
--- each of these rows is there, with its own text
+-- each of these rows is there, with its own values
 abbrev pub AreRows : List Row → List Row → Type 0
 AreRows rows more = AllByRecursion (IsRow rows) more
 
@@ -50,7 +57,7 @@ BeginsWith rows all = (behind : List Row) × (all ≡ rows ++ behind)
 abbrev pub with_known : List Row → Option (List Row) → Option (List Row)
 with_known more known = option_map (λ rows. with_rows rows more) known
 
--- where the rows are known, each of these is there with its own text
+-- where the rows are known, each of these is there with its own values
 abbrev pub AreKnown : List Row → Option (List Row) → Type 0
 AreKnown more known = IfSome known (λ rows. AreRows rows more)
 

@@ -11,7 +11,7 @@ pub enum TableError {
     /// Out of memory.
     #[error("out of memory")]
     Memory,
-    /// A row of this key is there, with another text.
+    /// A row of this key is there, with other values.
     #[error("a row of the key {first}-{second} is there with other fields")]
     OtherText { first: u64, second: u64 },
     /// A number of this key is 2^63 or more.

@@ -9,7 +9,7 @@ use crate::table::Table;
 use std::alloc::Global;
 
 /// Puts rows in as one transaction, and commits it. A row whose key is there is left out if it has the same
-/// text, and else it is an error. After an `Err` the transaction is taken back.
+/// values, and else it is an error. After an `Err` the transaction is taken back.
 pub fn put_all<T: Table>(alloc: Global, table: &mut T, rows: &[Row]) -> Result<(), TableError>
     ensures ok { OnOk result (T.committed table.new ≡ with_known (rows_of rows.now) (T.committed table.old)) }
     ensures there { OnOk result (AreKnown (rows_of rows.now) (T.committed table.new)) }
@@ -54,7 +54,7 @@ fn put_each<T: Table>(alloc: Global, table: &mut T, rows: &[Row]) -> Result<(), 
     Ok(())
 }
 
-/// Puts a row in, unless it is there. It is an error if its key is there with another text.
+/// Puts a row in, unless it is there. It is an error if its key is there with other values.
 fn put<T: Table>(alloc: Global, table: &mut T, row: &Row) -> Result<(), TableError>
     ensures seen { OnOk result (T.seen table.new
         ≡ with_known (row_of row.now ∷ []) (T.seen table.old)) }
@@ -62,14 +62,14 @@ fn put<T: Table>(alloc: Global, table: &mut T, row: &Row) -> Result<(), TableErr
     ensures committed { T.committed table.new ≡ T.committed table.old }
     ensures crash { LeavesNoOther (T.may_leave table.old) (T.may_leave table.new) }
 {
-    if table.insert(row)? {
+    if table.insert(alloc, row)? {
         return Ok(());
     }
-    match table.find(alloc, row)? {
-        Some(text) if text == row.text => Ok(()),
-        _ => Err(TableError::OtherText {
-            first: row.first,
-            second: row.second,
-        }),
+    if table.holds(alloc, row)? {
+        return Ok(());
     }
+    Err(TableError::OtherText {
+        first: row.first,
+        second: row.second,
+    })
 }

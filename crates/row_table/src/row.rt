@@ -1,11 +1,13 @@
 //! A row.
 ghost use Rattle.std.specs.Prelude.{◌≡◌};
 
-/// A row: a key of two numbers, and a text.
+use crate::cell::Cell;
+
+/// A row: a key of two numbers, and values.
 #[derive(Drop)]
 pub struct Row {
     pub first: u64,
     pub second: u64,
-    /// The text, in UTF-8.
-    pub text: Vec<u8>,
+    /// The values, in the order of the columns.
+    pub cells: Vec<Cell>,
 }

@@ -1,8 +1,8 @@
 //! What a table is.
-ghost use Rattle.std.specs.Prelude.{◌≡◌, ◌++◌, ◌∷◌, [], ℕ, List, Bool, true, false, Option, Some, None, OnErr, OnOk, IfOk, IfSome};
+ghost use Rattle.std.specs.Prelude.{◌≡◌, ◌++◌, ◌∷◌, [], ℕ, List, Bool, true, false, Option, Some, None, OnErr, OnOk, IfOk, IfSome, IsTrue, ◌↔◌};
 ghost use Rattle.std.specs.Prelude.{option_map, is_some, if◌then◌else◌};
 ghost use Rattle.row_table.specs.Rows as rows;
-ghost use Rattle.row_table.specs.Rows.{LeavesAll, LeavesJust, LeavesNoOther, LeavesOldOr, find, with_row};
+ghost use Rattle.row_table.specs.Rows.{IsRow, LeavesAll, LeavesJust, LeavesNoOther, LeavesOldOr, find, with_row};
 ghost use Rattle.row_table.specs.OfRow.{key_of, row_of};
 
 use crate::error::TableError;
@@ -33,7 +33,7 @@ pub trait Table {
         ensures crash { LeavesNoOther (may_leave self.old) (may_leave self.new) };
 
     /// Puts in a row, unless its key is there. Whether it was put in.
-    fn insert(&mut self, row: &Row) -> Result<bool, TableError>
+    fn insert(&mut self, alloc: Global, row: &Row) -> Result<bool, TableError>
         ensures seen { OnOk result (seen self.new
             ≡ option_map (λ rs. with_row rs (row_of row.now)) (seen self.old)) }
         ensures told { IfOk result (λ is_new. IfSome (seen self.old)
@@ -41,11 +41,11 @@ pub trait Table {
         ensures committed { committed self.new ≡ committed self.old }
         ensures crash { LeavesNoOther (may_leave self.old) (may_leave self.new) };
 
-    /// The text of the row of this key.
-    fn find(&mut self, alloc: Global, row: &Row) -> Result<Option<Vec<u8>>, TableError>
+    /// Whether the row of this key is there, with the same values.
+    fn holds(&mut self, alloc: Global, row: &Row) -> Result<bool, TableError>
         ensures seen { OnOk result (seen self.new ≡ seen self.old) }
-        ensures found { IfOk result (λ found. IfSome (seen self.old)
-            (λ rs. option_map (λ text. text.items) found ≡ find (key_of row.now) rs)) }
+        ensures told { IfOk result (λ is_there. IfSome (seen self.old)
+            (λ rs. IsTrue is_there ↔ IsRow rs (row_of row.now))) }
         ensures committed { committed self.new ≡ committed self.old }
         ensures crash { LeavesNoOther (may_leave self.old) (may_leave self.new) };
 
