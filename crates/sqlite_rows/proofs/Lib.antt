@@ -1,1 +1,3 @@
 -- Lemmas.
+mod ValuesLemmas
+mod FormLemmas

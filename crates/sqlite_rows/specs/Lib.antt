@@ -1,2 +1,3 @@
 -- What the contracts speak of.
+pub mod Form
 pub mod Statements

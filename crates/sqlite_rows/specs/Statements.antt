@@ -1,38 +1,46 @@
 -- The statements that a table runs, and what a database makes of them.
-use Rattle.std.specs.Prelude.{ℕ, ◌==◌, ◌≡◌, ◌⊎◌, List, [], ◌∷◌, Bool, Ok, Err, Option, Some, None, codes, pos}
+use Rattle.std.specs.Prelude.{ℕ, ◌==◌, ◌≡◌, ◌⊎◌, List, [], ◌∷◌, ◌++◌, Bool, true, false, map, Ok, Err, Option, Some, None, pos}
 use Rattle.sqlite.specs.Order.{Row as SqlRow, column}
 use Rattle.sqlite.specs.Store.{Ghosts}
 use Rattle.sqlite.specs.Held.{Held, state}
 use Rattle.sqlite.specs.State.{CommitsBy, Executes, HasCleanDisk, QueriesRow, Survives}
 use Rattle.sqlite.specs.declared.error.Error.TheVariants.{QueryReturnedNoRows}
-use Rattle.sqlite.specs.declared.types.Value.TheVariants.{Int, Text}
+use Rattle.sqlite.specs.declared.types.Value.{Value}
+use Rattle.sqlite.specs.declared.types.Value.TheVariants.{Null, Int, Text, Blob}
+use Rattle.row_table.specs.Rows as rows
+use Rattle.row_table.specs.Rows.{Cell, Key, Row}
 use Rattle.row_table.specs.declared.error.TableError.{TableError}
 use Rattle.row_table.specs.declared.error.TableError.TheVariants.{Memory, Refused}
-use Rattle.row_table.specs.declared.row.Row.{Row}
+use Rattle.sqlite_rows.specs.declared.error.OpenError.{OpenError}
+use Rattle.sqlite_rows.specs.declared.error.OpenError.TheVariants as opening
 
 -- memory ran out, or the database refused
 abbrev pub IsNamed : TableError → Type 0
 IsNamed e = (e ≡ Memory) ⊎ ((why : _) × (e ≡ Refused why))
 
--- the statement that makes the table: two numbers that are its key, and a text
-abbrev pub create_text : List ℕ
-create_text = codes "CREATE TABLE entries (milliseconds INTEGER NOT NULL, sequence INTEGER NOT NULL, fields TEXT NOT NULL, PRIMARY KEY (milliseconds, sequence)) STRICT"
+-- or the table that is there is another one
+abbrev pub IsNamedAtOpening : OpenError → Type 0
+IsNamedAtOpening (opening.Table e) = IsNamed e
+IsNamedAtOpening (opening.Another there) = Unit {0}
 
--- the statement that puts in a row, unless its key is there
-abbrev pub insert_text : List ℕ
-insert_text = codes "INSERT INTO entries (milliseconds, sequence, fields) VALUES (?1, ?2, ?3) ON CONFLICT DO NOTHING"
+-- a value as a value of SQL
+abbrev pub value_of : Cell → Value
+value_of rows.null = Null
+value_of (rows.integer n) = Int n
+value_of (rows.text t) = Text t
+value_of (rows.blob b) = Blob b
 
--- the query for the text of the row of a key
-abbrev pub find_text : List ℕ
-find_text = codes "SELECT fields FROM entries WHERE milliseconds = ?1 AND sequence = ?2"
+-- values as values of SQL
+abbrev pub values_of : List Cell → SqlRow
+values_of cells = map value_of cells
 
 -- the key of a row as values of SQL
-abbrev pub key_values : Row → SqlRow
-key_values r = Int (pos r.first) ∷ Int (pos r.second) ∷ []
+abbrev pub key_values : Key → SqlRow
+key_values k = Int (pos k.0) ∷ Int (pos k.1) ∷ []
 
--- the key and the text
+-- the key and the values
 abbrev pub row_values : Row → SqlRow
-row_values r = Int (pos r.first) ∷ Int (pos r.second) ∷ Text r.text.items ∷ []
+row_values r = key_values r.0 ++ values_of r.1
 
 module _ {S : Type 0} (g : Ghosts S) (old new : Held S) where
   -- where the disk is honest, the database ran this statement with these values, and changed so many rows
@@ -42,6 +50,12 @@ module _ {S : Type 0} (g : Ghosts S) (old new : Held S) where
   -- and whether it was one row
   abbrev pub RanOne : List ℕ → SqlRow → Bool → Type 0
   RanOne sql values one = (count : ℕ) × (one ≡ (count == 1)) × Ran sql values count
+
+  -- where the disk is honest, this query showed a row with these values, or none
+  abbrev pub Shows : List ℕ → SqlRow → Bool → Type 0
+  Shows sql values false = HasCleanDisk (state g new) → QueriesRow sql values (state g old) (state g new) (Err QueryReturnedNoRows)
+  Shows sql values true = HasCleanDisk (state g new)
+      → (row : SqlRow) × QueriesRow sql values (state g old) (state g new) (Ok row)
 
   -- where the disk is honest, this query showed no row, or the first value of the first row that it showed is this text
   abbrev pub Found : List ℕ → SqlRow → Option (List ℕ) → Type 0

@@ -1,8 +1,14 @@
 //! A table of rows in a SQLite file, which sqlite3 reads.
 //!
-//! The table is `entries`: `milliseconds` and `sequence` are its key, and `fields` is the text of a row.
+//! The key of a row is in the columns `milliseconds` and `sequence`. The other columns are what the `Form` of
+//! the table says: of `Form::usual` the one column `fields`, of a table `entries`.
 #![tactic(auto)]
 
+mod error;
+mod form;
 mod table;
+mod values;
 
+pub use error::OpenError;
+pub use form::Form;
 pub use table::SqliteTable;

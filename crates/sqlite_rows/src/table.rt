@@ -1,38 +1,39 @@
 //! The table, over a connection to a database.
-ghost use Rattle.std.specs.Prelude.{[], ◌∷◌, option_map, ◌≡◌, ℕ, None, IfErr, IfOk, OnOk, codes, pos};
+ghost use Rattle.std.specs.Prelude.{[], option_map, ◌≡◌, ℕ, None, IfErr, IfOk, OnOk, codes, string_bytes};
 ghost use Rattle.sqlite.specs.Values.{bound};
-ghost use Rattle.sqlite.specs.declared.types.Value.TheVariants.{Int, Text};
-ghost use Rattle.sqlite_rows.specs.Statements.{Found, IsNamed, LeavesBy, Ran, RanOne, find_text, insert_text, key_values, row_values};
+ghost use Rattle.row_table.specs.OfRow.{row_of};
+ghost use Rattle.sqlite_rows.specs.Statements.{Found, IsNamed, IsNamedAtOpening, LeavesBy, Ran, RanOne, Shows, row_values};
 
+use crate::error::OpenError;
+use crate::form::Form;
+use crate::values::values_of;
 use row_table::{Row, Table, TableError};
 use sqlite::types::ValueRef;
 use sqlite::{Alter, Connection, Error, ErrorCode, File, FileStore};
 use std::alloc::Global;
 
-const CREATE: &str =
-    "CREATE TABLE entries (milliseconds INTEGER NOT NULL, sequence INTEGER NOT NULL, fields TEXT NOT NULL, PRIMARY KEY (milliseconds, sequence)) STRICT";
+const KNOWN: &str = "SELECT sql FROM sqlite_schema WHERE lower(name) = lower(?1)";
 
-const KNOWN: &str = "SELECT sql FROM sqlite_schema WHERE name = 'entries'";
-
-const INSERT: &str =
-    "INSERT INTO entries (milliseconds, sequence, fields) VALUES (?1, ?2, ?3) ON CONFLICT DO NOTHING";
-
-const FIND: &str = "SELECT fields FROM entries WHERE milliseconds = ?1 AND sequence = ?2";
-
-/// The table `entries` of a database.
+/// A table of a database.
 #[derive(Drop)]
 pub struct SqliteTable<S: Alter + Drop> {
     conn: Connection<S>,
+    form: Form,
 }
 
 impl SqliteTable<FileStore<File>> {
-    /// Opens the table in this file, and makes the file and the table if they are not there.
-    pub fn open(rt: &HostRuntime, path: &str) -> Result<SqliteTable<FileStore<File>>, TableError>
-        ensures { IfErr result IsNamed }
+    /// Opens the table of this form in this file, and makes the file and the table if they are not there.
+    pub fn open(
+        rt: &HostRuntime,
+        path: &str,
+        form: Form,
+    ) -> Result<SqliteTable<FileStore<File>>, OpenError>
+        ensures named { IfErr result IsNamedAtOpening }
+        ensures form { IfOk result (λ table. table.form ≡ form) }
     {
         match Connection::open(rt, path) {
-            Ok(conn) => SqliteTable::over(rt.alloc(), conn),
-            Err(error) => Err(refused(error)),
+            Ok(conn) => SqliteTable::over(rt.alloc(), conn, form),
+            Err(error) => Err(OpenError::Table(refused(error))),
         }
     }
 
@@ -48,17 +49,18 @@ impl SqliteTable<FileStore<File>> {
 }
 
 impl<S: Alter + Drop> SqliteTable<S> {
-    /// The table of this database, which is made if it is not there.
-    pub fn over(alloc: Global, conn: Connection<S>) -> Result<SqliteTable<S>, TableError>
-        ensures { IfErr result IsNamed }
+    /// The table of this form in this database, which is made if it is not there.
+    pub fn over(alloc: Global, conn: Connection<S>, form: Form) -> Result<SqliteTable<S>, OpenError>
+        ensures named { IfErr result IsNamedAtOpening }
+        ensures form { IfOk result (λ table. table.form ≡ form) }
     {
         let mut conn = conn;
-        match definition(alloc, &mut conn)? {
-            None => run(&mut conn, CREATE)?,
-            Some(text) if text.as_slice() == CREATE.as_bytes() => {}
-            Some(_) => return Err(TableError::Refused("its table `entries` is another one")),
+        match definition(alloc, &mut conn, &form.name)? {
+            None => run(&mut conn, &form.create)?,
+            Some(text) if text.as_slice() == form.create.as_bytes() => {}
+            Some(text) => return Err(another(text)),
         }
-        Ok(SqliteTable { conn })
+        Ok(SqliteTable { conn, form })
     }
 }
 
@@ -75,36 +77,36 @@ impl<S: Alter + Drop> Table for SqliteTable<S> {
     fn begin(&mut self) -> Result<(), TableError>
         ensures ran { OnOk result ((count : ℕ) × Ran S.Store self.old.conn self.new.conn (codes "BEGIN") [] count) }
         ensures leaves { LeavesBy S.Store self.old.conn self.new.conn (codes "BEGIN") [] }
+        ensures form { self.new.form ≡ self.old.form }
     {
         run(&mut self.conn, "BEGIN")
     }
 
-    /// Runs INSERT .. ON CONFLICT DO NOTHING with the key and the text.
-    fn insert(&mut self, row: &Row) -> Result<bool, TableError>
-        ensures ran { IfOk result (RanOne S.Store self.old.conn self.new.conn insert_text (row_values row.now)) }
+    /// Runs INSERT .. ON CONFLICT DO NOTHING with the key and the values.
+    fn insert(&mut self, alloc: Global, row: &Row) -> Result<bool, TableError>
+        ensures ran { IfOk result (RanOne S.Store self.old.conn self.new.conn (string_bytes self.old.form.insert)
+            (row_values (row_of row.now))) }
+        ensures form { self.new.form ≡ self.old.form }
     {
-        let (first, second) = key(row)?;
-        insert(&mut self.conn, first, second, &row.text)
+        let values = values_of(alloc, row)?;
+        insert(&mut self.conn, &self.form.insert, &values)
     }
 
-    /// Runs SELECT with the key.
-    fn find(&mut self, alloc: Global, row: &Row) -> Result<Option<Vec<u8>>, TableError>
-        ensures found { IfOk result (λ found. Found S.Store self.old.conn self.new.conn find_text (key_values row.now)
-            (option_map (λ text. text.items) found)) }
+    /// Runs SELECT with the key and the values.
+    fn holds(&mut self, alloc: Global, row: &Row) -> Result<bool, TableError>
+        ensures shows { IfOk result (Shows S.Store self.old.conn self.new.conn (string_bytes self.old.form.holds)
+            (row_values (row_of row.now))) }
+        ensures form { self.new.form ≡ self.old.form }
     {
-        let (first, second) = key(row)?;
-        text_of(
-            alloc,
-            &mut self.conn,
-            FIND,
-            &[ValueRef::Int(first), ValueRef::Int(second)],
-        )
+        let values = values_of(alloc, row)?;
+        shows(&mut self.conn, &self.form.holds, &values)
     }
 
     /// Runs COMMIT.
     fn commit(&mut self) -> Result<(), TableError>
         ensures ran { OnOk result ((count : ℕ) × Ran S.Store self.old.conn self.new.conn (codes "COMMIT") [] count) }
         ensures leaves { LeavesBy S.Store self.old.conn self.new.conn (codes "COMMIT") [] }
+        ensures form { self.new.form ≡ self.old.form }
     {
         run(&mut self.conn, "COMMIT")
     }
@@ -123,19 +125,6 @@ fn refused(error: Error) -> TableError
     TableError::Refused(reason(error))
 }
 
-// The key of a row as the database has it: two numbers below 2^63.
-fn key(row: &Row) -> Result<(i64, i64), TableError>
-    ensures { IfOk result (λ k. (k.0 ≡ pos row.now.first) × (k.1 ≡ pos row.now.second)) }
-{
-    match (i64::try_from(row.first), i64::try_from(row.second)) {
-        (Ok(first), Ok(second)) => Ok((first, second)),
-        _ => Err(TableError::KeyTooLarge {
-            first: row.first,
-            second: row.second,
-        }),
-    }
-}
-
 // Runs a statement without parameters.
 fn run<S: Alter + Drop>(conn: &mut Connection<S>, sql: &str) -> Result<(), TableError>
     ensures named { IfErr result IsNamed }
@@ -148,37 +137,54 @@ fn run<S: Alter + Drop>(conn: &mut Connection<S>, sql: &str) -> Result<(), Table
     }
 }
 
-// Puts in a row, unless its key is there. Whether it was put in.
+// Runs a statement with these values. Whether it changed one row.
 fn insert<S: Alter + Drop>(
     conn: &mut Connection<S>,
-    first: i64,
-    second: i64,
-    text: &[u8],
+    sql: &str,
+    values: &[ValueRef<'_>],
 ) -> Result<bool, TableError>
-    ensures ran { IfOk result (RanOne S.Store conn.old conn.new insert_text (Int first ∷ Int second ∷ Text text.now ∷ [])) }
-    ensures leaves { LeavesBy S.Store conn.old conn.new insert_text (Int first ∷ Int second ∷ Text text.now ∷ []) }
+    ensures ran { IfOk result (RanOne S.Store conn.old conn.new sql.now (bound values.now)) }
 {
-    match conn.execute(
-        INSERT,
-        &[
-            ValueRef::Int(first),
-            ValueRef::Int(second),
-            ValueRef::Text(text),
-        ],
-    ) {
+    match conn.execute(sql, values) {
         Ok(count) => Ok(count == 1),
         Err(error) => Err(refused(error)),
     }
 }
 
-// The text of the CREATE of the table; none if there is no such table.
+// Whether a query with these values shows a row.
+fn shows<S: Alter + Drop>(
+    conn: &mut Connection<S>,
+    sql: &str,
+    values: &[ValueRef<'_>],
+) -> Result<bool, TableError>
+    ensures shows { IfOk result (Shows S.Store conn.old conn.new sql.now (bound values.now)) }
+{
+    match conn.query_row(sql, values) {
+        Ok(_) => Ok(true),
+        Err(Error::QueryReturnedNoRows) => Ok(false),
+        Err(error) => Err(refused(error)),
+    }
+}
+
+// The table that is there is another one, which this SQL made.
+fn another(text: Vec<u8>) -> OpenError
+    ensures { IsNamedAtOpening result }
+{
+    match String::from_utf8(text) {
+        Ok(text) => OpenError::Another(text),
+        Err(_) => OpenError::Table(TableError::Refused("the database is malformed")),
+    }
+}
+
+// The text of the CREATE of the table of this name; none if there is no such table.
 fn definition<S: Alter + Drop>(
     alloc: Global,
     conn: &mut Connection<S>,
+    name: &str,
 ) -> Result<Option<Vec<u8>>, TableError>
     ensures named { IfErr result IsNamed }
 {
-    text_of(alloc, conn, KNOWN, &[])
+    text_of(alloc, conn, KNOWN, &[ValueRef::Text(name.as_bytes())])
 }
 
 // The text that is the first value of the first row that a query shows; none if it shows no row.
@@ -199,7 +205,7 @@ fn text_of<S: Alter + Drop>(
     };
     match row.get_ref(0) {
         Ok(ValueRef::Text(text)) => Ok(Some(Vec::from_slice(alloc, text)?)),
-        _ => Err(TableError::Refused("its table `entries` is another one")),
+        _ => Err(TableError::Refused("the database is malformed")),
     }
 }
 

@@ -1,0 +1,35 @@
+//! Why a table is not opened.
+ghost use Rattle.std.specs.Prelude.{◌≡◌};
+ghost use Rattle.row_table.specs.declared.error.TableError.TheVariants.{Memory};
+ghost use Rattle.sqlite_rows.specs.declared.error.OpenError.TheVariants.{Table};
+
+use row_table::TableError;
+use std::alloc::AllocError;
+use thiserror::Error;
+
+/// Why a table is not opened.
+#[derive(Debug, Drop, Error)]
+pub enum OpenError {
+    /// Memory ran out, or the database refuses.
+    #[error("{0}")]
+    Table(TableError),
+    /// A table or a view of this name is there, which this SQL made.
+    #[error("its table is another one: {0}")]
+    Another(String),
+}
+
+impl From<TableError> for OpenError {
+    ghost from_gives = { λ cause error. error ≡ Table cause };
+
+    fn from(cause: TableError) -> OpenError {
+        OpenError::Table(cause)
+    }
+}
+
+impl From<AllocError> for OpenError {
+    ghost from_gives = { λ _ error. error ≡ Table Memory };
+
+    fn from(_error: AllocError) -> OpenError {
+        OpenError::Table(TableError::Memory)
+    }
+}

@@ -1,0 +1,223 @@
+//! The statements of a table, in which names are quoted.
+ghost use Rattle.std.specs.Prelude.{◌≡◌, ◌++◌, codes, flat_map, IfOk, OnOk, string_bytes};
+ghost use Rattle.sqlite_rows.specs.Form.{IsFormOf, IsUsual, column_text, condition_text, create_text, holds_text, insert_text};
+ghost use Rattle.sqlite_rows.specs.Form.{kind_text, null_text, quoted, quoted_byte, usual_create, usual_holds, usual_insert, value_text};
+
+use row_table::{Column, Kind, TableError};
+use std::alloc::Global;
+
+const CREATE: &str =
+    "CREATE TABLE entries (milliseconds INTEGER NOT NULL, sequence INTEGER NOT NULL, fields TEXT NOT NULL, PRIMARY KEY (milliseconds, sequence)) STRICT";
+
+const INSERT: &str =
+    "INSERT INTO entries (milliseconds, sequence, fields) VALUES (?1, ?2, ?3) ON CONFLICT DO NOTHING";
+
+const HOLDS: &str =
+    "SELECT 1 FROM entries WHERE milliseconds = ?1 AND sequence = ?2 AND fields IS ?3";
+
+/// The statements of a table.
+#[derive(Drop)]
+pub struct Form {
+    /// The table's name.
+    pub name: String,
+    /// Makes the table.
+    pub create: String,
+    /// Puts in a row, unless its key is there.
+    pub insert: String,
+    /// Shows one row if a row of this key has these values, and else none.
+    pub holds: String,
+}
+
+impl Form {
+    /// The statements of the table `entries`, whose one column `fields` has a text.
+    pub fn usual(alloc: Global) -> Result<Form, TableError>
+        ensures { IfOk result IsUsual }
+    {
+        Ok(Form {
+            name: String::from_str(alloc, "entries")?,
+            create: String::from_str(alloc, CREATE)?,
+            insert: String::from_str(alloc, INSERT)?,
+            holds: String::from_str(alloc, HOLDS)?,
+        })
+    }
+
+    /// The statements of a table of this name, with these columns beside the two of the key. The names are
+    /// quoted.
+    pub fn of(alloc: Global, name: &str, columns: &[Column]) -> Result<Form, TableError>
+        ensures { IfOk result (IsFormOf name.now columns.now) }
+    {
+        Ok(Form {
+            name: String::from_str(alloc, name)?,
+            create: create(alloc, name, columns)?,
+            insert: insert(alloc, name, columns)?,
+            holds: holds(alloc, name, columns)?,
+        })
+    }
+}
+
+// The statement that makes the table.
+fn create(alloc: Global, name: &str, columns: &[Column]) -> Result<String, TableError>
+    ensures { IfOk result (λ text. string_bytes text ≡ create_text name.now columns.now) }
+{
+    let mut out = Vec::new(alloc);
+    push_create(&mut out, name, columns)?;
+    text(out)
+}
+
+// The bytes of it.
+fn push_create(out: &mut Vec<u8>, name: &str, columns: &[Column]) -> Result<(), TableError>
+    ensures { OnOk result (out.new.items ≡ out.old.items ++ create_text name.now columns.now) }
+{
+    out.extend_from_slice(b"CREATE TABLE ")?;
+    push_name(out, name.as_bytes())?;
+    out.extend_from_slice(b" (milliseconds INTEGER NOT NULL, sequence INTEGER NOT NULL, ")?;
+    push_columns(out, columns)?;
+    Ok(out.extend_from_slice(b"PRIMARY KEY (milliseconds, sequence)) STRICT")?)
+}
+
+// The statement that puts in a row.
+fn insert(alloc: Global, name: &str, columns: &[Column]) -> Result<String, TableError>
+    ensures { IfOk result (λ text. string_bytes text ≡ insert_text name.now columns.now) }
+{
+    let mut out = Vec::new(alloc);
+    push_insert(&mut out, name, columns)?;
+    text(out)
+}
+
+// The bytes of it.
+fn push_insert(out: &mut Vec<u8>, name: &str, columns: &[Column]) -> Result<(), TableError>
+    ensures { OnOk result (out.new.items ≡ out.old.items ++ insert_text name.now columns.now) }
+{
+    out.extend_from_slice(b"INSERT INTO ")?;
+    push_name(out, name.as_bytes())?;
+    out.extend_from_slice(b" VALUES (?, ?")?;
+    push_values(out, columns)?;
+    Ok(out.extend_from_slice(b") ON CONFLICT DO NOTHING")?)
+}
+
+// The query for a row with these values.
+fn holds(alloc: Global, name: &str, columns: &[Column]) -> Result<String, TableError>
+    ensures { IfOk result (λ text. string_bytes text ≡ holds_text name.now columns.now) }
+{
+    let mut out = Vec::new(alloc);
+    push_holds(&mut out, name, columns)?;
+    text(out)
+}
+
+// The bytes of it.
+fn push_holds(out: &mut Vec<u8>, name: &str, columns: &[Column]) -> Result<(), TableError>
+    ensures { OnOk result (out.new.items ≡ out.old.items ++ holds_text name.now columns.now) }
+{
+    out.extend_from_slice(b"SELECT 1 FROM ")?;
+    push_name(out, name.as_bytes())?;
+    out.extend_from_slice(b" WHERE milliseconds = ? AND sequence = ?")?;
+    push_conditions(out, columns)
+}
+
+// A name in double quotes.
+fn push_name(out: &mut Vec<u8>, name: &[u8]) -> Result<(), TableError>
+    ensures { OnOk result (out.new.items ≡ out.old.items ++ quoted name.now) }
+{
+    out.push(b'"')?;
+    push_bytes(out, name)?;
+    Ok(out.push(b'"')?)
+}
+
+// The bytes of a name within double quotes.
+fn push_bytes(out: &mut Vec<u8>, name: &[u8]) -> Result<(), TableError>
+    ensures { OnOk result (out.new.items ≡ out.old.items ++ flat_map quoted_byte name.now) }
+{
+    for byte in name {
+        push_byte(out, *byte)?;
+    }
+    Ok(())
+}
+
+// A byte of a name: a double quote is written twice, and a NUL is refused.
+fn push_byte(out: &mut Vec<u8>, byte: u8) -> Result<(), TableError>
+    ensures { OnOk result (out.new.items ≡ out.old.items ++ quoted_byte byte) }
+{
+    match byte {
+        b'"' => Ok(out.extend_from_slice(b"\"\"")?),
+        0 => Err(TableError::Refused("a name has a NUL in it")),
+        _ => Ok(out.push(byte)?),
+    }
+}
+
+// The columns in a CREATE TABLE.
+fn push_columns(out: &mut Vec<u8>, columns: &[Column]) -> Result<(), TableError>
+    ensures { OnOk result (out.new.items ≡ out.old.items ++ flat_map column_text columns.now) }
+{
+    for column in columns {
+        push_column(out, column)?;
+    }
+    Ok(())
+}
+
+// A column in a CREATE TABLE, and a comma.
+fn push_column(out: &mut Vec<u8>, column: &Column) -> Result<(), TableError>
+    ensures { OnOk result (out.new.items ≡ out.old.items ++ column_text column.now) }
+{
+    push_name(out, column.name.as_bytes())?;
+    out.extend_from_slice(kind(column.kind).as_bytes())?;
+    out.extend_from_slice(null(column.optional).as_bytes())?;
+    Ok(out.extend_from_slice(b", ")?)
+}
+
+// What the database calls the values of a column.
+fn kind(kind: Kind) -> &'static str
+    ensures { result.now ≡ kind_text kind }
+{
+    match kind {
+        Kind::Text => " TEXT",
+        Kind::Integer => " INTEGER",
+        Kind::Blob => " BLOB",
+    }
+}
+
+// Whether a row may have no value there.
+fn null(optional: bool) -> &'static str
+    ensures { result.now ≡ null_text optional }
+{
+    if optional { "" } else { " NOT NULL" }
+}
+
+// A place for each value.
+fn push_values(out: &mut Vec<u8>, columns: &[Column]) -> Result<(), TableError>
+    ensures { OnOk result (out.new.items ≡ out.old.items ++ flat_map value_text columns.now) }
+{
+    for _column in columns {
+        out.extend_from_slice(b", ?")?;
+    }
+    Ok(())
+}
+
+// A condition for each column.
+fn push_conditions(out: &mut Vec<u8>, columns: &[Column]) -> Result<(), TableError>
+    ensures { OnOk result (out.new.items ≡ out.old.items ++ flat_map condition_text columns.now) }
+{
+    for column in columns {
+        push_condition(out, column.name.as_bytes())?;
+    }
+    Ok(())
+}
+
+// The condition of a column of this name.
+fn push_condition(out: &mut Vec<u8>, name: &[u8]) -> Result<(), TableError>
+    ensures { OnOk result (out.new.items ≡ out.old.items
+        ++ (codes " AND " ++ (quoted name.now ++ codes " IS ?"))) }
+{
+    out.extend_from_slice(b" AND ")?;
+    push_name(out, name)?;
+    Ok(out.extend_from_slice(b" IS ?")?)
+}
+
+// Bytes that are UTF-8, as a text.
+fn text(bytes: Vec<u8>) -> Result<String, TableError>
+    ensures { IfOk result (λ text. string_bytes text ≡ bytes.items) }
+{
+    match String::from_utf8(bytes) {
+        Ok(text) => Ok(text),
+        Err(_) => Err(TableError::Refused("a name is not UTF-8")),
+    }
+}
