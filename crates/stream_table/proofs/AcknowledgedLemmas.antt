@@ -2,7 +2,8 @@
 use Rattle.std.proofs.Common.{◌≡◌, ◌∙◌, ◌⊎◌, refl, sym, ap, subst, inl, inr, ⊎_elim, ℕ, Bool, true, false, true≢false, List, [], ◌∷◌, ◌++◌}
 use Rattle.std.proofs.Common.{Option, Some, None, IsSome, if◌then◌else◌}
 use Rattle.redis_connection.specs.Link.{Link}
-use Rattle.row_table.specs.Rows.{BeginsWith, Key, Row, find, with_known, with_row, with_rows}
+use Rattle.row_table.specs.declared.cell.Column.{Column}
+use Rattle.row_table.specs.Rows.{BeginsWith, Cell, Key, Row, find, with_known, with_row, with_rows}
 use Rattle.row_table.proofs.RowsLemmas.{found_front, law}
 use Rattle.stream_group.specs.Law.{Among}
 use Rattle.stream_group.specs.Worker.{Entry, Id, Machine, Verdict, done, left_pending, stop, entries_in, told_in}
@@ -28,7 +29,8 @@ use Rattle.stream_worker.specs.declared.worker.Progress.{Progress}
 use Rattle.redis_wire.specs.Reply as wire
 use Rattle.stream_table.specs.Acknowledged.{AcknowledgedIsARow, AreSettled, IsThere, Reaches, acknowledges, asked_before, begins, turns, fails, crashes}
 use Rattle.stream_table.specs.Kept.{Kept, committed_with, kept_of, kept_too, key_in, row_in, rows_in}
-use Rattle.stream_table.specs.Lived.{LivesSo, with_doings}
+use Rattle.stream_loop.specs.Shown.{with_doings}
+use Rattle.stream_table.specs.Lived.{LivesSo}
 use Rattle.stream_table.proofs.LivedLemmas.{commit_of, lived}
 
 -- ---- what is committed, in a round
@@ -98,25 +100,25 @@ module _ (settings : Settings) where
 still_some : (k : Key) (rows more : List Row) → IsSome (find k rows) → IsSome (find k (with_rows rows more))
 still_some k rows more = by (find k rows) refl
   where
-    by : (o : Option (List ℕ)) → find k rows ≡ o → IsSome o → IsSome (find k (with_rows rows more))
+    by : (o : Option (List Cell)) → find k rows ≡ o → IsSome o → IsSome (find k (with_rows rows more))
     by None e h = absurd (true≢false (sym h))
     by (Some text) e h = subst IsSome (sym (law.stays rows more k text e)) refl
 
 front_some : (k : Key) (rows left : List Row) → BeginsWith rows left → IsSome (find k rows) → IsSome (find k left)
 front_some k rows left starts = by (find k rows) refl
   where
-    by : (o : Option (List ℕ)) → find k rows ≡ o → IsSome o → IsSome (find k left)
+    by : (o : Option (List Cell)) → find k rows ≡ o → IsSome o → IsSome (find k left)
     by None e h = absurd (true≢false (sym h))
     by (Some text) e h = subst IsSome
         (sym (ap (find k) starts.1 ∙ found_front rows starts.0 k text e)) refl
 
-among_there : (rows : List Row) (es : List (Entry Pairs)) (e : Entry Pairs) → Among e es
-    → IsSome (find (row_in e).0 (with_rows rows (rows_in es)))
-among_there rows [] e among = absurd among
-among_there rows (d ∷ es) e (inl is) =
-    subst (λ (x : Entry Pairs). IsSome (find (row_in x).0 (with_rows rows (rows_in (d ∷ es))))) is
-    (law.there rows [] (row_in d) (rows_in es))
-among_there rows (d ∷ es) e (inr later) = among_there (with_row rows (row_in d)) es e later
+among_there : (columns : List Column) (rows : List Row) (es : List (Entry Pairs)) (e : Entry Pairs) → Among e es
+    → IsSome (find (row_in columns e).0 (with_rows rows (rows_in columns es)))
+among_there columns rows [] e among = absurd among
+among_there columns rows (d ∷ es) e (inl is) =
+    subst (λ (x : Entry Pairs). IsSome (find (row_in columns x).0 (with_rows rows (rows_in columns (d ∷ es))))) is
+    (law.there rows [] (row_in columns d) (rows_in columns es))
+among_there columns rows (d ∷ es) e (inr later) = among_there columns (with_row rows (row_in columns d)) es e later
 
 among_both : (a b : List Id) (id : Id) → Among id (a ++ b) → Among id a ⊎ Among id b
 among_both [] b id among = inr among
@@ -126,35 +128,35 @@ among_both (x ∷ a) b id (inr later) = ⊎_elim (λ first. inl (inr first)) inr
 some_is : (a b : List Row) → Some a ≡ Some b → a ≡ b
 some_is a b e = ap (λ (o : Option (List Row)). elim o [ None ↦ a | Some rows ↦ rows ]) e
 
-module _ (settings : Settings) (gone : List Id) where
+module _ (settings : Settings) (columns : List Column) (gone : List Id) where
   -- what a worker asks to acknowledge is there as it asks
-  asked_there : (first : List Row) (w : Standing Kept) (deleted : List Id) → LivesSo settings (Some first) w deleted
+  asked_there : (first : List Row) (w : Standing Kept) (deleted : List Id) → LivesSo settings (columns, Some first) w deleted
       → ((id : Id) → Among id deleted → Among id gone) → (rows : List Row) → committed_then settings w ≡ Some rows
       → (id : Id) → Among id (acknowledges settings w) → IsThere rows id ⊎ Among id gone
   asked_there first w deleted l says rows is id among =
       let d = history_at_request committed_too w.machine l.doings in
-      let kept : history_at_request committed_with w.machine w.history ≡ kept_of (Some first) d =
-      ap (history_at_request committed_with w.machine) l.kept ∙ commit_of settings (Some first) w.machine l.doings in
-      let all : with_rows first (rows_in d.committed) ≡ rows =
-      some_is (with_rows first (rows_in d.committed)) rows (sym (ap (λ (k : Kept). k.committed) kept) ∙ is) in
-      ⊎_elim (λ a. inl (subst (λ (rs : List Row). IsThere rs id) all (among_there first d.committed (id, a.0) a.1)))
+      let kept : history_at_request committed_with w.machine w.history ≡ kept_of (columns, Some first) d =
+      ap (history_at_request committed_with w.machine) l.kept ∙ commit_of settings (columns, Some first) w.machine l.doings in
+      let all : with_rows first (rows_in columns d.committed) ≡ rows =
+      some_is (with_rows first (rows_in columns d.committed)) rows (sym (ap (λ (k : Kept). k.committed) kept) ∙ is) in
+      ⊎_elim (λ a. inl (subst (λ (rs : List Row). IsThere rs id) all (among_there columns first d.committed (id, a.0) a.1)))
       (λ out. inr (says id out)) (only_committed settings (with_doings w l.doings) deleted l.lives id among)
 
   -- the worker lives so, and what it was told is gone
   record IsLived (first : List Row) (w : Standing Kept) (deleted : List Id) : Type 0 where
-    lives : LivesSo settings (Some first) w deleted
+    lives : LivesSo settings (columns, Some first) w deleted
     says : (id : Id) → Among id deleted → Among id gone
 
   lived_so : (first : List Row) (w : Standing Kept) (deleted acknowledged : List Id)
-      → Reaches settings gone first w deleted acknowledged → IsLived first w deleted
+      → Reaches settings columns gone first w deleted acknowledged → IsLived first w deleted
   lived_so first w deleted acknowledged (begins rows apart) =
-      record { lives = (lived settings).0 (Some rows); says = λ id none. absurd none }
+      record { lives = lived.begins settings (columns, Some rows); says = λ id none. absurd none }
   lived_so first w deleted acknowledged (turns rows v x before more acks old new q p r t l says) =
       record { lives = l; says = says }
   lived_so first w deleted acknowledged (fails rows v x before more acks old new e r f l says) =
       record { lives = l; says = says }
   lived_so first w deleted acknowledged (crashes rows v before acks all left r is starts apart) =
-      record { lives = (lived settings).0 (Some left); says = λ id none. absurd none }
+      record { lives = lived.begins settings (columns, Some left); says = λ id none. absurd none }
 
   -- what was acknowledged before is there after more were put in
   later_there : (rows more : List Row) (acks : List Id) → ((id : Id) → Among id acks → IsThere rows id ⊎ Among id gone)
@@ -164,8 +166,8 @@ module _ (settings : Settings) (gone : List Id) where
 
   -- after a round in which its command may have gone out
   after_asking : (first : List Row) (w x : Standing Kept) (deleted acks : List Id) → IsLived first w deleted
-      → AreSettled settings gone w acks → x.history.committed ≡ committed_then settings w
-      → AreSettled settings gone x (acks ++ acknowledges settings w)
+      → AreSettled settings columns gone w acks → x.history.committed ≡ committed_then settings w
+      → AreSettled settings columns gone x (acks ++ acknowledges settings w)
   after_asking first w x deleted acks l s is =
       let more = asked_more settings w s.rows s.committed in
       let rows = with_rows s.rows more.0 in
@@ -182,9 +184,9 @@ module _ (settings : Settings) (gone : List Id) where
   no_more acks id among = ⊎_elim (λ a. a) (λ none. absurd none) (among_both acks [] id among)
 
   -- after a round in which nothing went out
-  without_asking : (w x : Standing Kept) (acks : List Id) → AreSettled settings gone w acks
+  without_asking : (w x : Standing Kept) (acks : List Id) → AreSettled settings columns gone w acks
       → (x.history.committed ≡ w.history.committed) ⊎ (x.history.committed ≡ committed_then settings w)
-      → AreSettled settings gone x (acks ++ [])
+      → AreSettled settings columns gone x (acks ++ [])
   without_asking w x acks s (inl same) = record {
     rows = s.rows;
     committed = same ∙ s.committed;
@@ -201,9 +203,9 @@ module _ (settings : Settings) (gone : List Id) where
       }
 
   after_breaking : (first : List Row) (w y : Standing Kept) (deleted acks : List Id) (old new : Link) (e : RunError)
-      → IsLived first w deleted → AreSettled settings gone w acks
+      → IsLived first w deleted → AreSettled settings columns gone w acks
       → Breaks kept_too committed_with settings old new w y e
-      → AreSettled settings gone y (acks ++ asked_before e (acknowledges settings w))
+      → AreSettled settings columns gone y (acks ++ asked_before e (acknowledges settings w))
   after_breaking first w y deleted acks old new (causes.Request e) l s h =
       without_asking w y acks s (unasked_keeps settings w y.machine y.history e h.1)
   after_breaking first w y deleted acks old new (causes.Send e) l s h =
@@ -215,8 +217,8 @@ module _ (settings : Settings) (gone : List Id) where
       (failed_keeps settings _ h.0 (at_request w.machine) y.machine (asking committed_with settings w).history y.history e h.2)
 
   -- seen after the failure
-  settled_as : (x y : Standing Kept) (acks : List Id) → x.history ≡ y.history → AreSettled settings gone y acks
-      → AreSettled settings gone x acks
+  settled_as : (x y : Standing Kept) (acks : List Id) → x.history ≡ y.history → AreSettled settings columns gone y acks
+      → AreSettled settings columns gone x acks
   settled_as x y acks same s = record {
     rows = s.rows;
     committed = ap (λ (k : Kept). k.committed) same ∙ s.committed;
@@ -225,7 +227,7 @@ module _ (settings : Settings) (gone : List Id) where
   }
 
   settled : (first : List Row) (w : Standing Kept) (deleted acknowledged : List Id)
-      → Reaches settings gone first w deleted acknowledged → AreSettled settings gone w acknowledged
+      → Reaches settings columns gone first w deleted acknowledged → AreSettled settings columns gone w acknowledged
   settled first w deleted acknowledged (begins rows apart) =
       record { rows = rows; committed = refl; apart = apart; there = λ id none. absurd none }
   settled first w deleted acknowledged (turns rows v x before more acks old new q p r t l says) =
@@ -247,4 +249,4 @@ module _ (settings : Settings) (gone : List Id) where
       }
 
 pub law_holds : AcknowledgedIsARow
-law_holds settings gone first w deleted acknowledged r = settled settings gone first w deleted acknowledged r
+law_holds settings columns gone first w deleted acknowledged r = settled settings columns gone first w deleted acknowledged r

@@ -1,5 +1,6 @@
 -- Lemmas.
 mod FieldsLemmas
+mod CellsLemmas
 mod KeptLemmas
 pub mod LivedLemmas
 mod AcknowledgedLemmas

@@ -1,6 +1,7 @@
 -- What is acknowledged is a row, over every schedule of rounds, crashes and restarts.
 use Rattle.std.specs.Prelude.{◌≡◌, ◌⊎◌, List, [], ◌++◌, Some, IsSome}
 use Rattle.redis_connection.specs.Link.{Link}
+use Rattle.row_table.specs.declared.cell.Column.{Column}
 use Rattle.row_table.specs.Rows.{BeginsWith, KeysApart, Row, find}
 use Rattle.stream_group.specs.Law.{Among}
 use Rattle.stream_group.specs.Worker.{Id}
@@ -26,25 +27,25 @@ abbrev pub asked_before : RunError → List Id → List Id
 asked_before (causes.Request e) ids = []
 asked_before e ids = ids
 
-module _ (settings : Settings) (gone : List Id) where
+module _ (settings : Settings) (columns : List Column) (gone : List Id) where
   -- where a worker may stand, over a table that had these rows as it was started, and what was acknowledged so far, by it
   -- and by those before it: at first it is new; in each round an answer brings it on, or the round fails; and at any time
   -- it may crash. Then its table has what was committed, and maybe more, of which the keys are apart, and another worker
   -- is started over it, which knows nothing else. What the server says was deleted is gone
   pub data Reaches : List Row → Standing Kept → List Id → List Id → Type 0 where
-    begins : (first : List Row) → KeysApart first → Reaches first (newborn_with settings (Some first)) [] []
+    begins : (first : List Row) → KeysApart first → Reaches first (newborn_with settings (columns, Some first)) [] []
     turns : (first : List Row) (w x : Standing Kept) (deleted more acknowledged : List Id) (old new : Link) (q : Asked)
         (p : Progress) → Reaches first w deleted acknowledged
         → Turned kept_too committed_with settings old new w x q p
-        → LivesSo settings (Some first) x (deleted ++ more) → ((id : Id) → Among id (deleted ++ more) → Among id gone)
+        → LivesSo settings (columns, Some first) x (deleted ++ more) → ((id : Id) → Among id (deleted ++ more) → Among id gone)
         → Reaches first x (deleted ++ more) (acknowledged ++ acknowledges settings w)
     fails : (first : List Row) (w x : Standing Kept) (deleted more acknowledged : List Id) (old new : Link) (e : RunError)
         → Reaches first w deleted acknowledged → Fails kept_too committed_with settings old new w x e
-        → LivesSo settings (Some first) x (deleted ++ more) → ((id : Id) → Among id (deleted ++ more) → Among id gone)
+        → LivesSo settings (columns, Some first) x (deleted ++ more) → ((id : Id) → Among id (deleted ++ more) → Among id gone)
         → Reaches first x (deleted ++ more) (acknowledged ++ asked_before e (acknowledges settings w))
     crashes : (first : List Row) (w : Standing Kept) (deleted acknowledged : List Id) (rows left : List Row)
         → Reaches first w deleted acknowledged → w.history.committed ≡ Some rows → BeginsWith rows left
-        → KeysApart left → Reaches left (newborn_with settings (Some left)) [] acknowledged
+        → KeysApart left → Reaches left (newborn_with settings (columns, Some left)) [] acknowledged
 
   -- the rows that are committed then: no id is there twice, and each id that was acknowledged is there or gone
   pub record AreSettled (w : Standing Kept) (acknowledged : List Id) : Type 0 where
@@ -55,6 +56,6 @@ module _ (settings : Settings) (gone : List Id) where
 
 -- the law
 abbrev pub AcknowledgedIsARow : Type 0
-AcknowledgedIsARow = (settings : Settings) (gone : List Id) (first : List Row) (w : Standing Kept)
-    (deleted acknowledged : List Id) → Reaches settings gone first w deleted acknowledged
-    → AreSettled settings gone w acknowledged
+AcknowledgedIsARow = (settings : Settings) (columns : List Column) (gone : List Id) (first : List Row) (w : Standing Kept)
+    (deleted acknowledged : List Id) → Reaches settings columns gone first w deleted acknowledged
+    → AreSettled settings columns gone w acknowledged

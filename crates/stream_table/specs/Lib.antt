@@ -1,5 +1,7 @@
 -- What the contracts speak of.
 pub mod Fields
+pub mod Cells
+pub mod Reasons
 pub mod Kept
 pub mod Lived
 pub mod Acknowledged

@@ -1,8 +1,10 @@
 -- The rounds of a worker whose handler keeps rows, as rounds of its life.
-use Rattle.std.specs.Prelude.{◌≡◌, ◌⊎◌, List, [], ◌++◌, Option}
+use Rattle.std.specs.Prelude.{◌≡◌, List, [], ◌++◌}
 use Rattle.redis_connection.specs.Link.{Link}
-use Rattle.row_table.specs.Rows.{Row}
 use Rattle.stream_group.specs.Worker.{Id, start}
+use Rattle.stream_loop.specs.Loop.{Loops, Stops, Drains}
+use Rattle.stream_loop.specs.Shown.{Way, with_doings}
+use Rattle.stream_loop.specs.Shown as loops
 use Rattle.stream_worker.specs.Gathered.{Doings}
 use Rattle.stream_worker.specs.Life.{Lives}
 use Rattle.stream_worker.specs.Session.{Standing, Turned, Fails}
@@ -11,46 +13,38 @@ use Rattle.stream_worker.specs.declared.state.Asked.{Asked}
 use Rattle.stream_worker.specs.declared.state.Asked.TheVariants.{Nothing}
 use Rattle.stream_worker.specs.declared.state.GroupState.TheVariants.{Unknown}
 use Rattle.stream_worker.specs.declared.state.Settings.{Settings}
-use Rattle.stream_worker.specs.declared.worker.Progress.{Progress}
-use Rattle.stream_table.specs.Kept.{Kept, committed_with, kept_of, kept_too}
-
--- where a worker stands, with these doings of its handler in place of the rows
-abbrev pub with_doings : Standing Kept → Doings → Standing Doings
-with_doings w d = record { machine = w.machine; group = w.group; asked = w.asked; history = d }
+use Rattle.stream_worker.specs.declared.worker.Progress.TheVariants.{GoesOn, Stopped}
+use Rattle.stream_table.specs.Kept.{Beginning, Kept, committed_with, kept_of, kept_too}
 
 -- it stands so in its life, with these ids of deleted entries, if its handler did something of which the rows are what
 -- is gathered, and what is committed after what was there first
-pub record LivesSo (settings : Settings) (first : Option (List Row)) (w : Standing Kept) (deleted : List Id) : Type 0 where
+pub record LivesSo (settings : Settings) (first : Beginning) (w : Standing Kept) (deleted : List Id) : Type 0 where
   pub doings : Doings
   pub lives : Lives settings (with_doings w doings) deleted
   pub kept : w.history ≡ kept_of first doings
 
--- and so on, after some more entries were deleted
-abbrev pub LivesOnSo : Settings → Option (List Row) → Standing Kept → List Id → Type 0
-LivesOnSo settings first w deleted = (more : List Id) × LivesSo settings first w (deleted ++ more)
-
--- wherever it lives so at first, it lives on so in the end
-abbrev pub LivesFrom : Settings → Standing Kept → Standing Kept → Type 0
-LivesFrom settings w x = (first : Option (List Row)) (deleted : List Id)
-    → LivesSo settings first w deleted → LivesOnSo settings first x deleted
-
 -- a new worker, whose handler has gathered nothing, with these rows in its table
-abbrev pub newborn_with : Settings → Option (List Row) → Standing Kept
+abbrev pub newborn_with : Settings → Beginning → Standing Kept
 newborn_with settings first = record {
   machine = start settings.every;
   group = Unknown;
   asked = Nothing;
-  history = record { loose = []; committed = first };
+  history = record { columns = first.0; loose = []; committed = first.1 };
 }
 
--- a round was made, or one failed
-abbrev pub Steps : Settings → Standing Kept → Standing Kept → Type 0
-Steps settings w x = (old : Link) × (new : Link)
-    × (((q : Asked) × (p : Progress) × Turned kept_too committed_with settings old new w x q p)
-    ⊎ ((e : RunError) × Fails kept_too committed_with settings old new w x e))
+-- if what is kept are the rows of some doings, this way leads to what is kept then, the rows of more doings
+abbrev pub Leads : Way → Link → Link → Standing Kept → Standing Kept → Type 0
+Leads way old new w x = loops.Leads kept_of way old new w x
 
--- the law: so a worker begins; and where it lives so it lives on so, after a round that goes on and after one that fails
-abbrev pub RoundsAreLived : Type 0
-RoundsAreLived = (settings : Settings)
-    → ((first : Option (List Row)) → LivesSo settings first (newborn_with settings first) [])
-    × ((w x : Standing Kept) → Steps settings w x → LivesFrom settings w x)
+-- the law: so a worker begins; each round is such a way; and where it lives at first it lives after such rounds, where
+-- just those entries were deleted meanwhile of which the replies in these rounds said so
+pub record RoundsAreLived : Type 0 where
+  pub begins : (settings : Settings) (first : Beginning) → LivesSo settings first (newborn_with settings first) []
+  pub goes_on : (settings : Settings) (old new : Link) (w x : Standing Kept) (asked : Asked)
+      → Turned kept_too committed_with settings old new w x asked GoesOn → Leads (Loops settings) old new w x
+  pub stops : (settings : Settings) (old new : Link) (w x : Standing Kept) (asked : Asked)
+      → Turned kept_too committed_with settings old new w x asked Stopped → Leads (Stops settings) old new w x
+  pub fails : (settings : Settings) (old new : Link) (w x : Standing Kept) (e : RunError)
+      → Fails kept_too committed_with settings old new w x e → Leads (Stops settings) old new w x
+  pub lives : (settings : Settings) (old new : Link) (v y : Standing Doings) (deleted told : List Id)
+      → Lives settings v deleted → Drains settings old v new y told → Lives settings y (deleted ++ told)

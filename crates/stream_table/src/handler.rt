@@ -1,14 +1,15 @@
 //! Entries as rows of a table.
-ghost use Rattle.std.specs.Prelude.{◌≡◌, ◌++◌, ◌∷◌, [], ◌^◌, ◌<◌, ℕ, List, IfOk, OnErr, OnOk};
+ghost use Rattle.std.specs.Prelude.{◌≡◌, ◌++◌, ◌∷◌, [], ◌^◌, ◌<◌, ℕ, List, IfErr, IfOk, OnErr, OnOk};
 ghost use Rattle.row_table.specs.OfRow.{row_of, rows_of};
 ghost use Rattle.row_table.specs.Rows.{AreKnown, LeavesJust, LeavesOldOr, with_known};
 ghost use Rattle.stream_table.specs.Kept.{Kept, committed_with, kept_by, kept_too, row_in};
+ghost use Rattle.stream_table.specs.Reasons.{IsFaultOf};
 ghost use Rattle.stream_worker.specs.Handling.{pair_of, verdict_of};
 
-use crate::fields::fields_text;
-use row_table::{Row, Table, TableError, put_all};
-use std::alloc::{AllocError, Global};
-use stream_refs::StreamIdParts;
+use crate::columns::{CellsError, entry_cells};
+use row_table::{Column, Row, Table, TableError, put_all};
+use std::alloc::Global;
+use stream_refs::{FieldError, StreamIdParts};
 use stream_worker::{EntryRef, Handler, NotCommitted, Verdict};
 use thiserror::Error;
 
@@ -16,7 +17,7 @@ use thiserror::Error;
 const KEYS_END: u64 = 1 << 63;
 
 /// Why an entry is no row.
-#[derive(Clone, Copy, Debug, PartialEq, Eq, Drop, Error)]
+#[derive(Debug, Drop, Error)]
 pub enum Fault {
     /// The id is not two numbers of 64 bits.
     #[error("an id is not two numbers")]
@@ -24,23 +25,22 @@ pub enum Fault {
     /// The table refuses.
     #[error("{0}")]
     Table(TableError),
-}
-
-impl From<AllocError> for Fault {
-    ghost use Rattle.stream_table.specs.declared.handler.Fault.TheVariants.{Table};
-    ghost use Rattle.row_table.specs.declared.error.TableError.TheVariants.{Memory};
-
-    ghost from_gives = { λ _ fault. fault ≡ Table Memory };
-
-    fn from(_error: AllocError) -> Fault {
-        Fault::Table(TableError::Memory)
-    }
+    /// The field of this name of this entry has no value for its column.
+    #[error("the field {name} of the entry {first}-{second}: {why}")]
+    Field {
+        first: u64,
+        second: u64,
+        name: String,
+        why: FieldError,
+    },
 }
 
 /// A handler whose entries are rows of a table.
 #[derive(Drop)]
 pub struct Rows<T: Table + Drop> {
     table: T,
+    /// The columns of its rows; if there are none, a row has one text of all fields.
+    columns: Vec<Column>,
     /// The rows of what was done and is not committed.
     loose: Vec<Row>,
     /// How many entries were handed out, how many were done, and how many of them are committed.
@@ -52,13 +52,23 @@ pub struct Rows<T: Table + Drop> {
 }
 
 impl<T: Table + Drop> Rows<T> {
-    /// A handler over this table, which has gathered nothing.
+    /// A handler over this table, which has gathered nothing. A row has one text of all fields.
     pub fn new(alloc: Global, table: T) -> Rows<T>
-        ensures { (result.table ≡ table) × (result.loose.items ≡ [])
+        ensures { (result.table ≡ table) × (result.columns.items ≡ []) × (result.loose.items ≡ [])
+            × (result.seen ≡ 0) × (result.done ≡ 0) × (result.committed ≡ 0) }
+    {
+        Rows::with_columns(alloc, table, Vec::new(alloc))
+    }
+
+    /// The same, where a row has a value in each of these columns. If there are none, it has one text of all
+    /// fields.
+    pub fn with_columns(alloc: Global, table: T, columns: Vec<Column>) -> Rows<T>
+        ensures { (result.table ≡ table) × (result.columns ≡ columns) × (result.loose.items ≡ [])
             × (result.seen ≡ 0) × (result.done ≡ 0) × (result.committed ≡ 0) }
     {
         Rows {
             table,
+            columns,
             loose: Vec::new(alloc),
             seen: 0,
             done: 0,
@@ -77,11 +87,12 @@ impl<T: Table + Drop> Rows<T> {
     /// Gathers the row of an entry.
     fn gather(&mut self, alloc: Global, entry: &EntryRef<'_>) -> Result<(), Fault>
         ensures ok { OnOk result (rows_of self.new.loose.items
-            ≡ rows_of self.old.loose.items ++ row_in (pair_of entry.now) ∷ []) }
+            ≡ rows_of self.old.loose.items ++ row_in self.old.columns.items (pair_of entry.now) ∷ []) }
         ensures err { OnErr result (self.new.loose.items ≡ self.old.loose.items) }
         ensures table { self.new.table ≡ self.old.table }
+        ensures columns { self.new.columns ≡ self.old.columns }
     {
-        let row = row_of_entry(alloc, entry)?;
+        let row = row_of_entry(alloc, &self.columns, entry)?;
         match self.loose.push(row) {
             Ok(()) => Ok(()),
             Err(_) => Err(Fault::Table(TableError::Memory)),
@@ -96,13 +107,14 @@ impl<T: Table + Drop> Handler for Rows<T> {
 
     ghost with_commit = { committed_with };
 
-    ghost history = { λ h. kept_by h.loose.items (T.committed h.table) };
+    ghost history = { λ h. kept_by h.columns.items h.loose.items (T.committed h.table) };
 
     /// Gathers the row of the entry, which is done then; if it cannot, the worker stops.
     fn handle(&mut self, alloc: Global, entry: &EntryRef<'_>) -> Verdict
         ensures history { ⟦<Rows<T> as Handler>⟧.history self.new
             ≡ kept_too (⟦<Rows<T> as Handler>⟧.history self.old) (pair_of entry.now) (verdict_of result) }
         ensures table { self.new.table ≡ self.old.table }
+        ensures columns { self.new.columns ≡ self.old.columns }
     {
         self.seen = self.seen.saturating_add(1);
         match self.gather(alloc, entry) {
@@ -145,9 +157,10 @@ impl<T: Table + Drop> Handler for Rows<T> {
 }
 
 /// The row of an entry. An id of 2^63 milliseconds or more is refused, and so is such a sequence number.
-fn row_of_entry(alloc: Global, entry: &EntryRef<'_>) -> Result<Row, Fault>
-    ensures row { IfOk result (λ row. row_of row ≡ row_in (pair_of entry.now)) }
+fn row_of_entry(alloc: Global, columns: &[Column], entry: &EntryRef<'_>) -> Result<Row, Fault>
+    ensures row { IfOk result (λ row. row_of row ≡ row_in columns.now (pair_of entry.now)) }
     ensures small { IfOk result (λ row. (row.first < 2 ^ 63) × (row.second < 2 ^ 63)) }
+    ensures why { IfErr result (IsFaultOf columns.now (pair_of entry.now)) }
 {
     let Some(StreamIdParts { ms, seq }) = StreamIdParts::parse(entry.id().as_bytes()) else {
         return Err(Fault::NotAnId);
@@ -158,9 +171,18 @@ fn row_of_entry(alloc: Global, entry: &EntryRef<'_>) -> Result<Row, Fault>
             second: seq,
         }));
     }
-    Ok(Row {
-        first: ms,
-        second: seq,
-        text: fields_text(alloc, entry.fields())?,
-    })
+    match entry_cells(alloc, columns, entry) {
+        Ok(cells) => Ok(Row {
+            first: ms,
+            second: seq,
+            cells,
+        }),
+        Err(CellsError::Memory) => Err(Fault::Table(TableError::Memory)),
+        Err(CellsError::Field(name, why)) => Err(Fault::Field {
+            first: ms,
+            second: seq,
+            name,
+            why,
+        }),
+    }
 }

@@ -11,7 +11,8 @@ pub fn gathers_its_rows()
 {}
 
 /// Each round over the rows is a round of a worker's life, in which some entries were done and the rows of those
-/// that are not committed are what is gathered. So the laws of `stream_worker` hold of it: before an id is
+/// that are not committed are what is gathered. Of deleted entries there are just those that replies in its
+/// rounds told. So the laws of `stream_worker` hold of it: before an id is
 /// acknowledged its entry was done and that was committed, or the server said that it was deleted.
 pub fn rounds_are_lived()
     ensures { RoundsAreLived }

@@ -1,0 +1,45 @@
+-- Why an entry is no row.
+use Rattle.std.specs.Prelude.{◌≡◌, ◌<◌, ◌≤◌, ◌^◌, ◌⊎◌, ℕ, List, length, get_or, None, Result, Err, string_bytes}
+use Rattle.row_table.specs.Rows.{Cell}
+use Rattle.row_table.specs.declared.cell.Column.{Column}
+use Rattle.row_table.specs.declared.error.TableError.TheVariants.{Memory, KeyTooLarge, OtherText, Refused}
+use Rattle.stream_group.specs.Worker.{Entry}
+use Rattle.stream_refs.specs.IdParts.{id_in}
+use Rattle.stream_refs.specs.Sent.{Pairs}
+use Rattle.stream_refs.specs.declared.field_value.FieldError.{FieldError}
+use Rattle.stream_table.specs.Cells.{cell_read}
+use Rattle.stream_table.specs.declared.columns.CellsError.{CellsError}
+use Rattle.stream_table.specs.declared.columns.CellsError.TheVariants as cells
+use Rattle.stream_table.specs.Kept.{key_in}
+use Rattle.stream_table.specs.declared.handler.Fault.{Fault}
+use Rattle.stream_table.specs.declared.handler.Fault.TheVariants as faults
+use Rattle.stream_table.specs.declared.columns.ReadError.{ReadError}
+use Rattle.stream_table.specs.declared.columns.ReadError.TheVariants as reading
+
+-- memory ran out, or it is what the reading says
+abbrev pub IsWhy : Result Cell FieldError → ReadError → Type 0
+IsWhy read reading.Memory = Unit {0}
+IsWhy read (reading.Field why) = read ≡ Err why
+
+-- memory ran out, or the field of this column is not read for this reason, and it has this name
+abbrev pub IsWhyOf : Column → Pairs → CellsError → Type 0
+IsWhyOf c fields cells.Memory = Unit {0}
+IsWhyOf c fields (cells.Field name why) = (string_bytes name ≡ string_bytes c.name) × (cell_read c fields ≡ Err why)
+
+-- so it is with one of these columns
+abbrev pub IsWhyOfOne : List Column → Pairs → CellsError → Type 0
+IsWhyOfOne columns fields cells.Memory = Unit {0}
+IsWhyOfOne columns fields (cells.Field name why) = (i : ℕ) × (c : Column) × (i < length columns) × (c ≡ get_or columns i c)
+    × (string_bytes name ≡ string_bytes c.name) × (cell_read c fields ≡ Err why)
+
+-- why an entry with these columns is no row: its id is not two numbers, it is too large for a table, memory ran out, or
+-- the field of a column is not read
+abbrev pub IsFaultOf : List Column → Entry Pairs → Fault → Type 0
+IsFaultOf columns e faults.NotAnId = id_in e.0 ≡ None
+IsFaultOf columns e (faults.Table Memory) = Unit {0}
+IsFaultOf columns e (faults.Table (KeyTooLarge first second)) =
+    (key_in e.0 ≡ (first, second)) × ((2 ^ 63 ≤ first) ⊎ (2 ^ 63 ≤ second))
+IsFaultOf columns e (faults.Table (OtherText first second)) = ⊥
+IsFaultOf columns e (faults.Table (Refused why)) = ⊥
+IsFaultOf columns e (faults.Field first second name why) =
+    (key_in e.0 ≡ (first, second)) × IsWhyOfOne columns e.1 (cells.Field name why)
