@@ -1,6 +1,7 @@
 //! The loop of the program: it asks, and takes the answers.
-ghost use Rattle.std.specs.Prelude.{◌≡◌, IfOk, IsTrue};
-ghost use Rattle.stream_table.specs.Lived.{LivesFrom};
+ghost use Rattle.std.specs.Prelude.{◌≡◌, IfOk, IsTrue, OnErr, OnOk};
+ghost use Rattle.stream_loop.specs.Loop.{Loops, Stops};
+ghost use Rattle.stream_table.specs.Lived.{Leads};
 ghost use Rattle.stream_worker.specs.Session.{standing_of};
 
 use crate::report::Report;
@@ -10,6 +11,7 @@ use redis_wire::Fault as WireFault;
 use row_table::Table;
 use std::alloc::Global;
 use std::io::{Read, Write};
+use stream_refs::FieldError;
 use stream_table::{Fault, Rows};
 use stream_worker::{Asked, Handler, Pipelined, Progress, RequestError, RunError, Worker};
 
@@ -26,9 +28,12 @@ pub fn drain<R: Read + Drop, W: Write + Drop, T: Table + Drop>(
     until_empty: bool,
 ) -> Result<()>
     ensures ended { IfOk result (λ _. IsTrue until_empty) }
-    ensures lives { LivesFrom worker.old.settings
+    ensures ok { OnOk result (Leads (Loops worker.old.settings) connection.old connection.new
         (standing_of worker.old (⟦<Rows<T> as Handler>⟧.history rows.old))
-        (standing_of worker.new (⟦<Rows<T> as Handler>⟧.history rows.new)) }
+        (standing_of worker.new (⟦<Rows<T> as Handler>⟧.history rows.new))) }
+    ensures err { OnErr result (Leads (Stops worker.old.settings) connection.old connection.new
+        (standing_of worker.old (⟦<Rows<T> as Handler>⟧.history rows.old))
+        (standing_of worker.new (⟦<Rows<T> as Handler>⟧.history rows.new))) }
 {
     for _ in 0..u64::MAX {
         let seen = rows.seen;
@@ -49,9 +54,12 @@ fn turn<R: Read + Drop, W: Write + Drop, T: Table + Drop>(
     report: &mut Report,
 ) -> Result<Asked>
     ensures settings { worker.new.settings ≡ worker.old.settings }
-    ensures lives { LivesFrom worker.old.settings
+    ensures ok { OnOk result (Leads (Loops worker.old.settings) connection.old connection.new
         (standing_of worker.old (⟦<Rows<T> as Handler>⟧.history rows.old))
-        (standing_of worker.new (⟦<Rows<T> as Handler>⟧.history rows.new)) }
+        (standing_of worker.new (⟦<Rows<T> as Handler>⟧.history rows.new))) }
+    ensures err { OnErr result (Leads (Stops worker.old.settings) connection.old connection.new
+        (standing_of worker.old (⟦<Rows<T> as Handler>⟧.history rows.old))
+        (standing_of worker.new (⟦<Rows<T> as Handler>⟧.history rows.new))) }
 {
     let made = round(alloc, connection, worker, rows)?;
     if made.acknowledged || made.round.asked == Asked::Acknowledgement {
@@ -68,16 +76,30 @@ fn round<R: Read + Drop, W: Write + Drop, T: Table + Drop>(
     rows: &mut Rows<T>,
 ) -> Result<Pipelined>
     ensures settings { worker.new.settings ≡ worker.old.settings }
-    ensures lives { LivesFrom worker.old.settings
+    ensures ok { OnOk result (Leads (Loops worker.old.settings) connection.old connection.new
         (standing_of worker.old (⟦<Rows<T> as Handler>⟧.history rows.old))
-        (standing_of worker.new (⟦<Rows<T> as Handler>⟧.history rows.new)) }
+        (standing_of worker.new (⟦<Rows<T> as Handler>⟧.history rows.new))) }
+    ensures err { OnErr result (Leads (Stops worker.old.settings) connection.old connection.new
+        (standing_of worker.old (⟦<Rows<T> as Handler>⟧.history rows.old))
+        (standing_of worker.new (⟦<Rows<T> as Handler>⟧.history rows.new))) }
 {
     match worker.round_pipelined(alloc, connection, rows) {
-        Ok(made) => match made.round.progress {
-            Progress::GoesOn => Ok(made),
-            Progress::Stopped => Err(stopped(&rows.fault)),
-        },
+        Ok(made) => {
+            goes_on(made.round.progress, &rows.fault)?;
+            Ok(made)
+        }
         Err(error) => Err(broken_off(error, &rows.fault)),
+    }
+}
+
+// An error if the handler said to stop.
+fn goes_on(progress: Progress, fault: &Option<Fault>) -> Result<()>
+    ensures ok { OnOk result (progress ≡ Progress.GoesOn) }
+    ensures err { OnErr result (progress ≡ Progress.Stopped) }
+{
+    match progress {
+        Progress::GoesOn => Ok(()),
+        Progress::Stopped => Err(stopped(fault)),
     }
 }
 
@@ -106,7 +128,27 @@ fn not_committed(fault: &Option<Fault>) -> Error {
 // Why an entry was not done.
 fn stopped(fault: &Option<Fault>) -> Error {
     match fault {
+        Some(
+            Fault::Field {
+                first,
+                second,
+                name,
+                why,
+            },
+        ) => anyhow!(
+            "cannot make a row: the field {name} of {first}-{second} {}",
+            lack(*why)
+        ),
         Some(reason) => anyhow!("cannot make a row: {reason}"),
         None => anyhow!("an entry was not written"),
+    }
+}
+
+// What a field is or is not.
+fn lack(why: FieldError) -> &'static str {
+    match why {
+        FieldError::Missing => "is missing",
+        FieldError::NotText => "is not a text in UTF-8",
+        FieldError::NotNumber => "is not an integer of 64 bits",
     }
 }

@@ -6,8 +6,9 @@
 //! ```
 //!
 //! Each entry is a row of the table `entries`: `milliseconds` and `sequence` are its id, and `fields` is a text
-//! of JSON, `[["name","value"],..]`. A batch is one transaction, and its entries are acknowledged after that was
-//! committed. An entry whose id is in the table already is left out if its fields are the same, and else the
+//! of JSON, `[["name","value"],..]`. With `--table NAME` it is a row of another table, and with
+//! `--columns item:text,pieces:integer,photo:blob?` it has the fields of these names in place of that text.
+//! A batch is one transaction, and its entries are acknowledged after that was committed. An entry whose id is in the table already is left out if its fields are the same, and else the
 //! program ends with an error.
 //!
 //! At the end it says on standard error what it did. It ends with 0 if `--until-empty` is there and nothing new
@@ -19,14 +20,14 @@ mod options;
 mod report;
 
 use crate::drain::drain;
-use crate::options::{Options, options_of};
+use crate::options::{Options, TABLE, options_of};
 use crate::report::Report;
-use anyhow::{Context, Error, Result};
+use anyhow::{Context, Error, Result, anyhow};
 use redis_connection::Connection;
 use redis_wire::Limits;
-use row_table::TableError;
+use row_table::{Column, Kind, TableError};
 use sqlite::{File, FileStore};
-use sqlite_rows::SqliteTable;
+use sqlite_rows::{Form, OpenError, SqliteTable};
 use std::alloc::{AllocError, Global};
 use std::{env, io};
 use stream_table::Rows;
@@ -56,11 +57,16 @@ fn masked_text(alloc: Global, error: &Error) -> Result<Option<String>, AllocErro
     if !text.chars().any(char::is_control) {
         return Ok(None);
     }
+    Ok(Some(shown(alloc, &text)?))
+}
+
+// A text, in which each control character is `?`.
+fn shown(alloc: Global, text: &str) -> Result<String, AllocError> {
     let mut shown = String::new(alloc);
     for letter in text.chars() {
         shown.push(if letter.is_control() { '?' } else { letter })?;
     }
-    Ok(Some(shown))
+    Ok(shown)
 }
 
 // The words that the program is called with.
@@ -77,10 +83,13 @@ fn drain_by(rt: &HostRuntime, options: Options) -> Result<()> {
     let Options {
         settings,
         path,
+        table,
+        columns,
         until_empty,
     } = options;
     let alloc = rt.alloc();
-    let mut rows = Rows::new(alloc, table_at(rt, &path)?);
+    let opened = table_at(rt, &path, form_of(alloc, &table, &columns)?)?;
+    let mut rows = Rows::with_columns(alloc, opened, columns);
     let mut connection = Connection::new(alloc, rt.reader(), io::writer(rt), Limits::default())?;
     let mut worker = Worker::new(alloc, settings);
     let mut report = Report::new();
@@ -98,7 +107,39 @@ fn drain_by(rt: &HostRuntime, options: Options) -> Result<()> {
     closed.context(format_args!("cannot close {path}"))
 }
 
+// The statements of a table of this name with these columns, or, if there are none, with one text.
+fn form_of(alloc: Global, table: &str, columns: &[Column]) -> Result<Form> {
+    if !columns.is_empty() {
+        return Ok(Form::of(alloc, table, columns)?);
+    }
+    if table == TABLE {
+        return Ok(Form::usual(alloc)?);
+    }
+    let mut fields = Vec::new(alloc);
+    fields.push(Column {
+        name: String::from_str(alloc, "fields")?,
+        kind: Kind::Text,
+        optional: false,
+    })?;
+    Ok(Form::of(alloc, table, &fields)?)
+}
+
 // The table in the file of this path.
-fn table_at(rt: &HostRuntime, path: &str) -> Result<SqliteTable<FileStore<File>>> {
-    SqliteTable::open(rt, path).context(format_args!("cannot open {path}"))
+fn table_at(rt: &HostRuntime, path: &str, form: Form) -> Result<SqliteTable<FileStore<File>>> {
+    let name = form.name.clone()?;
+    let wanted = form.create.clone()?;
+    match SqliteTable::open(rt, path, form) {
+        Ok(table) => Ok(table),
+        Err(OpenError::Table(error)) => {
+            let failed: std::result::Result<SqliteTable<FileStore<File>>, TableError> = Err(error);
+            failed.context(format_args!("cannot open {path}"))
+        }
+        Err(OpenError::Another(there)) => {
+            eprintln!(rt; "there: {}", shown(rt.alloc(), &there)?)?;
+            eprintln!(rt; "wanted: {}", shown(rt.alloc(), &wanted)?)?;
+            Err(anyhow!("its table `{name}` is another one")).context(format_args!(
+                "cannot open {path}"
+            ))
+        }
+    }
 }

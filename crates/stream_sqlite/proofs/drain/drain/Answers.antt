@@ -1,46 +1,75 @@
 use Rattle.std.proofs.Common.{◌∙◌, refl, subst, List, Option}
 use Rattle.row_table.specs.Rows.{Row}
+use Rattle.row_table.specs.declared.cell.Column.{Column}
 use Rattle.row_table.specs.declared.row.Row as memory
 use Rattle.stream_worker.specs.Session.{Standing, standing_of}
 use Rattle.stream_worker.specs.declared.state.Settings.{Settings}
 use Rattle.stream_worker.specs.declared.worker.Worker.{Worker}
-use Rattle.stream_table.specs.Lived.{LivesFrom}
+use Rattle.stream_loop.specs.Loop.{Loops, Stops}
+use Rattle.stream_table.specs.Lived.{Leads}
 use Rattle.stream_table.specs.Kept.{Kept, kept_by}
-use Rattle.stream_table.proofs.LivedLemmas.{from_both, from_same}
+use Rattle.stream_table.proofs.LivedLemmas.{leads_both, leads_end, leads_same, leads_stop}
+use Rattle.stream_letters.proofs.DeadLemmas.{on_err}
 use Rattle.stream_sqlite.proofs.drain.drain.Goals as goal
 
 -- where a worker stands, with what its handler keeps
-abbrev stands : Worker → List memory.Row → Option (List Row) → Standing Kept
-stands w loose known = standing_of w (kept_by loose known)
+abbrev stands : Worker → List Column → List memory.Row → Option (List Row) → Standing Kept
+stands w columns loose known = standing_of w (kept_by columns loose known)
 
-pub returns-in_err-asked-clause-lives : goal.returns-in_err-asked-clause-lives
-returns-in_err-asked-clause-lives g c =
-    let w = stands c.args.worker.now c.args.rows.now.loose.items (g.T.Table.committed c.args.rows.now.table) in
-    let x = stands c.loop.worker c.loop.rows.loose.items (g.T.Table.committed c.loop.rows.table) in
-    let y = stands c.turn.new.worker c.turn.new.rows.loose.items (g.T.Table.committed c.turn.new.rows.table) in
-    from_both c.args.worker.now.settings w x y c.loop.invariant.lives
-    (subst (λ (s : Settings). LivesFrom s x y) c.loop.invariant.settings c.turn.ensures.lives)
+pub returns-in_err-asked-clause-err : goal.returns-in_err-asked-clause-err
+returns-in_err-asked-clause-err g c =
+    let settings = c.args.worker.now.settings in
+    let w = stands c.args.worker.now c.args.rows.now.columns.items c.args.rows.now.loose.items
+    (g.T.Table.committed c.args.rows.now.table) in
+    let x = stands c.loop.worker c.loop.rows.columns.items c.loop.rows.loose.items
+    (g.T.Table.committed c.loop.rows.table) in
+    let y = stands c.turn.new.worker c.turn.new.rows.columns.items c.turn.new.rows.loose.items
+    (g.T.Table.committed c.turn.new.rows.table) in
+    on_err c.from_residual.result
+    (leads_stop settings c.args.connection.now c.loop.connection c.turn.new.connection w x y c.loop.invariant.leads
+    (subst (λ (s : Settings). Leads (Stops s) c.loop.connection c.turn.new.connection x y)
+    c.loop.invariant.settings c.in_err-asked.ensures.err))
 
-pub returns-then-rows-seen-clause-lives : goal.returns-then-rows-seen-clause-lives
-returns-then-rows-seen-clause-lives g c =
-    let w = stands c.args.worker.now c.args.rows.now.loose.items (g.T.Table.committed c.args.rows.now.table) in
-    let x = stands c.loop.worker c.loop.rows.loose.items (g.T.Table.committed c.loop.rows.table) in
-    let y = stands c.turn.new.worker c.turn.new.rows.loose.items (g.T.Table.committed c.turn.new.rows.table) in
-    from_both c.args.worker.now.settings w x y c.loop.invariant.lives
-    (subst (λ (s : Settings). LivesFrom s x y) c.loop.invariant.settings c.turn.ensures.lives)
+pub returns-then-rows-seen-clause-ok : goal.returns-then-rows-seen-clause-ok
+returns-then-rows-seen-clause-ok g c =
+    let settings = c.args.worker.now.settings in
+    let w = stands c.args.worker.now c.args.rows.now.columns.items c.args.rows.now.loose.items
+    (g.T.Table.committed c.args.rows.now.table) in
+    let x = stands c.loop.worker c.loop.rows.columns.items c.loop.rows.loose.items
+    (g.T.Table.committed c.loop.rows.table) in
+    let y = stands c.turn.new.worker c.turn.new.rows.columns.items c.turn.new.rows.loose.items
+    (g.T.Table.committed c.turn.new.rows.table) in
+    leads_both settings c.args.connection.now c.loop.connection c.turn.new.connection w x y c.loop.invariant.leads
+    (subst (λ (s : Settings). Leads (Loops s) c.loop.connection c.turn.new.connection x y)
+    c.loop.invariant.settings c.in_ok-asked.ensures.ok)
+
+pub returns-clause-err : goal.returns-clause-err
+returns-clause-err g c =
+    let w = stands c.args.worker.now c.args.rows.now.columns.items c.args.rows.now.loose.items
+    (g.T.Table.committed c.args.rows.now.table) in
+    let x = stands c.loop.worker c.loop.rows.columns.items c.loop.rows.loose.items
+    (g.T.Table.committed c.loop.rows.table) in
+    leads_end c.args.worker.now.settings c.args.connection.now c.loop.connection w x c.loop.invariant.leads
 
 pub loop-init : goal.loop-init
 loop-init g c =
-    let w = stands c.args.worker.now c.args.rows.now.loose.items (g.T.Table.committed c.args.rows.now.table) in
-    record { settings = refl; lives = from_same c.args.worker.now.settings w }
+    let w = stands c.args.worker.now c.args.rows.now.columns.items c.args.rows.now.loose.items
+    (g.T.Table.committed c.args.rows.now.table) in
+    record { settings = refl; leads = leads_same c.args.worker.now.settings c.args.connection.now w }
 
 pub loop-preserved : goal.loop-preserved
 loop-preserved g c =
-    let w = stands c.args.worker.now c.args.rows.now.loose.items (g.T.Table.committed c.args.rows.now.table) in
-    let x = stands c.loop.worker c.loop.rows.loose.items (g.T.Table.committed c.loop.rows.table) in
-    let y = stands c.turn.new.worker c.turn.new.rows.loose.items (g.T.Table.committed c.turn.new.rows.table) in
+    let settings = c.args.worker.now.settings in
+    let w = stands c.args.worker.now c.args.rows.now.columns.items c.args.rows.now.loose.items
+    (g.T.Table.committed c.args.rows.now.table) in
+    let x = stands c.loop.worker c.loop.rows.columns.items c.loop.rows.loose.items
+    (g.T.Table.committed c.loop.rows.table) in
+    let y = stands c.turn.new.worker c.turn.new.rows.columns.items c.turn.new.rows.loose.items
+    (g.T.Table.committed c.turn.new.rows.table) in
     record {
       settings = c.turn.ensures.settings ∙ c.loop.invariant.settings;
-      lives = from_both c.args.worker.now.settings w x y c.loop.invariant.lives
-          (subst (λ (s : Settings). LivesFrom s x y) c.loop.invariant.settings c.turn.ensures.lives);
+      leads = leads_both settings c.args.connection.now c.loop.connection c.turn.new.connection w x y
+          c.loop.invariant.leads
+          (subst (λ (s : Settings). Leads (Loops s) c.loop.connection c.turn.new.connection x y)
+          c.loop.invariant.settings c.in_ok-asked.ensures.ok);
     }

@@ -1,15 +1,16 @@
 use Rattle.std.proofs.Common.{◌≡◌}
-use Rattle.row_table.specs.OfRow.{rows_of}
 use Rattle.stream_worker.specs.Session.{standing_of}
-use Rattle.stream_table.specs.Lived.{LivesFrom}
+use Rattle.stream_loop.specs.Loop.{Loops}
+use Rattle.stream_table.specs.Lived.{Leads}
 use Rattle.stream_table.specs.Kept.{kept_by}
 use Rattle.stream_sqlite.proofs.drain.drain.Given as goal
 
--- wherever the worker lived so at first, it lives on so now
+-- the rounds so far lead from where the worker was to where it is
 abbrev pub invariant-loop : goal.invariant-loop
 invariant-loop g l = record {
   settings : l.worker.settings ≡ l.fn.worker.settings;
-  lives : LivesFrom l.fn.worker.settings
-      (standing_of l.fn.worker (kept_by l.fn.rows.loose.items (g.T.Table.committed l.fn.rows.table)))
-      (standing_of l.worker (kept_by l.rows.loose.items (g.T.Table.committed l.rows.table)));
+  leads : Leads (Loops l.fn.worker.settings) l.fn.connection l.connection
+      (standing_of l.fn.worker (kept_by l.fn.rows.columns.items l.fn.rows.loose.items
+      (g.T.Table.committed l.fn.rows.table)))
+      (standing_of l.worker (kept_by l.rows.columns.items l.rows.loose.items (g.T.Table.committed l.rows.table)));
 }
