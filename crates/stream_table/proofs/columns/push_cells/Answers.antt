@@ -1,12 +1,11 @@
-use Rattle.std.proofs.Common.{◌∙◌, ap}
-use Rattle.row_table.specs.OfRow.{cells_of}
+use Rattle.std.proofs.lemmas.Result.{err_from_is_err_and}
 use Rattle.stream_refs.specs.Copied.{pairs_or_none}
-use Rattle.stream_table.proofs.CellsLemmas.{one_more}
+use Rattle.stream_table.proofs.CellsLemmas.{one_of}
 use Rattle.stream_table.proofs.columns.push_cells.Goals as goal
 
-pub loop-column-preserved : goal.loop-column-preserved
-loop-column-preserved c =
-    ap cells_of c.in_ok-push.ensures.items
-    ∙ one_more (pairs_or_none c.args.entry.now.fields) c.args.cells.now.items c.loop-column.cells.items
-    c.in_ok-column_cell.field-0 c.args.columns.now c.loop-column.column-index c.column-item.result
-    c.loop-column-test.true c.column-item.is c.loop-column.invariant c.in_ok-column_cell.ensures.ok
+pub returns-in_err-column_cell-clause-err : goal.returns-in_err-column_cell-clause-err
+returns-in_err-column_cell-clause-err c =
+    let p = err_from_is_err_and c.from_residual.result c.from_residual.ensures.1 in
+    rw (p.1, p.2)
+    (one_of (pairs_or_none c.args.entry.now.fields) c.args.columns.now c.loop-column.column-index c.column-item.result
+    c.in_err-column_cell.field-0.0 c.loop-column-test.true c.column-item.is c.in_err-column_cell.ensures.err)
