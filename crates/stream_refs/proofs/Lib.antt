@@ -15,6 +15,7 @@ pub mod ReadLemmas
 pub mod IdLemmas
 pub mod AutoClaimLemmas
 pub mod BeginLemmas
+pub mod ShortLemmas
 pub mod CountLemmas
 pub mod ShapeLemmas
 pub mod ShapeStreamLemmas

@@ -18,6 +18,7 @@ mod places;
 mod room;
 mod rows;
 mod sent;
+mod short;
 mod stream_list;
 mod streams;
 mod tape;

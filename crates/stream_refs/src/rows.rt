@@ -12,8 +12,9 @@ ghost use Rattle.stream_refs.specs.Shapes.{AllowsRows, IsPair, ArePairs, IsOfFor
 
 use crate::places::{EntryPlace, FieldPlace};
 use crate::room::Places;
+use crate::short::{bulk_at, count_at};
 use redis_wire::Limits;
-use redis_wire::place::{Span, array_at, int_at, nil_at, text_at};
+use redis_wire::place::{Span, int_at, nil_at};
 
 /// The text that stands there.
 #[inline(always)]
@@ -46,7 +47,7 @@ pub fn name_at(limits: Limits, bytes: &[u8], at: usize) -> Option<(Span, usize)>
         → is_utf8 text ≡ true
         → IsSomeAnd result (λ x. (text_in bytes.now x.0 ≡ text) × EndsBefore bytes.now rest x.1) }
 {
-    let (span, after) = text_at(limits, bytes, at)?;
+    let (span, after) = bulk_at(limits, bytes, at)?;
     if is_text(text_in(bytes, span)) {
         Some((span, after))
     } else {
@@ -76,10 +77,10 @@ fn add_fields<P: Places>(
 {
     let mut behind = at;
     for _ in 0..count {
-        let Some((name, after)) = text_at(limits, bytes, behind) else {
+        let Some((name, after)) = bulk_at(limits, bytes, behind) else {
             return Ok(None);
         };
-        let Some((value, after)) = text_at(limits, bytes, after) else {
+        let Some((value, after)) = bulk_at(limits, bytes, after) else {
             return Ok(None);
         };
         places.push_field(FieldPlace { name, value })?;
@@ -110,7 +111,7 @@ fn add_own_fields<P: Places>(
         → FieldsFit (P.lent places.old) (length (P.held places.old).fields + length (fields_of fs)) → IsOk result }
     ensures kept { P.lent places.new ≡ P.lent places.old }
 {
-    let Some((members, behind)) = array_at(limits, bytes, at) else {
+    let Some((members, behind)) = count_at(limits, bytes, at) else {
         return match nil_at(limits, bytes, at) {
             None => Ok(None),
             Some(after) => Ok(Some((true, after))),
@@ -171,7 +172,7 @@ fn add_entry<P: Places>(
         → IsOk result }
     ensures kept { P.lent places.new ≡ P.lent places.old }
 {
-    let Some((members, behind)) = array_at(limits, bytes, at) else {
+    let Some((members, behind)) = count_at(limits, bytes, at) else {
         return Ok(None);
     };
     if members != row_len(claim) {

@@ -18,16 +18,16 @@ loop-init g c = record {
 pub loop-preserved : goal.loop-preserved
 loop-preserved g c = record {
   added = fields_more c.args.limits c.args.bytes.now c.args.at
-      (g.P.Places.held c.args.places.now) c.loop.counter c.loop.behind c.in-Some.after c.in-Some-text_at.after _
+      (g.P.Places.held c.args.places.now) c.loop.counter c.loop.behind c.in-Some.after c.in-Some-bulk_at.after _
       (g.P.Places.held c.loop.places) (g.P.Places.held c.push_field.new.self)
-      c.loop.invariant.added c.in-Some.ensures.is c.in-Some-text_at.ensures.is
+      c.loop.invariant.added c.in-Some.ensures.is c.in-Some-bulk_at.ensures.is
       c.in_ok-push_field.ensures.holds;
   left = left_more pair_bytes (IsPair c.args.limits) c.args.limits c.args.bytes.now c.args.at c.args.count
-      c.loop.counter c.loop.behind c.loop.invariant.left c.in-Some-text_at.after (omega arith) (λ p rest a h is.
+      c.loop.counter c.loop.behind c.loop.invariant.left c.in-Some-bulk_at.after (omega arith) (λ p rest a h is.
       let name = c.in-Some.ensures.found p.0 (bulk_bytes p.1 ++ rest)
       (text_begins c.args.limits a (drop c.loop.behind c.args.bytes.now) p.0 (bulk_bytes p.1 ++ rest) h.name
       (pair_split p rest (drop c.loop.behind c.args.bytes.now) is)) in
-      (c.in-Some-text_at.ensures.found p.1 rest
+      (c.in-Some-bulk_at.ensures.found p.1 rest
       (text_begins c.args.limits a (drop c.in-Some.after c.args.bytes.now) p.1 rest h.value name.1)).1);
   counted = omega (
     arith,
@@ -56,14 +56,14 @@ returns-in_default-clause-found g c =
     (text_begins c.args.limits a (drop c.loop.behind c.args.bytes.now) p.0 (bulk_bytes p.1 ++ rest) h.name
     (pair_split p rest (drop c.loop.behind c.args.bytes.now) is)))
 
-pub returns-in_default-text_at-clause-found : goal.returns-in_default-text_at-clause-found
-returns-in_default-text_at-clause-found g c =
+pub returns-in_default-bulk_at-clause-found : goal.returns-in_default-bulk_at-clause-found
+returns-in_default-bulk_at-clause-found g c =
     left_none pair_bytes (IsPair c.args.limits) c.args.limits c.args.bytes.now c.args.at c.args.count
     c.loop.counter c.loop.behind c.loop.invariant.left (omega arith) (λ p rest a h is.
     let name = c.in-Some.ensures.found p.0 (bulk_bytes p.1 ++ rest)
     (text_begins c.args.limits a (drop c.loop.behind c.args.bytes.now) p.0 (bulk_bytes p.1 ++ rest) h.name
     (pair_split p rest (drop c.loop.behind c.args.bytes.now) is)) in
-    c.in_default-text_at.ensures.found p.1 rest
+    c.in_default-bulk_at.ensures.found p.1 rest
     (text_begins c.args.limits a (drop c.in-Some.after c.args.bytes.now) p.1 rest h.value name.1))
 
 pub returns-clause-counts : goal.returns-clause-counts

@@ -1,0 +1,171 @@
+//! Short bulk strings and short heads of arrays, as most are, found in few steps.
+ghost use Rattle.std.specs.Prelude.{◌≡◌, ◌≤◌, ◌+◌, ◌∷◌, ℕ, List, IfSome, IsSomeAnd, Some, drop, length, true};
+ghost use Rattle.redis_wire.specs.Place.{text_in, IsHeadAt, IsTextAt, IsArrayAt, BeginsWithHead, BeginsWithText};
+ghost use Rattle.redis_wire.specs.Place.{BeginsWithArray, EndsBefore};
+
+use redis_wire::Limits;
+use redis_wire::place::{Span, array_at, text_at};
+
+/// Whether the bytes are CR and LF, asked at once.
+#[inline(always)]
+fn is_crlf(first: u8, second: u8) -> bool
+    ensures { result ≡ true → (first ≡ 13) × (second ≡ 10) }
+{
+    first as u32 + 256 * second as u32 == 2573
+}
+
+/// Whether CR LF stands at the head of the bytes.
+#[inline(always)]
+fn begins_with_crlf(bytes: &[u8]) -> bool
+    ensures { result ≡ true → bytes.now ≡ 13 ∷ 10 ∷ drop 2 bytes.now }
+{
+    match bytes {
+        [c, d, ..] => is_crlf(*c, *d),
+        _ => false,
+    }
+}
+
+/// The length behind the first byte of a value, if it is one digit.
+#[inline(always)]
+fn one_digit_at(limits: Limits, bytes: &[u8], first: u8) -> Option<u32>
+    requires length { 99 ≤ limits.length }
+    requires line { 2 ≤ limits.line }
+    ensures head { IfSome result (λ n. BeginsWithHead limits bytes.now first (Some n) (drop 4 bytes.now)) }
+    ensures small { IfSome result (λ n. n ≤ 99) }
+{
+    match bytes {
+        [kind, a, c, d, ..] => {
+            if *kind != first || !is_crlf(*c, *d) || !a.is_ascii_digit() {
+                return None;
+            }
+            Some((*a - b'0') as u32)
+        }
+        _ => None,
+    }
+}
+
+/// The length behind the first byte of a value, if it is two digits.
+#[inline(always)]
+fn two_digits_at(limits: Limits, bytes: &[u8], first: u8) -> Option<u32>
+    requires length { 99 ≤ limits.length }
+    requires line { 2 ≤ limits.line }
+    ensures head { IfSome result (λ n. BeginsWithHead limits bytes.now first (Some n) (drop 5 bytes.now)) }
+    ensures small { IfSome result (λ n. n ≤ 99) }
+{
+    match bytes {
+        [kind, a, b, c, d, ..] => {
+            if *kind != first || !is_crlf(*c, *d) || !a.is_ascii_digit() || !b.is_ascii_digit() {
+                return None;
+            }
+            Some(10 * (*a - b'0') as u32 + (*b - b'0') as u32)
+        }
+        _ => None,
+    }
+}
+
+/// The text of so many bytes from `start` on, whose head stands behind `at` bytes, and how many bytes
+/// end with its CR LF.
+#[inline(always)]
+fn text_from(
+    limits: Limits,
+    bytes: &[u8],
+    at: usize,
+    start: usize,
+    len: usize,
+) -> Option<(Span, usize)>
+    requires room { start + len + 2 ≤ length bytes.now }
+    requires head { IsHeadAt limits bytes.now at 36 (Some len) start }
+    ensures is { IfSome result (λ x. IsTextAt limits bytes.now at x.0 x.1) }
+    ensures found { (text rest : List ℕ) → BeginsWithText limits (drop at bytes.now) text rest
+        → IfSome result (λ x. (text_in bytes.now x.0 ≡ text) × EndsBefore bytes.now rest x.1) }
+{
+    let (_, behind) = bytes.split_at(start + len);
+    if !begins_with_crlf(behind) {
+        return None;
+    }
+    Some((Span { start, len }, start + len + 2))
+}
+
+/// The text of the bulk string behind `at` bytes, and how many bytes end with it, if its length has one
+/// digit or two and 106 bytes are left. The longest such string has so many, so no end is looked for.
+#[inline(always)]
+fn short_text_at(limits: Limits, bytes: &[u8], at: usize) -> Option<(Span, usize)>
+    requires { at ≤ length bytes.now }
+    ensures is { IfSome result (λ x. IsTextAt limits bytes.now at x.0 x.1) }
+    ensures found { (text rest : List ℕ) → BeginsWithText limits (drop at bytes.now) text rest
+        → IfSome result (λ x. (text_in bytes.now x.0 ≡ text) × EndsBefore bytes.now rest x.1) }
+{
+    if limits.length < 99 || limits.line < 2 || bytes.len() - at < 106 {
+        return None;
+    }
+    let (_, left) = bytes.split_at(at);
+    if let Some(len) = one_digit_at(limits, left, b'$') {
+        return text_from(limits, bytes, at, at + 4, len as usize);
+    }
+    match two_digits_at(limits, left, b'$') {
+        None => None,
+        Some(len) => text_from(limits, bytes, at, at + 5, len as usize),
+    }
+}
+
+/// The text of the bulk string behind `at` bytes, whatever its length is, and how many bytes end with it.
+#[inline(never)]
+fn any_text_at(limits: Limits, bytes: &[u8], at: usize) -> Option<(Span, usize)>
+    requires { at ≤ length bytes.now }
+    ensures is { IfSome result (λ x. IsTextAt limits bytes.now at x.0 x.1) }
+    ensures found { (text rest : List ℕ) → BeginsWithText limits (drop at bytes.now) text rest
+        → IsSomeAnd result (λ x. (text_in bytes.now x.0 ≡ text) × EndsBefore bytes.now rest x.1) }
+{
+    text_at(limits, bytes, at)
+}
+
+/// The text of the bulk string behind `at` bytes, and how many bytes end with it, as `text_at` finds
+/// them. The parts of a span are named, so that they stay in registers.
+#[inline(always)]
+pub fn bulk_at(limits: Limits, bytes: &[u8], at: usize) -> Option<(Span, usize)>
+    requires { at ≤ length bytes.now }
+    ensures is { IfSome result (λ x. IsTextAt limits bytes.now at x.0 x.1) }
+    ensures found { (text rest : List ℕ) → BeginsWithText limits (drop at bytes.now) text rest
+        → IsSomeAnd result (λ x. (text_in bytes.now x.0 ≡ text) × EndsBefore bytes.now rest x.1) }
+{
+    if let Some((Span { start, len }, after)) = short_text_at(limits, bytes, at) {
+        return Some((Span { start, len }, after));
+    }
+    let (Span { start, len }, after) = any_text_at(limits, bytes, at)?;
+    Some((Span { start, len }, after))
+}
+
+/// How many members the array has whose head stands behind `at` bytes, and how many bytes end with
+/// the head, if the count is one digit and 106 bytes are left.
+#[inline(always)]
+fn short_count_at(limits: Limits, bytes: &[u8], at: usize) -> Option<(u32, usize)>
+    requires { at ≤ length bytes.now }
+    ensures is { IfSome result (λ x. IsArrayAt limits bytes.now at x.0 x.1) }
+    ensures found { (count : ℕ) (rest : List ℕ) → BeginsWithArray limits (drop at bytes.now) count rest
+        → IfSome result (λ x. (x.0 ≡ count) × EndsBefore bytes.now rest x.1) }
+{
+    if limits.length < 99 || limits.line < 2 || bytes.len() - at < 106 {
+        return None;
+    }
+    let (_, left) = bytes.split_at(at);
+    match one_digit_at(limits, left, b'*') {
+        None => None,
+        Some(count) => Some((count, at + 4)),
+    }
+}
+
+/// How many members the array has whose head stands behind `at` bytes, and how many bytes end with
+/// the head, as `array_at` finds them.
+#[inline(always)]
+pub fn count_at(limits: Limits, bytes: &[u8], at: usize) -> Option<(u32, usize)>
+    requires { at ≤ length bytes.now }
+    ensures is { IfSome result (λ x. IsArrayAt limits bytes.now at x.0 x.1) }
+    ensures found { (count : ℕ) (rest : List ℕ) → BeginsWithArray limits (drop at bytes.now) count rest
+        → IsSomeAnd result (λ x. (x.0 ≡ count) × EndsBefore bytes.now rest x.1) }
+{
+    if let Some((count, after)) = short_count_at(limits, bytes, at) {
+        return Some((count, after));
+    }
+    let (count, after) = array_at(limits, bytes, at)?;
+    Some((count, after))
+}
