@@ -15,7 +15,6 @@
 //! came, and else with 1 and the reason.
 #![tactic(auto)]
 
-mod columns;
 mod drain;
 mod options;
 mod report;
