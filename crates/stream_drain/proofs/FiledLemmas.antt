@@ -16,8 +16,9 @@ use Rattle.stream_worker.specs.declared.state.Settings.{Settings}
 use Rattle.stream_worker.specs.declared.worker.Worker.{Worker}
 use Rattle.stream_drain.specs.Filed.{AcknowledgedIsFiled, AreFiled, FiledFrom}
 use Rattle.stream_drain.specs.Line.{entry_tokens, line_in}
-use Rattle.stream_drain.specs.Lived.{Leads, with_doings}
-use Rattle.stream_drain.specs.Loop.{Loops, Stops, Drains}
+use Rattle.stream_drain.specs.Lived.{Leads}
+use Rattle.stream_loop.specs.Shown.{with_doings}
+use Rattle.stream_loop.specs.Loop.{Loops, Stops, Drains}
 use Rattle.stream_drain.specs.Written.{Written, committed_with, lines_in, written_by, written_of}
 use Rattle.stream_drain.proofs.JsonLemmas.{entry_texts, no_end}
 use Rattle.stream_drain.proofs.LivedLemmas.{commit_of}
@@ -59,26 +60,26 @@ pub filed_from : {D : Type 0} (seen : D → Option (List ℕ)) (may_leave : D �
     → Leads (Drains settings) old new w (standing_of worker (written_by json loose (seen file) len))
     → FiledFrom settings old new w (standing_of worker (written_by json loose (seen file) len)) (may_leave file)
 filed_from seen may_leave is_sound settings old new w worker json loose file len is_broken held leads form first d whole is =
-    let l = leads form (Some first) d is in
+    let l = leads (form, Some first) d is in
     let es = l.doings.committed in (
       l,
       found_in form first es (may_leave file) whole
           (committed_is_left seen may_leave is_sound (first ++ lines_in form es) file len is_broken held
-          (ap (λ (v : Written). v.committed) l.written)),
+          (ap (λ (v : Written). v.committed) l.drawn)),
     )
 
 -- the rounds go on, or come to an end
 pub with_loops : (settings : Settings) (old new : Link) (w x : Standing Written) → Leads (Loops settings) old new w x
     → Leads (Drains settings) old new w x
-with_loops settings old new w x a json first d is =
-    let l = a json first d is in
-    record { doings = l.doings; told = l.told; leads = inl l.leads; written = l.written }
+with_loops settings old new w x a p d is =
+    let l = a p d is in
+    record { doings = l.doings; told = l.told; leads = inl l.leads; drawn = l.drawn }
 
 pub with_stops : (settings : Settings) (old new : Link) (w x : Standing Written) → Leads (Stops settings) old new w x
     → Leads (Drains settings) old new w x
-with_stops settings old new w x a json first d is =
-    let l = a json first d is in
-    record { doings = l.doings; told = l.told; leads = inr l.leads; written = l.written }
+with_stops settings old new w x a p d is =
+    let l = a p d is in
+    record { doings = l.doings; told = l.told; leads = inr l.leads; drawn = l.drawn }
 
 -- what is committed before a worker asks
 pub acknowledged_is_filed : AcknowledgedIsFiled

@@ -1,12 +1,8 @@
--- Lemmas on lines of JSON and on dead letters.
-pub mod BesidesLemmas
-pub mod DeadLemmas
-pub mod DeadMovesLemmas
+-- Lemmas on lines, in text and in JSON, and on the rounds of the program.
 pub mod JsonLemmas
 pub mod WrittenLemmas
 pub mod LivedLemmas
 pub mod FiledLemmas
-pub mod ScheduledLemmas
 pub mod TellLemmas
 pub mod ResumedLemmas
 pub mod SameLineLemmas

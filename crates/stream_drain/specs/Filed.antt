@@ -11,7 +11,7 @@ use Rattle.stream_worker.specs.Session.{Standing, asking}
 use Rattle.stream_worker.specs.declared.state.Settings.{Settings}
 use Rattle.stream_drain.specs.Line.{line_in}
 use Rattle.stream_drain.specs.Lived.{LeadsSo, LivesSo}
-use Rattle.stream_drain.specs.Loop.{Drains}
+use Rattle.stream_loop.specs.Loop.{Drains}
 use Rattle.stream_drain.specs.Written.{Written, committed_with, lines_in, written_of}
 
 -- whatever a crash leaves begins with what was there first and the lines of these entries, in order; and each of them is

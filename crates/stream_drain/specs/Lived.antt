@@ -2,6 +2,9 @@
 use Rattle.std.specs.Prelude.{◌≡◌, ℕ, List, [], ◌++◌, Bool, Option}
 use Rattle.redis_connection.specs.Link.{Link}
 use Rattle.stream_group.specs.Worker.{Id, start}
+use Rattle.stream_loop.specs.Loop.{Loops, Stops, Drains}
+use Rattle.stream_loop.specs.Shown.{Way, with_doings}
+use Rattle.stream_loop.specs.Shown as loops
 use Rattle.stream_worker.specs.Gathered.{Doings}
 use Rattle.stream_worker.specs.Life.{Lives}
 use Rattle.stream_worker.specs.Session.{Standing, Turned, Fails}
@@ -11,12 +14,7 @@ use Rattle.stream_worker.specs.declared.state.Asked.TheVariants.{Nothing}
 use Rattle.stream_worker.specs.declared.state.GroupState.TheVariants.{Unknown}
 use Rattle.stream_worker.specs.declared.state.Settings.{Settings}
 use Rattle.stream_worker.specs.declared.worker.Progress.TheVariants.{GoesOn, Stopped}
-use Rattle.stream_drain.specs.Loop.{Loops, Stops, Drains}
 use Rattle.stream_drain.specs.Written.{Written, committed_with, written_of, written_too}
-
--- where a worker stands, with these doings of its handler in place of the lines
-abbrev pub with_doings : Standing Written → Doings → Standing Doings
-with_doings w d = record { machine = w.machine; group = w.group; asked = w.asked; history = d }
 
 -- it stands so in its life, with these ids of deleted entries, if its handler did something of which the lines are what
 -- is gathered, and what is committed after what was there first
@@ -35,22 +33,17 @@ newborn_with settings json first = record {
   history = record { json = json; loose = []; committed = first };
 }
 
--- what leads from here to there over a connection, and of which ids of deleted entries it told
-abbrev pub Way : Type 1
-Way = Link → Standing Doings → Link → Standing Doings → List Id → Type 0
+-- the lines of what a handler did: of JSON or not, and after what was in the file first
+abbrev pub lines_shown : Bool × Option (List ℕ) → Doings → Written
+lines_shown p d = written_of p.0 p.1 d
 
-module _ (way : Way) (old new : Link) (w x : Standing Written) where
-  -- if what is written are the lines of these doings, this way leads to what is written then, the lines of more doings
-  pub record LeadsSo (json : Bool) (first : Option (List ℕ)) (d : Doings) : Type 0 where
-    pub doings : Doings
-    pub told : List Id
-    pub leads : way old (with_doings w d) new (with_doings x doings) told
-    pub written : x.history ≡ written_of json first doings
+-- if what is written are the lines of these doings, this way leads to what is written then, the lines of more doings
+abbrev pub LeadsSo : Way → Link → Link → Standing Written → Standing Written → Bool → Option (List ℕ) → Doings → Type 0
+LeadsSo way old new w x json first d = loops.LeadsSo lines_shown way old new w x (json, first) d
 
-  -- so it is, whatever was in the file first and was done since
-  abbrev pub Leads : Type 0
-  Leads = (json : Bool) (first : Option (List ℕ)) (d : Doings) → w.history ≡ written_of json first d
-      → LeadsSo json first d
+-- so it is, whatever was in the file first and was done since
+abbrev pub Leads : Way → Link → Link → Standing Written → Standing Written → Type 0
+Leads way old new w x = loops.Leads lines_shown way old new w x
 
 -- the law: so a worker begins; each round is such a way; and where it lives at first it lives after such rounds, where
 -- just those entries were deleted meanwhile of which the replies in these rounds said so

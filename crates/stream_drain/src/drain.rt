@@ -1,13 +1,12 @@
 //! The loop of the program: it asks, and takes the answers.
 ghost use Rattle.std.specs.Prelude.{◌≡◌, IfErr, IfOk, IsTrue, OnErr, OnOk, false};
-ghost use Rattle.stream_drain.specs.Besides.{Besides, BreaksBesides, LooksNot};
+ghost use Rattle.stream_letters.specs.Besides.{Besides, BreaksBesides, LooksNot};
 ghost use Rattle.stream_drain.specs.Filed.{FiledFrom};
 ghost use Rattle.stream_drain.specs.Lived.{Leads};
-ghost use Rattle.stream_drain.specs.Loop.{Loops, Stops};
+ghost use Rattle.stream_loop.specs.Loop.{Loops, Stops};
 ghost use Rattle.stream_worker.specs.Session.{standing_of};
 
 use crate::backlog::{Backlog, Watched, backlog_of};
-use crate::dead::Dead;
 use crate::lines::Lines;
 use crate::report::Report;
 use anyhow::{Error, Result, anyhow, bail};
@@ -20,6 +19,7 @@ use std::fmt;
 use std::io::{Read, Write};
 use std::rt::Clock;
 use stream_commands::xinfo_groups;
+use stream_letters::DeadLetterSearch;
 use stream_worker::{Asked, Handler, Pipelined, Progress, RequestError, Round, RunError, Worker};
 
 /// The limit on what a connection holds, as `Limits::default` has it.
@@ -32,7 +32,7 @@ pub fn drain<R: Read + Drop, W: Write + Drop, D: LogFile + Drop, T: Clock + Epri
     worker: &mut Worker,
     lines: &mut Lines<D>,
     report: &mut Report,
-    dead: &mut Option<Dead>,
+    dead: &mut Option<DeadLetterSearch>,
     until_empty: bool,
 ) -> Result<()>
     ensures ended { IfOk result (λ _. IsTrue until_empty) }
@@ -65,7 +65,7 @@ fn turn<R: Read + Drop, W: Write + Drop, D: LogFile + Drop, T: Clock + Eprint + 
     worker: &mut Worker,
     lines: &mut Lines<D>,
     report: &mut Report,
-    dead: &mut Option<Dead>,
+    dead: &mut Option<DeadLetterSearch>,
     asked: Asked,
 ) -> Result<Asked>
     ensures settings { worker.new.settings ≡ worker.old.settings }
@@ -88,15 +88,18 @@ fn look<R: Read + Drop, W: Write + Drop, D: LogFile + Drop>(
     alloc: Global,
     connection: &mut Connection<R, W>,
     lines: &Lines<D>,
-    dead: &mut Option<Dead>,
+    dead: &mut Option<DeadLetterSearch>,
     asked: Asked,
 ) -> Result<()>
     ensures ok { OnOk result (Besides connection.old connection.new) }
     ensures err { OnErr result (BreaksBesides connection.old connection.new) }
 {
-    match dead {
-        Some(dead) => dead.turn(alloc, connection, asked, lines.done > lines.committed),
-        None => Ok(()),
+    let Some(dead) = dead else {
+        return Ok(());
+    };
+    match dead.turn(alloc, connection, asked, lines.done > lines.committed) {
+        Ok(()) => Ok(()),
+        Err(error) => Err(error.into()),
     }
 }
 

@@ -1,9 +1,7 @@
 //! What holds of the lines that are gathered and committed, over the rounds of a worker.
-ghost use Rattle.stream_drain.specs.DeadMoves.{ClaimsAreMoves, DeliveriesAreMoves, GiveUpsAreMoves};
 ghost use Rattle.stream_drain.specs.Filed.{AcknowledgedIsFiled};
 ghost use Rattle.stream_drain.specs.Lived.{RoundsAreLived};
 ghost use Rattle.stream_drain.specs.Resumed.{ResumedIsLived, StartsOverItsFile};
-ghost use Rattle.stream_drain.specs.Scheduled.{LoopsRun};
 ghost use Rattle.stream_drain.specs.Tell.{LinesAreAForm, LinesTellEntries};
 ghost use Rattle.stream_drain.specs.Written.{GathersItsLines};
 
@@ -19,13 +17,6 @@ pub fn gathers_its_lines()
 /// server said that it was deleted. Of deleted entries the loop tells just those that replies in its rounds told.
 pub fn rounds_are_lived()
     ensures { RoundsAreLived }
-{}
-
-/// The rounds of the loop, and the one that ends it, are a schedule of `stream_system` (`Runs`), over however many
-/// lives. Of each such schedule its law `the_code_writes_each_entry_once` holds. The premise of a round is that the
-/// worker takes the reply of the model's server. What the search for dead letters asks is there what others do.
-pub fn loops_are_scheduled()
-    ensures { LoopsRun }
 {}
 
 /// Before an id is acknowledged, its entry is a line of whatever a crash leaves of the file, or the server said
@@ -56,13 +47,4 @@ pub fn lines_tell_entries()
 /// `stream_system` hold of them, for entries whose names and values are bytes, as all are.
 pub fn lines_are_a_form()
     ensures { LinesAreAForm }
-{}
-
-/// Entries that are given up are moves of a desk in the model `stream_system`. Each that is posted after its
-/// claim is a move. So are the letters and acknowledgements that are answered, all of them or as many as came.
-/// After all of them nothing waits there.
-pub fn give_ups_are_moves()
-    ensures claims { ClaimsAreMoves }
-    ensures letters { DeliveriesAreMoves }
-    ensures all { GiveUpsAreMoves }
 {}

@@ -21,7 +21,6 @@
 #![tactic(auto)]
 
 mod backlog;
-mod dead;
 mod drain;
 mod json_lines;
 mod laws;
@@ -31,7 +30,6 @@ mod report;
 mod resume;
 
 use crate::backlog::Watched;
-use crate::dead::{Dead, GiveUp};
 use crate::drain::drain;
 use crate::lines::Lines;
 use crate::options::{Options, options_of};
@@ -44,6 +42,7 @@ use redis_wire::Limits;
 use std::alloc::{AllocError, Global};
 use std::io::ErrorKind;
 use std::{env, io};
+use stream_letters::{DeadLetterSearch, GiveUp};
 use stream_worker::Settings;
 
 fn main(rt: HostRuntime) -> Result<()> {
@@ -106,8 +105,8 @@ fn drain_by(rt: &HostRuntime, options: Options) -> Result<()> {
         acknowledges,
     } = begun(alloc, settings, &lines).context(format_args!("cannot go on with {path}"))?;
     report.resumes = acknowledges;
-    if let Some(dead) = &mut dead {
-        dead.waits = acknowledges;
+    if acknowledges && let Some(dead) = &mut dead {
+        dead.wait_once();
     }
     let ended = drain(
         rt,
@@ -118,7 +117,7 @@ fn drain_by(rt: &HostRuntime, options: Options) -> Result<()> {
         &mut dead,
         until_empty,
     );
-    report.letters = dead.map(|dead| dead.letters);
+    report.letters = dead.map(|dead| dead.letters());
     eprintln!(rt; "{report}")?;
     ended
 }
@@ -151,9 +150,9 @@ fn dead_of(
     alloc: Global,
     settings: &Settings,
     to: Option<GiveUp>,
-) -> Result<Option<Dead>, AllocError> {
+) -> Result<Option<DeadLetterSearch>> {
     match to {
-        Some(to) => Ok(Some(Dead::new(alloc, settings, to)?)),
+        Some(to) => Ok(Some(DeadLetterSearch::new(alloc, settings, to)?)),
         None => Ok(None),
     }
 }

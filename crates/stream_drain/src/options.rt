@@ -1,10 +1,10 @@
 //! The words that the program is called with.
 ghost use Rattle.std.specs.Prelude.{◌≤◌, length, IfOk};
 
-use crate::dead::GiveUp;
 use crate::resume::LARGEST_COUNT;
 use anyhow::{Result, bail};
 use std::alloc::{AllocError, Global};
+use stream_letters::GiveUp;
 use stream_worker::{MakeGroup, Settings};
 
 // In less than 120 bytes, which are all that an error shows.

@@ -1,4 +1,4 @@
-use Rattle.stream_drain.specs.Besides.{nothing}
+use Rattle.stream_letters.specs.Besides.{nothing}
 use Rattle.stream_drain.proofs.drain.look.Goals as goal
 
 pub returns-in-None-clause-ok : goal.returns-in-None-clause-ok

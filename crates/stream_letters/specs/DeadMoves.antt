@@ -1,0 +1,49 @@
+-- That what is given up over a connection is moves of a desk of `stream_system`.
+use Rattle.std.specs.Prelude.{◌≡◌, ℕ, zero, suc, List, [], ◌∷◌, ◌++◌}
+use Rattle.redis_connection.specs.Link.{Link}
+use Rattle.line_log.specs.EntryLine.{Entry}
+use Rattle.stream_group.specs.Group.{Name}
+use Rattle.stream_files.specs.Files.{Form}
+use Rattle.stream_system.specs.System.{System, Move, Posts, new_desk, run}
+use Rattle.stream_system.specs.Desks.{Names, IsDesk, AreOfDesk, moves_after}
+use Rattle.stream_worker.specs.Letters.{Desk, after_letter, letter_asks}
+use Rattle.stream_letters.specs.Dead.{Claimer, Goes, PostsAll, GivesUp}
+use Rattle.stream_letters.specs.declared.search.Waiting.{Waiting}
+
+-- the moves that post these entries, if the replies that have them are of these numbers, from that one on
+abbrev pub posting : Name → (ℕ → ℕ) → ℕ → List Entry → List Move
+posting name which k [] = []
+posting name which k (e ∷ es) = Posts name (which k) e ∷ posting name which (suc k) es
+
+-- a desk after so many replies that served
+abbrev pub desk_after : ℕ → Desk → Desk
+desk_after zero d = d
+desk_after (suc n) d = after_letter (letter_asks (desk_after n d)) (desk_after n d)
+
+-- the moves that so many replies are, if those to an XACK are of these numbers
+abbrev pub delivering : Name → (ℕ → ℕ) → ℕ → Desk → List Move
+delivering name which zero d = []
+delivering name which (suc n) d =
+    delivering name which n d ++ moves_after name (which n) (letter_asks (desk_after n d))
+
+-- a desk to which entries were posted is where these moves lead
+abbrev pub ClaimsAreMoves : Type 0
+ClaimsAreMoves = (c : Claimer) (dead : List ℕ) (ws : List Waiting) (es : List Entry) (old new : Link) (desk desk' : Desk)
+    → PostsAll c dead ws es old desk new desk' → (form : Form) (s : System) (name : Name) (which : ℕ → ℕ) (k : ℕ)
+    → IsDesk dead desk (s.desks name)
+    → AreOfDesk name (posting name which k es)
+    × IsDesk dead desk' ((run form (posting name which k es) s).desks name)
+
+-- so is one after replies that served, all of them or as many as came
+abbrev pub DeliveriesAreMoves : Type 0
+DeliveriesAreMoves = (names : Names) (n : ℕ) (old new : Link) (desk desk' : Desk) → Goes names n old desk new desk'
+    → (form : Form) (s : System) (name : Name) (which : ℕ → ℕ) → IsDesk names.2 desk (s.desks name)
+    → AreOfDesk name (delivering name which n desk)
+    × IsDesk names.2 desk' ((run form (delivering name which n desk) s).desks name)
+
+-- and after all of them nothing waits at the desk of the system either
+abbrev pub GiveUpsAreMoves : Type 0
+GiveUpsAreMoves = (c : Claimer) (names : Names) (ws : List Waiting) (old new : Link) (g : GivesUp c names ws old new)
+    (form : Form) (s : System) (name : Name) (claimed answered : ℕ → ℕ) → s.desks name ≡ new_desk
+    → (run form (posting name claimed zero g.es ++ delivering name answered g.delivers.0.0 g.desk) s).desks name
+    ≡ new_desk

@@ -1,0 +1,513 @@
+//! The search for entries that were delivered too often.
+ghost use Rattle.std.specs.Prelude.{◌≡◌, ◌<◌, ◌≤◌, ◌%◌, ◌∷◌, [], IfErr, IfOk, IsTrue, MatchOption, Ok, OnErr, OnOk, Some, false, true};
+ghost use Rattle.std.specs.Prelude.{List, filter, length, map, nat_le, string_bytes};
+ghost use Rattle.std.specs.List.{flat_map};
+ghost use Rattle.line_log.specs.EntryLine.{Entry};
+ghost use Rattle.redis_connection.specs.Ask.{Asks};
+ghost use Rattle.stream_letters.specs.Besides.{Besides, BreaksBesides, BreaksLooking, Looks, OnlyLooks};
+ghost use Rattle.stream_letters.specs.Dead.{AreJust, BreaksOff, Delivers, DeliversSome, GivesUp, GivesUpSome, IsBehind};
+ghost use Rattle.stream_letters.specs.Dead.{Posted, PostedFields, PostsAll, PostsSome, claim_words, claimer_of};
+ghost use Rattle.stream_letters.specs.Dead.{IsAllowed, IsRefused, letter_names, none_waits, row_of, rows_of, rows_reading, waiting_of};
+ghost use Rattle.stream_worker.specs.Letters.{desk_of, names_of};
+
+use crate::error::{SearchError, SearchSettingsError};
+use redis_connection::{AskError, Connection, ConnectionError};
+use redis_resp::{RawBytes, ToRedisArgs, Value, WriteError};
+use std::alloc::{AllocError, Global};
+use std::io::{Read, Write};
+use std::mem;
+use stream_commands::{AtLeastOne, xclaim, xpending_consumer_count, xpending_idle_count};
+use stream_worker::{Asked, DeadLetters, LetterAsked, Settings};
+
+/// So many pending entries are asked for at once.
+const PAGE: usize = 100;
+
+/// So many times at most they are asked for in one look.
+const PAGES: usize = 1000;
+
+/// What XCLAIM answers: the ids, each with its fields in order; or nil for what was deleted.
+type Claimed = Vec<Option<(String, Vec<RawBytes>)>>;
+
+/// A row that XPENDING answers: the id, the consumer, for how long it is idle, and how often it was
+/// delivered. The name of a consumer is any bytes, so it is not read.
+type Row = (String, Value, Value, usize);
+
+/// An entry that is pending.
+#[derive(Drop)]
+pub struct Waiting {
+    /// Its id.
+    id: String,
+    /// How often it was delivered.
+    deliveries: usize,
+}
+
+/// Which entries are given up, and where their letters go.
+#[derive(Drop)]
+pub struct GiveUp {
+    /// Those that were delivered so often or more.
+    pub deliveries: usize,
+    /// The stream of dead letters.
+    pub stream: String,
+}
+
+/// Looks for pending entries that were delivered too often, and gives them up.
+#[derive(Drop)]
+pub struct DeadLetterSearch {
+    key: String,
+    group: String,
+    consumer: String,
+    min_idle: usize,
+    deliveries: usize,
+    stream: String,
+    /// It looks after so many reads of new entries, which is when the worker claims.
+    every: usize,
+    /// So many reads were made since.
+    reads: usize,
+    /// The worker is to acknowledge first what is in its file, and has not begun.
+    waits: bool,
+    /// It looked before the worker began.
+    begun: bool,
+    /// So many entries have a letter, and were acknowledged.
+    letters: u64,
+}
+
+impl DeadLetterSearch {
+    /// For the group and the consumer of a worker. Nothing was looked at yet.
+    pub fn new(
+        alloc: Global,
+        settings: &Settings,
+        to: GiveUp,
+    ) -> Result<DeadLetterSearch, SearchSettingsError>
+        ensures names { IfOk result (λ d. (string_bytes d.key ≡ string_bytes settings.now.key)
+            × (string_bytes d.group ≡ string_bytes settings.now.group)
+            × (string_bytes d.consumer ≡ string_bytes settings.now.consumer)) }
+        ensures given_up { IfOk result (λ d. (d.deliveries ≡ to.deliveries) × (d.stream ≡ to.stream)
+            × (d.min_idle ≡ settings.now.min_idle)) }
+        ensures begins { IfOk result (λ d. (d.waits ≡ false) × (d.begun ≡ false) × (d.reads ≡ 0) × (d.letters ≡ 0)) }
+        ensures allowed { OnOk result (IsAllowed (string_bytes settings.now.key) to) }
+        ensures refused { IfErr result (IsRefused (string_bytes settings.now.key) to) }
+    {
+        allow(settings.key(), &to)?;
+        Ok(DeadLetterSearch {
+            key: String::from_str(alloc, settings.key())?,
+            group: String::from_str(alloc, settings.group())?,
+            consumer: String::from_str(alloc, settings.consumer())?,
+            min_idle: settings.min_idle(),
+            deliveries: to.deliveries,
+            stream: to.stream,
+            every: settings.every().max(1),
+            reads: 0,
+            waits: false,
+            begun: false,
+            letters: 0,
+        })
+    }
+
+    /// The worker is to acknowledge first what is in its file: the next turn looks at nothing.
+    pub fn wait_once(&mut self)
+        ensures { self.new ≡ record self.old { waits = true } }
+    {
+        self.waits = true;
+    }
+
+    /// So many entries have a letter, and were acknowledged.
+    pub fn letters(&self) -> u64
+        ensures { result ≡ self.now.letters }
+    {
+        self.letters
+    }
+
+    /// Before the next command of a worker, whose last one asked this: looks before the first one,
+    /// and before each claim. It waits while the worker has entries in hand, or is to acknowledge what
+    /// is in its file, since these are pending too.
+    pub fn turn<R: Read + Drop, W: Write + Drop>(
+        &mut self,
+        alloc: Global,
+        connection: &mut Connection<R, W>,
+        asked: Asked,
+        in_hand: bool,
+    ) -> Result<(), SearchError>
+        ensures waits { IsTrue in_hand → (result ≡ Ok tt) × (connection.new ≡ connection.old) }
+        ensures waits_once { IsTrue self.old.waits → (result ≡ Ok tt) × (connection.new ≡ connection.old)
+            × (self.new.waits ≡ false) }
+        ensures ok { OnOk result (Besides connection.old connection.new) }
+        ensures err { OnErr result (BreaksBesides connection.old connection.new) }
+    {
+        self.reads = reads_after(self.reads, asked);
+        let waits = mem::replace(&mut self.waits, false);
+        if in_hand || waits {
+            return Ok(());
+        }
+        self.look_if_due(alloc, connection)
+    }
+
+    // Looks before the first command, and before each claim.
+    fn look_if_due<R: Read + Drop, W: Write + Drop>(
+        &mut self,
+        alloc: Global,
+        connection: &mut Connection<R, W>,
+    ) -> Result<(), SearchError>
+        ensures ok { OnOk result (Besides connection.old connection.new) }
+        ensures err { OnErr result (BreaksBesides connection.old connection.new) }
+    {
+        if !self.begun {
+            self.begun = true;
+            return self.look_at_both(alloc, connection);
+        }
+        if self.reads < self.every {
+            return Ok(());
+        }
+        self.reads = 0;
+        self.look(alloc, connection, false)
+    }
+
+    // Looks at what is pending for the consumer itself, and then at what anybody left.
+    fn look_at_both<R: Read + Drop, W: Write + Drop>(
+        &mut self,
+        alloc: Global,
+        connection: &mut Connection<R, W>,
+    ) -> Result<(), SearchError>
+        ensures ok { OnOk result (Besides connection.old connection.new) }
+        ensures err { OnErr result (BreaksBesides connection.old connection.new) }
+    {
+        self.look(alloc, connection, true)?;
+        self.look(alloc, connection, false)
+    }
+
+    // Looks at what is pending for the consumer itself, or at what anybody left for the idle time,
+    // page by page.
+    fn look<R: Read + Drop, W: Write + Drop>(
+        &mut self,
+        alloc: Global,
+        connection: &mut Connection<R, W>,
+        own: bool,
+    ) -> Result<(), SearchError>
+        ensures ok { OnOk result (Besides connection.old connection.new) }
+        ensures err { OnErr result (BreaksBesides connection.old connection.new) }
+    {
+        let mut start = String::from_str(alloc, "-")?;
+        for _ in 0..PAGES {
+            match self.look_at_page(alloc, connection, &start, own)? {
+                Some(next) => start = next,
+                None => return Ok(()),
+            }
+        }
+        Ok(())
+    }
+
+    // Gives up what was delivered too often of one page: where the next page starts.
+    fn look_at_page<R: Read + Drop, W: Write + Drop>(
+        &mut self,
+        alloc: Global,
+        connection: &mut Connection<R, W>,
+        start: &str,
+        own: bool,
+    ) -> Result<Option<String>, SearchError>
+        ensures ok { OnOk result (Besides connection.old connection.new) }
+        ensures err { OnErr result (BreaksBesides connection.old connection.new) }
+    {
+        let page = self.page(alloc, connection, start, own)?;
+        let next = next_start(alloc, &page)?;
+        let entries = too_often(page, self.deliveries);
+        let min_idle = if own { 0 } else { self.min_idle };
+        self.give_up(alloc, connection, &entries, min_idle)?;
+        Ok(next)
+    }
+
+    // The pending entries from this id on; none where there is no group.
+    fn page<R: Read + Drop, W: Write + Drop>(
+        &self,
+        alloc: Global,
+        connection: &mut Connection<R, W>,
+        start: &str,
+        own: bool,
+    ) -> Result<Vec<Waiting>, SearchError>
+        ensures ok { OnOk result (Looks connection.old connection.new) }
+        ensures err { OnErr result (BreaksLooking connection.old connection.new) }
+    {
+        let key = self.key.as_str();
+        let group = self.group.as_str();
+        if own {
+            let consumer = self.consumer.as_str();
+            let command = xpending_consumer_count(key, group, start, "+", PAGE, consumer);
+            ask_page(alloc, connection, &command)
+        } else {
+            let command = xpending_idle_count(key, group, self.min_idle, start, "+", PAGE);
+            ask_page(alloc, connection, &command)
+        }
+    }
+
+    // Claims these entries, gives them up, and has their letters delivered.
+    fn give_up<R: Read + Drop, W: Write + Drop>(
+        &mut self,
+        alloc: Global,
+        connection: &mut Connection<R, W>,
+        entries: &[Waiting],
+        min_idle: usize,
+    ) -> Result<(), SearchError>
+        ensures ok { OnOk result (GivesUp (claimer_of self.old min_idle) (letter_names self.old)
+            entries.now connection.old connection.new) }
+        ensures err { OnErr result (GivesUpSome (claimer_of self.old min_idle) (letter_names self.old)
+            entries.now connection.old connection.new) }
+    {
+        let mut desk = self.desk(alloc)?;
+        self.post_all(alloc, connection, &mut desk, entries, min_idle)?;
+        deliver(alloc, connection, &mut desk, &mut self.letters)
+    }
+
+    // A desk for letters, at which nothing waits.
+    fn desk(&self, alloc: Global) -> Result<DeadLetters, AllocError>
+        ensures names { IfOk result (λ d. names_of d ≡ letter_names self.now) }
+        ensures waits { IfOk result (λ d. desk_of d ≡ none_waits) }
+    {
+        let key = self.key.clone()?;
+        let group = self.group.clone()?;
+        Ok(DeadLetters::new(alloc, key, group, self.stream.clone()?))
+    }
+
+    // Claims these entries, and gives them up.
+    fn post_all<R: Read + Drop, W: Write + Drop>(
+        &self,
+        alloc: Global,
+        connection: &mut Connection<R, W>,
+        desk: &mut DeadLetters,
+        entries: &[Waiting],
+        min_idle: usize,
+    ) -> Result<(), SearchError>
+        ensures ok { OnOk result ((es : List Entry) × PostsAll (claimer_of self.now min_idle)
+            (names_of desk.old).2 entries.now es connection.old (desk_of desk.old)
+            connection.new (desk_of desk.new)) }
+        ensures err { OnErr result (PostsSome (claimer_of self.now min_idle)
+            (names_of desk.old).2 entries.now connection.old (desk_of desk.old)
+            connection.new (desk_of desk.new)) }
+        ensures names { names_of desk.new ≡ names_of desk.old }
+    {
+        for entry in entries {
+            let rows = self.claim(alloc, connection, entry.id.as_str(), min_idle)?;
+            post(alloc, desk, entry, &rows)?;
+        }
+        Ok(())
+    }
+
+    // Claims an entry.
+    fn claim<R: Read + Drop, W: Write + Drop>(
+        &self,
+        alloc: Global,
+        connection: &mut Connection<R, W>,
+        id: &str,
+        min_idle: usize,
+    ) -> Result<Claimed, SearchError>
+        ensures ok { IfOk result (λ rows. Asks connection.old connection.new
+            (claim_words (claimer_of self.now min_idle) id.now) rows_reading (rows_of rows.items)) }
+        ensures err { OnErr result (BreaksOff
+            (claim_words (claimer_of self.now min_idle) id.now) connection.old connection.new) }
+    {
+        let command = xclaim(
+            self.key.as_str(),
+            self.group.as_str(),
+            self.consumer.as_str(),
+            min_idle,
+            AtLeastOne::one(&id),
+        );
+        match connection.ask_as(alloc, &command) {
+            Ok(rows) => Ok(rows),
+            Err(error) => Err(error.into()),
+        }
+    }
+}
+
+// Refuses what no search may be made for.
+fn allow(key: &str, to: &GiveUp) -> Result<(), SearchSettingsError>
+    ensures ok { OnOk result (IsAllowed key.now to.now) }
+    ensures err { IfErr result (IsRefused key.now to.now) }
+{
+    if to.deliveries == 0 {
+        return Err(SearchSettingsError::NoDeliveries);
+    }
+    if to.stream.is_empty() {
+        return Err(SearchSettingsError::NoStream);
+    }
+    if to.stream.as_str() == key {
+        return Err(SearchSettingsError::SameStream);
+    }
+    Ok(())
+}
+
+// So many reads were made, where this was asked last.
+fn reads_after(reads: usize, asked: Asked) -> usize {
+    if asked == Asked::News {
+        reads.saturating_add(1)
+    } else {
+        reads
+    }
+}
+
+/// Asks for pending entries; there are none where there is no group.
+fn ask_page<T: ToRedisArgs, R: Read + Drop, W: Write + Drop>(
+    alloc: Global,
+    connection: &mut Connection<R, W>,
+    command: &T,
+) -> Result<Vec<Waiting>, SearchError>
+    ensures ok { OnlyLooks (T.args command.now) → OnOk result (Looks connection.old connection.new) }
+    ensures err { OnlyLooks (T.args command.now) → OnErr result (BreaksLooking connection.old connection.new) }
+{
+    match connection.ask_as(alloc, command) {
+        Ok(rows) => Ok(waiting_in(alloc, rows)?),
+        Err(AskError::Server(error)) if error.code() == b"NOGROUP".as_slice() => {
+            Ok(Vec::new(alloc))
+        }
+        Err(error) => Err(error.into()),
+    }
+}
+
+/// The entries of these rows, in order.
+fn waiting_in(alloc: Global, rows: Vec<Row>) -> Result<Vec<Waiting>, AllocError>
+    ensures { IfOk result (λ all. map waiting_of all.items ≡ map row_of rows.items) }
+{
+    let mut all = Vec::with_capacity(alloc, rows.len())?;
+    for (id, _consumer, _idle, deliveries) in rows {
+        all.push(Waiting { id, deliveries })?;
+    }
+    Ok(all)
+}
+
+/// Gives an entry up, as it was claimed; not where another consumer has it, or it was deleted.
+fn post(
+    alloc: Global,
+    desk: &mut DeadLetters,
+    entry: &Waiting,
+    rows: &[Option<(String, Vec<RawBytes>)>],
+) -> Result<(), SearchError>
+    ensures ok { OnOk result (Posted (names_of desk.old).2 entry.now (rows_of rows.now)
+        (desk_of desk.old) (desk_of desk.new)) }
+    ensures err { OnErr result (desk_of desk.new ≡ desk_of desk.old) }
+    ensures names { names_of desk.new ≡ names_of desk.old }
+    ensures added { (desk_of desk.new).added ≡ (desk_of desk.old).added }
+{
+    let Some((claimed, texts)) = the_row(rows) else {
+        return Ok(());
+    };
+    if claimed.as_str() != entry.id.as_str() {
+        return Err(SearchError::OtherEntry);
+    }
+    post_fields(alloc, desk, entry, texts)
+}
+
+// The entry that these rows are; None if they are not one.
+fn the_row(rows: &[Option<(String, Vec<RawBytes>)>]) -> Option<&(String, Vec<RawBytes>)>
+    ensures { MatchOption result ((e : Entry) → AreJust (rows_of rows.now) e → e.1 ≡ [])
+        (λ row. rows.now ≡ Some row.now ∷ []) }
+{
+    match rows {
+        [row] => row.as_ref(),
+        _ => None,
+    }
+}
+
+/// Gives an entry up with these names and values, which are none where it was deleted.
+fn post_fields(
+    alloc: Global,
+    desk: &mut DeadLetters,
+    entry: &Waiting,
+    texts: &[RawBytes],
+) -> Result<(), SearchError>
+    ensures ok { OnOk result (PostedFields (names_of desk.old).2 entry.now
+        (map (λ text. text.0.items) texts.now) (desk_of desk.old) (desk_of desk.new)) }
+    ensures err { OnErr result (desk_of desk.new ≡ desk_of desk.old) }
+    ensures names { names_of desk.new ≡ names_of desk.old }
+    ensures added { (desk_of desk.new).added ≡ (desk_of desk.old).added }
+{
+    let Some(fields) = pairs_of(alloc, texts)? else {
+        return Err(SearchError::NoValue);
+    };
+    let Some(fields) = AtLeastOne::new(&fields) else {
+        return Ok(());
+    };
+    match desk.give_up(alloc, entry.id.as_str(), entry.deliveries, &fields) {
+        Ok(()) => Ok(()),
+        Err(error) => Err(not_written(error)),
+    }
+}
+
+/// Those of these pending entries that were delivered so often or more, in order.
+fn too_often(mut page: Vec<Waiting>, deliveries: usize) -> Vec<Waiting>
+    ensures { result.items ≡ filter (λ w. nat_le deliveries w.deliveries) page.items }
+{
+    page.retain(|entry| entry.deliveries >= deliveries);
+    page
+}
+
+/// Where the page behind this one starts, which is behind its last id; None where this one is not
+/// full.
+fn next_start(alloc: Global, page: &[Waiting]) -> Result<Option<String>, AllocError>
+    ensures { IfOk result (λ next. MatchOption next (length page.now < PAGE)
+        (λ start. (PAGE ≤ length page.now) × IsBehind page.now (string_bytes start))) }
+{
+    if page.len() < PAGE {
+        return Ok(None);
+    }
+    match page {
+        [] => Ok(None),
+        [.., last] => {
+            let mut start = String::from_str(alloc, "(")?;
+            start.push_str(&last.id)?;
+            Ok(Some(start))
+        }
+    }
+}
+
+/// The names and values that these texts are by turns, in order; None where the last name has no
+/// value.
+fn pairs_of<'a>(
+    alloc: Global,
+    texts: &'a [RawBytes],
+) -> Result<Option<Vec<(&'a [u8], &'a [u8])>>, AllocError>
+    ensures { IfOk result (λ pairs. MatchOption pairs (length texts.now % 2 ≡ 1)
+        (λ pairs. flat_map (λ pair. pair.0.now ∷ pair.1.now ∷ []) pairs.items
+        ≡ map (λ text. text.0.items) texts.now)) }
+{
+    let mut pairs = Vec::with_capacity(alloc, texts.len() / 2)?;
+    let mut rest = texts;
+    while let [name, value, more @ ..] = rest {
+        pairs.push((name.0.as_slice(), value.0.as_slice()))?;
+        rest = more;
+    }
+    Ok(if rest.is_empty() { Some(pairs) } else { None })
+}
+
+/// Sends what the desk asks, and takes the answers, until nothing waits; counts the entries that
+/// were acknowledged.
+fn deliver<R: Read + Drop, W: Write + Drop>(
+    alloc: Global,
+    connection: &mut Connection<R, W>,
+    desk: &mut DeadLetters,
+    letters: &mut u64,
+) -> Result<(), SearchError>
+    ensures ok { OnOk result (Delivers (names_of desk.old) connection.old (desk_of desk.old)
+        connection.new (desk_of desk.new)) }
+    ensures err { OnErr result (DeliversSome (names_of desk.old) connection.old (desk_of desk.old)
+        connection.new (desk_of desk.new)) }
+{
+    for _ in 0..u64::MAX {
+        let mut question = Vec::new(alloc);
+        let asked = match desk.request(alloc, &mut question) {
+            Ok(LetterAsked::Nothing) => return Ok(()),
+            Ok(asked) => asked,
+            Err(error) => return Err(not_written(error)),
+        };
+        connection.send_bytes(&question)?;
+        let reply = connection.receive(alloc)?;
+        if let Err(error) = desk.answered(reply) {
+            return Err(error.into());
+        }
+        if asked == LetterAsked::Acknowledge {
+            *letters = letters.saturating_add(1);
+        }
+    }
+    Err(SearchError::LastLetter)
+}
+
+// Why a command was not written.
+fn not_written(error: WriteError) -> SearchError {
+    ConnectionError::from(error).into()
+}

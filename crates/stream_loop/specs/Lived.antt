@@ -1,0 +1,15 @@
+-- The rounds of a loop, as rounds of a worker's life.
+use Rattle.std.specs.Prelude.{List, ◌++◌}
+use Rattle.redis_connection.specs.Link.{Link}
+use Rattle.stream_group.specs.Worker.{Id}
+use Rattle.stream_worker.specs.Gathered.{Doings}
+use Rattle.stream_worker.specs.Life.{Lives}
+use Rattle.stream_worker.specs.Session.{Standing}
+use Rattle.stream_worker.specs.declared.state.Settings.{Settings}
+use Rattle.stream_loop.specs.Loop.{Drains}
+
+-- the law: where a worker lives at first it lives after such rounds, where just those entries were deleted meanwhile of
+-- which the replies in these rounds said so
+abbrev pub LoopsAreLived : Type 0
+LoopsAreLived = (settings : Settings) (old new : Link) (v y : Standing Doings) (deleted told : List Id)
+    → Lives settings v deleted → Drains settings old v new y told → Lives settings y (deleted ++ told)

@@ -1,0 +1,3 @@
+-- Lemmas on an outbox.
+pub mod SentLemmas
+pub mod PostsLemmas

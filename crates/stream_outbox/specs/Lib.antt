@@ -1,0 +1,3 @@
+-- What the contracts of an outbox speak of.
+pub mod Sent
+pub mod Posts
