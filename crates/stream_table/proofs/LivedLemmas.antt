@@ -11,7 +11,7 @@ use Rattle.stream_worker.specs.Gathered.{Doings, committed_too}
 use Rattle.stream_worker.specs.Life.{begins}
 use Rattle.stream_worker.specs.Machine.{history_at_request}
 use Rattle.stream_worker.specs.Pipelined.{FailsPipelined, WentPipelined}
-use Rattle.stream_worker.specs.Session.{Standing, Turned, Fails}
+use Rattle.stream_worker.specs.Session.{Standing}
 use Rattle.stream_worker.specs.declared.error.RunError.{RunError}
 use Rattle.stream_worker.specs.declared.state.Asked.{Asked}
 use Rattle.stream_worker.specs.declared.state.Settings.{Settings}
