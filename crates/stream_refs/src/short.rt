@@ -87,7 +87,7 @@ fn text_from(
 }
 
 /// The text of the bulk string behind `at` bytes, and how many bytes end with it, if its length has one
-/// digit or two and 106 bytes are left, which is what the longest such string has.
+/// digit or two and 106 bytes are left. The longest such string has so many, so no end is looked for.
 #[inline(always)]
 fn short_text_at(limits: Limits, bytes: &[u8], at: usize) -> Option<(Span, usize)>
     requires { at ≤ length bytes.now }
