@@ -16,4 +16,4 @@ pub returns-in-Some-clause-err : goal.returns-in-Some-clause-err
 returns-in-Some-clause-err c =
     let some = rw c.in-Some.is at c.in_ok-nil_id.ensures in
     let first = rw c.deref.ensures.value at some in
-    inr (c.in-Some.id, refl, claim_of c.in_ok-claim.claim, c.in_ok-claim.ensures.ok, sym first)
+    inr (c.in-Some.id, refl, (claim_of c.in_ok-claim.claim, c.in_ok-claim.ensures.ok, sym first))

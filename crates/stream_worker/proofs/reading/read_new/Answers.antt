@@ -21,4 +21,4 @@ pub returns-in-Some-clause-err : goal.returns-in-Some-clause-err
 returns-in-Some-clause-err c =
     let some = rw c.in-Some.is at c.in_ok-nil_id.ensures in
     let first = rw c.deref.ensures.value at some in
-    inr (c.in-Some.id, refl, sent_all c.in_ok-entries.entries, c.in_ok-entries.ensures.ok, sym first)
+    inr (c.in-Some.id, refl, (sent_all c.in_ok-entries.entries, c.in_ok-entries.ensures.ok, sym first))

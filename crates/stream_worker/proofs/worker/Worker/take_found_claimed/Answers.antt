@@ -9,14 +9,14 @@ use Rattle.stream_worker.proofs.worker.Worker.take_found_claimed.Goals as goal
 pub returns-in_ok-from_str-in-Some-clause-taken : goal.returns-in_ok-from_str-in-Some-clause-taken
 returns-in_ok-from_str-in-Some-clause-taken g c t reads =
     let some = rw c.in-Some.is at c.nil_id_in_place.ensures in
-    let first = sym (ap first_nil c.again.ensures) ∙ sym some ∙ ap Some (sym c.in_ok-from_str.ensures.ok) in
+    let first = sym (ap first_nil c.again.ensures) ∙ sym some ∙ ap Some (sym c.in_ok-from_str-in-Some.ensures.ok) in
     claim_nil g.H.Handler.with_verdict c.args.self.now.settings t (machine_of c.args.self.now) _ _ _
-    c.in_ok-from_str.field-0 (_, reads, first) refl refl
+    c.in_ok-from_str-in-Some.field-0 (_, reads, first) refl refl
 
 pub returns-in_err-take_in_place-in-None-clause-taken : goal.returns-in_err-take_in_place-in-None-clause-taken
 returns-in_err-take_in_place-in-None-clause-taken g c t reads =
     let none = rw c.in-None.is at c.nil_id_in_place.ensures in
-    let there = there_all _ (sym (ap first_nil c.again.ensures) ∙ sym none) in
+    let there = there_all c.args.found.claimed (sym (ap first_nil c.again.ensures) ∙ sym none) in
     let said = claim_says t _ reads there in
     let next = rw c.in_ok-from_str-in-None.ensures.ok at c.next_claim-next.ensures in
     let moved = c.in_err-take_in_place-in-None.ensures.moved in
@@ -27,7 +27,7 @@ returns-in_err-take_in_place-in-None-clause-taken g c t reads =
 pub returns-in_ok-take_in_place-in-None-clause-taken : goal.returns-in_ok-take_in_place-in-None-clause-taken
 returns-in_ok-take_in_place-in-None-clause-taken g c t reads =
     let none = rw c.in-None.is at c.nil_id_in_place.ensures in
-    let there = there_all _ (sym (ap first_nil c.again.ensures) ∙ sym none) in
+    let there = there_all c.args.found.claimed (sym (ap first_nil c.again.ensures) ∙ sym none) in
     let said = claim_says t _ reads there in
     let next = rw c.in_ok-from_str-in-None.ensures.ok at c.next_claim-next.ensures in
     let moved = c.in_ok-take_in_place-in-None.ensures.moved in

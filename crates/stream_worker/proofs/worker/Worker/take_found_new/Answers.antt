@@ -6,16 +6,16 @@ use Rattle.stream_worker.proofs.ReadLemmas.{there_all}
 use Rattle.stream_worker.proofs.WorkerLemmas.{news_nil, news_went, news_cut}
 use Rattle.stream_worker.proofs.worker.Worker.take_found_new.Goals as goal
 
-pub returns-in_ok-from_str-in-Some-2-clause-taken : goal.returns-in_ok-from_str-in-Some-2-clause-taken
-returns-in_ok-from_str-in-Some-2-clause-taken g c t reads =
+pub returns-in_ok-from_str-in-Some-new_nil_id-clause-taken : goal.returns-in_ok-from_str-in-Some-new_nil_id-clause-taken
+returns-in_ok-from_str-in-Some-new_nil_id-clause-taken g c t reads =
     let is = rw c.deref.ensures at c.in-Some.ensures in
     let said = streams_say (string_bytes c.args.self.now.settings.key) t c.args.streams
     (Some (entries_sent c.in-Some.entries)) reads is in
-    let some = rw c.in-Some-2.is at c.new_nil_id.ensures in
-    let first = sym some ∙ ap Some (sym c.in_ok-from_str.ensures.ok) in
+    let some = rw c.in-Some-new_nil_id.is at c.new_nil_id.ensures in
+    let first = sym some ∙ ap Some (sym c.in_ok-from_str-in-Some-new_nil_id.ensures.ok) in
     rw c.replace-phase.ensures.after
     (news_nil g.H.Handler.with_verdict c.args.self.now.settings t (machine_of c.args.self.now) _ _ _
-    c.in_ok-from_str.field-0 (entries_sent c.in-Some.entries, said, first) refl refl)
+    c.in_ok-from_str-in-Some-new_nil_id.field-0 (entries_sent c.in-Some.entries, said, first) refl refl)
 
 pub returns-in_err-take_in_place-in-None-clause-taken : goal.returns-in_err-take_in_place-in-None-clause-taken
 returns-in_err-take_in_place-in-None-clause-taken g c t reads =
