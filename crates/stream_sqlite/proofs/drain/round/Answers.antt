@@ -2,16 +2,16 @@ use Rattle.stream_letters.proofs.DeadLemmas.{on_err}
 use Rattle.stream_table.proofs.LivedLemmas.{pipelined_fails, pipelined_ok, pipelined_stopped}
 use Rattle.stream_sqlite.proofs.drain.round.Goals as goal
 
-pub returns-in_err-goes_on-clause-err : goal.returns-in_err-goes_on-clause-err
-returns-in_err-goes_on-clause-err g c = on_err c.from_residual.result
+pub returns-in_err-goes_on-in-Ok-clause-err : goal.returns-in_err-goes_on-in-Ok-clause-err
+returns-in_err-goes_on-in-Ok-clause-err g c = on_err c.from_residual.result
     (pipelined_stopped c.args.worker.now.settings c.args.connection.now c.round_pipelined.new.connection _ _
-    c.in-Ok.made.acknowledged c.in-Ok.made.round.asked c.in-Ok.made.round.progress c.in_err-goes_on.ensures.err
+    c.in-Ok.made.acknowledged c.in-Ok.made.round.asked c.in-Ok.made.round.progress c.in_err-goes_on-in-Ok.ensures.err
     c.in-Ok.ensures.ok)
 
-pub returns-in_ok-goes_on-clause-ok : goal.returns-in_ok-goes_on-clause-ok
-returns-in_ok-goes_on-clause-ok g c =
+pub returns-in_ok-goes_on-in-Ok-clause-ok : goal.returns-in_ok-goes_on-in-Ok-clause-ok
+returns-in_ok-goes_on-in-Ok-clause-ok g c =
     pipelined_ok c.args.worker.now.settings c.args.connection.now c.round_pipelined.new.connection _ _
-    c.in-Ok.made.acknowledged c.in-Ok.made.round.asked c.in-Ok.made.round.progress c.in_ok-goes_on.ensures.ok
+    c.in-Ok.made.acknowledged c.in-Ok.made.round.asked c.in-Ok.made.round.progress c.in_ok-goes_on-in-Ok.ensures.ok
     c.in-Ok.ensures.ok
 
 pub returns-in-Err-clause-err : goal.returns-in-Err-clause-err
