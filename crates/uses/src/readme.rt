@@ -9,7 +9,7 @@ use redis::streams::{StreamRangeReply, StreamReadOptions};
 use redis::{ParsingError, ToRedisArgs, Value, from_redis_value};
 use std::alloc::{AllocError, Global};
 
-/// `XREADGROUP GROUP workers ann COUNT 10 STREAMS orders >`, whatever the order of the calls.
+/// `XREADGROUP GROUP workers ann COUNT 10 STREAMS orders >`, whatever the order of the setters.
 pub fn read_arguments(alloc: Global) -> Result<Vec<Vec<u8>>, AllocError>
     ensures { IfOk result (λ list. map (λ arg. arg.items) list.items ≡
         codes "XREADGROUP" ∷ codes "GROUP" ∷ codes "workers" ∷ codes "ann"
