@@ -60,8 +60,8 @@ impl<T: Table + Drop> Rows<T> {
         Rows::with_columns(alloc, table, Vec::new(alloc))
     }
 
-    /// The same, where a row has a value in each of these columns. If there are none, it has one text of all
-    /// fields.
+    /// A handler over this table, whose rows have a value in each of these columns. If there are none, a row
+    /// has one text of all fields.
     pub fn with_columns(alloc: Global, table: T, columns: Vec<Column>) -> Rows<T>
         ensures { (result.table ≡ table) × (result.columns ≡ columns) × (result.loose.items ≡ [])
             × (result.seen ≡ 0) × (result.done ≡ 0) × (result.committed ≡ 0) }
