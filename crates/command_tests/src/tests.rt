@@ -6,7 +6,7 @@ mod call_sequences;
 mod entry;
 mod group;
 mod justid;
-mod law;
+mod laws;
 mod memory;
 mod options;
 mod sentences;

@@ -7,7 +7,7 @@ use stream_sentences::{
     read_trim,
 };
 
-mod law;
+mod laws;
 mod lines;
 mod rows;
 
