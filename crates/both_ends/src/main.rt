@@ -514,7 +514,7 @@ fn start_feed_again(alloc: Global, server: &mut Server, feed: &mut Feed) -> Resu
     feed.link.connect_again(alloc, server)
 }
 
-/// The same producer over a new connection, or another one.
+/// Gives the producer a new connection; another producer begins over it if the schedule restarts them.
 fn connect_feed_again(
     alloc: Global,
     server: &mut Server,
@@ -786,7 +786,7 @@ fn start_drain_again(
     drain.link.connect_again(alloc, server)
 }
 
-/// The same worker over a new connection, or another one.
+/// Gives the worker a new connection; another worker begins over it if the schedule restarts them.
 fn connect_drain_again(
     alloc: Global,
     server: &mut Server,

@@ -102,8 +102,8 @@ fn one_by_one(alloc: Global, limits: Limits, bytes: &[u8]) -> Result<String, All
     Ok(outcome)
 }
 
-/// The same, and what each way says of the bytes cut in two and of each front of them, if it is something
-/// else.
+/// What `one_by_one` says, and what each way says of the bytes cut in two and of each front of them, if it
+/// is something else.
 fn compared_ways(alloc: Global, limits: Limits, bytes: &[u8]) -> Result<String, AllocError> {
     let told = decoded(alloc, limits, bytes)?;
     let mut outcome = one_by_one(alloc, limits, bytes)?;

@@ -13,7 +13,7 @@ pub enum Operation {
     RangeOfOneField,
     /// A read of one stream is read, in the standard form, with entries of five fields.
     Read,
-    /// The same in the claim form.
+    /// A read of one stream is read, in the claim form, with entries of five fields.
     ReadWithClaim,
     /// An automatic claim of entries of five fields is read.
     Autoclaim,

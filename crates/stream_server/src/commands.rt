@@ -614,7 +614,7 @@ fn check_name(name: &[u8]) -> Result<(), Refusal> {
     Ok(())
 }
 
-/// That there is no such command.
+/// The refusal of a command that is not known: its name, and its arguments in quotes.
 fn unknown(alloc: Global, word: &[u8], arguments: &[Vec<u8>]) -> Refusal {
     match quoted(alloc, arguments) {
         Ok(text) => refusal_of(
@@ -710,13 +710,13 @@ fn wrong_subcount(alloc: Global, word: &[u8], subcommand: &[u8]) -> Refusal {
     }
 }
 
-/// That there is no such subcommand.
+/// The refusal of a subcommand that is not known.
 fn unknown_subcommand(alloc: Global, word: &[u8], subcommand: &[u8]) -> Refusal {
     let subcommand = shown(subcommand, MOST_SHOWN);
     see_help(alloc, b"ERR unknown subcommand '", subcommand, word)
 }
 
-/// That the subcommand has no such options.
+/// The refusal of options that the subcommand does not have.
 fn wrong_options(alloc: Global, word: &[u8], subcommand: &[u8]) -> Refusal {
     let fault = b"ERR unknown subcommand or wrong number of arguments for '";
     see_help(alloc, fault, subcommand, word)
@@ -742,7 +742,7 @@ fn refusal_of(alloc: Global, parts: &[&[u8]]) -> Refusal {
     Refusal::Text(text)
 }
 
-/// That there is no such group, as XGROUP and XINFO say it.
+/// The refusal for a missing group, as XGROUP and XINFO word it.
 fn no_group_for(alloc: Global, key: &[u8], group: &[u8]) -> Refusal {
     refusal_of(
         alloc,
@@ -756,7 +756,7 @@ fn no_group_for(alloc: Global, key: &[u8], group: &[u8]) -> Refusal {
     )
 }
 
-/// The same, as XPENDING, XCLAIM and XAUTOCLAIM say it.
+/// The refusal for a missing key or group, as XPENDING, XCLAIM and XAUTOCLAIM word it.
 fn no_group(alloc: Global, key: &[u8], group: &[u8]) -> Refusal {
     refusal_of(
         alloc,
@@ -788,17 +788,17 @@ fn integer_in(argument: &[u8]) -> Option<i64> {
     }
 }
 
-/// The number, or that it is none.
+/// A number of 64 bits with a sign. Any other text is refused as no integer.
 fn integer(argument: &[u8]) -> Result<i64, Refusal> {
     integer_in(argument).ok_or(NOT_AN_INTEGER)
 }
 
-/// A number, and 0 for a negative one.
+/// A number of 64 bits with a sign, and 0 for a negative one. Any other text is refused as no integer.
 fn count(argument: &[u8]) -> Result<u64, Refusal> {
     Ok(u64::try_from(integer(argument)?).unwrap_or(0))
 }
 
-/// A number, and 0 for a negative one.
+/// A number of 64 bits with a sign, and 0 for a negative one. None for any other text.
 fn count_in(argument: &[u8]) -> Option<u64> {
     Some(u64::try_from(integer_in(argument)?).unwrap_or(0))
 }
@@ -814,7 +814,7 @@ enum NewId {
     Given(EntryId),
 }
 
-/// The same, or `-` for the smallest one and `+` for the largest one.
+/// An id, or `-` for the smallest one and `+` for the largest one.
 fn loose_id(text: &[u8], missing: u64) -> Option<EntryId> {
     match before_nul(text) {
         [b'-'] => Some(EntryId::ZERO),

@@ -22,7 +22,7 @@ pub fn next_own(entries: &[SentRow]) -> Result<Phase, AllocError>
     }
 }
 
-/// The same of entries in their bytes, if there are any.
+/// Where to go on after its own pending entries, read in their bytes, if there are any.
 pub fn next_own_in_place(
     alloc: Global,
     entries: &Option<EntriesRef<'_>>,
@@ -35,7 +35,7 @@ pub fn next_own_in_place(
     }
 }
 
-/// After the last of these entries.
+/// Where to go on after the last of these entries.
 fn phase_after_last(alloc: Global, entries: EntriesRef<'_>) -> Result<Phase, AllocError>
     ensures { IfOk result (λ p. phase_of p ≡ after_own (all_delivered entries.entry)) }
 {

@@ -51,7 +51,7 @@ impl Worker {
         }
     }
 
-    /// The same, and after an error leaves the worker where it is.
+    /// Makes one round, or two in one write. An error leaves the worker where it is.
     fn try_pipelined<H: Handler, R: Read + Drop, W: Write + Drop>(
         &mut self,
         alloc: Global,

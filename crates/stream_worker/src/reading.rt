@@ -102,7 +102,7 @@ fn nil_id(entries: &[SentRow]) -> Result<Option<String>, AllocError>
     Ok(None)
 }
 
-/// The same of entries in their bytes.
+/// The id of the first entry with nil in place of its fields, of entries in their bytes.
 pub fn nil_id_in_place<'a>(entries: EntriesRef<'a>) -> Option<&'a str>
     ensures { option_map (λ id. id.now) result ≡ first_nil entries.entry }
 {
@@ -114,7 +114,7 @@ pub fn nil_id_in_place<'a>(entries: EntriesRef<'a>) -> Option<&'a str>
     None
 }
 
-/// The same, if there are any.
+/// The id of the first entry with nil in place of its fields, of entries in their bytes, if there are any.
 pub fn new_nil_id<'a>(entries: &Option<EntriesRef<'a>>) -> Option<&'a str>
     ensures { option_map (λ id. id.now) result ≡ first_nil (entries_sent entries.now) }
 {

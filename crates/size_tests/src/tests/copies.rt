@@ -160,7 +160,7 @@ fn check_copy<T: Copied>(
     check_same(rt, &record, &record.copied(rt.alloc())?)
 }
 
-/// The same for each count.
+/// Checks a copy of each number of items.
 fn check_copies<T: Copied>(rt: &(impl AllocGlobal + Abort), items: Line<'_>) -> Result<(), Fail> {
     for step in 0..67 {
         check_copy::<T>(rt, items, count_of(step))?;

@@ -284,7 +284,7 @@ fn deliveries_in(text: &[u8]) -> Result<Option<u64>, Refusal> {
     }
 }
 
-/// That there is no such option.
+/// The refusal of an option that XCLAIM does not have.
 fn unrecognized(alloc: Global, word: &[u8]) -> Refusal {
     let word = shown(word, usize::MAX);
     refusal_of(alloc, &[b"ERR Unrecognized XCLAIM option '", word, b"'"])

@@ -51,7 +51,7 @@ fn without_blanks(text: &[u8]) -> &[u8]
     rest
 }
 
-/// The number of decimal digits.
+/// Parses decimal digits, without a sign, as a number of 64 bits.
 fn digits_in(text: &[u8]) -> Option<u64>
     ensures { (n : ℕ) → n < 2 ^ 64 → text.now ≡ decimal n → result ≡ Some n }
 {

@@ -27,7 +27,7 @@ pub fn print_joined<T: PrintedForm>(
     Ok(())
 }
 
-/// The same, but a dash where there is no item.
+/// Appends the forms of the items with the separator between each two, and a dash if there is no item.
 pub fn print_listed<T: PrintedForm>(
     alloc: Global,
     items: &[T],

@@ -48,7 +48,7 @@ impl Worker {
         result
     }
 
-    /// The same with these tables.
+    /// Takes the answer at the head of bytes, with these tables for its places.
     fn take_with<H: Handler>(
         &mut self,
         alloc: Global,
