@@ -28,7 +28,7 @@ pub fn made(alloc: Global, entries: u32, form: Form) -> Result<Vec<u8>, AllocErr
     Ok(bytes)
 }
 
-// What stands before the entries.
+/// What stands before the entries.
 fn push_head(alloc: Global, bytes: &mut Vec<u8>, entries: u32, form: Form) -> Result<(), AllocError>
     ensures { IfOk result (λ _. bytes.new.items ≡ bytes.old.items ++ head_bytes form entries) }
 {
@@ -37,7 +37,7 @@ fn push_head(alloc: Global, bytes: &mut Vec<u8>, entries: u32, form: Form) -> Re
     push_count(alloc, bytes, entries)
 }
 
-// The head of an array of so many members.
+/// The head of an array of so many members.
 #[tactic(auto, unfolding(crate::specs::Answer::count_bytes))]
 fn push_count(alloc: Global, bytes: &mut Vec<u8>, count: u32) -> Result<(), AllocError>
     ensures { IfOk result (λ _. bytes.new.items ≡ bytes.old.items ++ count_bytes count) }
@@ -46,7 +46,7 @@ fn push_count(alloc: Global, bytes: &mut Vec<u8>, count: u32) -> Result<(), Allo
     bytes.extend_from_slice(head.as_bytes())
 }
 
-// What stands before the name of the stream.
+/// What stands before the name of the stream.
 fn push_form(bytes: &mut Vec<u8>, form: Form) -> Result<(), AllocError>
     ensures { IfOk result (λ _. bytes.new.items ≡ bytes.old.items ++ form_bytes form) }
 {
@@ -56,7 +56,7 @@ fn push_form(bytes: &mut Vec<u8>, form: Form) -> Result<(), AllocError>
     }
 }
 
-// A bulk string.
+/// A bulk string.
 #[tactic(auto, unfolding(crate::specs::Answer::text_bytes))]
 fn push_text(alloc: Global, bytes: &mut Vec<u8>, text: &str) -> Result<(), AllocError>
     ensures { IfOk result (λ _. bytes.new.items ≡ bytes.old.items ++ text_bytes text.now) }

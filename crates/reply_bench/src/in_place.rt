@@ -6,7 +6,7 @@ use anyhow::anyhow;
 use redis_wire::Limits;
 use stream_refs::{EntriesRef, EntryTape, FieldsRef, StreamsRef};
 
-// Both names are fields of every entry.
+/// Both names are fields of every entry.
 const NAMES: [&[u8]; 2] = [b"customer", b"note"];
 
 /// Finds where all stands; how many streams there are.

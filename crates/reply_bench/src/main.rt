@@ -47,10 +47,10 @@ use std::process::ExitCode;
 use std::{env, io};
 use stream_refs::EntryTape;
 
-// The arguments name no work.
+/// The arguments name no work.
 const NO_WORK: u8 = 1;
 
-// Memory ran out, standard output failed, or the answer was not read.
+/// Memory ran out, standard output failed, or the answer was not read.
 const FAILED: u8 = 2;
 
 fn main(rt: HostRuntime) -> ExitCode {
@@ -61,7 +61,7 @@ fn main(rt: HostRuntime) -> ExitCode {
     }
 }
 
-// Does what the arguments ask for; false if they name no work.
+/// Does what the arguments ask for; false if they name no work.
 fn work_of_arguments(rt: &HostRuntime) -> Result<bool, anyhow::Error> {
     let mut words = Vec::new(rt.alloc());
     for word in env::args(rt)?.skip(1) {
@@ -78,13 +78,13 @@ fn work_of_arguments(rt: &HostRuntime) -> Result<bool, anyhow::Error> {
     Ok(true)
 }
 
-// Says on standard error why words name no work.
+/// Says on standard error why words name no work.
 fn refuse(rt: &HostRuntime, error: JobError) -> Result<bool, anyhow::Error> {
     eprintln!(rt; "reply_bench: {error}")?;
     Ok(false)
 }
 
-// Does the job that the words name; there have to be four.
+/// Does the job that the words name; there have to be four.
 fn work_of_words(rt: &HostRuntime, words: &[String]) -> Result<bool, anyhow::Error> {
     let [name, second, third, fourth] = words else {
         return refuse(rt, JobError::WrongArguments);
@@ -104,7 +104,7 @@ fn work_of_words(rt: &HostRuntime, words: &[String]) -> Result<bool, anyhow::Err
     Ok(true)
 }
 
-// The job of this reading that the three words after its name say.
+/// The job of this reading that the three words after its name say.
 fn bytes_job(reading: Reading, calls: &str, entries: &str, form: &str) -> Option<BytesJob> {
     Some(BytesJob {
         reading,
@@ -114,7 +114,7 @@ fn bytes_job(reading: Reading, calls: &str, entries: &str, form: &str) -> Option
     })
 }
 
-// Reads the bytes of an answer, or prints them.
+/// Reads the bytes of an answer, or prints them.
 fn read_bytes(rt: &HostRuntime, words: &[String], job: BytesJob) -> Result<bool, anyhow::Error> {
     let bytes = made(rt.alloc(), job.entries, job.form)?;
     if matches!(job.reading, Reading::Print) {
@@ -127,7 +127,7 @@ fn read_bytes(rt: &HostRuntime, words: &[String], job: BytesJob) -> Result<bool,
     Ok(true)
 }
 
-// Prints the words of a job, with a space behind each.
+/// Prints the words of a job, with a space behind each.
 fn print_words(rt: &HostRuntime, words: &[String]) -> Result<(), anyhow::Error> {
     for word in words {
         print!(rt; "{word} ")?;
@@ -135,7 +135,7 @@ fn print_words(rt: &HostRuntime, words: &[String]) -> Result<(), anyhow::Error> 
     Ok(())
 }
 
-// Reads the answer so often, and sums up what was looked at.
+/// Reads the answer so often, and sums up what was looked at.
 fn read(alloc: Global, bytes: &[u8], job: BytesJob) -> Result<usize, anyhow::Error> {
     let mut tape = EntryTape::new(alloc);
     let mut stream = ReplyStream::new(alloc, Limits::default());
@@ -151,7 +151,7 @@ fn read(alloc: Global, bytes: &[u8], job: BytesJob) -> Result<usize, anyhow::Err
     Ok(sum)
 }
 
-// Feeds so many answers, each in one piece, and then takes as many replies out; their bytes.
+/// Feeds so many answers, each in one piece, and then takes as many replies out; their bytes.
 fn fed(
     alloc: Global,
     stream: &mut ReplyStream,
@@ -169,7 +169,7 @@ fn fed(
     Ok(sum)
 }
 
-// Feeds so many answers byte by byte, and asks for a reply behind each byte; the bytes of all replies.
+/// Feeds so many answers byte by byte, and asks for a reply behind each byte; the bytes of all replies.
 fn fed_bytes(
     alloc: Global,
     stream: &mut ReplyStream,

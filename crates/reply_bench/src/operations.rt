@@ -51,7 +51,7 @@ fn add_options(alloc: Global) -> Result<StreamAddOptions, AllocError> {
     )
 }
 
-// All options of XADD: made anew, written as a list that is made, or into a list with room.
+/// All options of XADD: made anew, written as a list that is made, or into a list with room.
 fn add(alloc: Global, way: Way, count: usize) -> Result<(), ParsingError>
     ensures { IfErr result (λ e. e ≡ ParsingError.Memory) }
 {

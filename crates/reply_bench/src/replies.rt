@@ -66,7 +66,7 @@ fn make_row(alloc: Global, row: Row, index: usize) -> Result<Value, AllocError>
     Ok(Value::Array(items))
 }
 
-// So many rows of this kind.
+/// So many rows of this kind.
 #[tactic(auto, using(crate::proofs::BelowLemmas::no_rows))]
 fn rows(alloc: Global, row: Row, count: usize) -> Result<Vec<Value>, AllocError>
     ensures { IfOk result (λ v. map tree v.items ≡ row_trees row count) }
@@ -78,7 +78,7 @@ fn rows(alloc: Global, row: Row, count: usize) -> Result<Vec<Value>, AllocError>
     Ok(rows)
 }
 
-// So many pairs of a text and a number, one behind the other.
+/// So many pairs of a text and a number, one behind the other.
 #[tactic(auto, using(crate::proofs::BelowLemmas::below_none))]
 fn pairs(alloc: Global, count: usize) -> Result<Vec<Value>, AllocError>
     ensures { IfOk result (λ v. map tree v.items ≡ below pair_trees count) }
@@ -91,7 +91,7 @@ fn pairs(alloc: Global, count: usize) -> Result<Vec<Value>, AllocError>
     Ok(items)
 }
 
-// The rows as what XREAD gives of one stream.
+/// The rows as what XREAD gives of one stream.
 fn one_stream(alloc: Global, rows: Vec<Value>) -> Result<Value, AllocError>
     ensures { IfOk result (λ v. tree v ≡ stream_tree (map tree rows.items)) }
 {
@@ -100,7 +100,7 @@ fn one_stream(alloc: Global, rows: Vec<Value>) -> Result<Value, AllocError>
     Ok(Value::Array(vec![in alloc; stream]?))
 }
 
-// The rows as what XAUTOCLAIM gives at the end of a stream, none of them deleted.
+/// The rows as what XAUTOCLAIM gives at the end of a stream, none of them deleted.
 fn claimed_to_the_end(alloc: Global, rows: Vec<Value>) -> Result<Value, AllocError>
     ensures { IfOk result (λ v. tree v ≡ claimed_tree (map tree rows.items)) }
 {

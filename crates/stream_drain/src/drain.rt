@@ -83,7 +83,7 @@ fn turn<R: Read + Drop, W: Write + Drop, D: LogFile + Drop, T: Clock + Eprint + 
     Ok(made.round.asked)
 }
 
-// Looks for entries that were delivered too often, where they are given up.
+/// Looks for entries that were delivered too often, where they are given up.
 fn look<R: Read + Drop, W: Write + Drop, D: LogFile + Drop>(
     alloc: Global,
     connection: &mut Connection<R, W>,
@@ -140,7 +140,7 @@ fn round<R: Read + Drop, W: Write + Drop, D: LogFile + Drop>(
     }
 }
 
-// A round that had a write of its own.
+/// A round that had a write of its own.
 fn alone(round: Round) -> Pipelined
     ensures { result ≡ record { acknowledged = false; round = round } }
 {
@@ -150,7 +150,7 @@ fn alone(round: Round) -> Pipelined
     }
 }
 
-// An error if the handler said to stop.
+/// An error if the handler said to stop.
 fn goes_on(progress: Progress, fault: &Option<LogError>, undone: &Option<String>) -> Result<()>
     ensures ok { OnOk result (progress ≡ Progress.GoesOn) }
     ensures err { OnErr result (progress ≡ Progress.Stopped) }
@@ -161,7 +161,7 @@ fn goes_on(progress: Progress, fault: &Option<LogError>, undone: &Option<String>
     }
 }
 
-// If it is due: so many entries are in the file, which is shown once a second.
+/// If it is due: so many entries are in the file, which is shown once a second.
 fn count<R: Read + Drop, W: Write + Drop, T: Clock + Eprint + AllocGlobal>(
     rt: &T,
     connection: &mut Connection<R, W>,
@@ -182,8 +182,8 @@ fn count<R: Read + Drop, W: Write + Drop, T: Clock + Eprint + AllocGlobal>(
     }
 }
 
-// Shows the counts, and behind them the backlog of the group, where it is watched. Where the server
-// does not tell it, the program says why, and goes on without.
+/// Shows the counts, and behind them the backlog of the group, where it is watched. Where the server
+/// does not tell it, the program says why, and goes on without.
 fn show<R: Read + Drop, W: Write + Drop, T: Eprint + AllocGlobal>(
     rt: &T,
     connection: &mut Connection<R, W>,
@@ -211,14 +211,14 @@ fn show<R: Read + Drop, W: Write + Drop, T: Eprint + AllocGlobal>(
     }
 }
 
-// Shows the counts, and this behind them.
+/// Shows the counts, and this behind them.
 fn say<T: Eprint, M: fmt::Display>(rt: &T, report: &Report, more: &M) -> Result<()> {
     eprintln!(rt; "{report}{more}")?;
     Ok(())
 }
 
-// The backlog of the group that is watched, as the server tells it; none where none is watched, or the
-// server has no such group.
+/// The backlog of the group that is watched, as the server tells it; none where none is watched, or the
+/// server has no such group.
 fn backlog_told<R: Read + Drop, W: Write + Drop>(
     alloc: Global,
     connection: &mut Connection<R, W>,
@@ -237,7 +237,7 @@ fn backlog_told<R: Read + Drop, W: Write + Drop>(
     }
 }
 
-// The backlog of the group of this name.
+/// The backlog of the group of this name.
 fn backlog_in(reply: &StreamInfoGroupsReply, name: &str) -> Option<Backlog> {
     for group in &reply.groups {
         if group.name.as_str() == name {
@@ -247,7 +247,7 @@ fn backlog_in(reply: &StreamInfoGroupsReply, name: &str) -> Option<Backlog> {
     None
 }
 
-// Why a round failed.
+/// Why a round failed.
 fn broken_off(error: RunError, fault: &Option<LogError>) -> Error {
     match error {
         RunError::Request(RequestError::NotCommitted) => not_committed(fault),
@@ -263,7 +263,7 @@ fn broken_off(error: RunError, fault: &Option<LogError>) -> Error {
     }
 }
 
-// Why what was done was not committed.
+/// Why what was done was not committed.
 fn not_committed(fault: &Option<LogError>) -> Error {
     match fault {
         Some(reason) => anyhow!("cannot write the file: {reason}"),
@@ -271,7 +271,7 @@ fn not_committed(fault: &Option<LogError>) -> Error {
     }
 }
 
-// Why an entry was not done, and which one if its id is known.
+/// Why an entry was not done, and which one if its id is known.
 fn stopped(fault: &Option<LogError>, undone: &Option<String>) -> Error {
     match (fault, undone) {
         (Some(reason), Some(id)) => anyhow!("cannot write the line of the entry {id}: {reason}"),

@@ -65,7 +65,7 @@ pub fn ids_told(alloc: Global, lines: &[Vec<u8>], json: bool) -> Result<Vec<Stri
     Ok(ids)
 }
 
-// No id, since the line at this place from the end tells none.
+/// No id, since the line at this place from the end tells none.
 fn untold(place: usize) -> Result<Vec<String>>
     ensures { IfOk result (λ _. ⊥) }
 {

@@ -50,7 +50,7 @@ pub fn record_of_json(alloc: Global, scratch: &mut Scratch, line: &[u8]) -> Resu
     Ok(record)
 }
 
-// The record of a value.
+/// The record of a value.
 fn record_of_value(alloc: Global, value: &Value<'_>) -> Result<Record, NoRecord> {
     match value {
         Value::Object(members) => record_of_object(alloc, members),
@@ -58,7 +58,7 @@ fn record_of_value(alloc: Global, value: &Value<'_>) -> Result<Record, NoRecord>
     }
 }
 
-// The record of an object, which is a line of `stream_drain` or has a field for each member.
+/// The record of an object, which is a line of `stream_drain` or has a field for each member.
 fn record_of_object(alloc: Global, members: &[(&str, Value<'_>)]) -> Result<Record, NoRecord> {
     if let [id, fields] = members {
         if is_id(id) && fields.0 == "fields" {
@@ -70,12 +70,12 @@ fn record_of_object(alloc: Global, members: &[(&str, Value<'_>)]) -> Result<Reco
     record_of_members(alloc, members)
 }
 
-// The member is the id of a line of `stream_drain`.
+/// The member is the id of a line of `stream_drain`.
 fn is_id(member: &(&str, Value<'_>)) -> bool {
     member.0 == "id" && matches!(&member.1, Value::String(_))
 }
 
-// Each pair is a field.
+/// Each pair is a field.
 fn record_of_pairs(alloc: Global, pairs: &[Value<'_>]) -> Result<Record, NoRecord> {
     let mut record = Vec::new(alloc);
     for pair in pairs {
@@ -84,7 +84,7 @@ fn record_of_pairs(alloc: Global, pairs: &[Value<'_>]) -> Result<Record, NoRecor
     Ok(record)
 }
 
-// An array of a name and a value is a field.
+/// An array of a name and a value is a field.
 fn field_of_pair(alloc: Global, pair: &Value<'_>) -> Result<Field, NoRecord> {
     let Value::Array(texts) = pair else {
         return Err(NoRecord::NoTexts);
@@ -95,7 +95,7 @@ fn field_of_pair(alloc: Global, pair: &Value<'_>) -> Result<Field, NoRecord> {
     }
 }
 
-// Each member is a field.
+/// Each member is a field.
 fn record_of_members(alloc: Global, members: &[(&str, Value<'_>)]) -> Result<Record, NoRecord> {
     let mut record = Vec::new(alloc);
     for (name, value) in members {
@@ -105,7 +105,7 @@ fn record_of_members(alloc: Global, members: &[(&str, Value<'_>)]) -> Result<Rec
     Ok(record)
 }
 
-// A text: a string, or an object of its Base64.
+/// A text: a string, or an object of its Base64.
 fn text_of(alloc: Global, value: &Value<'_>) -> Result<Vec<u8>, NoRecord> {
     match value {
         Value::String(text) => Ok(Vec::from_slice(alloc, text.as_bytes())?),
@@ -117,7 +117,7 @@ fn text_of(alloc: Global, value: &Value<'_>) -> Result<Vec<u8>, NoRecord> {
     }
 }
 
-// The bytes that a member with Base64 encodes.
+/// The bytes that a member with Base64 encodes.
 fn bytes_of(alloc: Global, member: &(&str, Value<'_>)) -> Result<Vec<u8>, NoRecord> {
     match &member.1 {
         Value::String(text) => {
@@ -131,7 +131,7 @@ fn bytes_of(alloc: Global, member: &(&str, Value<'_>)) -> Result<Vec<u8>, NoReco
     }
 }
 
-// The bytes that this encodes.
+/// The bytes that this encodes.
 fn decoded(alloc: Global, text: &str) -> Result<Vec<u8>, NoRecord> {
     match STANDARD.decode(alloc, text.as_bytes()) {
         Ok(bytes) => Ok(bytes),

@@ -87,7 +87,7 @@ impl Lines {
         Ok(lines)
     }
 
-    // Counts the lines, and keeps places.
+    /// Counts the lines, and keeps places.
     fn count_all(&mut self) -> Result<()> {
         self.places.push(0)?;
         let mut place = 0u64;
@@ -105,8 +105,8 @@ impl Lines {
         bail!("the file has no end")
     }
 
-    // Counts the lines that are whole in the buffer, which begins at this place of the file. It returns
-    // where the next line begins.
+    /// Counts the lines that are whole in the buffer, which begins at this place of the file. It returns
+    /// where the next line begins.
     fn count_buffered(&mut self, begin: u64) -> Result<u64> {
         let Ok(piece) = self.file.fill_buf() else {
             return Ok(begin);
@@ -121,7 +121,7 @@ impl Lines {
         Ok(begin.saturating_add(len as u64))
     }
 
-    // Reads the next line, without its end. False where none has an end.
+    /// Reads the next line, without its end. False where none has an end.
     fn next_line(&mut self) -> Result<bool> {
         self.line.clear();
         let _len = self
@@ -136,7 +136,7 @@ impl Lines {
         }
     }
 
-    // Goes to where so many lines stand before.
+    /// Goes to where so many lines stand before.
     fn go_to(&mut self, behind: u64) -> Result<()> {
         if self.before == Some(behind) {
             return Ok(());
@@ -157,7 +157,7 @@ impl Lines {
         Ok(())
     }
 
-    // The records after the first `behind` ones, at most `most` of them.
+    /// The records after the first `behind` ones, at most `most` of them.
     fn records_from(&mut self, alloc: Global, behind: u64, most: usize) -> Result<Vec<Record>> {
         let mut records = Vec::new(alloc);
         if behind < self.count {
@@ -170,7 +170,7 @@ impl Lines {
         Ok(records)
     }
 
-    // Reads the next lines as records, until there are so many.
+    /// Reads the next lines as records, until there are so many.
     fn read_records(
         &mut self,
         alloc: Global,
@@ -192,7 +192,7 @@ impl Lines {
         Ok(())
     }
 
-    // Reads the lines that are whole in the buffer as records, until there are so many.
+    /// Reads the lines that are whole in the buffer as records, until there are so many.
     fn read_buffered(
         &mut self,
         alloc: Global,
@@ -237,8 +237,8 @@ impl Source for Lines {
     }
 }
 
-// Takes the lines that are whole in these bytes as records, until there are so many. It returns what
-// is after them.
+/// Takes the lines that are whole in these bytes as records, until there are so many. It returns what
+/// is after them.
 #[tactic(auto, using(crate::proofs::TakenLemmas::none_taken, crate::proofs::TakenLemmas::one_more_taken))]
 fn take_lines<'a>(
     alloc: Global,
@@ -264,7 +264,7 @@ fn take_lines<'a>(
     Ok(rest)
 }
 
-// Counts a line, where the next one begins at this place.
+/// Counts a line, where the next one begins at this place.
 fn count_line(count: &mut u64, places: &mut Vec<u64>, place: u64) -> Result<(), AllocError> {
     *count = count.saturating_add(1);
     if *count % STEP == 0 {
@@ -273,14 +273,14 @@ fn count_line(count: &mut u64, places: &mut Vec<u64>, place: u64) -> Result<(), 
     Ok(())
 }
 
-// The number of the next line, if these records were read after the first `behind` ones.
+/// The number of the next line, if these records were read after the first `behind` ones.
 fn number_of_next(records: &Vec<Record>, behind: u64) -> u64 {
     behind
         .saturating_add(records.len() as u64)
         .saturating_add(1)
 }
 
-// The first line without its end, and what is after it. None if it has no end.
+/// The first line without its end, and what is after it. None if it has no end.
 fn split_line(bytes: &[u8]) -> Option<(&[u8], &[u8])>
     ensures some { IfSome result (λ s. bytes.now ≡ s.0.now ++ 10 ∷ s.1.now) }
     ensures first { IfSome result (λ s. Contains s.0.now 10 → ⊥) }
@@ -291,7 +291,7 @@ fn split_line(bytes: &[u8]) -> Option<(&[u8], &[u8])>
     Some((line, rest))
 }
 
-// The record of a line, which has this number.
+/// The record of a line, which has this number.
 fn record_of(
     alloc: Global,
     form: &Form,
@@ -313,7 +313,7 @@ fn record_of(
     }
 }
 
-// A record of one field.
+/// A record of one field.
 fn record_of_text(alloc: Global, name: &Vec<u8>, value: &[u8]) -> Result<Record, AllocError>
     ensures { IfOk result (λ r. arguments_of r ≡ name.now.items ∷ value.now ∷ []) }
 {

@@ -45,8 +45,8 @@ fn main(rt: HostRuntime) -> Result<()> {
     }
 }
 
-// An error as it may be shown: a control character, which could steer a terminal, stands in its text
-// as `?`.
+/// An error as it may be shown: a control character, which could steer a terminal, stands in its text
+/// as `?`.
 fn masked(alloc: Global, error: Error) -> Error {
     match masked_text(alloc, &error) {
         Ok(Some(text)) => Error::msg(text),
@@ -54,7 +54,7 @@ fn masked(alloc: Global, error: Error) -> Error {
     }
 }
 
-// The text of an error that has a control character in it, masked.
+/// The text of an error that has a control character in it, masked.
 fn masked_text(alloc: Global, error: &Error) -> Result<Option<String>, AllocError> {
     let text = format!(in alloc; "{error}")?;
     if !text.chars().any(char::is_control) {
@@ -67,7 +67,7 @@ fn masked_text(alloc: Global, error: &Error) -> Result<Option<String>, AllocErro
     Ok(Some(shown))
 }
 
-// The words that the program is called with.
+/// The words that the program is called with.
 fn words_of(rt: &HostRuntime) -> Result<Vec<String>> {
     let mut words = Vec::new(rt.alloc());
     for word in env::args(rt)?.skip(1) {
@@ -76,7 +76,7 @@ fn words_of(rt: &HostRuntime) -> Result<Vec<String>> {
     Ok(words)
 }
 
-// Fills as these options say, over standard input and output.
+/// Fills as these options say, over standard input and output.
 fn fill_by(rt: &HostRuntime, options: Options) -> Result<()> {
     let Options {
         settings,
@@ -108,7 +108,7 @@ fn fill_by(rt: &HostRuntime, options: Options) -> Result<()> {
     Ok(())
 }
 
-// Why not all lines are in. If records were not read, it is the fault of the file.
+/// Why not all lines are in. If records were not read, it is the fault of the file.
 fn told(error: FillError, fault: Option<Error>) -> Error
     ensures { error ≡ FillError.Round (ConfirmedError.Round (RunError.Request RequestError.NotRead))
         → IfSome fault (λ f. result ≡ f) }

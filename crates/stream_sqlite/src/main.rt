@@ -42,8 +42,8 @@ fn main(rt: HostRuntime) -> Result<()> {
     }
 }
 
-// An error as it may be shown: a control character, which could steer a terminal, stands in its text
-// as `?`.
+/// An error as it may be shown: a control character, which could steer a terminal, stands in its text
+/// as `?`.
 fn masked(alloc: Global, error: Error) -> Error {
     match masked_text(alloc, &error) {
         Ok(Some(text)) => Error::msg(text),
@@ -51,7 +51,7 @@ fn masked(alloc: Global, error: Error) -> Error {
     }
 }
 
-// The text of an error that has a control character in it, masked.
+/// The text of an error that has a control character in it, masked.
 fn masked_text(alloc: Global, error: &Error) -> Result<Option<String>, AllocError> {
     let text = format!(in alloc; "{error}")?;
     if !text.chars().any(char::is_control) {
@@ -60,7 +60,7 @@ fn masked_text(alloc: Global, error: &Error) -> Result<Option<String>, AllocErro
     Ok(Some(shown(alloc, &text)?))
 }
 
-// A text, in which each control character is `?`.
+/// A text, in which each control character is `?`.
 fn shown(alloc: Global, text: &str) -> Result<String, AllocError> {
     let mut shown = String::new(alloc);
     for letter in text.chars() {
@@ -69,7 +69,7 @@ fn shown(alloc: Global, text: &str) -> Result<String, AllocError> {
     Ok(shown)
 }
 
-// The words that the program is called with.
+/// The words that the program is called with.
 fn words_of(rt: &HostRuntime) -> Result<Vec<String>> {
     let mut words = Vec::new(rt.alloc());
     for word in env::args(rt)?.skip(1) {
@@ -78,7 +78,7 @@ fn words_of(rt: &HostRuntime) -> Result<Vec<String>> {
     Ok(words)
 }
 
-// Drains as these options say, over standard input and output.
+/// Drains as these options say, over standard input and output.
 fn drain_by(rt: &HostRuntime, options: Options) -> Result<()> {
     let Options {
         settings,
@@ -107,7 +107,7 @@ fn drain_by(rt: &HostRuntime, options: Options) -> Result<()> {
     closed.context(format_args!("cannot close {path}"))
 }
 
-// The statements of a table of this name with these columns, or, if there are none, with one text.
+/// The statements of a table of this name with these columns, or, if there are none, with one text.
 fn form_of(alloc: Global, table: &str, columns: &[Column]) -> Result<Form> {
     if !columns.is_empty() {
         return Ok(Form::of(alloc, table, columns)?);
@@ -124,7 +124,7 @@ fn form_of(alloc: Global, table: &str, columns: &[Column]) -> Result<Form> {
     Ok(Form::of(alloc, table, &fields)?)
 }
 
-// The table in the file of this path.
+/// The table in the file of this path.
 fn table_at(rt: &HostRuntime, path: &str, form: Form) -> Result<SqliteTable<FileStore<File>>> {
     let name = form.name.clone()?;
     let wanted = form.create.clone()?;

@@ -37,7 +37,7 @@ pub fn print_rows<W: Write>(rows: &[Row], output: &mut W) -> Result<bool, PrintE
     Ok(all_same)
 }
 
-// Writes the line of one row, and says whether its texts are the same.
+/// Writes the line of one row, and says whether its texts are the same.
 fn print_row<W: Write>(row: &Row, output: &mut W) -> Result<bool, PrintError>
     ensures line { OnOk result (Appends (W.contents output.old) (W.contents output.new)
         (line_of row.now)) }

@@ -25,13 +25,13 @@ use std::process::ExitCode;
 use stream_text::row_lines::{PrintError, print_rows};
 use vectors::vector_rows;
 
-// A text differed.
+/// A text differed.
 const DIFFERENT: u8 = 1;
 
-// Memory ran out, or standard input or output failed.
+/// Memory ran out, or standard input or output failed.
 const FAILED: u8 = 2;
 
-// Why the program could not do its work.
+/// Why the program could not do its work.
 #[derive(Debug, Drop)]
 enum Failure {
     Memory,
@@ -61,7 +61,7 @@ fn main(rt: HostRuntime) -> ExitCode {
     exit_code(print_and_answer(&rt))
 }
 
-// The status of a run: that all texts are the stored ones, that one differs, or why it failed.
+/// The status of a run: that all texts are the stored ones, that one differs, or why it failed.
 fn exit_code(outcome: Result<bool, Failure>) -> ExitCode
     ensures same { outcome ≡ Ok true → exit_status result ≡ 0 }
     ensures differs { outcome ≡ Ok false → exit_status result ≡ 1 }
@@ -74,7 +74,7 @@ fn exit_code(outcome: Result<bool, Failure>) -> ExitCode
     }
 }
 
-// Prints the vectors, and then, where no text differs, answers the lines of standard input.
+/// Prints the vectors, and then, where no text differs, answers the lines of standard input.
 fn print_and_answer<R: Print + Input + AllocGlobal>(rt: &R) -> Result<bool, Failure> {
     if !print_vectors(rt)? {
         return Ok(false);
@@ -83,7 +83,7 @@ fn print_and_answer<R: Print + Input + AllocGlobal>(rt: &R) -> Result<bool, Fail
     Ok(true)
 }
 
-// Prints the line of each vector, and says whether all texts are the stored ones.
+/// Prints the line of each vector, and says whether all texts are the stored ones.
 fn print_vectors<R: Print + AllocGlobal>(rt: &R) -> Result<bool, Failure> {
     let rows = vector_rows(rt.alloc())?;
     Ok(print_rows(&rows, &mut io::writer(rt))?)

@@ -33,7 +33,7 @@ pub fn vector_rows(alloc: Global) -> Result<Vec<Row>, AllocError>
     Ok(rows)
 }
 
-// Adds the vectors of options, v01 to v35.
+/// Adds the vectors of options, v01 to v35.
 fn push_options(alloc: Global, rows: &mut Vec<Row>) -> Result<(), AllocError>
     ensures { OnOk result (vec_len rows.new ≡ vec_len rows.old + 35) }
 {
@@ -50,7 +50,7 @@ fn push_options(alloc: Global, rows: &mut Vec<Row>) -> Result<(), AllocError>
     push_options_rows(alloc, rows, &read::nack_vectors())
 }
 
-// Adds the vectors of options whose texts spell keywords, or whose names are odd, v66 to v69.
+/// Adds the vectors of options whose texts spell keywords, or whose names are odd, v66 to v69.
 fn push_keyword_options(alloc: Global, rows: &mut Vec<Row>) -> Result<(), AllocError>
     ensures { OnOk result (vec_len rows.new ≡ vec_len rows.old + 4) }
 {
@@ -59,7 +59,7 @@ fn push_keyword_options(alloc: Global, rows: &mut Vec<Row>) -> Result<(), AllocE
     push_options_rows(alloc, rows, &read::names_vectors(alloc)?)
 }
 
-// Adds the vectors of replies, v36 to v65.
+/// Adds the vectors of replies, v36 to v65.
 fn push_replies(alloc: Global, rows: &mut Vec<Row>) -> Result<(), AllocError>
     ensures { OnOk result (vec_len rows.new ≡ vec_len rows.old + 30) }
 {
@@ -81,7 +81,7 @@ fn push_replies(alloc: Global, rows: &mut Vec<Row>) -> Result<(), AllocError>
     push_reply_rows::<XAckDelStatusCode>(alloc, rows, &status::acknowledgement_vectors())
 }
 
-// Adds the vectors of odd replies, v70 to v89.
+/// Adds the vectors of odd replies, v70 to v89.
 fn push_odd_replies(alloc: Global, rows: &mut Vec<Row>) -> Result<(), AllocError>
     ensures { OnOk result (vec_len rows.new ≡ vec_len rows.old + 20) }
 {

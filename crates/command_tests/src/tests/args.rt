@@ -5,7 +5,7 @@ use redis_args::{
 };
 use std::process::Abort;
 
-// The value means these arguments: as a list, and in a place of a fixed size.
+/// The value means these arguments: as a list, and in a place of a fixed size.
 fn check_args<T: ToRedisArgs>(rt: &(impl AllocGlobal + Abort), value: &T, wanted: &[&[u8]]) {
     let args = args_of(rt, wanted);
     assert!(rt; is_listed(rt, value, &args));
@@ -14,7 +14,7 @@ fn check_args<T: ToRedisArgs>(rt: &(impl AllocGlobal + Abort), value: &T, wanted
     assert!(rt; holds(&place, &args));
 }
 
-// These arguments on the heap.
+/// These arguments on the heap.
 fn args_of(rt: &(impl AllocGlobal + Abort), args: &[&[u8]]) -> Vec<Vec<u8>> {
     let mut copies = Vec::new(rt.alloc());
     for arg in args {
@@ -23,7 +23,7 @@ fn args_of(rt: &(impl AllocGlobal + Abort), args: &[&[u8]]) -> Vec<Vec<u8>> {
     copies
 }
 
-// These bytes on the heap.
+/// These bytes on the heap.
 fn bytes(rt: &(impl AllocGlobal + Abort), bytes: &[u8]) -> Vec<u8> {
     Vec::from_slice(rt.alloc(), bytes).expect(rt, "memory")
 }
@@ -60,7 +60,7 @@ fn lists_and_options_are_joined(rt: HostRuntime) {
     check(&rt, &[("f", 1u64), ("g", 2)], "f 1 g 2");
 }
 
-// (One tuple a test: of several in one function each costs many times as much to prove.)
+/// (One tuple a test: of several in one function each costs many times as much to prove.)
 #[test]
 fn three_are_joined(rt: HostRuntime) {
     check(&rt, &("a", "b", "c"), "a b c");
@@ -105,8 +105,8 @@ fn a_little_place_is_full(rt: HostRuntime) {
     assert!(rt; holds(&two, &args_of(&rt, &[b"abc", b""])));
 }
 
-// The arguments before the one that was refused stand there, each whole, and the error is the
-// writer's own.
+/// The arguments before the one that was refused stand there, each whole, and the error is the
+/// writer's own.
 #[test]
 fn a_refusal_is_passed_on(rt: HostRuntime) {
     let list = ["ab", "abc", "c"];

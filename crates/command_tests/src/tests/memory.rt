@@ -93,7 +93,7 @@ fn ample_memory_gives_right_answers(rt: HostRuntime) {
     assert!(rt; check_all(&rt) == Ok(()));
 }
 
-// A wrong answer ends the test in `check_written`; that memory ran out is a right one.
+/// A wrong answer ends the test in `check_written`; that memory ran out is a right one.
 #[test]
 fn refused_memory_changes_no_answer(rt: HostRuntime) {
     match check_all(&rt) {

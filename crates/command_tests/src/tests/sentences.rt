@@ -11,7 +11,7 @@ mod laws;
 mod lines;
 mod rows;
 
-// The reader answered so many arguments, and options that write these first arguments.
+/// The reader answered so many arguments, and options that write these first arguments.
 fn check_read<T: ToRedisArgs + Drop>(
     rt: &(impl AllocGlobal + Abort),
     args: &[Vec<u8>],

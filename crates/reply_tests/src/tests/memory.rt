@@ -241,7 +241,7 @@ fn check_copied_parts(rt: &(impl AllocGlobal + Abort)) -> Result<(), ParsingErro
     Ok(())
 }
 
-// A stream with one entry, and one group with one consumer.
+/// A stream with one entry, and one group with one consumer.
 const FULL: &str = "Map[length: 1, entries: Array[Array[1-0, Array[f, v, f, Int 2]]], \
                     groups: Array[Map[name: g, pending: Array[Array[1-0, c, 5, 2]], \
                     consumers: Array[Map[name: c, pending: Array[Array[1-0, 5, 2]]]]]]]";

@@ -9,12 +9,12 @@ use redis_resp::{ParsingError, Value, from_redis_value};
 use redis_streams::StreamReadReply;
 use std::alloc::{AllocError, Global};
 
-// A bulk string.
+/// A bulk string.
 fn bulk(alloc: Global, text: &str) -> Result<Value, AllocError> {
     Ok(Value::BulkString(Vec::from_slice(alloc, text.as_bytes())?))
 }
 
-// An array of a hundred texts.
+/// An array of a hundred texts.
 fn texts(alloc: Global) -> Result<Value, AllocError> {
     let mut texts = Vec::with_capacity(alloc, 100)?;
     for _ in 0..100 {
@@ -23,18 +23,18 @@ fn texts(alloc: Global) -> Result<Value, AllocError> {
     Ok(Value::Array(texts))
 }
 
-// An array of this name and this value.
+/// An array of this name and this value.
 fn named(alloc: Global, name: &str, value: Value) -> Result<Value, AllocError> {
     let name = bulk(alloc, name)?;
     Ok(Value::Array(vec![in alloc; name, value]?))
 }
 
-// An array of this value alone.
+/// An array of this value alone.
 fn alone(alloc: Global, value: Value) -> Result<Value, AllocError> {
     Ok(Value::Array(vec![in alloc; value]?))
 }
 
-// A read of the stream `s`, of the entry `1-0` with this value as its field `f`.
+/// A read of the stream `s`, of the entry `1-0` with this value as its field `f`.
 fn read_of(alloc: Global, field: Value) -> Result<StreamReadReply, ParsingError> {
     let fields = named(alloc, "f", field)?;
     let row = named(alloc, "1-0", fields)?;
@@ -43,21 +43,21 @@ fn read_of(alloc: Global, field: Value) -> Result<StreamReadReply, ParsingError>
     from_redis_value(alloc, alone(alloc, stream)?)
 }
 
-// Whether the entry is read with the text as its field.
+/// Whether the entry is read with the text as its field.
 fn text_is_read(alloc: Global) -> Result<bool, ParsingError> {
     texts(alloc)?;
     let reply = read_of(alloc, bulk(alloc, "v")?)?;
     Ok(matches!(field(&reply), Some(Value::BulkString(_))))
 }
 
-// Whether the entry is read with the array as its field.
+/// Whether the entry is read with the array as its field.
 fn array_is_read(alloc: Global) -> Result<bool, ParsingError> {
     bulk(alloc, "v")?;
     let reply = read_of(alloc, texts(alloc)?)?;
     Ok(matches!(field(&reply), Some(Value::Array(_))))
 }
 
-// The field of the first entry.
+/// The field of the first entry.
 fn field(reply: &StreamReadReply) -> Option<&Value> {
     reply.keys.first()?.ids.first()?.map.get("f")
 }

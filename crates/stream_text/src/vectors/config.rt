@@ -25,7 +25,7 @@ pub fn push_config_rows(
     Ok(())
 }
 
-// Adds the row of what a call answered: its options, or why it was refused.
+/// Adds the row of what a call answered: its options, or why it was refused.
 fn push_answer(
     alloc: Global,
     rows: &mut Vec<Row>,
@@ -43,7 +43,7 @@ fn push_answer(
     }
 }
 
-// The text of a refusal, with a remark where that is not what it prints.
+/// The text of a refusal, with a remark where that is not what it prints.
 fn printed_refusal(alloc: Global, refusal: &ConfigError) -> Result<String, AllocError>
     ensures { IfOk result (λ text. IsRefusalText refusal.now (string_bytes text)) }
 {
@@ -54,7 +54,7 @@ fn printed_refusal(alloc: Global, refusal: &ConfigError) -> Result<String, Alloc
     Ok(text)
 }
 
-// The text that a refusal has to print.
+/// The text that a refusal has to print.
 fn text_of_refusal(alloc: Global, refusal: &ConfigError) -> Result<String, AllocError>
     ensures { IfOk result (λ text. string_bytes text ≡ refusal_text refusal.now) }
 {

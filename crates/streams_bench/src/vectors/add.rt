@@ -102,12 +102,12 @@ pub fn keyword_vectors(alloc: Global) -> Result<[OptionsVector<StreamAddOptions>
     Ok([("v66", options, "IDMP NOMKSTREAM IDMPAUTO MINID ~ = LIMIT 0")])
 }
 
-// So many entries stay, exactly.
+/// So many entries stay, exactly.
 fn exactly(entries: usize) -> StreamTrimStrategy {
     StreamTrimStrategy::maxlen(StreamTrimmingMode::Exact, entries)
 }
 
-// The options with the id `iid-1` of the producer `producer-1`.
+/// The options with the id `iid-1` of the producer `producer-1`.
 fn produced(alloc: Global, options: StreamAddOptions) -> Result<StreamAddOptions, AllocError> {
     let producer_id = String::from_str(alloc, "producer-1")?;
     let idempotent_id = String::from_str(alloc, "iid-1")?;

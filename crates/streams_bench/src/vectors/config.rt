@@ -63,7 +63,7 @@ pub fn refused_vectors() -> [OptionsVector<ConfigAnswer>; 4]
     ]
 }
 
-// Both settings, the duration first.
+/// Both settings, the duration first.
 fn both(seconds: u32, maxsize: u16) -> ConfigAnswer {
     StreamConfigOptions::with_idempotency_seconds(seconds)?.idempotency_maxsize(maxsize)
 }

@@ -4,7 +4,7 @@ use stream_options::{
     StreamAddOptions, StreamClaimOptions, StreamTrimOptions, StreamTrimStrategy, StreamTrimmingMode,
 };
 
-// A rest may not begin with a fixed word of its type.
+/// A rest may not begin with a fixed word of its type.
 #[test]
 fn a_rest_that_is_not_free(rt: HostRuntime) {
     let unlimited = StreamTrimOptions::maxlen(StreamTrimmingMode::Approx, 10);
@@ -13,7 +13,7 @@ fn a_rest_that_is_not_free(rt: HostRuntime) {
     check(&rt, &unlimited.limit(5), "MAXLEN ~ 10 LIMIT 5");
 }
 
-// Ids that spell fixed words.
+/// Ids that spell fixed words.
 #[test]
 fn ids_that_spell_words(rt: HostRuntime) {
     let claim = StreamClaimOptions::default().with_lastid(text(&rt, "FORCE"));

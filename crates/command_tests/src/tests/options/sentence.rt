@@ -24,7 +24,7 @@ fn strategies_alone(rt: HostRuntime) {
     check(&rt, &strategy, "MAXLEN ~ 10 LIMIT 5");
 }
 
-// `NOMKSTREAM KEEPREF IDMP producer-1 iid-1 MAXLEN ~ 100`: 8 words, of 46 bytes.
+/// `NOMKSTREAM KEEPREF IDMP producer-1 iid-1 MAXLEN ~ 100`: 8 words, of 46 bytes.
 fn all_of_add(rt: &(impl AllocGlobal + Abort)) -> StreamAddOptions {
     let about = StreamTrimStrategy::maxlen(StreamTrimmingMode::Approx, 100);
     let options = StreamAddOptions::default().trim(about).nomkstream();
@@ -56,7 +56,7 @@ fn the_last_call_of_add_counts(rt: HostRuntime) {
     check(&rt, &automatic, line);
 }
 
-// The mode and a copy of it write these words.
+/// The mode and a copy of it write these words.
 fn check_mode(rt: &(impl AllocGlobal + Abort), mode: &StreamIdempotencyMode, line: &str) {
     check(rt, mode, line);
     let copy = mode.try_clone(rt.alloc()).expect(rt, "memory");

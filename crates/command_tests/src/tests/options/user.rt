@@ -24,7 +24,7 @@ impl ToRedisArgs for Flag {
     }
 }
 
-// Room for eight arguments of 64 bytes in all, and none for the word `LIMIT`.
+/// Room for eight arguments of 64 bytes in all, and none for the word `LIMIT`.
 #[derive(Drop)]
 struct WithoutLimit {
     store: FixedArgs<8, 64>,
@@ -51,7 +51,7 @@ fn values_of_a_users_own(rt: HostRuntime) {
     check(&rt, &&Flag(true), "yes");
 }
 
-// The answer of writing these options without room for the word `LIMIT`, and what is then held.
+/// The answer of writing these options without room for the word `LIMIT`, and what is then held.
 fn check_without_limit(
     rt: &(impl AllocGlobal + Abort),
     options: &StreamTrimOptions,
