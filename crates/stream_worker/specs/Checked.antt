@@ -17,6 +17,7 @@ checked key group consumer =
       group = group;
       consumer = consumer;
       count = 1000;
+      one_at_a_time = false;
       block = 5000;
       min_idle = 60000;
       every = 10;
