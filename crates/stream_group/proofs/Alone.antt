@@ -126,7 +126,7 @@ module _ {F : Type 0} where
       ap with_id s.is ∙ ap with_fields there in
       (s.x.1, subst (λ d. Among d (reread pick c w.pending w.deleted w.seen)) is within)
 
-  rereads : (k : Id → ℕ) (w : World F) (c : Name) (pick : Id → Bool) → Counted k w
+  pub rereads : (k : Id → ℕ) (w : World F) (c : Name) (pick : Id → Bool) → Counted k w
       → length (again w (Reread c pick)) ≤ 1 → Counted (Next k (again w (Reread c pick))) (happens w (Reread c pick))
   rereads k w c pick i le =
       let ds : List (Delivered F) = reread pick c w.pending w.deleted w.seen in
@@ -167,7 +167,7 @@ module _ {F : Type 0} where
       let with_id : Id → Delivered F = λ x. (x, Some s.x.1) in ap with_id s.is in
       (s.x.1, subst (λ d. Among d (claim_answer pick w.pending w.deleted w.seen)) is within)
 
-  claims : (k : Id → ℕ) (w : World F) (c : Name) (pick : Id → Bool) (next : Id) → Counted k w
+  pub claims : (k : Id → ℕ) (w : World F) (c : Name) (pick : Id → Bool) (next : Id) → Counted k w
       → length (again w (Claim c pick next)) ≤ 1
       → Counted (Next k (again w (Claim c pick next))) (happens w (Claim c pick next))
   claims k w c pick next i le =
@@ -233,7 +233,7 @@ module _ {F : Type 0} where
   -- ---- the other events
 
   -- where what is pending was pending, and what was read stays
-  fewer : (k : Id → ℕ) (w v : World F) → Counted k w → ((p : Pending) → Among p v.pending → Among p w.pending)
+  pub fewer : (k : Id → ℕ) (w v : World F) → Counted k w → ((p : Pending) → Among p v.pending → Among p w.pending)
       → ((e : Entry F) → Among e w.seen → Among e v.seen) → Counted (Next k []) v
   fewer k w v i within grows = record {
     was_read = λ p h. let s = among_of_map (λ (e : Entry F). e.0) p.id w.seen (i.was_read p (within p h)) in
@@ -241,10 +241,10 @@ module _ {F : Type 0} where
     count = λ p h. omega (arith, i.count p (within p h));
   }
 
-  same : (k : Id → ℕ) (w : World F) → Counted k w → Counted (Next k []) w
+  pub same : (k : Id → ℕ) (w : World F) → Counted k w → Counted (Next k []) w
   same k w i = fewer k w w i (λ p h. h) (λ e h. h)
 
-  reads : (k : Id → ℕ) (w : World F) (c : Name) (n : ℕ) → Counted k w → Counted (Next k []) (happens w (Read c n))
+  pub reads : (k : Id → ℕ) (w : World F) (c : Name) (n : ℕ) → Counted k w → Counted (Next k []) (happens w (Read c n))
   reads k w c n i =
       let v : World F = happens w (Read c n) in
       let es : List (Entry F) = given w.deleted n w.fresh in
@@ -264,7 +264,7 @@ module _ {F : Type 0} where
       ] in
       record { was_read = λ p h. (each p h).was_read; count = λ p h. (each p h).count }
 
-  appends : (k : Id → ℕ) (w : World F) (n : Numbers) (fields : F) → Counted k w → (b : Bool) → Counted (Next k [])
+  pub appends : (k : Id → ℕ) (w : World F) (n : Numbers) (fields : F) → Counted k w → (b : Bool) → Counted (Next k [])
       (if b then record w { fresh = w.fresh ++ (id_text n, fields) ∷ []; last = n } else w)
   appends k w n fields i true = fewer k w (record w { fresh = w.fresh ++ (id_text n, fields) ∷ []; last = n }) i
       (λ p h. h) (λ e h. h)
@@ -280,12 +280,12 @@ module _ {F : Type 0} where
   answers k w which vs i None = same k w i
   answers k w which vs i (Some r) = fewer k w (comes w which (Some r) vs) i (λ p h. h) (λ e h. h)
 
-  acks : (k : Id → ℕ) (w : World F) → Counted k w → (o : Option (Name × List Id)) → Counted (Next k []) (ack_comes w o)
+  pub acks : (k : Id → ℕ) (w : World F) → Counted k w → (o : Option (Name × List Id)) → Counted (Next k []) (ack_comes w o)
   acks k w i None = same k w i
   acks k w i (Some a) = fewer k w (ack_comes w (Some a)) i
       (λ p h. among_filtered (λ (q : Pending). not (listed a.1 q.id)) p w.pending h) (λ e h. h)
 
-  each : (k : Id → ℕ) (w : World F) (e : Event F) → Counted k w → length (again w e) ≤ 1
+  pub each : (k : Id → ℕ) (w : World F) (e : Event F) → Counted k w → length (again w e) ≤ 1
       → Counted (Next k (again w e)) (happens w e)
   each k w (Append n fields) i le = appends k w n fields i (is_below w.last n && fits n)
   each k w (Delete id) i le = deletes k w id i (listed (ids_of (w.seen ++ w.fresh)) id)
