@@ -69,6 +69,12 @@ news_sentence s =
     ∷ codes "BLOCK" ∷ decimal s.block ∷ codes "COUNT" ∷ decimal s.count
     ∷ codes "STREAMS" ∷ string_bytes s.key ∷ codes ">" ∷ []
 
+-- so many entries a question has behind COUNT: of those that come again so many, and of new ones the count
+abbrev pub count_asked : Settings → machine.Phase → ℕ
+count_asked s (own id) = count_again s
+count_asked s (claiming id) = count_again s
+count_asked s (reading rounds) = s.count
+
 -- where nothing is to be acknowledged and no group is to be made, what the phase asks
 abbrev pub phase_sentence : Settings → machine.Phase → List (List ℕ)
 phase_sentence s (own id) = own_sentence s id
