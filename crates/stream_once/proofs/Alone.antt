@@ -79,8 +79,10 @@ module _ {F : Type 0} where
       → OneAtATime s es w → (p : Pending) → Among p (run s es w).stream.pending
       → p.count ≤ 1 + (k p.id + times_alone s p.id es w)
   counted_over [] k s w i one p h = omega (arith, i.count p h)
-  counted_over (e ∷ es) k s w i one p h = omega (arith,
-      counted_over es (Next k (again s w e)) s (happens s w e) (counted_then k s w e i one.0) one.1 p h)
+  counted_over (e ∷ es) k s w i one p h = omega (
+    arith,
+    counted_over es (Next k (again s w e)) s (happens s w e) (counted_then k s w e i one.0) one.1 p h,
+  )
 
 pub each_is_counted_alone : {F : Type 0} → EachIsCountedAlone F
 each_is_counted_alone {F} s events one p h =
