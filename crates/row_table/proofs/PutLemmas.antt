@@ -48,7 +48,31 @@ put_more (Some rs) done known new r so_far is one =
           (more_rows (with_row (with_rows rs done) r) done r (still_all (with_rows rs done) done r all) last.0);
     }
 
-map_both : (a b : List memory.Row) → rows_of (a ++ b) ≡ rows_of a ++ rows_of b
+still_rows : (rs more done : List Row) → AreRows rs done → AreRows (with_rows rs more) done
+still_rows rs [] done all = all
+still_rows rs (r ∷ more) done all = still_rows (with_row rs r) more done (still_all rs done r all)
+
+both_rows : (rs a b : List Row) → AreRows rs a → AreRows rs b → AreRows rs (a ++ b)
+both_rows rs [] b first then = then
+both_rows rs (x ∷ a) b first then = (first.0, both_rows rs a b first.1 then)
+
+-- some more were put in at once
+pub put_some_more : (first : Option (List Row)) (done some : List Row) (known new : Option (List Row))
+    → PutSoFar first done known → new ≡ with_known some known → AreKnown some new → PutSoFar first (done ++ some) new
+put_some_more None done some known new so_far is there =
+    let none : new ≡ None = is ∙ ap (with_known some) so_far.is in
+    record { is = none; there = subst (AreKnown (done ++ some)) (sym none) tt }
+put_some_more (Some rs) done some known new so_far is there =
+    let now : new ≡ Some (with_rows (with_rows rs done) some) = is ∙ ap (with_known some) so_far.is in
+    let all : AreRows (with_rows rs done) done = subst (AreKnown done) so_far.is so_far.there in
+    let last : AreRows (with_rows (with_rows rs done) some) some = subst (AreKnown some) now there in
+    record {
+      is = now ∙ ap Some (sym (rows.law.in_turn rs done some));
+      there = subst (AreKnown (done ++ some)) (sym now) (both_rows (with_rows (with_rows rs done) some) done some
+          (still_rows (with_rows rs done) some done all) last);
+    }
+
+pub map_both : (a b : List memory.Row) → rows_of (a ++ b) ≡ rows_of a ++ rows_of b
 map_both [] b = refl
 map_both (x ∷ a) b = ap (λ (rs : List Row). row_of x ∷ rs) (map_both a b)
 

@@ -1,5 +1,5 @@
 -- Rows by their keys: which is there, and what is there after more were put in.
-use Rattle.std.specs.Prelude.{◌≡◌, ◌⊎◌, ◌&&◌, ◌==◌, ℕ, ℤ, Bool, List, [], ◌∷◌, ◌++◌, Option, Some, None, is_some}
+use Rattle.std.specs.Prelude.{◌≡◌, ◌⊎◌, ◌&&◌, ◌==◌, ℕ, ℤ, Bool, true, false, List, [], ◌∷◌, ◌++◌, Option, Some, None, is_some}
 use Rattle.std.specs.Prelude.{option_map, if◌then◌else◌, IfSome}
 use Rattle.std.specs.List.{AllByRecursion}
 
@@ -60,6 +60,11 @@ with_known more known = option_map (λ rows. with_rows rows more) known
 -- where the rows are known, each of these is there with its own values
 abbrev pub AreKnown : List Row → Option (List Row) → Type 0
 AreKnown more known = IfSome known (λ rows. AreRows rows more)
+
+-- all of these rows were put in, each with its own values; or none of them
+abbrev pub PutsIn : Bool → List Row → Option (List Row) → Option (List Row) → Type 0
+PutsIn true more old new = (new ≡ with_known more old) × AreKnown more new
+PutsIn false more old new = new ≡ old
 
 -- whatever a crash leaves is what is known
 abbrev pub LeavesJust : Option (List Row) → (List Row → Type 0) → Type 0

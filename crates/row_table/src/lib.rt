@@ -14,6 +14,6 @@ mod table;
 
 pub use cell::{Cell, Column, Kind};
 pub use error::TableError;
-pub use put::put_all;
+pub use put::{ROWS_AT_ONCE, put_all};
 pub use row::Row;
 pub use table::Table;

@@ -8,6 +8,9 @@ use crate::row::Row;
 use crate::table::Table;
 use std::alloc::Global;
 
+/// So many rows are offered at once.
+pub const ROWS_AT_ONCE: usize = 50;
+
 /// Puts rows in as one transaction, and commits it. A row whose key is there is left out if it has the same
 /// values, and else it is an error. After an `Err` the transaction is taken back.
 pub fn put_all<T: Table>(alloc: Global, table: &mut T, rows: &[Row]) -> Result<(), TableError>
@@ -41,8 +44,37 @@ fn put_and_commit<T: Table>(alloc: Global, table: &mut T, rows: &[Row]) -> Resul
     table.commit()
 }
 
-/// Puts rows in, one after the other.
+/// Puts rows in, as many at once as one statement takes.
 fn put_each<T: Table>(alloc: Global, table: &mut T, rows: &[Row]) -> Result<(), TableError>
+    ensures seen { OnOk result (T.seen table.new ≡ with_known (rows_of rows.now) (T.seen table.old)) }
+    ensures there { OnOk result (AreKnown (rows_of rows.now) (T.seen table.new)) }
+    ensures committed { T.committed table.new ≡ T.committed table.old }
+    ensures crash { LeavesNoOther (T.may_leave table.old) (T.may_leave table.new) }
+{
+    let mut rest = rows;
+    while !rest.is_empty() {
+        let (some, after) = rest.split_at(rest.len().min(ROWS_AT_ONCE));
+        put_some(alloc, table, some)?;
+        rest = after;
+    }
+    Ok(())
+}
+
+/// Puts rows in at once, or one after the other if one of their keys is there.
+fn put_some<T: Table>(alloc: Global, table: &mut T, rows: &[Row]) -> Result<(), TableError>
+    ensures seen { OnOk result (T.seen table.new ≡ with_known (rows_of rows.now) (T.seen table.old)) }
+    ensures there { OnOk result (AreKnown (rows_of rows.now) (T.seen table.new)) }
+    ensures committed { T.committed table.new ≡ T.committed table.old }
+    ensures crash { LeavesNoOther (T.may_leave table.old) (T.may_leave table.new) }
+{
+    if table.insert_many(alloc, rows)? {
+        return Ok(());
+    }
+    put_in_turn(alloc, table, rows)
+}
+
+/// Puts rows in, one after the other.
+fn put_in_turn<T: Table>(alloc: Global, table: &mut T, rows: &[Row]) -> Result<(), TableError>
     ensures seen { OnOk result (T.seen table.new ≡ with_known (rows_of rows.now) (T.seen table.old)) }
     ensures there { OnOk result (AreKnown (rows_of rows.now) (T.seen table.new)) }
     ensures committed { T.committed table.new ≡ T.committed table.old }

@@ -2,8 +2,8 @@
 ghost use Rattle.std.specs.Prelude.{◌≡◌, ◌++◌, ◌∷◌, [], ℕ, List, Bool, true, false, Option, Some, None, OnErr, OnOk, IfOk, IfSome, IsTrue, ◌↔◌};
 ghost use Rattle.std.specs.Prelude.{option_map, is_some, if◌then◌else◌};
 ghost use Rattle.row_table.specs.Rows as rows;
-ghost use Rattle.row_table.specs.Rows.{IsRow, LeavesAll, LeavesJust, LeavesNoOther, LeavesOldOr, find, with_row};
-ghost use Rattle.row_table.specs.OfRow.{key_of, row_of};
+ghost use Rattle.row_table.specs.Rows.{IsRow, LeavesAll, LeavesJust, LeavesNoOther, LeavesOldOr, PutsIn, find, with_row};
+ghost use Rattle.row_table.specs.OfRow.{key_of, row_of, rows_of};
 
 use crate::error::TableError;
 use crate::row::Row;
@@ -38,6 +38,13 @@ pub trait Table {
             ≡ option_map (λ rs. with_row rs (row_of row.now)) (seen self.old)) }
         ensures told { IfOk result (λ is_new. IfSome (seen self.old)
             (λ rs. is_some (find (key_of row.now) rs) ≡ (if is_new then false else true))) }
+        ensures committed { committed self.new ≡ committed self.old }
+        ensures crash { LeavesNoOther (may_leave self.old) (may_leave self.new) };
+
+    /// Puts in these rows at once, if none of their keys is there and no two are the same. Whether they were put in; if
+    /// not, nothing is changed, and they may be put in one after the other. A table may always refuse so.
+    fn insert_many(&mut self, alloc: Global, rows: &[Row]) -> Result<bool, TableError>
+        ensures seen { IfOk result (λ is_in. PutsIn is_in (rows_of rows.now) (seen self.old) (seen self.new)) }
         ensures committed { committed self.new ≡ committed self.old }
         ensures crash { LeavesNoOther (may_leave self.old) (may_leave self.new) };
 

@@ -1,5 +1,5 @@
 -- The texts of the statements of a table.
-use Rattle.std.specs.Prelude.{◌≡◌, ◌==◌, ℕ, List, [], ◌∷◌, ◌++◌, Bool, codes, flat_map, if◌then◌else◌, string_bytes}
+use Rattle.std.specs.Prelude.{◌≡◌, ◌==◌, ℕ, zero, suc, List, [], ◌∷◌, ◌++◌, Bool, codes, flat_map, length, if◌then◌else◌, string_bytes}
 use Rattle.row_table.specs.declared.cell.Column.{Column}
 use Rattle.row_table.specs.declared.cell.Kind.{Kind}
 use Rattle.row_table.specs.declared.cell.Kind.TheVariants.{Text, Integer, Blob}
@@ -35,6 +35,19 @@ condition_text c = codes " AND " ++ (quoted (string_bytes c.name) ++ codes " IS 
 abbrev pub value_text : Column → List ℕ
 value_text c = codes ", ?"
 
+-- a text so many times
+abbrev pub repeated : ℕ → List ℕ → List ℕ
+repeated zero text = []
+repeated (suc n) text = repeated n text ++ text
+
+-- the places of a row: two of its key, and those of so many values
+abbrev pub places_text : ℕ → List ℕ
+places_text width = codes "(?, ?" ++ (repeated width (codes ", ?") ++ codes ")")
+
+-- the same of so many more rows
+abbrev pub more_places_text : ℕ → ℕ → List ℕ
+more_places_text width rows = repeated rows (codes ", " ++ places_text width)
+
 -- the statement that makes the table: two numbers that are its key, and the columns
 abbrev pub create_text : List ℕ → List Column → List ℕ
 create_text table columns = codes "CREATE TABLE " ++ (quoted table ++ (codes " (milliseconds INTEGER NOT NULL, sequence INTEGER NOT NULL, " ++ (flat_map column_text columns ++ codes "PRIMARY KEY (milliseconds, sequence)) STRICT")))
@@ -42,6 +55,10 @@ create_text table columns = codes "CREATE TABLE " ++ (quoted table ++ (codes " (
 -- the statement that puts in a row, unless its key is there
 abbrev pub insert_text : List ℕ → List Column → List ℕ
 insert_text table columns = codes "INSERT INTO " ++ (quoted table ++ (codes " VALUES (?, ?" ++ (flat_map value_text columns ++ codes ") ON CONFLICT DO NOTHING")))
+
+-- the statement that puts in fifty rows of so many values, unless one of their keys is there
+abbrev pub insert_many_text : List ℕ → ℕ → List ℕ
+insert_many_text table width = codes "INSERT INTO " ++ (quoted table ++ (codes " VALUES " ++ (places_text width ++ more_places_text width 49)))
 
 -- the query that shows one row if a row of this key has these values, and else none
 abbrev pub holds_text : List ℕ → List Column → List ℕ
@@ -51,6 +68,7 @@ holds_text table columns = codes "SELECT 1 FROM " ++ (quoted table ++ (codes " W
 pub record IsFormOf (table : List ℕ) (columns : List Column) (form : Form) : Type 0 where
   pub create : string_bytes form.create ≡ create_text table columns
   pub insert : string_bytes form.insert ≡ insert_text table columns
+  pub insert_many : string_bytes form.insert_many ≡ insert_many_text table (length columns)
   pub holds : string_bytes form.holds ≡ holds_text table columns
 
 -- the statement that makes the table `entries`, of one text
@@ -69,4 +87,5 @@ usual_holds = codes "SELECT 1 FROM entries WHERE milliseconds = ?1 AND sequence 
 pub record IsUsual (form : Form) : Type 0 where
   pub create : string_bytes form.create ≡ usual_create
   pub insert : string_bytes form.insert ≡ usual_insert
+  pub insert_many : string_bytes form.insert_many ≡ insert_many_text (codes "entries") 1
   pub holds : string_bytes form.holds ≡ usual_holds

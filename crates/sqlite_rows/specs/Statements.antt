@@ -4,7 +4,8 @@ use Rattle.sqlite.specs.Order.{Row as SqlRow, column}
 use Rattle.sqlite.specs.Store.{Ghosts}
 use Rattle.sqlite.specs.Held.{Held, state}
 use Rattle.sqlite.specs.State.{CommitsBy, Executes, HasCleanDisk, QueriesRow, Survives}
-use Rattle.sqlite.specs.declared.error.Error.TheVariants.{QueryReturnedNoRows}
+use Rattle.sqlite.specs.declared.error.Error.TheVariants.{QueryReturnedNoRows, SqliteFailure}
+use Rattle.sqlite.specs.declared.error.ErrorCode.TheVariants.{ConstraintViolation}
 use Rattle.sqlite.specs.declared.types.Value.{Value}
 use Rattle.sqlite.specs.declared.types.Value.TheVariants.{Null, Int, Text, Blob}
 use Rattle.row_table.specs.Rows as rows
@@ -50,6 +51,13 @@ module _ {S : Type 0} (g : Ghosts S) (old new : Held S) where
   -- and whether it was one row
   abbrev pub RanOne : List ℕ → SqlRow → Bool → Type 0
   RanOne sql values one = (count : ℕ) × (one ≡ (count == 1)) × Ran sql values count
+
+  -- where the disk is honest, it ran this statement with these values; or it was not run; or a rule of the table was
+  -- against it, and the database was not changed
+  abbrev pub RanAll : List ℕ → SqlRow → Bool → Type 0
+  RanAll sql values true = (count : ℕ) × Ran sql values count
+  RanAll sql values false = (new ≡ old) ⊎ (HasCleanDisk (state g new)
+      → (rule : _) × Executes sql values (state g old) (state g new) (Err (SqliteFailure (ConstraintViolation rule))))
 
   -- where the disk is honest, this query showed a row with these values, or none
   abbrev pub Shows : List ℕ → SqlRow → Bool → Type 0

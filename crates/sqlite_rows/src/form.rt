@@ -1,9 +1,9 @@
 //! The statements of a table, in which names are quoted.
-ghost use Rattle.std.specs.Prelude.{◌≡◌, ◌++◌, codes, flat_map, IfOk, OnOk, string_bytes};
-ghost use Rattle.sqlite_rows.specs.Form.{IsFormOf, IsUsual, column_text, condition_text, create_text, holds_text, insert_text};
-ghost use Rattle.sqlite_rows.specs.Form.{kind_text, null_text, quoted, quoted_byte, usual_create, usual_holds, usual_insert, value_text};
+ghost use Rattle.std.specs.Prelude.{◌≡◌, ◌++◌, ◌-◌, codes, flat_map, length, IfOk, OnOk, string_bytes};
+ghost use Rattle.sqlite_rows.specs.Form.{IsFormOf, IsUsual, column_text, condition_text, create_text, holds_text, insert_many_text, insert_text};
+ghost use Rattle.sqlite_rows.specs.Form.{kind_text, more_places_text, null_text, places_text, quoted, quoted_byte, usual_create, usual_holds, usual_insert, value_text};
 
-use row_table::{Column, Kind, TableError};
+use row_table::{Column, Kind, ROWS_AT_ONCE, TableError};
 use std::alloc::Global;
 
 const CREATE: &str =
@@ -24,6 +24,8 @@ pub struct Form {
     pub create: String,
     /// Puts in a row, unless its key is there.
     pub insert: String,
+    /// Puts in `ROWS_AT_ONCE` rows, unless one of their keys is there.
+    pub insert_many: String,
     /// Shows one row if a row of this key has these values, and else none.
     pub holds: String,
 }
@@ -37,6 +39,7 @@ impl Form {
             name: String::from_str(alloc, "entries")?,
             create: String::from_str(alloc, CREATE)?,
             insert: String::from_str(alloc, INSERT)?,
+            insert_many: insert_many(alloc, "entries", 1)?,
             holds: String::from_str(alloc, HOLDS)?,
         })
     }
@@ -50,6 +53,7 @@ impl Form {
             name: String::from_str(alloc, name)?,
             create: create(alloc, name, columns)?,
             insert: insert(alloc, name, columns)?,
+            insert_many: insert_many(alloc, name, columns.len())?,
             holds: holds(alloc, name, columns)?,
         })
     }
@@ -93,6 +97,55 @@ fn push_insert(out: &mut Vec<u8>, name: &str, columns: &[Column]) -> Result<(), 
     out.extend_from_slice(b" VALUES (?, ?")?;
     push_values(out, columns)?;
     Ok(out.extend_from_slice(b") ON CONFLICT DO NOTHING")?)
+}
+
+// The statement that puts in many rows, each of so many values beside its key.
+fn insert_many(alloc: Global, name: &str, width: usize) -> Result<String, TableError>
+    ensures { IfOk result (λ text. string_bytes text ≡ insert_many_text name.now width) }
+{
+    let mut out = Vec::new(alloc);
+    push_insert_many(&mut out, name, width)?;
+    text(out)
+}
+
+// The bytes of it.
+fn push_insert_many(out: &mut Vec<u8>, name: &str, width: usize) -> Result<(), TableError>
+    ensures { OnOk result (out.new.items ≡ out.old.items ++ insert_many_text name.now width) }
+{
+    out.extend_from_slice(b"INSERT INTO ")?;
+    push_name(out, name.as_bytes())?;
+    out.extend_from_slice(b" VALUES ")?;
+    push_places(out, width)?;
+    push_more_places(out, width)
+}
+
+// The places of all rows but the first.
+fn push_more_places(out: &mut Vec<u8>, width: usize) -> Result<(), TableError>
+    ensures { OnOk result (out.new.items ≡ out.old.items ++ more_places_text width (ROWS_AT_ONCE - 1)) }
+{
+    for _row in 0..ROWS_AT_ONCE - 1 {
+        push_next_places(out, width)?;
+    }
+    Ok(())
+}
+
+// A comma, and the places of a row.
+fn push_next_places(out: &mut Vec<u8>, width: usize) -> Result<(), TableError>
+    ensures { OnOk result (out.new.items ≡ out.old.items ++ (codes ", " ++ places_text width)) }
+{
+    out.extend_from_slice(b", ")?;
+    push_places(out, width)
+}
+
+// The places of a row: two of its key, and those of so many values.
+fn push_places(out: &mut Vec<u8>, width: usize) -> Result<(), TableError>
+    ensures { OnOk result (out.new.items ≡ out.old.items ++ places_text width) }
+{
+    out.extend_from_slice(b"(?, ?")?;
+    for _value in 0..width {
+        out.extend_from_slice(b", ?")?;
+    }
+    Ok(out.push(b')')?)
 }
 
 // The query for a row with these values.

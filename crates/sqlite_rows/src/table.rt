@@ -1,13 +1,13 @@
 //! The table, over a connection to a database.
-ghost use Rattle.std.specs.Prelude.{[], option_map, ◌≡◌, ℕ, None, IfErr, IfOk, OnOk, codes, string_bytes};
+ghost use Rattle.std.specs.Prelude.{[], option_map, ◌≡◌, ℕ, None, IfErr, IfOk, OnOk, codes, flat_map, string_bytes};
 ghost use Rattle.sqlite.specs.Values.{bound};
 ghost use Rattle.row_table.specs.OfRow.{row_of};
-ghost use Rattle.sqlite_rows.specs.Statements.{Found, IsNamed, IsNamedAtOpening, LeavesBy, Ran, RanOne, Shows, row_values};
+ghost use Rattle.sqlite_rows.specs.Statements.{Found, IsNamed, IsNamedAtOpening, LeavesBy, Ran, RanAll, RanOne, Shows, row_values};
 
 use crate::error::OpenError;
 use crate::form::Form;
-use crate::values::values_of;
-use row_table::{Row, Table, TableError};
+use crate::values::{values_of, values_of_all};
+use row_table::{ROWS_AT_ONCE, Row, Table, TableError};
 use sqlite::types::ValueRef;
 use sqlite::{Alter, Connection, Error, ErrorCode, File, FileStore};
 use std::alloc::Global;
@@ -92,6 +92,20 @@ impl<S: Alter + Drop> Table for SqliteTable<S> {
         insert(&mut self.conn, &self.form.insert, &values)
     }
 
+    /// Runs INSERT with the keys and the values, if they are as many rows as its statement takes. A row that is there
+    /// already breaks the rule that no key is there twice: then the database takes the statement back.
+    fn insert_many(&mut self, alloc: Global, rows: &[Row]) -> Result<bool, TableError>
+        ensures ran { IfOk result (RanAll S.Store self.old.conn self.new.conn (string_bytes self.old.form.insert_many)
+            (flat_map (λ row. row_values (row_of row)) rows.now)) }
+        ensures form { self.new.form ≡ self.old.form }
+    {
+        if rows.len() != ROWS_AT_ONCE {
+            return Ok(false);
+        }
+        let values = values_of_all(alloc, rows)?;
+        insert_many(&mut self.conn, &self.form.insert_many, &values)
+    }
+
     /// Runs SELECT with the key and the values.
     fn holds(&mut self, alloc: Global, row: &Row) -> Result<bool, TableError>
         ensures shows { IfOk result (Shows S.Store self.old.conn self.new.conn (string_bytes self.old.form.holds)
@@ -147,6 +161,21 @@ fn insert<S: Alter + Drop>(
 {
     match conn.execute(sql, values) {
         Ok(count) => Ok(count == 1),
+        Err(error) => Err(refused(error)),
+    }
+}
+
+// Runs a statement with these values. Whether no rule of the table was against it.
+fn insert_many<S: Alter + Drop>(
+    conn: &mut Connection<S>,
+    sql: &str,
+    values: &[ValueRef<'_>],
+) -> Result<bool, TableError>
+    ensures ran { IfOk result (RanAll S.Store conn.old conn.new sql.now (bound values.now)) }
+{
+    match conn.execute(sql, values) {
+        Ok(_) => Ok(true),
+        Err(Error::SqliteFailure(ErrorCode::ConstraintViolation(_))) => Ok(false),
         Err(error) => Err(refused(error)),
     }
 }

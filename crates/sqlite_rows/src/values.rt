@@ -1,5 +1,5 @@
 //! The values of a row as values of SQL.
-ghost use Rattle.std.specs.Prelude.{◌≡◌, ◌++◌, IfOk, OnOk, pos};
+ghost use Rattle.std.specs.Prelude.{◌≡◌, ◌++◌, IfOk, OnOk, flat_map, pos};
 ghost use Rattle.sqlite.specs.Values.{bound, bound_value};
 ghost use Rattle.sqlite_value.specs.Value.{owned};
 ghost use Rattle.row_table.specs.OfRow.{cell_of, cells_of, row_of};
@@ -13,12 +13,30 @@ use std::alloc::{AllocError, Global};
 pub fn values_of<'a>(alloc: Global, row: &'a Row) -> Result<Vec<ValueRef<'a>>, TableError>
     ensures { IfOk result (λ values. bound values.items ≡ row_values (row_of row.now)) }
 {
-    let (first, second) = key(row)?;
     let mut values = Vec::with_capacity(alloc, 8)?;
+    push_row(&mut values, row)?;
+    Ok(values)
+}
+
+/// The keys of rows and their values, in order.
+pub fn values_of_all<'a>(alloc: Global, rows: &'a [Row]) -> Result<Vec<ValueRef<'a>>, TableError>
+    ensures { IfOk result (λ values. bound values.items ≡ flat_map (λ row. row_values (row_of row)) rows.now) }
+{
+    let mut values = Vec::new(alloc);
+    for row in rows {
+        push_row(&mut values, row)?;
+    }
+    Ok(values)
+}
+
+// The key of a row and its values.
+fn push_row<'a>(values: &mut Vec<ValueRef<'a>>, row: &'a Row) -> Result<(), TableError>
+    ensures { OnOk result (bound values.new.items ≡ bound values.old.items ++ row_values (row_of row.now)) }
+{
+    let (first, second) = key(row)?;
     values.push(ValueRef::Int(first))?;
     values.push(ValueRef::Int(second))?;
-    push_values(&mut values, &row.cells)?;
-    Ok(values)
+    Ok(push_values(values, &row.cells)?)
 }
 
 // The key of a row as the database has it: two numbers below 2^63.

@@ -8,7 +8,7 @@ use crate::report::Report;
 use anyhow::{Error, Result, anyhow, bail};
 use redis_connection::{Connection, ConnectionError};
 use redis_wire::Fault as WireFault;
-use row_table::Table;
+use row_table::{Table, TableError};
 use std::alloc::Global;
 use std::io::{Read, Write};
 use stream_refs::FieldError;
@@ -85,7 +85,7 @@ fn round<R: Read + Drop, W: Write + Drop, T: Table + Drop>(
 {
     match worker.round_pipelined(alloc, connection, rows) {
         Ok(made) => {
-            goes_on(made.round.progress, &rows.fault)?;
+            goes_on(made.round.progress, &rows.fault, &rows.undone)?;
             Ok(made)
         }
         Err(error) => Err(broken_off(error, &rows.fault)),
@@ -93,13 +93,13 @@ fn round<R: Read + Drop, W: Write + Drop, T: Table + Drop>(
 }
 
 // An error if the handler said to stop.
-fn goes_on(progress: Progress, fault: &Option<Fault>) -> Result<()>
+fn goes_on(progress: Progress, fault: &Option<Fault>, undone: &Option<String>) -> Result<()>
     ensures ok { OnOk result (progress ≡ Progress.GoesOn) }
     ensures err { OnErr result (progress ≡ Progress.Stopped) }
 {
     match progress {
         Progress::GoesOn => Ok(()),
-        Progress::Stopped => Err(stopped(fault)),
+        Progress::Stopped => Err(stopped(fault, undone)),
     }
 }
 
@@ -127,22 +127,31 @@ fn not_committed(fault: &Option<Fault>) -> Error {
     }
 }
 
-// Why an entry was not done.
-fn stopped(fault: &Option<Fault>) -> Error {
-    match fault {
-        Some(
-            Fault::Field {
-                first,
-                second,
-                name,
-                why,
-            },
+// Why an entry was not done, and which one if its id is known.
+fn stopped(fault: &Option<Fault>, undone: &Option<String>) -> Error {
+    match (fault, undone) {
+        (
+            Some(
+                Fault::Field {
+                    first,
+                    second,
+                    name,
+                    why,
+                },
+            ),
+            _,
         ) => anyhow!(
             "cannot make a row: the field {name} of {first}-{second} {}",
             lack(*why)
         ),
-        Some(reason) => anyhow!("cannot make a row: {reason}"),
-        None => anyhow!("an entry was not written"),
+        (Some(Fault::NotAnId), Some(id)) => {
+            anyhow!("cannot make a row of the entry {id}: its id is not two numbers")
+        }
+        (Some(Fault::Table(TableError::Memory)), Some(id)) => {
+            anyhow!("cannot make a row of the entry {id}: out of memory")
+        }
+        (Some(reason), _) => anyhow!("cannot make a row: {reason}"),
+        (None, _) => anyhow!("an entry was not written"),
     }
 }
 

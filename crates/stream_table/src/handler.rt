@@ -1,5 +1,5 @@
 //! Entries as rows of a table.
-ghost use Rattle.std.specs.Prelude.{◌≡◌, ◌++◌, ◌∷◌, [], ◌^◌, ◌<◌, ℕ, List, IfErr, IfOk, OnErr, OnOk};
+ghost use Rattle.std.specs.Prelude.{◌≡◌, ◌++◌, ◌∷◌, [], ◌^◌, ◌<◌, ℕ, List, IfErr, IfOk, IfSome, OnErr, OnOk, string_bytes};
 ghost use Rattle.row_table.specs.OfRow.{row_of, rows_of};
 ghost use Rattle.row_table.specs.Rows.{AreKnown, LeavesJust, LeavesOldOr, with_known};
 ghost use Rattle.stream_table.specs.Kept.{Kept, committed_with, kept_by, kept_too, row_in};
@@ -49,6 +49,8 @@ pub struct Rows<T: Table + Drop> {
     pub committed: u64,
     /// Why it stopped, or did not commit.
     pub fault: Option<Fault>,
+    /// The id of the entry at which it stopped, if there was memory to keep it.
+    pub undone: Option<String>,
 }
 
 impl<T: Table + Drop> Rows<T> {
@@ -74,6 +76,7 @@ impl<T: Table + Drop> Rows<T> {
             done: 0,
             committed: 0,
             fault: None,
+            undone: None,
         }
     }
 
@@ -115,6 +118,7 @@ impl<T: Table + Drop> Handler for Rows<T> {
             ≡ kept_too (⟦<Rows<T> as Handler>⟧.history self.old) (pair_of entry.now) (verdict_of result) }
         ensures table { self.new.table ≡ self.old.table }
         ensures columns { self.new.columns ≡ self.old.columns }
+        ensures undone { result ≡ Verdict.Stop → IfSome self.new.undone (λ id. string_bytes id ≡ (pair_of entry.now).0) }
     {
         self.seen = self.seen.saturating_add(1);
         match self.gather(alloc, entry) {
@@ -124,6 +128,7 @@ impl<T: Table + Drop> Handler for Rows<T> {
             }
             Err(fault) => {
                 self.fault = Some(fault);
+                self.undone = String::from_str(alloc, entry.id()).ok();
                 Verdict::Stop
             }
         }

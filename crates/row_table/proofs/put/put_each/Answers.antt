@@ -1,20 +1,24 @@
-use Rattle.std.proofs.Common.{◌∙◌, sym, subst, List, take}
-use Rattle.row_table.specs.OfRow.{row_of, rows_of}
-use Rattle.row_table.specs.Rows.{Row}
-use Rattle.row_table.proofs.PutLemmas.{PutSoFar, one_further, put_more}
+use Rattle.std.proofs.Common.{◌≡◌, ◌∙◌, sym, ap, subst, List, ◌++◌, append_assoc}
+use Rattle.row_table.specs.OfRow.{rows_of}
+use Rattle.row_table.specs.Rows as rows
+use Rattle.row_table.specs.declared.row.Row.{Row}
+use Rattle.row_table.proofs.PutLemmas.{PutSoFar, map_both, put_some_more}
 use Rattle.row_table.proofs.put.put_each.Goals as goal
 
-pub loop-row-preserved : goal.loop-row-preserved
-loop-row-preserved g c =
+pub loop-rest-preserved : goal.loop-rest-preserved
+loop-rest-preserved g c =
     let seen = g.T.Table.seen in
-    let rows = c.args.rows.now in
-    let at = c.loop-row.row-index in
-    let row = c.row-item.result in
-    let before = c.loop-row.invariant in (
-      subst (λ (done : List Row). PutSoFar (seen c.args.table.now) done (seen c.put.new.table))
-          (sym (one_further rows at row c.loop-row-test.true c.row-item.is))
-          (put_more (seen c.args.table.now) (rows_of (take at rows)) (seen c.loop-row.table) (seen c.put.new.table)
-          (row_of row) before.0 c.in_ok-put.ensures.seen c.in_ok-put.ensures.there),
-      c.put.ensures.committed ∙ before.1,
-      λ left now. before.2 left (c.put.ensures.crash left now),
+    let before = c.loop-rest.invariant in
+    let done = before.0.0 in
+    let some = c.split_at.result.0.now in
+    let after = c.split_at.result.1.now in
+    let parts : c.loop-rest.rest.now ≡ some ++ after = search in (
+      (done ++ some,
+      before.0.1 ∙ ap (λ (rs : List Row). done ++ rs) parts ∙ sym (append_assoc done some after),
+      subst (λ (rs : List rows.Row). PutSoFar (seen c.args.table.now) rs (seen c.put_some.new.table))
+          (sym (map_both done some))
+          (put_some_more (seen c.args.table.now) (rows_of done) (rows_of some) (seen c.loop-rest.table)
+          (seen c.put_some.new.table) before.0.2 c.in_ok-put_some.ensures.seen c.in_ok-put_some.ensures.there)),
+      c.put_some.ensures.committed ∙ before.1,
+      λ left now. before.2 left (c.put_some.ensures.crash left now),
     )

@@ -1,12 +1,17 @@
-use Rattle.std.proofs.Common.{◌≡◌, take}
+use Rattle.std.proofs.Common.{◌≡◌, ◌++◌, List, length}
 use Rattle.row_table.specs.Rows.{LeavesNoOther}
 use Rattle.row_table.specs.OfRow.{rows_of}
+use Rattle.row_table.specs.declared.row.Row.{Row}
 use Rattle.row_table.proofs.PutLemmas.{PutSoFar}
 use Rattle.row_table.proofs.put.put_each.Given as goal
 
-abbrev pub invariant-loop-row : goal.invariant-loop-row
-invariant-loop-row g l =
+abbrev pub invariant-loop-rest : goal.invariant-loop-rest
+invariant-loop-rest g l =
     let table = g.T.Table in
-    PutSoFar (table.seen l.initial.table) (rows_of (take l.row-index l.rows)) (table.seen l.table)
+    ((done : List Row) × (l.rows ≡ done ++ l.rest)
+    × PutSoFar (table.seen l.initial.table) (rows_of done) (table.seen l.table))
     × (table.committed l.table ≡ table.committed l.initial.table)
     × LeavesNoOther (table.may_leave l.initial.table) (table.may_leave l.table)
+
+abbrev pub decreases-loop-rest : goal.decreases-loop-rest
+decreases-loop-rest g l = length l.rest
