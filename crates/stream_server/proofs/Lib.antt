@@ -10,6 +10,9 @@ mod DeletingLemmas
 mod DeliveringLemmas
 mod IdWordLemmas
 mod ModelLemmas
+mod ReadAnswerLemmas
+mod ReadLemmas
+mod ReadModelLemmas
 mod NameLemmas
 mod ServingLemmas
 mod StalledLemmas

@@ -10,9 +10,11 @@ pub mod Kinds
 pub mod Loopback
 pub mod Model
 pub mod ModelAdding
+pub mod ModelReading
 pub mod Places
 pub mod Quoted
 pub mod ReadBack
+pub mod Reading
 pub mod Refusal
 pub mod Sent
 pub mod Server

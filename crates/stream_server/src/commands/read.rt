@@ -2,12 +2,14 @@
 ghost use Rattle.std.specs.Prelude.{◌≡◌, ◌≤◌, drop, length, IfOk, OnErr, OnOk};
 ghost use Rattle.stream_server.specs.Delivering.{HandsOut, IsDelivered, entries_behind};
 ghost use Rattle.stream_server.specs.Kinds.{IsRows};
+ghost use Rattle.stream_server.specs.Reading.{AreFound, AreNews};
+ghost use Rattle.stream_server.specs.declared.commands.read.Start.TheVariants.{News};
 ghost use Rattle.stream_store.specs.Laws.{AreInOrder};
 
 use super::draft::Draft;
 use super::{
-    SYNTAX, array, count, entries_up, entry_answer, group_of, id, integer_in, is_word, put,
-    refusal_of, room_of, settle, shown, stream_of,
+    SYNTAX, array, count, entry_answer, group_of, id, integer_in, is_word, put, refusal_of,
+    room_of, settle, shown, stream_of,
 };
 use crate::answer::Answer;
 use crate::refusal::Refusal;
@@ -385,21 +387,30 @@ fn group_start_of(
     }
 }
 
-/// The entries behind the id, and `None` where there is none.
+/// The first entries behind the id, and `None` where there is none.
 fn read_behind(
     alloc: Global,
     stream: &Stream,
     behind: EntryId,
     most: u64,
-) -> Result<Option<Vec<Answer>>, AllocError> {
-    match stream.entries.back() {
-        Some(entry) if entry.id > behind => {}
-        _ => return Ok(None),
-    }
-    let Some(first) = behind.next() else {
+) -> Result<Option<Vec<Answer>>, AllocError>
+    ensures { IfOk result (λ found. AreInOrder stream.now.entries.items
+        → AreFound most (entries_behind behind stream.now.entries.items) found) }
+{
+    let start = start_behind(stream, behind);
+    if start == stream.entries.len() {
         return Ok(None);
-    };
-    Ok(Some(entries_up(alloc, stream, first, EntryId::LAST, most)?))
+    }
+    let mut answers = Vec::new(alloc);
+    let mut left = most;
+    for entry in stream.entries.range(start..) {
+        if left == 0 {
+            break;
+        }
+        left -= 1;
+        put(&mut answers, entry_answer(alloc, entry)?)?;
+    }
+    Ok(Some(answers))
 }
 
 /// What the consumer is given, and `None` where there is nothing new; such a consumer is not made.
@@ -410,7 +421,10 @@ fn read_as(
     part: &mut Group,
     reader: Reader<'_>,
     start: Start,
-) -> Result<Option<Vec<Answer>>, AllocError> {
+) -> Result<Option<Vec<Answer>>, AllocError>
+    ensures { IfOk result (λ found. start ≡ News → AreNews reader.entry.consumer.now reader.entry.now
+        reader.entry.most reader.entry.acknowledges stream.now.entries.items part.old part.new found) }
+{
     match start {
         Start::Behind(behind) => {
             let number = part.see(alloc, reader.consumer, reader.now)?;
