@@ -32,7 +32,7 @@ fields_same : (fields : List (Vec ℕ)) → map (λ f. plain (bulk f.items)) fie
 fields_same [] = refl
 fields_same (f ∷ fields) = ap (λ (xs : List Sent). plain (bulk f.items) ∷ xs) (fields_same fields)
 
-entries_same : (es : List Entry) → map sent_entry es ≡ map sent_whole (map as_entry es)
+pub entries_same : (es : List Entry) → map sent_entry es ≡ map sent_whole (map as_entry es)
 entries_same [] = refl
 entries_same (e ∷ es) = rw (fields_same e.fields.items) (ap (λ (xs : List Sent). sent_whole (as_entry e) ∷ xs) (entries_same es))
 
@@ -43,7 +43,7 @@ module _ (consumer : Name) (most : ℕ) (entries : List Entry) (last_id : EntryI
   none_left : left_of w.deleted w.fresh ≡ []
   none_left = sym model.fresh ∙ ap (map as_entry) none
 
-  none_given : given w.deleted most w.fresh ≡ []
+  pub none_given : given w.deleted most w.fresh ≡ []
   none_given = left_given w.deleted most w.fresh ∙ take_none most (left_of w.deleted w.fresh) none_left
 
   none_passed : left_of w.deleted (passed w.deleted most w.fresh) ≡ []
@@ -56,7 +56,7 @@ module _ (consumer : Name) (most : ℕ) (entries : List Entry) (last_id : EntryI
   log_same = append_assoc w.seen (passed w.deleted most w.fresh) (behind w.deleted most w.fresh)
       ∙ ap (λ (es : List (worker_model.Entry Fields)). w.seen ++ es) (passed_on w.deleted most w.fresh)
 
-  nothing_read : IsModelOf entries last_id group (happens w (Read consumer most))
+  pub nothing_read : IsModelOf entries last_id group (happens w (Read consumer most))
   nothing_read = record {
     seen = model.seen ∙ sym (append-nil (left_of w.deleted w.seen))
         ∙ ap (λ (es : List (worker_model.Entry Fields)). left_of w.deleted w.seen ++ es) (sym none_passed)

@@ -41,7 +41,7 @@ each_of P [] all k d lt = absurd (omega (arith, lt))
 each_of P (x ∷ xs) all zero d lt = all.0
 each_of P (x ∷ xs) all (suc k) d lt = each_of P xs all.1 k d (omega (arith, lt))
 
-all_so : {A : Type 0} (P Q : A → Type 0) → ((x : A) → P x → Q x) → (xs : List A) → AllByRecursion P xs → AllByRecursion Q xs
+pub all_so : {A : Type 0} (P Q : A → Type 0) → ((x : A) → P x → Q x) → (xs : List A) → AllByRecursion P xs → AllByRecursion Q xs
 all_so P Q f [] all = tt
 all_so P Q f (x ∷ xs) all = (f x all.0, all_so P Q f xs all.1)
 
@@ -60,14 +60,14 @@ all_filtered P p (x ∷ xs) all = elim (cases_Bool (p x)) [
   | inr f ↦ rw f (all_filtered P p xs all.1)
 ]
 
-filter_holds : {A : Type 0} (p : A → Bool) (xs : List A) → AllByRecursion (λ x. p x ≡ true) (filter p xs)
+pub filter_holds : {A : Type 0} (p : A → Bool) (xs : List A) → AllByRecursion (λ x. p x ≡ true) (filter p xs)
 filter_holds p [] = tt
 filter_holds p (x ∷ xs) = elim (cases_Bool (p x)) [
   | inl t ↦ rw t (t, filter_holds p xs)
   | inr f ↦ rw f (filter_holds p xs)
 ]
 
-all_taken : {A : Type 0} (P : A → Type 0) (n : ℕ) (xs : List A) → AllByRecursion P xs → AllByRecursion P (take n xs)
+pub all_taken : {A : Type 0} (P : A → Type 0) (n : ℕ) (xs : List A) → AllByRecursion P xs → AllByRecursion P (take n xs)
 all_taken P zero xs all = tt
 all_taken P (suc n) [] all = tt
 all_taken P (suc n) (x ∷ xs) all = (all.0, all_taken P n xs all.1)
@@ -90,16 +90,16 @@ keeps_none p (x ∷ xs) all = rw all.0 (keeps_none p xs all.1)
 
 -- ---- ids
 
-abbrev Above : EntryId → EntryId → Type 0
+abbrev pub Above : EntryId → EntryId → Type 0
 Above last id = id_order last id ≡ Less
 
-abbrev NotAbove : EntryId → EntryId → Type 0
+abbrev pub NotAbove : EntryId → EntryId → Type 0
 NotAbove last id = is_lt (id_order last id) ≡ false
 
 is_above : (a b : EntryId) → Above a b → is_lt (id_order a b) ≡ true
 is_above a b less = ap is_lt less
 
-above_so : (a b : EntryId) → is_lt (id_order a b) ≡ true → Above a b
+pub above_so : (a b : EntryId) → is_lt (id_order a b) ≡ true → Above a b
 above_so a b less = grind (arith, nat_tests, less)
 
 over : (a b c : EntryId) → Above a b → Above b c → Above a c
@@ -129,11 +129,11 @@ rest_ascends : (e : Entry) (es : List Entry) → AreInOrder (e ∷ es) → AreIn
 rest_ascends e es up i j d lt bound = up (suc i) (suc j) d (omega (arith, lt)) (omega (arith, bound))
 
 -- the id of the last one
-abbrev last_of : EntryId → List Entry → EntryId
+abbrev pub last_of : EntryId → List Entry → EntryId
 last_of last [] = last
 last_of last (e ∷ es) = last_of e.id es
 
-abbrev AllAbove : EntryId → List Entry → Type 0
+abbrev pub AllAbove : EntryId → List Entry → Type 0
 AllAbove last es = AllByRecursion (λ x. Above last x.id) es
 
 -- all are above what the first is above
@@ -228,14 +228,14 @@ split last n (e ∷ es) up = elim (cases_Bool (is_lt (id_order last e.id))) [
       )
 ]
 
-behind_ascends : (last : EntryId) (es : List Entry) → AreInOrder es → AreInOrder (entries_behind last es)
+pub behind_ascends : (last : EntryId) (es : List Entry) → AreInOrder es → AreInOrder (entries_behind last es)
 behind_ascends last [] up = up
 behind_ascends last (e ∷ es) up = elim (cases_Bool (is_lt (id_order last e.id))) [
   | inl t ↦ rw (all_behind last (e ∷ es) (all_over last e es (above_so last e.id t) up)) up
   | inr f ↦ rw f (behind_ascends last es (rest_ascends e es up))
 ]
 
-taken_ascends : (n : ℕ) (es : List Entry) → AreInOrder es → AreInOrder (take n es)
+pub taken_ascends : (n : ℕ) (es : List Entry) → AreInOrder es → AreInOrder (take n es)
 taken_ascends n es up i j d lt bound =
     let long : length (take n es) ≡ min n (length es) = length-take n es in
     let few : j < n = omega (arith, bound, long) in
@@ -282,7 +282,7 @@ module _ (deleted : List worker_model.Id) where
 
 -- ---- what is delivered is pending at the end
 
-abbrev pending_of : ℕ → ℕ → Entry → Pending
+abbrev pub pending_of : ℕ → ℕ → Entry → Pending
 pending_of number now e = record { id = e.id; consumer = number; given_at = now; deliveries = 1 }
 
 abbrev named_as : Consumer → ℕ × Name
@@ -328,14 +328,14 @@ given_at_end last p old new (inr more) up low above =
     }
 
 -- these entries are pending at the end, and the last of them is the last one delivered
-record AreAtEnd (number now : ℕ) (es : List Entry) (old new : Group) : Type 0 where
+pub record AreAtEnd (number now : ℕ) (es : List Entry) (old new : Group) : Type 0 where
   pub pending : new.pending.items ≡ old.pending.items ++ map (pending_of number now) es
   pub names : names_of new.consumers.items ≡ names_of old.consumers.items
   pub last_id : new.last_id ≡ last_of old.last_id es
   pub next : new.next_number ≡ old.next_number
   pub order : IsInOrder new
 
-delivered_at_end : (number now : ℕ) (es : List Entry) (old new : Group) → AreDelivered number now false es old new
+pub delivered_at_end : (number now : ℕ) (es : List Entry) (old new : Group) → AreDelivered number now false es old new
     → AreInOrder es → AllAbove old.last_id es → IsInOrder old
     → AllByRecursion (λ q. NotAbove old.last_id q.id) old.pending.items → AreAtEnd number now es old new
 delivered_at_end number now [] old new is ascend above up low = record {
@@ -427,10 +427,9 @@ record IsKnown (name : Name) (number : ℕ) (old new : Group) : Type 0 where
   pub numbered : AreNumbered new
 
 seen_known : (name : Name) (now number : ℕ) (old new : Group) → IsSeen name now number old new
-    → new ≡ record old { consumers = new.consumers; next_number = new.next_number } → AreNumbered old
-    → old.next_number < 18446744073709551615 → IsKnown name number old new
+    → new.pending.items ≡ old.pending.items → AreNumbered old → old.next_number < 18446744073709551615 → IsKnown name number old new
 seen_known name now number old new (inl again) stay numbers room =
-    let pending : new.pending.items ≡ old.pending.items = ap (λ (g : Group). g.pending.items) stay in
+    let pending : new.pending.items ≡ old.pending.items = stay in
     let stood : get_or old.consumers.items again.index again.was ≡ again.was = again.there.stood in
     let names : names_of new.consumers.items ≡ names_of old.consumers.items = ap names_of again.consumers
     ∙ map-set_same named_as old.consumers.items again.index (record again.was { seen_at = now }) again.was (ap named_as (sym stood)) in
@@ -453,7 +452,7 @@ seen_known name now number old new (inl again) stay numbers room =
       };
     }
 seen_known name now number old new (inr made) stay numbers room =
-    let pending : new.pending.items ≡ old.pending.items = ap (λ (g : Group). g.pending.items) stay in
+    let pending : new.pending.items ≡ old.pending.items = stay in
     let is : number ≡ old.next_number = made.numbered.0 in
     let shown : named_as made.is ≡ (number, name) = rw (made.numbered.1, made.named) refl in
     let names : names_of new.consumers.items ≡ insert (names_of old.consumers.items) made.index (number, name) =
@@ -507,13 +506,13 @@ module _ (consumer : Name) (now most : ℕ) (entries : List Entry) (last_id : En
   news = take most (entries_behind old.last_id entries)
 
   known : IsKnown consumer how.number old how.between
-  known = seen_known consumer now how.number old how.between how.seen how.others numbers room
+  known = seen_known consumer now how.number old how.between how.seen how.stays numbers room
 
   last_same : how.between.last_id ≡ old.last_id
   last_same = ap (λ (g : Group). g.last_id) how.others
 
   pending_same : how.between.pending.items ≡ old.pending.items
-  pending_same = ap (λ (g : Group). g.pending.items) how.others
+  pending_same = how.stays
 
   behind_above : AllAbove old.last_id (entries_behind old.last_id entries)
   behind_above = all_so (λ e. is_lt (id_order old.last_id e.id) ≡ true) (λ e. Above old.last_id e.id) (λ e is. above_so old.last_id e.id is)

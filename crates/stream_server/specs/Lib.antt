@@ -4,6 +4,7 @@ pub mod Changed
 pub mod Creating
 pub mod Deleting
 pub mod Delivering
+pub mod Giving
 pub mod IdWords
 pub mod Incoming
 pub mod Kinds
@@ -15,6 +16,7 @@ pub mod Places
 pub mod Quoted
 pub mod ReadBack
 pub mod Reading
+pub mod ReadingOne
 pub mod Refusal
 pub mod Sent
 pub mod Server

@@ -8,12 +8,15 @@ use Rattle.stream_group.specs.Worker as worker_model
 use Rattle.stream_group.specs.World.{World, Read, happens}
 use Rattle.stream_store.specs.declared.entry_id.EntryId.{EntryId}
 use Rattle.stream_store.specs.declared.group.Group.{Group}
+use Rattle.stream_store.specs.Stream.{Seen, seen_stream}
 use Rattle.stream_store.specs.declared.stream.Entry.{Entry}
+use Rattle.stream_store.specs.declared.stream.Stream.{Stream}
 use Rattle.stream_server.specs.Acknowledging.{names_of}
 use Rattle.stream_server.specs.Delivering.{HandsOut, entries_behind}
-use Rattle.stream_server.specs.Model.{Fields, IsModelOf, as_entry, name_of}
+use Rattle.stream_server.specs.Model.{Fields, IsModelIn, IsModelOf, as_entry, name_of}
 use Rattle.stream_server.specs.Reading.{AreNews}
-use Rattle.stream_server.specs.Sent.{Sent, array_of, item_list, plain, sent}
+use Rattle.stream_server.specs.ReadingOne.{IsReadIn}
+use Rattle.stream_server.specs.Sent.{Sent, array_of, item_list, more_rows, no_array, no_rows, plain, rows_of, sent}
 use Rattle.stream_server.specs.declared.answer.Answer.{Answer}
 
 -- Each consumer is the first of its number. Its number, and each number that an entry is pending for, is below the
@@ -57,3 +60,22 @@ abbrev pub ReadingNewsIsTheEvent : Type 0
 ReadingNewsIsTheEvent = (consumer : Name) (now most : ℕ) (entries : List Entry) (last_id : EntryId) (old new : Group) (w : World Fields)
     (found : Option (Vec Answer)) → AreNews consumer now most false entries old new found → IsModelOf entries last_id old w
     → AreNumbered old → old.next_number < 18446744073709551615 → NewsAreRead consumer most entries last_id new w found
+
+-- these entries of the stream of this key are the answer; nil if there are none
+abbrev pub IsAnswerWith : List ℕ → List (worker_model.Entry Fields) → Answer → Type 0
+IsAnswerWith key [] answer = sent answer ≡ no_array
+IsAnswerWith key (e ∷ es) answer = sent answer ≡ rows_of (more_rows key (array_of (item_list (map sent_whole (e ∷ es)))) no_rows)
+
+-- The consumer reads up to so many new entries: the group is that of the world after it, and the answer is those that
+-- the model gives, or nil.
+pub record XreadgroupReads (key group consumer : List ℕ) (most : ℕ) (answer : Answer) (new : List Seen) (w : World Fields) : Type 0 where
+  pub model : IsModelIn key group new (happens w (Read consumer most))
+  pub numbered : AreNumbered model.group
+  pub answered : IsAnswerWith key (given w.deleted most w.fresh) answer
+
+-- so it is of XREADGROUP of one key with `>`, whatever the group's world was, if a number is left for a new consumer
+abbrev pub XreadgroupIsTheEvent : Type 0
+XreadgroupIsTheEvent = (key group consumer : List ℕ) (now most : ℕ) (answer : Answer) (old new : List Stream) (w : World Fields)
+    → 0 < most → IsReadIn key consumer now most group answer old new → (model : IsModelIn key group (map seen_stream old) w)
+    → AreNumbered model.group → model.group.next_number < 18446744073709551615
+    → XreadgroupReads key group consumer most answer (map seen_stream new) w

@@ -1,7 +1,7 @@
 //! Laws of replies that are sent, and of what commands do.
 ghost use Rattle.stream_server.specs.Model.{XackIsTheEvent, XdelIsTheEvents};
 ghost use Rattle.stream_server.specs.ModelAdding.{XaddIsTheEvent};
-ghost use Rattle.stream_server.specs.ModelReading.{HandingOutIsTheEvent, ReadingNewsIsTheEvent};
+ghost use Rattle.stream_server.specs.ModelReading.{HandingOutIsTheEvent, ReadingNewsIsTheEvent, XreadgroupIsTheEvent};
 ghost use Rattle.stream_server.specs.ReadBack.{RepliesAreRead};
 
 /// The bytes that `append_reply` appends of a reply are read back as one answer, and nothing more:
@@ -41,4 +41,10 @@ pub fn handing_out_is_the_event()
 /// are sent, or none if it gives none.
 pub fn reading_news_is_the_event()
     ensures { ReadingNewsIsTheEvent }
+{}
+
+/// The same of XREADGROUP of one key with `>`, without `NOACK`, among the streams of the server: what
+/// `read_one` ensures. `BLOCK` does not wait. `COUNT` is the number that `options_in` reads.
+pub fn xreadgroup_is_the_event()
+    ensures { XreadgroupIsTheEvent }
 {}
