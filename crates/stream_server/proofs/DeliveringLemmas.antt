@@ -113,7 +113,12 @@ module _ (number now : ℕ) (acknowledges : Bool) where
     number = number;
     between = between;
     seen = seen;
-    others = others;
+    stays = ap (λ (g : Group). g.pending.items) others;
+    others = others ∙ sym (ap (λ (g : Group). record old {
+      pending = g.pending;
+      consumers = between.consumers;
+      next_number = between.next_number;
+    }) others);
     delivered = λ up. of_same all (entries_behind old.last_id entries) most between new (is ∙ behind up)
         (so_far new (nothing_more (take left rest) new none));
   }

@@ -10,6 +10,13 @@ mod DeletingLemmas
 mod DeliveringLemmas
 mod IdWordLemmas
 mod ModelLemmas
+mod PutHandedLemmas
+mod PutLemmas
+mod ReadAnswerLemmas
+mod ReadEventLemmas
+mod ReadLemmas
+mod ReadModelLemmas
+mod ReadOneLemmas
 mod NameLemmas
 mod ServingLemmas
 mod StalledLemmas

@@ -44,6 +44,7 @@ pub record HandsOut (name : List ℕ) (now most : ℕ) (acknowledges : Bool) (en
   pub number : ℕ
   pub between : Group
   pub seen : IsSeen name now number old between
-  pub others : between ≡ record old { consumers = between.consumers; next_number = between.next_number }
+  pub stays : between.pending.items ≡ old.pending.items
+  pub others : between ≡ record old { pending = between.pending; consumers = between.consumers; next_number = between.next_number }
   pub delivered : AreInOrder entries
       → AreDelivered number now acknowledges (take most (entries_behind old.last_id entries)) between new

@@ -1,6 +1,7 @@
 //! Laws of replies that are sent, and of what commands do.
 ghost use Rattle.stream_server.specs.Model.{XackIsTheEvent, XdelIsTheEvents};
 ghost use Rattle.stream_server.specs.ModelAdding.{XaddIsTheEvent};
+ghost use Rattle.stream_server.specs.ModelReading.{HandingOutIsTheEvent, ReadingNewsIsTheEvent, XreadgroupIsTheEvent};
 ghost use Rattle.stream_server.specs.ReadBack.{RepliesAreRead};
 
 /// The bytes that `append_reply` appends of a reply are read back as one answer, and nothing more:
@@ -26,4 +27,24 @@ pub fn xdel_is_the_events()
 /// id that is the answer. Its fields are the words after the id, in order.
 pub fn xadd_is_the_event()
     ensures { XaddIsTheEvent }
+{}
+
+/// If the entries and a group of a stream are those of a world of `stream_group`, they are so after
+/// `XREADGROUP` with `>` has handed out entries of it, of the world in which the consumer reads so
+/// many. The entries are those that the world gives. It is of what `hand_out` ensures, without
+/// `NOACK`, if the group has made fewer than 2 ^ 64 - 1 consumers.
+pub fn handing_out_is_the_event()
+    ensures { HandingOutIsTheEvent }
+{}
+
+/// The same of what `read_as` ensures, with its answer: the entries that the world gives, as they
+/// are sent, or none if it gives none.
+pub fn reading_news_is_the_event()
+    ensures { ReadingNewsIsTheEvent }
+{}
+
+/// The same of XREADGROUP of one key with `>`, without `NOACK`, among the streams of the server: what
+/// `read_one` ensures. `BLOCK` does not wait. `COUNT` is the number that `options_in` reads.
+pub fn xreadgroup_is_the_event()
+    ensures { XreadgroupIsTheEvent }
 {}

@@ -1,13 +1,20 @@
 //! `XREAD`, `XREADGROUP`.
-ghost use Rattle.std.specs.Prelude.{◌≡◌, ◌≤◌, drop, length, IfOk, OnErr, OnOk};
+ghost use Rattle.std.specs.Prelude.{◌≡◌, ◌≤◌, codes, drop, false, length, map, IfOk, OnErr, OnOk};
 ghost use Rattle.stream_server.specs.Delivering.{HandsOut, IsDelivered, entries_behind};
+ghost use Rattle.stream_server.specs.Giving.{IsPut};
 ghost use Rattle.stream_server.specs.Kinds.{IsRows};
+ghost use Rattle.stream_server.specs.ReadingOne.{IsFound, IsInRows, IsReadIn};
+ghost use Rattle.stream_server.specs.Sent.{array_of, item_list, more_rows, no_rows, rows_of, sent};
+ghost use Rattle.stream_store.specs.Consumers.{HasRoom};
+ghost use Rattle.stream_store.specs.Room.{HasPlaces};
+ghost use Rattle.stream_server.specs.Reading.{AreFound, AreNews};
+ghost use Rattle.stream_server.specs.declared.commands.read.Start.TheVariants.{News};
 ghost use Rattle.stream_store.specs.Laws.{AreInOrder};
 
 use super::draft::Draft;
 use super::{
-    SYNTAX, array, count, entries_up, entry_answer, group_of, id, integer_in, is_word, put,
-    refusal_of, room_of, settle, shown, stream_of,
+    SYNTAX, array, count, entry_answer, group_of, id, integer_in, is_word, place_of,
+    place_of_group, put, refusal_of, room_of, settle, shown, stream_of,
 };
 use crate::answer::Answer;
 use crate::refusal::Refusal;
@@ -119,8 +126,26 @@ pub(super) fn read_group(
     ensures rows { IfOk result IsRows }
     ensures err { OnErr result (streams.new ≡ streams.old) }
 {
+    let options = options_in(arguments, true)?;
+    let reader = reader_of(&options, now)?;
+    if let ([key], [text]) = (options.keys, options.ids) {
+        return read_one(alloc, streams, key, text, reader);
+    }
+    read_all(alloc, streams, &options, reader)
+}
+
+/// Reads of several streams.
+fn read_all<'a>(
+    alloc: Global,
+    streams: &mut [Stream],
+    options: &ReadOptions<'a>,
+    reader: Reader<'a>,
+) -> Result<Answer, Refusal>
+    ensures rows { IfOk result IsRows }
+    ensures err { OnErr result (streams.new ≡ streams.old) }
+{
     let mut drafts = Vec::new(alloc);
-    let rows = given(alloc, streams, now, arguments, &mut drafts)?;
+    let rows = given(alloc, streams, options, reader, &mut drafts)?;
     let rooms = rooms_of(alloc, streams, &drafts)?;
     for (draft, room) in drafts.into_iter().zip(rooms) {
         settle(streams, draft, room);
@@ -145,13 +170,11 @@ fn rooms_of(
 fn given<'a>(
     alloc: Global,
     streams: &[Stream],
-    now: u64,
-    arguments: &'a [Vec<u8>],
+    options: &ReadOptions<'a>,
+    reader: Reader<'a>,
     drafts: &mut Vec<Draft<'a>>,
 ) -> Result<Vec<(Vec<u8>, Answer)>, Refusal> {
-    let options = options_in(arguments, true)?;
-    let reader = reader_of(&options, now)?;
-    let starts = group_starts(alloc, streams, &options, reader.group)?;
+    let starts = group_starts(alloc, streams, options, reader.group)?;
     let mut rows = Vec::new(alloc);
     for (key, start) in options.keys.iter().zip(starts) {
         let entries = read_stream(alloc, streams, key, reader, start, drafts)?;
@@ -354,7 +377,9 @@ fn group_start_of(
     key: &[u8],
     text: &[u8],
     group: &[u8],
-) -> Result<Start, Refusal> {
+) -> Result<Start, Refusal>
+    ensures { IfOk result (λ start. text.now ≡ codes ">" → start ≡ News) }
+{
     let has_group = match stream_of(streams, key) {
         Some(stream) => group_of(stream, group).is_some(),
         None => false,
@@ -385,21 +410,30 @@ fn group_start_of(
     }
 }
 
-/// The entries behind the id, and `None` where there is none.
+/// The first entries behind the id, and `None` where there is none.
 fn read_behind(
     alloc: Global,
     stream: &Stream,
     behind: EntryId,
     most: u64,
-) -> Result<Option<Vec<Answer>>, AllocError> {
-    match stream.entries.back() {
-        Some(entry) if entry.id > behind => {}
-        _ => return Ok(None),
-    }
-    let Some(first) = behind.next() else {
+) -> Result<Option<Vec<Answer>>, AllocError>
+    ensures { IfOk result (λ found. AreInOrder stream.now.entries.items
+        → AreFound most (entries_behind behind stream.now.entries.items) found) }
+{
+    let start = start_behind(stream, behind);
+    if start == stream.entries.len() {
         return Ok(None);
-    };
-    Ok(Some(entries_up(alloc, stream, first, EntryId::LAST, most)?))
+    }
+    let mut answers = Vec::new(alloc);
+    let mut left = most;
+    for entry in stream.entries.range(start..) {
+        if left == 0 {
+            break;
+        }
+        left -= 1;
+        put(&mut answers, entry_answer(alloc, entry)?)?;
+    }
+    Ok(Some(answers))
 }
 
 /// What the consumer is given, and `None` where there is nothing new; such a consumer is not made.
@@ -410,7 +444,10 @@ fn read_as(
     part: &mut Group,
     reader: Reader<'_>,
     start: Start,
-) -> Result<Option<Vec<Answer>>, AllocError> {
+) -> Result<Option<Vec<Answer>>, AllocError>
+    ensures { IfOk result (λ found. start ≡ News → AreNews reader.entry.consumer.now reader.entry.now
+        reader.entry.most reader.entry.acknowledges stream.now.entries.items part.old part.new found) }
+{
     match start {
         Start::Behind(behind) => {
             let number = part.see(alloc, reader.consumer, reader.now)?;
@@ -561,5 +598,103 @@ fn read_up_to(stream: &Stream, before: Option<i64>, id: EntryId) -> Option<i64> 
         Some(n) if !stream.has_tombstone_from(id) => Some(n.wrapping_add(1)),
         _ if stream.entries_added != 0 => stream.distance(id),
         _ => before,
+    }
+}
+
+/// What the part holds is pending in the group for the consumer that the room is for, and the group
+/// has delivered as much as the part. With the room, no memory is asked for.
+fn put_read(group: &mut Group, part: &Group, room: Room, now: u64)
+    ensures { HasRoom room group.old → HasPlaces (length part.now.pending.items) room group.old
+        → IsPut room.name.items now part.now group.old group.new }
+{
+    group.last_id = part.last_id;
+    group.entries_read = part.entries_read;
+    let Ok(number) = group.see_in(room, now) else {
+        return;
+    };
+    for pending in &part.pending {
+        let _given = group.give(Pending {
+            id: pending.id,
+            consumer: number,
+            given_at: pending.given_at,
+            deliveries: pending.deliveries,
+        });
+    }
+}
+
+/// What is read of one group, before the group is changed.
+#[derive(Drop)]
+struct Outcome {
+    answer: Answer,
+    /// What the consumer is given.
+    part: Group,
+    /// For the consumer and what it is given.
+    room: Room,
+}
+
+/// Reads of one stream for the consumer of a group, which begins where the word says.
+fn read_one(
+    alloc: Global,
+    streams: &mut [Stream],
+    key: &[u8],
+    text: &[u8],
+    reader: Reader<'_>,
+) -> Result<Answer, Refusal>
+    ensures rows { IfOk result IsRows }
+    ensures news { IfOk result (λ answer. text.now ≡ codes ">" → reader.entry.acknowledges ≡ false
+        → IsReadIn key.now reader.entry.consumer.now reader.entry.now reader.entry.most reader.entry.group.now
+        answer streams.old streams.new) }
+    ensures err { OnErr result (streams.new ≡ streams.old) }
+{
+    let start = group_start_of(alloc, streams, key, text, reader.group)?;
+    let Ok(index) = place_of(streams, key) else {
+        return Err(SYNTAX);
+    };
+    let Ok(place) = place_of_group(&streams[index], reader.group) else {
+        return Err(SYNTAX);
+    };
+    let stream = &streams[index];
+    let Some(read) = read_of(alloc, stream, &stream.groups[place], key, reader, start)? else {
+        return Ok(Answer::NilArray);
+    };
+    let Outcome { answer, part, room } = read;
+    put_read(&mut streams[index].groups[place], &part, room, reader.now);
+    Ok(answer)
+}
+
+/// What the consumer is given of one stream, and `None` if nothing is new.
+fn read_of(
+    alloc: Global,
+    stream: &Stream,
+    group: &Group,
+    key: &[u8],
+    reader: Reader<'_>,
+    start: Start,
+) -> Result<Option<Outcome>, AllocError>
+    ensures rows { IfOk result IsInRows }
+    ensures news { IfOk result (λ read. start ≡ News → reader.entry.acknowledges ≡ false
+        → AreInOrder stream.now.entries.items → IsFound key.now reader.entry.consumer.now reader.entry.now
+        reader.entry.most stream.now.entries.items group.now
+        (entries_behind group.now.last_id stream.now.entries.items) read) }
+{
+    let mut part = group.part(alloc, reader.consumer)?;
+    let Some(entries) = read_as(alloc, stream, group, &mut part, reader, start)? else {
+        return Ok(None);
+    };
+    let room = group.room_for(alloc, reader.consumer, part.pending.len())?;
+    let answer = row_answer(alloc, key, entries)?;
+    Ok(Some(Outcome { answer, part, room }))
+}
+
+/// The entries of the stream of this key as an answer.
+fn row_answer(alloc: Global, key: &[u8], entries: Vec<Answer>) -> Result<Answer, AllocError>
+    ensures rows { IfOk result IsRows }
+    ensures sent { IfOk result (λ answer. sent answer
+        ≡ rows_of (more_rows key.now (array_of (item_list (map sent entries.items))) no_rows)) }
+{
+    let key = Vec::from_slice(alloc, key)?;
+    match Vec::from_array(alloc, [(key, Answer::Array(entries))]) {
+        Ok(rows) => Ok(Answer::Rows(rows)),
+        Err(_) => Err(AllocError),
     }
 }
