@@ -15,5 +15,5 @@ returns-clause-ran g c =
     let filled : bound c.in_ok-values.values.items ≡ all = c.in_ok-values.ensures in
     let values : bound c.deref-2.result.now ≡ all = ap bound c.deref-2.ensures.value ∙ filled in
     subst (λ (text : List ℕ). IfOk c.insert_many.result (RanAll g.S.Store old new text all)) sql
-        (subst (λ (row : SqlRow). IfOk c.insert_many.result (RanAll g.S.Store old new c.deref.result.now row)) values
-        c.insert_many.ensures.ran)
+    (subst (λ (row : SqlRow). IfOk c.insert_many.result (RanAll g.S.Store old new c.deref.result.now row)) values
+    c.insert_many.ensures.ran)
