@@ -1,9 +1,10 @@
 -- The consumers of a group, who are seen, made and taken out.
 use Rattle.std.specs.Prelude.{◌≡◌, ◌≤◌, ◌<◌, ◌+◌, ◌==◌, ◌⊎◌, ℕ, List, not, length, filter, min}
-use Rattle.std.specs.Prelude.{slice_index_or, slice_set, insert, remove}
+use Rattle.std.specs.Prelude.{slice_index_or, slice_set, insert, remove, vec_capacity, vec_len}
 use Rattle.stream_store.specs.declared.group.Consumer.{Consumer}
 use Rattle.stream_store.specs.declared.group.Group.{Group}
 use Rattle.stream_store.specs.declared.group.Pending.{Pending}
+use Rattle.stream_store.specs.declared.room.Room.{Room}
 
 -- this consumer, which has this name, is at the index
 pub record IsThere (name : List ℕ) (index : ℕ) (c : Consumer) (g : Group) : Type 0 where
@@ -35,6 +36,10 @@ pub record IsNewcomer (name : List ℕ) (now number : ℕ) (old new : Group) : T
 -- the consumer of this name has this number, and was seen at this moment
 abbrev pub IsSeen : List ℕ → ℕ → ℕ → Group → Group → Type 0
 IsSeen name now number old new = IsSeenAgain name now number old new ⊎ IsNewcomer name now number old new
+
+-- the group has memory for one more consumer, or the room has it for one more than the group has
+abbrev pub HasRoom : Room → Group → Type 0
+HasRoom room g = (vec_len g.consumers < vec_capacity g.consumers) ⊎ (vec_len g.consumers < vec_capacity room.consumers)
 
 -- what is pending for others than the consumer of this number, in order
 abbrev pub pending_for_others : ℕ → List Pending → List Pending

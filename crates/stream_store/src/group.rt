@@ -1,10 +1,10 @@
 //! A group of consumers.
-ghost use Rattle.std.specs.Prelude.{◌≡◌, ◌≤◌, [], length, map, IfErr, IfNone, IfOk, IfSome, OnOk, OnErr};
+ghost use Rattle.std.specs.Prelude.{◌≡◌, ◌≤◌, [], length, map, vec_capacity, vec_len, IfErr, IfNone, IfOk, IfSome, OnOk, OnErr};
 ghost use Rattle.std.specs.Bool.{OnTrue, OnFalse};
 ghost use Rattle.std.specs.List.{Contains, HoldsAt};
 ghost use Rattle.std.specs.List.Sorted.{IsSearchInRange};
 ghost use Rattle.stream_store.specs.Order.{IsAscending, IsGapFor, IsNowhere, IsSplitBefore};
-ghost use Rattle.stream_store.specs.Consumers.{IsNewcomer, IsRemoved, IsSeen};
+ghost use Rattle.stream_store.specs.Consumers.{HasRoom, IsNewcomer, IsRemoved, IsSeen};
 ghost use Rattle.stream_store.specs.Pending.{IsAcknowledged, IsGiven, pending_without, with_less, with_more};
 
 use crate::entry_id::EntryId;
@@ -141,7 +141,8 @@ impl Group {
 
     /// Room for this consumer and for so many more that are pending.
     pub fn room_for(&self, alloc: Global, name: &[u8], more: usize) -> Result<Room, AllocError>
-        ensures { IfOk result (λ room. room.name.items ≡ name.now) }
+        ensures named { IfOk result (λ room. room.name.items ≡ name.now) }
+        ensures enough { IfOk result (λ room. HasRoom room self.now) }
     {
         let name = Vec::from_slice(alloc, name)?;
         let mut pending = VecDeque::new(alloc);
@@ -186,6 +187,7 @@ impl Group {
         ensures ok { IfOk result (λ number. IsSeen room.name.items now number self.old self.new) }
         ensures err_consumers { OnErr result (self.new.consumers.items ≡ self.old.consumers.items) }
         ensures err_number { OnErr result (self.new.next_number ≡ self.old.next_number) }
+        ensures full { OnErr result (HasRoom room self.old → ⊥) }
         ensures pending { self.new.pending.items ≡ self.old.pending.items }
         ensures others { self.new ≡ record self.old {
           pending = self.new.pending;
@@ -213,6 +215,7 @@ impl Group {
         ensures ok { IfOk result (λ number. IsNewcomer name.items now number self.old self.new) }
         ensures err { OnErr result (self.new ≡ record self.old { consumers = self.new.consumers }) }
         ensures err_consumers { OnErr result (self.new.consumers.items ≡ self.old.consumers.items) }
+        ensures full { OnErr result (vec_capacity self.old.consumers ≤ vec_len self.old.consumers) }
         ensures others { self.new ≡ record self.old {
           consumers = self.new.consumers;
           next_number = self.new.next_number;
@@ -237,6 +240,8 @@ impl Group {
         ensures ok { OnOk result (IsGiven pending self.old self.new) }
         ensures err { OnErr result (self.new.pending.items ≡ self.old.pending.items) }
         ensures err_consumers { OnErr result (self.new.consumers ≡ self.old.consumers) }
+        ensures err_new { OnErr result (IsAscending (λ pending. pending.id) self.old.pending.items
+            → IsNowhere (λ pending. pending.id) pending.id self.old.pending.items) }
         ensures others { self.new ≡ record self.old { pending = self.new.pending; consumers = self.new.consumers } }
     {
         match self.place(pending.id) {
@@ -317,7 +322,9 @@ fn move_pending(pending: &mut VecDeque<Pending>, mut room: VecDeque<Pending>)
 
 /// The consumers move into the room, where that is larger.
 fn move_consumers(consumers: &mut Vec<Consumer>, mut room: Vec<Consumer>)
-    ensures { consumers.new.items ≡ consumers.old.items }
+    ensures items { consumers.new.items ≡ consumers.old.items }
+    ensures capacity { vec_capacity consumers.old ≤ vec_capacity consumers.new }
+    ensures room { vec_capacity room ≤ vec_capacity consumers.new }
 {
     if room.capacity() > consumers.capacity() {
         room.clear();

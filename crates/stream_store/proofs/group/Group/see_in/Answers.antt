@@ -16,4 +16,4 @@ returns-in-Ok-clause-ok c = inl (record {
 pub returns-in-Err-clause-ok : goal.returns-in-Err-clause-ok
 returns-in-Err-clause-ok c =
     newcomer_seen c.make.result c.args.room.name.items c.args.now _ c.args.self.now c.make.new.self
-    c.move_consumers.ensures refl c.make.ensures.ok
+    c.move_consumers.ensures.items refl c.make.ensures.ok
