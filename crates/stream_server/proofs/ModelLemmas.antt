@@ -236,18 +236,18 @@ module _ (key name : List ℕ) (How : Stream → Stream → Type 0) (old new : L
   changed_was = sym there ∙ ap (λ (n : ℕ). get_or (map seen_stream old) n (seen_stream how.was)) here
       ∙ get_or_default (map seen_stream old) model.index (seen_stream how.was) model.stream model.within ∙ model.at
 
-  streams_after : map seen_stream new ≡ set (map seen_stream old) model.index (seen_stream how.is)
+  pub streams_after : map seen_stream new ≡ set (map seen_stream old) model.index (seen_stream how.is)
   streams_after = ap (map seen_stream) how.changed ∙ map-set seen_stream old how.index how.is
       ∙ ap (λ (n : ℕ). set (map seen_stream old) n (seen_stream how.is)) here
 
   module _ (key_stays : (seen_stream how.is).key ≡ model.stream.key) where
-    keys_after : map (λ s. s.key) (map seen_stream new) ≡ map (λ s. s.key) (map seen_stream old)
+    pub keys_after : map (λ s. s.key) (map seen_stream new) ≡ map (λ s. s.key) (map seen_stream old)
     keys_after = ap (map (λ s. s.key)) streams_after
         ∙ map-set_same (λ (s : Seen). s.key) (map seen_stream old) model.index (seen_stream how.is) model.stream
         (key_stays ∙ ap (λ (s : Seen). s.key) (sym model.at))
 
     -- after the change a group of it is that of a world
-    pub changed_model : (now : World Fields) (place : ℕ) (group : Group)
+    unfoldable pub changed_model : (now : World Fields) (place : ℕ) (group : Group)
         → AreInOrder (map (λ g. g.name.items) (seen_stream how.is).groups) → place < length (seen_stream how.is).groups
         → get_or (seen_stream how.is).groups place group ≡ group → group.name.items ≡ name
         → IsModelOf (seen_stream how.is).entries (seen_stream how.is).last_id group now

@@ -1,10 +1,14 @@
 //! The commands by their names, and what they share.
-ghost use Rattle.std.specs.Prelude.{◌≡◌, ◌≤◌, ◌<◌, codes, length as length_of, IfErr, IfOk, OnErr, Some, take};
+ghost use Rattle.std.specs.Prelude.{◌≡◌, ◌≤◌, ◌<◌, ◌++◌, ◌∷◌, [], codes, length as length_of, map};
+ghost use Rattle.std.specs.Prelude.{IfErr, IfOk, OnErr, OnOk, Some, take};
 ghost use Rattle.std.specs.List.{HoldsAt, prefix_len};
 ghost use Rattle.std.specs.List.Sorted.{IsSearchInRange};
+ghost use Rattle.redis_resp.specs.Tree.{bulk};
 ghost use Rattle.stream_server.specs.Acknowledging.{count_answer};
+ghost use Rattle.stream_server.specs.Claiming.{sent_claimed, sent_entry, sent_fields};
 ghost use Rattle.stream_server.specs.IdWords.{Fits};
 ghost use Rattle.stream_server.specs.Places.{AreInOrder, IsMissing, group_names, keys_of};
+ghost use Rattle.stream_server.specs.Sent.{array_of, item_list, plain, sent};
 ghost use Rattle.stream_server.specs.Shown.{is_not_nul, text_before_nul};
 ghost use Rattle.stream_server.specs.Streams.{seen_streams};
 ghost use Rattle.stream_server.specs.declared.commands.NewId.TheVariants.{Automatic, Given};
@@ -319,7 +323,9 @@ fn length(n: usize) -> Answer
 }
 
 /// These answers as one array.
-fn array<const N: usize>(alloc: Global, items: [Answer; N]) -> Result<Answer, AllocError> {
+fn array<const N: usize>(alloc: Global, items: [Answer; N]) -> Result<Answer, AllocError>
+    ensures { IfOk result (λ answer. sent answer ≡ array_of (item_list (map sent items.entry))) }
+{
     match Vec::from_array(alloc, items) {
         Ok(items) => Ok(Answer::Array(items)),
         Err(_) => Err(AllocError),
@@ -341,7 +347,9 @@ fn put_row(
 }
 
 /// One more answer.
-fn put(answers: &mut Vec<Answer>, answer: Answer) -> Result<(), AllocError> {
+fn put(answers: &mut Vec<Answer>, answer: Answer) -> Result<(), AllocError>
+    ensures { OnOk result (answers.new.items ≡ answers.old.items ++ answer ∷ []) }
+{
     match answers.push(answer) {
         Ok(()) => Ok(()),
         Err(_) => Err(AllocError),
@@ -349,18 +357,24 @@ fn put(answers: &mut Vec<Answer>, answer: Answer) -> Result<(), AllocError> {
 }
 
 /// Bytes as an answer.
-fn bytes_answer(alloc: Global, bytes: &[u8]) -> Result<Answer, AllocError> {
+fn bytes_answer(alloc: Global, bytes: &[u8]) -> Result<Answer, AllocError>
+    ensures { IfOk result (λ answer. sent answer ≡ plain (bulk bytes.now)) }
+{
     Ok(Answer::Bytes(Vec::from_slice(alloc, bytes)?))
 }
 
 /// An entry as an answer: its id and its fields.
-fn entry_answer(alloc: Global, entry: &Entry) -> Result<Answer, AllocError> {
+fn entry_answer(alloc: Global, entry: &Entry) -> Result<Answer, AllocError>
+    ensures { IfOk result (λ answer. sent answer ≡ sent_entry entry.now) }
+{
     let fields = fields_answer(alloc, &entry.fields)?;
     array(alloc, [Answer::Id(entry.id), fields])
 }
 
 /// An entry that was claimed, or its id where that alone is asked for.
-fn claimed_answer(alloc: Global, entry: &Entry, only_id: bool) -> Result<Answer, AllocError> {
+fn claimed_answer(alloc: Global, entry: &Entry, only_id: bool) -> Result<Answer, AllocError>
+    ensures { IfOk result (λ answer. sent answer ≡ sent_claimed only_id entry.now) }
+{
     if only_id {
         Ok(Answer::Id(entry.id))
     } else {
@@ -369,7 +383,9 @@ fn claimed_answer(alloc: Global, entry: &Entry, only_id: bool) -> Result<Answer,
 }
 
 /// The names and values of an entry as an answer.
-fn fields_answer(alloc: Global, fields: &[Vec<u8>]) -> Result<Answer, AllocError> {
+fn fields_answer(alloc: Global, fields: &[Vec<u8>]) -> Result<Answer, AllocError>
+    ensures { IfOk result (λ answer. sent answer ≡ sent_fields fields.now) }
+{
     let mut answers = Vec::with_capacity(alloc, fields.len())?;
     for field in fields {
         put(&mut answers, bytes_answer(alloc, field)?)?;

@@ -1,6 +1,7 @@
 //! Laws of replies that are sent, and of what commands do.
 ghost use Rattle.stream_server.specs.Model.{XackIsTheEvent, XdelIsTheEvents};
 ghost use Rattle.stream_server.specs.ModelAdding.{XaddIsTheEvent};
+ghost use Rattle.stream_server.specs.ModelClaiming.{XautoclaimIsTheEvent};
 ghost use Rattle.stream_server.specs.ReadBack.{RepliesAreRead};
 
 /// The bytes that `append_reply` appends of a reply are read back as one answer, and nothing more:
@@ -26,4 +27,11 @@ pub fn xdel_is_the_events()
 /// id that is the answer. Its fields are the words after the id, in order.
 pub fn xadd_is_the_event()
     ensures { XaddIsTheEvent }
+{}
+
+/// If the entries and a group of a stream are those of a world of `stream_group`, they are so after
+/// XAUTOCLAIM, of the world in which the consumer claimed the entries that are picked. The answer
+/// has the entries that the model answers, with JUSTID their ids, and the ids that were deleted.
+pub fn xautoclaim_is_the_event()
+    ensures { XautoclaimIsTheEvent }
 {}
