@@ -4,6 +4,14 @@ pub mod SentReadLemmas
 mod AcknowledgeLemmas
 mod AddLemmas
 mod AddModelLemmas
+mod ClaimAnswerLemmas
+mod ClaimCodeLemmas
+mod ClaimEventLemmas
+mod ClaimLawLemmas
+mod ClaimLemmas
+mod ClaimModelLemmas
+mod ClaimNameLemmas
+mod ClaimPlaceLemmas
 mod CommandLemmas
 mod DeleteLemmas
 mod DeletingLemmas

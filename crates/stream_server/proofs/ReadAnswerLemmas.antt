@@ -13,9 +13,10 @@ use Rattle.stream_store.specs.declared.group.Group.{Group}
 use Rattle.stream_store.specs.declared.stream.Entry.{Entry}
 use Rattle.stream_server.specs.Acknowledging.{names_of}
 use Rattle.stream_server.specs.Delivering.{HandsOut, entries_behind}
-use Rattle.stream_server.specs.Model.{Fields, IsModelOf, as_entry, as_pending, capped, entries_until, left_of}
-use Rattle.stream_server.specs.ModelReading.{AreNumbered, NewsAreRead, ReadingNewsIsTheEvent, sent_whole}
-use Rattle.stream_server.specs.Reading.{AreNews, sent_entry, sent_fields}
+use Rattle.stream_server.specs.Model.{AreNumbered, Fields, IsModelOf, as_entry, as_pending, capped, entries_until, left_of}
+use Rattle.stream_server.specs.ModelReading.{NewsAreRead, ReadingNewsIsTheEvent, sent_whole}
+use Rattle.stream_server.specs.Reading.{AreNews}
+use Rattle.stream_server.specs.Claiming.{sent_entry, sent_fields}
 use Rattle.stream_server.specs.Sent.{Sent, array_of, item_list, plain, sent}
 use Rattle.stream_server.specs.declared.answer.Answer.{Answer}
 use Rattle.stream_server.proofs.ReadModelLemmas.{handing_out_is_the_event, left_behind, left_given, left_passed, passed_on}

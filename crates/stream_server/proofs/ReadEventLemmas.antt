@@ -13,8 +13,8 @@ use Rattle.stream_store.specs.declared.stream.Entry.{Entry}
 use Rattle.stream_store.specs.declared.stream.Stream.{Stream}
 use Rattle.stream_server.specs.Changed.{IsChangedAt, IsGroupChangedAt}
 use Rattle.stream_server.specs.Delivering.{AreDelivered, HandsOut, entries_behind}
-use Rattle.stream_server.specs.Model.{Fields, IsModelIn, IsModelOf, as_entry}
-use Rattle.stream_server.specs.ModelReading.{AreNumbered, IsAnswerWith, XreadgroupIsTheEvent, XreadgroupReads, sent_whole}
+use Rattle.stream_server.specs.Model.{AreNumbered, Fields, IsModelIn, IsModelOf, as_entry}
+use Rattle.stream_server.specs.ModelReading.{IsAnswerWith, XreadgroupIsTheEvent, XreadgroupReads, sent_whole}
 use Rattle.stream_server.specs.Places.{AreInOrder}
 use Rattle.stream_server.specs.ReadingOne.{IsAnswered, IsReadIn, ReadsNews}
 use Rattle.stream_server.specs.Sent.{Sent, array_of, item_list, more_rows, no_rows, rows_of, sent}

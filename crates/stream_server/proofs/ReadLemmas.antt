@@ -10,7 +10,8 @@ use Rattle.stream_store.specs.Laws.{AreInOrder}
 use Rattle.stream_store.specs.declared.entry_id.EntryId.{EntryId}
 use Rattle.stream_store.specs.declared.stream.Entry.{Entry}
 use Rattle.stream_server.specs.Delivering.{entries_behind}
-use Rattle.stream_server.specs.Reading.{AreFound, sent_entry, sent_fields}
+use Rattle.stream_server.specs.Reading.{AreFound}
+use Rattle.stream_server.specs.Claiming.{sent_entry, sent_fields}
 use Rattle.stream_server.specs.Sent.{Sent, array_of, item_list, plain, sent}
 use Rattle.stream_server.specs.declared.answer.Answer.{Answer, the_lemmas}
 use Rattle.stream_server.specs.declared.answer.Answer.TheVariants as a

@@ -27,8 +27,8 @@ use Rattle.stream_store.specs.declared.group.Pending.{Pending}
 use Rattle.stream_store.specs.declared.stream.Entry.{Entry}
 use Rattle.stream_server.specs.Acknowledging.{names_of}
 use Rattle.stream_server.specs.Delivering.{AreDelivered, HandsOut, IsDelivered, entries_behind}
-use Rattle.stream_server.specs.Model.{Fields, IsModelOf, IsUpTo, NoneIsAbove, as_entry, as_pending, capped, entries_until, left_of, name_of, numbers}
-use Rattle.stream_server.specs.ModelReading.{AreNumbered, HandingOutIsTheEvent, IsRead}
+use Rattle.stream_server.specs.Model.{AreNumbered, Fields, IsModelOf, IsUpTo, NoneIsAbove, as_entry, as_pending, capped, entries_until, left_of, name_of, numbers}
+use Rattle.stream_server.specs.ModelReading.{HandingOutIsTheEvent, IsRead}
 
 -- ---- lists
 

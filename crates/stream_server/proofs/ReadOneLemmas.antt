@@ -15,7 +15,8 @@ use Rattle.stream_store.specs.declared.stream.Stream.{Stream}
 use Rattle.stream_server.specs.Changed.{IsChangedAt, IsGroupChangedAt}
 use Rattle.stream_server.specs.Delivering.{entries_behind}
 use Rattle.stream_server.specs.Giving.{IsPut}
-use Rattle.stream_server.specs.Reading.{AreNews, sent_entry}
+use Rattle.stream_server.specs.Reading.{AreNews}
+use Rattle.stream_server.specs.Claiming.{sent_entry}
 use Rattle.stream_server.specs.ReadingOne.{IsAnswered, IsFound, IsReadIn, IsReady, ReadsNews, sent_news}
 use Rattle.stream_server.specs.Sent.{Sent, array_of, item_list, more_rows, no_array, no_rows, row_list, rows_of, sent, sent_row}
 use Rattle.stream_server.specs.declared.answer.Answer.{Answer, the_lemmas}

@@ -1,6 +1,7 @@
 pub mod Acknowledging
 pub mod Adding
 pub mod Changed
+pub mod Claiming
 pub mod Creating
 pub mod Deleting
 pub mod Delivering
@@ -11,6 +12,7 @@ pub mod Kinds
 pub mod Loopback
 pub mod Model
 pub mod ModelAdding
+pub mod ModelClaiming
 pub mod ModelReading
 pub mod Places
 pub mod Quoted

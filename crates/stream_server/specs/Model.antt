@@ -49,6 +49,13 @@ as_pending names p = record { id = id_text p.id; consumer = name_of p.consumer n
 abbrev pub capped : group_model.Pending → group_model.Pending
 capped p = record p { count = min p.count 18446744073709551615 }
 
+-- Each consumer is the first of its number. Its number, and each number that an entry is pending for, is below the
+-- next one.
+pub record AreNumbered (group : Group) : Type 0 where
+  pub found : AllByRecursion (λ c. name_of c.0 (names_of group.consumers.items) ≡ c.1) (names_of group.consumers.items)
+  pub below : AllByRecursion (λ c. c.0 < group.next_number) (names_of group.consumers.items)
+  pub pending : AllByRecursion (λ p. p.consumer < group.next_number) group.pending.items
+
 -- the entries that are not deleted
 abbrev pub left_of : List worker_model.Id → List (worker_model.Entry Fields) → List (worker_model.Entry Fields)
 left_of deleted entries = filter (λ e. not (listed deleted e.0)) entries

@@ -1,7 +1,6 @@
 -- What XREADGROUP hands out is what the model of a group hands out.
 use Rattle.std.specs.Global.{Vec}
 use Rattle.std.specs.Prelude.{◌≡◌, ◌<◌, ℕ, false, List, [], ◌∷◌, Option, Some, None, map, take}
-use Rattle.std.specs.List.{AllByRecursion}
 use Rattle.stream_group.specs.Group.{Name, given}
 use Rattle.redis_resp.specs.Tree.{bulk}
 use Rattle.stream_group.specs.Worker as worker_model
@@ -11,20 +10,12 @@ use Rattle.stream_store.specs.declared.group.Group.{Group}
 use Rattle.stream_store.specs.Stream.{Seen, seen_stream}
 use Rattle.stream_store.specs.declared.stream.Entry.{Entry}
 use Rattle.stream_store.specs.declared.stream.Stream.{Stream}
-use Rattle.stream_server.specs.Acknowledging.{names_of}
 use Rattle.stream_server.specs.Delivering.{HandsOut, entries_behind}
-use Rattle.stream_server.specs.Model.{Fields, IsModelIn, IsModelOf, as_entry, name_of}
+use Rattle.stream_server.specs.Model.{AreNumbered, Fields, IsModelIn, IsModelOf, as_entry}
 use Rattle.stream_server.specs.Reading.{AreNews}
 use Rattle.stream_server.specs.ReadingOne.{IsReadIn}
 use Rattle.stream_server.specs.Sent.{Sent, array_of, item_list, more_rows, no_array, no_rows, plain, rows_of, sent}
 use Rattle.stream_server.specs.declared.answer.Answer.{Answer}
-
--- Each consumer is the first of its number. Its number, and each number that an entry is pending for, is below the
--- next one.
-pub record AreNumbered (group : Group) : Type 0 where
-  pub found : AllByRecursion (λ c. name_of c.0 (names_of group.consumers.items) ≡ c.1) (names_of group.consumers.items)
-  pub below : AllByRecursion (λ c. c.0 < group.next_number) (names_of group.consumers.items)
-  pub pending : AllByRecursion (λ p. p.consumer < group.next_number) group.pending.items
 
 -- The consumer reads up to so many new entries: the group is that of the world after it, and the entries are those
 -- that the model gives.

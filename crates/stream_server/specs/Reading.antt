@@ -1,22 +1,13 @@
 -- What XREADGROUP and XREAD answer of new entries.
 use Rattle.std.specs.Prelude.{◌≡◌, ◌≢◌, ℕ, Bool, List, [], ◌∷◌, Option, Some, None, map, take}
 use Rattle.std.specs.Global.{Vec}
-use Rattle.redis_resp.specs.Tree.{bulk}
-use Rattle.stream_store.specs.EntryId.{id_text}
 use Rattle.stream_store.specs.Laws.{AreInOrder}
 use Rattle.stream_store.specs.declared.group.Group.{Group}
 use Rattle.stream_store.specs.declared.stream.Entry.{Entry}
+use Rattle.stream_server.specs.Claiming.{sent_entry}
 use Rattle.stream_server.specs.Delivering.{HandsOut, entries_behind}
-use Rattle.stream_server.specs.Sent.{Sent, array_of, item_list, plain, sent}
+use Rattle.stream_server.specs.Sent.{sent}
 use Rattle.stream_server.specs.declared.answer.Answer.{Answer}
-
--- the names and values of an entry as they are sent
-abbrev pub sent_fields : List (Vec ℕ) → Sent
-sent_fields fields = array_of (item_list (map (λ f. plain (bulk f.items)) fields))
-
--- an entry as it is sent: its id and its fields
-abbrev pub sent_entry : Entry → Sent
-sent_entry e = array_of (item_list (plain (bulk (id_text e.id)) ∷ sent_fields e.fields.items ∷ []))
 
 -- the first so many of these entries are found, or there are none
 abbrev pub AreFound : ℕ → List Entry → Option (Vec Answer) → Type 0

@@ -10,7 +10,7 @@ use Rattle.stream_server.specs.Changed.{IsChangedAt, IsGroupChangedAt}
 use Rattle.stream_server.specs.Delivering.{HandsOut, entries_behind}
 use Rattle.stream_server.specs.Giving.{IsPut}
 use Rattle.stream_server.specs.Kinds.{IsRows}
-use Rattle.stream_server.specs.Reading.{sent_entry}
+use Rattle.stream_server.specs.Claiming.{sent_entry}
 use Rattle.stream_server.specs.Sent.{Sent, array_of, item_list, more_rows, no_array, no_rows, rows_of, sent}
 use Rattle.stream_server.specs.declared.answer.Answer.{Answer}
 use Rattle.stream_server.specs.declared.commands.read.Outcome.{Outcome}

@@ -1,12 +1,13 @@
 //! The commands by their names, and what they share.
-ghost use Rattle.std.specs.Prelude.{◌≡◌, ◌≤◌, ◌<◌, ◌++◌, ◌∷◌, [], codes, length as length_of, map, IfErr, IfOk, OnErr, OnOk, Some, take};
-ghost use Rattle.redis_resp.specs.Tree.{bulk};
+ghost use Rattle.std.specs.Prelude.{◌≡◌, ◌≤◌, ◌<◌, ◌++◌, ◌∷◌, [], codes, length as length_of, map};
+ghost use Rattle.std.specs.Prelude.{IfErr, IfOk, OnErr, OnOk, Some, take};
 ghost use Rattle.std.specs.List.{HoldsAt, prefix_len};
 ghost use Rattle.std.specs.List.Sorted.{IsSearchInRange};
+ghost use Rattle.redis_resp.specs.Tree.{bulk};
 ghost use Rattle.stream_server.specs.Acknowledging.{count_answer};
+ghost use Rattle.stream_server.specs.Claiming.{sent_claimed, sent_entry, sent_fields};
 ghost use Rattle.stream_server.specs.IdWords.{Fits};
 ghost use Rattle.stream_server.specs.Places.{AreInOrder, IsMissing, group_names, keys_of};
-ghost use Rattle.stream_server.specs.Reading.{sent_entry, sent_fields};
 ghost use Rattle.stream_server.specs.Sent.{array_of, item_list, plain, sent};
 ghost use Rattle.stream_server.specs.Shown.{is_not_nul, text_before_nul};
 ghost use Rattle.stream_server.specs.Streams.{seen_streams};
@@ -371,7 +372,9 @@ fn entry_answer(alloc: Global, entry: &Entry) -> Result<Answer, AllocError>
 }
 
 /// An entry that was claimed, or its id where that alone is asked for.
-fn claimed_answer(alloc: Global, entry: &Entry, only_id: bool) -> Result<Answer, AllocError> {
+fn claimed_answer(alloc: Global, entry: &Entry, only_id: bool) -> Result<Answer, AllocError>
+    ensures { IfOk result (λ answer. sent answer ≡ sent_claimed only_id entry.now) }
+{
     if only_id {
         Ok(Answer::Id(entry.id))
     } else {

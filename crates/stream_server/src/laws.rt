@@ -1,6 +1,7 @@
 //! Laws of replies that are sent, and of what commands do.
 ghost use Rattle.stream_server.specs.Model.{XackIsTheEvent, XdelIsTheEvents};
 ghost use Rattle.stream_server.specs.ModelAdding.{XaddIsTheEvent};
+ghost use Rattle.stream_server.specs.ModelClaiming.{XautoclaimIsTheEvent};
 ghost use Rattle.stream_server.specs.ModelReading.{HandingOutIsTheEvent, ReadingNewsIsTheEvent, XreadgroupIsTheEvent};
 ghost use Rattle.stream_server.specs.ReadBack.{RepliesAreRead};
 
@@ -47,4 +48,11 @@ pub fn reading_news_is_the_event()
 /// `read_one` ensures. `BLOCK` does not wait. `COUNT` is the number that `options_in` reads.
 pub fn xreadgroup_is_the_event()
     ensures { XreadgroupIsTheEvent }
+{}
+
+/// If the entries and a group of a stream are those of a world of `stream_group`, they are so after
+/// XAUTOCLAIM, of the world in which the consumer claimed the entries that are picked. The answer
+/// has the entries that the model answers, with JUSTID their ids, and the ids that were deleted.
+pub fn xautoclaim_is_the_event()
+    ensures { XautoclaimIsTheEvent }
 {}

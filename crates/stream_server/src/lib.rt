@@ -20,7 +20,10 @@ mod writing;
 pub use answer::{Answer, Reply, Status};
 pub use client::Client;
 pub use incoming::ProtocolError;
-pub use laws::{replies_are_read, xack_is_the_event, xadd_is_the_event, xdel_is_the_events};
+pub use laws::{
+    replies_are_read, xack_is_the_event, xadd_is_the_event, xautoclaim_is_the_event,
+    xdel_is_the_events,
+};
 pub use loopback::{Loopback, LoopbackReader, LoopbackWriter};
 pub use redis_wire::Protocol;
 pub use server::Server;

@@ -99,7 +99,7 @@ pub(super) fn acknowledge(
 }
 
 /// Acknowledges the entries, and counts those that were pending.
-fn acknowledge_all(group: &mut Group, ids: &[EntryId]) -> usize
+pub(super) fn acknowledge_all(group: &mut Group, ids: &[EntryId]) -> usize
     ensures { AreAcknowledged ids.now result group.old group.new }
 {
     let before = group.pending.len();

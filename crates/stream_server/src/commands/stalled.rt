@@ -1,10 +1,18 @@
 //! `XAUTOCLAIM`.
-ghost use Rattle.std.specs.Prelude.{◌≡◌, ◌*◌, ◌-◌, ◌^◌, min, IfOk, OnErr};
+ghost use Rattle.std.specs.Prelude.{◌≡◌, ◌*◌, ◌-◌, ◌^◌, false, length, map, min, IfOk, OnErr};
+ghost use Rattle.std.specs.List.{AllByRecursion, Contains};
+ghost use Rattle.stream_store.specs.Consumers.{HasRoom};
+ghost use Rattle.stream_store.specs.Laws.{AreInOrder, IsInOrder};
+ghost use Rattle.stream_server.specs.Acknowledging.{names_of};
+ghost use Rattle.stream_server.specs.Claiming.{IsXautoclaim, Settles, TakesOver, after_claim, entries_with};
+ghost use Rattle.stream_server.specs.Claiming.{ids_of, sent_claim, sent_claimed, sent_id, taken_over};
+ghost use Rattle.stream_server.specs.Sent.{sent};
 ghost use Rattle.stream_server.specs.Stalled.{IsFound};
 
+use super::remove::acknowledge_all;
 use super::{
-    SYNTAX, array, claimed_answer, group_for, integer_in, interval_start, is_word, place_of,
-    place_of_group, put, stream_for,
+    SYNTAX, array, claimed_answer, integer_in, interval_start, is_word, no_group, place_of,
+    place_of_group, put,
 };
 use crate::answer::Answer;
 use crate::refusal::Refusal;
@@ -32,16 +40,6 @@ struct Stalled {
     next: EntryId,
 }
 
-/// What XAUTOCLAIM changes and answers.
-#[derive(Drop)]
-struct Outcome<'a> {
-    claim: Claim<'a>,
-    stalled: Stalled,
-    /// Room for the consumer, who is seen where there is one entry for it.
-    room: Option<Room>,
-    answer: Answer,
-}
-
 /// `XAUTOCLAIM key group consumer min-idle start [COUNT count] [JUSTID]`. All memory is taken before
 /// the group is changed.
 pub(super) fn claim_stalled(
@@ -50,52 +48,26 @@ pub(super) fn claim_stalled(
     now: u64,
     arguments: &[Vec<u8>],
 ) -> Result<Answer, Refusal>
-    ensures { OnErr result (streams.new ≡ streams.old) }
+    ensures ok { IfOk result (λ answer. IsXautoclaim arguments.now now answer streams.old streams.new) }
+    ensures err { OnErr result (streams.new ≡ streams.old) }
 {
-    let [key, name, ..] = arguments else {
-        return Err(SYNTAX);
-    };
-    let Outcome {
-        claim,
-        stalled,
-        room,
-        answer,
-    } = claimed(alloc, streams, now, arguments)?;
-    if let Ok(index) = place_of(streams, key) {
-        if let Ok(place) = place_of_group(&streams[index], name) {
-            let group = &mut streams[index].groups[place];
-            settle(group, &stalled, &claim, room);
-        }
-    }
-    Ok(answer)
-}
-
-/// What is changed, and what is answered.
-fn claimed<'a>(
-    alloc: Global,
-    streams: &[Stream],
-    now: u64,
-    arguments: &'a [Vec<u8>],
-) -> Result<Outcome<'a>, Refusal> {
     let [key, name, consumer, least_idle, start, words @ ..] = arguments else {
         return Err(SYNTAX);
     };
     let claim = claim_in(consumer, now, least_idle, start, words)?;
-    let stream = stream_for(alloc, streams, key, name)?;
-    let group = group_for(alloc, stream, key, name)?;
-    let stalled = stalled_in(alloc, stream, group, &claim)?;
-    let room = if stalled.claimed.is_empty() {
-        None
-    } else {
-        Some(group.room_for(alloc, consumer, 0)?)
+    let Ok(index) = place_of(streams, key) else {
+        return Err(no_group(alloc, key, name));
     };
+    let Ok(place) = place_of_group(&streams[index], name) else {
+        return Err(no_group(alloc, key, name));
+    };
+    let stream = &streams[index];
+    let group = &stream.groups[place];
+    let stalled = stalled_in(alloc, stream, group, &claim)?;
+    let room = group.room_for(alloc, consumer, 0)?;
     let answer = answer_of(alloc, stream, &stalled, claim.only_ids)?;
-    Ok(Outcome {
-        claim,
-        stalled,
-        room,
-        answer,
-    })
+    settle(&mut streams[index].groups[place], &claim, &stalled, room);
+    Ok(answer)
 }
 
 /// Where the next claim goes on, what the consumer takes over, and the ids that are gone.
@@ -104,41 +76,99 @@ fn answer_of(
     stream: &Stream,
     stalled: &Stalled,
     only_ids: bool,
-) -> Result<Answer, AllocError> {
-    let mut claimed = Vec::new(alloc);
-    for pending in &stalled.claimed {
-        if let Some(entry) = stream.get(pending.id) {
-            put(&mut claimed, claimed_answer(alloc, entry, only_ids)?)?;
-        }
-    }
-    let mut gone = Vec::new(alloc);
-    for id in &stalled.gone {
-        put(&mut gone, Answer::Id(*id))?;
-    }
+) -> Result<Answer, AllocError>
+    ensures { IfOk result (λ answer. AreInOrder stream.now.entries.items → sent answer
+        ≡ sent_claim stalled.now.next (map (sent_claimed only_ids)
+        (entries_with (ids_of stalled.now.claimed.items) stream.now.entries.items)) stalled.now.gone.items) }
+{
+    let claimed = claimed_answers(alloc, stream, &stalled.claimed, only_ids)?;
+    let gone = id_answers(alloc, &stalled.gone)?;
     let next = Answer::Id(stalled.next);
     array(alloc, [next, Answer::Array(claimed), Answer::Array(gone)])
 }
 
-/// What is no longer in the stream is no longer pending, and the other entries are the consumer's.
-/// With the room, no memory is asked for.
-fn settle(group: &mut Group, stalled: &Stalled, claim: &Claim<'_>, room: Option<Room>) {
-    for id in &stalled.gone {
-        let _was_pending = group.acknowledge(*id);
+/// The entries of what is claimed, or their ids.
+fn claimed_answers(
+    alloc: Global,
+    stream: &Stream,
+    claimed: &[Pending],
+    only_ids: bool,
+) -> Result<Vec<Answer>, AllocError>
+    ensures { IfOk result (λ answers. AreInOrder stream.now.entries.items → map sent answers.items
+        ≡ map (sent_claimed only_ids) (entries_with (ids_of claimed.now) stream.now.entries.items)) }
+{
+    let mut answers = Vec::new(alloc);
+    for pending in claimed {
+        if let Some(entry) = stream.get(pending.id) {
+            put(&mut answers, claimed_answer(alloc, entry, only_ids)?)?;
+        }
     }
-    let Some(room) = room else {
-        return;
-    };
+    Ok(answers)
+}
+
+/// Ids as answers.
+fn id_answers(alloc: Global, ids: &[EntryId]) -> Result<Vec<Answer>, AllocError>
+    ensures { IfOk result (λ answers. map sent answers.items ≡ map sent_id ids.now) }
+{
+    let mut answers = Vec::new(alloc);
+    for id in ids {
+        put(&mut answers, Answer::Id(*id))?;
+    }
+    Ok(answers)
+}
+
+/// What is claimed is the consumer's, who is seen if there is one entry for it. What is no longer in
+/// the stream is no longer pending. With the room, no memory is asked for.
+fn settle(group: &mut Group, claim: &Claim<'_>, stalled: &Stalled, room: Room)
+    ensures { HasRoom room group.old → IsInOrder group.old
+        → AllByRecursion (Contains group.old.pending.items) stalled.now.claimed.items
+        → Settles room.name.items claim.entry.now stalled.now group.old group.new }
+{
+    if !stalled.claimed.is_empty() {
+        take_over(group, claim, &stalled.claimed, room);
+    }
+    let _count = acknowledge_all(group, &stalled.gone);
+}
+
+/// The consumer is seen, and takes over what it claims.
+fn take_over(group: &mut Group, claim: &Claim<'_>, claimed: &[Pending], room: Room)
+    ensures { HasRoom room group.old → IsInOrder group.old
+        → AllByRecursion (Contains group.old.pending.items) claimed.now
+        → TakesOver room.name.items claim.entry.now.now claim.entry.now.only_ids (ids_of claimed.now)
+        group.old group.new }
+{
     let Ok(number) = group.see_in(room, claim.now) else {
         return;
     };
+    give_all(group, claim, number, claimed);
+}
+
+/// Each of the entries that are pending is given to the consumer of this number.
+fn give_all(group: &mut Group, claim: &Claim<'_>, number: u64, claimed: &[Pending])
+    ensures pending { IsInOrder group.old → AllByRecursion (Contains group.old.pending.items) claimed.now
+        → group.new.pending.items ≡ map (after_claim number claim.entry.now.now claim.entry.now.only_ids
+        (ids_of claimed.now)) group.old.pending.items }
+    ensures names { names_of group.new.consumers.items ≡ names_of group.old.consumers.items }
+    ensures others { group.new ≡ record group.old {
+      pending = group.new.pending;
+      consumers = group.new.consumers;
+    } }
+{
+    for pending in claimed {
+        let _given = group.give(taken_over(*pending, number, claim));
+    }
+}
+
+/// What is pending, given to the consumer of this number.
+fn taken_over(pending: Pending, number: u64, claim: &Claim<'_>) -> Pending
+    ensures { result ≡ taken_over number claim.entry.now.now claim.entry.now.only_ids pending }
+{
     let more = if claim.only_ids { 0 } else { 1 };
-    for pending in &stalled.claimed {
-        let _given = group.give(Pending {
-            id: pending.id,
-            consumer: number,
-            given_at: claim.now,
-            deliveries: pending.deliveries.saturating_add(more),
-        });
+    Pending {
+        id: pending.id,
+        consumer: number,
+        given_at: claim.now,
+        deliveries: pending.deliveries.saturating_add(more),
     }
 }
 
@@ -149,7 +179,10 @@ fn claim_in<'a>(
     least_idle: &[u8],
     start: &[u8],
     words: &[Vec<u8>],
-) -> Result<Claim<'a>, Refusal> {
+) -> Result<Claim<'a>, Refusal>
+    ensures now { IfOk result (λ claim. claim.now ≡ now) }
+    ensures plain { IfOk result (λ claim. length words.now ≡ 0 → claim.only_ids ≡ false) }
+{
     let Some(least_idle) = integer_in(least_idle) else {
         return Err(Refusal::Fixed("ERR Invalid min-idle-time argument for XAUTOCLAIM"));
     };
@@ -172,7 +205,9 @@ fn claim_in<'a>(
 }
 
 /// Reads one option, and gives the words behind it.
-fn option_at<'w>(claim: &mut Claim<'_>, words: &'w [Vec<u8>]) -> Result<&'w [Vec<u8>], Refusal> {
+fn option_at<'w>(claim: &mut Claim<'_>, words: &'w [Vec<u8>]) -> Result<&'w [Vec<u8>], Refusal>
+    ensures { claim.new.now ≡ claim.old.now }
+{
     match words {
         [word, text, behind @ ..] if is_word(word, "COUNT") => {
             claim.most = most_in(text)?;

@@ -1,7 +1,7 @@
 use Rattle.std.proofs.Common.{List, ◌∙◌, ap}
 use Rattle.std.specs.Global.{Vec}
 use Rattle.std.specs.Prelude.{ℕ}
-use Rattle.stream_server.specs.Reading.{sent_fields}
+use Rattle.stream_server.specs.Claiming.{sent_fields}
 use Rattle.stream_server.proofs.ReadLemmas.{entry_answered}
 use Rattle.stream_server.proofs.commands.entry_answer.Goals as goal
 

@@ -3,6 +3,6 @@ use Rattle.redis_resp.specs.Tree.{bulk}
 use Rattle.stream_server.specs.Sent.{plain, sent}
 use Rattle.stream_server.proofs.commands.fields_answer.Given as goal
 
+-- the fields so far are answers
 abbrev pub invariant-loop-field : goal.invariant-loop-field
-invariant-loop-field l =
-    map sent l.answers.items ≡ map (λ f. plain (bulk f.items)) (take l.field-index l.fields)
+invariant-loop-field l = map sent l.answers.items ≡ map (λ f. plain (bulk f.items)) (take l.field-index l.fields)

@@ -1,6 +1,6 @@
 use Rattle.std.proofs.Common.{◌≡◌, ◌++◌, map, take}
 use Rattle.std.specs.VecDeque.Iter.{deque_iter_rest}
-use Rattle.stream_server.specs.Reading.{sent_entry}
+use Rattle.stream_server.specs.Claiming.{sent_entry}
 use Rattle.stream_server.specs.Sent.{sent}
 use Rattle.stream_server.proofs.commands.read.read_behind.Given as goal
 
