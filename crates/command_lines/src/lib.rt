@@ -108,7 +108,7 @@ pub fn tell<R: Eprint>(alloc: Global, rt: &R, error: &Error) -> io::Result<ExitC
 {
     match shown(alloc, error) {
         Ok(text) => eprint!(rt; "{text}")?,
-        Err(_) => eprint!(rt; "error: out of memory\n")?,
+        Err(_) => return Err(io::Error::from(io::ErrorKind::OutOfMemory)),
     }
     Ok(ExitCode::from(status_of(error)))
 }
