@@ -1,0 +1,313 @@
+//! What the command lines of the programs have in common, over the crate `clap`: their options as
+//! data, how words are read, and how a wrong line is told.
+//!
+//! The standard output of these programs is the connection with the server. So help, the version
+//! and what is wrong with a line go to standard error.
+#![tactic(auto)]
+
+ghost use Rattle.std.specs.Prelude.{◌≡◌, ◌≢◌, ◌≤◌, ◌∷◌, ◌⊎◌, [], ℕ, List, IfOk, IfSome, None, Some};
+ghost use Rattle.std.specs.Prelude.{codes, false, true, length, option_map};
+ghost use Rattle.std.specs.Process.{exit_status};
+ghost use Rattle.clap.specs.Words.{BuildsTo, first_value, found_of, kind_of, new_rule, one_text, rule_of};
+ghost use Rattle.clap.specs.declared.builder.command.Command.TheViews.{out-Command as fields_of};
+ghost use Rattle.clap.specs.declared.builder.ArgAction.TheVariants.{Set, SetTrue};
+ghost use Rattle.clap.specs.declared.builder.value_parser.ValueParser.TheVariants as vp;
+
+use clap::builder::ValueParser;
+use clap::error::ErrorKind;
+use clap::{Arg, ArgAction, ArgMatches, Command, Error};
+use std::alloc::{AllocError, Global};
+use std::fmt::Display;
+use std::io;
+use std::process::ExitCode;
+
+/// The version of the programs, which `--version` tells.
+pub const VERSION: &str = "0.1.0";
+
+/// The command of a program. Its words come without the program's name. An option that comes again undoes the one before.
+pub fn command<'a>(alloc: Global, program: &'a str, about: &'a str) -> Command<'a>
+    ensures name { (fields_of result).name ≡ program.entry }
+    ensures words { (fields_of result).no_binary_name ≡ true }
+    ensures again { (fields_of result).args_override_self ≡ true }
+    ensures version { option_map (λ s. s.now) (fields_of result).version ≡ Some VERSION.now }
+{
+    Command::new(alloc, program)
+        .version(VERSION)
+        .about(about)
+        .after_help(CONNECTION)
+        .no_binary_name(true)
+        .args_override_self(true)
+}
+
+const CONNECTION: &str =
+    "Standard input and standard output are the connection with the server, so this text and each \
+     error\ngo to standard error. Names that begin with a hyphen come last, after the word --.";
+
+/// What these words are for the command, of which `least` are there at least.
+pub fn matches_of<'a>(
+    alloc: Global,
+    command: &mut Command<'a>,
+    words: &'a [String],
+    least: usize,
+) -> Result<ArgMatches<'a>, Error>
+    ensures built { IfOk result (λ _. BuildsTo command.old command.new) }
+    ensures least { IfOk result (λ _. least ≤ length words.now) }
+{
+    let matches = command.try_get_matches_from_mut(words)?;
+    if words.len() < least {
+        return Err(refused(alloc, command, &"words are missing"));
+    }
+    Ok(matches)
+}
+
+/// The error of a line that the program itself refuses, for this reason.
+pub fn refused<D: Display>(alloc: Global, command: &mut Command<'_>, reason: &D) -> Error
+    ensures { (kind_of result ≡ ErrorKind.ValueValidation) ⊎ (kind_of result ≡ ErrorKind.OutOfMemory) }
+{
+    match refusal(alloc, command, reason) {
+        Ok(error) => error,
+        Err(error) => error.into(),
+    }
+}
+
+fn refusal<D: Display>(
+    alloc: Global,
+    command: &mut Command<'_>,
+    reason: &D,
+) -> Result<Error, AllocError>
+    ensures { IfOk result (λ e. kind_of e ≡ ErrorKind.ValueValidation) }
+{
+    let text = format!(in alloc; "{reason}")?;
+    command.error(ErrorKind::ValueValidation, &text)
+}
+
+/// The error of a line in which this option has a value that the program itself refuses, for this reason.
+pub fn refused_value(
+    alloc: Global,
+    command: &mut Command<'_>,
+    value: &str,
+    option: &str,
+    reason: &str,
+) -> Error
+    ensures { (kind_of result ≡ ErrorKind.ValueValidation)
+        ⊎ (kind_of result ≡ ErrorKind.OutOfMemory) }
+{
+    let text = format_args!("invalid value '{value}' for '{option}': {reason}");
+    refused(alloc, command, &text)
+}
+
+/// Tells on standard error what a line asks for that is not to be run, or what is wrong with it. Returns the status:
+/// 0 for help and the version, 1 if memory ran out, and 2 for a wrong line.
+pub fn tell<R: Eprint>(alloc: Global, rt: &R, error: &Error) -> io::Result<ExitCode>
+    ensures asked { IfOk result (λ code. (kind_of error.now ≡ ErrorKind.DisplayHelp)
+        ⊎ (kind_of error.now ≡ ErrorKind.DisplayVersion) → exit_status code ≡ 0) }
+    ensures memory { IfOk result (λ code. kind_of error.now ≡ ErrorKind.OutOfMemory → exit_status code ≡ 1) }
+    ensures wrong { IfOk result (λ code. kind_of error.now ≢ ErrorKind.DisplayHelp
+        → kind_of error.now ≢ ErrorKind.DisplayVersion → kind_of error.now ≢ ErrorKind.OutOfMemory
+        → exit_status code ≡ 2) }
+{
+    match shown(alloc, error) {
+        Ok(text) => eprint!(rt; "{text}")?,
+        Err(_) => return Err(io::Error::from(io::ErrorKind::OutOfMemory)),
+    }
+    Ok(ExitCode::from(status_of(error)))
+}
+
+fn status_of(error: &Error) -> u8
+    ensures asked { (kind_of error.now ≡ ErrorKind.DisplayHelp)
+        ⊎ (kind_of error.now ≡ ErrorKind.DisplayVersion) → result ≡ 0 }
+    ensures memory { kind_of error.now ≡ ErrorKind.OutOfMemory → result ≡ 1 }
+    ensures wrong { kind_of error.now ≢ ErrorKind.DisplayHelp → kind_of error.now ≢ ErrorKind.DisplayVersion
+        → kind_of error.now ≢ ErrorKind.OutOfMemory → result ≡ 2 }
+{
+    match error.kind() {
+        ErrorKind::DisplayHelp | ErrorKind::DisplayVersion => 0,
+        ErrorKind::OutOfMemory => 1,
+        _ => 2,
+    }
+}
+
+// The text of an error as it may be shown: a control character of a word, which could steer a terminal, is `?`.
+fn shown(alloc: Global, error: &Error) -> Result<String, AllocError> {
+    let text = format!(in alloc; "{error}")?;
+    let mut shown = String::new(alloc);
+    for letter in text.chars() {
+        let is_shown = letter == '\n' || !letter.is_control();
+        shown.push(if is_shown { letter } else { '?' })?;
+    }
+    Ok(shown)
+}
+
+/// The value of the argument `id`; if it is not there, the empty text.
+pub fn word_of<'a>(matches: &ArgMatches<'a>, id: &str) -> &'a str
+    ensures some { (text : List ℕ) → first_value (found_of matches.now) id.now ≡ Some text
+        → result.now ≡ text }
+    ensures none { first_value (found_of matches.now) id.now ≡ None → result.now ≡ [] }
+{
+    match matches.get_str(id) {
+        Some(text) => text,
+        None => "",
+    }
+}
+
+/// An option with a number, as `--count 100`.
+#[derive(Clone, Copy)]
+pub struct Number {
+    /// Its name, without the hyphens.
+    pub name: &'static str,
+    /// What its value is, as `--help` shows it.
+    pub value: &'static str,
+    /// What `--help` says of it.
+    pub help: &'static str,
+    /// The least number that it takes.
+    pub least: u64,
+    /// The largest number that it takes.
+    pub most: u64,
+    /// The digits of the number if it is not there.
+    pub usual: &'static str,
+}
+
+impl Number {
+    /// The option as a command takes it. A value that begins with a hyphen and is a number is its value, and refused.
+    pub fn arg<'a>(&self, alloc: Global) -> Arg<'a>
+        ensures { rule_of result ≡ record (new_rule self.now.name.now) {
+          long = Some self.now.name.now;
+          action = Some Set;
+          parser = Some (vp.Unsigned self.now.least self.now.most);
+          value_names = 1;
+          defaults = self.now.usual.now ∷ [];
+          is_simple = false;
+        } }
+    {
+        Arg::new(alloc, self.name)
+            .long(self.name)
+            .action(ArgAction::Set)
+            .value_name(self.value)
+            .value_parser(ValueParser::unsigned(self.least, self.most))
+            .default_value(self.usual)
+            .allow_negative_numbers(true)
+            .help(self.help)
+    }
+
+    /// The number that a line has, or the usual one: in any case one in the range.
+    pub fn of(&self, matches: &ArgMatches<'_>) -> Option<u64>
+        ensures none { one_text (found_of matches.now) self.now.name.now ≡ None → result ≡ None }
+        ensures range { IfSome result (λ n. (self.now.least ≤ n) × (n ≤ self.now.most)) }
+    {
+        let number = matches.get_one::<u64>(self.name)?;
+        if number < self.least || self.most < number {
+            return None;
+        }
+        Some(number)
+    }
+}
+
+/// For so many milliseconds a server waits for new entries.
+pub const BLOCK: Number = Number {
+    name: "block",
+    value: "MS",
+    help: "For so many milliseconds the server waits for new entries; 0: without end",
+    least: 0,
+    most: u64::MAX,
+    usual: "5000",
+};
+
+/// Entries that others left for so many milliseconds are claimed.
+pub const IDLE: Number = Number {
+    name: "idle",
+    value: "MS",
+    help: "Entries that others left for so many milliseconds are claimed",
+    least: 0,
+    most: u64::MAX,
+    usual: "60000",
+};
+
+/// A worker claims after so many reads of new entries.
+pub const EVERY: Number = Number {
+    name: "every",
+    value: "READS",
+    help: "It claims after so many reads of new entries; 0 and 1: after each",
+    least: 0,
+    most: u64::MAX,
+    usual: "10",
+};
+
+static BEGINNINGS: [&str; 2] = ["0", "$"];
+
+/// The option `--from`: where a group begins that is made.
+pub fn from<'a>(alloc: Global) -> Arg<'a>
+    ensures id { (rule_of result).id ≡ codes "from" }
+    ensures long { (rule_of result).long ≡ Some (codes "from") }
+    ensures one { (rule_of result).action ≡ Some Set }
+{
+    Arg::new(alloc, "from")
+        .long("from")
+        .action(ArgAction::Set)
+        .value_name("ID")
+        .value_parser(ValueParser::Names(BEGINNINGS.as_slice()))
+        .help("Makes a group that is missing: with all entries (0), or with those from then on ($)")
+}
+
+/// An option without a value, as `--json`.
+pub fn flag<'a>(alloc: Global, name: &'a str, help: &'a str) -> Arg<'a>
+    ensures { rule_of result ≡ record (new_rule name.entry.now) {
+      long = Some name.entry.now;
+      action = Some SetTrue;
+    } }
+{
+    Arg::new(alloc, name)
+        .long(name)
+        .action(ArgAction::SetTrue)
+        .help(help)
+}
+
+/// A word that a line has to have, and that is not empty: `KEY`, say.
+pub fn name<'a>(alloc: Global, name: &'a str, help: &'a str) -> Arg<'a>
+    ensures { rule_of result ≡ record (new_rule name.entry.now) {
+      action = Some Set;
+      parser = Some vp.NonEmptyString;
+      required = true;
+    } }
+{
+    Arg::new(alloc, name)
+        .required(true)
+        .action(ArgAction::Set)
+        .value_parser(ValueParser::NonEmptyString)
+        .help(help)
+}
+
+/// An option whose value is the next word, whatever it is: `--table NAME`, say.
+pub fn text<'a>(alloc: Global, name: &'a str, value: &'a str, help: &'a str) -> Arg<'a>
+    ensures { rule_of result ≡ record (new_rule name.entry.now) {
+      long = Some name.entry.now;
+      action = Some Set;
+      value_names = 1;
+      is_simple = false;
+    } }
+{
+    Arg::new(alloc, name)
+        .long(name)
+        .action(ArgAction::Set)
+        .value_name(value)
+        .allow_hyphen_values(true)
+        .help(help)
+}
+
+/// An option whose values are the next two words, whatever they are: `--wait REPLICAS MS`, say.
+pub fn pair<'a>(alloc: Global, name: &'a str, values: &'a [&'a str], help: &'a str) -> Arg<'a>
+    ensures { rule_of result ≡ record (new_rule name.entry.now) {
+      long = Some name.entry.now;
+      action = Some Set;
+      range = Some (record { start_inclusive = 2; end_inclusive = 2 });
+      value_names = length values.entry.now;
+      is_simple = false;
+    } }
+{
+    Arg::new(alloc, name)
+        .long(name)
+        .action(ArgAction::Set)
+        .num_args(2)
+        .value_names(values)
+        .allow_hyphen_values(true)
+        .help(help)
+}
