@@ -11,7 +11,7 @@ _jagyerti_tools=$(cd "$(dirname "${BASH_SOURCE[0]}")/.." && pwd)
 # Prints the options of a program or a tool.
 _jagyerti_options() {
     case $1 in
-        stream_drain) echo --from --count --block --idle --every --dead --until-empty --json --quiet ;;
+        stream_drain) echo --from --count --block --idle --every --dead --json --quiet --until-empty --help --version ;;
         stream_fill) echo --field --json --batch --base --wait ;;
         stream_top) echo --once --json --openmetrics ;;
         stream_serve) ;;

@@ -17,7 +17,7 @@
 //!
 //! Once a second it writes to standard error what it did and what the group has still to do, and at the
 //! end what it did; with `--quiet` only at the end. It ends with 0 if `--until-empty` is there and
-//! nothing new came, and else with 1 and the reason.
+//! nothing new came, with 2 if a word is wrong, and else with 1 and the reason. `--help` tells its words.
 #![tactic(auto)]
 
 mod backlog;
@@ -36,20 +36,25 @@ use crate::options::{Options, options_of};
 use crate::report::Report;
 use crate::resume::{Start, begun};
 use anyhow::{Context, Error, Result, anyhow};
+use command_lines::tell;
 use line_log::{LogError, SystemFile};
 use redis_connection::Connection;
 use redis_wire::Limits;
 use std::alloc::{AllocError, Global};
 use std::io::ErrorKind;
+use std::process::ExitCode;
 use std::{env, io};
 use stream_letters::{DeadLetterSearch, GiveUp};
 use stream_worker::Settings;
 
-fn main(rt: HostRuntime) -> Result<()> {
+fn main(rt: HostRuntime) -> Result<ExitCode> {
     let words = words_of(&rt)?;
-    let options = options_of(rt.alloc(), &words)?;
+    let options = match options_of(rt.alloc(), &words) {
+        Ok(options) => options,
+        Err(error) => return Ok(tell(rt.alloc(), &rt, &error)?),
+    };
     match drain_by(&rt, options) {
-        Ok(()) => Ok(()),
+        Ok(()) => Ok(ExitCode::SUCCESS),
         Err(error) => Err(masked(rt.alloc(), error)),
     }
 }

@@ -1,15 +1,15 @@
 //! The words that the program is called with.
-ghost use Rattle.std.specs.Prelude.{◌≤◌, length, IfOk};
+ghost use Rattle.std.specs.Prelude.{◌≤◌, length, IfOk, IfSome};
 
 use crate::resume::LARGEST_COUNT;
-use anyhow::{Result, bail};
+use clap::{ArgMatches, Command, Error};
+use command_lines::{
+    BLOCK, EVERY, IDLE, Number, command, flag, from, matches_of, name, pair, refused,
+    refused_value, word_of,
+};
 use std::alloc::{AllocError, Global};
 use stream_letters::GiveUp;
 use stream_worker::{MakeGroup, Settings};
-
-// In less than 120 bytes, which are all that an error shows.
-const USAGE: &str = "wanted: KEY GROUP CONSUMER FILE [--from 0|$] [--count|block|idle|every N] \
-                     [--dead N KEY] [--json|quiet|until-empty]";
 
 /// What the program is to do.
 #[derive(Drop)]
@@ -26,151 +26,151 @@ pub struct Options {
     pub dead: Option<GiveUp>,
 }
 
-/// An option with a value.
-#[derive(Clone, Copy)]
-enum Valued {
-    /// Makes the group where there is none, with all entries or with those from then on.
-    From,
-    /// At most so many entries at once.
-    Count,
-    /// For so many milliseconds the server waits for new entries.
-    Block,
-    /// Entries that others left for so many milliseconds are claimed.
-    Idle,
-    /// It claims after so many reads.
-    Every,
-    /// Entries that were delivered so often are given up, and their stream follows.
-    Dead,
-    /// Their stream, after how often that is.
-    DeadStream(usize),
-}
+// Not more than what is acknowledged at the beginning.
+const COUNT: Number = Number {
+    name: "count",
+    value: "ENTRIES",
+    help: "At most so many entries at once, from 1 to 10000; a batch is one write and one sync",
+    least: 1,
+    most: LARGEST_COUNT as u64,
+    usual: "1000",
+};
+
+// The values of `--dead`, and how an error names it.
+static DEAD_VALUES: [&str; 2] = ["TIMES", "STREAM"];
+
+const DEAD: &str = "--dead <TIMES> <STREAM>";
 
 /// The options of these words.
-pub fn options_of(alloc: Global, words: &[String]) -> Result<Options>
+pub fn options_of(alloc: Global, words: &[String]) -> Result<Options, Error>
     ensures { IfOk result (λ _. 4 ≤ length words.now) }
 {
-    let [key, group, consumer, path, rest @ ..] = words else {
-        bail!("{USAGE}");
-    };
-    let settings = settings_of(key, group, consumer)?;
-    let mut options = Options {
+    let mut command = command_of(alloc)?;
+    let matches = matches_of(alloc, &mut command, words, 4)?;
+    let settings = settings_of(alloc, &mut command, &matches)?;
+    let dead = dead_of(alloc, &mut command, &matches)?;
+    Ok(Options {
         settings,
-        path: String::from_str(alloc, path)?,
-        until_empty: false,
-        json: false,
-        quiet: false,
-        dead: None,
-    };
-    take_all(alloc, &mut options, rest)?;
-    Ok(options)
-}
-
-// The settings of a worker for these names.
-fn settings_of(key: &String, group: &String, consumer: &String) -> Result<Settings> {
-    Ok(Settings::new(key.clone()?, group.clone()?, consumer.clone()?)?)
-}
-
-// Takes options and their values, in order.
-fn take_all(alloc: Global, options: &mut Options, words: &[String]) -> Result<()> {
-    let mut valued = None;
-    for word in words {
-        valued = take(alloc, options, valued, word)?;
-    }
-    if valued.is_some() {
-        bail!("{USAGE}");
-    }
-    Ok(())
-}
-
-// Takes a word: the value of this option, or an option.
-fn take(
-    alloc: Global,
-    options: &mut Options,
-    valued: Option<Valued>,
-    word: &str,
-) -> Result<Option<Valued>> {
-    match valued {
-        Some(option) => set(alloc, options, option, word),
-        None => begin(options, word),
-    }
-}
-
-// Takes an option; a value may follow.
-fn begin(options: &mut Options, word: &str) -> Result<Option<Valued>> {
-    match word {
-        "--until-empty" => options.until_empty = true,
-        "--json" => options.json = true,
-        "--quiet" => options.quiet = true,
-        _ => return Ok(Some(valued_of(word)?)),
-    }
-    Ok(None)
-}
-
-fn valued_of(word: &str) -> Result<Valued> {
-    Ok(match word {
-        "--from" => Valued::From,
-        "--count" => Valued::Count,
-        "--block" => Valued::Block,
-        "--idle" => Valued::Idle,
-        "--every" => Valued::Every,
-        "--dead" => Valued::Dead,
-        _ => bail!("{word}: {USAGE}"),
+        path: String::from_str(alloc, word_of(&matches, "FILE"))?,
+        until_empty: matches.get_flag("until-empty"),
+        json: matches.get_flag("json"),
+        quiet: matches.get_flag("quiet"),
+        dead,
     })
 }
 
-// Takes the value of an option; a second value may follow.
-fn set(
+fn command_of<'a>(alloc: Global) -> Result<Command<'a>, AllocError> {
+    let about = "Drains a stream for one consumer of a group into a file.";
+    let command = command(alloc, "stream_drain", about)
+        .arg(name(alloc, "KEY", "The stream"))?
+        .arg(name(alloc, "GROUP", "The group of consumers"))?
+        .arg(name(alloc, "CONSUMER", "The name of the consumer"))?
+        .arg(name(
+            alloc,
+            "FILE",
+            "The file, to which a line for each entry is added",
+        ))?
+        .arg(from(alloc))?;
+    with_flags(alloc, with_numbers(alloc, command)?)
+}
+
+fn with_numbers<'a>(alloc: Global, command: Command<'a>) -> Result<Command<'a>, AllocError> {
+    command
+        .arg(COUNT.arg(alloc))?
+        .arg(BLOCK.arg(alloc))?
+        .arg(IDLE.arg(alloc))?
+        .arg(EVERY.arg(alloc))
+}
+
+fn with_flags<'a>(alloc: Global, command: Command<'a>) -> Result<Command<'a>, AllocError> {
+    let dead =
+        "Entries that were delivered so many times, 1 at least, go to this stream of dead letters";
+    command
+        .arg(pair(alloc, "dead", DEAD_VALUES.as_slice(), dead))?
+        .arg(flag(alloc, "json", "Each line is an object of JSON"))?
+        .arg(flag(alloc, "quiet", "Nothing is shown but the counts at the end"))?
+        .arg(flag(
+            alloc,
+            "until-empty",
+            "It ends with status 0 once a read finds nothing new",
+        ))
+}
+
+// The settings of a worker. Those that a line leaves out are the usual ones.
+fn settings_of(
     alloc: Global,
-    options: &mut Options,
-    option: Valued,
-    value: &str,
-) -> Result<Option<Valued>> {
-    match option {
-        Valued::From => options.settings.set_make_group(make_group(value)?),
-        Valued::Count => options.settings.set_count(count(value)?)?,
-        Valued::Block => options.settings.set_block(number(value)?),
-        Valued::Idle => options.settings.set_min_idle(number(value)?),
-        Valued::Every => options.settings.set_every(number(value)?),
-        Valued::Dead => return Ok(Some(Valued::DeadStream(number(value)?))),
-        Valued::DeadStream(deliveries) => {
-            options.dead = Some(give_up(alloc, options.settings.key(), deliveries, value)?);
-        }
+    command: &mut Command<'_>,
+    matches: &ArgMatches<'_>,
+) -> Result<Settings, Error> {
+    let mut settings = named(alloc, command, matches)?;
+    if let Some(count) = count_of(matches)
+        && let Err(error) = settings.set_count(count)
+    {
+        return Err(refused(alloc, command, &error));
     }
-    Ok(None)
+    set_times(&mut settings, matches);
+    match word_of(matches, "from") {
+        "0" => settings.set_make_group(MakeGroup::FromTheFirst),
+        "$" => settings.set_make_group(MakeGroup::FromNow),
+        _ => {}
+    }
+    Ok(settings)
 }
 
-// Where a group begins that is made.
-fn make_group(value: &str) -> Result<MakeGroup> {
-    match value {
-        "0" => Ok(MakeGroup::FromTheFirst),
-        "$" => Ok(MakeGroup::FromNow),
-        _ => bail!("--from {value}: {USAGE}"),
+// The settings of a worker for these names.
+fn named(
+    alloc: Global,
+    command: &mut Command<'_>,
+    matches: &ArgMatches<'_>,
+) -> Result<Settings, Error> {
+    let key = String::from_str(alloc, word_of(matches, "KEY"))?;
+    let group = String::from_str(alloc, word_of(matches, "GROUP"))?;
+    let consumer = String::from_str(alloc, word_of(matches, "CONSUMER"))?;
+    match Settings::new(key, group, consumer) {
+        Ok(settings) => Ok(settings),
+        Err(error) => Err(refused(alloc, command, &error)),
     }
-}
-
-// Entries of the stream `key` that were delivered so often are given up, into another stream.
-fn give_up(alloc: Global, key: &str, deliveries: usize, stream: &str) -> Result<GiveUp> {
-    if deliveries == 0 || stream == key {
-        bail!("--dead {deliveries} {stream}: {USAGE}");
-    }
-    let stream = String::from_str(alloc, stream)?;
-    Ok(GiveUp { deliveries, stream })
 }
 
 // How many entries at most are asked for at once: not more than what is acknowledged at the beginning.
-fn count(value: &str) -> Result<usize>
-    ensures { IfOk result (λ n. n ≤ LARGEST_COUNT) }
+fn count_of(matches: &ArgMatches<'_>) -> Option<usize>
+    ensures { IfSome result (λ n. n ≤ LARGEST_COUNT) }
 {
-    let count = number(value)?;
-    if count > LARGEST_COUNT {
-        bail!("--count {count}: at most {LARGEST_COUNT}");
-    }
-    Ok(count)
+    Some(COUNT.of(matches)? as usize)
 }
 
-fn number(value: &str) -> Result<usize> {
-    match value.parse::<usize>() {
-        Ok(number) => Ok(number),
-        Err(_) => bail!("no number: {value}"),
+fn set_times(settings: &mut Settings, matches: &ArgMatches<'_>) {
+    if let Some(block) = BLOCK.of(matches) {
+        settings.set_block(block as usize);
     }
+    if let Some(idle) = IDLE.of(matches) {
+        settings.set_min_idle(idle as usize);
+    }
+    if let Some(every) = EVERY.of(matches) {
+        settings.set_every(every as usize);
+    }
+}
+
+// After how many deliveries entries are given up, and to which stream.
+fn dead_of(
+    alloc: Global,
+    command: &mut Command<'_>,
+    matches: &ArgMatches<'_>,
+) -> Result<Option<GiveUp>, Error> {
+    let Some([times, stream]) = matches.get_strs("dead") else {
+        return Ok(None);
+    };
+    let deliveries = match times.parse::<usize>() {
+        Ok(deliveries) if 0 < deliveries => deliveries,
+        _ => {
+            let reason = "TIMES is a number, 1 at least";
+            return Err(refused_value(alloc, command, times, DEAD, reason));
+        }
+    };
+    if *stream == word_of(matches, "KEY") {
+        let reason = "STREAM is another one than KEY";
+        return Err(refused_value(alloc, command, stream, DEAD, reason));
+    }
+    let stream = String::from_str(alloc, stream)?;
+    Ok(Some(GiveUp { deliveries, stream }))
 }
