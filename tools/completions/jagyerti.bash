@@ -12,7 +12,7 @@ _jagyerti_tools=$(cd "$(dirname "${BASH_SOURCE[0]}")/.." && pwd)
 _jagyerti_options() {
     case $1 in
         stream_drain) echo --from --count --block --idle --every --dead --json --quiet --until-empty --help --version ;;
-        stream_fill) echo --field --json --batch --base --wait ;;
+        stream_fill) echo --field --json --batch --base --wait --help --version ;;
         stream_top) echo --once --json --openmetrics ;;
         stream_serve) ;;
         *) "$_jagyerti_tools/$1" --help 2>/dev/null </dev/null | grep -oE -- '--[a-z][a-z-]*' | sort -u ;;

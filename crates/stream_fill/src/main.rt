@@ -13,8 +13,9 @@
 //! the lines are in, and goes on after them. So after whatever failed it is called
 //! again with the same words.
 //!
-//! What it did stands on standard error at the end. It ends with 0 where all lines are in, and else
-//! with 1 and the reason. A last line without an end is not added, and is a reason.
+//! What it did stands on standard error at the end. It ends with 0 where all lines are in, with 2 if a
+//! word is wrong, and else with 1 and the reason. A last line without an end is not added, and is a
+//! reason. `--help` tells its words.
 #![tactic(auto)]
 
 ghost use Rattle.std.specs.Prelude.{◌≡◌, IfSome};
@@ -30,17 +31,22 @@ use crate::fill::{FillError, fill};
 use crate::lines::Lines;
 use crate::options::{Options, options_of};
 use anyhow::{Error, Result, bail};
+use command_lines::tell;
 use redis_connection::Connection;
 use redis_wire::Limits;
 use std::alloc::{AllocError, Global};
+use std::process::ExitCode;
 use std::{env, io};
 use stream_feed::{ConfirmedError, RequestError, RunError};
 
-fn main(rt: HostRuntime) -> Result<()> {
+fn main(rt: HostRuntime) -> Result<ExitCode> {
     let words = words_of(&rt)?;
-    let options = options_of(rt.alloc(), &words)?;
+    let options = match options_of(rt.alloc(), &words) {
+        Ok(options) => options,
+        Err(error) => return Ok(tell(rt.alloc(), &rt, &error)?),
+    };
     match fill_by(&rt, options) {
-        Ok(()) => Ok(()),
+        Ok(()) => Ok(ExitCode::SUCCESS),
         Err(error) => Err(masked(rt.alloc(), error)),
     }
 }

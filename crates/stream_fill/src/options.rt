@@ -2,13 +2,12 @@
 ghost use Rattle.std.specs.Prelude.{◌≤◌, length, IfOk};
 
 use crate::lines::Form;
-use anyhow::{Result, bail};
-use std::alloc::Global;
+use clap::{ArgMatches, Command, Error};
+use command_lines::{
+    Number, command, flag, matches_of, name, pair, refused, refused_value, text, word_of,
+};
+use std::alloc::{AllocError, Global};
 use stream_feed::{Settings, Wait};
-
-// In less than 120 bytes, which are all that an error shows.
-const USAGE: &str =
-    "wanted: KEY FILE [--field NAME | --json] [--batch N] [--base N] [--wait REPLICAS MS]";
 
 /// What the program is to do.
 #[derive(Drop)]
@@ -20,123 +19,108 @@ pub struct Options {
     pub wait: Option<Wait>,
 }
 
-/// What the options say.
-#[derive(Drop)]
-struct Chosen {
-    /// Each line is JSON.
-    json: bool,
-    /// The name of the one field of each record.
-    field: String,
-    batch: usize,
-    base: u64,
-    wait: Option<Wait>,
-}
+const BATCH: Number = Number {
+    name: "batch",
+    value: "RECORDS",
+    help: "At most so many records at once, from 1 to 10000",
+    least: 1,
+    most: 10_000,
+    usual: "1000",
+};
 
-/// An option with a value.
-#[derive(Clone, Copy)]
-enum Valued {
-    /// The name of the one field of each record.
-    Field,
-    /// At most so many records at once.
-    Batch,
-    /// The first record has the id after this one.
-    Base,
-    /// So many replicas are to confirm each batch, and a time follows.
-    Wait,
-    /// The time, after how many replicas.
-    WaitFor(u64),
-}
+const BASE: Number = Number {
+    name: "base",
+    value: "N",
+    help: "The record of the line k has the id (N + k)-0",
+    least: 0,
+    most: u64::MAX - 1,
+    usual: "0",
+};
+
+// The values of `--wait`, and how an error names it.
+static WAIT_VALUES: [&str; 2] = ["REPLICAS", "MS"];
+
+const WAIT: &str = "--wait <REPLICAS> <MS>";
 
 /// The options of these words.
-pub fn options_of(alloc: Global, words: &[String]) -> Result<Options>
+pub fn options_of(alloc: Global, words: &[String]) -> Result<Options, Error>
     ensures { IfOk result (λ _. 2 ≤ length words.now) }
 {
-    let [key, path, rest @ ..] = words else {
-        bail!("{USAGE}");
-    };
-    let chosen = chosen_of(alloc, rest)?;
+    let mut command = command_of(alloc)?;
+    let matches = matches_of(alloc, &mut command, words, 2)?;
+    let settings = settings_of(alloc, &mut command, &matches)?;
+    let wait = wait_of(alloc, &mut command, &matches)?;
     Ok(Options {
-        settings: Settings::new(key.clone()?, chosen.base, chosen.batch)?,
-        path: path.clone()?,
-        wait: chosen.wait,
-        form: form_of(chosen),
+        settings,
+        path: String::from_str(alloc, word_of(&matches, "FILE"))?,
+        form: form_of(alloc, &matches)?,
+        wait,
     })
 }
 
+fn command_of<'a>(alloc: Global) -> Result<Command<'a>, AllocError> {
+    let about = "Fills a stream with the lines of a file, each once and in order.";
+    let field = "The name of the one field of each record, whose value is the line";
+    let json = "Each line is an object of texts, or a line of stream_drain --json";
+    let wait =
+        "So many replicas are to confirm each batch within so many milliseconds, each number 1 at least";
+    command(alloc, "stream_fill", about)
+        .arg(name(alloc, "KEY", "The stream"))?
+        .arg(name(alloc, "FILE", "The file"))?
+        .arg(text(alloc, "field", "NAME", field).default_value("line"))?
+        .arg(flag(alloc, "json", json))?
+        .arg(BATCH.arg(alloc))?
+        .arg(BASE.arg(alloc))?
+        .arg(pair(alloc, "wait", WAIT_VALUES.as_slice(), wait))
+}
+
 // What a line is.
-fn form_of(chosen: Chosen) -> Form {
-    if chosen.json {
-        Form::Json
-    } else {
-        Form::Text(chosen.field.into_bytes())
+fn form_of(alloc: Global, matches: &ArgMatches<'_>) -> Result<Form, AllocError> {
+    if matches.get_flag("json") {
+        return Ok(Form::Json);
     }
+    let field = String::from_str(alloc, word_of(matches, "field"))?;
+    Ok(Form::Text(field.into_bytes()))
 }
 
-// What these words choose, in order.
-fn chosen_of(alloc: Global, words: &[String]) -> Result<Chosen> {
-    let mut chosen = Chosen {
-        json: false,
-        field: String::from_str(alloc, "line")?,
-        batch: 1_000,
-        base: 0,
-        wait: None,
-    };
-    let mut valued = None;
-    for word in words {
-        valued = take(alloc, &mut chosen, valued, word)?;
-    }
-    if valued.is_some() {
-        bail!("{USAGE}");
-    }
-    Ok(chosen)
-}
-
-// Takes a word: the value of this option, or an option, whose value may follow.
-fn take(
+fn settings_of(
     alloc: Global,
-    chosen: &mut Chosen,
-    valued: Option<Valued>,
-    word: &str,
-) -> Result<Option<Valued>> {
-    match valued {
-        Some(option) => set(alloc, chosen, option, word),
-        None => begin(chosen, word),
+    command: &mut Command<'_>,
+    matches: &ArgMatches<'_>,
+) -> Result<Settings, Error> {
+    let key = String::from_str(alloc, word_of(matches, "KEY"))?;
+    let base = BASE.of(matches).unwrap_or(0);
+    let batch = BATCH.of(matches).unwrap_or(0) as usize;
+    match Settings::new(key, base, batch) {
+        Ok(settings) => Ok(settings),
+        Err(error) => Err(refused(alloc, command, &error)),
     }
 }
 
-// Takes an option.
-fn begin(chosen: &mut Chosen, word: &str) -> Result<Option<Valued>> {
-    match word {
-        "--json" => {
-            chosen.json = true;
-            Ok(None)
+// How many replicas are to confirm each batch, and how long it waits for them.
+fn wait_of(
+    alloc: Global,
+    command: &mut Command<'_>,
+    matches: &ArgMatches<'_>,
+) -> Result<Option<Wait>, Error> {
+    let Some([replicas, milliseconds]) = matches.get_strs("wait") else {
+        return Ok(None);
+    };
+    let replicas = positive(alloc, command, replicas)?;
+    let milliseconds = positive(alloc, command, milliseconds)?;
+    match Wait::new(replicas, milliseconds) {
+        Ok(wait) => Ok(Some(wait)),
+        Err(error) => Err(refused(alloc, command, &error)),
+    }
+}
+
+// A number of `--wait`, 1 at least.
+fn positive(alloc: Global, command: &mut Command<'_>, word: &str) -> Result<u64, Error> {
+    match word.parse::<u64>() {
+        Ok(number) if 0 < number => Ok(number),
+        _ => {
+            let reason = "wanted is a number, 1 at least";
+            Err(refused_value(alloc, command, word, WAIT, reason))
         }
-        "--field" => Ok(Some(Valued::Field)),
-        "--batch" => Ok(Some(Valued::Batch)),
-        "--base" => Ok(Some(Valued::Base)),
-        "--wait" => Ok(Some(Valued::Wait)),
-        _ => bail!("{word}: {USAGE}"),
-    }
-}
-
-// Takes the value of an option; a second value may follow.
-fn set(alloc: Global, chosen: &mut Chosen, option: Valued, value: &str) -> Result<Option<Valued>> {
-    match option {
-        Valued::Field => chosen.field = String::from_str(alloc, value)?,
-        Valued::Batch => match value.parse::<usize>() {
-            Ok(number) => chosen.batch = number,
-            Err(_) => bail!("no number: {value}"),
-        },
-        Valued::Base => chosen.base = number(value)?,
-        Valued::Wait => return Ok(Some(Valued::WaitFor(number(value)?))),
-        Valued::WaitFor(replicas) => chosen.wait = Some(Wait::new(replicas, number(value)?)?),
-    }
-    Ok(None)
-}
-
-fn number(value: &str) -> Result<u64> {
-    match value.parse::<u64>() {
-        Ok(number) => Ok(number),
-        Err(_) => bail!("no number: {value}"),
     }
 }
