@@ -13,6 +13,7 @@ _jagyerti_options() {
     case $1 in
         stream_drain) echo --from --count --block --idle --every --dead --json --quiet --until-empty --help --version ;;
         stream_fill) echo --field --json --batch --base --wait --help --version ;;
+        stream_sqlite) echo --from --count --block --idle --every --table --columns --until-empty --help --version ;;
         stream_top) echo --once --json --openmetrics ;;
         stream_serve) ;;
         *) "$_jagyerti_tools/$1" --help 2>/dev/null </dev/null | grep -oE -- '--[a-z][a-z-]*' | sort -u ;;
@@ -47,7 +48,7 @@ _jagyerti_complete() {
     mapfile -t COMPREPLY < <(compgen -W "$words" -- "$2")
 }
 
-complete -o default -F _jagyerti_complete stream_drain stream_fill stream_top stream_serve
+complete -o default -F _jagyerti_complete stream_drain stream_fill stream_sqlite stream_top stream_serve
 for _jagyerti_tool in "$_jagyerti_tools"/*; do
     if [ -f "$_jagyerti_tool" ] && [ -x "$_jagyerti_tool" ]; then
         complete -o default -F _jagyerti_complete "$_jagyerti_tool" \

@@ -12,7 +12,7 @@
 //! program ends with an error.
 //!
 //! At the end it says on standard error what it did. It ends with 0 if `--until-empty` is there and nothing new
-//! came, and else with 1 and the reason.
+//! came, with 2 if a word is wrong, and else with 1 and the reason. `--help` tells its words.
 #![tactic(auto)]
 
 mod drain;
@@ -23,21 +23,26 @@ use crate::drain::drain;
 use crate::options::{Options, TABLE, options_of};
 use crate::report::Report;
 use anyhow::{Context, Error, Result, anyhow};
+use command_lines::tell;
 use redis_connection::Connection;
 use redis_wire::Limits;
 use row_table::{Column, Kind, TableError};
 use sqlite::{File, FileStore};
 use sqlite_rows::{Form, OpenError, SqliteTable};
 use std::alloc::{AllocError, Global};
+use std::process::ExitCode;
 use std::{env, io};
 use stream_table::Rows;
 use stream_worker::Worker;
 
-fn main(rt: HostRuntime) -> Result<()> {
+fn main(rt: HostRuntime) -> Result<ExitCode> {
     let words = words_of(&rt)?;
-    let options = options_of(rt.alloc(), &words)?;
+    let options = match options_of(rt.alloc(), &words) {
+        Ok(options) => options,
+        Err(error) => return Ok(tell(rt.alloc(), &rt, &error)?),
+    };
     match drain_by(&rt, options) {
-        Ok(()) => Ok(()),
+        Ok(()) => Ok(ExitCode::SUCCESS),
         Err(error) => Err(masked(rt.alloc(), error)),
     }
 }

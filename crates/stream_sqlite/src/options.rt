@@ -1,14 +1,14 @@
 //! The words that the program is called with.
 ghost use Rattle.std.specs.Prelude.{◌≤◌, length, IfOk};
 
-use anyhow::{Result, bail};
+use clap::{ArgMatches, Command, Error};
+use command_lines::{
+    BLOCK, EVERY, IDLE, Number, command, flag, from, matches_of, name, refused, refused_value,
+    text, word_of,
+};
 use row_table::{Column, Kind};
-use std::alloc::Global;
+use std::alloc::{AllocError, Global};
 use stream_worker::{MakeGroup, Settings};
-
-// In less than 120 bytes, which are all that an error shows.
-const USAGE: &str =
-    "wanted: KEY GROUP CONSUMER FILE [--from 0|$] [--count|block|idle|every N] [--table|columns X] [--until-empty]";
 
 /// The table, if none is named.
 pub const TABLE: &str = "entries";
@@ -26,141 +26,141 @@ pub struct Options {
     pub until_empty: bool,
 }
 
-/// An option with a value.
-#[derive(Clone, Copy)]
-enum Valued {
-    /// Makes the group where there is none, with all entries or with those from then on.
-    From,
-    /// At most so many entries at once.
-    Count,
-    /// For so many milliseconds the server waits for new entries.
-    Block,
-    /// Entries that others left for so many milliseconds are claimed.
-    Idle,
-    /// It claims after so many reads.
-    Every,
-    /// The name of the table.
-    Table,
-    /// Its columns.
-    Columns,
-}
+const COUNT: Number = Number {
+    name: "count",
+    value: "ENTRIES",
+    help: "At most so many entries at once, from 1 to 10000; a batch is one transaction",
+    least: 1,
+    most: 10_000,
+    usual: "1000",
+};
 
 /// The options of these words.
-pub fn options_of(alloc: Global, words: &[String]) -> Result<Options>
+pub fn options_of(alloc: Global, words: &[String]) -> Result<Options, Error>
     ensures { IfOk result (λ _. 4 ≤ length words.now) }
 {
-    let [key, group, consumer, path, rest @ ..] = words else {
-        bail!("{USAGE}");
-    };
-    let mut options = Options {
-        settings: settings_of(key, group, consumer)?,
-        path: String::from_str(alloc, path)?,
-        table: String::from_str(alloc, TABLE)?,
-        columns: Vec::new(alloc),
-        until_empty: false,
-    };
-    take_all(alloc, &mut options, rest)?;
-    Ok(options)
-}
-
-// The settings of a worker for these names.
-fn settings_of(key: &String, group: &String, consumer: &String) -> Result<Settings> {
-    Ok(Settings::new(key.clone()?, group.clone()?, consumer.clone()?)?)
-}
-
-// Takes options and their values, in order.
-fn take_all(alloc: Global, options: &mut Options, words: &[String]) -> Result<()> {
-    let mut valued = None;
-    for word in words {
-        valued = take(alloc, options, valued, word)?;
-    }
-    if valued.is_some() {
-        bail!("{USAGE}");
-    }
-    Ok(())
-}
-
-// Takes a word: the value of this option, or an option.
-fn take(
-    alloc: Global,
-    options: &mut Options,
-    valued: Option<Valued>,
-    word: &str,
-) -> Result<Option<Valued>> {
-    match valued {
-        Some(option) => {
-            set(alloc, options, option, word)?;
-            Ok(None)
-        }
-        None if word == "--until-empty" => {
-            options.until_empty = true;
-            Ok(None)
-        }
-        None => Ok(Some(valued_of(word)?)),
-    }
-}
-
-fn valued_of(word: &str) -> Result<Valued> {
-    Ok(match word {
-        "--from" => Valued::From,
-        "--count" => Valued::Count,
-        "--block" => Valued::Block,
-        "--idle" => Valued::Idle,
-        "--every" => Valued::Every,
-        "--table" => Valued::Table,
-        "--columns" => Valued::Columns,
-        _ => bail!("{word}: {USAGE}"),
+    let mut command = command_of(alloc)?;
+    let matches = matches_of(alloc, &mut command, words, 4)?;
+    let settings = settings_of(alloc, &mut command, &matches)?;
+    let columns = columns_of(alloc, &mut command, &matches)?;
+    Ok(Options {
+        settings,
+        path: String::from_str(alloc, word_of(&matches, "FILE"))?,
+        table: String::from_str(alloc, word_of(&matches, "table"))?,
+        columns,
+        until_empty: matches.get_flag("until-empty"),
     })
 }
 
-// Takes the value of an option.
-fn set(alloc: Global, options: &mut Options, option: Valued, value: &str) -> Result<()> {
-    let settings = &mut options.settings;
-    match option {
-        Valued::From => settings.set_make_group(make_group(value)?),
-        Valued::Count => settings.set_count(number(value)?)?,
-        Valued::Block => settings.set_block(number(value)?),
-        Valued::Idle => settings.set_min_idle(number(value)?),
-        Valued::Every => settings.set_every(number(value)?),
-        Valued::Table => options.table = String::from_str(alloc, value)?,
-        Valued::Columns => options.columns = columns_of(alloc, value)?,
-    }
-    Ok(())
+fn command_of<'a>(alloc: Global) -> Result<Command<'a>, AllocError> {
+    let about = "Drains a stream for one consumer of a group into a table of a SQLite file.";
+    let command = command(alloc, "stream_sqlite", about)
+        .arg(name(alloc, "KEY", "The stream"))?
+        .arg(name(alloc, "GROUP", "The group of consumers"))?
+        .arg(name(alloc, "CONSUMER", "The name of the consumer"))?
+        .arg(name(
+            alloc,
+            "FILE",
+            "The file of SQLite, which is made if it is missing",
+        ))?
+        .arg(from(alloc))?;
+    with_rest(alloc, command)
 }
 
-// Where a group begins that is made.
-fn make_group(value: &str) -> Result<MakeGroup> {
-    match value {
-        "0" => Ok(MakeGroup::FromTheFirst),
-        "$" => Ok(MakeGroup::FromNow),
-        _ => bail!("--from {value}: {USAGE}"),
+fn with_rest<'a>(alloc: Global, command: Command<'a>) -> Result<Command<'a>, AllocError> {
+    let columns =
+        "Its columns, as item:text,pieces:integer,photo:blob?; without them the fields are one text";
+    command
+        .arg(COUNT.arg(alloc))?
+        .arg(BLOCK.arg(alloc))?
+        .arg(IDLE.arg(alloc))?
+        .arg(EVERY.arg(alloc))?
+        .arg(text(alloc, "table", "NAME", "The name of the table").default_value(TABLE))?
+        .arg(text(alloc, "columns", "LIST", columns))?
+        .arg(flag(
+            alloc,
+            "until-empty",
+            "It ends with status 0 once a read finds nothing new",
+        ))
+}
+
+// The settings of a worker. Those that a line leaves out are the usual ones.
+fn settings_of(
+    alloc: Global,
+    command: &mut Command<'_>,
+    matches: &ArgMatches<'_>,
+) -> Result<Settings, Error> {
+    let mut settings = named(alloc, command, matches)?;
+    if let Some(count) = COUNT.of(matches)
+        && let Err(error) = settings.set_count(count as usize)
+    {
+        return Err(refused(alloc, command, &error));
+    }
+    set_times(&mut settings, matches);
+    match word_of(matches, "from") {
+        "0" => settings.set_make_group(MakeGroup::FromTheFirst),
+        "$" => settings.set_make_group(MakeGroup::FromNow),
+        _ => {}
+    }
+    Ok(settings)
+}
+
+// The settings of a worker for these names.
+fn named(
+    alloc: Global,
+    command: &mut Command<'_>,
+    matches: &ArgMatches<'_>,
+) -> Result<Settings, Error> {
+    let key = String::from_str(alloc, word_of(matches, "KEY"))?;
+    let group = String::from_str(alloc, word_of(matches, "GROUP"))?;
+    let consumer = String::from_str(alloc, word_of(matches, "CONSUMER"))?;
+    match Settings::new(key, group, consumer) {
+        Ok(settings) => Ok(settings),
+        Err(error) => Err(refused(alloc, command, &error)),
     }
 }
 
-fn number(value: &str) -> Result<usize> {
-    match value.parse::<usize>() {
-        Ok(number) => Ok(number),
-        Err(_) => bail!("no number: {value}"),
+fn set_times(settings: &mut Settings, matches: &ArgMatches<'_>) {
+    if let Some(block) = BLOCK.of(matches) {
+        settings.set_block(block as usize);
+    }
+    if let Some(idle) = IDLE.of(matches) {
+        settings.set_min_idle(idle as usize);
+    }
+    if let Some(every) = EVERY.of(matches) {
+        settings.set_every(every as usize);
     }
 }
 
-// The columns of a list as `item:text,pieces:integer,photo:blob?`.
-fn columns_of(alloc: Global, list: &str) -> Result<Vec<Column>> {
+// The columns of a list as `item:text,pieces:integer,photo:blob?`, or none.
+fn columns_of(
+    alloc: Global,
+    command: &mut Command<'_>,
+    matches: &ArgMatches<'_>,
+) -> Result<Vec<Column>, Error> {
     let mut columns = Vec::new(alloc);
+    let Some(list) = matches.get_str("columns") else {
+        return Ok(columns);
+    };
     for part in list.split(',') {
-        let column = column_of(alloc, part)?;
+        let column = column_of(alloc, command, part)?;
         if is_taken(&columns, &column.name) {
-            bail!("two columns have the name {}", column.name);
+            let reason = "another column has this name";
+            return Err(refused_value(alloc, command, &column.name, COLUMNS, reason));
         }
         columns.push(column)?;
     }
     Ok(columns)
 }
 
+// As an error names the option.
+const COLUMNS: &str = "--columns <LIST>";
+
 // A column: its name, and what its values are. With a question mark a row may have none.
-fn column_of(alloc: Global, part: &str) -> Result<Column> {
+fn column_of(alloc: Global, command: &mut Command<'_>, part: &str) -> Result<Column, Error> {
     let Some((name, kind)) = part.rsplit_once(':') else {
-        bail!("a column is NAME:text, NAME:integer or NAME:blob, and not {part}");
+        let reason = "a column is NAME:text, NAME:integer or NAME:blob";
+        return Err(refused_value(alloc, command, part, COLUMNS, reason));
     };
     let (kind, optional) = match kind.strip_suffix('?') {
         Some(kind) => (kind, true),
@@ -168,17 +168,20 @@ fn column_of(alloc: Global, part: &str) -> Result<Column> {
     };
     Ok(Column {
         name: String::from_str(alloc, name)?,
-        kind: kind_of(kind)?,
+        kind: kind_of(alloc, command, kind)?,
         optional,
     })
 }
 
-fn kind_of(kind: &str) -> Result<Kind> {
+fn kind_of(alloc: Global, command: &mut Command<'_>, kind: &str) -> Result<Kind, Error> {
     match kind {
         "text" => Ok(Kind::Text),
         "integer" => Ok(Kind::Integer),
         "blob" => Ok(Kind::Blob),
-        _ => bail!("a column is of text, integer or blob, and not of {kind}"),
+        _ => {
+            let reason = "a column is of text, integer or blob";
+            Err(refused_value(alloc, command, kind, COLUMNS, reason))
+        }
     }
 }
 
