@@ -1,5 +1,5 @@
 -- Settings that are made.
-use Rattle.std.specs.Prelude.{ℕ, nat_eq, nat_lt, length, Result, Ok, Err, String, string_bytes, if◌then◌else◌}
+use Rattle.std.specs.Prelude.{ℕ, nat_eq, nat_lt, false, length, Result, Ok, Err, String, string_bytes, if◌then◌else◌}
 use Rattle.std.specs.declared.alloc.Global.{Global}
 use Rattle.stream_worker.specs.declared.state.MakeGroup.TheVariants.{Never}
 use Rattle.stream_worker.specs.declared.state.Settings.{Settings}
@@ -17,6 +17,7 @@ checked key group consumer =
       group = group;
       consumer = consumer;
       count = 1000;
+      one_at_a_time = false;
       block = 5000;
       min_idle = 60000;
       every = 10;

@@ -1,5 +1,5 @@
 -- What a worker asks.
-use Rattle.std.specs.Prelude.{ℕ, List, [], ◌∷◌, codes, decimal, string_bytes}
+use Rattle.std.specs.Prelude.{ℕ, List, [], ◌∷◌, codes, decimal, string_bytes, if◌then◌else◌}
 use Rattle.stream_group.specs.Worker as machine
 use Rattle.stream_group.specs.Worker.{Id, own, claiming, reading}
 use Rattle.stream_worker.specs.declared.state.Settings.{Settings}
@@ -46,17 +46,21 @@ group_sentence s =
     codes "XGROUP" ∷ codes "CREATE" ∷ string_bytes s.key ∷ string_bytes s.group ∷ group_start s.make_group
     ∷ codes "MKSTREAM" ∷ []
 
+-- so many of the entries that come again are asked for at once: its own pending ones, and those that it claims
+abbrev pub count_again : Settings → ℕ
+count_again s = if s.one_at_a_time then 1 else s.count
+
 -- `XREADGROUP GROUP g c COUNT n STREAMS key id`
 abbrev pub own_sentence : Settings → Id → List (List ℕ)
 own_sentence s id =
     codes "XREADGROUP" ∷ codes "GROUP" ∷ string_bytes s.group ∷ string_bytes s.consumer
-    ∷ codes "COUNT" ∷ decimal s.count ∷ codes "STREAMS" ∷ string_bytes s.key ∷ id ∷ []
+    ∷ codes "COUNT" ∷ decimal (count_again s) ∷ codes "STREAMS" ∷ string_bytes s.key ∷ id ∷ []
 
 -- `XAUTOCLAIM key g c idle id COUNT n`
 abbrev pub claim_sentence : Settings → Id → List (List ℕ)
 claim_sentence s id =
     codes "XAUTOCLAIM" ∷ string_bytes s.key ∷ string_bytes s.group ∷ string_bytes s.consumer
-    ∷ decimal s.min_idle ∷ id ∷ codes "COUNT" ∷ decimal s.count ∷ []
+    ∷ decimal s.min_idle ∷ id ∷ codes "COUNT" ∷ decimal (count_again s) ∷ []
 
 -- `XREADGROUP GROUP g c BLOCK ms COUNT n STREAMS key >`
 abbrev pub news_sentence : Settings → List (List ℕ)
@@ -64,6 +68,12 @@ news_sentence s =
     codes "XREADGROUP" ∷ codes "GROUP" ∷ string_bytes s.group ∷ string_bytes s.consumer
     ∷ codes "BLOCK" ∷ decimal s.block ∷ codes "COUNT" ∷ decimal s.count
     ∷ codes "STREAMS" ∷ string_bytes s.key ∷ codes ">" ∷ []
+
+-- so many entries a question has behind COUNT: of those that come again so many, and of new ones the count
+abbrev pub count_asked : Settings → machine.Phase → ℕ
+count_asked s (own id) = count_again s
+count_asked s (claiming id) = count_again s
+count_asked s (reading rounds) = s.count
 
 -- where nothing is to be acknowledged and no group is to be made, what the phase asks
 abbrev pub phase_sentence : Settings → machine.Phase → List (List ℕ)

@@ -134,7 +134,7 @@ fn append_own(
     ensures err { OnErr result (out.new.items ≡ out.old.items) }
 {
     let options = StreamReadOptions::default()
-        .count(settings.count)
+        .count(settings.count_again())
         .group(alloc, settings.group.as_str(), settings.consumer.as_str())?;
     let stream = (settings.key.as_str(), id);
     let command = xread_options(AtLeastOne::one(&stream), &options);
@@ -153,7 +153,7 @@ fn append_claim(
     ensures asked { IfOk result (λ a. a ≡ Asked.Claim) }
     ensures err { OnErr result (out.new.items ≡ out.old.items) }
 {
-    let options = StreamAutoClaimOptions::default().count(settings.count);
+    let options = StreamAutoClaimOptions::default().count(settings.count_again());
     let Ok(command) = xautoclaim_options(
         settings.key.as_str(),
         settings.group.as_str(),

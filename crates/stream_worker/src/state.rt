@@ -1,6 +1,7 @@
 //! What a worker knows.
 ghost use Rattle.std.specs.Prelude.{◌≡◌, OnOk, OnErr, string_bytes};
 ghost use Rattle.stream_worker.specs.Checked.{checked, counted};
+ghost use Rattle.stream_worker.specs.Questions.{count_again};
 
 use std::fmt::{self, Display};
 use thiserror::Error;
@@ -49,6 +50,8 @@ pub struct Settings {
     pub(crate) consumer: String,
     /// At most so many entries are asked for at once, `COUNT`.
     pub(crate) count: usize,
+    /// Whether entries that come again are asked for one at a time.
+    pub(crate) one_at_a_time: bool,
     /// For so many milliseconds the server waits for new entries, `BLOCK`; 0 for as long as it
     /// takes.
     pub(crate) block: usize,
@@ -63,8 +66,8 @@ pub struct Settings {
 impl Settings {
     /// For the stream `key`, the group and a consumer, whose name is its own and the same after a restart.
     ///
-    /// At most 1,000 entries at once, up to five seconds of waiting, claims of what was left for a
-    /// minute, after every tenth read; and no group is made. A name that is empty is refused, the
+    /// At most 1,000 entries at once, also of those that come again, up to five seconds of waiting, claims
+    /// of what was left for a minute, after every tenth read; and no group is made. A name that is empty is refused, the
     /// first one by its cause.
     pub fn new(key: String, group: String, consumer: String) -> Result<Settings, SettingsError>
         ensures { result ≡ checked key group consumer }
@@ -83,6 +86,7 @@ impl Settings {
             group,
             consumer,
             count: 1_000,
+            one_at_a_time: false,
             block: 5_000,
             min_idle: 60_000,
             every: 10,
@@ -107,6 +111,17 @@ impl Settings {
         }
         self.count = count;
         Ok(())
+    }
+
+    /// Whether entries that come again are asked for one at a time, `COUNT 1`: its own pending entries, and
+    /// those that it claims. New entries are asked for by `count` all the same.
+    ///
+    /// Then an entry that ends the process raises its own count of deliveries alone. It costs a round and a
+    /// commit for each entry that comes again.
+    pub fn set_one_at_a_time(&mut self, one_at_a_time: bool)
+        ensures { self.new ≡ record self.old { one_at_a_time = one_at_a_time } }
+    {
+        self.one_at_a_time = one_at_a_time;
     }
 
     /// For so many milliseconds the server waits for new entries, `BLOCK`; 0 for as long as it takes.
@@ -156,6 +171,13 @@ impl Settings {
         ensures { result.now ≡ string_bytes self.now.consumer }
     {
         self.consumer.as_str()
+    }
+
+    /// So many of the entries that come again are asked for at once.
+    pub(crate) fn count_again(&self) -> usize
+        ensures { result ≡ count_again self.now }
+    {
+        if self.one_at_a_time { 1 } else { self.count }
     }
 
     /// How many milliseconds others may leave an entry before it is claimed.
