@@ -8,6 +8,7 @@ pub mod RoundLemmas
 pub mod DeskLemmas
 pub mod DrainedLemmas
 pub mod OnceLemmas
+pub mod AloneLemmas
 mod Sample
 mod OnceSample
 mod Wrong

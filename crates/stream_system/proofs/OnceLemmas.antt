@@ -38,7 +38,7 @@ use Rattle.stream_worker.specs.declared.state.Settings.{Settings}
 use Rattle.stream_worker.specs.declared.worker.Progress.{Progress}
 use Rattle.stream_worker.proofs.StepLemmas.{all_done}
 use Rattle.stream_system.specs.Once.{IsConsumer, IsOfOthers, AreOfOthers, Fate, comes, comes_not, Meantime, committing, question_events}
-use Rattle.stream_system.specs.Once.{reply_to, IsHeard, until_asked, until_replied, round_events, reply_in}
+use Rattle.stream_system.specs.Once.{reply_to, IsHeard, count, until_asked, until_replied, round_events, reply_in}
 use Rattle.stream_system.specs.Once.{HearsTheAnswer, RoundsAreEvents, unasked_events, cut_by, handled_of, failure_events}
 use Rattle.stream_system.specs.Once.{FailsHearing, FailuresAreEvents, Moment, between, within, events_until, standing_at}
 use Rattle.stream_system.specs.Once.{StartsOver, start_events, restart_events, StartsAreEvents}
@@ -47,11 +47,11 @@ use Rattle.stream_system.specs.Once.{session_events, RunsAreEvents, StartsReadEn
 use Rattle.stream_system.specs.Once.{CodeWritesOnce, CodeWritesTheLog, CodeKeepsEach, CodeWritesInOrder, CodeWritesTheRecords}
 
 -- the consumer with this machine and this answer on the way to it, and with what its handler did
-record Is (m : Machine) (a : Option (Answer Fields)) (d : Doings) (c : Consumer Fields) : Type 0 where
-  machine : c.machine ≡ m
-  answer : c.answer ≡ a
-  lines : c.lines ≡ d.loose
-  file : c.file ≡ d.committed
+pub record Is (m : Machine) (a : Option (Answer Fields)) (d : Doings) (c : Consumer Fields) : Type 0 where
+  pub machine : c.machine ≡ m
+  pub answer : c.answer ≡ a
+  pub lines : c.lines ≡ d.loose
+  pub file : c.file ≡ d.committed
 
 abbrev consumer_of : Machine → Option (Answer Fields) → Doings → ℕ → Consumer Fields
 consumer_of m a d n = record { machine = m; answer = a; lines = d.loose; file = d.committed; last_commit = n }
@@ -70,7 +70,7 @@ over : (P : World Fields → Type 0) (w : World Fields) (c : Consumer Fields) �
 over P w c e h = subst (λ (x : Consumer Fields). P (record w { consumer = x })) e h
 
 module _ (s : Setting Fields) where
-  run_on : (es more : List (Event Fields)) (w : World Fields) → run s (es ++ more) w ≡ run s more (run s es w)
+  pub run_on : (es more : List (Event Fields)) (w : World Fields) → run s (es ++ more) w ≡ run s more (run s es w)
   run_on [] more w = refl
   run_on (e ∷ es) more w = run_on es more (happens s w e)
 
@@ -161,7 +161,7 @@ module _ (s : Setting Fields) where
     abbrev before : World Fields
     before = run s (until_asked settings v m) w
 
-    before_is : Is u.machine None u.history before.consumer
+    pub before_is : Is u.machine None u.history before.consumer
     before_is =
         let committed : World Fields = run s (committing v.machine) w in
         let same : before.consumer ≡ committed.consumer =
@@ -170,15 +170,15 @@ module _ (s : Setting Fields) where
         subst (λ (c : Consumer Fields). Is u.machine None u.history c) (sym same) (committed_is v.machine v.history w i)
 
     abbrev asked_now : List (Event Fields)
-    asked_now = question_events settings.count m.fate u.machine.to_acknowledge
+    asked_now = question_events (count settings v m) m.fate u.machine.to_acknowledge
 
     question_is : Is u.machine (reply_in settings v m s w) u.history (run s asked_now before).consumer
     question_is =
-        over (λ x. Is u.machine (reply_to s.name settings.count m.fate u.machine.to_acknowledge u.machine.phase x.stream)
+        over (λ x. Is u.machine (reply_to s.name (count settings v m) m.fate u.machine.to_acknowledge u.machine.phase x.stream)
         u.history (run s asked_now x).consumer) before
         (consumer_of u.machine None u.history before.consumer.last_commit)
         (as_consumer u.machine None u.history before.consumer before_is)
-        (asks_it settings.count m.fate u.history before.consumer.last_commit u.machine.every u.machine.phase
+        (asks_it (count settings v m) m.fate u.history before.consumer.last_commit u.machine.every u.machine.phase
         u.machine.to_commit u.machine.to_acknowledge
         (is_ready v.machine.every v.machine.phase v.machine.to_commit v.machine.to_acknowledge) before)
 
@@ -333,7 +333,7 @@ module _ (s : Setting Fields) where
     failed x y (causes.Answer e) b is h = refused settings v y m w i b.0 h e.error b.2
 
 -- between rounds
-as_is : (v : Standing Doings) (c : Consumer Fields) → IsConsumer v c → Is v.machine None v.history c
+pub as_is : (v : Standing Doings) (c : Consumer Fields) → IsConsumer v c → Is v.machine None v.history c
 as_is v c i = record { machine = i.machine; answer = i.answer; lines = i.lines; file = i.file }
 
 is_one : (v x : Standing Doings) (c : Consumer Fields) → x ≡ v → Is v.machine None v.history c → IsConsumer x c

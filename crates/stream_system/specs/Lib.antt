@@ -5,3 +5,4 @@ pub mod Rounds
 pub mod Desks
 pub mod Drained
 pub mod Once
+pub mod Alone

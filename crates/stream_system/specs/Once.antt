@@ -22,6 +22,7 @@ use Rattle.stream_worker.specs.Answers.{Heard, told, no_group, group_made, hears
 use Rattle.stream_worker.specs.Gathered.{Doings, done_too, committed_too}
 use Rattle.stream_worker.specs.Life.{done_before}
 use Rattle.stream_worker.specs.Machine.{commits, at_request}
+use Rattle.stream_worker.specs.Questions.{count_asked}
 use Rattle.stream_worker.specs.Session.{Standing, standing_of, Turn, Turned, Fails, Rounds, asking}
 use Rattle.stream_worker.specs.Session.{EndsBy, after_turn}
 use Rattle.stream_worker.specs.declared.error.RequestError.{RequestError}
@@ -103,6 +104,10 @@ IsHeard sent (Some no_group) = sent ≡ None
 IsHeard sent (Some group_made) = sent ≡ None
 
 module _ (settings : Settings) (v : Standing Doings) (m : Meantime) where
+  -- what its question has behind COUNT, if it is one for entries
+  abbrev pub count : ℕ
+  count = count_asked settings (at_request v.machine).phase
+
   -- what happens in a round until its question comes to the server
   abbrev pub until_asked : List (Event Fields)
   until_asked = committing v.machine ++ m.earlier
@@ -110,7 +115,7 @@ module _ (settings : Settings) (v : Standing Doings) (m : Meantime) where
   -- and until the worker has a reply
   abbrev pub until_replied : List (Event Fields)
   until_replied =
-      until_asked ++ (question_events settings.count m.fate (at_request v.machine).to_acknowledge ++ m.later)
+      until_asked ++ (question_events count m.fate (at_request v.machine).to_acknowledge ++ m.later)
 
   -- a round that returns Ok, in which the handler says this of the entries
   abbrev pub round_events : List Verdict → List (Event Fields)
@@ -118,7 +123,7 @@ module _ (settings : Settings) (v : Standing Doings) (m : Meantime) where
 
   -- the reply of the server, if the world was this as the round began
   abbrev pub reply_in : Setting Fields → World Fields → Option (Answer Fields)
-  reply_in s w = reply_to s.name settings.count m.fate (at_request v.machine).to_acknowledge
+  reply_in s w = reply_to s.name count m.fate (at_request v.machine).to_acknowledge
       (at_request v.machine).phase (run s until_asked w).stream
 
   -- the premise: the worker takes the reply of this server to its last question. It is assumed of the server, and of a

@@ -1,4 +1,5 @@
 //! What holds of workers over one server, each with a file of lines, after every schedule.
+ghost use Rattle.stream_system.specs.Alone.{CodeIsCountedAlone};
 ghost use Rattle.stream_system.specs.Desks.{AsksAsItDoes, LettersAreMoves, OthersLeaveTheDesk, PostsAreMoves};
 ghost use Rattle.stream_system.specs.Desks.{StartsWithANewDesk};
 ghost use Rattle.stream_system.specs.Drained.{EnoughRoundsDrain, OneRoundIsOne};
@@ -90,4 +91,14 @@ pub fn the_code_writes_each_entry_once()
     ensures kept { CodeKeepsEach }
     ensures first { CodeWritesInOrder }
     ensures all { CodeWritesTheRecords }
+{}
+
+/// After each schedule of the code whose workers are started with `one_at_a_time`, a pending entry that was
+/// delivered `n` times was handed out by itself at least `n - 1` times. So no entry is given up because
+/// another one of its batch ends the process.
+///
+/// The premise is that the server keeps to COUNT, and hands out no two entries again at once to others
+/// (`AllKeepToCount`).
+pub fn the_code_counts_each_entry_alone()
+    ensures { CodeIsCountedAlone }
 {}
