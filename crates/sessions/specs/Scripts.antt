@@ -12,6 +12,11 @@ abbrev pub is_letters_script : List ℕ → Bool
 is_letters_script name = if bytes_eq name (codes "letters") then true
     else false
 
+-- whether `worker::poison` plays a script of this name
+abbrev pub is_poison_script : List ℕ → Bool
+is_poison_script name = if bytes_eq name (codes "poison") then true
+    else false
+
 -- whether `worker::connection` plays a script of this name
 abbrev pub is_connection_script : List ℕ → Bool
 is_connection_script name = if bytes_eq name (codes "connection") then true

@@ -12,6 +12,7 @@
 //! | `bytes` | all that a client of a server of its own sends |
 //! | `worker` and settings | what a worker is asked or hears, see `worker` |
 //! | `letters` | `give` and an entry, or bytes that reply to what is asked |
+//! | `poison 3 5 3 4` | none, see `worker::poison` |
 //! | `connection` and sizes | what a connection does, see `worker::connection`; once for reads of each size |
 //! | `ends 7` | bytes that come; a worker makes so many rounds, wherever they end |
 //! | `streams 3 8 a b` | a command; then a worker for each stream, so many turns each |
@@ -24,7 +25,7 @@
 mod together;
 mod worker;
 
-use crate::worker::{connection, letters, streams};
+use crate::worker::{connection, letters, poison, streams};
 use redis_resp::Value;
 use redis_wire::{Decoded, Limits, Reply, WireError, decode};
 use std::alloc::{AllocError, Global};
@@ -82,6 +83,7 @@ fn play(alloc: Global, script: &str, out: &mut String) -> Result<(), AllocError>
     }
     let is_played = worker::play(alloc, name, words, lines, out)?
         || letters::play(alloc, name, words, lines, out)?
+        || poison::play(alloc, name, words, out)?
         || connection::play(alloc, name, words, lines, out)?
         || streams::play(alloc, name, words, lines, out)?
         || together::play(alloc, name, words, lines, out)?;

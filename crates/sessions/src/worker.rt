@@ -1,7 +1,7 @@
 //! Sessions of a worker: what it asks, and what its handler sees.
 //!
 //! The words of the head are settings: `count 2`, `block 0`, `idle 4`, `every 2`, `group first` or
-//! `group now`. A line is one of these:
+//! `group now`, and `again one` for entries that come again one at a time. A line is one of these:
 //!
 //! | Line | What is done |
 //! |---|---|
@@ -20,6 +20,7 @@ ghost use Rattle.sessions.specs.Scripts.{is_worker_script};
 
 pub mod connection;
 pub mod letters;
+pub mod poison;
 pub mod streams;
 
 use crate::{
@@ -106,6 +107,7 @@ fn set(settings: &mut Settings, name: &str, word: &str) {
         "block" => settings.set_block(number_of(word)),
         "idle" => settings.set_min_idle(number_of(word)),
         "every" => settings.set_every(number_of(word)),
+        "again" => settings.set_one_at_a_time(word == "one"),
         "group" if word == "first" => settings.set_make_group(MakeGroup::FromTheFirst),
         "group" => settings.set_make_group(MakeGroup::FromNow),
         _ => {}

@@ -93,7 +93,7 @@ fn words_of(rt: &HostRuntime) -> Result<Vec<String>> {
 // Drains as these options say, over standard input and output.
 fn drain_by(rt: &HostRuntime, options: Options) -> Result<()> {
     let Options {
-        settings,
+        mut settings,
         path,
         until_empty,
         json,
@@ -104,7 +104,7 @@ fn drain_by(rt: &HostRuntime, options: Options) -> Result<()> {
     let mut lines = lines_at(rt, &path, json)?;
     let mut connection = Connection::new(alloc, rt.reader(), io::writer(rt), Limits::default())?;
     let mut report = report_of(rt, &settings, quiet)?;
-    let mut dead = dead_of(alloc, &settings, dead)?;
+    let mut dead = dead_of(alloc, &mut settings, dead)?;
     let Start {
         mut worker,
         acknowledges,
@@ -150,10 +150,11 @@ fn not_opened(path: &str, error: LogError) -> Error {
     }
 }
 
-// What looks for entries that were delivered too often, where they are given up.
+// What looks for entries that were delivered too often, where they are given up. Then those that come again are asked
+// for one at a time.
 fn dead_of(
     alloc: Global,
-    settings: &Settings,
+    settings: &mut Settings,
     to: Option<GiveUp>,
 ) -> Result<Option<DeadLetterSearch>> {
     match to {

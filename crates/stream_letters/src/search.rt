@@ -72,22 +72,40 @@ pub struct DeadLetterSearch {
 }
 
 impl DeadLetterSearch {
-    /// For the group and the consumer of a worker. Nothing was looked at yet.
+    /// For the group and the consumer of a worker, which is made of the same settings after this. From then on
+    /// it asks for entries that come again one at a time: one that ends the process raises no other's count
+    /// of deliveries. Nothing was looked at yet.
     pub fn new(
         alloc: Global,
-        settings: &Settings,
+        settings: &mut Settings,
         to: GiveUp,
     ) -> Result<DeadLetterSearch, SearchSettingsError>
+        ensures names { IfOk result (λ d. (string_bytes d.key ≡ string_bytes settings.old.key)
+            × (string_bytes d.group ≡ string_bytes settings.old.group)
+            × (string_bytes d.consumer ≡ string_bytes settings.old.consumer)) }
+        ensures given_up { IfOk result (λ d. (d.deliveries ≡ to.deliveries) × (d.stream ≡ to.stream)
+            × (d.min_idle ≡ settings.old.min_idle)) }
+        ensures begins { IfOk result (λ d. (d.waits ≡ false) × (d.begun ≡ false) × (d.reads ≡ 0) × (d.letters ≡ 0)) }
+        ensures one_at_a_time { OnOk result (settings.new ≡ record settings.old { one_at_a_time = true }) }
+        ensures same_settings { OnErr result (settings.new ≡ settings.old) }
+        ensures allowed { OnOk result (IsAllowed (string_bytes settings.old.key) to) }
+        ensures refused { IfErr result (IsRefused (string_bytes settings.old.key) to) }
+    {
+        allow(settings.key(), &to)?;
+        let search = DeadLetterSearch::of(alloc, settings, to)?;
+        settings.set_one_at_a_time(true);
+        Ok(search)
+    }
+
+    // The search under the names of these settings.
+    fn of(alloc: Global, settings: &Settings, to: GiveUp) -> Result<DeadLetterSearch, AllocError>
         ensures names { IfOk result (λ d. (string_bytes d.key ≡ string_bytes settings.now.key)
             × (string_bytes d.group ≡ string_bytes settings.now.group)
             × (string_bytes d.consumer ≡ string_bytes settings.now.consumer)) }
         ensures given_up { IfOk result (λ d. (d.deliveries ≡ to.deliveries) × (d.stream ≡ to.stream)
             × (d.min_idle ≡ settings.now.min_idle)) }
         ensures begins { IfOk result (λ d. (d.waits ≡ false) × (d.begun ≡ false) × (d.reads ≡ 0) × (d.letters ≡ 0)) }
-        ensures allowed { OnOk result (IsAllowed (string_bytes settings.now.key) to) }
-        ensures refused { IfErr result (IsRefused (string_bytes settings.now.key) to) }
     {
-        allow(settings.key(), &to)?;
         Ok(DeadLetterSearch {
             key: String::from_str(alloc, settings.key())?,
             group: String::from_str(alloc, settings.group())?,
