@@ -10,7 +10,7 @@ use std::test::Fail;
 use stream_server::{Loopback, LoopbackReader, LoopbackWriter, Server};
 
 /// A connection to the server.
-pub fn connected(
+pub(super) fn connected(
     alloc: Global,
     loopback: &Loopback,
 ) -> Result<Connection<LoopbackReader, LoopbackWriter>, Fail> {
@@ -19,7 +19,7 @@ pub fn connected(
 }
 
 /// Adds three entries.
-pub fn add_three<R: Read + Drop, W: Write + Drop>(
+pub(super) fn add_three<R: Read + Drop, W: Write + Drop>(
     alloc: Global,
     connection: &mut Connection<R, W>,
 ) -> Result<(), Fail> {
@@ -42,7 +42,7 @@ fn drained<R: Read + Drop, W: Write + Drop>(
 }
 
 /// How many entries are pending, of ten at most.
-pub fn pending<R: Read + Drop, W: Write + Drop>(
+pub(super) fn pending<R: Read + Drop, W: Write + Drop>(
     alloc: Global,
     connection: &mut Connection<R, W>,
 ) -> Result<usize, Fail> {
