@@ -1,6 +1,5 @@
 //! A worker of one's own, tried with no server and no connection: to copy from.
 mod loopback;
-mod outbox;
 
 use redis_resp::Value;
 use redis_wire::{Decoded, Limits, Reply, decode};

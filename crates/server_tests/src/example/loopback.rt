@@ -1,4 +1,6 @@
 //! A worker over a connection to a server in memory: to copy from.
+mod outbox;
+
 use crate::example::{Count, worker_of};
 use redis_connection::Connection;
 use redis_resp::Value;
@@ -10,7 +12,7 @@ use std::test::Fail;
 use stream_server::{Loopback, LoopbackReader, LoopbackWriter, Server};
 
 /// A connection to the server.
-pub(super) fn connected(
+fn connected(
     alloc: Global,
     loopback: &Loopback,
 ) -> Result<Connection<LoopbackReader, LoopbackWriter>, Fail> {
@@ -19,7 +21,7 @@ pub(super) fn connected(
 }
 
 /// Adds three entries.
-pub(super) fn add_three<R: Read + Drop, W: Write + Drop>(
+fn add_three<R: Read + Drop, W: Write + Drop>(
     alloc: Global,
     connection: &mut Connection<R, W>,
 ) -> Result<(), Fail> {
@@ -42,7 +44,7 @@ fn drained<R: Read + Drop, W: Write + Drop>(
 }
 
 /// How many entries are pending, of ten at most.
-pub(super) fn pending<R: Read + Drop, W: Write + Drop>(
+fn pending<R: Read + Drop, W: Write + Drop>(
     alloc: Global,
     connection: &mut Connection<R, W>,
 ) -> Result<usize, Fail> {

@@ -3,7 +3,7 @@ ghost use Rattle.std.specs.Prelude.{[], ◌∷◌, codes};
 ghost use Rattle.redis_wire.specs.Packed.{command_bytes};
 ghost use Rattle.stream_outbox.specs.Posts.{if_done};
 
-use crate::example::loopback::{add_three, connected, pending};
+use super::{add_three, connected, pending};
 use crate::example::worker_of;
 use redis_connection::Connection;
 use redis_wire::Limits;
