@@ -1,6 +1,4 @@
 //! A worker over a connection to a server in memory: to copy from.
-mod outbox;
-
 use crate::example::{Count, worker_of};
 use redis_connection::Connection;
 use redis_resp::Value;
