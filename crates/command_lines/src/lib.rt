@@ -127,7 +127,7 @@ fn status_of(error: &Error) -> u8
     }
 }
 
-// The text of an error as it may be shown: a control character of a word, which could steer a terminal, is `?`.
+/// The text of an error as it may be shown: a control character of a word, which could steer a terminal, is `?`.
 fn shown(alloc: Global, error: &Error) -> Result<String, AllocError> {
     let text = format!(in alloc; "{error}")?;
     let mut shown = String::new(alloc);

@@ -36,7 +36,7 @@ impl MemoryFile {
     }
 }
 
-// Puts other bytes in the place of those that are there, which it keeps.
+/// Puts other bytes in the place of those that are there, which it keeps.
 fn replace(
     alloc: Global,
     bytes: &mut Vec<u8>,

@@ -45,7 +45,7 @@ impl SystemFile {
     }
 }
 
-// Has the disk take in the name of a file that was made.
+/// Has the disk take in the name of a file that was made.
 fn sync_folder_of<R: Files<File = File>>(rt: &R, path: &str) -> io::Result<()> {
     let folder = match Path::new(path).parent() {
         Some(folder) if !folder.as_str().is_empty() => folder,

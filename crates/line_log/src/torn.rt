@@ -38,14 +38,14 @@ struct Content {
     extra: usize,
 }
 
-// The first so many of these bytes.
+/// The first so many of these bytes.
 fn first(alloc: Global, bytes: &[u8], len: usize) -> Result<Vec<u8>, AllocError>
     ensures { IfOk result (λ first. first.items ≡ take len bytes.now) }
 {
     bytes.iter().take(len).copied().collect(alloc)
 }
 
-// Those behind them.
+/// Those behind them.
 fn rest(alloc: Global, bytes: &[u8], len: usize) -> Result<Vec<u8>, AllocError>
     ensures { IfOk result (λ rest. rest.items ≡ drop len bytes.now) }
 {
@@ -53,7 +53,7 @@ fn rest(alloc: Global, bytes: &[u8], len: usize) -> Result<Vec<u8>, AllocError>
 }
 
 impl Content {
-    // Bytes that are on the disk.
+    /// Bytes that are on the disk.
     fn synced(alloc: Global, front: Vec<u8>) -> Content
         ensures { IsSynced result front.items }
     {
@@ -65,7 +65,7 @@ impl Content {
         }
     }
 
-    // The same once more.
+    /// Copies the content.
     fn copy(&self, alloc: Global) -> Result<Content, AllocError>
         ensures { IfOk result (IsCopy self.now) }
     {
@@ -77,7 +77,7 @@ impl Content {
         })
     }
 
-    // What a read returns.
+    /// What a read returns.
     fn all(&self, alloc: Global) -> Result<Vec<u8>, AllocError>
         ensures { IfOk result (λ all. all.items ≡ all_of self.now) }
     {
@@ -86,7 +86,7 @@ impl Content {
         Ok(all)
     }
 
-    // It, with these bytes that wait.
+    /// It, with these bytes that wait.
     fn appended(&self, alloc: Global, bytes: &[u8]) -> Result<Content, AllocError>
         ensures seen { IfOk result (λ next. all_of next ≡ all_of self.now ++ bytes.now) }
         ensures crash { IfOk result (λ next.
@@ -97,7 +97,7 @@ impl Content {
         Ok(next)
     }
 
-    // It, cut to a length. A cut into what is on the disk drops all that waits.
+    /// It, cut to a length. A cut into what is on the disk drops all that waits.
     fn cut(&self, alloc: Global, len: usize) -> Result<Content, AllocError>
         ensures seen { IfOk result (λ next. all_of next ≡ take len (all_of self.now)) }
         ensures crash { IfOk result (λ next. Follows (IsCut len) (Leaves self.now) (Leaves next)) }
@@ -109,7 +109,7 @@ impl Content {
         }
     }
 
-    // It, with a front of this length. What stood behind that may still be on the disk.
+    /// It, with a front of this length. What stood behind that may still be on the disk.
     fn cut_front(&self, alloc: Global, len: usize) -> Result<Content, AllocError>
         requires { len ≤ length self.now.front.items }
         ensures seen { IfOk result (λ next. all_of next ≡ take len (all_of self.now)) }
@@ -126,7 +126,7 @@ impl Content {
         })
     }
 
-    // It, with so many bytes that wait. Those behind them may still come onto the disk.
+    /// It, with so many bytes that wait. Those behind them may still come onto the disk.
     fn cut_waits(&self, alloc: Global, len: usize) -> Result<Content, AllocError>
         ensures seen { IfOk result (λ next. all_of next
             ≡ take (length self.now.front.items + len) (all_of self.now)) }
@@ -141,7 +141,7 @@ impl Content {
     }
 }
 
-// Puts another content in the place of the one that is there, which it keeps.
+/// Puts another content in the place of the one that is there, which it keeps.
 fn replace(
     alloc: Global,
     now: &mut Content,
@@ -189,7 +189,7 @@ impl TornFile {
         &self.content.front
     }
 
-    // Whether it is sound once it is cut to this length.
+    /// Whether it is sound once it is cut to this length.
     fn is_sound_at(&self, len: usize) -> bool
         ensures stays { self.now.is_sound ≡ true → result ≡ true }
         ensures mended { len ≤ length self.now.content.front.items → result ≡ true }

@@ -85,7 +85,7 @@ impl<const N: usize, const B: usize> RedisWrite for FixedArgs<N, B> {
     }
 }
 
-// Where the argument at `index` starts: where the one before it ends.
+/// Where the argument at `index` starts: where the one before it ends.
 #[tactic(auto, using(crate::proofs::FixedArgsLemmas::item_before))]
 fn start_of(ends: &[usize], index: usize) -> usize
     requires { index < length ends.now }

@@ -66,8 +66,9 @@ pub fn other_keys_change_nothing()
     ensures group { OtherKeysChangeNothing group_names group_reading }
 {}
 
-/// The same of XINFO STREAM FULL: of the stream, of a group and of a consumer that it tells of. And
-/// what a newer server adds to any of the three changes nothing of the whole reply.
+/// Pairs with other keys change nothing of the reply to XINFO STREAM FULL: of the stream, of a group
+/// and of a consumer. And what a newer server adds to any of the three changes nothing of the whole
+/// reply.
 pub fn other_keys_change_nothing_in_full()
     ensures whole { MoreChangesNothing HasMoreInStream full_reading }
     ensures stream { OtherKeysChangeNothing full_names full_reading }
@@ -85,7 +86,7 @@ pub fn respell_range()
     ensures symmetric { IsSymmetric RangeAlike }
 {}
 
-/// The same of what XCLAIM answers. It takes no memory.
+/// A reply to XCLAIM has one record in every spelling. The law takes no memory.
 #[tactic(auto, using(stream_entries::proofs::RespellingLemmas::claim_laws))]
 pub fn respell_claim()
     ensures record { KeepsRecord ClaimAlike rows_reading }
@@ -93,9 +94,9 @@ pub fn respell_claim()
     ensures symmetric { IsSymmetric ClaimAlike }
 {}
 
-/// The same of what XREAD or XREADGROUP answers, at the list of rows, the rows, the lists of
-/// entries and the fields, and at the entries too where the value has a standard record: an entry
-/// of the claim form is an array of four in every spelling. Both values then have the same standard
+/// A reply to XREAD or XREADGROUP has one record in every spelling, at the list of rows, the rows,
+/// the lists of entries and the fields. So it has at the entries if the value has a standard record:
+/// an entry of the claim form is an array of four in every spelling. Both values then have the same standard
 /// record or both none, which is why the relation has no direction. The array of rows that RESP2
 /// answers and the map that RESP3 answers are such values. It takes no memory.
 #[tactic(auto, using(stream_entries::proofs::RespellingLemmas::read_laws))]
@@ -107,8 +108,8 @@ pub fn respell_read()
     ensures protocols { ProtocolsAreAlike }
 {}
 
-/// The same of what XAUTOCLAIM answers, at the fields of claimed rows that are arrays in both
-/// values, or maps in both, with no attribute around them. It takes no memory.
+/// A reply to XAUTOCLAIM has one record in every spelling, at the fields of claimed rows that are
+/// arrays in both values, or maps in both, with no attribute around them. The law takes no memory.
 #[tactic(auto, using(crate::proofs::AutoclaimRespellingLemmas::autoclaim_laws))]
 pub fn respell_autoclaim()
     ensures record { KeepsRecord AutoclaimAlike autoclaim_reading }

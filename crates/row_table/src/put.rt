@@ -30,7 +30,7 @@ pub fn put_all<T: Table>(alloc: Global, table: &mut T, rows: &[Row]) -> Result<(
     }
 }
 
-/// The same, but an `Err` leaves the transaction as it is.
+/// Puts the rows in and commits. An `Err` leaves the transaction as it is.
 fn put_and_commit<T: Table>(alloc: Global, table: &mut T, rows: &[Row]) -> Result<(), TableError>
     ensures ok { OnOk result (T.committed table.new ≡ with_known (rows_of rows.now) (T.committed table.old)) }
     ensures there { OnOk result (AreKnown (rows_of rows.now) (T.committed table.new)) }

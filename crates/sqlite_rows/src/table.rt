@@ -132,14 +132,14 @@ impl<S: Alter + Drop> Table for SqliteTable<S> {
     }
 }
 
-// The error of a table for one of the database.
+/// The error of a table for one of the database.
 fn refused(error: Error) -> TableError
     ensures { IsNamed result }
 {
     TableError::Refused(reason(error))
 }
 
-// Runs a statement without parameters.
+/// Runs a statement without parameters.
 fn run<S: Alter + Drop>(conn: &mut Connection<S>, sql: &str) -> Result<(), TableError>
     ensures named { IfErr result IsNamed }
     ensures ran { OnOk result ((count : ℕ) × Ran S.Store conn.old conn.new sql.now [] count) }
@@ -151,7 +151,7 @@ fn run<S: Alter + Drop>(conn: &mut Connection<S>, sql: &str) -> Result<(), Table
     }
 }
 
-// Runs a statement with these values. Whether it changed one row.
+/// Runs a statement with these values. Whether it changed one row.
 fn insert<S: Alter + Drop>(
     conn: &mut Connection<S>,
     sql: &str,
@@ -165,7 +165,7 @@ fn insert<S: Alter + Drop>(
     }
 }
 
-// Runs a statement with these values. Whether no rule of the table was against it.
+/// Runs a statement with these values. Whether no rule of the table was against it.
 fn insert_many<S: Alter + Drop>(
     conn: &mut Connection<S>,
     sql: &str,
@@ -180,7 +180,7 @@ fn insert_many<S: Alter + Drop>(
     }
 }
 
-// Whether a query with these values shows a row.
+/// Whether a query with these values shows a row.
 fn shows<S: Alter + Drop>(
     conn: &mut Connection<S>,
     sql: &str,
@@ -195,7 +195,7 @@ fn shows<S: Alter + Drop>(
     }
 }
 
-// The table that is there is another one, which this SQL made.
+/// The table that is there is another one, which this SQL made.
 fn another(text: Vec<u8>) -> OpenError
     ensures { IsNamedAtOpening result }
 {
@@ -205,7 +205,7 @@ fn another(text: Vec<u8>) -> OpenError
     }
 }
 
-// The text of the CREATE of the table of this name; none if there is no such table.
+/// The text of the CREATE of the table of this name; none if there is no such table.
 fn definition<S: Alter + Drop>(
     alloc: Global,
     conn: &mut Connection<S>,
@@ -216,7 +216,7 @@ fn definition<S: Alter + Drop>(
     text_of(alloc, conn, KNOWN, &[ValueRef::Text(name.as_bytes())])
 }
 
-// The text that is the first value of the first row that a query shows; none if it shows no row.
+/// The text that is the first value of the first row that a query shows; none if it shows no row.
 fn text_of<S: Alter + Drop>(
     alloc: Global,
     conn: &mut Connection<S>,
@@ -238,7 +238,7 @@ fn text_of<S: Alter + Drop>(
     }
 }
 
-// Why the database refuses, by the name of its error.
+/// Why the database refuses, by the name of its error.
 fn reason(error: Error) -> &'static str {
     match error {
         Error::SqliteFailure(code) => code_reason(code),
@@ -247,7 +247,7 @@ fn reason(error: Error) -> &'static str {
     }
 }
 
-// The text of an error of the database.
+/// The text of an error of the database.
 fn code_reason(code: ErrorCode) -> &'static str {
     match code {
         ErrorCode::ConstraintViolation(_) => "a row breaks a rule of the table",

@@ -29,7 +29,7 @@ pub fn values_of_all<'a>(alloc: Global, rows: &'a [Row]) -> Result<Vec<ValueRef<
     Ok(values)
 }
 
-// The key of a row and its values.
+/// The key of a row and its values.
 fn push_row<'a>(values: &mut Vec<ValueRef<'a>>, row: &'a Row) -> Result<(), TableError>
     ensures { OnOk result (bound values.new.items ≡ bound values.old.items ++ row_values (row_of row.now)) }
 {
@@ -39,7 +39,7 @@ fn push_row<'a>(values: &mut Vec<ValueRef<'a>>, row: &'a Row) -> Result<(), Tabl
     Ok(push_values(values, &row.cells)?)
 }
 
-// The key of a row as the database has it: two numbers below 2^63.
+/// The key of a row as the database has it: two numbers below 2^63.
 fn key(row: &Row) -> Result<(i64, i64), TableError>
     ensures { IfOk result (λ k. (k.0 ≡ pos row.now.first) × (k.1 ≡ pos row.now.second)) }
 {
@@ -52,7 +52,7 @@ fn key(row: &Row) -> Result<(i64, i64), TableError>
     }
 }
 
-// Values, in order.
+/// Values, in order.
 fn push_values<'a>(values: &mut Vec<ValueRef<'a>>, cells: &'a [Cell]) -> Result<(), AllocError>
     ensures { OnOk result (bound values.new.items ≡ bound values.old.items ++ values_of (cells_of cells.now)) }
 {
@@ -62,7 +62,7 @@ fn push_values<'a>(values: &mut Vec<ValueRef<'a>>, cells: &'a [Cell]) -> Result<
     Ok(())
 }
 
-// A value.
+/// A value.
 fn value_of<'a>(cell: &'a Cell) -> ValueRef<'a>
     ensures { bound_value (owned result) ≡ value_of (cell_of cell.now) }
 {

@@ -51,7 +51,7 @@ pub fn drain<R: Read + Drop, W: Write + Drop, D: LogFile + Drop, T: Clock + Epri
     for _ in 0..u64::MAX {
         let seen = lines.seen;
         asked = turn(rt, connection, worker, lines, report, dead, asked)?;
-        if until_empty && asked == Asked::News && lines.seen == seen {
+        if until_empty && asked == Asked::New && lines.seen == seen {
             return Ok(());
         }
     }

@@ -59,8 +59,8 @@ fn main(rt: HostRuntime) -> Result<ExitCode> {
     }
 }
 
-// An error as it may be shown: a control character, which could steer a terminal, stands in its text
-// as `?`.
+/// An error as it may be shown: a control character, which could steer a terminal, stands in its text
+/// as `?`.
 fn masked(alloc: Global, error: Error) -> Error {
     match masked_text(alloc, &error) {
         Ok(Some(text)) => Error::msg(text),
@@ -68,7 +68,7 @@ fn masked(alloc: Global, error: Error) -> Error {
     }
 }
 
-// The text of an error that has a control character in it, masked.
+/// The text of an error that has a control character in it, masked.
 fn masked_text(alloc: Global, error: &Error) -> Result<Option<String>, AllocError> {
     let text = format!(in alloc; "{error}")?;
     if !text.chars().any(char::is_control) {
@@ -81,7 +81,7 @@ fn masked_text(alloc: Global, error: &Error) -> Result<Option<String>, AllocErro
     Ok(Some(shown))
 }
 
-// The words that the program is called with.
+/// The words that the program is called with.
 fn words_of(rt: &HostRuntime) -> Result<Vec<String>> {
     let mut words = Vec::new(rt.alloc());
     for word in env::args(rt)?.skip(1) {
@@ -90,7 +90,7 @@ fn words_of(rt: &HostRuntime) -> Result<Vec<String>> {
     Ok(words)
 }
 
-// Drains as these options say, over standard input and output.
+/// Drains as these options say, over standard input and output.
 fn drain_by(rt: &HostRuntime, options: Options) -> Result<()> {
     let Options {
         mut settings,
@@ -127,7 +127,7 @@ fn drain_by(rt: &HostRuntime, options: Options) -> Result<()> {
     ended
 }
 
-// The lines in the file of this path.
+/// The lines in the file of this path.
 fn lines_at(rt: &HostRuntime, path: &str, json: bool) -> Result<Lines<SystemFile>> {
     let file = match SystemFile::open(rt, path) {
         Ok(file) => file,
@@ -136,7 +136,7 @@ fn lines_at(rt: &HostRuntime, path: &str, json: bool) -> Result<Lines<SystemFile
     Lines::open(rt.alloc(), file, json).context(format_args!("cannot open {path}"))
 }
 
-// Why a file was not opened.
+/// Why a file was not opened.
 fn not_opened(path: &str, error: LogError) -> Error {
     match error {
         LogError::File(reason) => {
@@ -150,8 +150,8 @@ fn not_opened(path: &str, error: LogError) -> Error {
     }
 }
 
-// What looks for entries that were delivered too often, where they are given up. Then those that come again are asked
-// for one at a time.
+/// What looks for entries that were delivered too often, where they are given up. Then those that come again are asked
+/// for one at a time.
 fn dead_of(
     alloc: Global,
     settings: &mut Settings,
@@ -163,7 +163,7 @@ fn dead_of(
     }
 }
 
-// What is shown, with the backlog of the group where it is not quiet.
+/// What is shown, with the backlog of the group where it is not quiet.
 fn report_of(rt: &HostRuntime, settings: &Settings, quiet: bool) -> Result<Report> {
     let mut report = Report::new(rt, quiet)?;
     if !quiet {
@@ -172,7 +172,7 @@ fn report_of(rt: &HostRuntime, settings: &Settings, quiet: bool) -> Result<Repor
     Ok(report)
 }
 
-// The group that is watched.
+/// The group that is watched.
 fn watched(alloc: Global, settings: &Settings) -> Result<Watched, AllocError> {
     let key = String::from_str(alloc, settings.key())?;
     let group = String::from_str(alloc, settings.group())?;

@@ -96,7 +96,7 @@ fn with_flags<'a>(alloc: Global, command: Command<'a>) -> Result<Command<'a>, Al
         ))
 }
 
-// The settings of a worker. Those that a line leaves out are the usual ones.
+/// The settings of a worker. Those that a line leaves out are the usual ones.
 fn settings_of(
     alloc: Global,
     command: &mut Command<'_>,
@@ -117,7 +117,7 @@ fn settings_of(
     Ok(settings)
 }
 
-// The settings of a worker for these names.
+/// The settings of a worker for these names.
 fn named(
     alloc: Global,
     command: &mut Command<'_>,
@@ -132,7 +132,7 @@ fn named(
     }
 }
 
-// How many entries at most are asked for at once: not more than what is acknowledged at the beginning.
+/// How many entries at most are asked for at once: not more than what is acknowledged at the beginning.
 fn count_of(matches: &ArgMatches<'_>) -> Option<usize>
     ensures { IfSome result (λ n. n ≤ LARGEST_COUNT) }
 {
@@ -151,7 +151,7 @@ fn set_times(settings: &mut Settings, matches: &ArgMatches<'_>) {
     }
 }
 
-// After how many deliveries entries are given up, and to which stream.
+/// After how many deliveries entries are given up, and to which stream.
 fn dead_of(
     alloc: Global,
     command: &mut Command<'_>,

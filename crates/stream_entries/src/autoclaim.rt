@@ -39,7 +39,7 @@ impl StreamAutoClaimReply {
         })
     }
 
-    /// The same reply. It fails only where it is out of memory.
+    /// Copies the reply. It fails only if memory is refused.
     pub fn try_clone(&self, alloc: Global) -> Result<StreamAutoClaimReply, AllocError>
         ensures { IfOk result (λ r. autoclaim_meaning r ≡ autoclaim_meaning self.now) }
     {
@@ -144,7 +144,7 @@ pub(crate) fn read_deleted<S: Source>(
     }
 }
 
-/// The same texts, in order. It fails only where it is out of memory.
+/// Copies the texts, in order. It fails only if memory is refused.
 pub(crate) fn copy_texts(alloc: Global, texts: &[String]) -> Result<Vec<String>, AllocError>
     ensures { IfOk result (λ v. text_bytes_of v ≡ map string_bytes texts.now) }
 {

@@ -110,7 +110,7 @@ fn read_items<F: ItemForm, S: Source>(
     Ok(ids)
 }
 
-/// The same of pairs, each of which is an item as a map of its own.
+/// Reads pairs, each of which is an item as a map of its own.
 fn read_singles<F: ItemForm, S: Source>(
     alloc: Global,
     mut pairs: S::Pairs,

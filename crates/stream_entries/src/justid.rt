@@ -32,7 +32,7 @@ impl StreamAutoClaimJustIdReply {
         })
     }
 
-    /// The same reply. It fails only where it is out of memory.
+    /// Copies the reply. It fails only if memory is refused.
     pub fn try_clone(&self, alloc: Global) -> Result<StreamAutoClaimJustIdReply, AllocError>
         ensures { IfOk result (λ r. justid_meaning r ≡ justid_meaning self.now) }
     {

@@ -89,7 +89,7 @@ impl StreamId {
     }
 }
 
-/// The same id, the same fields as a finite map and the same delivery.
+/// Two entries are equal if they have one id, the same fields as a finite map and one delivery.
 impl PartialEq for StreamId {
     ghost use Rattle.std.specs.Cmp.{partial_equiv_from_equiv};
     ghost use Rattle.stream_entries.specs.SameEntryLaws.{same_entry_laws};
@@ -123,7 +123,7 @@ fn alike(a: &StreamId, b: &StreamId) -> bool
         && a.delivered_count == b.delivered_count
 }
 
-/// The same fields. It fails only where it is out of memory.
+/// Copies the fields. It fails only if memory is refused.
 fn copy_fields(
     alloc: Global,
     fields: &HashMap<String, Value>,
@@ -154,7 +154,7 @@ fn put_copy(
     Ok(())
 }
 
-/// The same entries, in order. It fails only where it is out of memory.
+/// Copies the entries, in order. It fails only if memory is refused.
 pub(crate) fn copy_ids(alloc: Global, ids: &[StreamId]) -> Result<Vec<StreamId>, AllocError>
     ensures { IfOk result (λ v. entries_of v ≡ map entry_meaning ids.now) }
 {

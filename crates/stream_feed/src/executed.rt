@@ -40,7 +40,7 @@ pub fn read_executed(reply: Reply, sent: u64) -> Result<(), FeedError>
     }
 }
 
-/// The same of a reply with errors in it.
+/// Reads the reply to EXEC that has errors in it.
 fn read_members(members: Vec<Reply>, sent: u64) -> Result<(), FeedError>
     ensures ok { OnOk result (is_executed sent (group groups.Array (answer_list (map answer members.items))) ≡ true) }
     ensures err { IfErr result (λ e. (is_executed sent (group groups.Array (answer_list (map answer members.items))) ≡ false)

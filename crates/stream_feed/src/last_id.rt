@@ -28,7 +28,7 @@ pub fn read_last_id(alloc: Global, reply: Reply) -> Result<(u64, u64), FeedError
     }
 }
 
-/// The same of a value.
+/// Reads the last id out of a value.
 fn read_told(alloc: Global, told: Value) -> Result<(u64, u64), FeedError>
     ensures ok { IfOk result (λ last. last_in (tree told) ≡ Some last) }
     ensures err { IfErr result (IsUnasked (value (tree told))) }
@@ -42,7 +42,7 @@ fn read_told(alloc: Global, told: Value) -> Result<(u64, u64), FeedError>
     }
 }
 
-/// The same of an error.
+/// Reads an error: without the stream the last id is 0-0.
 fn read_refused(error: ServerError) -> Result<(u64, u64), FeedError>
     ensures ok { IfOk result (λ last. no_stream error.text.items ≡ Some last) }
     ensures err { IfErr result (λ e. (no_stream error.text.items ≡ None)

@@ -74,7 +74,7 @@ fn command_of<'a>(alloc: Global) -> Result<Command<'a>, AllocError> {
         .arg(pair(alloc, "wait", WAIT_VALUES.as_slice(), wait))
 }
 
-// What a line is.
+/// What a line is.
 fn form_of(alloc: Global, matches: &ArgMatches<'_>) -> Result<Form, AllocError> {
     if matches.get_flag("json") {
         return Ok(Form::Json);
@@ -97,7 +97,7 @@ fn settings_of(
     }
 }
 
-// How many replicas are to confirm each batch, and how long it waits for them.
+/// How many replicas are to confirm each batch, and how long it waits for them.
 fn wait_of(
     alloc: Global,
     command: &mut Command<'_>,
@@ -114,7 +114,7 @@ fn wait_of(
     }
 }
 
-// A number of `--wait`, 1 at least.
+/// A number of `--wait`, 1 at least.
 fn positive(alloc: Global, command: &mut Command<'_>, word: &str) -> Result<u64, Error> {
     match word.parse::<u64>() {
         Ok(number) if 0 < number => Ok(number),

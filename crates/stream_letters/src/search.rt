@@ -97,7 +97,7 @@ impl DeadLetterSearch {
         Ok(search)
     }
 
-    // The search under the names of these settings.
+    /// The search under the names of these settings.
     fn of(alloc: Global, settings: &Settings, to: GiveUp) -> Result<DeadLetterSearch, AllocError>
         ensures names { IfOk result (λ d. (string_bytes d.key ≡ string_bytes settings.now.key)
             × (string_bytes d.group ≡ string_bytes settings.now.group)
@@ -159,7 +159,7 @@ impl DeadLetterSearch {
         self.look_if_due(alloc, connection)
     }
 
-    // Looks before the first command, and before each claim.
+    /// Looks before the first command, and before each claim.
     fn look_if_due<R: Read + Drop, W: Write + Drop>(
         &mut self,
         alloc: Global,
@@ -179,7 +179,7 @@ impl DeadLetterSearch {
         self.look(alloc, connection, false)
     }
 
-    // Looks at what is pending for the consumer itself, and then at what anybody left.
+    /// Looks at what is pending for the consumer itself, and then at what anybody left.
     fn look_at_both<R: Read + Drop, W: Write + Drop>(
         &mut self,
         alloc: Global,
@@ -192,8 +192,8 @@ impl DeadLetterSearch {
         self.look(alloc, connection, false)
     }
 
-    // Looks at what is pending for the consumer itself, or at what anybody left for the idle time,
-    // page by page.
+    /// Looks at what is pending for the consumer itself, or at what anybody left for the idle time,
+    /// page by page.
     fn look<R: Read + Drop, W: Write + Drop>(
         &mut self,
         alloc: Global,
@@ -213,7 +213,7 @@ impl DeadLetterSearch {
         Ok(())
     }
 
-    // Gives up what was delivered too often of one page: where the next page starts.
+    /// Gives up what was delivered too often of one page: where the next page starts.
     fn look_at_page<R: Read + Drop, W: Write + Drop>(
         &mut self,
         alloc: Global,
@@ -232,7 +232,7 @@ impl DeadLetterSearch {
         Ok(next)
     }
 
-    // The pending entries from this id on; none where there is no group.
+    /// The pending entries from this id on; none where there is no group.
     fn page<R: Read + Drop, W: Write + Drop>(
         &self,
         alloc: Global,
@@ -255,7 +255,7 @@ impl DeadLetterSearch {
         }
     }
 
-    // Claims these entries, gives them up, and has their letters delivered.
+    /// Claims these entries, gives them up, and has their letters delivered.
     fn give_up<R: Read + Drop, W: Write + Drop>(
         &mut self,
         alloc: Global,
@@ -273,7 +273,7 @@ impl DeadLetterSearch {
         deliver(alloc, connection, &mut desk, &mut self.letters)
     }
 
-    // A desk for letters, at which nothing waits.
+    /// A desk for letters, at which nothing waits.
     fn desk(&self, alloc: Global) -> Result<DeadLetters, AllocError>
         ensures names { IfOk result (λ d. names_of d ≡ letter_names self.now) }
         ensures waits { IfOk result (λ d. desk_of d ≡ none_waits) }
@@ -283,7 +283,7 @@ impl DeadLetterSearch {
         Ok(DeadLetters::new(alloc, key, group, self.stream.clone()?))
     }
 
-    // Claims these entries, and gives them up.
+    /// Claims these entries, and gives them up.
     fn post_all<R: Read + Drop, W: Write + Drop>(
         &self,
         alloc: Global,
@@ -307,7 +307,7 @@ impl DeadLetterSearch {
         Ok(())
     }
 
-    // Claims an entry.
+    /// Claims an entry.
     fn claim<R: Read + Drop, W: Write + Drop>(
         &self,
         alloc: Global,
@@ -334,7 +334,7 @@ impl DeadLetterSearch {
     }
 }
 
-// Refuses what no search may be made for.
+/// Refuses what no search may be made for.
 fn allow(key: &str, to: &GiveUp) -> Result<(), SearchSettingsError>
     ensures ok { OnOk result (IsAllowed key.now to.now) }
     ensures err { IfErr result (IsRefused key.now to.now) }
@@ -351,9 +351,9 @@ fn allow(key: &str, to: &GiveUp) -> Result<(), SearchSettingsError>
     Ok(())
 }
 
-// So many reads were made, where this was asked last.
+/// So many reads were made, where this was asked last.
 fn reads_after(reads: usize, asked: Asked) -> usize {
-    if asked == Asked::News {
+    if asked == Asked::New {
         reads.saturating_add(1)
     } else {
         reads
@@ -411,7 +411,7 @@ fn post(
     post_fields(alloc, desk, entry, texts)
 }
 
-// The entry that these rows are; None if they are not one.
+/// The entry that these rows are; None if they are not one.
 fn the_row(rows: &[Option<(String, Vec<RawBytes>)>]) -> Option<&(String, Vec<RawBytes>)>
     ensures { MatchOption result ((e : Entry) → AreJust (rows_of rows.now) e → e.1 ≡ [])
         (λ row. rows.now ≡ Some row.now ∷ []) }
@@ -525,7 +525,7 @@ fn deliver<R: Read + Drop, W: Write + Drop>(
     Err(SearchError::LastLetter)
 }
 
-// Why a command was not written.
+/// Why a command was not written.
 fn not_written(error: WriteError) -> SearchError {
     ConnectionError::from(error).into()
 }

@@ -92,7 +92,7 @@ impl Outbox {
         replies.ended
     }
 
-    // Takes out the first commands.
+    /// Takes out the first commands.
     fn drop_first(&mut self, count: usize)
         requires { count ≤ length (unsent_of self.old) }
         ensures { unsent_of self.new ≡ drop count (unsent_of self.old) }
@@ -101,7 +101,7 @@ impl Outbox {
     }
 }
 
-// The bytes of these commands, one after the other.
+/// The bytes of these commands, one after the other.
 fn joined(alloc: Global, commands: &[Vec<u8>]) -> Result<Vec<u8>, AllocError>
     ensures { IfOk result (λ bytes. bytes.items ≡ all_bytes (map (λ c. c.items) commands.now)) }
 {
@@ -112,7 +112,7 @@ fn joined(alloc: Global, commands: &[Vec<u8>]) -> Result<Vec<u8>, AllocError>
     Ok(bytes)
 }
 
-// Takes so many replies, to the first that is an error.
+/// Takes so many replies, to the first that is an error.
 fn take_replies<R: Read + Drop, W: Write + Drop>(
     alloc: Global,
     connection: &mut Connection<R, W>,
@@ -140,7 +140,7 @@ fn take_replies<R: Read + Drop, W: Write + Drop>(
     }
 }
 
-// Takes a reply.
+/// Takes a reply.
 fn take_reply<R: Read + Drop, W: Write + Drop>(
     alloc: Global,
     connection: &mut Connection<R, W>,

@@ -61,7 +61,7 @@ pub fn read_any_autoclaim<'a>(
     }
 }
 
-/// The same by the copying path.
+/// Reads a reply to XAUTOCLAIM by way of a decoded value.
 fn copied_autoclaim<'a>(
     alloc: Global,
     bytes: &[u8],
@@ -98,7 +98,7 @@ pub fn read_any_justid<'a>(
     }
 }
 
-/// The same by the copying path.
+/// Reads a reply to XAUTOCLAIM with JUSTID by way of a decoded value.
 fn copied_justid<'a>(
     alloc: Global,
     bytes: &[u8],

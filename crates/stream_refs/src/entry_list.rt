@@ -54,7 +54,7 @@ impl<'a> EntriesRef<'a> {
         self.places.is_empty()
     }
 
-    /// The same entries again, from the first one that is left.
+    /// The entries once more, from the first one that is left.
     pub fn again(&self) -> EntriesRef<'a>
         ensures { result ≡ self.now }
     {

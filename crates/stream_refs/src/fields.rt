@@ -127,7 +127,7 @@ impl<'a> FieldsRef<'a> {
         Ok(PairList(pairs))
     }
 
-    /// The same fields again, from the first one that is left.
+    /// The fields once more, from the first one that is left.
     pub fn again(&self) -> FieldsRef<'a>
         ensures { result ≡ self.now }
     {

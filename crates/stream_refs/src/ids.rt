@@ -54,7 +54,7 @@ impl<'a> IdsRef<'a> {
         self.places.is_empty()
     }
 
-    /// The same ids again, from the first one that is left.
+    /// The ids once more, from the first one that is left.
     pub fn again(&self) -> IdsRef<'a>
         ensures { result ≡ self.now }
     {

@@ -61,7 +61,7 @@ pub fn read_any_range<'a>(
     }
 }
 
-/// The same by the copying path.
+/// Reads entries by way of a decoded value.
 fn copied_range<'a>(
     alloc: Global,
     bytes: &[u8],
@@ -98,7 +98,7 @@ pub fn read_any_streams<'a>(
     }
 }
 
-/// The same by the copying path.
+/// Reads streams by way of a decoded value.
 fn copied_streams<'a>(
     alloc: Global,
     bytes: &[u8],

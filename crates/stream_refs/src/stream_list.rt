@@ -100,7 +100,7 @@ impl<'a> StreamsRef<'a> {
         self.places.is_empty()
     }
 
-    /// The same streams again, from the first one that is left.
+    /// The streams once more, from the first one that is left.
     pub fn again(&self) -> StreamsRef<'a>
         ensures { result ≡ self.now }
     {

@@ -38,7 +38,7 @@ pub fn drain<R: Read + Drop, W: Write + Drop, T: Table + Drop>(
     for _ in 0..u64::MAX {
         let seen = rows.seen;
         let asked = turn(alloc, connection, worker, rows, report)?;
-        if until_empty && asked == Asked::News && rows.seen == seen {
+        if until_empty && asked == Asked::New && rows.seen == seen {
             return Ok(());
         }
     }
@@ -92,7 +92,7 @@ fn round<R: Read + Drop, W: Write + Drop, T: Table + Drop>(
     }
 }
 
-// An error if the handler said to stop.
+/// An error if the handler said to stop.
 fn goes_on(progress: Progress, fault: &Option<Fault>, undone: &Option<String>) -> Result<()>
     ensures ok { OnOk result (progress ≡ Progress.GoesOn) }
     ensures err { OnErr result (progress ≡ Progress.Stopped) }
@@ -103,7 +103,7 @@ fn goes_on(progress: Progress, fault: &Option<Fault>, undone: &Option<String>) -
     }
 }
 
-// Why a round failed.
+/// Why a round failed.
 fn broken_off(error: RunError, fault: &Option<Fault>) -> Error {
     match error {
         RunError::Request(RequestError::NotCommitted) => not_committed(fault),
@@ -119,7 +119,7 @@ fn broken_off(error: RunError, fault: &Option<Fault>) -> Error {
     }
 }
 
-// Why what was done was not committed.
+/// Why what was done was not committed.
 fn not_committed(fault: &Option<Fault>) -> Error {
     match fault {
         Some(reason) => anyhow!("cannot commit: {reason}"),
@@ -127,7 +127,7 @@ fn not_committed(fault: &Option<Fault>) -> Error {
     }
 }
 
-// Why an entry was not done, and which one if its id is known.
+/// Why an entry was not done, and which one if its id is known.
 fn stopped(fault: &Option<Fault>, undone: &Option<String>) -> Error {
     match (fault, undone) {
         (
@@ -155,7 +155,7 @@ fn stopped(fault: &Option<Fault>, undone: &Option<String>) -> Error {
     }
 }
 
-// What a field is or is not.
+/// What a field is or is not.
 fn lack(why: FieldError) -> &'static str {
     match why {
         FieldError::Missing => "is missing",

@@ -84,7 +84,7 @@ fn with_rest<'a>(alloc: Global, command: Command<'a>) -> Result<Command<'a>, All
         ))
 }
 
-// The settings of a worker. Those that a line leaves out are the usual ones.
+/// The settings of a worker. Those that a line leaves out are the usual ones.
 fn settings_of(
     alloc: Global,
     command: &mut Command<'_>,
@@ -105,7 +105,7 @@ fn settings_of(
     Ok(settings)
 }
 
-// The settings of a worker for these names.
+/// The settings of a worker for these names.
 fn named(
     alloc: Global,
     command: &mut Command<'_>,
@@ -132,7 +132,7 @@ fn set_times(settings: &mut Settings, matches: &ArgMatches<'_>) {
     }
 }
 
-// The columns of a list as `item:text,pieces:integer,photo:blob?`, or none.
+/// The columns of a list as `item:text,pieces:integer,photo:blob?`, or none.
 fn columns_of(
     alloc: Global,
     command: &mut Command<'_>,
@@ -156,7 +156,7 @@ fn columns_of(
 // As an error names the option.
 const COLUMNS: &str = "--columns <LIST>";
 
-// A column: its name, and what its values are. With a question mark a row may have none.
+/// A column: its name, and what its values are. With a question mark a row may have none.
 fn column_of(alloc: Global, command: &mut Command<'_>, part: &str) -> Result<Column, Error> {
     let Some((name, kind)) = part.rsplit_once(':') else {
         let reason = "a column is NAME:text, NAME:integer or NAME:blob";
@@ -185,7 +185,7 @@ fn kind_of(alloc: Global, command: &mut Command<'_>, kind: &str) -> Result<Kind,
     }
 }
 
-// Whether there is a column of this name, to which the case of ASCII letters is all one.
+/// Whether there is a column of this name, to which the case of ASCII letters is all one.
 fn is_taken(columns: &[Column], name: &str) -> bool {
     for column in columns {
         if column.name.eq_ignore_ascii_case(name) {

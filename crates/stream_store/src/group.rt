@@ -184,8 +184,8 @@ impl Group {
         }
     }
 
-    /// The same of the consumer that the room is for, which is the group's from now on: where it is
-    /// the one that `room_for` took of this group, no memory is asked for.
+    /// Sees the consumer that the room is for, which is the group's from now on. If it is the one that
+    /// `room_for` took of this group, no memory is asked for.
     pub fn see_in(&mut self, room: Room, now: u64) -> Result<u64, AllocError>
         ensures ok { IfOk result (λ number. IsSeen room.name.items now number self.old self.new) }
         ensures err_consumers { OnErr result (self.new.consumers.items ≡ self.old.consumers.items) }

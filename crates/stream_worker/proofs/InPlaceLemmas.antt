@@ -69,7 +69,7 @@ module _ {R : Type 0} (with_verdict : R → List ℕ × Pairs → Verdict → R)
   )
 
   pub news_other : only_stream (string_bytes settings.key) ss ≡ None → n ≡ begins_again m → s ≡ r
-      → Failed with_verdict settings asked.News (wire.value t) m n r s worker.OtherStream
+      → Failed with_verdict settings asked.New (wire.value t) m n r s worker.OtherStream
   news_other other i j = (
     (t, refl, other_stream other, it_reads),
     ap (λ o. option_map (λ es. told (news (all_delivered es))) (option_and_then those_there o)) (other_stream other),
@@ -85,7 +85,7 @@ shows_own asked.Nothing own = absurd cc
 shows_own asked.Acknowledgement own = absurd cc
 shows_own asked.Group own = absurd cc
 shows_own asked.Claim own = absurd cc
-shows_own asked.News own = absurd cc
+shows_own asked.New own = absurd cc
 
 -- memory ran out before an entry was handed out
 pub nothing_taken : {R : Type 0} (with_verdict : R → List ℕ × Pairs → Verdict → R) (settings : Settings)

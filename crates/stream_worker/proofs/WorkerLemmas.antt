@@ -72,7 +72,7 @@ said_own : (key : List ℕ) (t : Tree) (es : List SentEntry) → entries_read ke
 said_own key t es h = ap (λ o. option_map (λ xs. told (own_pending (all_delivered xs))) o) h
 
 said_news : (key : List ℕ) (t : Tree) (es : List SentEntry) → news_read key t ≡ Some es
-    → says key asked.News t ≡ Some (told (news (all_delivered es)))
+    → says key asked.New t ≡ Some (told (news (all_delivered es)))
 said_news key t es h = ap (λ o. option_map (λ xs. told (news (all_delivered xs))) o) h
 
 said_claim : (key : List ℕ) (t : Tree) (c : SentAutoClaim) → claim_read t ≡ Some c
@@ -109,7 +109,7 @@ module _ {R : Type 0} (with_verdict : R → List ℕ × Pairs → Verdict → R)
       → news_read (string_bytes settings.key) t ≡ Some es
       → next ≡ after_news m.every m.phase → Moved with_verdict (all_delivered es) next (begins_again m) n r s
       (ending_of p)
-      → Went with_verdict settings asked.News (wire.value t) m n r s p
+      → Went with_verdict settings asked.New (wire.value t) m n r s p
   news_went es next p h e v = record {
     heard = told (news (all_delivered es));
     said = said_news (string_bytes settings.key) t es h;
@@ -118,7 +118,7 @@ module _ {R : Type 0} (with_verdict : R → List ℕ × Pairs → Verdict → R)
 
   pub news_cut : (es : List SentEntry) (next : machine.Phase) → news_read (string_bytes settings.key) t ≡ Some es
       → next ≡ after_news m.every m.phase → Moved with_verdict (all_delivered es) next (begins_again m) n r s cut_off
-      → Failed with_verdict settings asked.News (wire.value t) m n r s causes.Memory
+      → Failed with_verdict settings asked.New (wire.value t) m n r s causes.Memory
   news_cut es next h e v = (
     t,
     refl,
@@ -223,10 +223,10 @@ module _ {R : Type 0} (with_verdict : R → List ℕ × Pairs → Verdict → R)
       )
 
   news_unread : (e : WorkerError) → Unread sent_streams_reading RefusesSentStreams t e → n ≡ begins_again m → s ≡ r
-      → Failed with_verdict settings asked.News (wire.value t) m n r s e
+      → Failed with_verdict settings asked.New (wire.value t) m n r s e
   news_unread e u i j =
-      subst (λ (x : WorkerError). Failed with_verdict settings asked.News (wire.value t) m n r s x) (sym u.1)
-      (read_failed (λ (x : WorkerError). Failed with_verdict settings asked.News (wire.value t) m n r s x) u.0
+      subst (λ (x : WorkerError). Failed with_verdict settings asked.New (wire.value t) m n r s x) (sym u.1)
+      (read_failed (λ (x : WorkerError). Failed with_verdict settings asked.New (wire.value t) m n r s x) u.0
       (t, refl, inl (i, j))
       (λ other. (
         (t, refl, u.2),
@@ -237,17 +237,17 @@ module _ {R : Type 0} (with_verdict : R → List ℕ × Pairs → Verdict → R)
       )))
 
   news_no_streams : (e : WorkerError) → NoStreams t e → n ≡ begins_again m → s ≡ r
-      → Failed with_verdict settings asked.News (wire.value t) m n r s e
+      → Failed with_verdict settings asked.New (wire.value t) m n r s e
   news_no_streams e (inl h) i j =
-      subst (λ (x : WorkerError). Failed with_verdict settings asked.News (wire.value t) m n r s x) (sym h)
+      subst (λ (x : WorkerError). Failed with_verdict settings asked.New (wire.value t) m n r s x) (sym h)
       (t, refl, inl (i, j))
   news_no_streams e (inr u) i j = news_unread e u i j
 
   pub news_not_read : (e : WorkerError) → NotRead (string_bytes settings.key) t e → n ≡ begins_again m → s ≡ r
-      → Failed with_verdict settings asked.News (wire.value t) m n r s e
+      → Failed with_verdict settings asked.New (wire.value t) m n r s e
   news_not_read e (inl u) i j = news_no_streams e u i j
   news_not_read e (inr o) i j =
-      subst (λ (x : WorkerError). Failed with_verdict settings asked.News (wire.value t) m n r s x) (sym o.0) (
+      subst (λ (x : WorkerError). Failed with_verdict settings asked.New (wire.value t) m n r s x) (sym o.0) (
         (t, refl, o.1, o.2),
         ap (λ es. option_map (λ xs. told (news (all_delivered xs))) (option_and_then those_there es)) o.1,
         i,
@@ -255,14 +255,14 @@ module _ {R : Type 0} (with_verdict : R → List ℕ × Pairs → Verdict → R)
       )
 
   -- nil in a new entry
-  nil_in_news : (id : List ℕ) → HasNil (string_bytes settings.key) asked.News t id
+  nil_in_news : (id : List ℕ) → HasNil (string_bytes settings.key) asked.New t id
       → news_read (string_bytes settings.key) t ≡ None
   nil_in_news id h =
       ap (option_and_then those_there) h.1 ∙ ap (λ (b : Bool). if b then Some h.0 else None) (there_not h.0 id h.2)
 
-  pub news_nil : (id : String Global) → HasNil (string_bytes settings.key) asked.News t (string_bytes id)
+  pub news_nil : (id : String Global) → HasNil (string_bytes settings.key) asked.New t (string_bytes id)
       → n ≡ begins_again m → s ≡ r
-      → Failed with_verdict settings asked.News (wire.value t) m n r s (causes.NilFields id)
+      → Failed with_verdict settings asked.New (wire.value t) m n r s (causes.NilFields id)
   news_nil id h i j = (
     (t, refl, h),
     ap (option_map (λ xs. told (news (all_delivered xs)))) (nil_in_news (string_bytes id) h),
@@ -272,10 +272,10 @@ module _ {R : Type 0} (with_verdict : R → List ℕ × Pairs → Verdict → R)
 
   -- a value that holds no new entries of the stream
   pub news_refused : (e : WorkerError) → NotNews (string_bytes settings.key) t e → n ≡ begins_again m → s ≡ r
-      → Failed with_verdict settings asked.News (wire.value t) m n r s e
+      → Failed with_verdict settings asked.New (wire.value t) m n r s e
   news_refused e (inl u) i j = news_not_read e u i j
   news_refused e (inr h) i j =
-      subst (λ (x : WorkerError). Failed with_verdict settings asked.News (wire.value t) m n r s x) (sym h.1)
+      subst (λ (x : WorkerError). Failed with_verdict settings asked.New (wire.value t) m n r s x) (sym h.1)
       (news_nil h.0 h.2 i j)
 
   -- a value that is no answer to a claim
@@ -447,7 +447,7 @@ module _ {R : Type 0} (with_verdict : R → List ℕ × Pairs → Verdict → R)
   own_as_asked asked.Acknowledgement p own g = absurd cc
   own_as_asked asked.Group p own g = absurd cc
   own_as_asked asked.Claim p own g = absurd cc
-  own_as_asked asked.News p own g = absurd cc
+  own_as_asked asked.New p own g = absurd cc
 
   pub own_failed_as_asked : (q : Asked) (e : WorkerError) → reads_own q ≡ true
       → Failed with_verdict settings asked.Own (wire.value t) m n r s e
@@ -458,4 +458,4 @@ module _ {R : Type 0} (with_verdict : R → List ℕ × Pairs → Verdict → R)
   own_failed_as_asked asked.Acknowledgement e own f = absurd cc
   own_failed_as_asked asked.Group e own f = absurd cc
   own_failed_as_asked asked.Claim e own f = absurd cc
-  own_failed_as_asked asked.News e own f = absurd cc
+  own_failed_as_asked asked.New e own f = absurd cc

@@ -29,7 +29,7 @@ MayRefuse asked.Group t error = ⊥
 MayRefuse asked.First t error = Refuses sent_streams_reading RefusesSentStreams t error
 MayRefuse asked.Own t error = Refuses sent_streams_reading RefusesSentStreams t error
 MayRefuse asked.Claim t error = Refuses sent_autoclaim_reading RefusesSentAutoClaim t error
-MayRefuse asked.News t error = Refuses sent_streams_reading RefusesSentStreams t error
+MayRefuse asked.New t error = Refuses sent_streams_reading RefusesSentStreams t error
 
 -- nil stands in place of the fields of an entry, in an answer in which no server says so of a deleted one: the first
 -- such entry has this id
@@ -41,7 +41,7 @@ HasNil key asked.First t id = ⊥
 HasNil key asked.Own t id = ⊥
 HasNil key asked.Claim t id =
     (c : SentAutoClaim) × (sent_autoclaim_reading t ≡ Some c) × (first_nil c.claimed ≡ Some id)
-HasNil key asked.News t id = (es : List SentEntry) × (entries_read key t ≡ Some es) × (first_nil es ≡ Some id)
+HasNil key asked.New t id = (es : List SentEntry) × (entries_read key t ≡ Some es) × (first_nil es ≡ Some id)
 
 module _ {R : Type 0} (with_verdict : R → List ℕ × Pairs → Verdict → R) where
   -- the machine went on by the answer, and its handler said this of the entries, which so came to an end

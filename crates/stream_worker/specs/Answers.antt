@@ -68,7 +68,7 @@ says key asked.Group t = Some group_made
 says key asked.First t = option_map (λ es. told (own_pending (all_delivered es))) (entries_read key t)
 says key asked.Own t = option_map (λ es. told (own_pending (all_delivered es))) (entries_read key t)
 says key asked.Claim t = option_map (λ c. told (taken_over c.next (all_delivered c.claimed))) (claim_read t)
-says key asked.News t = option_map (λ es. told (news (all_delivered es))) (news_read key t)
+says key asked.New t = option_map (λ es. told (news (all_delivered es))) (news_read key t)
 
 -- whether a group is made where there is none
 abbrev pub makes_group : MakeGroup → Bool
@@ -92,7 +92,7 @@ means make asked.Group text = where_made text
 means make asked.First text = where_none make text
 means make asked.Own text = None
 means make asked.Claim text = None
-means make asked.News text = None
+means make asked.New text = None
 
 -- what a worker of these settings hears, where the answer is one to its question
 abbrev pub hears : Settings → Asked → wire.Answer → Option Heard
@@ -109,7 +109,7 @@ shows_group asked.Group = true
 shows_group asked.First = true
 shows_group asked.Own = true
 shows_group asked.Claim = true
-shows_group asked.News = true
+shows_group asked.New = true
 
 -- what is known of the group after a value
 abbrev pub by_value : GroupState → Asked → GroupState
@@ -137,4 +137,4 @@ is_gone asked.Group text = false
 is_gone asked.First text = false
 is_gone asked.Own text = bytes_eq (code_of text) (codes "NOGROUP")
 is_gone asked.Claim text = bytes_eq (code_of text) (codes "NOGROUP")
-is_gone asked.News text = bytes_eq (code_of text) (codes "NOGROUP")
+is_gone asked.New text = bytes_eq (code_of text) (codes "NOGROUP")

@@ -40,7 +40,7 @@ IsNil key question t e = (id : String Global) × (e ≡ causes.NilFields id) × 
 
 -- why it holds no new entries of the stream
 abbrev pub NotNews : List ℕ → Tree → WorkerError → Type 0
-NotNews key t e = NotRead key t e ⊎ IsNil key asked.News t e
+NotNews key t e = NotRead key t e ⊎ IsNil key asked.New t e
 
 -- memory ran out, or a value holds no claim
 abbrev pub NoClaim : Tree → WorkerError → Type 0
@@ -84,7 +84,7 @@ reads_own asked.Group = false
 reads_own asked.First = true
 reads_own asked.Own = true
 reads_own asked.Claim = false
-reads_own asked.News = false
+reads_own asked.New = false
 
 -- the value is a count, and the machine has acknowledged
 abbrev pub IsAcknowledged : Tree → Machine → Machine → Type 0

@@ -16,7 +16,7 @@ use Rattle.stream_worker.specs.declared.state.Asked.TheVariants as asked
 abbrev pub phase_of : Phase → machine.Phase
 phase_of phases.Start = own (codes "0")
 phase_of (phases.Own id) = own (string_bytes id)
-phase_of phases.Stalled = claiming (codes "0-0")
+phase_of phases.ClaimFirst = claiming (codes "0-0")
 phase_of (phases.Claiming id) = claiming (string_bytes id)
 phase_of (phases.Reading rounds) = reading rounds
 
@@ -28,7 +28,7 @@ asked_name asked.Group = codes "XGROUP CREATE"
 asked_name asked.First = codes "XREADGROUP of pending entries"
 asked_name asked.Own = codes "XREADGROUP of pending entries"
 asked_name asked.Claim = codes "XAUTOCLAIM"
-asked_name asked.News = codes "XREADGROUP of new entries"
+asked_name asked.New = codes "XREADGROUP of new entries"
 
 -- `XACK key group id..`
 abbrev pub ack_sentence : Settings → List Id → List (List ℕ)
@@ -92,13 +92,13 @@ sentence s Known phase [] = phase_sentence s phase
 abbrev pub phase_asks : machine.Phase → Asked
 phase_asks (own id) = asked.Own
 phase_asks (claiming id) = asked.Claim
-phase_asks (reading rounds) = asked.News
+phase_asks (reading rounds) = asked.New
 
 -- the same before anything is known of the group
 abbrev pub first_asks : machine.Phase → Asked
 first_asks (own id) = asked.First
 first_asks (claiming id) = asked.Claim
-first_asks (reading rounds) = asked.News
+first_asks (reading rounds) = asked.New
 
 -- what is asked then
 abbrev pub asks : GroupState → machine.Phase → List Id → Asked

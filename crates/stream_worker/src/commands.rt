@@ -61,7 +61,7 @@ fn as_first(phase: &Phase, asked: Asked) -> Asked
 {
     match phase {
         Phase::Start | Phase::Own(_) => Asked::First,
-        Phase::Stalled | Phase::Claiming(_) | Phase::Reading(_) => asked,
+        Phase::ClaimFirst | Phase::Claiming(_) | Phase::Reading(_) => asked,
     }
 }
 
@@ -115,7 +115,7 @@ fn append_by_phase(
     match phase {
         Phase::Start => append_own(alloc, out, settings, "0"),
         Phase::Own(id) => append_own(alloc, out, settings, id.as_str()),
-        Phase::Stalled => append_claim(alloc, out, settings, "0-0"),
+        Phase::ClaimFirst => append_claim(alloc, out, settings, "0-0"),
         Phase::Claiming(id) => append_claim(alloc, out, settings, id.as_str()),
         Phase::Reading(_) => append_news(alloc, out, settings),
     }
@@ -171,7 +171,7 @@ fn append_claim(
 fn append_news(alloc: Global, out: &mut Vec<u8>, settings: &Settings) -> Result<Asked, WriteError>
     ensures ok { OnOk result (out.new.items ≡ out.old.items
         ++ command_bytes (news_sentence settings.now)) }
-    ensures asked { IfOk result (λ a. a ≡ Asked.News) }
+    ensures asked { IfOk result (λ a. a ≡ Asked.New) }
     ensures err { OnErr result (out.new.items ≡ out.old.items) }
 {
     let options = StreamReadOptions::default()
@@ -180,7 +180,7 @@ fn append_news(alloc: Global, out: &mut Vec<u8>, settings: &Settings) -> Result<
         .group(alloc, settings.group.as_str(), settings.consumer.as_str())?;
     let stream = (settings.key.as_str(), ">");
     let command = xread_options(AtLeastOne::one(&stream), &options);
-    append_asking(alloc, out, &command, Asked::News)
+    append_asking(alloc, out, &command, Asked::New)
 }
 
 /// Appends the bytes of a command that asks this. An `Err` changes nothing.

@@ -17,7 +17,7 @@ pub fn next_own(entries: &[SentRow]) -> Result<Phase, AllocError>
         ≡ after_own (all_delivered (map sent_of entries.now))) }
 {
     match entries {
-        [] => Ok(Phase::Stalled),
+        [] => Ok(Phase::ClaimFirst),
         [.., last] => Ok(Phase::Own(last.id.clone()?)),
     }
 }
@@ -30,7 +30,7 @@ pub fn next_own_in_place(
     ensures { IfOk result (λ p. phase_of p ≡ after_own (all_delivered (entries_sent entries.now))) }
 {
     match entries {
-        None => Ok(Phase::Stalled),
+        None => Ok(Phase::ClaimFirst),
         Some(entries) => phase_after_last(alloc, entries.again()),
     }
 }
@@ -44,7 +44,7 @@ fn phase_after_last(alloc: Global, entries: EntriesRef<'_>) -> Result<Phase, All
         last = Some(entry.id());
     }
     match last {
-        None => Ok(Phase::Stalled),
+        None => Ok(Phase::ClaimFirst),
         Some(id) => Ok(Phase::Own(String::from_str(alloc, id)?)),
     }
 }
@@ -69,7 +69,7 @@ pub fn next_round(every: usize, phase: Phase) -> Phase
             if every > 0 && rounds < every - 1 {
                 Phase::Reading(rounds + 1)
             } else {
-                Phase::Stalled
+                Phase::ClaimFirst
             }
         }
         other => other,

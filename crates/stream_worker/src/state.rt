@@ -203,7 +203,7 @@ pub enum Phase {
     /// It asks for its own pending entries after this id.
     Own(String),
     /// It claims what others left, from the first on.
-    Stalled,
+    ClaimFirst,
     /// It claims what others left, from this id on.
     Claiming(String),
     /// It asks for new entries, and did so this often since it last claimed.
@@ -237,7 +237,7 @@ pub enum Asked {
     /// XAUTOCLAIM.
     Claim,
     /// XREADGROUP of new entries.
-    News,
+    New,
 }
 
 /// The command, as an error names it.
@@ -254,7 +254,7 @@ impl Display for Asked {
             Asked::Group => "XGROUP CREATE",
             Asked::First | Asked::Own => "XREADGROUP of pending entries",
             Asked::Claim => "XAUTOCLAIM",
-            Asked::News => "XREADGROUP of new entries",
+            Asked::New => "XREADGROUP of new entries",
         })
     }
 }

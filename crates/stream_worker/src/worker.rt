@@ -305,7 +305,7 @@ impl Worker {
             Asked::First => self.take_own(alloc, value, handler),
             Asked::Own => self.take_own(alloc, value, handler),
             Asked::Claim => self.take_claimed(alloc, value, handler),
-            Asked::News => self.take_new(alloc, value, handler),
+            Asked::New => self.take_new(alloc, value, handler),
         }
     }
 
@@ -379,10 +379,10 @@ impl Worker {
         value: Value,
         handler: &mut H,
     ) -> Result<Progress, WorkerError>
-        ensures ok { IfOk result (Went H.with_verdict self.old.settings Asked.News
+        ensures ok { IfOk result (Went H.with_verdict self.old.settings Asked.New
             (wire.value (tree value)) (machine_of self.old) (machine_of self.new)
             (H.history handler.old) (H.history handler.new)) }
-        ensures err { IfErr result (Failed H.with_verdict self.old.settings Asked.News
+        ensures err { IfErr result (Failed H.with_verdict self.old.settings Asked.New
             (wire.value (tree value)) (machine_of self.old) (machine_of self.new)
             (H.history handler.old) (H.history handler.new)) }
         ensures group { self.new.group ≡ self.old.group }
@@ -427,7 +427,7 @@ fn group_after_value(group: GroupState, asked: Asked) -> GroupState
 {
     match asked {
         Asked::Nothing | Asked::Acknowledgement => group,
-        Asked::Group | Asked::First | Asked::Own | Asked::Claim | Asked::News => GroupState::Known,
+        Asked::Group | Asked::First | Asked::Own | Asked::Claim | Asked::New => GroupState::Known,
     }
 }
 
@@ -437,7 +437,7 @@ fn group_after_error(make: MakeGroup, asked: Asked, error: &ServerError) -> Opti
     ensures { result ≡ state_by (means make asked error.now.text.items) }
 {
     match asked {
-        Asked::Nothing | Asked::Acknowledgement | Asked::Own | Asked::Claim | Asked::News => None,
+        Asked::Nothing | Asked::Acknowledgement | Asked::Own | Asked::Claim | Asked::New => None,
         Asked::Group => {
             if error.code() == b"BUSYGROUP".as_slice() {
                 Some(GroupState::Known)
@@ -473,6 +473,6 @@ fn tells_of_no_group(asked: Asked, error: &ServerError) -> bool
 {
     match asked {
         Asked::Nothing | Asked::Acknowledgement | Asked::Group | Asked::First => false,
-        Asked::Own | Asked::Claim | Asked::News => error.code() == b"NOGROUP".as_slice(),
+        Asked::Own | Asked::Claim | Asked::New => error.code() == b"NOGROUP".as_slice(),
     }
 }

@@ -55,7 +55,7 @@ impl FromRedisValue for bool {
         truth_of(&v).ok_or(ParsingError::NotNumber)
     }
 
-    /// The same truth value of a borrowed value.
+    /// The truth value of a borrowed value, which is kept.
     fn from_redis_value_ref(_alloc: Global, v: &Value) -> Result<bool, ParsingError> {
         truth_of(v).ok_or(ParsingError::NotNumber)
     }

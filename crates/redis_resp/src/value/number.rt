@@ -111,7 +111,7 @@ impl FromRedisValue for u8 {
         u8_of(&v).ok_or(ParsingError::NotNumber)
     }
 
-    /// The same number of a borrowed value.
+    /// The number of a borrowed value, which is kept.
     fn from_redis_value_ref(_alloc: Global, v: &Value) -> Result<u8, ParsingError> {
         u8_of(v).ok_or(ParsingError::NotNumber)
     }
@@ -131,7 +131,7 @@ impl FromRedisValue for u16 {
         u16_of(&v).ok_or(ParsingError::NotNumber)
     }
 
-    /// The same number of a borrowed value.
+    /// The number of a borrowed value, which is kept.
     fn from_redis_value_ref(_alloc: Global, v: &Value) -> Result<u16, ParsingError> {
         u16_of(v).ok_or(ParsingError::NotNumber)
     }
@@ -151,7 +151,7 @@ impl FromRedisValue for u32 {
         u32_of(&v).ok_or(ParsingError::NotNumber)
     }
 
-    /// The same number of a borrowed value.
+    /// The number of a borrowed value, which is kept.
     fn from_redis_value_ref(_alloc: Global, v: &Value) -> Result<u32, ParsingError> {
         u32_of(v).ok_or(ParsingError::NotNumber)
     }
@@ -171,7 +171,7 @@ impl FromRedisValue for u64 {
         u64_of(&v).ok_or(ParsingError::NotNumber)
     }
 
-    /// The same number of a borrowed value.
+    /// The number of a borrowed value, which is kept.
     fn from_redis_value_ref(_alloc: Global, v: &Value) -> Result<u64, ParsingError> {
         u64_of(v).ok_or(ParsingError::NotNumber)
     }
@@ -191,7 +191,7 @@ impl FromRedisValue for usize {
         usize_of(&v).ok_or(ParsingError::NotNumber)
     }
 
-    /// The same number of a borrowed value.
+    /// The number of a borrowed value, which is kept.
     fn from_redis_value_ref(_alloc: Global, v: &Value) -> Result<usize, ParsingError> {
         usize_of(v).ok_or(ParsingError::NotNumber)
     }
@@ -211,7 +211,7 @@ impl FromRedisValue for i64 {
         i64_of(&v).ok_or(ParsingError::NotNumber)
     }
 
-    /// The same number of a borrowed value.
+    /// The number of a borrowed value, which is kept.
     fn from_redis_value_ref(_alloc: Global, v: &Value) -> Result<i64, ParsingError> {
         i64_of(v).ok_or(ParsingError::NotNumber)
     }
@@ -231,7 +231,7 @@ impl FromRedisValue for i32 {
         i32_of(&v).ok_or(ParsingError::NotNumber)
     }
 
-    /// The same number of a borrowed value.
+    /// The number of a borrowed value, which is kept.
     fn from_redis_value_ref(_alloc: Global, v: &Value) -> Result<i32, ParsingError> {
         i32_of(v).ok_or(ParsingError::NotNumber)
     }

@@ -141,8 +141,8 @@ impl<V: FromRedisValue> FromRedisValue for IndexMap<String, V> {
     }
 }
 
-/// The same pairs as a map without order: each key with its last value. `NotPairs` for any other
-/// kind or an odd length.
+/// The pairs as a map without order: each key with its last value. `NotPairs` for any other kind
+/// or an odd length.
 impl<V: FromRedisValue> FromRedisValue for HashMap<String, V> {
     ghost Meaning = { Fields V.Meaning };
 

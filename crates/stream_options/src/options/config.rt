@@ -114,7 +114,7 @@ impl StreamConfigOptions {
     }
 }
 
-// The seconds, where they are in their range.
+/// The seconds, where they are in their range.
 fn seconds_in_range(seconds: u32) -> Result<u32, ConfigError>
     ensures ok { OkIff result (IsDuration seconds) seconds }
     ensures refused { IfErr result (λ error. error ≡ ConfigError.Seconds seconds) }
@@ -126,7 +126,7 @@ fn seconds_in_range(seconds: u32) -> Result<u32, ConfigError>
     }
 }
 
-// The number of entries, where it is in its range.
+/// The number of entries, where it is in its range.
 fn maxsize_in_range(maxsize: u16) -> Result<u16, ConfigError>
     ensures ok { OkIff result (IsMaxsize maxsize) maxsize }
     ensures refused { IfErr result (λ error. error ≡ ConfigError.Maxsize maxsize) }

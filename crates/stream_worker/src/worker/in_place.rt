@@ -66,7 +66,7 @@ impl Worker {
             Asked::First => self.take_own_in_place(alloc, tape, bytes, limits, handler),
             Asked::Own => self.take_own_in_place(alloc, tape, bytes, limits, handler),
             Asked::Claim => self.take_claimed_in_place(alloc, tape, bytes, limits, handler),
-            Asked::News => self.take_new_in_place(alloc, tape, bytes, limits, handler),
+            Asked::New => self.take_new_in_place(alloc, tape, bytes, limits, handler),
             Asked::Nothing | Asked::Acknowledgement | Asked::Group => {
                 self.take_decoded(alloc, bytes, limits, handler)
             }
@@ -152,7 +152,7 @@ impl Worker {
         limits: Limits,
         handler: &mut H,
     ) -> Result<Progress, InPlaceError>
-        requires { self.old.asked ≡ Asked.News }
+        requires { self.old.asked ≡ Asked.New }
         ensures taken { TakenInPlace H.with_verdict self.old.settings limits bytes.now
             (standing_of self.old (H.history handler.old))
             (standing_of self.new (H.history handler.new)) result }
@@ -230,7 +230,7 @@ impl Worker {
         handler: &mut H,
     ) -> Result<Progress, WorkerError>
         ensures taken { (t : Tree) → sent_streams_reading t ≡ Some streams.entry
-            → TakenByValue H.with_verdict self.old.settings Asked.News t (machine_of self.old)
+            → TakenByValue H.with_verdict self.old.settings Asked.New t (machine_of self.old)
             (machine_of self.new) (H.history handler.old) (H.history handler.new) result }
         ensures group { self.new.group ≡ GroupState.Known }
         ensures settings { self.new.settings ≡ self.old.settings }

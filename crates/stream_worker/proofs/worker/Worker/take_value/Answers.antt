@@ -26,11 +26,11 @@ returns-in-Claim-clause-ok g c = rw c.in-Claim.is c.take_claimed.ensures.ok
 pub returns-in-Claim-clause-err : goal.returns-in-Claim-clause-err
 returns-in-Claim-clause-err g c = rw c.in-Claim.is c.take_claimed.ensures.err
 
-pub returns-in-News-clause-ok : goal.returns-in-News-clause-ok
-returns-in-News-clause-ok g c = rw c.in-News.is c.take_new.ensures.ok
+pub returns-in-New-clause-ok : goal.returns-in-New-clause-ok
+returns-in-New-clause-ok g c = rw c.in-New.is c.take_new.ensures.ok
 
-pub returns-in-News-clause-err : goal.returns-in-News-clause-err
-returns-in-News-clause-err g c = rw c.in-News.is c.take_new.ensures.err
+pub returns-in-New-clause-err : goal.returns-in-New-clause-err
+returns-in-New-clause-err g c = rw c.in-New.is c.take_new.ensures.err
 
 pub returns-in-First-clause-ok : goal.returns-in-First-clause-ok
 returns-in-First-clause-ok g c = rw c.in-First.is
