@@ -34,7 +34,7 @@ use stream_text::read_value;
 use uses::batch::sort_out;
 use uses::caller::{order_bytes, order_id};
 use uses::deletion::{acknowledgement_of, deletion_of, is_left, was_pending};
-use uses::group_state::group_state;
+use stream_monitor::group_state::group_state;
 use uses::monitoring::{delivered_too_often, lag_of};
 use uses::order::{Order, OrderId};
 use uses::producer::{Producer, ProducerError};

@@ -35,7 +35,7 @@ use std::io::{Read, Write};
 use stream_commands::{AtLeastOne, xinfo_stream_full_count, xread_options};
 use stream_options::StreamReadOptions;
 use unicode_width::UnicodeWidthStr;
-use uses::group_state::{GroupState, group_state};
+use stream_monitor::group_state::{GroupState, group_state};
 
 /// At most so many pending entries of a group are looked at.
 const COUNT: usize = 100;

@@ -1,4 +1,3 @@
 -- Lemmas of the callers.
-mod GroupStateLemmas
 pub mod ServerLemmas
 pub mod WireLemmas

@@ -7,4 +7,3 @@ pub mod Monitoring
 pub mod Readme
 pub mod Server
 pub mod Wire
-pub mod GroupState

@@ -3,15 +3,14 @@
 //!
 //! `caller` is a first file of a repository of one's own. `worker` and `batch` are the pure part of a consumer-group worker, `stalled` takes over what
 //! others left, `deletion` reads what XDELEX and XACKDEL say, `monitoring` reads XPENDING and XINFO,
-//! `group_state` says of a group what a tool shows, `producer` sends entries so that one that is sent
-//! twice is added once, `server` reads back what a client wrote, `wire` goes from a server's bytes to
-//! a record, `order` has types of a user's own, and `readme` the code of the README.
+//! `producer` sends entries so that one that is sent twice is added once, `server` reads back what a
+//! client wrote, `wire` goes from a server's bytes to a record, `order` has types of a user's own, and
+//! `readme` the code of the README.
 #![tactic(auto)]
 
 pub mod batch;
 pub mod caller;
 pub mod deletion;
-pub mod group_state;
 pub mod monitoring;
 pub mod order;
 pub mod producer;

@@ -1,7 +1,7 @@
 use Rattle.std.proofs.Common.{◌≡◌, map, take, string_bytes}
 use Rattle.redis.specs.Words.{full_consumer_meaning}
-use Rattle.uses.specs.GroupState.{dead_in}
-use Rattle.uses.proofs.group_state.dead_consumers.Given as goal
+use Rattle.stream_monitor.specs.GroupState.{dead_in}
+use Rattle.stream_monitor.proofs.group_state.dead_consumers.Given as goal
 
 -- the names of those so far that are dead
 abbrev pub invariant-loop-consumer : goal.invariant-loop-consumer

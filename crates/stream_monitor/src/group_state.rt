@@ -2,7 +2,7 @@
 ghost use Rattle.std.specs.Prelude.{◌≡◌, map, string_bytes, IfOk};
 ghost use Rattle.redis.specs.Words.{full_consumer_meaning, full_group_meaning};
 ghost use Rattle.redis.specs.Words.{full_pending_meaning};
-ghost use Rattle.uses.specs.GroupState.{dead_in, longest_in, oldest_in, state_meaning, state_of, too_often_in};
+ghost use Rattle.stream_monitor.specs.GroupState.{dead_in, longest_in, oldest_in, state_meaning, state_of, too_often_in};
 
 use redis::streams::{StreamInfoFullConsumer, StreamInfoFullGroup, StreamInfoFullPending};
 use std::alloc::{AllocError, Global};

@@ -2,7 +2,7 @@
 use Rattle.std.proofs.Common.{◌≡◌, ℕ, List, [], ◌∷◌, Some, None, map, length, refl, arith}
 use Rattle.redis.specs.Words.{full_pending_meaning}
 use Rattle.redis_streams.specs.declared.info.full.pending.StreamInfoFullPending.{StreamInfoFullPending}
-use Rattle.uses.specs.GroupState.{longest_in, oldest_in}
+use Rattle.stream_monitor.specs.GroupState.{longest_in, oldest_in}
 
 pub oldest_none : (now : ℕ) (pending : List StreamInfoFullPending) → length pending ≡ 0
     → oldest_in now (map full_pending_meaning pending) ≡ None

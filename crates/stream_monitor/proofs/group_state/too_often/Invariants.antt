@@ -1,7 +1,7 @@
 use Rattle.std.proofs.Common.{◌≡◌, map, take, string_bytes}
 use Rattle.redis.specs.Words.{full_pending_meaning}
-use Rattle.uses.specs.GroupState.{too_often_in}
-use Rattle.uses.proofs.group_state.too_often.Given as goal
+use Rattle.stream_monitor.specs.GroupState.{too_often_in}
+use Rattle.stream_monitor.proofs.group_state.too_often.Given as goal
 
 -- the ids of those so far that were delivered too often
 abbrev pub invariant-loop-entry : goal.invariant-loop-entry

@@ -1,7 +1,7 @@
 use Rattle.std.proofs.Common.{◌≡◌, map, take}
 use Rattle.redis.specs.Words.{full_pending_meaning}
-use Rattle.uses.specs.GroupState.{longest_in}
-use Rattle.uses.proofs.group_state.longest_idle.Given as goal
+use Rattle.stream_monitor.specs.GroupState.{longest_in}
+use Rattle.stream_monitor.proofs.group_state.longest_idle.Given as goal
 
 -- the longest time of those so far
 abbrev pub invariant-loop-entry : goal.invariant-loop-entry

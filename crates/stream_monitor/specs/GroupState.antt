@@ -2,7 +2,7 @@
 use Rattle.std.specs.Prelude.{ℕ, ◌-◌, ◌&&◌, Bool, List, [], ◌∷◌, Option, Some, None, map, filter, fold, max, nat_le}
 use Rattle.std.specs.Prelude.{nat_lt, string_bytes}
 use Rattle.redis.specs.Words.{FullConsumer, FullGroup, FullPending}
-use Rattle.uses.specs.declared.group_state.GroupState.{GroupState}
+use Rattle.stream_monitor.specs.declared.group_state.GroupState.{GroupState}
 
 -- how many entries the group has still to read and how many are pending, for how long the oldest of these has been
 -- idle, which were delivered too often, and which consumers left some

@@ -1,0 +1,2 @@
+-- Lemmas on a group's state.
+mod GroupStateLemmas
