@@ -1,7 +1,6 @@
 -- The words of commands that were read are those that were packed.
 use Rattle.std.proofs.Common.{◌≡◌, ℕ, List, [], ◌∷◌, ◌++◌, map, Option, Some, None, option_map, option_and_then, Vec, Global, refl, sym, ap}
-use Rattle.std.proofs.Common.{◌∙◌}
-use Rattle.std.specs.Prelude.{◌↔◌}
+use Rattle.std.proofs.Common.{◌∙◌, ◌-◌, suc, subst, arith}
 use Rattle.redis_resp.specs.Tree.{Tree, nil, int, bulk, array, simple, okay, map_of_pairs, attribute, set, boolean}
 use Rattle.redis_resp.specs.Tree.{verbatim, push, Trees, no_trees, more_trees, trees, list_of_trees}
 use Rattle.redis_resp.specs.Reading.{traverse}
@@ -11,9 +10,15 @@ use Rattle.redis_resp.proofs.TreeLemmas.{tree-Array, listed_trees}
 use Rattle.redis_wire.specs.declared.reply.Reply.{Reply}
 use Rattle.redis_wire.specs.declared.reply.Reply.TheVariants as replies
 use Rattle.redis_wire.specs.Reply.{Answer, value, refused, group, pushed, answer}
-use Rattle.redis_wire.specs.Packed.{command_tree}
-use Rattle.redis_wire.specs.Words.{bulk_text, words_in, AreWordsOf}
+use Rattle.redis_wire.specs.Push.{reply_at}
+use Rattle.redis_wire.specs.Packed.{command_bytes, command_tree}
+use Rattle.redis_wire.specs.Grammar.{IsValue}
+use Rattle.redis_wire.specs.Words.{bulk_text, words_in, AreWordsOf, AreUnpacked}
 use Rattle.redis_wire.proofs.ReplyLemmas.{answer-Value}
+use Rattle.redis_wire.proofs.FitsLemmas.{reply_fits}
+use Rattle.redis_wire.proofs.DecodeLemmas.{same_read}
+use Rattle.redis_wire.proofs.CommandLemmas.{command_is}
+use Rattle.redis_wire.proofs.ReadBackLemmas.{reply_of_value}
 
 packed_words : (args : List (List ℕ)) → traverse bulk_text (map bulk args) ≡ Some args
 packed_words [] = refl
@@ -85,3 +90,18 @@ words_of_array v vs is =
 -- and of a reply that is a value, those of the value
 pub words_of_value : (r : Reply) (v : Value) → r ≡ replies.Value v → words_in (value (tree v)) ≡ words_in (answer r)
 words_of_value r v is = ap words_in (sym (answer-Value v)) ∙ ap (λ (x : Reply). words_in (answer x)) (sym is)
+
+-- bytes of a command are read as the array of its words, and as nothing else
+pub are_unpacked : (a : Answer) (words : Option (List (List ℕ))) → AreWordsOf a words → AreUnpacked a words
+are_unpacked a words are limits args small line depth le each said =
+    let d : ℕ = limits.depth - 2 in
+    let e : suc (suc d) ≡ limits.depth = omega (arith, depth) in
+    let bytes = command_bytes args in
+    let packed : IsValue limits limits.depth bytes (value (command_tree args)) =
+    subst (λ n. IsValue limits n bytes (value (command_tree args))) e (command_is limits d args le each small line) in
+    let fits = reply_fits limits in
+    let same = same_read (reply_at limits (bytes ++ [])) (a, []) (value (command_tree args), [])
+    (fits.again bytes [] a said.reply)
+    (fits.again bytes [] (value (command_tree args))
+    (reply_of_value limits bytes (value (command_tree args)) packed)) in
+    (are args).1 same.0

@@ -3,7 +3,7 @@ ghost use Rattle.std.specs.Prelude.{◌≡◌, IfOk, map, option_map};
 ghost use Rattle.redis_resp.specs.Reading.{traverse};
 ghost use Rattle.redis_resp.specs.Value.{tree};
 ghost use Rattle.redis_wire.specs.Reply.{answer, value};
-ghost use Rattle.redis_wire.specs.Words.{AreWordsOf, bulk_text, words_in};
+ghost use Rattle.redis_wire.specs.Words.{AreUnpacked, AreWordsOf, bulk_text, words_in};
 
 use crate::reply::Reply;
 use redis_resp::Value;
@@ -12,7 +12,11 @@ use std::alloc::{AllocError, Global};
 /// The words of a command, as `pack_args` takes them; None if the reply is no array of bulk strings.
 /// The bytes of the words are moved. It fails only if memory runs out.
 pub fn command_words(alloc: Global, command: Reply) -> Result<Option<Vec<Vec<u8>>>, AllocError>
-    ensures { IfOk result (λ words. AreWordsOf (answer command)
+    // They are the words of just the command that the reply is, and None if it is no command.
+    ensures words { IfOk result (λ words. AreWordsOf (answer command)
+        (option_map (λ v. map (λ word. word.items) v.items) words)) }
+    // Of a reply that was decoded of the bytes that `pack_args` makes of words, they are those words.
+    ensures packed { IfOk result (λ words. AreUnpacked (answer command)
         (option_map (λ v. map (λ word. word.items) v.items) words)) }
 {
     match command {
