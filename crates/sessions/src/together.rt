@@ -16,9 +16,7 @@ ghost use Rattle.std.specs.Prelude.{◌≡◌, IfOk, IsTrue};
 ghost use Rattle.sessions.specs.Scripts.{is_together_script};
 
 use crate::{answered, number_of, parted, protocol_of, push_line, settings_for, told};
-use redis_wire::{
-    Decoded, Limits, ReplyStream, WireError, append_answer, command_words, decode,
-};
+use redis_wire::{Decoded, Limits, ReplyStream, WireError, append_answer, command_words, decode};
 use std::alloc::{AllocError, Global};
 use std::mem;
 use stream_server::{Protocol, Server, Session};
