@@ -10,7 +10,7 @@
 
 mod containers;
 mod fixed_args;
-mod law;
+mod laws;
 mod number;
 mod raw_bytes;
 mod text;
@@ -19,7 +19,7 @@ mod tuple;
 mod writer;
 
 pub use fixed_args::FixedArgs;
-pub use law::{
+pub use laws::{
     copied_write_error, equal_bytes, equal_write_errors, unique_decimal, write_with_room,
 };
 pub use raw_bytes::RawBytes;

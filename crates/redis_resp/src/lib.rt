@@ -22,5 +22,5 @@ pub use value::{
     Contents, FromRedisValue, PairList, PairsLeft, ParsingError, Source, Value, count_left,
     equal_parsing_errors, field_of, from_redis_value, from_redis_value_ref, hash_map_of,
     index_map_of, into_four, into_pairs, into_three, into_two, is_fields, is_nil, is_text,
-    is_usize, next_left, read_pairs,
+    is_usize, next_left, read_pairs, signed_in, unsigned_in,
 };

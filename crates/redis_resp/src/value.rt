@@ -12,7 +12,7 @@ mod equality;
 mod error;
 mod field;
 mod from_value;
-mod law;
+mod laws;
 mod list;
 mod members;
 mod number;
@@ -24,22 +24,20 @@ mod readable;
 mod source;
 mod table;
 mod text;
-mod triple;
 mod tuple;
 
 pub use contents::Contents;
 pub use error::ParsingError;
 pub use field::field_of;
 pub use from_value::{FromRedisValue, from_redis_value, from_redis_value_ref};
-pub use law::equal_parsing_errors;
-pub use members::{into_four, into_two};
-pub use number::usize_of;
+pub use laws::equal_parsing_errors;
+pub use members::{into_four, into_three, into_two};
+pub use number::{signed_in, unsigned_in, usize_of};
 pub use pair::{PairList, read_pairs};
 pub use pairs_left::{PairsLeft, count_left, into_pairs, next_left};
 pub use readable::{is_fields, is_nil, is_text, is_usize};
 pub use source::Source;
 pub use table::{hash_map_of, index_map_of};
-pub use triple::into_three;
 
 /// A value of the RESP protocol, as a server sends it.
 #[derive(Debug, Drop)]

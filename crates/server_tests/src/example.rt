@@ -1,8 +1,7 @@
 //! A worker of one's own, tried with no server and no connection: to copy from.
 mod loopback;
 
-use redis_resp::Value;
-use redis_wire::{Decoded, Limits, Reply, decode};
+use redis_wire::{Decoded, Limits, Reply, command_words, decode};
 use std::alloc::{AllocError, Global};
 use std::test::Fail;
 use stream_server::{Protocol, Server, Session, append_reply};
@@ -54,21 +53,6 @@ fn reply_of(alloc: Global, bytes: &[u8]) -> Result<Reply, Fail> {
     }
 }
 
-/// The words of a command, and none if it is no command.
-fn words_of(alloc: Global, command: Reply) -> Result<Vec<Vec<u8>>, AllocError> {
-    let mut words = Vec::new(alloc);
-    let Reply::Value(Value::Array(values)) = command else {
-        return Ok(words);
-    };
-    for value in values {
-        let Value::BulkString(word) = value else {
-            return Ok(words);
-        };
-        words.push(word)?;
-    }
-    Ok(words)
-}
-
 /// The reply to the command of this line.
 fn told(
     alloc: Global,
@@ -99,7 +83,9 @@ fn my_worker_takes_each_entry(rt: HostRuntime) -> Result<(), Fail> {
     for now in 0..8u64 {
         let mut question = Vec::new(alloc);
         worker.request(alloc, &mut question, &mut handler)?;
-        let command = words_of(alloc, reply_of(alloc, &question)?)?;
+        let Some(command) = command_words(alloc, reply_of(alloc, &question)?)? else {
+            return Err("no command".into());
+        };
         let reply = server.step(alloc, now, &mut session, command)?;
         let mut answer = Vec::new(alloc);
         append_reply(alloc, &mut answer, session.protocol, &reply)?;

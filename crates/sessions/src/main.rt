@@ -26,8 +26,7 @@ mod together;
 mod worker;
 
 use crate::worker::{connection, letters, poison, streams};
-use redis_resp::Value;
-use redis_wire::{Decoded, Limits, Reply, WireError, decode};
+use redis_wire::{Decoded, Limits, Reply, WireError, command_words, decode};
 use std::alloc::{AllocError, Global};
 use std::io;
 use std::io::{Read, Write};
@@ -192,24 +191,12 @@ fn text_of(alloc: Global, bytes: &[u8]) -> Result<String, AllocError> {
     Ok(text)
 }
 
-/// The words of a command, and none if it is no command.
-fn words_of(alloc: Global, command: Reply) -> Result<Vec<Vec<u8>>, AllocError> {
-    let mut words = Vec::new(alloc);
-    let Reply::Value(Value::Array(values)) = command else {
-        return Ok(words);
-    };
-    for value in values {
-        let Value::BulkString(word) = value else {
-            return Ok(words);
-        };
-        words.push(word)?;
-    }
-    Ok(words)
-}
-
-/// Appends the words of a command, with a blank before each but the first.
+/// Appends the words of a command, with a blank before each but the first; nothing if it is none.
 fn push_command(alloc: Global, out: &mut String, command: Reply) -> Result<(), AllocError> {
-    for (index, word) in words_of(alloc, command)?.iter().enumerate() {
+    let Some(words) = command_words(alloc, command)? else {
+        return Ok(());
+    };
+    for (index, word) in words.iter().enumerate() {
         if index > 0 {
             out.push(' ')?;
         }

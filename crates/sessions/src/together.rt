@@ -15,8 +15,8 @@
 ghost use Rattle.std.specs.Prelude.{◌≡◌, IfOk, IsTrue};
 ghost use Rattle.sessions.specs.Scripts.{is_together_script};
 
-use crate::{answered, number_of, parted, protocol_of, push_line, settings_for, told, words_of};
-use redis_wire::{Decoded, Limits, ReplyStream, WireError, append_answer, decode};
+use crate::{answered, number_of, parted, protocol_of, push_line, settings_for, told};
+use redis_wire::{Decoded, Limits, ReplyStream, WireError, append_answer, command_words, decode};
 use std::alloc::{AllocError, Global};
 use std::mem;
 use stream_server::{Protocol, Server, Session};
@@ -557,7 +557,9 @@ fn answer_of(alloc: Global, server: &mut Server, now: u64, line: &mut Line) -> O
     let Ok(Some(command)) = line.commands.next(alloc) else {
         return None;
     };
-    let words = words_of(alloc, command).ok()?;
+    let Ok(Some(words)) = command_words(alloc, command) else {
+        return None;
+    };
     let bytes = answered(alloc, server, now, &mut line.session, words).ok()?;
     passed_on(alloc, line.session.protocol, &bytes)
 }

@@ -1,9 +1,9 @@
 //! Values of fields that are read as text or as numbers.
-ghost use Rattle.std.specs.Prelude.{◌≡◌, Ok, Err, option_map, option_and_then, MatchResult};
-ghost use Rattle.redis_resp.specs.Number.{unsigned_of, signed_of, within, signed_within};
+ghost use Rattle.std.specs.Prelude.{◌≡◌, Ok, Err, option_map, MatchResult};
 ghost use Rattle.stream_refs.specs.FieldValue.{text_value, unsigned_value, signed_value};
 
 use crate::rows::is_text;
+use redis_resp::{signed_in, unsigned_in};
 use thiserror::Error;
 
 /// Why a field has no value of the type asked for.
@@ -18,26 +18,6 @@ pub enum FieldError {
     /// The value is no number, or none that fits the type.
     #[error("the value is no number of that type")]
     NotNumber,
-}
-
-/// The number that a text writes with digits behind one `+` or none, where it fits 64 bits.
-pub fn unsigned_in(text: &[u8]) -> Option<u64>
-    ensures { result ≡ option_and_then (within 64) (unsigned_of text.now) }
-{
-    let Ok(text) = std::str::from_utf8(text) else {
-        return None;
-    };
-    text.parse().ok()
-}
-
-/// The number that a text writes with digits behind one sign or none, where it fits an `i64`.
-fn signed_in(text: &[u8]) -> Option<i64>
-    ensures { result ≡ option_and_then (signed_within 63) (signed_of text.now) }
-{
-    let Ok(text) = std::str::from_utf8(text) else {
-        return None;
-    };
-    text.parse().ok()
 }
 
 /// The value as text.

@@ -4,8 +4,8 @@ ghost use Rattle.std.specs.List.{prefix_len};
 ghost use Rattle.redis_resp.specs.Number.{unsigned_of, within};
 ghost use Rattle.stream_refs.specs.IdParts.{id_number, id_text, behind_text, is_of_part, id_in};
 
-use crate::field_value::unsigned_in;
 use itoa::Buffer;
+use redis_resp::unsigned_in;
 use std::alloc::{AllocError, Global};
 
 /// The id of an entry in its two parts, such as `1526919030474-55`. Ids are in the order in which a

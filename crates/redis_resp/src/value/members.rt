@@ -1,7 +1,7 @@
 //! The members of arrays of a fixed length.
 ghost use Rattle.std.specs.Prelude.{◌≡◌, option_map};
-ghost use Rattle.redis_resp.specs.Reading.{two_in, four_in};
-ghost use Rattle.redis_resp.specs.Source.{both, all_four};
+ghost use Rattle.redis_resp.specs.Reading.{two_in, three_in, four_in};
+ghost use Rattle.redis_resp.specs.Source.{both, all_three, all_four};
 
 use crate::value::source::Source;
 
@@ -17,6 +17,21 @@ pub fn into_two<S: Source>(v: S) -> Option<(S, S)>
     let a = S::next_value(&mut values)?;
     let b = S::next_value(&mut values)?;
     Some((a, b))
+}
+
+/// The members of an `Array` of exactly three, whatever attributes stand around it, and None for
+/// any other value. It takes no memory.
+pub fn into_three<S: Source>(v: S) -> Option<(S, S, S)>
+    ensures { option_map (all_three S.seen) result ≡ three_in (S.seen v) }
+{
+    let mut values = v.into_plain().into_array()?;
+    if S::count_values(&values) > 3 {
+        return None;
+    }
+    let a = S::next_value(&mut values)?;
+    let b = S::next_value(&mut values)?;
+    let c = S::next_value(&mut values)?;
+    Some((a, b, c))
 }
 
 /// The members of an `Array` of exactly four, whatever attributes stand around it, and None for any

@@ -12,8 +12,9 @@ use crate::value::error::ParsingError;
 use crate::value::from_value::FromRedisValue;
 use std::alloc::Global;
 
-/// The number that a text writes with digits behind one `+` or none, where it fits 64 bits.
-fn unsigned_in(text: &[u8]) -> Option<u64>
+/// The number that a text writes in digits behind one `+` or none. It is None if the text writes no
+/// such number, or one that does not fit 64 bits. It takes no memory.
+pub fn unsigned_in(text: &[u8]) -> Option<u64>
     ensures { result ≡ option_and_then (within 64) (unsigned_of text.now) }
 {
     let Ok(text) = std::str::from_utf8(text) else {
@@ -22,8 +23,9 @@ fn unsigned_in(text: &[u8]) -> Option<u64>
     text.parse().ok()
 }
 
-/// The number that a text writes with digits behind one sign or none, where it fits an `i64`.
-fn signed_in(text: &[u8]) -> Option<i64>
+/// The number that a text writes in digits behind one sign or none. It is None if the text writes no
+/// such number, or one that does not fit an `i64`. It takes no memory.
+pub fn signed_in(text: &[u8]) -> Option<i64>
     ensures { result ≡ option_and_then (signed_within 63) (signed_of text.now) }
 {
     let Ok(text) = std::str::from_utf8(text) else {

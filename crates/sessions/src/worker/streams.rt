@@ -7,9 +7,9 @@ ghost use Rattle.sessions.specs.Scripts.{is_streams_script};
 use crate::worker::{Doer, Way, told};
 use crate::{
     answered, commands_text, number_of, parted, protocol_of, push_exchange, push_line,
-    settings_for, tell_all, words_of,
+    settings_for, tell_all,
 };
-use redis_wire::{Decoded, Limits, decode};
+use redis_wire::{Decoded, Limits, command_words, decode};
 use std::alloc::{AllocError, Global};
 use stream_server::{Server, Session};
 use stream_worker::{MakeGroup, Worker};
@@ -54,10 +54,10 @@ fn workers_of(alloc: Global, keys: &str) -> Result<Vec<Worker>, AllocError> {
 /// The bytes of the reply to the command that bytes hold, and none if they hold none.
 fn answer_to(alloc: Global, peer: &mut Peer, question: &[u8]) -> Result<Vec<u8>, AllocError> {
     match decode(alloc, question, Limits::default()) {
-        Ok(Decoded::Complete { reply, len: _ }) => {
-            let words = words_of(alloc, reply)?;
-            answered(alloc, &mut peer.server, 0, &mut peer.session, words)
-        }
+        Ok(Decoded::Complete { reply, len: _ }) => match command_words(alloc, reply)? {
+            Some(words) => answered(alloc, &mut peer.server, 0, &mut peer.session, words),
+            None => Ok(Vec::new(alloc)),
+        },
         Ok(Decoded::Incomplete) => Ok(Vec::new(alloc)),
         Err(_error) => Err(AllocError),
     }
