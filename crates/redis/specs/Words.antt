@@ -74,13 +74,14 @@ pub use Rattle.redis_wire.specs.Laws.{CommandsAreValues, FewBytesHaveFewValues, 
 pub use Rattle.redis_wire.specs.Limits.{default_limits}
 pub use Rattle.redis_wire.specs.Next.{Held, IsRefused, LenIs, NextIs}
 pub use Rattle.redis_wire.specs.Nodes.{AreEnds as AreNodeEnds, AreNodes, Finds, Say}
-unfoldable pub use Rattle.redis_wire.specs.Packed.{command_bytes}
+unfoldable pub use Rattle.redis_wire.specs.Packed.{command_bytes, command_tree}
 pub use Rattle.redis_wire.specs.PackedArgs.{IsPacked, IsTooLarge, MayRefuse as MayRefusePacked}
 unfoldable pub use Rattle.redis_wire.specs.PackedArgs.{args_in}
 pub use Rattle.redis_wire.specs.Place.{IsArrayAt, IsIntAt, IsMapAt, IsNilAt, IsTextAt}
 pub use Rattle.redis_wire.specs.Record.{IsErrorOf, IsRecord}
 pub use Rattle.redis_wire.specs.Reply.{Answer, Answers, answer, code_of, first_error, group, message_of, pushed}
 pub use Rattle.redis_wire.specs.Reply.{refused, value}
+pub use Rattle.redis_wire.specs.Words.{AreUnpacked, AreWordsOf}
 pub use Rattle.redis_wire.specs.WrittenReply.{answer_bytes}
 pub use Rattle.stream_commands.specs.Fields.{AreAnyFields, AreFields, any_fields, each_joined, fields_joined}
 pub use Rattle.stream_commands.specs.Fields.{one_field, then_fields, those_set}
