@@ -1,5 +1,5 @@
 //! `XREAD` and `XREADGROUP`.
-ghost use Rattle.std.specs.Prelude.{◌≡◌, ◌≢◌, Some, None, false, IfOk, IfErr};
+ghost use Rattle.std.specs.Prelude.{◌≡◌, ◌≢◌, Some, None, false, IfOk, IfErr, IfSome};
 ghost use Rattle.std.specs.Option.{option_map};
 ghost use Rattle.stream_options.specs.Read.{default_read, ReadFits, CountAlike, read_sentence, read_words};
 ghost use Rattle.stream_options.specs.ReadBack as reading;
@@ -79,6 +79,8 @@ pub fn read_read(
 pub fn read_read_parts(args: &[Vec<u8>]) -> Result<(ReadParts<'_>, usize), SentenceError>
     ensures split { let list = arguments args.now in IfOk result (λ x.
         IsOneSplit ReadFits read_sentence read_words CountAlike list (read_of x.0) x.1) }
+    ensures noack { IfOk result (λ x. x.0.group ≡ None → x.0.noack ≡ false) }
+    ensures claim { IfOk result (λ x. x.0.group ≡ None → x.0.claim ≡ None) }
     ensures none { IfErr result (λ e.
         HasNoSplit ReadFits read_sentence read_words (arguments args.now)) }
     ensures cause { IfErr result (λ e. e ≡ SentenceError.NotASentence) }
@@ -95,8 +97,10 @@ pub fn read_read_parts(args: &[Vec<u8>]) -> Result<(ReadParts<'_>, usize), Sente
 /// The settings, and the arguments behind them.
 #[tactic(auto, using(crate::proofs::ReadLemmas::forms))]
 fn read_at(args: &[Vec<u8>]) -> Option<(ReadParts<'_>, &[Vec<u8>])>
-    ensures { option_map (λ x. (read_of x.0, arguments x.1.now)) result
+    ensures read { option_map (λ x. (read_of x.0, arguments x.1.now)) result
         ≡ reading.read_at (arguments args.now) }
+    ensures noack { IfSome result (λ x. x.0.group ≡ None → x.0.noack ≡ false) }
+    ensures claim { IfSome result (λ x. x.0.group ≡ None → x.0.claim ≡ None) }
 {
     if begins_with(&["GROUP"], args) {
         grouped_at(args)
@@ -107,8 +111,9 @@ fn read_at(args: &[Vec<u8>]) -> Option<(ReadParts<'_>, &[Vec<u8>])>
 
 /// `GROUP g c [BLOCK n] [COUNT n] [NOACK] [CLAIM n]`, and the arguments behind it.
 fn grouped_at(args: &[Vec<u8>]) -> Option<(ReadParts<'_>, &[Vec<u8>])>
-    ensures { option_map (λ x. (read_of x.0, arguments x.1.now)) result
+    ensures read { option_map (λ x. (read_of x.0, arguments x.1.now)) result
         ≡ reading.reading_as reading.grouped_with reading.grouped_at (arguments args.now) }
+    ensures grouped { IfSome result (λ x. x.0.group ≢ None) }
 {
     let (names, rest) = group_at(args)?;
     let (block, rest) = number_clause("BLOCK", rest)?;
@@ -140,8 +145,10 @@ fn group_at(args: &[Vec<u8>]) -> Option<(GroupNames<'_>, &[Vec<u8>])>
 
 /// `[BLOCK n] [COUNT n]`, and the arguments behind it.
 fn ungrouped_at(args: &[Vec<u8>]) -> Option<(ReadParts<'_>, &[Vec<u8>])>
-    ensures { option_map (λ x. (read_of x.0, arguments x.1.now)) result
+    ensures read { option_map (λ x. (read_of x.0, arguments x.1.now)) result
         ≡ reading.reading_as reading.ungrouped_with reading.ungrouped_at (arguments args.now) }
+    ensures noack { IfSome result (λ x. x.0.noack ≡ false) }
+    ensures claim { IfSome result (λ x. x.0.claim ≡ None) }
 {
     let (block, rest) = number_clause("BLOCK", args)?;
     let (count, rest) = number_clause("COUNT", rest)?;
