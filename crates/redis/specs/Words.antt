@@ -158,5 +158,8 @@ pub use Rattle.stream_refs.specs.SentReading.{sent_fields_reading, sent_row_read
 pub use Rattle.stream_refs.specs.SentRefusal.{RefusesOctetPairs, RefusesOctets, RefusesSentAutoClaim}
 pub use Rattle.stream_refs.specs.SentRefusal.{RefusesSentFields, RefusesSentRow, RefusesSentStreams}
 pub use Rattle.stream_refs.specs.Shapes.{BeginsWithAutoClaim, BeginsWithJustId, BeginsWithRange, BeginsWithStreams}
+pub use Rattle.stream_sentences.specs.Parts.{add_of as add_of_parts, autoclaim_of as autoclaim_of_parts}
+pub use Rattle.stream_sentences.specs.Parts.{claim_of as claim_of_parts, group_of as group_of_names}
+pub use Rattle.stream_sentences.specs.Parts.{read_of as read_of_parts, trim_of as trim_of_parts}
 pub use Rattle.stream_sentences.specs.Split.{HasNoSplit, IsOneSplit, IsSplit, arguments}
 pub use Rattle.stream_sentences.specs.Told.{WroteAnswer, WroteAnswerBeginning}

@@ -1,6 +1,8 @@
 //! What a server, a proxy or a log tool reads: the arguments of options back as settings, and lines
 //! of them.
 pub use stream_sentences::{
-    RunError, SentenceError, read_add, read_autoclaim, read_claim, read_config, read_nack,
-    read_read, read_trim, run,
+    AddParts, AutoClaimParts, ClaimParts, GroupNames, ReadParts, RunError, SentenceError,
+    TrimParts, add_with, autoclaim_with, claim_with, read_add, read_add_parts, read_autoclaim,
+    read_autoclaim_parts, read_claim, read_claim_parts, read_config, read_nack, read_read,
+    read_read_parts, read_trim, read_trim_parts, read_with, run, trim_with,
 };

@@ -5,6 +5,7 @@ ghost use Rattle.stream_options.specs.Add.{AddFits, add_sentence, add_words};
 ghost use Rattle.stream_options.specs.Laws.{Equal};
 ghost use Rattle.stream_options.specs.ReadBack as reading;
 ghost use Rattle.stream_options.specs.View.{strategy_of, policy_of, idempotency_of};
+ghost use Rattle.stream_sentences.specs.Parts.{add_of};
 ghost use Rattle.stream_sentences.specs.Split.{arguments, IsOneSplit, HasNoSplit, Gives};
 
 use crate::clauses::flag_clause;
@@ -17,6 +18,28 @@ use stream_options::{
     StreamAddOptions, StreamDeletionPolicy, StreamIdempotencyMode, StreamTrimStrategy,
 };
 
+/// The settings of `XADD` one by one: `[NOMKSTREAM] [policy] [idempotency] [strategy]`.
+#[derive(Debug, Drop)]
+pub struct AddParts {
+    /// Whether a stream that does not exist is not made.
+    pub nomkstream: bool,
+    /// What becomes of the references that groups hold to trimmed entries.
+    pub policy: Option<StreamDeletionPolicy>,
+    /// How a duplicate entry is recognized.
+    pub idempotency: Option<StreamIdempotencyMode>,
+    /// How the stream is trimmed.
+    pub strategy: Option<StreamTrimStrategy>,
+}
+
+/// The options of `XADD` with these settings. It takes no memory.
+pub fn add_with(parts: AddParts) -> StreamAddOptions
+    ensures { result ≡ add_of parts }
+{
+    let options = with_nomkstream(StreamAddOptions::default(), parts.nomkstream);
+    let options = with_idempotency(with_policy(options, parts.policy), parts.idempotency);
+    with_strategy(options, parts.strategy)
+}
+
 /// The options of `XADD` that the first arguments are the sentence of, and how many arguments that
 /// is: `[NOMKSTREAM] [policy] [idempotency] [strategy]`.
 ///
@@ -27,7 +50,21 @@ pub fn read_add(alloc: Global, args: &[Vec<u8>]) -> Result<(StreamAddOptions, us
     ensures none { IfErr result (λ e. e ≡ SentenceError.NotASentence
         → HasNoSplit AddFits add_sentence add_words (arguments args.now)) }
 {
-    let (options, rest) = add_at(alloc, args)?;
+    let (parts, count) = read_add_parts(alloc, args)?;
+    Ok((add_with(parts), count))
+}
+
+/// The settings of `XADD` that the first arguments are the sentence of, and how many arguments that
+/// is. `add_with` makes the options of them.
+///
+/// `NotASentence` where there are none, or where what follows begins with a fixed word.
+pub fn read_add_parts(alloc: Global, args: &[Vec<u8>]) -> Result<(AddParts, usize), SentenceError>
+    ensures split { let list = arguments args.now in IfOk result (λ x.
+        IsOneSplit AddFits add_sentence add_words Equal list (add_of x.0) x.1) }
+    ensures none { IfErr result (λ e. e ≡ SentenceError.NotASentence
+        → HasNoSplit AddFits add_sentence add_words (arguments args.now)) }
+{
+    let (parts, rest) = add_at(alloc, args)?;
     let words = [
         "NOMKSTREAM",
         "KEEPREF",
@@ -44,12 +81,12 @@ pub fn read_add(alloc: Global, args: &[Vec<u8>]) -> Result<(StreamAddOptions, us
     if begins_with(&words, rest) {
         return Err(SentenceError::NotASentence);
     }
-    Ok((options, args.len() - rest.len()))
+    Ok((parts, args.len() - rest.len()))
 }
 
-/// The options, and the arguments behind them.
-fn add_at(alloc: Global, args: &[Vec<u8>]) -> Result<(StreamAddOptions, &[Vec<u8>]), SentenceError>
-    ensures { Gives (λ x. (x.0, arguments x.1.now)) result (reading.add_at (arguments args.now)) }
+/// The settings, and the arguments behind them.
+fn add_at(alloc: Global, args: &[Vec<u8>]) -> Result<(AddParts, &[Vec<u8>]), SentenceError>
+    ensures { Gives (λ x. (add_of x.0, arguments x.1.now)) result (reading.add_at (arguments args.now)) }
 {
     let Some((nomkstream, rest)) = flag_clause("NOMKSTREAM", args) else {
         return Err(SentenceError::NotASentence);
@@ -57,9 +94,13 @@ fn add_at(alloc: Global, args: &[Vec<u8>]) -> Result<(StreamAddOptions, &[Vec<u8
     let (policy, rest) = policy_clause(rest);
     let (idempotency, rest) = idempotency_clause(alloc, rest)?;
     let (strategy, rest) = strategy_clause(alloc, rest)?;
-    let options = with_nomkstream(StreamAddOptions::default(), nomkstream);
-    let options = with_idempotency(with_policy(options, policy), idempotency);
-    Ok((with_strategy(options, strategy), rest))
+    let parts = AddParts {
+        nomkstream,
+        policy,
+        idempotency,
+        strategy,
+    };
+    Ok((parts, rest))
 }
 
 /// `[idempotency]`, and the arguments behind it.

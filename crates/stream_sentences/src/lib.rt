@@ -8,6 +8,9 @@
 //!
 //! Each reader answers the options of which the first `k` arguments are the sentence, and what
 //! follows begins with no fixed word of the type. There is never a second answer.
+//!
+//! A reader whose name ends in `_parts` answers the settings one by one, and a call like `add_with`
+//! makes the options of them.
 #![tactic(auto)]
 
 mod add;
@@ -29,13 +32,13 @@ mod strategy;
 mod trim;
 mod values;
 
-pub use add::read_add;
-pub use autoclaim::read_autoclaim;
-pub use claim::read_claim;
+pub use add::{AddParts, add_with, read_add, read_add_parts};
+pub use autoclaim::{AutoClaimParts, autoclaim_with, read_autoclaim, read_autoclaim_parts};
+pub use claim::{ClaimParts, claim_with, read_claim, read_claim_parts};
 pub use config::read_config;
 pub use error::SentenceError;
 pub use lines::run;
 pub use nack::read_nack;
-pub use read::read_read;
+pub use read::{GroupNames, ReadParts, read_read, read_read_parts, read_with};
 pub use run_error::RunError;
-pub use trim::read_trim;
+pub use trim::{TrimParts, read_trim, read_trim_parts, trim_with};

@@ -1,9 +1,10 @@
 //! `XREAD` and `XREADGROUP`.
-ghost use Rattle.std.specs.Prelude.{◌≡◌, Some, None, false, IfOk, IfErr};
+ghost use Rattle.std.specs.Prelude.{◌≡◌, ◌≢◌, Some, None, false, IfOk, IfErr, IfSome};
 ghost use Rattle.std.specs.Option.{option_map};
 ghost use Rattle.stream_options.specs.Read.{default_read, ReadFits, CountAlike, read_sentence, read_words};
 ghost use Rattle.stream_options.specs.ReadBack as reading;
-ghost use Rattle.stream_sentences.specs.Split.{arguments, IsOneSplit, HasNoSplit, Gives};
+ghost use Rattle.stream_sentences.specs.Parts.{group_of, read_of};
+ghost use Rattle.stream_sentences.specs.Split.{arguments, IsOneSplit, HasNoSplit};
 
 use crate::clauses::{flag_clause, number_clause};
 use crate::error::SentenceError;
@@ -11,6 +12,46 @@ use crate::values::begins_with;
 use redis_args::RawBytes;
 use std::alloc::Global;
 use stream_options::StreamReadOptions;
+
+/// The names of a group and of its consumer, each one argument.
+#[derive(Clone, Copy, Debug, PartialEq, Eq)]
+pub struct GroupNames<'a> {
+    /// The name of the group.
+    pub group: &'a [u8],
+    /// The name of the consumer.
+    pub consumer: &'a [u8],
+}
+
+/// The settings of `XREAD` and `XREADGROUP` one by one: `[GROUP g c] [BLOCK n] [COUNT n]`, then only
+/// where a group is set `[NOACK] [CLAIM n]`.
+#[derive(Clone, Copy, Debug, PartialEq, Eq)]
+pub struct ReadParts<'a> {
+    /// For which consumer of which group.
+    pub group: Option<GroupNames<'a>>,
+    /// The read waits so many milliseconds, and 0 without end.
+    pub block: Option<usize>,
+    /// The most entries that are read of a stream.
+    pub count: Option<usize>,
+    /// Whether what is read needs no acknowledgement.
+    pub noack: bool,
+    /// Entries that are idle for so many milliseconds are claimed and read first.
+    pub claim: Option<usize>,
+}
+
+/// The options of `XREAD` and `XREADGROUP` with these settings. Memory is asked for only where a
+/// group is set, and its refusal is the only error.
+pub fn read_with(alloc: Global, parts: ReadParts<'_>) -> Result<StreamReadOptions, SentenceError>
+    ensures ok { IfOk result (λ options. options ≡ read_of parts.entry) }
+    ensures cause { IfErr result (λ e. e ≡ SentenceError.Memory) }
+    ensures none { IfErr result (λ e. parts.entry.group ≢ None) }
+{
+    let options = match parts.group {
+        Some(names) => for_group(alloc, names.group, names.consumer)?,
+        None => StreamReadOptions::default(),
+    };
+    let options = with_count(with_block(options, parts.block), parts.count);
+    Ok(with_claim(with_noack(options, parts.noack), parts.claim))
+}
 
 /// The options of `XREAD` and `XREADGROUP` that the first arguments are the sentence of, and how
 /// many arguments that is: `[GROUP g c] [BLOCK n] [COUNT n]`, then only where a group is set
@@ -26,75 +67,99 @@ pub fn read_read(
     ensures none { IfErr result (λ e. e ≡ SentenceError.NotASentence
         → HasNoSplit ReadFits read_sentence read_words (arguments args.now)) }
 {
-    let (options, rest) = read_at(alloc, args)?;
+    let (parts, count) = read_read_parts(args)?;
+    let options = read_with(alloc, parts)?;
+    Ok((options, count))
+}
+
+/// The settings of `XREAD` and `XREADGROUP` that the first arguments are the sentence of, and how
+/// many arguments that is. `read_with` makes the options of them. It takes no memory.
+///
+/// `NotASentence` where there are none, or where what follows begins with a fixed word.
+pub fn read_read_parts(args: &[Vec<u8>]) -> Result<(ReadParts<'_>, usize), SentenceError>
+    ensures split { let list = arguments args.now in IfOk result (λ x.
+        IsOneSplit ReadFits read_sentence read_words CountAlike list (read_of x.0) x.1) }
+    ensures noack { IfOk result (λ x. x.0.group ≡ None → x.0.noack ≡ false) }
+    ensures claim { IfOk result (λ x. x.0.group ≡ None → x.0.claim ≡ None) }
+    ensures none { IfErr result (λ e.
+        HasNoSplit ReadFits read_sentence read_words (arguments args.now)) }
+    ensures cause { IfErr result (λ e. e ≡ SentenceError.NotASentence) }
+{
+    let Some((parts, rest)) = read_at(args) else {
+        return Err(SentenceError::NotASentence);
+    };
     if begins_with(&["GROUP", "BLOCK", "COUNT", "NOACK", "CLAIM"], rest) {
         return Err(SentenceError::NotASentence);
     }
-    Ok((options, args.len() - rest.len()))
+    Ok((parts, args.len() - rest.len()))
 }
 
-/// The options, and the arguments behind them.
+/// The settings, and the arguments behind them.
 #[tactic(auto, using(crate::proofs::ReadLemmas::forms))]
-fn read_at(
-    alloc: Global,
-    args: &[Vec<u8>],
-) -> Result<(StreamReadOptions, &[Vec<u8>]), SentenceError>
-    ensures { Gives (λ x. (x.0, arguments x.1.now)) result (reading.read_at (arguments args.now)) }
+fn read_at(args: &[Vec<u8>]) -> Option<(ReadParts<'_>, &[Vec<u8>])>
+    ensures read { option_map (λ x. (read_of x.0, arguments x.1.now)) result
+        ≡ reading.read_at (arguments args.now) }
+    ensures noack { IfSome result (λ x. x.0.group ≡ None → x.0.noack ≡ false) }
+    ensures claim { IfSome result (λ x. x.0.group ≡ None → x.0.claim ≡ None) }
 {
     if begins_with(&["GROUP"], args) {
-        grouped_at(alloc, args)
+        grouped_at(args)
     } else {
-        match ungrouped_at(args) {
-            Some((options, rest)) => Ok((options, rest)),
-            None => Err(SentenceError::NotASentence),
-        }
+        ungrouped_at(args)
     }
 }
 
 /// `GROUP g c [BLOCK n] [COUNT n] [NOACK] [CLAIM n]`, and the arguments behind it.
-fn grouped_at(
-    alloc: Global,
-    args: &[Vec<u8>],
-) -> Result<(StreamReadOptions, &[Vec<u8>]), SentenceError>
-    ensures { Gives (λ x. (x.0, arguments x.1.now)) result
-        (reading.reading_as reading.grouped_with reading.grouped_at (arguments args.now)) }
+fn grouped_at(args: &[Vec<u8>]) -> Option<(ReadParts<'_>, &[Vec<u8>])>
+    ensures read { option_map (λ x. (read_of x.0, arguments x.1.now)) result
+        ≡ reading.reading_as reading.grouped_with reading.grouped_at (arguments args.now) }
+    ensures grouped { IfSome result (λ x. x.0.group ≢ None) }
+{
+    let (names, rest) = group_at(args)?;
+    let (block, rest) = number_clause("BLOCK", rest)?;
+    let (count, rest) = number_clause("COUNT", rest)?;
+    let (noack, rest) = flag_clause("NOACK", rest)?;
+    let (claim, rest) = number_clause("CLAIM", rest)?;
+    let parts = ReadParts {
+        group: Some(names),
+        block,
+        count,
+        noack,
+        claim,
+    };
+    Some((parts, rest))
+}
+
+/// `GROUP g c`, and the arguments behind it.
+fn group_at(args: &[Vec<u8>]) -> Option<(GroupNames<'_>, &[Vec<u8>])>
+    ensures { option_map (λ x. (group_of x.0, arguments x.1.now)) result
+        ≡ reading.group_at (arguments args.now) }
 {
     match args {
-        [] => Err(SentenceError::NotASentence),
-        [_word] => Err(SentenceError::NotASentence),
-        [_word, _group] => Err(SentenceError::NotASentence),
-        [word, group, consumer, rest @ ..] => {
-            if word.as_slice() != b"GROUP".as_slice() {
-                return Err(SentenceError::NotASentence);
-            }
-            let Some((block, rest)) = number_clause("BLOCK", rest) else {
-                return Err(SentenceError::NotASentence);
-            };
-            let Some((count, rest)) = number_clause("COUNT", rest) else {
-                return Err(SentenceError::NotASentence);
-            };
-            let Some((noack, rest)) = flag_clause("NOACK", rest) else {
-                return Err(SentenceError::NotASentence);
-            };
-            let Some((claim, rest)) = number_clause("CLAIM", rest) else {
-                return Err(SentenceError::NotASentence);
-            };
-            let options = for_group(alloc, group, consumer)?;
-            let options = with_count(with_block(options, block), count);
-            Ok((with_claim(with_noack(options, noack), claim), rest))
+        [word, group, consumer, rest @ ..] if word.as_slice() == b"GROUP".as_slice() => {
+            Some((GroupNames { group, consumer }, rest))
         }
+        _ => None,
     }
 }
 
 /// `[BLOCK n] [COUNT n]`, and the arguments behind it.
-fn ungrouped_at(args: &[Vec<u8>]) -> Option<(StreamReadOptions, &[Vec<u8>])>
-    ensures { option_map (λ x. (x.0, arguments x.1.now)) result
+fn ungrouped_at(args: &[Vec<u8>]) -> Option<(ReadParts<'_>, &[Vec<u8>])>
+    ensures read { option_map (λ x. (read_of x.0, arguments x.1.now)) result
         ≡ reading.reading_as reading.ungrouped_with reading.ungrouped_at (arguments args.now) }
+    ensures noack { IfSome result (λ x. x.0.noack ≡ false) }
+    ensures claim { IfSome result (λ x. x.0.claim ≡ None) }
 {
     let (block, rest) = number_clause("BLOCK", args)?;
     let (count, rest) = number_clause("COUNT", rest)?;
-    let options = with_count(with_block(StreamReadOptions::default(), block), count);
-    Some((options, rest))
+    let parts = ReadParts {
+        group: None,
+        block,
+        count,
+        noack: false,
+        claim: None,
+    };
+    Some((parts, rest))
 }
 
 /// Options with these names alone.
