@@ -16,10 +16,10 @@ ghost use Rattle.stream_refs.specs.Sent.{AreNamed, all_fields};
 ghost use Rattle.stream_refs.specs.Copied.{NotOwned};
 ghost use Rattle.stream_refs.specs.AddedIds.{deleted_count, IsClaimHead, DeletedAdded};
 
+use crate::depth::{CLAIM_DEPTH, IDS_DEPTH};
 use crate::entry_list::{EntriesRef, entries_at};
 use crate::ids::{IdsRef, add_ids, ids_at};
-use crate::places::{AutoClaimPlace, EntryPlace, FieldPlace};
-use crate::room::Places;
+use crate::places::{AutoClaimPlace, EntryPlace, FieldPlace, Places};
 use crate::rows::{add_entries, name_at, text_in};
 use redis_resp::ParsingError;
 use redis_wire::Limits;
@@ -164,10 +164,7 @@ fn add_deleted<P: Places>(
     let Some((count, behind)) = array_at(limits, bytes, at) else {
         return Ok(None);
     };
-    match add_ids(limits, bytes, behind, count, places)? {
-        None => Ok(None),
-        Some(after) => Ok(Some(after)),
-    }
+    add_ids(limits, bytes, behind, count, places)
 }
 
 /// Holds the places of the entries that XAUTOCLAIM claimed, and behind them those of the deleted ids,
@@ -192,7 +189,7 @@ pub fn find_autoclaim<P: Places>(
     ensures kept { P.lent places.new ≡ P.lent places.old }
 {
     places.clear();
-    if limits.depth < 5 {
+    if limits.depth < CLAIM_DEPTH {
         return Ok(None);
     }
     let Some(head) = claim_head(limits, bytes) else {
@@ -228,7 +225,7 @@ pub fn find_justid<P: Places>(
     ensures kept { P.lent places.new ≡ P.lent places.old }
 {
     places.clear();
-    if limits.depth < 3 {
+    if limits.depth < IDS_DEPTH {
         return Ok(None);
     }
     let Some(head) = claim_head(limits, bytes) else {

@@ -7,10 +7,10 @@ ghost use Rattle.stream_refs.specs.Placed.{entry_in, stream_in};
 ghost use Rattle.stream_refs.specs.Added.{IsFilled};
 ghost use Rattle.stream_refs.specs.Range.{IsRange, IsRead};
 ghost use Rattle.stream_refs.specs.Sent.{SentEntry, SentStream, all_fields, all_entries, all_stream_fields};
-ghost use Rattle.stream_refs.specs.Shapes.{NilForm, as_array, as_map, streams_bytes, AllowsRows, AreStreamsOf};
-ghost use Rattle.stream_refs.specs.Shapes.{BeginsWithRange, BeginsWithStreams};
+ghost use Rattle.stream_refs.specs.Shapes.{as_array, as_map, BeginsAs, BeginsWithRange, BeginsWithStreams};
 
-use crate::room::Places;
+use crate::depth::{RANGE_DEPTH, STREAMS_DEPTH};
+use crate::places::Places;
 use crate::rows::add_entries;
 use crate::streams::add_streams;
 use redis_wire::Limits;
@@ -35,16 +35,13 @@ pub fn find_range<P: Places>(
     ensures kept { P.lent places.new ≡ P.lent places.old }
 {
     places.clear();
-    if limits.depth < 4 {
+    if limits.depth < RANGE_DEPTH {
         return Ok(None);
     }
     let Some((count, at)) = array_at(limits, bytes, 0) else {
         return Ok(None);
     };
-    match add_entries(limits, bytes, at, false, count, places)? {
-        None => Ok(None),
-        Some(len) => Ok(Some(len)),
-    }
+    add_entries(limits, bytes, at, false, count, places)
 }
 
 /// Holds the streams of the array at the head of bytes, where nothing is held, and returns how many
@@ -59,24 +56,18 @@ fn find_array<P: Places>(
     requires none { P.held places.old ≡ none_held }
     ensures is { IfOk result (λ o. IfSome o (λ len.
         IsFilled limits bytes.now claim len (P.held places.new))) }
-    ensures found { (form : NilForm) (ss : List SentStream) (rest : List ℕ) → AllowsRows limits
-        → AreStreamsOf limits claim ss → bytes.now ≡ streams_bytes as_array form ss ++ rest
+    ensures found { (ss : List SentStream) → BeginsAs limits as_array claim bytes.now ss
         → IfOk result (λ o. IsSome o) }
-    ensures fits { (form : NilForm) (ss : List SentStream) (rest : List ℕ) → AllowsRows limits
-        → AreStreamsOf limits claim ss → bytes.now ≡ streams_bytes as_array form ss ++ rest
+    ensures fits { (ss : List SentStream) → BeginsAs limits as_array claim bytes.now ss
         → StreamsFit (P.lent places.old) (length ss) → EntriesFit (P.lent places.old) (length (all_entries ss))
         → FieldsFit (P.lent places.old) (length (all_stream_fields ss)) → IsOk result }
-    ensures fits_map { (form : NilForm) (ss : List SentStream) (rest : List ℕ) → AllowsRows limits
-        → AreStreamsOf limits claim ss → bytes.now ≡ streams_bytes as_map form ss ++ rest → IsOk result }
+    ensures fits_map { (ss : List SentStream) → BeginsAs limits as_map claim bytes.now ss → IsOk result }
     ensures kept { P.lent places.new ≡ P.lent places.old }
 {
     let Some((count, at)) = array_at(limits, bytes, 0) else {
         return Ok(None);
     };
-    match add_streams(limits, bytes, at, false, claim, count, places)? {
-        None => Ok(None),
-        Some(len) => Ok(Some(len)),
-    }
+    add_streams(limits, bytes, at, false, claim, count, places)
 }
 
 /// Holds the streams of the map at the head of bytes, where nothing is held, and returns how many
@@ -91,11 +82,9 @@ fn find_map<P: Places>(
     requires none { P.held places.old ≡ none_held }
     ensures is { IfOk result (λ o. IfSome o (λ len.
         IsFilled limits bytes.now claim len (P.held places.new))) }
-    ensures found { (form : NilForm) (ss : List SentStream) (rest : List ℕ) → AllowsRows limits
-        → AreStreamsOf limits claim ss → bytes.now ≡ streams_bytes as_map form ss ++ rest
+    ensures found { (ss : List SentStream) → BeginsAs limits as_map claim bytes.now ss
         → IfOk result (λ o. IsSome o) }
-    ensures fits { (form : NilForm) (ss : List SentStream) (rest : List ℕ) → AllowsRows limits
-        → AreStreamsOf limits claim ss → bytes.now ≡ streams_bytes as_map form ss ++ rest
+    ensures fits { (ss : List SentStream) → BeginsAs limits as_map claim bytes.now ss
         → StreamsFit (P.lent places.old) (length ss) → EntriesFit (P.lent places.old) (length (all_entries ss))
         → FieldsFit (P.lent places.old) (length (all_stream_fields ss)) → IsOk result }
     ensures kept { P.lent places.new ≡ P.lent places.old }
@@ -103,10 +92,7 @@ fn find_map<P: Places>(
     let Some((count, at)) = map_at(limits, bytes, 0) else {
         return Ok(None);
     };
-    match add_streams(limits, bytes, at, true, claim, count, places)? {
-        None => Ok(None),
-        Some(len) => Ok(Some(len)),
-    }
+    add_streams(limits, bytes, at, true, claim, count, places)
 }
 
 /// Holds the streams of the reply at the head of bytes, and returns how many bytes it has.
@@ -134,10 +120,7 @@ pub fn find_form<P: Places>(
         return Ok(Some(len));
     }
     places.clear();
-    match find_map(limits, bytes, claim, places)? {
-        None => Ok(None),
-        Some(len) => Ok(Some(len)),
-    }
+    find_map(limits, bytes, claim, places)
 }
 
 /// Holds the places of the streams of the reply at the head of bytes, and returns how many bytes it
@@ -159,13 +142,10 @@ pub fn find_streams<P: Places>(
         → FieldsFit (P.lent places.old) (length (all_stream_fields ss)) → IsOk result }
     ensures kept { P.lent places.new ≡ P.lent places.old }
 {
-    if limits.depth < 6 {
+    if limits.depth < STREAMS_DEPTH {
         return Ok(None);
     }
-    match find_form(limits, bytes, false, places)? {
-        None => Ok(None),
-        Some(len) => Ok(Some(len)),
-    }
+    find_form(limits, bytes, false, places)
 }
 
 /// Holds the places of the streams of the reply at the head of bytes, as `find_streams` does, where each
@@ -187,13 +167,10 @@ pub fn find_claimed_streams<P: Places>(
         → FieldsFit (P.lent places.old) (length (all_stream_fields ss)) → IsOk result }
     ensures kept { P.lent places.new ≡ P.lent places.old }
 {
-    if limits.depth < 6 {
+    if limits.depth < STREAMS_DEPTH {
         return Ok(None);
     }
-    match find_form(limits, bytes, true, places)? {
-        None => Ok(None),
-        Some(len) => Ok(Some(len)),
-    }
+    find_form(limits, bytes, true, places)
 }
 
 /// Holds the streams of the reply at the head of bytes, in the standard form or else in the claim form,

@@ -10,8 +10,7 @@ ghost use Rattle.stream_refs.specs.Sent.{Pairs, SentEntry, fields_of, all_fields
 ghost use Rattle.stream_refs.specs.Shapes.{NilForm, pair_bytes, fields_bytes, delivery_bytes, entry_bytes};
 ghost use Rattle.stream_refs.specs.Shapes.{AllowsRows, IsPair, ArePairs, IsOfForm, IsEntryOf};
 
-use crate::places::{EntryPlace, FieldPlace};
-use crate::room::Places;
+use crate::places::{EntryPlace, FieldPlace, Places};
 use crate::short::{bulk_at, count_at};
 use redis_wire::Limits;
 use redis_wire::place::{Span, int_at, nil_at};

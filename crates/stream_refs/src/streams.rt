@@ -9,8 +9,7 @@ ghost use Rattle.redis_wire.specs.Place.{EndsBefore};
 ghost use Rattle.stream_refs.specs.Sent.{SentStream, all_fields, all_entries, all_stream_fields};
 ghost use Rattle.stream_refs.specs.Shapes.{NilForm, stream_head, stream_bytes, AllowsRows, IsStreamOf};
 
-use crate::places::StreamPlace;
-use crate::room::Places;
+use crate::places::{Places, StreamPlace};
 use crate::rows::{add_entries, name_at};
 use redis_wire::Limits;
 use redis_wire::place::array_at;
