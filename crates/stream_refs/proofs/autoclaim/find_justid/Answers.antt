@@ -80,8 +80,8 @@ returns-in_default-3-clause-found g c = λ r len b.
     rw c.in_default-3.is at (c.in_ok-len.ensures.found r.deleted b.rest b.allows (rw (head.0) b.deleted)
     (rw (head.0) after))
 
-pub returns-then-limits-lt3-clause-found : goal.returns-then-limits-lt3-clause-found
-returns-then-limits-lt3-clause-found g c = λ r len b. absurd (omega (arith, b.deep))
+pub returns-then-limits-lt-IDS_DEPTH-clause-found : goal.returns-then-limits-lt-IDS_DEPTH-clause-found
+returns-then-limits-lt-IDS_DEPTH-clause-found g c = λ r len b. absurd (omega (arith, b.deep))
 
 pub returns-in_err-at-clause-fits : goal.returns-in_err-at-clause-fits
 returns-in_err-at-clause-fits g c = λ r len b entries.

@@ -26,5 +26,5 @@ returns-clause-found g c = λ us len b.
     (λ n is. streams_same limits true bytes ss us n len is b) (returns-clause-is g c)
     (c.find_form.ensures.found us len b)
 
-pub returns-then-limits-lt6-clause-found : goal.returns-then-limits-lt6-clause-found
-returns-then-limits-lt6-clause-found g c = λ ss len b. absurd (omega (arith, b.deep))
+pub returns-then-limits-lt-STREAMS_DEPTH-clause-found : goal.returns-then-limits-lt-STREAMS_DEPTH-clause-found
+returns-then-limits-lt-STREAMS_DEPTH-clause-found g c = λ ss len b. absurd (omega (arith, b.deep))

@@ -43,8 +43,8 @@ returns-clause-found g c = λ es len b.
     (is_there (EndsBefore bytes b.rest) c.add_entries.result
     (c.add_entries.ensures.found b.form es b.rest b.allows b.within.each head.1 head.0))
 
-pub returns-then-limits-lt4-clause-found : goal.returns-then-limits-lt4-clause-found
-returns-then-limits-lt4-clause-found g c = λ es len b. absurd (omega (arith, b.deep))
+pub returns-then-limits-lt-RANGE_DEPTH-clause-found : goal.returns-then-limits-lt-RANGE_DEPTH-clause-found
+returns-then-limits-lt-RANGE_DEPTH-clause-found g c = λ es len b. absurd (omega (arith, b.deep))
 
 pub returns-clause-fits : goal.returns-clause-fits
 returns-clause-fits g c = λ es len b entries fields.
