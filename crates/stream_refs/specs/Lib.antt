@@ -1,3 +1,4 @@
+pub mod Forms
 pub mod Held
 pub mod Lent
 pub mod Sent

@@ -18,6 +18,7 @@ ghost use Rattle.stream_refs.specs.AddedIds.{deleted_count, IsClaimHead, Deleted
 
 use crate::depth::{CLAIM_DEPTH, IDS_DEPTH};
 use crate::entry_list::{EntriesRef, entries_at};
+use crate::form::Form;
 use crate::ids::{IdsRef, add_ids, ids_at};
 use crate::places::{AutoClaimPlace, EntryPlace, FieldPlace, Places};
 use crate::rows::{add_entries, name_at, text_in};
@@ -195,7 +196,7 @@ pub fn find_autoclaim<P: Places>(
     let Some(head) = claim_head(limits, bytes) else {
         return Ok(None);
     };
-    let Some(at) = add_entries(limits, bytes, head.at, false, head.count, places)? else {
+    let Some(at) = add_entries(limits, bytes, head.at, Form::Standard, head.count, places)? else {
         return Ok(None);
     };
     let claimed = places.count_entries();

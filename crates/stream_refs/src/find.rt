@@ -1,6 +1,7 @@
 //! Finds where the entries of a reply stand, in tables of any kind.
 ghost use Rattle.std.specs.Prelude.{◌≡◌, ◌≤◌, ◌++◌, ℕ, Bool, List, IfOk, IfSome, IsOk, IsSome, IsSomeAnd, length, map};
 ghost use Rattle.std.specs.Prelude.{true, false};
+ghost use Rattle.stream_refs.specs.Forms.{is_claim};
 ghost use Rattle.stream_refs.specs.Held.{none_held};
 ghost use Rattle.stream_refs.specs.Lent.{StreamsFit, EntriesFit, FieldsFit};
 ghost use Rattle.stream_refs.specs.Placed.{entry_in, stream_in};
@@ -10,6 +11,7 @@ ghost use Rattle.stream_refs.specs.Sent.{SentEntry, SentStream, all_fields, all_
 ghost use Rattle.stream_refs.specs.Shapes.{as_array, as_map, BeginsAs, BeginsWithRange, BeginsWithStreams};
 
 use crate::depth::{RANGE_DEPTH, STREAMS_DEPTH};
+use crate::form::{Form, Spelling};
 use crate::places::Places;
 use crate::rows::add_entries;
 use crate::streams::add_streams;
@@ -41,7 +43,7 @@ pub fn find_range<P: Places>(
     let Some((count, at)) = array_at(limits, bytes, 0) else {
         return Ok(None);
     };
-    add_entries(limits, bytes, at, false, count, places)
+    add_entries(limits, bytes, at, Form::Standard, count, places)
 }
 
 /// Holds the streams of the array at the head of bytes, where nothing is held, and returns how many
@@ -49,25 +51,25 @@ pub fn find_range<P: Places>(
 fn find_array<P: Places>(
     limits: Limits,
     bytes: &[u8],
-    claim: bool,
+    form: Form,
     places: &mut P,
 ) -> Result<Option<usize>, P::Refusal>
     requires deep { 6 ≤ limits.depth }
     requires none { P.held places.old ≡ none_held }
     ensures is { IfOk result (λ o. IfSome o (λ len.
-        IsFilled limits bytes.now claim len (P.held places.new))) }
-    ensures found { (ss : List SentStream) → BeginsAs limits as_array claim bytes.now ss
+        IsFilled limits bytes.now (is_claim form) len (P.held places.new))) }
+    ensures found { (ss : List SentStream) → BeginsAs limits as_array (is_claim form) bytes.now ss
         → IfOk result (λ o. IsSome o) }
-    ensures fits { (ss : List SentStream) → BeginsAs limits as_array claim bytes.now ss
+    ensures fits { (ss : List SentStream) → BeginsAs limits as_array (is_claim form) bytes.now ss
         → StreamsFit (P.lent places.old) (length ss) → EntriesFit (P.lent places.old) (length (all_entries ss))
         → FieldsFit (P.lent places.old) (length (all_stream_fields ss)) → IsOk result }
-    ensures fits_map { (ss : List SentStream) → BeginsAs limits as_map claim bytes.now ss → IsOk result }
+    ensures fits_map { (ss : List SentStream) → BeginsAs limits as_map (is_claim form) bytes.now ss → IsOk result }
     ensures kept { P.lent places.new ≡ P.lent places.old }
 {
     let Some((count, at)) = array_at(limits, bytes, 0) else {
         return Ok(None);
     };
-    add_streams(limits, bytes, at, false, claim, count, places)
+    add_streams(limits, bytes, at, Spelling::Array, form, count, places)
 }
 
 /// Holds the streams of the map at the head of bytes, where nothing is held, and returns how many
@@ -75,16 +77,16 @@ fn find_array<P: Places>(
 fn find_map<P: Places>(
     limits: Limits,
     bytes: &[u8],
-    claim: bool,
+    form: Form,
     places: &mut P,
 ) -> Result<Option<usize>, P::Refusal>
     requires deep { 6 ≤ limits.depth }
     requires none { P.held places.old ≡ none_held }
     ensures is { IfOk result (λ o. IfSome o (λ len.
-        IsFilled limits bytes.now claim len (P.held places.new))) }
-    ensures found { (ss : List SentStream) → BeginsAs limits as_map claim bytes.now ss
+        IsFilled limits bytes.now (is_claim form) len (P.held places.new))) }
+    ensures found { (ss : List SentStream) → BeginsAs limits as_map (is_claim form) bytes.now ss
         → IfOk result (λ o. IsSome o) }
-    ensures fits { (ss : List SentStream) → BeginsAs limits as_map claim bytes.now ss
+    ensures fits { (ss : List SentStream) → BeginsAs limits as_map (is_claim form) bytes.now ss
         → StreamsFit (P.lent places.old) (length ss) → EntriesFit (P.lent places.old) (length (all_entries ss))
         → FieldsFit (P.lent places.old) (length (all_stream_fields ss)) → IsOk result }
     ensures kept { P.lent places.new ≡ P.lent places.old }
@@ -92,22 +94,22 @@ fn find_map<P: Places>(
     let Some((count, at)) = map_at(limits, bytes, 0) else {
         return Ok(None);
     };
-    add_streams(limits, bytes, at, true, claim, count, places)
+    add_streams(limits, bytes, at, Spelling::Map, form, count, places)
 }
 
 /// Holds the streams of the reply at the head of bytes, and returns how many bytes it has.
 pub fn find_form<P: Places>(
     limits: Limits,
     bytes: &[u8],
-    claim: bool,
+    form: Form,
     places: &mut P,
 ) -> Result<Option<usize>, P::Refusal>
     requires { 6 ≤ limits.depth }
     ensures is { IfOk result (λ o. IfSome o (λ len.
-        IsFilled limits bytes.now claim len (P.held places.new))) }
-    ensures found { (ss : List SentStream) (len : ℕ) → BeginsWithStreams limits claim bytes.now ss len
+        IsFilled limits bytes.now (is_claim form) len (P.held places.new))) }
+    ensures found { (ss : List SentStream) (len : ℕ) → BeginsWithStreams limits (is_claim form) bytes.now ss len
         → IfOk result (λ o. IsSome o) }
-    ensures fits { (ss : List SentStream) (len : ℕ) → BeginsWithStreams limits claim bytes.now ss len
+    ensures fits { (ss : List SentStream) (len : ℕ) → BeginsWithStreams limits (is_claim form) bytes.now ss len
         → StreamsFit (P.lent places.old) (length ss) → EntriesFit (P.lent places.old) (length (all_entries ss))
         → FieldsFit (P.lent places.old) (length (all_stream_fields ss)) → IsOk result }
     ensures kept { P.lent places.new ≡ P.lent places.old }
@@ -116,11 +118,11 @@ pub fn find_form<P: Places>(
     if let Some(len) = nil_at(limits, bytes, 0) {
         return Ok(Some(len));
     }
-    if let Some(len) = find_array(limits, bytes, claim, places)? {
+    if let Some(len) = find_array(limits, bytes, form, places)? {
         return Ok(Some(len));
     }
     places.clear();
-    find_map(limits, bytes, claim, places)
+    find_map(limits, bytes, form, places)
 }
 
 /// Holds the places of the streams of the reply at the head of bytes, and returns how many bytes it
@@ -145,7 +147,7 @@ pub fn find_streams<P: Places>(
     if limits.depth < STREAMS_DEPTH {
         return Ok(None);
     }
-    find_form(limits, bytes, false, places)
+    find_form(limits, bytes, Form::Standard, places)
 }
 
 /// Holds the places of the streams of the reply at the head of bytes, as `find_streams` does, where each
@@ -170,28 +172,28 @@ pub fn find_claimed_streams<P: Places>(
     if limits.depth < STREAMS_DEPTH {
         return Ok(None);
     }
-    find_form(limits, bytes, true, places)
+    find_form(limits, bytes, Form::Claim, places)
 }
 
 /// Holds the streams of the reply at the head of bytes, in the standard form or else in the claim form,
-/// and returns whether it is the claim form, and how many bytes it has.
+/// and returns which of them it is, and how many bytes it has.
 pub fn find_either_form<P: Places>(
     limits: Limits,
     bytes: &[u8],
     places: &mut P,
-) -> Result<Option<(bool, usize)>, P::Refusal>
+) -> Result<Option<(Form, usize)>, P::Refusal>
     requires { 6 ≤ limits.depth }
     ensures is { IfOk result (λ o. IfSome o (λ x.
-        IsFilled limits bytes.now x.0 x.1 (P.held places.new))) }
+        IsFilled limits bytes.now (is_claim x.0) x.1 (P.held places.new))) }
     ensures found { (claim : Bool) (ss : List SentStream) (len : ℕ)
         → BeginsWithStreams limits claim bytes.now ss len → IfOk result (λ o. IsSome o) }
     ensures kept { P.lent places.new ≡ P.lent places.old }
 {
-    if let Some(len) = find_form(limits, bytes, false, places)? {
-        return Ok(Some((false, len)));
+    if let Some(len) = find_form(limits, bytes, Form::Standard, places)? {
+        return Ok(Some((Form::Standard, len)));
     }
-    match find_form(limits, bytes, true, places)? {
+    match find_form(limits, bytes, Form::Claim, places)? {
         None => Ok(None),
-        Some(len) => Ok(Some((true, len))),
+        Some(len) => Ok(Some((Form::Claim, len))),
     }
 }

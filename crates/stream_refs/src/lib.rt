@@ -10,6 +10,7 @@ mod entry_list;
 mod field_value;
 mod fields;
 mod find;
+mod form;
 mod id_parts;
 mod ids;
 mod kept;

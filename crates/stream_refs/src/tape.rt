@@ -14,6 +14,7 @@ use crate::autoclaim::{
 use crate::depth::{RANGE_DEPTH, STREAMS_DEPTH};
 use crate::entry_list::{RangeRef, entries_at};
 use crate::find::{find_either_form, find_form};
+use crate::form::Form;
 use crate::places::{EntryPlace, FieldPlace, Places, StreamPlace};
 use crate::rows::add_entries;
 use crate::stream_list::{ReadRef, streams_at};
@@ -83,7 +84,7 @@ impl EntryTape {
         let Some((count, at)) = array_at(limits, bytes, 0) else {
             return Ok(None);
         };
-        match add_entries(limits, bytes, at, false, count, self)? {
+        match add_entries(limits, bytes, at, Form::Standard, count, self)? {
             None => Ok(None),
             Some(len) => Ok(Some(RangeRef {
                 entries: entries_at(bytes, &self.entries, &self.fields),
@@ -107,7 +108,7 @@ impl EntryTape {
         if limits.depth < STREAMS_DEPTH {
             return Ok(None);
         }
-        match find_form(limits, bytes, false, self)? {
+        match find_form(limits, bytes, Form::Standard, self)? {
             None => Ok(None),
             Some(len) => Ok(Some(ReadRef {
                 streams: streams_at(bytes, &self.streams, &self.entries, &self.fields),
@@ -131,7 +132,7 @@ impl EntryTape {
         if limits.depth < STREAMS_DEPTH {
             return Ok(None);
         }
-        match find_form(limits, bytes, true, self)? {
+        match find_form(limits, bytes, Form::Claim, self)? {
             None => Ok(None),
             Some(len) => Ok(Some(ReadRef {
                 streams: streams_at(bytes, &self.streams, &self.entries, &self.fields),

@@ -3,15 +3,16 @@ use Rattle.stream_refs.proofs.ShapeStreamLemmas.{by_form}
 use Rattle.stream_refs.proofs.ReadLemmas.{nil_filled}
 use Rattle.stream_refs.specs.Lent.{StreamsFit, EntriesFit, FieldsFit}
 use Rattle.stream_refs.specs.Sent.{all_entries, all_stream_fields}
+use Rattle.stream_refs.specs.Forms.{is_claim}
 use Rattle.stream_refs.proofs.find.find_form.Goals as goal
 
 pub returns-in-Some-clause-is : goal.returns-in-Some-clause-is
-returns-in-Some-clause-is g c = nil_filled c.args.limits c.args.bytes.now c.args.claim c.requires c.in-Some.len
+returns-in-Some-clause-is g c = nil_filled c.args.limits c.args.bytes.now (is_claim c.args.form) c.requires c.in-Some.len
     (g.P.Places.held c.clear.new.self) c.clear.ensures.holds c.in-Some.ensures.is
 
 pub returns-clause-found : goal.returns-clause-found
 returns-clause-found g c = λ ss len b.
-    by_form c.args.limits c.args.claim c.args.bytes.now ss len _ c.in_default.ensures.found
+    by_form c.args.limits (is_claim c.args.form) c.args.bytes.now ss len _ c.in_default.ensures.found
     (λ a. absurd (cc (rw c.in_default-2.is at (c.in_ok-len.ensures.found ss a))))
     (λ m. c.find_map.ensures.found ss m) b
 
@@ -21,7 +22,7 @@ returns-in_err-len-clause-fits g c = λ ss len b streams entries fields.
     let stream_room : StreamsFit lent (length ss) = rw c.clear.ensures.kept streams in
     let entry_room : EntriesFit lent (length (all_entries ss)) = rw c.clear.ensures.kept entries in
     let field_room : FieldsFit lent (length (all_stream_fields ss)) = rw c.clear.ensures.kept fields in
-    absurd (by_form c.args.limits c.args.claim c.args.bytes.now ss len ⊥ c.in_default.ensures.found
+    absurd (by_form c.args.limits (is_claim c.args.form) c.args.bytes.now ss len ⊥ c.in_default.ensures.found
     (λ a. cc (c.in_err-len.ensures.fits ss a stream_room entry_room field_room))
     (λ m. cc (c.in_err-len.ensures.fits_map ss m)) b)
 
@@ -32,6 +33,6 @@ returns-clause-fits g c = λ ss len b streams entries fields.
     let stream_room : StreamsFit lent (length ss) = rw kept streams in
     let entry_room : EntriesFit lent (length (all_entries ss)) = rw kept entries in
     let field_room : FieldsFit lent (length (all_stream_fields ss)) = rw kept fields in
-    by_form c.args.limits c.args.claim c.args.bytes.now ss len _ c.in_default.ensures.found
+    by_form c.args.limits (is_claim c.args.form) c.args.bytes.now ss len _ c.in_default.ensures.found
     (λ a. absurd (cc (rw c.in_default-2.is at (c.in_ok-len.ensures.found ss a))))
     (λ m. c.find_map.ensures.fits ss m stream_room entry_room field_room) b
