@@ -21,3 +21,10 @@ pub is_there : {A E : Type 0} (P : A → Type 0) (r : Result (Option A) E) → I
 is_there P (Ok (Some x)) h = refl
 is_there P (Ok None) h = absurd h
 is_there P (Err e) h = tt
+
+-- two that hold of it give a third
+pub found_both : {A E : Type 0} (P Q R : A → Type 0) (r : Result (Option A) E) → ((x : A) → P x → Q x → R x)
+    → IfOk r (λ o. IfSome o P) → IfOk r (λ o. IfSome o Q) → IfOk r (λ o. IfSome o R)
+found_both P Q R (Ok (Some x)) f h k = f x h k
+found_both P Q R (Ok None) f h k = tt
+found_both P Q R (Err e) f h k = tt

@@ -15,13 +15,16 @@ use Rattle.redis_wire.specs.Place.{BeginsWithArray, BeginsWithMap, BeginsWithNil
 use Rattle.redis_wire.proofs.LevelLemmas.{one_level}
 use Rattle.redis_wire.proofs.PlaceLemmas.{nil_reads}
 use Rattle.stream_refs.specs.Sent.{SentEntry, SentStream, rows_tree, stream_tree, stream_pair, IsReadTree}
-use Rattle.stream_refs.specs.Added.{stream_members}
+use Rattle.stream_refs.specs.Held.{Held, none_held}
+use Rattle.stream_refs.specs.Placed.{stream_in}
+use Rattle.stream_refs.specs.Counted.{HoldSoMany}
+use Rattle.stream_refs.specs.Added.{stream_members, IsFilled}
 use Rattle.stream_refs.specs.Range.{IsRead}
 use Rattle.stream_refs.specs.Shapes.{NilForm, nil_bytes, rows_bytes, stream_head, stream_bytes, ReadForm, as_nil}
 use Rattle.stream_refs.specs.Shapes.{as_array, as_map, streams_bytes, AllowsRows, IsStreamOf, AreStreamsOf, IsToldAs}
 use Rattle.stream_refs.specs.Shapes.{BeginsAs, BeginsWithStreams}
 use Rattle.stream_refs.proofs.ManyLemmas.{no_more, many_first}
-use Rattle.stream_refs.proofs.ReadLemmas.{map_of, map_members}
+use Rattle.stream_refs.proofs.ReadLemmas.{map_of, map_members, read_is}
 use Rattle.stream_refs.proofs.BeginLemmas.{head_begins, nil_begins, no_array_is}
 use Rattle.stream_refs.proofs.ShapeLemmas.{text_reads, array_reads, rows_read, same_trees, same_rows_tree, one_reply}
 use Rattle.stream_refs.proofs.ShapeLemmas.{len_same}
@@ -247,3 +250,15 @@ streams_same limits claim bytes ss us n len r b =
       same_told b.told ss us b.told_is (subst (λ (t : Tree). IsReadTree ss t) same r.is),
       len_same bytes (streams_bytes b.told b.form us) b.rest n len r.within b.is one.1 b.len_is,
     )
+
+-- and where nothing is held, there are no places of them
+pub nil_counted : (limits : Limits) (bytes : List ℕ) (claim : Bool) (n : ℕ) (held : Held) (us : List SentStream)
+    (len : ℕ) → held ≡ none_held → IsFilled limits bytes claim n held → BeginsWithStreams limits claim bytes us len
+    → HoldSoMany held us
+nil_counted limits bytes claim n held us len none filled b =
+    let ss = map (stream_in bytes held.entries held.fields) held.streams in
+    let same : ss ≡ us =
+    (streams_same limits claim bytes ss us n len (read_is limits bytes claim n held ss filled refl) b).0 in
+    let empty : us ≡ [] =
+    sym same ∙ ap (λ (h : Held). map (stream_in bytes h.entries h.fields) h.streams) none in
+    rw (none, empty) (record { entries = refl; fields = refl })

@@ -8,6 +8,7 @@ pub mod SentMeaning
 pub mod Copied
 pub mod Range
 pub mod Placed
+pub mod Counted
 pub mod Added
 pub mod Outcome
 pub mod FieldValue

@@ -184,6 +184,8 @@ pub fn find_autoclaim<P: Places>(
     ensures found { (r : SentAutoClaim) (len : ℕ) → BeginsWithAutoClaim limits bytes.now r len
         → IfOk result (λ o. IsSomeAnd o (λ p. (autoclaim_in bytes.now (P.held places.new).entries
         (P.held places.new).fields p ≡ r) × (p.len ≡ len))) }
+    ensures counts { (r : SentAutoClaim) (len : ℕ) → BeginsWithAutoClaim limits bytes.now r len
+        → IfOk result (λ o. IfSome o (λ _. length (P.held places.new).fields ≡ length (all_fields r.claimed))) }
     ensures fits { (r : SentAutoClaim) (len : ℕ) → BeginsWithAutoClaim limits bytes.now r len
         → EntriesFit (P.lent places.old) (length r.claimed + length r.deleted)
         → FieldsFit (P.lent places.old) (length (all_fields r.claimed)) → IsOk result }
@@ -221,6 +223,7 @@ pub fn find_justid<P: Places>(
     ensures found { (r : JustId) (len : ℕ) → BeginsWithJustId limits bytes.now r len
         → IfOk result (λ o. IsSomeAnd o (λ p. (justid_in bytes.now (P.held places.new).entries p ≡ r)
         × (p.len ≡ len))) }
+    ensures counts { IfOk result (λ o. IfSome o (λ _. length (P.held places.new).fields ≡ 0)) }
     ensures fits { (r : JustId) (len : ℕ) → BeginsWithJustId limits bytes.now r len
         → EntriesFit (P.lent places.old) (length r.claimed + length r.deleted) → IsOk result }
     ensures kept { P.lent places.new ≡ P.lent places.old }

@@ -1,6 +1,7 @@
 //! Finds where the entries of a reply stand, in tables of any kind.
 ghost use Rattle.std.specs.Prelude.{◌≡◌, ◌≤◌, ◌++◌, ℕ, Bool, List, IfOk, IfSome, IsOk, IsSome, IsSomeAnd, length, map};
-ghost use Rattle.std.specs.Prelude.{true, false};
+ghost use Rattle.std.specs.Prelude.{Ok, None, true, false};
+ghost use Rattle.stream_refs.specs.Counted.{HoldSoMany};
 ghost use Rattle.stream_refs.specs.Forms.{is_claim};
 ghost use Rattle.stream_refs.specs.Held.{none_held};
 ghost use Rattle.stream_refs.specs.Lent.{StreamsFit, EntriesFit, FieldsFit};
@@ -31,6 +32,8 @@ pub fn find_range<P: Places>(
     ensures found { (es : List SentEntry) (len : ℕ) → BeginsWithRange limits bytes.now es len
         → IfOk result (λ o. IsSomeAnd o (λ n. (map (entry_in bytes.now (P.held places.new).fields)
         (P.held places.new).entries ≡ es) × (n ≡ len))) }
+    ensures counts { (es : List SentEntry) (len : ℕ) → BeginsWithRange limits bytes.now es len
+        → IfOk result (λ o. IfSome o (λ _. length (P.held places.new).fields ≡ length (all_fields es))) }
     ensures fits { (es : List SentEntry) (len : ℕ) → BeginsWithRange limits bytes.now es len
         → EntriesFit (P.lent places.old) (length es) → FieldsFit (P.lent places.old) (length (all_fields es))
         → IsOk result }
@@ -60,10 +63,12 @@ fn find_array<P: Places>(
         IsFilled limits bytes.now (is_claim form) len (P.held places.new))) }
     ensures found { (ss : List SentStream) → BeginsAs limits as_array (is_claim form) bytes.now ss
         → IfOk result (λ o. IsSome o) }
+    ensures counts { (ss : List SentStream) → BeginsAs limits as_array (is_claim form) bytes.now ss
+        → IfOk result (λ o. IfSome o (λ _. HoldSoMany (P.held places.new) ss)) }
     ensures fits { (ss : List SentStream) → BeginsAs limits as_array (is_claim form) bytes.now ss
         → StreamsFit (P.lent places.old) (length ss) → EntriesFit (P.lent places.old) (length (all_entries ss))
         → FieldsFit (P.lent places.old) (length (all_stream_fields ss)) → IsOk result }
-    ensures fits_map { (ss : List SentStream) → BeginsAs limits as_map (is_claim form) bytes.now ss → IsOk result }
+    ensures no_map { (ss : List SentStream) → BeginsAs limits as_map (is_claim form) bytes.now ss → result ≡ Ok None }
     ensures kept { P.lent places.new ≡ P.lent places.old }
 {
     let Some((count, at)) = array_at(limits, bytes, 0) else {
@@ -86,6 +91,8 @@ fn find_map<P: Places>(
         IsFilled limits bytes.now (is_claim form) len (P.held places.new))) }
     ensures found { (ss : List SentStream) → BeginsAs limits as_map (is_claim form) bytes.now ss
         → IfOk result (λ o. IsSome o) }
+    ensures counts { (ss : List SentStream) → BeginsAs limits as_map (is_claim form) bytes.now ss
+        → IfOk result (λ o. IfSome o (λ _. HoldSoMany (P.held places.new) ss)) }
     ensures fits { (ss : List SentStream) → BeginsAs limits as_map (is_claim form) bytes.now ss
         → StreamsFit (P.lent places.old) (length ss) → EntriesFit (P.lent places.old) (length (all_entries ss))
         → FieldsFit (P.lent places.old) (length (all_stream_fields ss)) → IsOk result }
@@ -109,6 +116,8 @@ pub fn find_form<P: Places>(
         IsFilled limits bytes.now (is_claim form) len (P.held places.new))) }
     ensures found { (ss : List SentStream) (len : ℕ) → BeginsWithStreams limits (is_claim form) bytes.now ss len
         → IfOk result (λ o. IsSome o) }
+    ensures counts { (ss : List SentStream) (len : ℕ) → BeginsWithStreams limits (is_claim form) bytes.now ss len
+        → IfOk result (λ o. IfSome o (λ _. HoldSoMany (P.held places.new) ss)) }
     ensures fits { (ss : List SentStream) (len : ℕ) → BeginsWithStreams limits (is_claim form) bytes.now ss len
         → StreamsFit (P.lent places.old) (length ss) → EntriesFit (P.lent places.old) (length (all_entries ss))
         → FieldsFit (P.lent places.old) (length (all_stream_fields ss)) → IsOk result }
@@ -139,6 +148,8 @@ pub fn find_streams<P: Places>(
     ensures found { (ss : List SentStream) (len : ℕ) → BeginsWithStreams limits false bytes.now ss len
         → IfOk result (λ o. IsSomeAnd o (λ n. (map (stream_in bytes.now (P.held places.new).entries
         (P.held places.new).fields) (P.held places.new).streams ≡ ss) × (n ≡ len))) }
+    ensures counts { (ss : List SentStream) (len : ℕ) → BeginsWithStreams limits false bytes.now ss len
+        → IfOk result (λ o. IfSome o (λ _. HoldSoMany (P.held places.new) ss)) }
     ensures fits { (ss : List SentStream) (len : ℕ) → BeginsWithStreams limits false bytes.now ss len
         → StreamsFit (P.lent places.old) (length ss) → EntriesFit (P.lent places.old) (length (all_entries ss))
         → FieldsFit (P.lent places.old) (length (all_stream_fields ss)) → IsOk result }
@@ -164,6 +175,8 @@ pub fn find_claimed_streams<P: Places>(
     ensures found { (ss : List SentStream) (len : ℕ) → BeginsWithStreams limits true bytes.now ss len
         → IfOk result (λ o. IsSomeAnd o (λ n. (map (stream_in bytes.now (P.held places.new).entries
         (P.held places.new).fields) (P.held places.new).streams ≡ ss) × (n ≡ len))) }
+    ensures counts { (ss : List SentStream) (len : ℕ) → BeginsWithStreams limits true bytes.now ss len
+        → IfOk result (λ o. IfSome o (λ _. HoldSoMany (P.held places.new) ss)) }
     ensures fits { (ss : List SentStream) (len : ℕ) → BeginsWithStreams limits true bytes.now ss len
         → StreamsFit (P.lent places.old) (length ss) → EntriesFit (P.lent places.old) (length (all_entries ss))
         → FieldsFit (P.lent places.old) (length (all_stream_fields ss)) → IsOk result }

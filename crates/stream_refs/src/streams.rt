@@ -1,6 +1,7 @@
 //! Finds where streams stand, with their entries.
 ghost use Rattle.std.specs.Prelude.{◌≡◌, ◌≤◌, ◌+◌, ◌++◌, ℕ, List, IfOk, IfSome, IsOk, IsSomeAnd, drop, flat_map};
 ghost use Rattle.std.specs.Prelude.{length};
+ghost use Rattle.stream_refs.specs.Counted.{HoldSoMany};
 ghost use Rattle.stream_refs.specs.Forms.{is_claim, is_map};
 ghost use Rattle.stream_refs.specs.Held.{none_held};
 ghost use Rattle.stream_refs.specs.Lent.{StreamsFit, EntriesFit, FieldsFit};
@@ -96,6 +97,10 @@ pub fn add_streams<P: Places>(
         → AllByRecursion (IsStreamOf limits (is_claim form)) ss
         → drop at bytes.now ≡ flat_map (stream_bytes (is_map spelling) nil) ss ++ rest → count ≡ length ss
         → IfOk result (λ o. IsSomeAnd o (EndsBefore bytes.now rest)) }
+    ensures counts { (nil : NilForm) (ss : List SentStream) (rest : List ℕ) → AllowsRows limits
+        → AllByRecursion (IsStreamOf limits (is_claim form)) ss
+        → drop at bytes.now ≡ flat_map (stream_bytes (is_map spelling) nil) ss ++ rest → count ≡ length ss
+        → IfOk result (λ o. IfSome o (λ _. HoldSoMany (P.held places.new) ss)) }
     ensures fits { (nil : NilForm) (ss : List SentStream) (rest : List ℕ) → AllowsRows limits
         → AllByRecursion (IsStreamOf limits (is_claim form)) ss
         → drop at bytes.now ≡ flat_map (stream_bytes (is_map spelling) nil) ss ++ rest → count ≡ length ss

@@ -119,3 +119,16 @@ returns-in_err-len-clause-fits g c = λ r len b entries.
     absurd (cc (c.in_err-len.ensures.fits r.deleted b.rest b.allows (rw (head.0) b.deleted) (rw (head.0) after)
     (fewer_entries mid_lent (length mid.entries + length r.deleted) (length r.claimed + length r.deleted)
     (omega (arith, counted, head.1, ap (λ (h : Held). length h.entries) none)) mid_room)))
+
+pub returns-clause-counts : goal.returns-clause-counts
+returns-clause-counts g c =
+    let bytes = c.args.bytes.now in
+    let mid = g.P.Places.held c.add_ids.new.places in
+    let new = g.P.Places.held c.add_deleted.new.places in
+    let head = c.in-Some.head in
+    let added : IdsAdded c.args.limits bytes head.at head.count c.in-Some-2.at none_held mid =
+    rw (c.clear.ensures.holds, c.in-Some-2.is) at c.in_ok-at.ensures.is in
+    let deleted : DeletedAdded c.args.limits bytes c.in-Some-2.at head.told c.in-Some-3.len mid new =
+    rw c.in-Some-3.is at c.in_ok-len.ensures.is in
+    ap (λ (h : Held). length h.fields) (deleted.grown.is ∙ ap (λ (h : Held).
+    record { streams = h.streams; entries = h.entries ++ deleted.grown.more; fields = h.fields }) added.grown.is)

@@ -30,13 +30,19 @@ returns-clause-found g c = λ ss b.
     is_there (EndsBefore c.args.bytes.now b.rest) c.add_streams.result
     (c.add_streams.ensures.found b.form ss b.rest b.allows b.within.each head.1 head.0)
 
+pub returns-clause-counts : goal.returns-clause-counts
+returns-clause-counts g c = λ ss b.
+    let head = c.in-Some.ensures.found (length ss) (flat_map (stream_bytes false b.form) ss ++ b.rest)
+    (array_begins c.args.limits (is_claim c.args.form) c.args.bytes.now ss b) in
+    c.add_streams.ensures.counts b.form ss b.rest b.allows b.within.each head.1 head.0
+
 pub returns-clause-fits : goal.returns-clause-fits
 returns-clause-fits g c = λ ss b streams entries fields.
     let head = c.in-Some.ensures.found (length ss) (flat_map (stream_bytes false b.form) ss ++ b.rest)
     (array_begins c.args.limits (is_claim c.args.form) c.args.bytes.now ss b) in
     c.add_streams.ensures.fits b.form ss b.rest b.allows b.within.each head.1 head.0 streams entries fields
 
-pub returns-clause-fits_map : goal.returns-clause-fits_map
-returns-clause-fits_map g c = λ ss b. absurd
+pub returns-clause-no_map : goal.returns-clause-no_map
+returns-clause-no_map g c = λ ss b. absurd
     (map_is_no_array c.args.limits (is_claim c.args.form) c.args.bytes.now ss c.in-Some.count c.in-Some.at b
     c.in-Some.ensures.is)

@@ -30,6 +30,12 @@ returns-clause-found g c = λ ss b.
     is_there (EndsBefore c.args.bytes.now b.rest) c.add_streams.result
     (c.add_streams.ensures.found b.form ss b.rest b.allows b.within.each head.1 head.0)
 
+pub returns-clause-counts : goal.returns-clause-counts
+returns-clause-counts g c = λ ss b.
+    let head = c.in-Some.ensures.found (length ss) (flat_map (stream_bytes true b.form) ss ++ b.rest)
+    (map_begins c.args.limits (is_claim c.args.form) c.args.bytes.now ss b) in
+    c.add_streams.ensures.counts b.form ss b.rest b.allows b.within.each head.1 head.0
+
 pub returns-clause-fits : goal.returns-clause-fits
 returns-clause-fits g c = λ ss b streams entries fields.
     let head = c.in-Some.ensures.found (length ss) (flat_map (stream_bytes true b.form) ss ++ b.rest)

@@ -43,6 +43,17 @@ returns-clause-found g c = λ es len b.
     (is_there (EndsBefore bytes b.rest) c.add_entries.result
     (c.add_entries.ensures.found b.form es b.rest b.allows b.within.each head.1 head.0))
 
+pub returns-clause-counts : goal.returns-clause-counts
+returns-clause-counts g c = λ es len b.
+    let old = g.P.Places.held c.clear.new.self in
+    let held = g.P.Places.held c.add_entries.new.places in
+    let head = c.in-Some.ensures.found (length es) (flat_map (entry_bytes b.form) es ++ b.rest)
+    (range_begins c.args.limits c.args.bytes.now es len b) in
+    let none : length old.fields ≡ 0 = ap (λ (h : Held). length h.fields) c.clear.ensures.holds in
+    found_then (λ _. length held.fields ≡ length old.fields + length (all_fields es))
+    (λ _. length held.fields ≡ length (all_fields es)) c.add_entries.result (λ n many. omega (arith, many, none))
+    (c.add_entries.ensures.counts_fields b.form es b.rest b.allows b.within.each head.1 head.0)
+
 pub returns-then-limits-lt-RANGE_DEPTH-clause-found : goal.returns-then-limits-lt-RANGE_DEPTH-clause-found
 returns-then-limits-lt-RANGE_DEPTH-clause-found g c = λ es len b. absurd (omega (arith, b.deep))
 

@@ -7,7 +7,7 @@ use Rattle.stream_refs.specs.Lent.{EntriesFit, FieldsFit}
 use Rattle.stream_refs.specs.Added.{StreamAdded}
 use Rattle.stream_refs.specs.Sent.{SentStream, all_fields, all_entries, all_stream_fields}
 use Rattle.stream_refs.proofs.CountLemmas.{one_more, fewer_entries, fewer_fields, counted_start, counted_more}
-use Rattle.stream_refs.proofs.CountLemmas.{counted_next, next_left}
+use Rattle.stream_refs.proofs.CountLemmas.{counted_next, counted_end, next_left}
 use Rattle.stream_refs.specs.Forms.{is_claim, is_map}
 use Rattle.stream_refs.proofs.streams.add_streams.Goals as goal
 
@@ -75,6 +75,20 @@ pub returns-clause-found : goal.returns-clause-found
 returns-clause-found g c = λ form.
     left_end (stream_bytes (is_map c.args.spelling) form) (IsStreamOf c.args.limits (is_claim c.args.form)) c.args.limits c.args.bytes.now
     c.args.at c.args.count c.loop.counter c.loop.behind (c.loop.invariant.left form) (omega arith)
+
+pub returns-clause-counts : goal.returns-clause-counts
+returns-clause-counts g c = λ form ss rest a each is n.
+    let held = g.P.Places.held c.loop.places in
+    record {
+      entries = counted_end (stream_bytes (is_map c.args.spelling) form)
+          (IsStreamOf c.args.limits (is_claim c.args.form)) (λ (s : SentStream). s.entries) c.args.limits
+          c.args.bytes.now c.args.at c.args.count 0 c.loop.counter c.loop.behind (length held.entries)
+          (c.loop.invariant.left form) (c.loop.invariant.entries form) (omega arith) ss rest a each is n;
+      fields = counted_end (stream_bytes (is_map c.args.spelling) form)
+          (IsStreamOf c.args.limits (is_claim c.args.form)) (λ (s : SentStream). all_fields s.entries) c.args.limits
+          c.args.bytes.now c.args.at c.args.count 0 c.loop.counter c.loop.behind (length held.fields)
+          (c.loop.invariant.left form) (c.loop.invariant.fields form) (omega arith) ss rest a each is n;
+    }
 
 pub returns-in_default-clause-found : goal.returns-in_default-clause-found
 returns-in_default-clause-found g c = λ form.
