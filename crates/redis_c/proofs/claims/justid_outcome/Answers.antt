@@ -3,7 +3,7 @@ use Rattle.redis_wire.specs.declared.limits.Limits.{Limits}
 use Rattle.stream_entries.specs.JustId.{JustId}
 use Rattle.stream_refs.specs.declared.places.AutoClaimPlace.{AutoClaimPlace}
 use Rattle.stream_refs.specs.Shapes.{BeginsWithJustId}
-use Rattle.redis_c.proofs.RoomLemmas.{as_many_parts, entry_room, held_fits, rows_there, some_found}
+use Rattle.redis_c.proofs.RoomLemmas.{as_many_parts, entry_room, held_fits, places_there, some_found}
 use Rattle.redis_c.proofs.claims.justid_outcome.Goals as goal
 
 pub returns-in-Err-clause-rows : goal.returns-in-Err-clause-rows
@@ -14,7 +14,7 @@ returns-in-Ok-Some-clause-rows c = λ r len b.
     let found = some_found _ c.in-Ok-Some.place _ c.in-Ok-Some.field-0-is
     (c.in-Ok-Some.ensures.found r len
     (subst (λ (l : Limits). BeginsWithJustId l c.args.bytes.now r len) (sym c.default.ensures) b)) in
-    rows_there (length c.args.entries.now) (length r.claimed + length r.deleted) len _ c.counts_of.result.entries
+    places_there (length c.args.entries.now) (length r.claimed + length r.deleted) len _ c.counts_of.result.entries
     (ap (λ (x : AutoClaimPlace). x.len) c.in-Ok-Some.place-is ∙ found.1)
     (as_many_parts _ _ _ c.in-Ok-Some.place.claimed r.claimed r.deleted c.counts_of.result.entries
     (ap (λ (x : JustId). x.claimed) found.0) (ap (λ (x : JustId). x.deleted) found.0) c.counts_of.ensures.entries)
