@@ -1,4 +1,4 @@
-use Rattle.std.proofs.Common.{rules, ◌≡◌, ◌≤◌, ◌++◌, arith, flat_map, length, ap, ◌+◌}
+use Rattle.std.proofs.Common.{rules, ◌≡◌, ◌≤◌, ◌++◌, ◌∙◌, arith, flat_map, length, ap, ◌+◌}
 use Rattle.stream_refs.specs.Held.{Held, none_held}
 use Rattle.stream_refs.specs.AddedIds.{IdsAdded, DeletedAdded}
 use Rattle.stream_refs.proofs.AutoClaimLemmas.{justid_is, justid_places}

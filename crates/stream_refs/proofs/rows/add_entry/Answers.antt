@@ -19,11 +19,11 @@ returns-clause-is g c =
     rw members at c.in-Some.ensures.is in
     let own : OwnAdded c.args.limits bytes c.in-Some-name_at.behind c.in-Some-2.deleted c.in-Some-2.behind old new =
     rw c.in-Some-2.is at c.in_ok-deleted.ensures.is in
-    entry_added c.args.limits bytes c.args.at c.in-Some.behind c.in-Some-name_at.behind c.in-Some-2.behind
+    rw c.tells_delivery.ensures (entry_added c.args.limits bytes c.args.at c.in-Some.behind c.in-Some-name_at.behind c.in-Some-2.behind
     c.in-Some-delivery_at.after (is_claim c.args.form) c.in-Some-name_at.id old new c.in-Some-2.deleted
     c.in-Some-delivery_at.elapsed c.in-Some-delivery_at.count
     c.count_fields-from.result c.count_fields.result from to row c.in-Some-name_at.ensures.is
-    c.in-Some-name_at.ensures.text own c.in-Some-delivery_at.ensures.is
+    c.in-Some-name_at.ensures.text own c.in-Some-delivery_at.ensures.is)
 
 pub returns-in_default-clause-found : goal.returns-in_default-clause-found
 returns-in_default-clause-found g c = λ form e rest a h is.

@@ -5,8 +5,8 @@ use Rattle.stream_refs.proofs.BeginLemmas.{int_begins, no_delivery_left, deliver
 use Rattle.stream_refs.specs.Forms.{is_claim}
 use Rattle.stream_refs.proofs.rows.delivery_at.Goals as goal
 
-pub returns-then-not-claim-clause-is : goal.returns-then-not-claim-clause-is
-returns-then-not-claim-clause-is c =
+pub returns-then-not-tells_delivery-clause-is : goal.returns-then-not-tells_delivery-clause-is
+returns-then-not-tells_delivery-clause-is c =
     let is : is_claim c.args.form ≡ false = search rules in
     rw is (no_delivery c.args.limits c.args.bytes.now c.args.at c.requires)
 
@@ -18,8 +18,8 @@ returns-clause-is c =
     c.in_ok-elapsed.behind c.in_ok-count.after (omega arith) (omega arith) c.in_ok-elapsed.ensures.is
     c.in_ok-count.ensures.is)
 
-pub returns-then-not-claim-clause-found : goal.returns-then-not-claim-clause-found
-returns-then-not-claim-clause-found c = λ delivery rest a form at.
+pub returns-then-not-tells_delivery-clause-found : goal.returns-then-not-tells_delivery-clause-found
+returns-then-not-tells_delivery-clause-found c = λ delivery rest a form at.
     let is : is_claim c.args.form ≡ false = search rules in
     no_delivery_left delivery rest (drop c.args.at c.args.bytes.now) (rw is at form) at
 

@@ -80,14 +80,20 @@ pub returns-clause-counts : goal.returns-clause-counts
 returns-clause-counts g c = λ form ss rest a each is n.
     let held = g.P.Places.held c.loop.places in
     record {
-      entries = counted_end (stream_bytes (is_map c.args.spelling) form)
-          (IsStreamOf c.args.limits (is_claim c.args.form)) (λ (s : SentStream). s.entries) c.args.limits
-          c.args.bytes.now c.args.at c.args.count 0 c.loop.counter c.loop.behind (length held.entries)
-          (c.loop.invariant.left form) (c.loop.invariant.entries form) (omega arith) ss rest a each is n;
-      fields = counted_end (stream_bytes (is_map c.args.spelling) form)
-          (IsStreamOf c.args.limits (is_claim c.args.form)) (λ (s : SentStream). all_fields s.entries) c.args.limits
-          c.args.bytes.now c.args.at c.args.count 0 c.loop.counter c.loop.behind (length held.fields)
-          (c.loop.invariant.left form) (c.loop.invariant.fields form) (omega arith) ss rest a each is n;
+      entries = omega (
+        arith,
+        counted_end (stream_bytes (is_map c.args.spelling) form)
+            (IsStreamOf c.args.limits (is_claim c.args.form)) (λ (s : SentStream). s.entries) c.args.limits
+            c.args.bytes.now c.args.at c.args.count 0 c.loop.counter c.loop.behind (length held.entries)
+            (c.loop.invariant.left form) (c.loop.invariant.entries form) (omega arith) ss rest a each is n,
+      );
+      fields = omega (
+        arith,
+        counted_end (stream_bytes (is_map c.args.spelling) form)
+            (IsStreamOf c.args.limits (is_claim c.args.form)) (λ (s : SentStream). all_fields s.entries) c.args.limits
+            c.args.bytes.now c.args.at c.args.count 0 c.loop.counter c.loop.behind (length held.fields)
+            (c.loop.invariant.left form) (c.loop.invariant.fields form) (omega arith) ss rest a each is n,
+      );
     }
 
 pub returns-in_default-clause-found : goal.returns-in_default-clause-found
