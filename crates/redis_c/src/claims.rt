@@ -45,6 +45,8 @@ fn justid_room(alloc: Global, bytes: &[u8], room: Counts, claim: &mut AutoClaimP
     ensures rows { (most : ℕ) (r : JustId) (len : ℕ) → BeginsWithJustId default_limits bytes.now r len
         → TellsPlaces most (length r.claimed + length r.deleted) len (code result) (found result).len
         (found result).entries }
+    ensures fields { (most : ℕ) (r : JustId) (len : ℕ) → BeginsWithJustId default_limits bytes.now r len
+        → TellsPlaces most 0 len (code result) (found result).len (found result).fields }
 {
     let mut tape = EntryTape::new(alloc);
     match find_justid(Limits::default(), bytes, &mut tape) {
@@ -104,6 +106,8 @@ fn justid_outcome(
     ensures rows { (r : JustId) (len : ℕ) → BeginsWithJustId default_limits bytes.now r len
         → TellsPlaces (length entries.old) (length r.claimed + length r.deleted) len (code result) (found result).len
         (found result).entries }
+    ensures fields { (r : JustId) (len : ℕ) → BeginsWithJustId default_limits bytes.now r len
+        → TellsPlaces 0 0 len (code result) (found result).len (found result).fields }
 {
     let mut tables = EntryTables::new(&mut [], entries, &mut []);
     match find_justid(Limits::default(), bytes, &mut tables) {
@@ -161,6 +165,8 @@ pub extern "C" fn redis_find_justid(
     ensures rows { (r : JustId) (len : ℕ) → BeginsWithJustId default_limits bytes.now r len
         → TellsPlaces (length entries.old) (length r.claimed + length r.deleted) len result found.new.len
         found.new.entries }
+    ensures fields { (r : JustId) (len : ℕ) → BeginsWithJustId default_limits bytes.now r len
+        → TellsPlaces 0 0 len result found.new.len found.new.fields }
     ensures tells { TellsFinding bytes.now result }
 {
     let room = room_of(0, entries.len(), 0);

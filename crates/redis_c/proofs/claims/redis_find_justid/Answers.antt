@@ -16,3 +16,9 @@ returns-clause-rows c = λ r len b.
     let o = c.justid_outcome in
     told_places (λ f. f.entries) o.result c.tell.result c.tell.new.beside (length c.args.entries.now)
     (length r.claimed + length r.deleted) len c.tell.ensures.number c.tell.ensures.beside (o.ensures.rows r len b)
+
+pub returns-clause-fields : goal.returns-clause-fields
+returns-clause-fields c = λ r len b.
+    let o = c.justid_outcome in
+    told_places (λ f. f.fields) o.result c.tell.result c.tell.new.beside 0 0 len c.tell.ensures.number
+    c.tell.ensures.beside (o.ensures.fields r len b)
