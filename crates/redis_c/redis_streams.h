@@ -112,8 +112,8 @@ typedef struct {
 
    The other direction holds too. REDIS_MEMORY may be returned whenever REDIS_OK is not promised.
    - If the bytes begin with such a reply as servers write it, and all tables have room for it, the call returns
-     REDIS_OK. If the table of streams has room for fewer streams than it has, the call returns REDIS_ROOM. In
-     between it returns one of these two. `found->len` and `found->streams` are those of the reply.
+     REDIS_OK. If one of the tables has room for fewer places than it has, the call returns REDIS_ROOM. In both cases
+     `found->len`, `found->streams`, `found->entries` and `found->fields` are those of the reply.
    - For each proper beginning of a reply it returns REDIS_INCOMPLETE, and for each error of the server
      REDIS_SERVER_ERROR.
    - For bytes with a fault it returns the first one. REDIS_FAULT_TOO_MANY counts only the values of a reply of
@@ -127,8 +127,7 @@ uint32_t redis_find_streams(const uint8_t *bytes, size_t len, redis_stream *stre
                             redis_found *found);
 
 /* Finds the entries of the reply of XRANGE, XREVRANGE or XCLAIM at the head of `bytes`. It returns what
-   `redis_find_streams` does: what is said there of the table of streams is said here of the table of entries.
-   With REDIS_OK `found->streams` is 0. */
+   `redis_find_streams` does, but for the streams, of which there is no table. With REDIS_OK `found->streams` is 0. */
 uint32_t redis_find_range(const uint8_t *bytes, size_t len, redis_entry *entries, size_t entry_room,
                           redis_field *fields, size_t field_room, redis_found *found);
 

@@ -2,11 +2,11 @@
 use Rattle.std.proofs.Common.{◌≡◌, ◌≤◌, ◌+◌, ◌∙◌, ℕ, List, length, take, drop, map, refl, sym, ap, arith, subst, inl, inr}
 use Rattle.std.proofs.Common.{Option, Some, None}
 use Rattle.std.proofs.lemmas.List.{length-append, length-map, length-take, take-append-drop}
-use Rattle.std.specs.Prelude.{IsSomeAnd}
+use Rattle.std.specs.Prelude.{IfSome, IsSomeAnd}
 use Rattle.stream_refs.specs.Held.{Held}
 use Rattle.stream_refs.specs.Lent.{Lent}
 use Rattle.redis_c.specs.Outcome.{code, found}
-use Rattle.redis_c.specs.Told.{HasCounts, IsRoom, IsTooMuch, IsWanting, TellsRows}
+use Rattle.redis_c.specs.Told.{HasCounts, IsRoom, IsTooMuch, IsWanting, TellsPlaces}
 use Rattle.redis_c.specs.declared.outcome.Counts.{Counts}
 use Rattle.redis_c.specs.declared.outcome.Found.{Found}
 use Rattle.redis_c.specs.declared.outcome.Outcome.{Outcome}
@@ -31,7 +31,7 @@ module _ (len : ℕ) (counts room : Counts) where
 
   -- so many entries are wanted
   pub entries_wanted : (some rows n : ℕ) (o : Outcome) → IsWanting len counts room o → len ≡ n → counts.entries ≡ rows
-      → TellsRows some rows n (code o) (found o).len (found o).entries
+      → TellsPlaces some rows n (code o) (found o).len (found o).entries
   entries_wanted some rows n (outcomes.Room l c) w same many =
       inr (inr refl, (w.0 ∙ same, ap (λ (x : Counts). x.entries) w.1 ∙ many))
   entries_wanted some rows n outcomes.Memory w same many = inl refl
@@ -43,7 +43,7 @@ module _ (len : ℕ) (counts room : Counts) where
 
   -- so many streams are wanted
   pub streams_wanted : (some rows n : ℕ) (o : Outcome) → IsWanting len counts room o → len ≡ n → counts.streams ≡ rows
-      → TellsRows some rows n (code o) (found o).len (found o).streams
+      → TellsPlaces some rows n (code o) (found o).len (found o).streams
   streams_wanted some rows n (outcomes.Room l c) w same many =
       inr (inr refl, (w.0 ∙ same, ap (λ (x : Counts). x.streams) w.1 ∙ many))
   streams_wanted some rows n outcomes.Memory w same many = inl refl
@@ -53,10 +53,22 @@ module _ (len : ℕ) (counts room : Counts) where
   streams_wanted some rows n (outcomes.OtherShape l) w same many = absurd w
   streams_wanted some rows n (outcomes.Fault f) w same many = absurd w
 
--- so many rows are in a table that has room for them
-pub rows_there : (some rows n told_len told_rows : ℕ) → told_len ≡ n → told_rows ≡ rows → told_rows ≤ some
-    → TellsRows some rows n 0 told_len told_rows
-rows_there some rows n told_len told_rows same many fits =
+  -- so many fields are wanted
+  pub fields_wanted : (some rows n : ℕ) (o : Outcome) → IsWanting len counts room o → len ≡ n → counts.fields ≡ rows
+      → TellsPlaces some rows n (code o) (found o).len (found o).fields
+  fields_wanted some rows n (outcomes.Room l c) w same many =
+      inr (inr refl, (w.0 ∙ same, ap (λ (x : Counts). x.fields) w.1 ∙ many))
+  fields_wanted some rows n outcomes.Memory w same many = inl refl
+  fields_wanted some rows n (outcomes.InPlace l c) w same many = absurd w
+  fields_wanted some rows n outcomes.Incomplete w same many = absurd w
+  fields_wanted some rows n (outcomes.ServerError l text) w same many = absurd w
+  fields_wanted some rows n (outcomes.OtherShape l) w same many = absurd w
+  fields_wanted some rows n (outcomes.Fault f) w same many = absurd w
+
+-- so many places are in a table that has room for them
+pub rows_there : (some rows n told_len told_places : ℕ) → told_len ≡ n → told_places ≡ rows → told_places ≤ some
+    → TellsPlaces some rows n 0 told_len told_places
+rows_there some rows n told_len told_places same many fits =
     inr (inl (refl, omega (arith, many, fits)), (same, many))
 
 -- as many rows as there are places
@@ -73,7 +85,7 @@ as_many_parts f g places k bs cs count first second many =
     ∙ ap (λ (n : ℕ). n + length (drop k places)) (as_many f (take k places) bs (length (take k places)) first refl)
     ∙ ap (λ (n : ℕ). length bs + n) (as_many g (drop k places) cs (length (drop k places)) second refl)
 
--- how many entries, or streams, the slices have room for
+-- how many entries, streams or fields the slices have room for
 abbrev pub entry_room : Option Lent → ℕ
 entry_room None = 0
 entry_room (Some lent) = lent.entry_room
@@ -82,17 +94,21 @@ abbrev pub stream_room : Option Lent → ℕ
 stream_room None = 0
 stream_room (Some lent) = lent.stream_room
 
+abbrev pub field_room : Option Lent → ℕ
+field_room None = 0
+field_room (Some lent) = lent.field_room
+
 -- no more are held in a table than it has room for
 pub held_fits : {A : Type 0} (k : ℕ) (table : List A) (count room : ℕ) → count ≡ length (take k table)
     → length table ≡ room → count ≤ room
 held_fits k table count room many whole = omega (arith, many, whole, length-take k table)
 
 -- C is told what the outcome tells
-pub told_rows : (of : Found → ℕ) (o : Outcome) (n : ℕ) (f : Found) (some rows len : ℕ) → n ≡ code o → f ≡ found o
-    → TellsRows some rows len (code o) (found o).len (of (found o)) → TellsRows some rows len n f.len (of f)
-told_rows of o n f some rows len number beside tells =
-    subst (λ (x : ℕ). TellsRows some rows len x f.len (of f)) (sym number)
-    (subst (λ (x : Found). TellsRows some rows len (code o) x.len (of x)) (sym beside) tells)
+pub told_places : (of : Found → ℕ) (o : Outcome) (n : ℕ) (f : Found) (some rows len : ℕ) → n ≡ code o → f ≡ found o
+    → TellsPlaces some rows len (code o) (found o).len (of (found o)) → TellsPlaces some rows len n f.len (of f)
+told_places of o n f some rows len number beside tells =
+    subst (λ (x : ℕ). TellsPlaces some rows len x f.len (of f)) (sym number)
+    (subst (λ (x : Found). TellsPlaces some rows len (code o) x.len (of x)) (sym beside) tells)
 
 -- nothing is found where something is
 pub none_found : {A : Type 0} (o : Option A) (P : A → Type 0) → o ≡ None → IsSomeAnd o P → ⊥
@@ -102,3 +118,7 @@ none_found (Some x) P is some = absurd cc
 -- what is found is this
 pub some_found : {A : Type 0} (o : Option A) (x : A) (P : A → Type 0) → o ≡ Some x → IsSomeAnd o P → P x
 some_found {A} o x P is some = subst (λ (z : Option A). IsSomeAnd z P) is some
+
+-- what holds of what is found holds of this
+pub found_so : {A : Type 0} (o : Option A) (x : A) (P : A → Type 0) → o ≡ Some x → IfSome o P → P x
+found_so {A} o x P is holds = subst (λ (z : Option A). IfSome z P) is holds

@@ -159,9 +159,9 @@ module _ (In : List ℕ → ℕ → Held → Type 0) (bytes : List ℕ) (room : 
     pub is : IsOutcome outcome
     pub held : AreHeld streams entries fields outcome
 
--- What has to be told of a reply in the form in which servers write it, of so many bytes and so many rows, if a table has
--- room for so many of them: its length and how many rows it has, with 0 only if there is room for them, and else with
--- 1; or that memory ran out.
-abbrev pub TellsRows : (room rows len n told_len told_rows : ℕ) → Type 0
-TellsRows room rows len n told_len told_rows =
-    (n ≡ 5) ⊎ ((((n ≡ 0) × (rows ≤ room)) ⊎ (n ≡ 1)) × ((told_len ≡ len) × (told_rows ≡ rows)))
+-- What has to be told of a reply in the form in which servers write it, of so many bytes and with so many places of one
+-- kind, if a table has room for so many of them: its length and how many places it has, with 0 only if there is room
+-- for them, and else with 1; or that memory ran out.
+abbrev pub TellsPlaces : (room places len n told_len told_places : ℕ) → Type 0
+TellsPlaces room places len n told_len told_places =
+    (n ≡ 5) ⊎ ((((n ≡ 0) × (places ≤ room)) ⊎ (n ≡ 1)) × ((told_len ≡ len) × (told_places ≡ places)))

@@ -2,11 +2,11 @@
 ghost use Rattle.std.specs.Prelude.{◌≡◌, ◌+◌, [], ℕ, length};
 ghost use Rattle.redis_wire.specs.Limits.{default_limits};
 ghost use Rattle.stream_entries.specs.JustId.{JustId};
-ghost use Rattle.stream_refs.specs.Sent.{SentAutoClaim};
+ghost use Rattle.stream_refs.specs.Sent.{SentAutoClaim, all_fields};
 ghost use Rattle.stream_refs.specs.Shapes.{BeginsWithAutoClaim, BeginsWithJustId};
 ghost use Rattle.redis_c.specs.Outcome.{code, found};
 ghost use Rattle.redis_c.specs.Records.{TellsFinding};
-ghost use Rattle.redis_c.specs.Told.{IsRoom, IsOutcome, IsTold, room_of, AreHeld, TellsRows};
+ghost use Rattle.redis_c.specs.Told.{IsRoom, IsOutcome, IsTold, room_of, AreHeld, TellsPlaces};
 ghost use Rattle.redis_c.specs.Claimed.{AutoClaimIn, JustIdIn, AutoClaimFits, JustIdFits};
 
 use crate::entries::{counts_of, room_of};
@@ -22,8 +22,11 @@ use stream_refs::{
 fn autoclaim_room(alloc: Global, bytes: &[u8], room: Counts, claim: &mut AutoClaimPlace) -> Outcome
     ensures is { IsRoom (AutoClaimIn claim.new) bytes.now room result }
     ensures rows { (most : ℕ) (r : SentAutoClaim) (len : ℕ) → BeginsWithAutoClaim default_limits bytes.now r len
-        → TellsRows most (length r.claimed + length r.deleted) len (code result) (found result).len
+        → TellsPlaces most (length r.claimed + length r.deleted) len (code result) (found result).len
         (found result).entries }
+    ensures fields { (most : ℕ) (r : SentAutoClaim) (len : ℕ) → BeginsWithAutoClaim default_limits bytes.now r len
+        → TellsPlaces most (length (all_fields r.claimed)) len (code result) (found result).len
+        (found result).fields }
 {
     let mut tape = EntryTape::new(alloc);
     match find_autoclaim(Limits::default(), bytes, &mut tape) {
@@ -40,8 +43,10 @@ fn autoclaim_room(alloc: Global, bytes: &[u8], room: Counts, claim: &mut AutoCla
 fn justid_room(alloc: Global, bytes: &[u8], room: Counts, claim: &mut AutoClaimPlace) -> Outcome
     ensures is { IsRoom (JustIdIn claim.new) bytes.now room result }
     ensures rows { (most : ℕ) (r : JustId) (len : ℕ) → BeginsWithJustId default_limits bytes.now r len
-        → TellsRows most (length r.claimed + length r.deleted) len (code result) (found result).len
+        → TellsPlaces most (length r.claimed + length r.deleted) len (code result) (found result).len
         (found result).entries }
+    ensures fields { (most : ℕ) (r : JustId) (len : ℕ) → BeginsWithJustId default_limits bytes.now r len
+        → TellsPlaces most 0 len (code result) (found result).len (found result).fields }
 {
     let mut tape = EntryTape::new(alloc);
     match find_justid(Limits::default(), bytes, &mut tape) {
@@ -67,8 +72,11 @@ fn autoclaim_outcome(
     ensures held { AreHeld [] entries.new fields.new result }
     ensures in_place { AutoClaimFits bytes.now (length entries.old) (length fields.old) → code result ≡ 0 }
     ensures rows { (r : SentAutoClaim) (len : ℕ) → BeginsWithAutoClaim default_limits bytes.now r len
-        → TellsRows (length entries.old) (length r.claimed + length r.deleted) len (code result) (found result).len
+        → TellsPlaces (length entries.old) (length r.claimed + length r.deleted) len (code result) (found result).len
         (found result).entries }
+    ensures fields { (r : SentAutoClaim) (len : ℕ) → BeginsWithAutoClaim default_limits bytes.now r len
+        → TellsPlaces (length fields.old) (length (all_fields r.claimed)) len (code result) (found result).len
+        (found result).fields }
 {
     let mut tables = EntryTables::new(&mut [], entries, fields);
     match find_autoclaim(Limits::default(), bytes, &mut tables) {
@@ -96,8 +104,10 @@ fn justid_outcome(
     ensures held { AreHeld [] entries.new [] result }
     ensures in_place { JustIdFits bytes.now (length entries.old) → code result ≡ 0 }
     ensures rows { (r : JustId) (len : ℕ) → BeginsWithJustId default_limits bytes.now r len
-        → TellsRows (length entries.old) (length r.claimed + length r.deleted) len (code result) (found result).len
+        → TellsPlaces (length entries.old) (length r.claimed + length r.deleted) len (code result) (found result).len
         (found result).entries }
+    ensures fields { (r : JustId) (len : ℕ) → BeginsWithJustId default_limits bytes.now r len
+        → TellsPlaces 0 0 len (code result) (found result).len (found result).fields }
 {
     let mut tables = EntryTables::new(&mut [], entries, &mut []);
     match find_justid(Limits::default(), bytes, &mut tables) {
@@ -128,8 +138,11 @@ pub extern "C" fn redis_find_autoclaim(
         [] entries.new fields.new result found.new }
     ensures in_place { AutoClaimFits bytes.now (length entries.old) (length fields.old) → result ≡ 0 }
     ensures rows { (r : SentAutoClaim) (len : ℕ) → BeginsWithAutoClaim default_limits bytes.now r len
-        → TellsRows (length entries.old) (length r.claimed + length r.deleted) len result found.new.len
+        → TellsPlaces (length entries.old) (length r.claimed + length r.deleted) len result found.new.len
         found.new.entries }
+    ensures fields { (r : SentAutoClaim) (len : ℕ) → BeginsWithAutoClaim default_limits bytes.now r len
+        → TellsPlaces (length fields.old) (length (all_fields r.claimed)) len result found.new.len
+        found.new.fields }
     ensures tells { TellsFinding bytes.now result }
 {
     let room = room_of(0, entries.len(), fields.len());
@@ -150,8 +163,10 @@ pub extern "C" fn redis_find_justid(
         [] entries.new [] result found.new }
     ensures in_place { JustIdFits bytes.now (length entries.old) → result ≡ 0 }
     ensures rows { (r : JustId) (len : ℕ) → BeginsWithJustId default_limits bytes.now r len
-        → TellsRows (length entries.old) (length r.claimed + length r.deleted) len result found.new.len
+        → TellsPlaces (length entries.old) (length r.claimed + length r.deleted) len result found.new.len
         found.new.entries }
+    ensures fields { (r : JustId) (len : ℕ) → BeginsWithJustId default_limits bytes.now r len
+        → TellsPlaces 0 0 len result found.new.len found.new.fields }
     ensures tells { TellsFinding bytes.now result }
 {
     let room = room_of(0, entries.len(), 0);

@@ -1,12 +1,12 @@
 //! Entries where they stand, in tables of the caller.
 ghost use Rattle.std.specs.Prelude.{◌≡◌, [], ℕ, List, false, length};
 ghost use Rattle.redis_wire.specs.Limits.{default_limits};
-ghost use Rattle.stream_refs.specs.Sent.{SentEntry, SentStream};
+ghost use Rattle.stream_refs.specs.Sent.{SentEntry, SentStream, all_fields, all_entries, all_stream_fields};
 ghost use Rattle.stream_refs.specs.Shapes.{BeginsWithRange, BeginsWithStreams};
 ghost use Rattle.redis_c.specs.Outcome.{code, found};
 ghost use Rattle.redis_c.specs.Records.{TellsFinding};
 ghost use Rattle.redis_c.specs.Told.{RangeIn, StreamsIn, RangeFits, ReadFits, HasCounts, IsRoom, IsOutcome, IsTold};
-ghost use Rattle.redis_c.specs.Told.{room_of, AreHeld, TellsRows};
+ghost use Rattle.redis_c.specs.Told.{room_of, AreHeld, TellsPlaces};
 
 use crate::other::other;
 use crate::outcome::{Counts, Found, Outcome, wanted};
@@ -42,7 +42,9 @@ pub fn room_of(streams: usize, entries: usize, fields: usize) -> Counts
 fn range_room(alloc: Global, bytes: &[u8], room: Counts) -> Outcome
     ensures is { IsRoom RangeIn bytes.now room result }
     ensures rows { (most : ℕ) (es : List SentEntry) (len : ℕ) → BeginsWithRange default_limits bytes.now es len
-        → TellsRows most (length es) len (code result) (found result).len (found result).entries }
+        → TellsPlaces most (length es) len (code result) (found result).len (found result).entries }
+    ensures fields { (most : ℕ) (es : List SentEntry) (len : ℕ) → BeginsWithRange default_limits bytes.now es len
+        → TellsPlaces most (length (all_fields es)) len (code result) (found result).len (found result).fields }
 {
     let mut tape = EntryTape::new(alloc);
     match find_range(Limits::default(), bytes, &mut tape) {
@@ -56,7 +58,12 @@ fn range_room(alloc: Global, bytes: &[u8], room: Counts) -> Outcome
 fn streams_room(alloc: Global, bytes: &[u8], room: Counts) -> Outcome
     ensures is { IsRoom StreamsIn bytes.now room result }
     ensures rows { (most : ℕ) (ss : List SentStream) (len : ℕ) → BeginsWithStreams default_limits false bytes.now ss len
-        → TellsRows most (length ss) len (code result) (found result).len (found result).streams }
+        → TellsPlaces most (length ss) len (code result) (found result).len (found result).streams }
+    ensures entries { (most : ℕ) (ss : List SentStream) (len : ℕ) → BeginsWithStreams default_limits false bytes.now ss len
+        → TellsPlaces most (length (all_entries ss)) len (code result) (found result).len (found result).entries }
+    ensures fields { (most : ℕ) (ss : List SentStream) (len : ℕ) → BeginsWithStreams default_limits false bytes.now ss len
+        → TellsPlaces most (length (all_stream_fields ss)) len (code result) (found result).len
+        (found result).fields }
 {
     let mut tape = EntryTape::new(alloc);
     match find_streams(Limits::default(), bytes, &mut tape) {
@@ -78,7 +85,10 @@ fn range_outcome(
     ensures held { AreHeld [] entries.new fields.new result }
     ensures in_place { RangeFits bytes.now (length entries.old) (length fields.old) → code result ≡ 0 }
     ensures rows { (es : List SentEntry) (len : ℕ) → BeginsWithRange default_limits bytes.now es len
-        → TellsRows (length entries.old) (length es) len (code result) (found result).len (found result).entries }
+        → TellsPlaces (length entries.old) (length es) len (code result) (found result).len (found result).entries }
+    ensures fields { (es : List SentEntry) (len : ℕ) → BeginsWithRange default_limits bytes.now es len
+        → TellsPlaces (length fields.old) (length (all_fields es)) len (code result) (found result).len
+        (found result).fields }
 {
     let mut tables = EntryTables::new(&mut [], entries, fields);
     match find_range(Limits::default(), bytes, &mut tables) {
@@ -108,7 +118,13 @@ fn streams_outcome(
     ensures in_place { ReadFits bytes.now (length streams.old) (length entries.old) (length fields.old)
         → code result ≡ 0 }
     ensures rows { (ss : List SentStream) (len : ℕ) → BeginsWithStreams default_limits false bytes.now ss len
-        → TellsRows (length streams.old) (length ss) len (code result) (found result).len (found result).streams }
+        → TellsPlaces (length streams.old) (length ss) len (code result) (found result).len (found result).streams }
+    ensures entries { (ss : List SentStream) (len : ℕ) → BeginsWithStreams default_limits false bytes.now ss len
+        → TellsPlaces (length entries.old) (length (all_entries ss)) len (code result) (found result).len
+        (found result).entries }
+    ensures fields { (ss : List SentStream) (len : ℕ) → BeginsWithStreams default_limits false bytes.now ss len
+        → TellsPlaces (length fields.old) (length (all_stream_fields ss)) len (code result) (found result).len
+        (found result).fields }
 {
     let mut tables = EntryTables::new(streams, entries, fields);
     match find_streams(Limits::default(), bytes, &mut tables) {
@@ -134,7 +150,9 @@ pub extern "C" fn redis_find_range(
         [] entries.new fields.new result found.new }
     ensures in_place { RangeFits bytes.now (length entries.old) (length fields.old) → result ≡ 0 }
     ensures rows { (es : List SentEntry) (len : ℕ) → BeginsWithRange default_limits bytes.now es len
-        → TellsRows (length entries.old) (length es) len result found.new.len found.new.entries }
+        → TellsPlaces (length entries.old) (length es) len result found.new.len found.new.entries }
+    ensures fields { (es : List SentEntry) (len : ℕ) → BeginsWithRange default_limits bytes.now es len
+        → TellsPlaces (length fields.old) (length (all_fields es)) len result found.new.len found.new.fields }
     ensures tells { TellsFinding bytes.now result }
 {
     let room = room_of(0, entries.len(), fields.len());
@@ -158,7 +176,12 @@ pub extern "C" fn redis_find_streams(
     ensures in_place { ReadFits bytes.now (length streams.old) (length entries.old) (length fields.old)
         → result ≡ 0 }
     ensures rows { (ss : List SentStream) (len : ℕ) → BeginsWithStreams default_limits false bytes.now ss len
-        → TellsRows (length streams.old) (length ss) len result found.new.len found.new.streams }
+        → TellsPlaces (length streams.old) (length ss) len result found.new.len found.new.streams }
+    ensures entries { (ss : List SentStream) (len : ℕ) → BeginsWithStreams default_limits false bytes.now ss len
+        → TellsPlaces (length entries.old) (length (all_entries ss)) len result found.new.len found.new.entries }
+    ensures fields { (ss : List SentStream) (len : ℕ) → BeginsWithStreams default_limits false bytes.now ss len
+        → TellsPlaces (length fields.old) (length (all_stream_fields ss)) len result found.new.len
+        found.new.fields }
     ensures tells { TellsFinding bytes.now result }
 {
     let (stream_room, entry_room, field_room) = (streams.len(), entries.len(), fields.len());

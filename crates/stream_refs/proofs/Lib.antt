@@ -17,6 +17,7 @@ pub mod AutoClaimLemmas
 pub mod BeginLemmas
 pub mod ShortLemmas
 pub mod CountLemmas
+pub mod FoundLemmas
 pub mod ShapeLemmas
 pub mod ShapeStreamLemmas
 pub mod ShapeClaimLemmas

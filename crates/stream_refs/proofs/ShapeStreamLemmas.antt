@@ -15,13 +15,16 @@ use Rattle.redis_wire.specs.Place.{BeginsWithArray, BeginsWithMap, BeginsWithNil
 use Rattle.redis_wire.proofs.LevelLemmas.{one_level}
 use Rattle.redis_wire.proofs.PlaceLemmas.{nil_reads}
 use Rattle.stream_refs.specs.Sent.{SentEntry, SentStream, rows_tree, stream_tree, stream_pair, IsReadTree}
-use Rattle.stream_refs.specs.Added.{stream_members}
+use Rattle.stream_refs.specs.Held.{Held, none_held}
+use Rattle.stream_refs.specs.Placed.{stream_in}
+use Rattle.stream_refs.specs.Counted.{HoldSoMany}
+use Rattle.stream_refs.specs.Added.{stream_members, IsFilled}
 use Rattle.stream_refs.specs.Range.{IsRead}
 use Rattle.stream_refs.specs.Shapes.{NilForm, nil_bytes, rows_bytes, stream_head, stream_bytes, ReadForm, as_nil}
 use Rattle.stream_refs.specs.Shapes.{as_array, as_map, streams_bytes, AllowsRows, IsStreamOf, AreStreamsOf, IsToldAs}
-use Rattle.stream_refs.specs.Shapes.{BeginsWithStreams}
+use Rattle.stream_refs.specs.Shapes.{BeginsAs, BeginsWithStreams}
 use Rattle.stream_refs.proofs.ManyLemmas.{no_more, many_first}
-use Rattle.stream_refs.proofs.ReadLemmas.{map_of, map_members}
+use Rattle.stream_refs.proofs.ReadLemmas.{map_of, map_members, read_is}
 use Rattle.stream_refs.proofs.BeginLemmas.{head_begins, nil_begins, no_array_is}
 use Rattle.stream_refs.proofs.ShapeLemmas.{text_reads, array_reads, rows_read, same_trees, same_rows_tree, one_reply}
 use Rattle.stream_refs.proofs.ShapeLemmas.{len_same}
@@ -68,20 +71,35 @@ unfolding streams_bytes
 map_is form ss rest left is =
     is ∙ append_assoc (count_bytes 37 (length ss)) (flat_map (stream_bytes true form) ss) rest
 
--- where neither nil, nor an array, nor a map of them was found, the bytes do not begin with them
-pub no_streams : (limits : Limits) (claim : Bool) (bytes : List ℕ) (ss : List SentStream) (len : ℕ)
-    → ((rest : List ℕ) → BeginsWithNil limits bytes rest → ⊥)
-    → ((form : NilForm) (rest : List ℕ) → AllowsRows limits → AreStreamsOf limits claim ss
-    → bytes ≡ streams_bytes as_array form ss ++ rest → ⊥)
-    → ((form : NilForm) (rest : List ℕ) → AllowsRows limits → AreStreamsOf limits claim ss
-    → bytes ≡ streams_bytes as_map form ss ++ rest → ⊥)
-    → BeginsWithStreams limits claim bytes ss len → ⊥
-no_streams limits claim bytes ss len none some pairs_of b = by b.told b.is
+-- where no nil was found, the streams of the bytes are an array or a map
+pub by_form : (limits : Limits) (claim : Bool) (bytes : List ℕ) (ss : List SentStream) (len : ℕ) (C : Type 0)
+    → ((rest : List ℕ) → BeginsWithNil limits bytes rest → ⊥) → (BeginsAs limits as_array claim bytes ss → C)
+    → (BeginsAs limits as_map claim bytes ss → C) → BeginsWithStreams limits claim bytes ss len → C
+by_form limits claim bytes ss len C none in_array in_map b = by b.told b.is
   where
-    by : (told : ReadForm) → bytes ≡ streams_bytes told b.form ss ++ b.rest → ⊥
-    by as_nil is = none b.rest (nil_begins limits b.allows bytes b.form b.rest (nil_is b.form ss b.rest bytes is))
-    by as_array is = some b.form b.rest b.allows b.within is
-    by as_map is = pairs_of b.form b.rest b.allows b.within is
+    by : (told : ReadForm) → bytes ≡ streams_bytes told b.form ss ++ b.rest → C
+    by as_nil is =
+        absurd (none b.rest (nil_begins limits b.allows bytes b.form b.rest (nil_is b.form ss b.rest bytes is)))
+    by as_array is =
+        in_array (record { form = b.form; rest = b.rest; is = is; allows = b.allows; within = b.within })
+    by as_map is =
+        in_map (record { form = b.form; rest = b.rest; is = is; allows = b.allows; within = b.within })
+
+-- an array of streams begins with its head
+pub array_begins : (limits : Limits) (claim : Bool) (bytes : List ℕ) (ss : List SentStream)
+    → (b : BeginsAs limits as_array claim bytes ss)
+    → BeginsWithArray limits bytes (length ss) (flat_map (stream_bytes false b.form) ss ++ b.rest)
+array_begins limits claim bytes ss b =
+    head_begins limits b.allows bytes 42 (length ss) (flat_map (stream_bytes false b.form) ss ++ b.rest)
+    b.within.few (array_is b.form ss b.rest bytes b.is)
+
+-- and so does a map of them
+pub map_begins : (limits : Limits) (claim : Bool) (bytes : List ℕ) (ss : List SentStream)
+    → (b : BeginsAs limits as_map claim bytes ss)
+    → BeginsWithMap limits bytes (length ss) (flat_map (stream_bytes true b.form) ss ++ b.rest)
+map_begins limits claim bytes ss b =
+    head_begins limits b.allows bytes 37 (length ss) (flat_map (stream_bytes true b.form) ss ++ b.rest)
+    b.within.few (map_is b.form ss b.rest bytes b.is)
 
 -- ---- how they are read
 
@@ -171,12 +189,11 @@ module _ (limits : Limits) (allows : AllowsRows limits) (claim : Bool) (form : N
       (flat_map (stream_members true) ss) (map stream_pair ss) rest (pairs_in_turn d ss rest h.each) (map_members ss)
 
 -- a map of streams is no array
-pub map_is_no_array : (limits : Limits) (claim : Bool) (form : NilForm) (ss : List SentStream)
-    (rest bytes : List ℕ) (count after : ℕ) → AllowsRows limits → AreStreamsOf limits claim ss
-    → bytes ≡ streams_bytes as_map form ss ++ rest → IsArrayAt limits bytes 0 count after → ⊥
-map_is_no_array limits claim form ss rest bytes count after allows h is head =
-    no_array_is limits bytes 0 count after head (read_tree as_map ss) (λ ts e. cc) 5 rest
-    (streams_read limits allows claim form 0 as_map ss rest bytes h is)
+pub map_is_no_array : (limits : Limits) (claim : Bool) (bytes : List ℕ) (ss : List SentStream) (count after : ℕ)
+    → BeginsAs limits as_map claim bytes ss → IsArrayAt limits bytes 0 count after → ⊥
+map_is_no_array limits claim bytes ss count after b head =
+    no_array_is limits bytes 0 count after head (read_tree as_map ss) (λ ts e. cc) 5 b.rest
+    (streams_read limits b.allows claim b.form 0 as_map ss b.rest bytes b.within b.is)
 
 -- ---- what the trees tell
 
@@ -233,3 +250,15 @@ streams_same limits claim bytes ss us n len r b =
       same_told b.told ss us b.told_is (subst (λ (t : Tree). IsReadTree ss t) same r.is),
       len_same bytes (streams_bytes b.told b.form us) b.rest n len r.within b.is one.1 b.len_is,
     )
+
+-- and where nothing is held, there are no places of them
+pub nil_counted : (limits : Limits) (bytes : List ℕ) (claim : Bool) (n : ℕ) (held : Held) (us : List SentStream)
+    (len : ℕ) → held ≡ none_held → IsFilled limits bytes claim n held → BeginsWithStreams limits claim bytes us len
+    → HoldSoMany held us
+nil_counted limits bytes claim n held us len none filled b =
+    let ss = map (stream_in bytes held.entries held.fields) held.streams in
+    let same : ss ≡ us =
+    (streams_same limits claim bytes ss us n len (read_is limits bytes claim n held ss filled refl) b).0 in
+    let empty : us ≡ [] =
+    sym same ∙ ap (λ (h : Held). map (stream_in bytes h.entries h.fields) h.streams) none in
+    rw (none, empty) (record { entries = refl; fields = refl })

@@ -1,3 +1,4 @@
+pub mod Forms
 pub mod Held
 pub mod Lent
 pub mod Sent
@@ -7,6 +8,7 @@ pub mod SentMeaning
 pub mod Copied
 pub mod Range
 pub mod Placed
+pub mod Counted
 pub mod Added
 pub mod Outcome
 pub mod FieldValue

@@ -153,6 +153,15 @@ pub record AreStreamsOf (limits : Limits) (claim : Bool) (ss : List SentStream) 
   pub few : length ss ≤ limits.length
   pub each : AllByRecursion (IsStreamOf limits claim) ss
 
+-- The bytes begin with these streams in that form, whose rows have the other, and the limits allow them.
+pub record BeginsAs (limits : Limits) (told : ReadForm) (claim : Bool) (bytes : List ℕ) (ss : List SentStream)
+    : Type 0 where
+  pub form : NilForm
+  pub rest : List ℕ
+  pub is : bytes ≡ streams_bytes told form ss ++ rest
+  pub allows : AllowsRows limits
+  pub within : AreStreamsOf limits claim ss
+
 -- nil says that there is none
 abbrev pub IsToldAs : ReadForm → List SentStream → Type 0
 IsToldAs as_nil ss = ss ≡ []

@@ -16,10 +16,11 @@ ghost use Rattle.stream_refs.specs.Sent.{AreNamed, all_fields};
 ghost use Rattle.stream_refs.specs.Copied.{NotOwned};
 ghost use Rattle.stream_refs.specs.AddedIds.{deleted_count, IsClaimHead, DeletedAdded};
 
+use crate::depth::{CLAIM_DEPTH, IDS_DEPTH};
 use crate::entry_list::{EntriesRef, entries_at};
+use crate::form::Form;
 use crate::ids::{IdsRef, add_ids, ids_at};
-use crate::places::{AutoClaimPlace, EntryPlace, FieldPlace};
-use crate::room::Places;
+use crate::places::{AutoClaimPlace, EntryPlace, FieldPlace, Places};
 use crate::rows::{add_entries, name_at, text_in};
 use redis_resp::ParsingError;
 use redis_wire::Limits;
@@ -164,10 +165,7 @@ fn add_deleted<P: Places>(
     let Some((count, behind)) = array_at(limits, bytes, at) else {
         return Ok(None);
     };
-    match add_ids(limits, bytes, behind, count, places)? {
-        None => Ok(None),
-        Some(after) => Ok(Some(after)),
-    }
+    add_ids(limits, bytes, behind, count, places)
 }
 
 /// Holds the places of the entries that XAUTOCLAIM claimed, and behind them those of the deleted ids,
@@ -186,19 +184,21 @@ pub fn find_autoclaim<P: Places>(
     ensures found { (r : SentAutoClaim) (len : ℕ) → BeginsWithAutoClaim limits bytes.now r len
         → IfOk result (λ o. IsSomeAnd o (λ p. (autoclaim_in bytes.now (P.held places.new).entries
         (P.held places.new).fields p ≡ r) × (p.len ≡ len))) }
+    ensures counts { (r : SentAutoClaim) (len : ℕ) → BeginsWithAutoClaim limits bytes.now r len
+        → IfOk result (λ o. IfSome o (λ _. length (P.held places.new).fields ≡ length (all_fields r.claimed))) }
     ensures fits { (r : SentAutoClaim) (len : ℕ) → BeginsWithAutoClaim limits bytes.now r len
         → EntriesFit (P.lent places.old) (length r.claimed + length r.deleted)
         → FieldsFit (P.lent places.old) (length (all_fields r.claimed)) → IsOk result }
     ensures kept { P.lent places.new ≡ P.lent places.old }
 {
     places.clear();
-    if limits.depth < 5 {
+    if limits.depth < CLAIM_DEPTH {
         return Ok(None);
     }
     let Some(head) = claim_head(limits, bytes) else {
         return Ok(None);
     };
-    let Some(at) = add_entries(limits, bytes, head.at, false, head.count, places)? else {
+    let Some(at) = add_entries(limits, bytes, head.at, Form::Standard, head.count, places)? else {
         return Ok(None);
     };
     let claimed = places.count_entries();
@@ -223,12 +223,13 @@ pub fn find_justid<P: Places>(
     ensures found { (r : JustId) (len : ℕ) → BeginsWithJustId limits bytes.now r len
         → IfOk result (λ o. IsSomeAnd o (λ p. (justid_in bytes.now (P.held places.new).entries p ≡ r)
         × (p.len ≡ len))) }
+    ensures counts { IfOk result (λ o. IfSome o (λ _. length (P.held places.new).fields ≡ 0)) }
     ensures fits { (r : JustId) (len : ℕ) → BeginsWithJustId limits bytes.now r len
         → EntriesFit (P.lent places.old) (length r.claimed + length r.deleted) → IsOk result }
     ensures kept { P.lent places.new ≡ P.lent places.old }
 {
     places.clear();
-    if limits.depth < 3 {
+    if limits.depth < IDS_DEPTH {
         return Ok(None);
     }
     let Some(head) = claim_head(limits, bytes) else {

@@ -1,16 +1,19 @@
 //! Finds where the entries of a reply stand, in tables of any kind.
 ghost use Rattle.std.specs.Prelude.{◌≡◌, ◌≤◌, ◌++◌, ℕ, Bool, List, IfOk, IfSome, IsOk, IsSome, IsSomeAnd, length, map};
-ghost use Rattle.std.specs.Prelude.{true, false};
+ghost use Rattle.std.specs.Prelude.{Ok, None, true, false};
+ghost use Rattle.stream_refs.specs.Counted.{HoldSoMany};
+ghost use Rattle.stream_refs.specs.Forms.{is_claim};
 ghost use Rattle.stream_refs.specs.Held.{none_held};
 ghost use Rattle.stream_refs.specs.Lent.{StreamsFit, EntriesFit, FieldsFit};
 ghost use Rattle.stream_refs.specs.Placed.{entry_in, stream_in};
 ghost use Rattle.stream_refs.specs.Added.{IsFilled};
 ghost use Rattle.stream_refs.specs.Range.{IsRange, IsRead};
 ghost use Rattle.stream_refs.specs.Sent.{SentEntry, SentStream, all_fields, all_entries, all_stream_fields};
-ghost use Rattle.stream_refs.specs.Shapes.{NilForm, as_array, as_map, streams_bytes, AllowsRows, AreStreamsOf};
-ghost use Rattle.stream_refs.specs.Shapes.{BeginsWithRange, BeginsWithStreams};
+ghost use Rattle.stream_refs.specs.Shapes.{as_array, as_map, BeginsAs, BeginsWithRange, BeginsWithStreams};
 
-use crate::room::Places;
+use crate::depth::{RANGE_DEPTH, STREAMS_DEPTH};
+use crate::form::{Form, Spelling};
+use crate::places::Places;
 use crate::rows::add_entries;
 use crate::streams::add_streams;
 use redis_wire::Limits;
@@ -29,22 +32,21 @@ pub fn find_range<P: Places>(
     ensures found { (es : List SentEntry) (len : ℕ) → BeginsWithRange limits bytes.now es len
         → IfOk result (λ o. IsSomeAnd o (λ n. (map (entry_in bytes.now (P.held places.new).fields)
         (P.held places.new).entries ≡ es) × (n ≡ len))) }
+    ensures counts { (es : List SentEntry) (len : ℕ) → BeginsWithRange limits bytes.now es len
+        → IfOk result (λ o. IfSome o (λ _. length (P.held places.new).fields ≡ length (all_fields es))) }
     ensures fits { (es : List SentEntry) (len : ℕ) → BeginsWithRange limits bytes.now es len
         → EntriesFit (P.lent places.old) (length es) → FieldsFit (P.lent places.old) (length (all_fields es))
         → IsOk result }
     ensures kept { P.lent places.new ≡ P.lent places.old }
 {
     places.clear();
-    if limits.depth < 4 {
+    if limits.depth < RANGE_DEPTH {
         return Ok(None);
     }
     let Some((count, at)) = array_at(limits, bytes, 0) else {
         return Ok(None);
     };
-    match add_entries(limits, bytes, at, false, count, places)? {
-        None => Ok(None),
-        Some(len) => Ok(Some(len)),
-    }
+    add_entries(limits, bytes, at, Form::Standard, count, places)
 }
 
 /// Holds the streams of the array at the head of bytes, where nothing is held, and returns how many
@@ -52,31 +54,27 @@ pub fn find_range<P: Places>(
 fn find_array<P: Places>(
     limits: Limits,
     bytes: &[u8],
-    claim: bool,
+    form: Form,
     places: &mut P,
 ) -> Result<Option<usize>, P::Refusal>
     requires deep { 6 ≤ limits.depth }
     requires none { P.held places.old ≡ none_held }
     ensures is { IfOk result (λ o. IfSome o (λ len.
-        IsFilled limits bytes.now claim len (P.held places.new))) }
-    ensures found { (form : NilForm) (ss : List SentStream) (rest : List ℕ) → AllowsRows limits
-        → AreStreamsOf limits claim ss → bytes.now ≡ streams_bytes as_array form ss ++ rest
+        IsFilled limits bytes.now (is_claim form) len (P.held places.new))) }
+    ensures found { (ss : List SentStream) → BeginsAs limits as_array (is_claim form) bytes.now ss
         → IfOk result (λ o. IsSome o) }
-    ensures fits { (form : NilForm) (ss : List SentStream) (rest : List ℕ) → AllowsRows limits
-        → AreStreamsOf limits claim ss → bytes.now ≡ streams_bytes as_array form ss ++ rest
+    ensures counts { (ss : List SentStream) → BeginsAs limits as_array (is_claim form) bytes.now ss
+        → IfOk result (λ o. IfSome o (λ _. HoldSoMany (P.held places.new) ss)) }
+    ensures fits { (ss : List SentStream) → BeginsAs limits as_array (is_claim form) bytes.now ss
         → StreamsFit (P.lent places.old) (length ss) → EntriesFit (P.lent places.old) (length (all_entries ss))
         → FieldsFit (P.lent places.old) (length (all_stream_fields ss)) → IsOk result }
-    ensures fits_map { (form : NilForm) (ss : List SentStream) (rest : List ℕ) → AllowsRows limits
-        → AreStreamsOf limits claim ss → bytes.now ≡ streams_bytes as_map form ss ++ rest → IsOk result }
+    ensures no_map { (ss : List SentStream) → BeginsAs limits as_map (is_claim form) bytes.now ss → result ≡ Ok None }
     ensures kept { P.lent places.new ≡ P.lent places.old }
 {
     let Some((count, at)) = array_at(limits, bytes, 0) else {
         return Ok(None);
     };
-    match add_streams(limits, bytes, at, false, claim, count, places)? {
-        None => Ok(None),
-        Some(len) => Ok(Some(len)),
-    }
+    add_streams(limits, bytes, at, Spelling::Array, form, count, places)
 }
 
 /// Holds the streams of the map at the head of bytes, where nothing is held, and returns how many
@@ -84,18 +82,18 @@ fn find_array<P: Places>(
 fn find_map<P: Places>(
     limits: Limits,
     bytes: &[u8],
-    claim: bool,
+    form: Form,
     places: &mut P,
 ) -> Result<Option<usize>, P::Refusal>
     requires deep { 6 ≤ limits.depth }
     requires none { P.held places.old ≡ none_held }
     ensures is { IfOk result (λ o. IfSome o (λ len.
-        IsFilled limits bytes.now claim len (P.held places.new))) }
-    ensures found { (form : NilForm) (ss : List SentStream) (rest : List ℕ) → AllowsRows limits
-        → AreStreamsOf limits claim ss → bytes.now ≡ streams_bytes as_map form ss ++ rest
+        IsFilled limits bytes.now (is_claim form) len (P.held places.new))) }
+    ensures found { (ss : List SentStream) → BeginsAs limits as_map (is_claim form) bytes.now ss
         → IfOk result (λ o. IsSome o) }
-    ensures fits { (form : NilForm) (ss : List SentStream) (rest : List ℕ) → AllowsRows limits
-        → AreStreamsOf limits claim ss → bytes.now ≡ streams_bytes as_map form ss ++ rest
+    ensures counts { (ss : List SentStream) → BeginsAs limits as_map (is_claim form) bytes.now ss
+        → IfOk result (λ o. IfSome o (λ _. HoldSoMany (P.held places.new) ss)) }
+    ensures fits { (ss : List SentStream) → BeginsAs limits as_map (is_claim form) bytes.now ss
         → StreamsFit (P.lent places.old) (length ss) → EntriesFit (P.lent places.old) (length (all_entries ss))
         → FieldsFit (P.lent places.old) (length (all_stream_fields ss)) → IsOk result }
     ensures kept { P.lent places.new ≡ P.lent places.old }
@@ -103,25 +101,24 @@ fn find_map<P: Places>(
     let Some((count, at)) = map_at(limits, bytes, 0) else {
         return Ok(None);
     };
-    match add_streams(limits, bytes, at, true, claim, count, places)? {
-        None => Ok(None),
-        Some(len) => Ok(Some(len)),
-    }
+    add_streams(limits, bytes, at, Spelling::Map, form, count, places)
 }
 
 /// Holds the streams of the reply at the head of bytes, and returns how many bytes it has.
 pub fn find_form<P: Places>(
     limits: Limits,
     bytes: &[u8],
-    claim: bool,
+    form: Form,
     places: &mut P,
 ) -> Result<Option<usize>, P::Refusal>
     requires { 6 ≤ limits.depth }
     ensures is { IfOk result (λ o. IfSome o (λ len.
-        IsFilled limits bytes.now claim len (P.held places.new))) }
-    ensures found { (ss : List SentStream) (len : ℕ) → BeginsWithStreams limits claim bytes.now ss len
+        IsFilled limits bytes.now (is_claim form) len (P.held places.new))) }
+    ensures found { (ss : List SentStream) (len : ℕ) → BeginsWithStreams limits (is_claim form) bytes.now ss len
         → IfOk result (λ o. IsSome o) }
-    ensures fits { (ss : List SentStream) (len : ℕ) → BeginsWithStreams limits claim bytes.now ss len
+    ensures counts { (ss : List SentStream) (len : ℕ) → BeginsWithStreams limits (is_claim form) bytes.now ss len
+        → IfOk result (λ o. IfSome o (λ _. HoldSoMany (P.held places.new) ss)) }
+    ensures fits { (ss : List SentStream) (len : ℕ) → BeginsWithStreams limits (is_claim form) bytes.now ss len
         → StreamsFit (P.lent places.old) (length ss) → EntriesFit (P.lent places.old) (length (all_entries ss))
         → FieldsFit (P.lent places.old) (length (all_stream_fields ss)) → IsOk result }
     ensures kept { P.lent places.new ≡ P.lent places.old }
@@ -130,14 +127,11 @@ pub fn find_form<P: Places>(
     if let Some(len) = nil_at(limits, bytes, 0) {
         return Ok(Some(len));
     }
-    if let Some(len) = find_array(limits, bytes, claim, places)? {
+    if let Some(len) = find_array(limits, bytes, form, places)? {
         return Ok(Some(len));
     }
     places.clear();
-    match find_map(limits, bytes, claim, places)? {
-        None => Ok(None),
-        Some(len) => Ok(Some(len)),
-    }
+    find_map(limits, bytes, form, places)
 }
 
 /// Holds the places of the streams of the reply at the head of bytes, and returns how many bytes it
@@ -154,18 +148,17 @@ pub fn find_streams<P: Places>(
     ensures found { (ss : List SentStream) (len : ℕ) → BeginsWithStreams limits false bytes.now ss len
         → IfOk result (λ o. IsSomeAnd o (λ n. (map (stream_in bytes.now (P.held places.new).entries
         (P.held places.new).fields) (P.held places.new).streams ≡ ss) × (n ≡ len))) }
+    ensures counts { (ss : List SentStream) (len : ℕ) → BeginsWithStreams limits false bytes.now ss len
+        → IfOk result (λ o. IfSome o (λ _. HoldSoMany (P.held places.new) ss)) }
     ensures fits { (ss : List SentStream) (len : ℕ) → BeginsWithStreams limits false bytes.now ss len
         → StreamsFit (P.lent places.old) (length ss) → EntriesFit (P.lent places.old) (length (all_entries ss))
         → FieldsFit (P.lent places.old) (length (all_stream_fields ss)) → IsOk result }
     ensures kept { P.lent places.new ≡ P.lent places.old }
 {
-    if limits.depth < 6 {
+    if limits.depth < STREAMS_DEPTH {
         return Ok(None);
     }
-    match find_form(limits, bytes, false, places)? {
-        None => Ok(None),
-        Some(len) => Ok(Some(len)),
-    }
+    find_form(limits, bytes, Form::Standard, places)
 }
 
 /// Holds the places of the streams of the reply at the head of bytes, as `find_streams` does, where each
@@ -182,39 +175,38 @@ pub fn find_claimed_streams<P: Places>(
     ensures found { (ss : List SentStream) (len : ℕ) → BeginsWithStreams limits true bytes.now ss len
         → IfOk result (λ o. IsSomeAnd o (λ n. (map (stream_in bytes.now (P.held places.new).entries
         (P.held places.new).fields) (P.held places.new).streams ≡ ss) × (n ≡ len))) }
+    ensures counts { (ss : List SentStream) (len : ℕ) → BeginsWithStreams limits true bytes.now ss len
+        → IfOk result (λ o. IfSome o (λ _. HoldSoMany (P.held places.new) ss)) }
     ensures fits { (ss : List SentStream) (len : ℕ) → BeginsWithStreams limits true bytes.now ss len
         → StreamsFit (P.lent places.old) (length ss) → EntriesFit (P.lent places.old) (length (all_entries ss))
         → FieldsFit (P.lent places.old) (length (all_stream_fields ss)) → IsOk result }
     ensures kept { P.lent places.new ≡ P.lent places.old }
 {
-    if limits.depth < 6 {
+    if limits.depth < STREAMS_DEPTH {
         return Ok(None);
     }
-    match find_form(limits, bytes, true, places)? {
-        None => Ok(None),
-        Some(len) => Ok(Some(len)),
-    }
+    find_form(limits, bytes, Form::Claim, places)
 }
 
 /// Holds the streams of the reply at the head of bytes, in the standard form or else in the claim form,
-/// and returns whether it is the claim form, and how many bytes it has.
+/// and returns which of them it is, and how many bytes it has.
 pub fn find_either_form<P: Places>(
     limits: Limits,
     bytes: &[u8],
     places: &mut P,
-) -> Result<Option<(bool, usize)>, P::Refusal>
+) -> Result<Option<(Form, usize)>, P::Refusal>
     requires { 6 ≤ limits.depth }
     ensures is { IfOk result (λ o. IfSome o (λ x.
-        IsFilled limits bytes.now x.0 x.1 (P.held places.new))) }
+        IsFilled limits bytes.now (is_claim x.0) x.1 (P.held places.new))) }
     ensures found { (claim : Bool) (ss : List SentStream) (len : ℕ)
         → BeginsWithStreams limits claim bytes.now ss len → IfOk result (λ o. IsSome o) }
     ensures kept { P.lent places.new ≡ P.lent places.old }
 {
-    if let Some(len) = find_form(limits, bytes, false, places)? {
-        return Ok(Some((false, len)));
+    if let Some(len) = find_form(limits, bytes, Form::Standard, places)? {
+        return Ok(Some((Form::Standard, len)));
     }
-    match find_form(limits, bytes, true, places)? {
+    match find_form(limits, bytes, Form::Claim, places)? {
         None => Ok(None),
-        Some(len) => Ok(Some((true, len))),
+        Some(len) => Ok(Some((Form::Claim, len))),
     }
 }

@@ -10,8 +10,7 @@ ghost use Rattle.redis_wire.specs.Packed.{bulk_bytes};
 ghost use Rattle.redis_wire.specs.Place.{EndsBefore};
 ghost use Rattle.stream_refs.specs.Shapes.{AllowsRows, IsName};
 
-use crate::places::EntryPlace;
-use crate::room::Places;
+use crate::places::{EntryPlace, Places};
 use crate::rows::{name_at, text_in};
 use redis_wire::Limits;
 use redis_wire::place::Span;

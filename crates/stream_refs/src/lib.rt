@@ -4,23 +4,25 @@
 
 mod autoclaim;
 mod claim_outcome;
+mod depth;
 mod entry;
 mod entry_list;
 mod field_value;
 mod fields;
 mod find;
+mod form;
 mod id_parts;
 mod ids;
 mod kept;
 mod laid;
 mod outcome;
 mod places;
-mod room;
 mod rows;
 mod sent;
 mod short;
 mod stream_list;
 mod streams;
+mod tables;
 mod tape;
 
 pub use autoclaim::{AutoClaimJustIdRef, AutoClaimRef, find_autoclaim, find_justid};
@@ -34,8 +36,8 @@ pub use id_parts::StreamIdParts;
 pub use ids::IdsRef;
 pub use laid::EntryRoom;
 pub use outcome::{RangeOutcome, ReadOutcome, read_any_range, read_any_streams};
-pub use places::{AutoClaimPlace, EntryPlace, FieldPlace, StreamPlace};
-pub use room::{EntryTables, Full, Places};
+pub use places::{AutoClaimPlace, EntryPlace, FieldPlace, Places, StreamPlace};
 pub use sent::{OctetPairs, Octets, SentClaim, SentRow};
 pub use stream_list::{ReadRef, StreamRef, StreamsRef};
+pub use tables::{EntryTables, Full};
 pub use tape::EntryTape;

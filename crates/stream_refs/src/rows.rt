@@ -5,13 +5,14 @@ ghost use Rattle.std.specs.List.{AllByRecursion};
 ghost use Rattle.std.specs.Str.{is_utf8};
 ghost use Rattle.redis_wire.specs.Place.{text_in, IsSpan, IsTextAt, BeginsWithText, EndsBefore};
 ghost use Rattle.stream_refs.specs.Added.{row_count, FieldsAdded, OwnAdded, IsDeliveryAt, EntryAdded, EntriesAdded};
+ghost use Rattle.stream_refs.specs.Forms.{is_claim};
 ghost use Rattle.stream_refs.specs.Lent.{EntriesFit, FieldsFit};
 ghost use Rattle.stream_refs.specs.Sent.{Pairs, SentEntry, fields_of, all_fields};
 ghost use Rattle.stream_refs.specs.Shapes.{NilForm, pair_bytes, fields_bytes, delivery_bytes, entry_bytes};
 ghost use Rattle.stream_refs.specs.Shapes.{AllowsRows, IsPair, ArePairs, IsOfForm, IsEntryOf};
 
-use crate::places::{EntryPlace, FieldPlace};
-use crate::room::Places;
+use crate::form::Form;
+use crate::places::{EntryPlace, FieldPlace, Places};
 use crate::short::{bulk_at, count_at};
 use redis_wire::Limits;
 use redis_wire::place::{Span, int_at, nil_at};
@@ -100,14 +101,14 @@ fn add_own_fields<P: Places>(
     requires { at ≤ length bytes.now }
     ensures is { IfOk result (λ o. IfSome o (λ x.
         OwnAdded limits bytes.now at x.0 x.1 (P.held places.old) (P.held places.new))) }
-    ensures found { (form : NilForm) (fs : Option Pairs) (rest : List ℕ) → AllowsRows limits → ArePairs limits fs
-        → drop at bytes.now ≡ fields_bytes form fs ++ rest
+    ensures found { (nil : NilForm) (fs : Option Pairs) (rest : List ℕ) → AllowsRows limits → ArePairs limits fs
+        → drop at bytes.now ≡ fields_bytes nil fs ++ rest
         → IfOk result (λ o. IsSomeAnd o (λ x. EndsBefore bytes.now rest x.1)) }
-    ensures counts { (form : NilForm) (fs : Option Pairs) (rest : List ℕ) → AllowsRows limits → ArePairs limits fs
-        → drop at bytes.now ≡ fields_bytes form fs ++ rest → IfOk result (λ o. IfSome o (λ _.
+    ensures counts { (nil : NilForm) (fs : Option Pairs) (rest : List ℕ) → AllowsRows limits → ArePairs limits fs
+        → drop at bytes.now ≡ fields_bytes nil fs ++ rest → IfOk result (λ o. IfSome o (λ _.
         length (P.held places.new).fields ≡ length (P.held places.old).fields + length (fields_of fs))) }
-    ensures fits { (form : NilForm) (fs : Option Pairs) (rest : List ℕ) → AllowsRows limits → ArePairs limits fs
-        → drop at bytes.now ≡ fields_bytes form fs ++ rest
+    ensures fits { (nil : NilForm) (fs : Option Pairs) (rest : List ℕ) → AllowsRows limits → ArePairs limits fs
+        → drop at bytes.now ≡ fields_bytes nil fs ++ rest
         → FieldsFit (P.lent places.old) (length (P.held places.old).fields + length (fields_of fs)) → IsOk result }
     ensures kept { P.lent places.new ≡ P.lent places.old }
 {
@@ -127,14 +128,14 @@ fn add_own_fields<P: Places>(
 }
 
 /// When and how often the entry was delivered, where the form says so, and how many bytes end with it.
-fn delivery_at(limits: Limits, bytes: &[u8], at: usize, claim: bool) -> Option<(u64, u64, usize)>
+fn delivery_at(limits: Limits, bytes: &[u8], at: usize, form: Form) -> Option<(u64, u64, usize)>
     requires { at ≤ length bytes.now }
-    ensures is { IfSome result (λ x. IsDeliveryAt limits bytes.now at claim x.0 x.1 x.2) }
-    ensures found { (delivery : Option (ℕ × ℕ)) (rest : List ℕ) → AllowsRows limits → IsOfForm claim delivery
+    ensures is { IfSome result (λ x. IsDeliveryAt limits bytes.now at (is_claim form) x.0 x.1 x.2) }
+    ensures found { (delivery : Option (ℕ × ℕ)) (rest : List ℕ) → AllowsRows limits → IsOfForm (is_claim form) delivery
         → drop at bytes.now ≡ delivery_bytes delivery ++ rest
         → IsSomeAnd result (λ x. EndsBefore bytes.now rest x.2) }
 {
-    if !claim {
+    if !form.tells_delivery() {
         return Some((0, 0, at));
     }
     let (elapsed, behind) = int_at(limits, bytes, at)?;
@@ -143,10 +144,10 @@ fn delivery_at(limits: Limits, bytes: &[u8], at: usize, claim: bool) -> Option<(
 }
 
 /// How many values a row has: an id and fields, and in the claim form a time and a count.
-fn row_len(claim: bool) -> u32
-    ensures { result ≡ row_count claim }
+fn row_len(form: Form) -> u32
+    ensures { result ≡ row_count (is_claim form) }
 {
-    if claim { 4 } else { 2 }
+    if form.tells_delivery() { 4 } else { 2 }
 }
 
 /// Holds the fields of the entry from `at` on, and returns the entry and how many bytes end with it.
@@ -154,20 +155,20 @@ fn add_entry<P: Places>(
     limits: Limits,
     bytes: &[u8],
     at: usize,
-    claim: bool,
+    form: Form,
     places: &mut P,
 ) -> Result<Option<(EntryPlace, usize)>, P::Refusal>
     requires { at ≤ length bytes.now }
     ensures is { IfOk result (λ o. IfSome o (λ x.
-        EntryAdded limits bytes.now at claim x.1 x.0 (P.held places.old) (P.held places.new))) }
-    ensures found { (form : NilForm) (e : SentEntry) (rest : List ℕ) → AllowsRows limits → IsEntryOf limits claim e
-        → drop at bytes.now ≡ entry_bytes form e ++ rest
+        EntryAdded limits bytes.now at (is_claim form) x.1 x.0 (P.held places.old) (P.held places.new))) }
+    ensures found { (nil : NilForm) (e : SentEntry) (rest : List ℕ) → AllowsRows limits → IsEntryOf limits (is_claim form) e
+        → drop at bytes.now ≡ entry_bytes nil e ++ rest
         → IfOk result (λ o. IsSomeAnd o (λ x. EndsBefore bytes.now rest x.1)) }
-    ensures counts { (form : NilForm) (e : SentEntry) (rest : List ℕ) → AllowsRows limits → IsEntryOf limits claim e
-        → drop at bytes.now ≡ entry_bytes form e ++ rest → IfOk result (λ o. IfSome o (λ _.
+    ensures counts { (nil : NilForm) (e : SentEntry) (rest : List ℕ) → AllowsRows limits → IsEntryOf limits (is_claim form) e
+        → drop at bytes.now ≡ entry_bytes nil e ++ rest → IfOk result (λ o. IfSome o (λ _.
         length (P.held places.new).fields ≡ length (P.held places.old).fields + length (fields_of e.fields))) }
-    ensures fits { (form : NilForm) (e : SentEntry) (rest : List ℕ) → AllowsRows limits → IsEntryOf limits claim e
-        → drop at bytes.now ≡ entry_bytes form e ++ rest
+    ensures fits { (nil : NilForm) (e : SentEntry) (rest : List ℕ) → AllowsRows limits → IsEntryOf limits (is_claim form) e
+        → drop at bytes.now ≡ entry_bytes nil e ++ rest
         → FieldsFit (P.lent places.old) (length (P.held places.old).fields + length (fields_of e.fields))
         → IsOk result }
     ensures kept { P.lent places.new ≡ P.lent places.old }
@@ -175,7 +176,7 @@ fn add_entry<P: Places>(
     let Some((members, behind)) = count_at(limits, bytes, at) else {
         return Ok(None);
     };
-    if members != row_len(claim) {
+    if members != row_len(form) {
         return Ok(None);
     }
     let Some((id, behind)) = name_at(limits, bytes, behind) else {
@@ -185,7 +186,7 @@ fn add_entry<P: Places>(
     let Some((deleted, behind)) = add_own_fields(limits, bytes, behind, places)? else {
         return Ok(None);
     };
-    let Some((elapsed, count, after)) = delivery_at(limits, bytes, behind, claim) else {
+    let Some((elapsed, count, after)) = delivery_at(limits, bytes, behind, form) else {
         return Ok(None);
     };
     let entry = EntryPlace {
@@ -193,7 +194,7 @@ fn add_entry<P: Places>(
         from,
         to: places.count_fields(),
         deleted,
-        delivered: claim,
+        delivered: form.tells_delivery(),
         elapsed,
         count,
     };
@@ -205,27 +206,27 @@ pub fn add_entries<P: Places>(
     limits: Limits,
     bytes: &[u8],
     at: usize,
-    claim: bool,
+    form: Form,
     count: u32,
     places: &mut P,
 ) -> Result<Option<usize>, P::Refusal>
     requires { at ≤ length bytes.now }
     ensures is { IfOk result (λ o. IfSome o (λ after.
-        EntriesAdded limits bytes.now at claim count after (P.held places.old) (P.held places.new))) }
-    ensures found { (form : NilForm) (es : List SentEntry) (rest : List ℕ) → AllowsRows limits
-        → AllByRecursion (IsEntryOf limits claim) es
-        → drop at bytes.now ≡ flat_map (entry_bytes form) es ++ rest → count ≡ length es
+        EntriesAdded limits bytes.now at (is_claim form) count after (P.held places.old) (P.held places.new))) }
+    ensures found { (nil : NilForm) (es : List SentEntry) (rest : List ℕ) → AllowsRows limits
+        → AllByRecursion (IsEntryOf limits (is_claim form)) es
+        → drop at bytes.now ≡ flat_map (entry_bytes nil) es ++ rest → count ≡ length es
         → IfOk result (λ o. IsSomeAnd o (EndsBefore bytes.now rest)) }
     ensures counts { IfOk result (λ o. IfSome o (λ _.
         length (P.held places.new).entries ≡ length (P.held places.old).entries + count)) }
-    ensures counts_fields { (form : NilForm) (es : List SentEntry) (rest : List ℕ) → AllowsRows limits
-        → AllByRecursion (IsEntryOf limits claim) es
-        → drop at bytes.now ≡ flat_map (entry_bytes form) es ++ rest → count ≡ length es
+    ensures counts_fields { (nil : NilForm) (es : List SentEntry) (rest : List ℕ) → AllowsRows limits
+        → AllByRecursion (IsEntryOf limits (is_claim form)) es
+        → drop at bytes.now ≡ flat_map (entry_bytes nil) es ++ rest → count ≡ length es
         → IfOk result (λ o. IfSome o (λ _.
         length (P.held places.new).fields ≡ length (P.held places.old).fields + length (all_fields es))) }
-    ensures fits { (form : NilForm) (es : List SentEntry) (rest : List ℕ) → AllowsRows limits
-        → AllByRecursion (IsEntryOf limits claim) es
-        → drop at bytes.now ≡ flat_map (entry_bytes form) es ++ rest → count ≡ length es
+    ensures fits { (nil : NilForm) (es : List SentEntry) (rest : List ℕ) → AllowsRows limits
+        → AllByRecursion (IsEntryOf limits (is_claim form)) es
+        → drop at bytes.now ≡ flat_map (entry_bytes nil) es ++ rest → count ≡ length es
         → EntriesFit (P.lent places.old) (length (P.held places.old).entries + count)
         → FieldsFit (P.lent places.old) (length (P.held places.old).fields + length (all_fields es))
         → IsOk result }
@@ -233,7 +234,7 @@ pub fn add_entries<P: Places>(
 {
     let mut behind = at;
     for _ in 0..count {
-        let Some((entry, after)) = add_entry(limits, bytes, behind, claim, places)? else {
+        let Some((entry, after)) = add_entry(limits, bytes, behind, form, places)? else {
             return Ok(None);
         };
         places.push_entry(entry)?;

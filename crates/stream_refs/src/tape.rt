@@ -11,10 +11,11 @@ ghost use Rattle.stream_refs.specs.Shapes.{BeginsWithRange, BeginsWithStreams, B
 use crate::autoclaim::{
     AutoClaimJustIdRef, AutoClaimRef, autoclaim_at, find_autoclaim, find_justid, justid_at,
 };
+use crate::depth::{RANGE_DEPTH, STREAMS_DEPTH};
 use crate::entry_list::{RangeRef, entries_at};
 use crate::find::{find_either_form, find_form};
-use crate::places::{EntryPlace, FieldPlace, StreamPlace};
-use crate::room::Places;
+use crate::form::Form;
+use crate::places::{EntryPlace, FieldPlace, Places, StreamPlace};
 use crate::rows::add_entries;
 use crate::stream_list::{ReadRef, streams_at};
 use redis_wire::Limits;
@@ -77,13 +78,13 @@ impl EntryTape {
             → IfOk result (λ o. IsSomeAnd o (λ r. (r.entries ≡ es) × (r.len ≡ len))) }
     {
         self.clear();
-        if limits.depth < 4 {
+        if limits.depth < RANGE_DEPTH {
             return Ok(None);
         }
         let Some((count, at)) = array_at(limits, bytes, 0) else {
             return Ok(None);
         };
-        match add_entries(limits, bytes, at, false, count, self)? {
+        match add_entries(limits, bytes, at, Form::Standard, count, self)? {
             None => Ok(None),
             Some(len) => Ok(Some(RangeRef {
                 entries: entries_at(bytes, &self.entries, &self.fields),
@@ -104,10 +105,10 @@ impl EntryTape {
         ensures found { (ss : List SentStream) (len : ℕ) → BeginsWithStreams limits false bytes.now ss len
             → IfOk result (λ o. IsSomeAnd o (λ r. (r.streams ≡ ss) × (r.len ≡ len))) }
     {
-        if limits.depth < 6 {
+        if limits.depth < STREAMS_DEPTH {
             return Ok(None);
         }
-        match find_form(limits, bytes, false, self)? {
+        match find_form(limits, bytes, Form::Standard, self)? {
             None => Ok(None),
             Some(len) => Ok(Some(ReadRef {
                 streams: streams_at(bytes, &self.streams, &self.entries, &self.fields),
@@ -128,10 +129,10 @@ impl EntryTape {
         ensures found { (ss : List SentStream) (len : ℕ) → BeginsWithStreams limits true bytes.now ss len
             → IfOk result (λ o. IsSomeAnd o (λ r. (r.streams ≡ ss) × (r.len ≡ len))) }
     {
-        if limits.depth < 6 {
+        if limits.depth < STREAMS_DEPTH {
             return Ok(None);
         }
-        match find_form(limits, bytes, true, self)? {
+        match find_form(limits, bytes, Form::Claim, self)? {
             None => Ok(None),
             Some(len) => Ok(Some(ReadRef {
                 streams: streams_at(bytes, &self.streams, &self.entries, &self.fields),
@@ -152,7 +153,7 @@ impl EntryTape {
             → BeginsWithStreams limits claim bytes.now ss len
             → IfOk result (λ o. IsSomeAnd o (λ r. (r.streams ≡ ss) × (r.len ≡ len))) }
     {
-        if limits.depth < 6 {
+        if limits.depth < STREAMS_DEPTH {
             return Ok(None);
         }
         match find_either_form(limits, bytes, self)? {

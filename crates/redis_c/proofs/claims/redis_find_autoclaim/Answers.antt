@@ -1,7 +1,8 @@
 use Rattle.std.proofs.Common.{[], ◌+◌, length}
+use Rattle.stream_refs.specs.Sent.{all_fields}
 use Rattle.redis_c.specs.Claimed.{AutoClaimIn}
 use Rattle.redis_c.proofs.FindLemmas.{autoclaim_whole, finding_told}
-use Rattle.redis_c.proofs.RoomLemmas.{told_rows}
+use Rattle.redis_c.proofs.RoomLemmas.{told_places}
 use Rattle.redis_c.proofs.claims.redis_find_autoclaim.Goals as goal
 
 pub returns-clause-tells : goal.returns-clause-tells
@@ -14,5 +15,11 @@ returns-clause-tells c =
 pub returns-clause-rows : goal.returns-clause-rows
 returns-clause-rows c = λ r len b.
     let o = c.autoclaim_outcome in
-    told_rows (λ f. f.entries) o.result c.tell.result c.tell.new.beside (length c.args.entries.now)
+    told_places (λ f. f.entries) o.result c.tell.result c.tell.new.beside (length c.args.entries.now)
     (length r.claimed + length r.deleted) len c.tell.ensures.number c.tell.ensures.beside (o.ensures.rows r len b)
+
+pub returns-clause-fields : goal.returns-clause-fields
+returns-clause-fields c = λ r len b.
+    let o = c.autoclaim_outcome in
+    told_places (λ f. f.fields) o.result c.tell.result c.tell.new.beside (length c.args.fields.now) (length (all_fields r.claimed)) len
+    c.tell.ensures.number c.tell.ensures.beside (o.ensures.fields r len b)

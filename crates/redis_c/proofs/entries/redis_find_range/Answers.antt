@@ -1,7 +1,8 @@
 use Rattle.std.proofs.Common.{[], length}
+use Rattle.stream_refs.specs.Sent.{all_fields}
 use Rattle.redis_c.specs.Told.{RangeIn}
 use Rattle.redis_c.proofs.FindLemmas.{finding_told, range_whole}
-use Rattle.redis_c.proofs.RoomLemmas.{told_rows}
+use Rattle.redis_c.proofs.RoomLemmas.{told_places}
 use Rattle.redis_c.proofs.entries.redis_find_range.Goals as goal
 
 pub returns-clause-tells : goal.returns-clause-tells
@@ -13,5 +14,11 @@ returns-clause-tells c =
 pub returns-clause-rows : goal.returns-clause-rows
 returns-clause-rows c = λ es len b.
     let o = c.range_outcome in
-    told_rows (λ f. f.entries) o.result c.tell.result c.tell.new.beside (length c.args.entries.now) (length es) len
+    told_places (λ f. f.entries) o.result c.tell.result c.tell.new.beside (length c.args.entries.now) (length es) len
     c.tell.ensures.number c.tell.ensures.beside (o.ensures.rows es len b)
+
+pub returns-clause-fields : goal.returns-clause-fields
+returns-clause-fields c = λ es len b.
+    let o = c.range_outcome in
+    told_places (λ f. f.fields) o.result c.tell.result c.tell.new.beside (length c.args.fields.now) (length (all_fields es)) len
+    c.tell.ensures.number c.tell.ensures.beside (o.ensures.fields es len b)

@@ -2,6 +2,8 @@ use Rattle.std.proofs.Common.{rules, arith, ◌≡◌, ◌+◌, ◌++◌, true, 
 use Rattle.stream_refs.proofs.IdLemmas.{deleted_untold, deleted_told}
 use Rattle.redis_wire.specs.Packed.{bulk_bytes}
 use Rattle.stream_refs.specs.Shapes.{AreIdsOf}
+use Rattle.stream_refs.specs.AddedIds.{IdsAdded, DeletedAdded}
+use Rattle.stream_refs.proofs.FoundLemmas.{found_then}
 use Rattle.stream_refs.proofs.BeginLemmas.{head_begins}
 use Rattle.stream_refs.proofs.ShapeClaimLemmas.{told_split, untold_split}
 use Rattle.stream_refs.proofs.CountLemmas.{fewer_entries}
@@ -12,13 +14,18 @@ returns-then-not-told-clause-is g c =
     let is : c.args.told ≡ false = search rules in
     rw is (deleted_untold c.args.limits c.args.bytes.now c.args.at (g.P.Places.held c.args.places.now) c.requires)
 
-pub returns-in-Some-2-clause-is : goal.returns-in-Some-2-clause-is
-returns-in-Some-2-clause-is g c =
+pub returns-clause-is : goal.returns-clause-is
+returns-clause-is g c =
     let is : c.args.told ≡ true = search rules in
+    let limits = c.args.limits in
+    let bytes = c.args.bytes.now in
+    let old = g.P.Places.held c.args.places.now in
+    let new = g.P.Places.held c.add_ids.new.places in
     rw is
-    (deleted_told c.args.limits c.args.bytes.now c.args.at (g.P.Places.held c.args.places.now) c.in-Some.count
-    c.in-Some.behind c.in-Some-2.after (g.P.Places.held c.add_ids.new.places) c.in-Some.ensures.is
-    (rw c.in-Some-2.is at c.in_ok-add_ids.ensures.is))
+    (found_then (λ after. IdsAdded limits bytes c.in-Some.behind c.in-Some.count after old new)
+    (λ after. DeletedAdded limits bytes c.args.at true after old new) c.add_ids.result
+    (λ after. deleted_told limits bytes c.args.at old c.in-Some.count c.in-Some.behind after new c.in-Some.ensures.is)
+    c.add_ids.ensures.is)
 
 pub returns-then-not-told-clause-found : goal.returns-then-not-told-clause-found
 returns-then-not-told-clause-found g c = λ ids rest a h at.
@@ -35,8 +42,8 @@ returns-in_default-clause-found g c = λ ids rest a h at.
     (told_split ids rest left (rw is at at)) in
     c.in_default.ensures.found (length ids) members top
 
-pub returns-in-None-clause-found : goal.returns-in-None-clause-found
-returns-in-None-clause-found g c = λ ids rest a h at.
+pub returns-clause-found : goal.returns-clause-found
+returns-clause-found g c = λ ids rest a h at.
     let is : c.args.told ≡ true = search rules in
     let ids_are : AreIdsOf c.args.limits ids = rw is at h in
     let left = drop c.args.at c.args.bytes.now in
@@ -44,21 +51,10 @@ returns-in-None-clause-found g c = λ ids rest a h at.
     let top = head_begins c.args.limits a left 42 (length ids) members ids_are.few
     (told_split ids rest left (rw is at at)) in
     let head = c.in-Some.ensures.found (length ids) members top in
-    rw c.in-None.is at (c.in_ok-add_ids.ensures.found ids rest a ids_are.each head.1 head.0)
+    c.add_ids.ensures.found ids rest a ids_are.each head.1 head.0
 
-pub returns-in-Some-2-clause-found : goal.returns-in-Some-2-clause-found
-returns-in-Some-2-clause-found g c = λ ids rest a h at.
-    let is : c.args.told ≡ true = search rules in
-    let ids_are : AreIdsOf c.args.limits ids = rw is at h in
-    let left = drop c.args.at c.args.bytes.now in
-    let members = flat_map bulk_bytes ids ++ rest in
-    let top = head_begins c.args.limits a left 42 (length ids) members ids_are.few
-    (told_split ids rest left (rw is at at)) in
-    let head = c.in-Some.ensures.found (length ids) members top in
-    rw c.in-Some-2.is at (c.in_ok-add_ids.ensures.found ids rest a ids_are.each head.1 head.0)
-
-pub returns-in_err-add_ids-clause-fits : goal.returns-in_err-add_ids-clause-fits
-returns-in_err-add_ids-clause-fits g c = λ ids rest a h at fit.
+pub returns-clause-fits : goal.returns-clause-fits
+returns-clause-fits g c = λ ids rest a h at fit.
     let is : c.args.told ≡ true = search rules in
     let ids_are : AreIdsOf c.args.limits ids = rw is at h in
     let lent = g.P.Places.lent c.args.places.now in
@@ -68,5 +64,5 @@ returns-in_err-add_ids-clause-fits g c = λ ids rest a h at fit.
     let top = head_begins c.args.limits a left 42 (length ids) members ids_are.few
     (told_split ids rest left (rw is at at)) in
     let head = c.in-Some.ensures.found (length ids) members top in
-    absurd (cc (c.in_err-add_ids.ensures.fits
-    (fewer_entries lent (old + c.in-Some.count) (old + length ids) (omega (arith, head.0)) fit)))
+    c.add_ids.ensures.fits
+    (fewer_entries lent (old + c.in-Some.count) (old + length ids) (omega (arith, head.0)) fit)

@@ -81,8 +81,8 @@ returns-in_default-3-clause-found g c = λ r len b.
     rw c.in_default-3.is at (c.in_ok-len.ensures.found r.deleted b.rest b.allows (rw (head.0) b.deleted)
     (rw (head.0) after))
 
-pub returns-then-limits-lt5-clause-found : goal.returns-then-limits-lt5-clause-found
-returns-then-limits-lt5-clause-found g c = λ r len b. absurd (omega (arith, b.deep))
+pub returns-then-limits-lt-CLAIM_DEPTH-clause-found : goal.returns-then-limits-lt-CLAIM_DEPTH-clause-found
+returns-then-limits-lt-CLAIM_DEPTH-clause-found g c = λ r len b. absurd (omega (arith, b.deep))
 
 pub returns-in_err-at-clause-fits : goal.returns-in_err-at-clause-fits
 returns-in_err-at-clause-fits g c = λ r len b entries fields.
@@ -123,3 +123,24 @@ returns-in_err-len-clause-fits g c = λ r len b entries fields.
     absurd (cc (c.in_err-len.ensures.fits r.deleted b.rest b.allows (rw (head.0) b.deleted) (rw (head.0) after)
     (fewer_entries mid_lent (length mid.entries + length r.deleted) (length r.claimed + length r.deleted)
     (omega (arith, counted, head.1, ap (λ (h : Held). length h.entries) none)) mid_room)))
+
+pub returns-clause-counts : goal.returns-clause-counts
+returns-clause-counts g c = λ r len b.
+    let bytes = c.args.bytes.now in
+    let old = g.P.Places.held c.clear.new.self in
+    let mid = g.P.Places.held c.add_entries.new.places in
+    let new = g.P.Places.held c.add_deleted.new.places in
+    let third = deleted_bytes b.told r.deleted ++ b.rest in
+    let behind = flat_map (entry_bytes b.form) r.claimed ++ third in
+    let split = autoclaim_parts b.told b.form r b.rest bytes b.is in
+    let head = c.in-Some.ensures.found b.told r.next (length r.claimed) behind b.allows b.next b.claimed.few split in
+    let deleted : DeletedAdded c.args.limits bytes c.in-Some-2.at c.in-Some.head.told c.in-Some-3.len mid new =
+    rw c.in-Some-3.is at c.in_ok-len.ensures.is in
+    let counted : length mid.fields ≡ length old.fields + length (all_fields r.claimed) = rw c.in-Some-2.is at
+    (c.in_ok-at.ensures.counts_fields b.form r.claimed third b.allows b.claimed.each head.2 head.1) in
+    omega (
+      arith,
+      counted,
+      ap (λ (h : Held). length h.fields) c.clear.ensures.holds,
+      ap (λ (h : Held). length h.fields) deleted.grown.is,
+    )

@@ -1,4 +1,4 @@
-use Rattle.std.proofs.Common.{rules, ◌≡◌, ◌≤◌, ◌++◌, arith, flat_map, length, ap, ◌+◌}
+use Rattle.std.proofs.Common.{rules, ◌≡◌, ◌≤◌, ◌++◌, ◌∙◌, arith, flat_map, length, ap, ◌+◌}
 use Rattle.stream_refs.specs.Held.{Held, none_held}
 use Rattle.stream_refs.specs.AddedIds.{IdsAdded, DeletedAdded}
 use Rattle.stream_refs.proofs.AutoClaimLemmas.{justid_is, justid_places}
@@ -80,8 +80,8 @@ returns-in_default-3-clause-found g c = λ r len b.
     rw c.in_default-3.is at (c.in_ok-len.ensures.found r.deleted b.rest b.allows (rw (head.0) b.deleted)
     (rw (head.0) after))
 
-pub returns-then-limits-lt3-clause-found : goal.returns-then-limits-lt3-clause-found
-returns-then-limits-lt3-clause-found g c = λ r len b. absurd (omega (arith, b.deep))
+pub returns-then-limits-lt-IDS_DEPTH-clause-found : goal.returns-then-limits-lt-IDS_DEPTH-clause-found
+returns-then-limits-lt-IDS_DEPTH-clause-found g c = λ r len b. absurd (omega (arith, b.deep))
 
 pub returns-in_err-at-clause-fits : goal.returns-in_err-at-clause-fits
 returns-in_err-at-clause-fits g c = λ r len b entries.
@@ -119,3 +119,16 @@ returns-in_err-len-clause-fits g c = λ r len b entries.
     absurd (cc (c.in_err-len.ensures.fits r.deleted b.rest b.allows (rw (head.0) b.deleted) (rw (head.0) after)
     (fewer_entries mid_lent (length mid.entries + length r.deleted) (length r.claimed + length r.deleted)
     (omega (arith, counted, head.1, ap (λ (h : Held). length h.entries) none)) mid_room)))
+
+pub returns-clause-counts : goal.returns-clause-counts
+returns-clause-counts g c =
+    let bytes = c.args.bytes.now in
+    let mid = g.P.Places.held c.add_ids.new.places in
+    let new = g.P.Places.held c.add_deleted.new.places in
+    let head = c.in-Some.head in
+    let added : IdsAdded c.args.limits bytes head.at head.count c.in-Some-2.at none_held mid =
+    rw (c.clear.ensures.holds, c.in-Some-2.is) at c.in_ok-at.ensures.is in
+    let deleted : DeletedAdded c.args.limits bytes c.in-Some-2.at head.told c.in-Some-3.len mid new =
+    rw c.in-Some-3.is at c.in_ok-len.ensures.is in
+    ap (λ (h : Held). length h.fields) (deleted.grown.is ∙ ap (λ (h : Held).
+    record { streams = h.streams; entries = h.entries ++ deleted.grown.more; fields = h.fields }) added.grown.is)

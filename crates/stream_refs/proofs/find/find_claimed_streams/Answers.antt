@@ -1,32 +1,30 @@
-use Rattle.std.proofs.Common.{map, true, refl, arith}
+use Rattle.std.proofs.Common.{◌≡◌, map, true, refl, arith}
 use Rattle.stream_refs.specs.Placed.{stream_in}
 use Rattle.stream_refs.specs.Added.{IsFilled}
+use Rattle.stream_refs.specs.Range.{IsRead}
+use Rattle.stream_refs.proofs.FoundLemmas.{found_then, found_there}
 use Rattle.stream_refs.proofs.ReadLemmas.{read_is}
 use Rattle.stream_refs.proofs.ShapeStreamLemmas.{streams_same}
 use Rattle.stream_refs.proofs.find.find_claimed_streams.Goals as goal
 
-pub returns-in-Some-clause-is : goal.returns-in-Some-clause-is
-returns-in-Some-clause-is g c =
+pub returns-clause-is : goal.returns-clause-is
+returns-clause-is g c =
     let held = g.P.Places.held c.find_form.new.places in
-    let filled : IsFilled c.args.limits c.args.bytes.now true c.in-Some.len held =
-    rw c.in-Some.is at c.in_ok-find_form.ensures.is in
-    read_is c.args.limits c.args.bytes.now true c.in-Some.len held
-    (map (stream_in c.args.bytes.now held.entries held.fields) held.streams) filled refl
+    let limits = c.args.limits in
+    let bytes = c.args.bytes.now in
+    let ss = map (stream_in bytes held.entries held.fields) held.streams in
+    found_then (λ len. IsFilled limits bytes true len held) (IsRead limits bytes ss) c.find_form.result
+    (λ len filled. read_is limits bytes true len held ss filled refl) c.find_form.ensures.is
 
-pub returns-in-Some-clause-found : goal.returns-in-Some-clause-found
-returns-in-Some-clause-found g c = λ ss len b.
+pub returns-clause-found : goal.returns-clause-found
+returns-clause-found g c = λ us len b.
     let held = g.P.Places.held c.find_form.new.places in
-    streams_same c.args.limits true c.args.bytes.now
-    (map (stream_in c.args.bytes.now held.entries held.fields) held.streams) ss c.in-Some.len len
-    (returns-in-Some-clause-is g c) b
+    let limits = c.args.limits in
+    let bytes = c.args.bytes.now in
+    let ss = map (stream_in bytes held.entries held.fields) held.streams in
+    found_there (IsRead limits bytes ss) (λ n. (ss ≡ us) × (n ≡ len)) c.find_form.result
+    (λ n is. streams_same limits true bytes ss us n len is b) (returns-clause-is g c)
+    (c.find_form.ensures.found us len b)
 
-pub returns-in-None-clause-found : goal.returns-in-None-clause-found
-returns-in-None-clause-found g c = λ ss len b.
-    absurd (cc (rw c.in-None.is at (c.in_ok-find_form.ensures.found ss len b)))
-
-pub returns-then-limits-lt6-clause-found : goal.returns-then-limits-lt6-clause-found
-returns-then-limits-lt6-clause-found g c = λ ss len b. absurd (omega (arith, b.deep))
-
-pub returns-in_err-find_form-clause-fits : goal.returns-in_err-find_form-clause-fits
-returns-in_err-find_form-clause-fits g c = λ ss len b streams entries fields.
-    absurd (cc (c.in_err-find_form.ensures.fits ss len b streams entries fields))
+pub returns-then-limits-lt-STREAMS_DEPTH-clause-found : goal.returns-then-limits-lt-STREAMS_DEPTH-clause-found
+returns-then-limits-lt-STREAMS_DEPTH-clause-found g c = λ ss len b. absurd (omega (arith, b.deep))

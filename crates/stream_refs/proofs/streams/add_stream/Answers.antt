@@ -5,6 +5,7 @@ use Rattle.stream_refs.proofs.StreamLemmas.{stream_added}
 use Rattle.stream_refs.proofs.BeginLemmas.{head_begins, text_begins, rows_split}
 use Rattle.stream_refs.proofs.ShapeStreamLemmas.{behind_head, stream_split}
 use Rattle.stream_refs.proofs.CountLemmas.{fewer_entries}
+use Rattle.stream_refs.specs.Forms.{is_claim, is_map}
 use Rattle.stream_refs.proofs.streams.add_stream.Goals as goal
 
 pub returns-clause-is : goal.returns-clause-is
@@ -14,24 +15,24 @@ returns-clause-is g c =
     let new = g.P.Places.held c.add_entries.new.places in
     let from : c.count_entries-from.result ≡ length old.entries = search rules in
     let to : c.count_entries-to.result ≡ length new.entries = search rules in
-    let added : EntriesAdded c.args.limits bytes c.in-Some-array_at.behind c.args.claim c.in-Some-array_at.count
+    let added : EntriesAdded c.args.limits bytes c.in-Some-array_at.behind (is_claim c.args.form) c.in-Some-array_at.count
     c.in-Some-2.after old new =
     rw c.in-Some-2.is at c.in_ok-after.ensures.is in
     stream_added c.args.limits bytes c.args.at c.in-Some.behind c.in-Some-name_at.behind c.in-Some-array_at.behind
-    c.in-Some-2.after c.in-Some-array_at.count c.args.in_map c.args.claim c.in-Some-name_at.name old new
+    c.in-Some-2.after c.in-Some-array_at.count (is_map c.args.spelling) (is_claim c.args.form) c.in-Some-name_at.name old new
     c.count_entries-from.result c.count_entries-to.result from to c.in-Some.ensures.is c.in-Some-name_at.ensures.is
     c.in-Some-name_at.ensures.text c.in-Some-array_at.ensures.is added
 
 pub returns-in_default-clause-found : goal.returns-in_default-clause-found
 returns-in_default-clause-found g c = λ form s rest a h is.
     let left = drop c.args.at c.args.bytes.now in
-    let top = stream_split c.args.in_map form s rest left is in
+    let top = stream_split (is_map c.args.spelling) form s rest left is in
     c.in_default.ensures.found (behind_head form s rest) a top
 
 pub returns-in_default-name_at-clause-found : goal.returns-in_default-name_at-clause-found
 returns-in_default-name_at-clause-found g c = λ form s rest a h is.
     let left = drop c.args.at c.args.bytes.now in
-    let top = stream_split c.args.in_map form s rest left is in
+    let top = stream_split (is_map c.args.spelling) form s rest left is in
     let head = c.in-Some.ensures.found (behind_head form s rest) a top in
     let behind = rows_bytes form s.entries ++ rest in
     let name = text_begins c.args.limits a (drop c.in-Some.behind c.args.bytes.now) s.name behind h.name.within head in
@@ -40,7 +41,7 @@ returns-in_default-name_at-clause-found g c = λ form s rest a h is.
 pub returns-in_default-array_at-clause-found : goal.returns-in_default-array_at-clause-found
 returns-in_default-array_at-clause-found g c = λ form s rest a h is.
     let left = drop c.args.at c.args.bytes.now in
-    let top = stream_split c.args.in_map form s rest left is in
+    let top = stream_split (is_map c.args.spelling) form s rest left is in
     let head = c.in-Some.ensures.found (behind_head form s rest) a top in
     let behind = rows_bytes form s.entries ++ rest in
     let name = text_begins c.args.limits a (drop c.in-Some.behind c.args.bytes.now) s.name behind h.name.within head in
@@ -54,7 +55,7 @@ returns-in_default-array_at-clause-found g c = λ form s rest a h is.
 pub returns-in_default-2-clause-found : goal.returns-in_default-2-clause-found
 returns-in_default-2-clause-found g c = λ form s rest a h is.
     let left = drop c.args.at c.args.bytes.now in
-    let top = stream_split c.args.in_map form s rest left is in
+    let top = stream_split (is_map c.args.spelling) form s rest left is in
     let head = c.in-Some.ensures.found (behind_head form s rest) a top in
     let behind = rows_bytes form s.entries ++ rest in
     let name = text_begins c.args.limits a (drop c.in-Some.behind c.args.bytes.now) s.name behind h.name.within head in
@@ -70,7 +71,7 @@ returns-in_default-2-clause-found g c = λ form s rest a h is.
 pub returns-clause-found : goal.returns-clause-found
 returns-clause-found g c = λ form s rest a h is.
     let left = drop c.args.at c.args.bytes.now in
-    let top = stream_split c.args.in_map form s rest left is in
+    let top = stream_split (is_map c.args.spelling) form s rest left is in
     let head = c.in-Some.ensures.found (behind_head form s rest) a top in
     let behind = rows_bytes form s.entries ++ rest in
     let name = text_begins c.args.limits a (drop c.in-Some.behind c.args.bytes.now) s.name behind h.name.within head in
@@ -86,7 +87,7 @@ returns-clause-found g c = λ form s rest a h is.
 pub returns-clause-counts : goal.returns-clause-counts
 returns-clause-counts g c = λ form s rest a h is.
     let left = drop c.args.at c.args.bytes.now in
-    let top = stream_split c.args.in_map form s rest left is in
+    let top = stream_split (is_map c.args.spelling) form s rest left is in
     let head = c.in-Some.ensures.found (behind_head form s rest) a top in
     let behind = rows_bytes form s.entries ++ rest in
     let name = text_begins c.args.limits a (drop c.in-Some.behind c.args.bytes.now) s.name behind h.name.within head in
@@ -107,7 +108,7 @@ returns-clause-counts g c = λ form s rest a h is.
 pub returns-in_err-after-clause-fits : goal.returns-in_err-after-clause-fits
 returns-in_err-after-clause-fits g c = λ form s rest a h is entries fields.
     let left = drop c.args.at c.args.bytes.now in
-    let top = stream_split c.args.in_map form s rest left is in
+    let top = stream_split (is_map c.args.spelling) form s rest left is in
     let head = c.in-Some.ensures.found (behind_head form s rest) a top in
     let behind = rows_bytes form s.entries ++ rest in
     let name = text_begins c.args.limits a (drop c.in-Some.behind c.args.bytes.now) s.name behind h.name.within head in

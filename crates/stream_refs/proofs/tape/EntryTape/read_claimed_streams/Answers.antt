@@ -25,5 +25,5 @@ pub returns-in-None-clause-found : goal.returns-in-None-clause-found
 returns-in-None-clause-found c = λ ss len b.
     absurd (cc (rw c.in-None.is at (c.in_ok-find_form.ensures.found ss len b)))
 
-pub returns-then-limits-lt6-clause-found : goal.returns-then-limits-lt6-clause-found
-returns-then-limits-lt6-clause-found c = λ ss len b. absurd (omega (arith, b.deep))
+pub returns-then-limits-lt-STREAMS_DEPTH-clause-found : goal.returns-then-limits-lt-STREAMS_DEPTH-clause-found
+returns-then-limits-lt-STREAMS_DEPTH-clause-found c = λ ss len b. absurd (omega (arith, b.deep))

@@ -35,5 +35,5 @@ returns-in-None-clause-found c = λ es len b.
     (range_begins c.args.limits c.args.bytes.now es len b) in
     rw c.in-None.is at (c.in_ok-add_entries.ensures.found b.form es b.rest b.allows b.within.each head.1 head.0)
 
-pub returns-then-limits-lt4-clause-found : goal.returns-then-limits-lt4-clause-found
-returns-then-limits-lt4-clause-found c = λ es len b. absurd (omega (arith, b.deep))
+pub returns-then-limits-lt-RANGE_DEPTH-clause-found : goal.returns-then-limits-lt-RANGE_DEPTH-clause-found
+returns-then-limits-lt-RANGE_DEPTH-clause-found c = λ es len b. absurd (omega (arith, b.deep))

@@ -1,66 +1,12 @@
-//! Room for the places of what is found in a reply.
-ghost use Rattle.std.specs.Prelude.{◌≡◌, ◌∷◌, ◌++◌, [], suc, IfOk, IsOk, Option, Some, length};
-ghost use Rattle.stream_refs.specs.Held.{Held, none_held};
-ghost use Rattle.stream_refs.specs.Lent.{Lent, StreamsFit, EntriesFit, FieldsFit};
+//! Tables of places in slices of the caller.
+ghost use Rattle.std.specs.Prelude.{◌≡◌, Some, length};
+ghost use Rattle.stream_refs.specs.Held.{none_held};
 
-use crate::places::{EntryPlace, FieldPlace, StreamPlace};
+use crate::places::{EntryPlace, FieldPlace, Places, StreamPlace};
 
 /// A table of fixed length has no room for one more place.
 #[derive(Clone, Copy, Debug, PartialEq, Eq)]
 pub struct Full;
-
-/// Room for the places of what is found in a reply: tables that grow, or slices of the caller.
-pub trait Places {
-    /// Why a place is not held.
-    type Refusal: Drop;
-
-    /// The places that are held, in order.
-    ghost held: { Self → Held };
-
-    /// The slices of the caller that are filled, where there are any.
-    ghost lent: { Self → Option Lent };
-
-    /// Forgets all places.
-    fn clear(&mut self)
-        ensures holds { held self.new ≡ none_held }
-        ensures kept { lent self.new ≡ lent self.old };
-
-    /// How many streams are held.
-    fn count_streams(&self) -> usize
-        ensures { result ≡ length (held self.now).streams };
-
-    /// How many entries are held.
-    fn count_entries(&self) -> usize
-        ensures { result ≡ length (held self.now).entries };
-
-    /// How many fields are held.
-    fn count_fields(&self) -> usize
-        ensures { result ≡ length (held self.now).fields };
-
-    /// Holds one more field.
-    fn push_field(&mut self, place: FieldPlace) -> Result<(), Self::Refusal>
-        ensures holds { IfOk result (λ _. held self.new ≡ record (held self.old) {
-          fields = (held self.old).fields ++ place ∷ [];
-        }) }
-        ensures kept { lent self.new ≡ lent self.old }
-        ensures fits { FieldsFit (lent self.old) (suc (length (held self.old).fields)) → IsOk result };
-
-    /// Holds one more entry.
-    fn push_entry(&mut self, place: EntryPlace) -> Result<(), Self::Refusal>
-        ensures holds { IfOk result (λ _. held self.new ≡ record (held self.old) {
-          entries = (held self.old).entries ++ place ∷ [];
-        }) }
-        ensures kept { lent self.new ≡ lent self.old }
-        ensures fits { EntriesFit (lent self.old) (suc (length (held self.old).entries)) → IsOk result };
-
-    /// Holds one more stream.
-    fn push_stream(&mut self, place: StreamPlace) -> Result<(), Self::Refusal>
-        ensures holds { IfOk result (λ _. held self.new ≡ record (held self.old) {
-          streams = (held self.old).streams ++ place ∷ [];
-        }) }
-        ensures kept { lent self.new ≡ lent self.old }
-        ensures fits { StreamsFit (lent self.old) (suc (length (held self.old).streams)) → IsOk result };
-}
 
 /// Places in slices of the caller, for who has no allocator. What stands behind the counts is not
 /// read. Each slice has a lifetime of its own, so that a caller can say of each what it holds in the
