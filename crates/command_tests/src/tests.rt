@@ -12,6 +12,7 @@ mod options;
 mod sentences;
 
 use redis_args::{FixedArgs, ToRedisArgs, WriteError};
+use std::alloc::{AllocError, Global};
 use std::process::Abort;
 
 /// A text on the heap.
@@ -21,14 +22,18 @@ fn text(rt: &(impl AllocGlobal + Abort), text: &str) -> String {
 
 /// The words of a line as arguments; none of the empty line.
 fn words_of(rt: &(impl AllocGlobal + Abort), line: &str) -> Vec<Vec<u8>> {
-    let mut words = Vec::new(rt.alloc());
-    if line != "" {
-        for word in line.split(' ') {
-            let word = Vec::from_slice(rt.alloc(), word.as_bytes()).expect(rt, "memory");
-            words.push(word).expect(rt, "memory");
-        }
+    if line == "" {
+        return Vec::new(rt.alloc());
     }
-    words
+    words_in(rt.alloc(), line).expect(rt, "memory")
+}
+
+fn words_in(alloc: Global, line: &str) -> Result<Vec<Vec<u8>>, AllocError> {
+    let mut words = Vec::new(alloc);
+    for word in line.split(' ') {
+        words.push(Vec::from_slice(alloc, word.as_bytes())?)?;
+    }
+    Ok(words)
 }
 
 /// The value writes the words of this line, each one argument: as a list, after what a list

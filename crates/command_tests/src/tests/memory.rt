@@ -11,12 +11,16 @@ use stream_options::{StreamIdempotencyMode, StreamReadOptions};
 
 /// The arguments are words of these, from the first on.
 fn are_begun(args: &[Vec<u8>], words: &[&str]) -> bool {
-    for (arg, word) in args.iter().zip(words) {
-        if arg.as_slice() != word.as_bytes() {
+    for (index, arg) in args.iter().enumerate() {
+        let is_begun = match words.get(index) {
+            Some(word) => arg.as_slice() == word.as_bytes(),
+            None => false,
+        };
+        if !is_begun {
             return false;
         }
     }
-    args.len() <= words.len()
+    true
 }
 
 /// The value writes these words as a list.
