@@ -75,28 +75,28 @@ one_more : (n : ℕ) → (n ≡ 0 → ⊥) → n ≡ suc (n - 1)
 one_more zero some = absurd (some refl)
 one_more (suc n) some = omega arith
 
-module _ (number now : ℕ) (acknowledges : Bool) where
+module _ (number now : ℕ) (noack : Bool) where
   -- the first of what is left, and then the others
-  delivered_first : (e : Entry) (old between new : Group) → IsDelivered number now acknowledges e.id old between
+  delivered_first : (e : Entry) (old between new : Group) → IsDelivered number now noack e.id old between
       → (left less : ℕ) (es rest : List Entry) → left ≡ suc less → rest ≡ e ∷ es
-      → AreDelivered number now acknowledges (take less es) between new
-      → AreDelivered number now acknowledges (take left rest) old new
+      → AreDelivered number now noack (take less es) between new
+      → AreDelivered number now noack (take left rest) old new
   delivered_first e old between new is left less es rest some stands so = rw (some, stands) (between, is, so)
 
-  pub delivered_more : (e : Entry) (old between new : Group) → IsDelivered number now acknowledges e.id old between
+  pub delivered_more : (e : Entry) (old between new : Group) → IsDelivered number now noack e.id old between
       → (left : ℕ) (es rest : List Entry) → (left ≡ 0 → ⊥) → rest ≡ e ∷ es
-      → AreDelivered number now acknowledges (take (left - 1) es) between new
-      → AreDelivered number now acknowledges (take left rest) old new
+      → AreDelivered number now noack (take (left - 1) es) between new
+      → AreDelivered number now noack (take left rest) old new
   delivered_more e old between new is left es rest some =
       delivered_first e old between new is left (left - 1) es rest (one_more left some)
 
   nothing_more : (entries : List Entry) (group : Group) → entries ≡ []
-      → AreDelivered number now acknowledges entries group group
+      → AreDelivered number now noack entries group group
   nothing_more entries group none = rw none refl
 
   of_same : (xs ys : List Entry) (most : ℕ) (old new : Group) → xs ≡ ys
-      → AreDelivered number now acknowledges (take most xs) old new
-      → AreDelivered number now acknowledges (take most ys) old new
+      → AreDelivered number now noack (take most xs) old new
+      → AreDelivered number now noack (take most ys) old new
   of_same xs ys most old new same so = rw (sym same) so
 
   -- where nothing is left, all is delivered
@@ -105,10 +105,10 @@ module _ (number now : ℕ) (acknowledges : Bool) where
       → between ≡ record old { consumers = between.consumers; next_number = between.next_number }
       → all ≡ drop start entries
       → (AreInOrder entries → drop start entries ≡ entries_behind old.last_id entries)
-      → ((group : Group) → AreDelivered number now acknowledges (take left rest) new group
-      → AreDelivered number now acknowledges (take most all) between group)
+      → ((group : Group) → AreDelivered number now noack (take left rest) new group
+      → AreDelivered number now noack (take most all) between group)
       → take left rest ≡ []
-      → HandsOut name now most acknowledges entries old new
+      → HandsOut name now most noack entries old new
   all_delivered name most left start entries all rest old between new seen others is behind so_far none = record {
     number = number;
     between = between;

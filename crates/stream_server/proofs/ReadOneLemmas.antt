@@ -34,13 +34,13 @@ pub row_sent : (rows : Vec (Vec ℕ × Answer)) (key : Vec ℕ) (bytes : List �
 row_sent rows key bytes entries is named = sent-Rows rows ∙ rw (is, sent-Array entries, named) refl
 
 -- what is read is ready to be put into the group
-pub found_ready : (key name : List ℕ) (now most more : ℕ) (acknowledges : Bool) (f : Option (Vec Answer)) (entries : List Entry) (group start part : Group) (answers : Vec Answer) (read : Outcome)
+pub found_ready : (key name : List ℕ) (now most more : ℕ) (noack : Bool) (f : Option (Vec Answer)) (entries : List Entry) (group start part : Group) (answers : Vec Answer) (read : Outcome)
     → start.last_id ≡ group.last_id → start.entries_read ≡ group.entries_read → start.pending.items ≡ []
-    → acknowledges ≡ false → f ≡ Some answers → AreNews name now most acknowledges entries start part f → read.part ≡ part
+    → noack ≡ false → f ≡ Some answers → AreNews name now most noack entries start part f → read.part ≡ part
     → read.room.name.items ≡ name → HasRoom read.room group → more ≡ length part.pending.items → HasPlaces more read.room group
     → sent read.answer ≡ rows_of (more_rows key (array_of (item_list (map sent answers.items))) no_rows)
     → AreInOrder entries → IsFound key name now most entries group (entries_behind group.last_id entries) (Some read)
-found_ready key name now most more acknowledges f entries group start part answers read last count none ack f_is news is named roomy many places answered up =
+found_ready key name now most more noack f entries group start part answers read last count none ack f_is news is named roomy many places answered up =
     by (entries_behind group.last_id entries) (ap (λ (id : EntryId). entries_behind id entries) (sym last))
   where
     so : AreNews name now most false entries start part (Some answers)
@@ -57,10 +57,10 @@ found_ready key name now most more acknowledges f entries group start part answe
           ((so.1 up).1 ∙ ap (λ (xs : List Entry). map sent_entry (take most xs)) (sym same));
     }
 
-pub found_nothing : (key name : List ℕ) (now most : ℕ) (acknowledges : Bool) (f : Option (Vec Answer)) (entries : List Entry) (group start part : Group)
-    → start.last_id ≡ group.last_id → acknowledges ≡ false → f ≡ None → AreNews name now most acknowledges entries start part f
+pub found_nothing : (key name : List ℕ) (now most : ℕ) (noack : Bool) (f : Option (Vec Answer)) (entries : List Entry) (group start part : Group)
+    → start.last_id ≡ group.last_id → noack ≡ false → f ≡ None → AreNews name now most noack entries start part f
     → AreInOrder entries → IsFound key name now most entries group (entries_behind group.last_id entries) None
-found_nothing key name now most acknowledges f entries group start part last ack f_is news up =
+found_nothing key name now most noack f entries group start part last ack f_is news up =
     let so : AreNews name now most false entries start part None = rw (ack, f_is) at news in
     rw (ap (λ (id : EntryId). entries_behind id entries) (sym last) ∙ so.1 up) tt
 

@@ -1,7 +1,9 @@
 //! `HELLO`.
 ghost use Rattle.std.specs.Prelude.{◌≡◌, OnErr};
 
-use super::{bytes_answer, check_name, integer_in, is_word, put_row, refusal_of, shown};
+use super::answers::bytes_answer;
+use super::words::{is_word, shown};
+use super::{check_name, integer_in, put_row, refusal_of};
 use crate::answer::Answer;
 use crate::refusal::Refusal;
 use crate::session::Session;
