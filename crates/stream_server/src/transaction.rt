@@ -94,7 +94,7 @@ fn rejected(alloc: Global, session: &mut Session, refusal: Refusal) -> Result<Re
     Ok(reply)
 }
 
-/// That a command is refused.
+/// Replies that a command is refused.
 fn refused(alloc: Global, refusal: Refusal) -> Result<Reply, AllocError> {
     Ok(Reply::Refused(refusal.into_text(alloc)?))
 }

@@ -90,7 +90,7 @@ fn option_at<'a>(
     }
 }
 
-/// That HELLO has no such option.
+/// Makes the refusal of an option that HELLO does not have.
 fn wrong_option(alloc: Global, word: &[u8]) -> Refusal {
     refusal_of(
         alloc,

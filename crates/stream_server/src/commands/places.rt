@@ -2,7 +2,7 @@
 ghost use Rattle.std.specs.Prelude.{◌≡◌, IfErr, IfOk, IfSome, length as length_of};
 ghost use Rattle.std.specs.List.{HoldsAt};
 ghost use Rattle.std.specs.List.Sorted.{IsSearchInRange};
-ghost use Rattle.stream_server.specs.Places.{AreInOrder, IsMissing, group_names, keys_of};
+ghost use Rattle.stream_server.specs.Places.{AreInOrder, IsMissing, consumer_names, group_names, keys_of};
 
 use stream_store::{Group, Stream};
 
@@ -46,4 +46,16 @@ pub(super) fn group_of<'a>(stream: &'a Stream, name: &[u8]) -> Option<&'a Group>
         Ok(index) => Some(&stream.groups[index]),
         Err(_) => None,
     }
+}
+
+/// The index of the consumer of this name, or of the first behind it.
+pub(super) fn place_of_consumer(group: &Group, name: &[u8]) -> Result<usize, usize>
+    ensures bound { IsSearchInRange result (length_of group.now.consumers.items) }
+    ensures found { IfOk result (HoldsAt (λ consumer. consumer.name.items ≡ name.now) group.now.consumers.items) }
+    ensures missing { IfErr result (λ _. AreInOrder (consumer_names group.now)
+        → IsMissing name.now (consumer_names group.now)) }
+{
+    group
+        .consumers
+        .binary_search_by(|consumer| consumer.name.as_slice().cmp(&name))
 }

@@ -1,5 +1,5 @@
 //! `XREAD`, `XREADGROUP`.
-ghost use Rattle.std.specs.Prelude.{◌≡◌, ◌≤◌, codes, drop, false, length, map, IfOk, OnErr, OnOk};
+ghost use Rattle.std.specs.Prelude.{◌≡◌, ◌≢◌, ◌≤◌, codes, drop, false, length, map, IfOk, OnErr, OnOk};
 ghost use Rattle.stream_server.specs.Delivering.{HandsOut, IsDelivered, entries_behind};
 ghost use Rattle.stream_server.specs.Giving.{IsPut};
 ghost use Rattle.stream_server.specs.Kinds.{IsRows};
@@ -8,8 +8,13 @@ ghost use Rattle.stream_server.specs.Sent.{array_of, item_list, more_rows, no_ro
 ghost use Rattle.stream_store.specs.Consumers.{HasRoom};
 ghost use Rattle.stream_store.specs.Room.{HasPlaces};
 ghost use Rattle.stream_server.specs.Reading.{AreFound, AreNews};
-ghost use Rattle.stream_server.specs.declared.commands.read.Start.TheVariants.{News};
+ghost use Rattle.stream_server.specs.declared.commands.read.Start.TheVariants.{Behind, News};
+ghost use Rattle.stream_server.specs.IdWords.{Fits};
+ghost use Rattle.stream_server.specs.Rereading.{IsRereadIn, IsWordOf, largest};
+ghost use Rattle.stream_store.specs.declared.entry_id.EntryId.{EntryId};
 ghost use Rattle.stream_store.specs.Laws.{AreInOrder};
+
+mod own;
 
 use super::answers::{array, entry_answer, put};
 use super::draft::Draft;
@@ -19,6 +24,7 @@ use super::words::{is_word, shown};
 use super::{SYNTAX, count, integer_in, refusal_of, room_of, settle};
 use crate::answer::Answer;
 use crate::refusal::Refusal;
+use own::{deliver_again, read_own};
 use std::alloc::{AllocError, Global};
 use stream_store::{EntryId, Group, Pending, Room, Stream};
 
@@ -379,7 +385,9 @@ fn group_start_of(
     text: &[u8],
     group: &[u8],
 ) -> Result<Start, Refusal>
-    ensures { IfOk result (λ start. text.now ≡ codes ">" → start ≡ News) }
+    ensures news { IfOk result (λ start. text.now ≡ codes ">" → start ≡ News) }
+    ensures behind { IfOk result (λ start. (id : EntryId) → Fits id → id ≢ largest → IsWordOf id text.now
+        → start ≡ Behind id) }
 {
     let has_group = match stream_of(streams, key) {
         Some(stream) => group_of(stream, group).is_some(),
@@ -645,6 +653,9 @@ fn read_one(
     ensures news { IfOk result (λ answer. text.now ≡ codes ">" → reader.entry.noack ≡ false
         → IsReadIn key.now reader.entry.consumer.now reader.entry.now reader.entry.most reader.entry.group.now
         answer streams.old streams.new) }
+    ensures own { IfOk result (λ answer. (id : EntryId) → Fits id → id ≢ largest → IsWordOf id text.now
+        → IsRereadIn key.now reader.entry.consumer.now reader.entry.now reader.entry.most id reader.entry.group.now
+        answer streams.old streams.new) }
     ensures err { OnErr result (streams.new ≡ streams.old) }
 {
     let start = group_start_of(alloc, streams, key, text, reader.group)?;
@@ -655,6 +666,10 @@ fn read_one(
         return Err(SYNTAX);
     };
     let stream = &streams[index];
+    if let Start::Behind(behind) = start {
+        let read = read_own(alloc, stream, &stream.groups[place], key, reader, behind)?;
+        return Ok(deliver_again(&mut streams[index].groups[place], read, reader.now));
+    }
     let Some(read) = read_of(alloc, stream, &stream.groups[place], key, reader, start)? else {
         return Ok(Answer::NilArray);
     };
