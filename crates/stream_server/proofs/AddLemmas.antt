@@ -13,7 +13,7 @@ use Rattle.stream_server.specs.Places.{AreInOrder, IsMissing, keys_of}
 use Rattle.stream_server.specs.Shown.{text_before_nul}
 use Rattle.stream_server.specs.declared.answer.Answer.{Answer}
 use Rattle.stream_server.specs.declared.answer.Answer.TheVariants.{Nil}
-use Rattle.stream_server.specs.declared.commands.NewId.TheVariants.{Automatic, Given}
+use Rattle.stream_server.specs.declared.commands.new_ids.NewId.TheVariants.{Automatic, Given}
 use Rattle.stream_server.specs.declared.commands.retention.Retention.{Retention}
 use Rattle.stream_server.proofs.IdWordLemmas.{id_whole, parts_of}
 

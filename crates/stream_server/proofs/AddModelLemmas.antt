@@ -33,8 +33,8 @@ use Rattle.stream_server.specs.Model.{Fields, IsModelIn, IsModelOf, IsUpTo, as_e
 use Rattle.stream_server.specs.ModelAdding.{XaddAppends, XaddIsTheEvent}
 use Rattle.stream_server.specs.Places.{AreInOrder, IsMissing}
 use Rattle.stream_server.specs.declared.answer.Answer.{Answer}
-use Rattle.stream_server.specs.declared.commands.NewId.{NewId}
-use Rattle.stream_server.specs.declared.commands.NewId.TheVariants.{Automatic, Given}
+use Rattle.stream_server.specs.declared.commands.new_ids.NewId.{NewId}
+use Rattle.stream_server.specs.declared.commands.new_ids.NewId.TheVariants.{Automatic, Given}
 use Rattle.stream_server.specs.declared.commands.retention.Retention.{Retention}
 use Rattle.stream_server.proofs.ModelLemmas.{changed_model, changed_was, fits_so, keys_shown, text_is}
 

@@ -21,12 +21,12 @@ use Rattle.stream_server.proofs.ClaimLemmas.{EntriesRise, all_at, apart_up, entr
 not_this : (a b : EntryId) → a ≢ b → is_eq (id_order a b) ≡ false
 not_this a b differ = elim (cases_Bool (is_eq (id_order a b))) [ inl t ↦ absurd (differ (is_same a b t)) | inr f ↦ f ]
 
-none_with : (id : EntryId) (es : List Entry) → IsNowhere (λ e. e.id) id es → entry_with id es ≡ []
+pub none_with : (id : EntryId) (es : List Entry) → IsNowhere (λ e. e.id) id es → entry_with id es ≡ []
 none_with id [] nowhere = refl
 none_with id (e ∷ es) nowhere =
     rw (not_this e.id id (nowhere 0 e (omega arith))) (none_with id es (λ k d lt. nowhere (suc k) d (omega (arith, lt))))
 
-one_with : (id : EntryId) (es : List Entry) (k : ℕ) (e : Entry) → EntriesRise es → k < length es → get_or es k e ≡ e → e.id ≡ id
+pub one_with : (id : EntryId) (es : List Entry) (k : ℕ) (e : Entry) → EntriesRise es → k < length es → get_or es k e ≡ e → e.id ≡ id
     → entry_with id es ≡ e ∷ []
 one_with id [] k e up lt at is = absurd (omega (arith, lt))
 one_with id (x ∷ es) zero e up lt at is = rw (equal x.id id (ap (λ (y : Entry). y.id) at ∙ is)) (ap (λ (y : Entry). y ∷ []) at)

@@ -98,7 +98,7 @@ module _ (number now : ℕ) (only_ids : Bool) where
       (ap (λ (qs : List Pending). After ids x ∷ qs) (set_after ids p ps k d up.1 (omega (arith, lt)) at))
 
   -- two that are pending with one id stand at one place
-  one_index : (ps : List Pending) (i j : ℕ) (d : Pending) → IsAscending (λ p. p.id) ps → i < length ps → j < length ps
+  pub one_index : (ps : List Pending) (i j : ℕ) (d : Pending) → IsAscending (λ p. p.id) ps → i < length ps → j < length ps
       → (get_or ps i d).id ≡ (get_or ps j d).id → i ≡ j
   one_index ps i j d up in_i in_j same = elim (cases_lt i j) [
     | inl lt ↦ absurd (not_itself (get_or ps j d).id (subst (λ (id : EntryId). id_order id (get_or ps j d).id ≡ Less) same (up i j d lt in_j)))

@@ -51,7 +51,7 @@ all_joined P [] ys all more = more
 all_joined P (x ∷ xs) ys all more = (all.0, all_joined P xs ys all.1 more)
 
 -- what holds of each of these holds of an id that is among them
-of_among : (P : EntryId → Type 0) (ids : List EntryId) → AllByRecursion P ids → (id : EntryId) → is_among ids id ≡ true → P id
+pub of_among : (P : EntryId → Type 0) (ids : List EntryId) → AllByRecursion P ids → (id : EntryId) → is_among ids id ≡ true → P id
 of_among P [] all id among = absurd (true≢false (sym among))
 of_among P (x ∷ ids) all id among = elim (cases_Bool (is_eq (id_order id x))) [
   | inl t ↦ subst P (sym (is_same id x t)) all.0
@@ -409,7 +409,7 @@ fields_same : (fields : List (Vec ℕ)) → map (λ f. plain (bulk f)) (map (λ 
 fields_same [] = refl
 fields_same (f ∷ fields) = ap (λ (xs : List Sent). plain (bulk f.items) ∷ xs) (fields_same fields)
 
-sent_same : (only_ids : Bool) (e : Entry) → sent_delivered only_ids (whole (as_entry e)) ≡ sent_claimed only_ids e
+pub sent_same : (only_ids : Bool) (e : Entry) → sent_delivered only_ids (whole (as_entry e)) ≡ sent_claimed only_ids e
 sent_same true e = refl
 sent_same false e = ap (λ (xs : List Sent). array_of (item_list (plain (bulk (id_text e.id)) ∷ array_of (item_list xs) ∷ []))) (fields_same e.fields.items)
 

@@ -210,12 +210,12 @@ none_below : (id : EntryId) (es : List Entry) → AllBelow id es → entry_with 
 none_below id [] below = refl
 none_below id (e ∷ es) below = rw (apart_down id e.id below.0) (none_below id es below.1)
 
-not_among : (id : EntryId) (ids : List EntryId) → AllByRecursion (λ x. id_order id x ≡ Less) ids → is_among ids id ≡ false
+pub not_among : (id : EntryId) (ids : List EntryId) → AllByRecursion (λ x. id_order id x ≡ Less) ids → is_among ids id ≡ false
 not_among id [] below = refl
 not_among id (x ∷ ids) below = rw (apart_up id x below.0) (not_among id ids below.1)
 
 -- an id that is among others is above what they are all above
-among_above : (a id : EntryId) (ids : List EntryId) → AllByRecursion (λ x. id_order a x ≡ Less) ids → is_among ids id ≡ true
+pub among_above : (a id : EntryId) (ids : List EntryId) → AllByRecursion (λ x. id_order a x ≡ Less) ids → is_among ids id ≡ true
     → id_order a id ≡ Less
 among_above a id [] below among = absurd (true≢false (sym among))
 among_above a id (x ∷ ids) below among = elim (cases_Bool (is_eq (id_order id x))) [

@@ -24,7 +24,7 @@ use Rattle.stream_server.proofs.ClaimLemmas.{all_drop, all_found, all_of}
 pub none_taken : (n : ℕ) (words : List (Vec ℕ)) → length words ≡ 0 → length (take n words) ≡ 0
 none_taken n words none = omega (arith, none, length-take n words)
 
-contained : (ps : List Pending) → AllByRecursion (Contains ps) ps
+pub contained : (ps : List Pending) → AllByRecursion (Contains ps) ps
 contained ps = all_of (Contains ps) ps (λ k d lt. (k, lt, get_or_default ps k (get_or ps k d) d lt))
 
 -- what is found to claim is pending

@@ -1,5 +1,5 @@
 -- What is behind an id, and that it is delivered.
-use Rattle.std.proofs.Common.{◌≡◌, ℕ, zero, suc, ◌+◌, ◌-◌, ◌<◌, ◌≤◌, Bool, true, false, List, [], ◌∷◌, length, get_or, drop, take, inl, inr, refl, sym, ap, ◌∙◌, arith}
+use Rattle.std.proofs.Common.{◌≡◌, ℕ, zero, suc, ◌+◌, ◌-◌, ◌<◌, ◌≤◌, Bool, true, false, List, [], ◌∷◌, length, filter, get_or, drop, take, inl, inr, refl, sym, ap, ◌∙◌, arith}
 use Rattle.std.proofs.lemmas.Bool.{cases_lt}
 use Rattle.std.proofs.lemmas.Bool.Decides.{nat_tests}
 use Rattle.std.specs.List.{HoldsAt}
@@ -7,7 +7,7 @@ use Rattle.std.specs.Ordering.{is_lt}
 use Rattle.std.specs.declared.cmp.Ordering.TheVariants.{Less, Greater}
 use Rattle.stream_store.specs.Consumers.{IsSeen}
 use Rattle.stream_store.specs.Laws.{AreInOrder}
-use Rattle.stream_store.specs.Order.{id_order, IsGapFor}
+use Rattle.stream_store.specs.Order.{id_order, IsAscending, IsGapFor}
 use Rattle.stream_store.specs.declared.entry_id.EntryId.{EntryId}
 use Rattle.stream_store.specs.declared.group.Group.{Group}
 use Rattle.stream_store.specs.declared.stream.Entry.{Entry}
@@ -25,39 +25,39 @@ is_behind : (a b : EntryId) → id_order b a ≡ Greater → is_lt (id_order a b
 is_behind a b greater = grind (arith, nat_tests, greater)
 
 -- those before the index are not behind it, and those from it on are
-from : (id : EntryId) (es : List Entry) (k : ℕ) → k ≤ length es
-    → ((j : ℕ) (d : Entry) → j < k → is_lt (id_order id (get_or es j d).id) ≡ false)
-    → ((j : ℕ) (d : Entry) → k ≤ j → j < length es → is_lt (id_order id (get_or es j d).id) ≡ true)
-    → drop k es ≡ entries_behind id es
-from id [] zero le low high = refl
-from id [] (suc k) le low high = absurd (omega (arith, le))
-from id (e ∷ es) zero le low high =
-    rw (high 0 e (omega arith) (omega arith))
-    (ap (λ (xs : List Entry). e ∷ xs)
-    (from id es zero (omega arith) (λ j d lt. absurd (omega (arith, lt))) (λ j d at lt. high (suc j) d (omega arith) (omega (arith, lt)))))
-from id (e ∷ es) (suc k) le low high =
-    rw (low 0 e (omega arith))
-    (from id es k (omega (arith, le)) (λ j d lt. low (suc j) d (omega (arith, lt))) (λ j d at lt. high (suc j) d (omega (arith, at)) (omega (arith, lt))))
+from : {X : Type 0} (id_of : X → EntryId) (id : EntryId) (xs : List X) (k : ℕ) → k ≤ length xs
+    → ((j : ℕ) (d : X) → j < k → is_lt (id_order id (id_of (get_or xs j d))) ≡ false)
+    → ((j : ℕ) (d : X) → k ≤ j → j < length xs → is_lt (id_order id (id_of (get_or xs j d))) ≡ true)
+    → drop k xs ≡ filter (λ x. is_lt (id_order id (id_of x))) xs
+from id_of id [] zero le low high = refl
+from id_of id [] (suc k) le low high = absurd (omega (arith, le))
+from {X} id_of id (x ∷ xs) zero le low high =
+    rw (high 0 x (omega arith) (omega arith))
+    (ap (λ (ys : List X). x ∷ ys)
+    (from id_of id xs zero (omega arith) (λ j d lt. absurd (omega (arith, lt))) (λ j d at lt. high (suc j) d (omega arith) (omega (arith, lt)))))
+from id_of id (x ∷ xs) (suc k) le low high =
+    rw (low 0 x (omega arith))
+    (from id_of id xs k (omega (arith, le)) (λ j d lt. low (suc j) d (omega (arith, lt))) (λ j d at lt. high (suc j) d (omega (arith, at)) (omega (arith, lt))))
 
 -- from the gap of the id on
-pub behind_gap : (id : EntryId) (es : List Entry) (k : ℕ) → k ≤ length es → IsGapFor (λ e. e.id) id es k
-    → drop k es ≡ entries_behind id es
-behind_gap id es k le gap =
-    from id es k le (λ j d lt. not_behind id _ (gap.0 j d (omega arith) lt)) (λ j d at lt. is_behind id _ (gap.1 j d at lt))
+pub behind_gap : {X : Type 0} (id_of : X → EntryId) (id : EntryId) (xs : List X) (k : ℕ) → k ≤ length xs → IsGapFor id_of id xs k
+    → drop k xs ≡ filter (λ x. is_lt (id_order id (id_of x))) xs
+behind_gap id_of id xs k le gap =
+    from id_of id xs k le (λ j d lt. not_behind id _ (gap.0 j d (omega arith) lt)) (λ j d at lt. is_behind id _ (gap.1 j d at lt))
 
--- behind the entry with the id
-pub behind_it : (id : EntryId) (es : List Entry) (i : ℕ) → i < length es → HoldsAt (λ e. e.id ≡ id) es i → AreInOrder es
-    → drop (i + 1) es ≡ entries_behind id es
-behind_it id es i within named up =
-    from id es (i + 1) (omega (arith, within)) low
+-- behind the one with the id
+pub behind_it : {X : Type 0} (id_of : X → EntryId) (id : EntryId) (xs : List X) (i : ℕ) → i < length xs → HoldsAt (λ x. id_of x ≡ id) xs i
+    → IsAscending id_of xs → drop (i + 1) xs ≡ filter (λ x. is_lt (id_order id (id_of x))) xs
+behind_it {X} id_of id xs i within named up =
+    from id_of id xs (i + 1) (omega (arith, within)) low
     (λ j d at lt. ap is_lt (rw (named d) at (up i j d (omega (arith, at)) lt)))
   where
-    low : (j : ℕ) (d : Entry) → j < i + 1 → is_lt (id_order id (get_or es j d).id) ≡ false
+    low : (j : ℕ) (d : X) → j < i + 1 → is_lt (id_order id (id_of (get_or xs j d))) ≡ false
     low j d lt = elim (cases_lt j i) [
       | inl less ↦ not_behind id _ (rw (named d) at (up j i d less within))
       | inr ge ↦
           let is : j ≡ i = omega arith in
-          not_itself id _ (ap (λ k. (get_or es k d).id) is ∙ named d)
+          not_itself id _ (ap (λ k. id_of (get_or xs k d)) is ∙ named d)
     ]
 
 -- ---- that it is delivered
@@ -75,28 +75,28 @@ one_more : (n : ℕ) → (n ≡ 0 → ⊥) → n ≡ suc (n - 1)
 one_more zero some = absurd (some refl)
 one_more (suc n) some = omega arith
 
-module _ (number now : ℕ) (acknowledges : Bool) where
+module _ (number now : ℕ) (noack : Bool) where
   -- the first of what is left, and then the others
-  delivered_first : (e : Entry) (old between new : Group) → IsDelivered number now acknowledges e.id old between
+  delivered_first : (e : Entry) (old between new : Group) → IsDelivered number now noack e.id old between
       → (left less : ℕ) (es rest : List Entry) → left ≡ suc less → rest ≡ e ∷ es
-      → AreDelivered number now acknowledges (take less es) between new
-      → AreDelivered number now acknowledges (take left rest) old new
+      → AreDelivered number now noack (take less es) between new
+      → AreDelivered number now noack (take left rest) old new
   delivered_first e old between new is left less es rest some stands so = rw (some, stands) (between, is, so)
 
-  pub delivered_more : (e : Entry) (old between new : Group) → IsDelivered number now acknowledges e.id old between
+  pub delivered_more : (e : Entry) (old between new : Group) → IsDelivered number now noack e.id old between
       → (left : ℕ) (es rest : List Entry) → (left ≡ 0 → ⊥) → rest ≡ e ∷ es
-      → AreDelivered number now acknowledges (take (left - 1) es) between new
-      → AreDelivered number now acknowledges (take left rest) old new
+      → AreDelivered number now noack (take (left - 1) es) between new
+      → AreDelivered number now noack (take left rest) old new
   delivered_more e old between new is left es rest some =
       delivered_first e old between new is left (left - 1) es rest (one_more left some)
 
   nothing_more : (entries : List Entry) (group : Group) → entries ≡ []
-      → AreDelivered number now acknowledges entries group group
+      → AreDelivered number now noack entries group group
   nothing_more entries group none = rw none refl
 
   of_same : (xs ys : List Entry) (most : ℕ) (old new : Group) → xs ≡ ys
-      → AreDelivered number now acknowledges (take most xs) old new
-      → AreDelivered number now acknowledges (take most ys) old new
+      → AreDelivered number now noack (take most xs) old new
+      → AreDelivered number now noack (take most ys) old new
   of_same xs ys most old new same so = rw (sym same) so
 
   -- where nothing is left, all is delivered
@@ -105,10 +105,10 @@ module _ (number now : ℕ) (acknowledges : Bool) where
       → between ≡ record old { consumers = between.consumers; next_number = between.next_number }
       → all ≡ drop start entries
       → (AreInOrder entries → drop start entries ≡ entries_behind old.last_id entries)
-      → ((group : Group) → AreDelivered number now acknowledges (take left rest) new group
-      → AreDelivered number now acknowledges (take most all) between group)
+      → ((group : Group) → AreDelivered number now noack (take left rest) new group
+      → AreDelivered number now noack (take most all) between group)
       → take left rest ≡ []
-      → HandsOut name now most acknowledges entries old new
+      → HandsOut name now most noack entries old new
   all_delivered name most left start entries all rest old between new seen others is behind so_far none = record {
     number = number;
     between = between;

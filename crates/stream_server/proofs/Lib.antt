@@ -26,5 +26,9 @@ mod ReadLemmas
 mod ReadModelLemmas
 mod ReadOneLemmas
 mod NameLemmas
+mod RereadLemmas
+mod RereadLawLemmas
+mod RereadModelLemmas
 mod ServingLemmas
 mod StalledLemmas
+mod StartLemmas

@@ -3,10 +3,10 @@ use Rattle.std.proofs.Common.{◌≡◌, ◌<◌, ℕ, Bool, false, subst, List,
 use Rattle.std.proofs.lemmas.List.{get_or_default, set-get_or}
 use Rattle.std.specs.Prelude.{Option, Some, None}
 use Rattle.std.specs.Global.{Vec}
-use Rattle.std.specs.List.{HoldsAt}
+use Rattle.std.specs.List.{AllByRecursion, Contains, HoldsAt}
 use Rattle.std.specs.Vec.{with_item}
 use Rattle.stream_store.specs.Consumers.{HasRoom}
-use Rattle.stream_store.specs.Laws.{AreInOrder}
+use Rattle.stream_store.specs.Laws.{AreInOrder, IsInOrder}
 use Rattle.stream_store.specs.Room.{HasPlaces}
 use Rattle.stream_store.specs.declared.entry_id.EntryId.{EntryId}
 use Rattle.stream_store.specs.declared.group.Group.{Group}
@@ -16,14 +16,17 @@ use Rattle.stream_server.specs.Changed.{IsChangedAt, IsGroupChangedAt}
 use Rattle.stream_server.specs.Delivering.{entries_behind}
 use Rattle.stream_server.specs.Giving.{IsPut}
 use Rattle.stream_server.specs.Reading.{AreNews}
-use Rattle.stream_server.specs.Claiming.{sent_entry}
+use Rattle.stream_server.specs.Claiming.{ids_of, sent_entry}
+use Rattle.stream_server.specs.Rereading.{DeliversAgain, IsReadyAgain, IsRereadIn, ReadsOwn}
 use Rattle.stream_server.specs.ReadingOne.{IsAnswered, IsFound, IsReadIn, IsReady, ReadsNews, sent_news}
 use Rattle.stream_server.specs.Sent.{Sent, array_of, item_list, more_rows, no_array, no_rows, row_list, rows_of, sent, sent_row}
 use Rattle.stream_server.specs.declared.answer.Answer.{Answer, the_lemmas}
 use Rattle.stream_server.specs.declared.answer.Answer.TheVariants as a
 use Rattle.stream_server.specs.declared.commands.read.Outcome.{Outcome}
+use Rattle.stream_server.specs.declared.commands.read.own.Rereading.{Rereading}
 use Rattle.stream_server.proofs.PutHandedLemmas.{put_handed}
 use Rattle.stream_server.proofs.ReadLemmas.{sent-Array}
+use Rattle.stream_server.proofs.RereadLemmas.{own_ready}
 
 sent-Rows : (v : Vec (Vec ℕ × Answer)) → sent (a.Rows v) ≡ rows_of (row_list (map sent_row v.items))
 sent-Rows v = search (rules, the_lemmas)
@@ -34,13 +37,13 @@ pub row_sent : (rows : Vec (Vec ℕ × Answer)) (key : Vec ℕ) (bytes : List �
 row_sent rows key bytes entries is named = sent-Rows rows ∙ rw (is, sent-Array entries, named) refl
 
 -- what is read is ready to be put into the group
-pub found_ready : (key name : List ℕ) (now most more : ℕ) (acknowledges : Bool) (f : Option (Vec Answer)) (entries : List Entry) (group start part : Group) (answers : Vec Answer) (read : Outcome)
+pub found_ready : (key name : List ℕ) (now most more : ℕ) (noack : Bool) (f : Option (Vec Answer)) (entries : List Entry) (group start part : Group) (answers : Vec Answer) (read : Outcome)
     → start.last_id ≡ group.last_id → start.entries_read ≡ group.entries_read → start.pending.items ≡ []
-    → acknowledges ≡ false → f ≡ Some answers → AreNews name now most acknowledges entries start part f → read.part ≡ part
+    → noack ≡ false → f ≡ Some answers → AreNews name now most noack entries start part f → read.part ≡ part
     → read.room.name.items ≡ name → HasRoom read.room group → more ≡ length part.pending.items → HasPlaces more read.room group
     → sent read.answer ≡ rows_of (more_rows key (array_of (item_list (map sent answers.items))) no_rows)
     → AreInOrder entries → IsFound key name now most entries group (entries_behind group.last_id entries) (Some read)
-found_ready key name now most more acknowledges f entries group start part answers read last count none ack f_is news is named roomy many places answered up =
+found_ready key name now most more noack f entries group start part answers read last count none ack f_is news is named roomy many places answered up =
     by (entries_behind group.last_id entries) (ap (λ (id : EntryId). entries_behind id entries) (sym last))
   where
     so : AreNews name now most false entries start part (Some answers)
@@ -57,10 +60,10 @@ found_ready key name now most more acknowledges f entries group start part answe
           ((so.1 up).1 ∙ ap (λ (xs : List Entry). map sent_entry (take most xs)) (sym same));
     }
 
-pub found_nothing : (key name : List ℕ) (now most : ℕ) (acknowledges : Bool) (f : Option (Vec Answer)) (entries : List Entry) (group start part : Group)
-    → start.last_id ≡ group.last_id → acknowledges ≡ false → f ≡ None → AreNews name now most acknowledges entries start part f
+pub found_nothing : (key name : List ℕ) (now most : ℕ) (noack : Bool) (f : Option (Vec Answer)) (entries : List Entry) (group start part : Group)
+    → start.last_id ≡ group.last_id → noack ≡ false → f ≡ None → AreNews name now most noack entries start part f
     → AreInOrder entries → IsFound key name now most entries group (entries_behind group.last_id entries) None
-found_nothing key name now most acknowledges f entries group start part last ack f_is news up =
+found_nothing key name now most noack f entries group start part last ack f_is news up =
     let so : AreNews name now most false entries start part None = rw (ack, f_is) at news in
     rw (ap (λ (id : EntryId). entries_behind id entries) (sym last) ∙ so.1 up) tt
 
@@ -189,6 +192,19 @@ module _ (key name group_name : List ℕ) (now most : ℕ) (streams : List Strea
       kept_in key group_name (ReadsNews key name now most answer) streams index x e place y within at inside at_place
       y_is
       (read_nothing key name now most (get_or streams index x) y answer so is)
+
+  -- what is ready is read again
+  pub own_put : (behind : EntryId) (answer : Answer) (is : Group) (read : Rereading) → was ≡ get_or (get_or streams index d).groups.items place was
+      → IsReadyAgain key name most behind (get_or streams index x).entries.items y read → answer ≡ read.answer
+      → (HasRoom read.room was → IsInOrder was → AllByRecursion (Contains was.pending.items) read.delivered.items
+      → DeliversAgain read.room.name.items now (ids_of read.delivered.items) was is)
+      → IsRereadIn key name now most behind group_name answer streams
+      (set streams index (record (get_or streams index d) { groups = with_item (get_or streams index d).groups place is }))
+  own_put behind answer is read was_is ready answered give =
+      let there = y_there was_is in
+      let so : IsReadyAgain key name most behind (get_or streams index d).entries.items was read = rw (there, x_there) at ready in
+      changed_in key group_name (ReadsOwn key name now most behind answer) streams index d e place was within at inside at_place was_is is
+      (own_ready key name now most behind answer (get_or streams index d) was is read so answered give)
 
 pub nil_sent : sent a.NilArray ≡ no_array
 nil_sent = search (rules, the_lemmas)

@@ -35,12 +35,12 @@ or_true : (b : Bool) → (b || true) ≡ true
 or_true true = refl
 or_true false = refl
 
-has_none : (id : EntryId) (es : List Entry) → IsNowhere (λ e. e.id) id es → has_entry id es ≡ false
+pub has_none : (id : EntryId) (es : List Entry) → IsNowhere (λ e. e.id) id es → has_entry id es ≡ false
 has_none id [] nowhere = refl
 has_none id (e ∷ es) nowhere =
     rw (other e.id id (nowhere 0 e (omega arith)), has_none id es (λ k d lt. nowhere (suc k) d (omega (arith, lt)))) refl
 
-has_at : (id : EntryId) (es : List Entry) (k : ℕ) (e : Entry) → k < length es → get_or es k e ≡ e → e.id ≡ id
+pub has_at : (id : EntryId) (es : List Entry) (k : ℕ) (e : Entry) → k < length es → get_or es k e ≡ e → e.id ≡ id
     → has_entry id es ≡ true
 has_at id [] k e lt at is = absurd (omega (arith, lt))
 has_at id (x ∷ es) zero e lt at is = rw (equal x.id id (ap (λ (y : Entry). y.id) at ∙ is)) refl

@@ -17,8 +17,8 @@ use Rattle.stream_server.specs.IdWords.{Fits, texts_of}
 use Rattle.stream_server.specs.Places.{AreInOrder, IsMissing, keys_of}
 use Rattle.stream_server.specs.declared.answer.Answer.{Answer}
 use Rattle.stream_server.specs.declared.answer.Answer.TheVariants.{Id, Nil}
-use Rattle.stream_server.specs.declared.commands.NewId.{NewId}
-use Rattle.stream_server.specs.declared.commands.NewId.TheVariants.{Automatic, Within, Given}
+use Rattle.stream_server.specs.declared.commands.new_ids.NewId.{NewId}
+use Rattle.stream_server.specs.declared.commands.new_ids.NewId.TheVariants.{Automatic, Within, Given}
 use Rattle.stream_server.specs.declared.commands.retention.Retention.{Retention}
 
 -- the options that are an id alone

@@ -19,12 +19,12 @@ pub record IsPendingSame (old new : Group) : Type 0 where
   pub pending : new.pending ≡ old.pending
   pub consumers : new.consumers ≡ old.consumers
 
-module _ (number now : ℕ) (acknowledges : Bool) where
+module _ (number now : ℕ) (noack : Bool) where
   -- The entry with this id is the last one that the group delivered. It is pending for the consumer of this number,
   -- delivered once at this moment, unless it is acknowledged at once.
   pub record IsDelivered (id : EntryId) (old new : Group) : Type 0 where
     pub last_id : new.last_id ≡ id
-    pub pending : MatchBool acknowledges (IsPendingSame old new)
+    pub pending : MatchBool noack (IsPendingSame old new)
         (IsGiven (record { id = id; consumer = number; given_at = now; deliveries = 1 }) old new)
     pub others : new ≡ record old {
       last_id = id;
@@ -40,11 +40,11 @@ module _ (number now : ℕ) (acknowledges : Bool) where
       (between : Group) × IsDelivered entry.id old between × AreDelivered entries between new
 
 -- the consumer of this name is seen, and the first so many entries behind the last one are delivered to it
-pub record HandsOut (name : List ℕ) (now most : ℕ) (acknowledges : Bool) (entries : List Entry) (old new : Group) : Type 0 where
+pub record HandsOut (name : List ℕ) (now most : ℕ) (noack : Bool) (entries : List Entry) (old new : Group) : Type 0 where
   pub number : ℕ
   pub between : Group
   pub seen : IsSeen name now number old between
   pub stays : between.pending.items ≡ old.pending.items
   pub others : between ≡ record old { pending = between.pending; consumers = between.consumers; next_number = between.next_number }
   pub delivered : AreInOrder entries
-      → AreDelivered number now acknowledges (take most (entries_behind old.last_id entries)) between new
+      → AreDelivered number now noack (take most (entries_behind old.last_id entries)) between new

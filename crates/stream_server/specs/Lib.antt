@@ -14,12 +14,14 @@ pub mod Model
 pub mod ModelAdding
 pub mod ModelClaiming
 pub mod ModelReading
+pub mod ModelRereading
 pub mod Places
 pub mod Quoted
 pub mod ReadBack
 pub mod Reading
 pub mod ReadingOne
 pub mod Refusal
+pub mod Rereading
 pub mod Sent
 pub mod Server
 pub mod Serving

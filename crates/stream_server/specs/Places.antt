@@ -3,6 +3,7 @@ use Rattle.std.specs.Prelude.{◌≡◌, ◌≢◌, ◌<◌, ℕ, List, length, 
 use Rattle.std.specs.Cmp.Lexicographic.{slice_cmp}
 use Rattle.std.specs.Ordering.{nat_cmp}
 use Rattle.std.specs.declared.cmp.Ordering.TheVariants.{Less}
+use Rattle.stream_store.specs.declared.group.Group.{Group}
 use Rattle.stream_store.specs.declared.stream.Stream.{Stream}
 
 -- each name is before those that follow
@@ -21,6 +22,10 @@ keys_of streams = map (λ stream. stream.key.items) streams
 -- the names of the groups of a stream
 abbrev pub group_names : Stream → List (List ℕ)
 group_names stream = map (λ group. group.name.items) stream.groups.items
+
+-- the names of the consumers of a group
+abbrev pub consumer_names : Group → List (List ℕ)
+consumer_names group = map (λ consumer. consumer.name.items) group.consumers.items
 
 -- no stream of this key has a group of this name, if the keys and the names are in order
 abbrev pub HasNoGroup : List ℕ → List ℕ → List Stream → Type 0

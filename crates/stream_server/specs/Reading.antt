@@ -16,10 +16,10 @@ AreFound most entries (Some answers) = (entries ≢ []) × (map sent answers.ite
 
 -- If no entry is after the last one that the group delivered, there is no answer, and nothing changes. Else the first so
 -- many are handed out, and are the answer.
-module _ (name : List ℕ) (now most : ℕ) (acknowledges : Bool) (entries : List Entry) (old new : Group) where
+module _ (name : List ℕ) (now most : ℕ) (noack : Bool) (entries : List Entry) (old new : Group) where
   abbrev pub AreHandedOut : Option (Vec Answer) → Type 0
   AreHandedOut None = new ≡ old
-  AreHandedOut (Some answers) = HandsOut name now most acknowledges entries old new
+  AreHandedOut (Some answers) = HandsOut name now most noack entries old new
 
   abbrev pub AreNews : Option (Vec Answer) → Type 0
   AreNews found = AreHandedOut found × (AreInOrder entries → AreFound most (entries_behind old.last_id entries) found)

@@ -1,21 +1,9 @@
 //! The commands by their names, and what they share.
-ghost use Rattle.std.specs.Prelude.{◌≡◌, ◌≤◌, ◌<◌, ◌++◌, ◌∷◌, [], codes, length as length_of, map};
-ghost use Rattle.std.specs.Prelude.{IfErr, IfOk, OnErr, OnOk, Some, take};
-ghost use Rattle.std.specs.List.{HoldsAt, prefix_len};
-ghost use Rattle.std.specs.List.Sorted.{IsSearchInRange};
-ghost use Rattle.redis_resp.specs.Tree.{bulk};
-ghost use Rattle.stream_server.specs.Acknowledging.{count_answer};
-ghost use Rattle.stream_server.specs.Claiming.{sent_claimed, sent_entry, sent_fields};
-ghost use Rattle.stream_server.specs.IdWords.{Fits};
-ghost use Rattle.stream_server.specs.Places.{AreInOrder, IsMissing, group_names, keys_of};
-ghost use Rattle.stream_server.specs.Sent.{array_of, item_list, plain, sent};
-ghost use Rattle.stream_server.specs.Shown.{is_not_nul, text_before_nul};
+ghost use Rattle.std.specs.Prelude.{◌≡◌, ◌<◌, length as length_of, IfOk, OnErr};
 ghost use Rattle.stream_server.specs.Streams.{seen_streams};
-ghost use Rattle.stream_server.specs.declared.commands.NewId.TheVariants.{Automatic, Given};
-ghost use Rattle.stream_store.specs.EntryId.{id_text};
-ghost use Rattle.stream_store.specs.declared.entry_id.EntryId.{EntryId};
 
 mod add;
+mod answers;
 mod claim;
 mod connection;
 mod draft;
@@ -25,23 +13,29 @@ mod help;
 mod id_words;
 mod info;
 mod keys;
+mod new_ids;
 mod pending;
+mod places;
 mod range;
 mod read;
 mod remove;
 mod report;
 mod retention;
 mod stalled;
+mod words;
 
 use crate::answer::{Answer, Status};
 use crate::refusal::Refusal;
 use crate::session::Session;
+use answers::{entry_answer, length, number, put};
 use connection::Connection;
 use draft::Draft;
-use id_words::{Sequence, id, ids, parts_in, strict_id};
+use id_words::strict_id;
+use places::{group_of, place_of, place_of_group, stream_of};
 use report::Report;
 use std::alloc::{AllocError, Global};
-use stream_store::{Entry, EntryId, Group, Room, Stream};
+use stream_store::{EntryId, Group, Room, Stream};
+use words::{before_nul, is_word, lower, shown};
 
 const SYNTAX: Refusal = Refusal::Fixed("ERR syntax error");
 
@@ -115,7 +109,7 @@ pub(crate) enum LookUp {
 }
 
 /// Does a command, of these words. What is refused changes nothing.
-pub(crate) fn done(
+pub(crate) fn run(
     alloc: Global,
     streams: &mut Vec<Stream>,
     now: u64,
@@ -127,15 +121,15 @@ pub(crate) fn done(
     ensures session { OnErr result (session.new ≡ session.old) }
 {
     match command {
-        Plain::Change(change) => changed(alloc, streams, now, change, words),
-        Plain::LookUp(look_up) => looked_up(alloc, streams, now, look_up, &words),
-        Plain::Report(report) => told(alloc, streams.len(), now, report, &words),
+        Plain::Change(change) => run_change(alloc, streams, now, change, words),
+        Plain::LookUp(look_up) => run_reading(alloc, streams, now, look_up, &words),
+        Plain::Report(report) => run_report(alloc, streams.len(), now, report, &words),
         Plain::Connection(asked) => connection::answered(alloc, session, asked, &words),
     }
 }
 
 /// Does a command that changes streams.
-fn changed(
+fn run_change(
     alloc: Global,
     streams: &mut Vec<Stream>,
     now: u64,
@@ -163,7 +157,7 @@ fn changed(
 }
 
 /// Does a command that reads streams.
-fn looked_up(
+fn run_reading(
     alloc: Global,
     streams: &[Stream],
     now: u64,
@@ -185,8 +179,8 @@ fn looked_up(
     }
 }
 
-/// Tells of a server with so many keys.
-fn told(
+/// Does a command that asks of a server with so many keys.
+fn run_report(
     alloc: Global,
     keys: usize,
     now: u64,
@@ -234,44 +228,6 @@ fn len_of(streams: &[Stream], arguments: &[Vec<u8>]) -> Result<Answer, Refusal> 
     }
 }
 
-/// The index of the stream of this key, or of the first behind it.
-fn place_of(streams: &[Stream], key: &[u8]) -> Result<usize, usize>
-    ensures bound { IsSearchInRange result (length_of streams.now) }
-    ensures found { IfOk result (HoldsAt (λ stream. stream.key.items ≡ key.now) streams.now) }
-    ensures missing { IfErr result (λ _. AreInOrder (keys_of streams.now)
-        → IsMissing key.now (keys_of streams.now)) }
-{
-    streams.binary_search_by(|stream| stream.key.as_slice().cmp(&key))
-}
-
-/// The stream of this key.
-fn stream_of<'a>(streams: &'a [Stream], key: &[u8]) -> Option<&'a Stream> {
-    match place_of(streams, key) {
-        Ok(index) => Some(&streams[index]),
-        Err(_) => None,
-    }
-}
-
-/// The index of the group of this name, or of the first behind it.
-fn place_of_group(stream: &Stream, name: &[u8]) -> Result<usize, usize>
-    ensures bound { IsSearchInRange result (length_of stream.now.groups.items) }
-    ensures found { IfOk result (HoldsAt (λ group. group.name.items ≡ name.now) stream.now.groups.items) }
-    ensures missing { IfErr result (λ _. AreInOrder (group_names stream.now)
-        → IsMissing name.now (group_names stream.now)) }
-{
-    stream
-        .groups
-        .binary_search_by(|group| group.name.as_slice().cmp(&name))
-}
-
-/// The group of this name.
-fn group_of<'a>(stream: &'a Stream, name: &[u8]) -> Option<&'a Group> {
-    match place_of_group(stream, name) {
-        Ok(index) => Some(&stream.groups[index]),
-        Err(_) => None,
-    }
-}
-
 /// The stream of this key, where a group of this name is asked for.
 fn stream_for<'a>(
     alloc: Global,
@@ -308,91 +264,6 @@ fn name_of(group: &Group, number: u64) -> &[u8] {
     &[]
 }
 
-/// A count as an answer.
-fn number(n: u64) -> Answer
-    ensures { result ≡ count_answer n }
-{
-    Answer::Int(i64::try_from(n).unwrap_or(i64::MAX))
-}
-
-/// A length as an answer.
-fn length(n: usize) -> Answer
-    ensures { result ≡ count_answer n }
-{
-    Answer::Int(i64::try_from(n).unwrap_or(i64::MAX))
-}
-
-/// These answers as one array.
-fn array<const N: usize>(alloc: Global, items: [Answer; N]) -> Result<Answer, AllocError>
-    ensures { IfOk result (λ answer. sent answer ≡ array_of (item_list (map sent items.entry))) }
-{
-    match Vec::from_array(alloc, items) {
-        Ok(items) => Ok(Answer::Array(items)),
-        Err(_) => Err(AllocError),
-    }
-}
-
-/// One more name with its answer.
-fn put_row(
-    alloc: Global,
-    rows: &mut Vec<(Vec<u8>, Answer)>,
-    name: &str,
-    answer: Answer,
-) -> Result<(), AllocError> {
-    let name = Vec::from_slice(alloc, name.as_bytes())?;
-    match rows.push((name, answer)) {
-        Ok(()) => Ok(()),
-        Err(_) => Err(AllocError),
-    }
-}
-
-/// One more answer.
-fn put(answers: &mut Vec<Answer>, answer: Answer) -> Result<(), AllocError>
-    ensures { OnOk result (answers.new.items ≡ answers.old.items ++ answer ∷ []) }
-{
-    match answers.push(answer) {
-        Ok(()) => Ok(()),
-        Err(_) => Err(AllocError),
-    }
-}
-
-/// Bytes as an answer.
-fn bytes_answer(alloc: Global, bytes: &[u8]) -> Result<Answer, AllocError>
-    ensures { IfOk result (λ answer. sent answer ≡ plain (bulk bytes.now)) }
-{
-    Ok(Answer::Bytes(Vec::from_slice(alloc, bytes)?))
-}
-
-/// An entry as an answer: its id and its fields.
-fn entry_answer(alloc: Global, entry: &Entry) -> Result<Answer, AllocError>
-    ensures { IfOk result (λ answer. sent answer ≡ sent_entry entry.now) }
-{
-    let fields = fields_answer(alloc, &entry.fields)?;
-    array(alloc, [Answer::Id(entry.id), fields])
-}
-
-/// An entry that was claimed, or its id where that alone is asked for.
-fn claimed_answer(alloc: Global, entry: &Entry, only_id: bool) -> Result<Answer, AllocError>
-    ensures { IfOk result (λ answer. sent answer ≡ sent_claimed only_id entry.now) }
-{
-    if only_id {
-        Ok(Answer::Id(entry.id))
-    } else {
-        entry_answer(alloc, entry)
-    }
-}
-
-/// The names and values of an entry as an answer.
-fn fields_answer(alloc: Global, fields: &[Vec<u8>]) -> Result<Answer, AllocError>
-    ensures { IfOk result (λ answer. sent answer ≡ sent_fields fields.now) }
-{
-    let mut answers = Vec::with_capacity(alloc, fields.len())?;
-    for field in fields {
-        put(&mut answers, bytes_answer(alloc, field)?)?;
-    }
-    Ok(Answer::Array(answers))
-}
-
 /// The first entries from this id on up to that one, `most` at most.
 fn entries_up(
     alloc: Global,
@@ -411,6 +282,20 @@ fn entries_up(
         put(&mut answers, entry_answer(alloc, entry)?)?;
     }
     Ok(answers)
+}
+
+/// One more name with its answer.
+fn put_row(
+    alloc: Global,
+    rows: &mut Vec<(Vec<u8>, Answer)>,
+    name: &str,
+    answer: Answer,
+) -> Result<(), AllocError> {
+    let name = Vec::from_slice(alloc, name.as_bytes())?;
+    match rows.push((name, answer)) {
+        Ok(()) => Ok(()),
+        Err(_) => Err(AllocError),
+    }
 }
 
 /// The command of these words, where there is one, and it may have so many arguments.
@@ -660,45 +545,7 @@ fn quoted(alloc: Global, arguments: &[Vec<u8>]) -> Result<Vec<u8>, AllocError> {
     Ok(text)
 }
 
-/// What is shown of a word: what stands before its first NUL, at most so many bytes.
-fn shown(word: &[u8], most: usize) -> &[u8]
-    ensures { result.now ≡ take most (text_before_nul word.now) }
-{
-    front(before_nul(word), most)
-}
-
-/// What stands before the first NUL.
-fn before_nul(word: &[u8]) -> &[u8]
-    ensures { result.now ≡ text_before_nul word.now }
-{
-    let (text, _) = word.split_at(text_len(word));
-    text
-}
-
-/// At most so many bytes from the front.
-fn front(text: &[u8], most: usize) -> &[u8]
-    ensures { result.now ≡ take most text.now }
-{
-    let (front, _) = text.split_at(most.min(text.len()));
-    front
-}
-
-/// How many bytes stand before the first NUL.
-fn text_len(word: &[u8]) -> usize
-    ensures len { result ≡ prefix_len is_not_nul word.now }
-    ensures within { result ≤ length_of word.now }
-{
-    word.iter().take_while(|byte| **byte != 0).count()
-}
-
-/// The word in lower case.
-fn lower(alloc: Global, word: &[u8]) -> Result<Vec<u8>, AllocError> {
-    let mut text = Vec::from_slice(alloc, word)?;
-    text.make_ascii_lowercase();
-    Ok(text)
-}
-
-/// That the command may not have so many arguments.
+/// Makes the refusal of so many arguments of a command.
 fn wrong_count(alloc: Global, word: &[u8]) -> Refusal {
     match lower(alloc, word) {
         Ok(word) => refusal_of(
@@ -709,7 +556,7 @@ fn wrong_count(alloc: Global, word: &[u8]) -> Refusal {
     }
 }
 
-/// That the subcommand may not have so many arguments.
+/// Makes the refusal of so many arguments of a subcommand.
 fn wrong_subcount(alloc: Global, word: &[u8], subcommand: &[u8]) -> Refusal {
     match (lower(alloc, word), lower(alloc, subcommand)) {
         (Ok(word), Ok(subcommand)) => refusal_of(
@@ -786,11 +633,6 @@ fn no_group(alloc: Global, key: &[u8], group: &[u8]) -> Refusal {
     )
 }
 
-/// Whether the argument is this word, in either case.
-fn is_word(argument: &[u8], word: &str) -> bool {
-    argument.eq_ignore_ascii_case(word.as_bytes())
-}
-
 /// A number as Redis takes it: with no plus sign and no leading zero.
 fn integer_in(argument: &[u8]) -> Option<i64> {
     match argument {
@@ -819,17 +661,6 @@ fn count_in(argument: &[u8]) -> Option<u64> {
     Some(u64::try_from(integer_in(argument)?).unwrap_or(0))
 }
 
-/// The id that XADD is given.
-#[derive(Clone, Copy)]
-enum NewId {
-    /// `*`
-    Automatic,
-    /// `ms-*`
-    Within(u64),
-    /// `ms-seq` or `ms`
-    Given(EntryId),
-}
-
 /// An id, or `-` for the smallest one and `+` for the largest one.
 fn loose_id(text: &[u8], missing: u64) -> Option<EntryId> {
     match before_nul(text) {
@@ -837,26 +668,6 @@ fn loose_id(text: &[u8], missing: u64) -> Option<EntryId> {
         [b'+'] => Some(EntryId::LAST),
         _ => strict_id(text, missing),
     }
-}
-
-/// `*`, `ms-*`, `ms-seq` or `ms`.
-fn new_id(text: &[u8]) -> Option<NewId>
-    ensures given { (id : EntryId) → Fits id → text.now ≡ id_text id → result ≡ Some (Given id) }
-    ensures automatic { text.now ≡ codes "*" → result ≡ Some Automatic }
-{
-    if before_nul(text) == b"*".as_slice() {
-        return Some(NewId::Automatic);
-    }
-    let (milliseconds, sequence) = parts_in(text)?;
-    let sequence = match sequence {
-        Sequence::Missing => 0,
-        Sequence::Automatic => return Some(NewId::Within(milliseconds)),
-        Sequence::Given(sequence) => sequence,
-    };
-    Some(NewId::Given(EntryId {
-        milliseconds,
-        sequence,
-    }))
 }
 
 /// The first id of an interval that begins so.
@@ -909,7 +720,7 @@ fn room_of(
     }
 }
 
-/// The group is changed. With its room, no memory is asked for.
+/// Changes the group as the draft says. With its room, it asks for no memory.
 fn settle(streams: &mut [Stream], draft: Draft<'_>, room: Option<Room>) {
     let Ok(index) = place_of(streams, draft.key) else {
         return;
@@ -920,7 +731,7 @@ fn settle(streams: &mut [Stream], draft: Draft<'_>, room: Option<Room>) {
     put_part(&mut streams[index].groups[place], draft.part, room);
 }
 
-/// The part stands for what it holds of the group.
+/// Puts what the part holds into the group.
 fn put_part(group: &mut Group, part: Group, room: Option<Room>) {
     group.last_id = part.last_id;
     group.entries_read = part.entries_read;

@@ -3,6 +3,7 @@ ghost use Rattle.stream_server.specs.Model.{XackIsTheEvent, XdelIsTheEvents};
 ghost use Rattle.stream_server.specs.ModelAdding.{XaddIsTheEvent};
 ghost use Rattle.stream_server.specs.ModelClaiming.{XautoclaimIsTheEvent};
 ghost use Rattle.stream_server.specs.ModelReading.{HandingOutIsTheEvent, ReadingNewsIsTheEvent, XreadgroupIsTheEvent};
+ghost use Rattle.stream_server.specs.ModelRereading.{XreadgroupWithAnIdIsTheEvent};
 ghost use Rattle.stream_server.specs.ReadBack.{RepliesAreRead};
 
 /// The bytes that `append_reply` appends of a reply are read back as one answer, and nothing more:
@@ -38,16 +39,27 @@ pub fn handing_out_is_the_event()
     ensures { HandingOutIsTheEvent }
 {}
 
-/// The same of what `read_as` ensures, with its answer: the entries that the world gives, as they
-/// are sent, or none if it gives none.
+/// If what `read_as` ensures is done for `>`, the group is so too of the world in which the consumer
+/// reads so many. The answer has the entries that the world gives, as they are sent, or none.
 pub fn reading_news_is_the_event()
     ensures { ReadingNewsIsTheEvent }
 {}
 
-/// The same of XREADGROUP of one key with `>`, without `NOACK`, among the streams of the server: what
-/// `read_one` ensures. `BLOCK` does not wait. `COUNT` is the number that `options_in` reads.
+/// If the entries and a group of a stream are those of a world of `stream_group`, they are so after
+/// XREADGROUP of one key with `>`, of the world in which the consumer reads so many. It is of what
+/// `read_one` ensures, without `NOACK`. `BLOCK` does not wait. `COUNT` is the number that `options_in`
+/// reads.
 pub fn xreadgroup_is_the_event()
     ensures { XreadgroupIsTheEvent }
+{}
+
+/// If the entries and a group of a stream are those of a world of `stream_group`, they are so after
+/// XREADGROUP of one key with an id, of the world in which the consumer reads its own pending entries
+/// again. The answer has those that the world gives, with nil for the fields of one that was deleted.
+/// It is of what `read_one` ensures, with `NOACK` or without. It has three premises more: the names of
+/// the group's consumers ascend, what is pending is of the log, and the log ascends.
+pub fn xreadgroup_with_an_id_is_the_event()
+    ensures { XreadgroupWithAnIdIsTheEvent }
 {}
 
 /// If the entries and a group of a stream are those of a world of `stream_group`, they are so after

@@ -67,7 +67,7 @@ fn at_once(
     ensures refused { IfOk result (λ r. IsRefused r
         → seen_streams streams.new ≡ seen_streams streams.old) }
 {
-    match commands::done(alloc, streams, now, session, command, words) {
+    match commands::run(alloc, streams, now, session, command, words) {
         Ok(answer) => Ok(Reply::Done(answer)),
         Err(refusal) => refused(alloc, refusal),
     }
@@ -94,7 +94,7 @@ fn rejected(alloc: Global, session: &mut Session, refusal: Refusal) -> Result<Re
     Ok(reply)
 }
 
-/// That a command is refused.
+/// Replies that a command is refused.
 fn refused(alloc: Global, refusal: Refusal) -> Result<Reply, AllocError> {
     Ok(Reply::Refused(refusal.into_text(alloc)?))
 }
@@ -212,7 +212,7 @@ fn execute(
     outcomes: &mut Vec<Result<Answer, Vec<u8>>>,
 ) {
     for (queued, outcome) in queue.into_iter().zip(outcomes.iter_mut()) {
-        match commands::done(alloc, streams, now, session, queued.command, queued.words) {
+        match commands::run(alloc, streams, now, session, queued.command, queued.words) {
             Ok(answer) => *outcome = Ok(answer),
             Err(refusal) => {
                 if let Ok(text) = refusal.into_text(alloc) {

@@ -7,8 +7,10 @@ ghost use Rattle.stream_server.specs.Streams.{seen_streams};
 ghost use Rattle.stream_store.specs.Order.{id_order};
 ghost use Rattle.stream_store.specs.Stream.{seen_stream};
 
+use super::SYNTAX;
+use super::new_ids::NewId;
+use super::places::place_of;
 use super::retention::{Retention, retention_in};
-use super::{NewId, SYNTAX, place_of};
 use crate::answer::Answer;
 use crate::refusal::Refusal;
 use std::alloc::Global;

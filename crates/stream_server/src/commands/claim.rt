@@ -1,11 +1,12 @@
 //! `XCLAIM`.
 ghost use Rattle.std.specs.Prelude.{◌≡◌, ◌≤◌, length, OnErr};
 
+use super::answers::{claimed_answer, put};
 use super::draft::Draft;
-use super::{
-    SYNTAX, claimed_answer, group_for, id, ids, integer_in, is_word, place_of, place_of_group, put,
-    refusal_of, room_of, settle, shown, stream_for, strict_id,
-};
+use super::id_words::{id, ids, strict_id};
+use super::places::{place_of, place_of_group};
+use super::words::{is_word, shown};
+use super::{SYNTAX, group_for, integer_in, refusal_of, room_of, settle, stream_for};
 use crate::answer::Answer;
 use crate::refusal::Refusal;
 use std::alloc::{AllocError, Global};

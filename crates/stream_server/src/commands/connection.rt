@@ -1,9 +1,11 @@
 //! `PING`, `SELECT`, `CLIENT`, and the others that concern the connection.
 ghost use Rattle.std.specs.Prelude.{◌≡◌, ◌<◌, length, IfOk, OnErr};
 
+use super::answers::bytes_answer;
+use super::words::is_word;
 use super::{
-    NOT_AN_INTEGER, SYNTAX, bytes_answer, check_name, hello, integer_in, is_word,
-    unknown_subcommand, wrong_count, wrong_subcount,
+    NOT_AN_INTEGER, SYNTAX, check_name, hello, integer_in, unknown_subcommand, wrong_count,
+    wrong_subcount,
 };
 use crate::answer::{Answer, Status};
 use crate::refusal::Refusal;

@@ -5,9 +5,12 @@ ghost use Rattle.stream_server.specs.Creating.{IsStartIn, IsXgroupCreate, start_
 ghost use Rattle.stream_server.specs.Streams.{seen_streams};
 ghost use Rattle.stream_store.specs.Stream.{seen_stream};
 
+use super::id_words::strict_id;
+use super::places::{place_of, place_of_group};
+use super::words::is_word;
 use super::{
-    INVALID_ID, SYNTAX, help, integer, is_word, loose_id, no_group_for, place_of, place_of_group,
-    strict_id, unknown_subcommand, wrong_options, wrong_subcount,
+    INVALID_ID, SYNTAX, help, integer, loose_id, no_group_for, unknown_subcommand, wrong_options,
+    wrong_subcount,
 };
 use crate::answer::Answer;
 use crate::refusal::Refusal;
@@ -77,7 +80,7 @@ fn done_on(
             let _group = stream.groups.remove(place);
             Ok(Answer::Int(1))
         }
-        Ok(place) => changed(alloc, stream, place, now, action, rest, options),
+        Ok(place) => change_group(alloc, stream, place, now, action, rest, options),
         Err(_) if action == Action::Destroy => Ok(Answer::Int(0)),
         Err(_) => Err(no_group_for(alloc, key, name)),
     }
@@ -265,7 +268,7 @@ fn create(
 }
 
 /// `SETID`, `CREATECONSUMER`, `DELCONSUMER`
-fn changed(
+fn change_group(
     alloc: Global,
     stream: &mut Stream,
     place: usize,

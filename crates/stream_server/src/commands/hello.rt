@@ -1,7 +1,9 @@
 //! `HELLO`.
 ghost use Rattle.std.specs.Prelude.{◌≡◌, OnErr};
 
-use super::{bytes_answer, check_name, integer_in, is_word, put_row, refusal_of, shown};
+use super::answers::bytes_answer;
+use super::words::{is_word, shown};
+use super::{check_name, integer_in, put_row, refusal_of};
 use crate::answer::Answer;
 use crate::refusal::Refusal;
 use crate::session::Session;
@@ -88,7 +90,7 @@ fn option_at<'a>(
     }
 }
 
-/// That HELLO has no such option.
+/// Makes the refusal of an option that HELLO does not have.
 fn wrong_option(alloc: Global, word: &[u8]) -> Refusal {
     refusal_of(
         alloc,

@@ -2,7 +2,7 @@
 ghost use Rattle.std.specs.Prelude.{IfOk};
 ghost use Rattle.stream_server.specs.Kinds.{IsInfo};
 
-use super::put;
+use super::answers::put;
 use crate::answer::Answer;
 use std::alloc::{AllocError, Global};
 

@@ -4,9 +4,11 @@ mod full;
 ghost use Rattle.std.specs.Prelude.{◌<◌, length as length_of, IfOk};
 ghost use Rattle.stream_server.specs.Kinds.{IsInfo};
 
+use super::answers::{bytes_answer, entry_answer, length, number, put};
+use super::places::{group_of, stream_of};
+use super::words::is_word;
 use super::{
-    SYNTAX, bytes_answer, entry_answer, group_of, help, integer, is_word, length, no_group_for,
-    number, put, put_row, stream_of, unknown_subcommand, wrong_options, wrong_subcount,
+    SYNTAX, help, integer, no_group_for, put_row, unknown_subcommand, wrong_options, wrong_subcount,
 };
 use crate::answer::Answer;
 use crate::refusal::Refusal;

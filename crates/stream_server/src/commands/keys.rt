@@ -1,7 +1,8 @@
 //! `FLUSHALL`, `FLUSHDB`.
 ghost use Rattle.std.specs.Prelude.{◌≡◌, [], OnOk, OnErr};
 
-use super::{SYNTAX, is_word};
+use super::SYNTAX;
+use super::words::is_word;
 use crate::answer::Answer;
 use crate::refusal::Refusal;
 use stream_store::Stream;

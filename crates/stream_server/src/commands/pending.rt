@@ -2,10 +2,9 @@
 ghost use Rattle.std.specs.Prelude.{IfOk};
 ghost use Rattle.stream_server.specs.Kinds.{IsArray};
 
-use super::{
-    SYNTAX, array, bytes_answer, count, group_for, interval_end, interval_start, is_word, length,
-    name_of, number, put, stream_for,
-};
+use super::answers::{array, bytes_answer, length, number, put};
+use super::words::is_word;
+use super::{SYNTAX, count, group_for, interval_end, interval_start, name_of, stream_for};
 use crate::answer::Answer;
 use crate::refusal::Refusal;
 use itoa::Buffer;

@@ -2,9 +2,10 @@
 ghost use Rattle.std.specs.Prelude.{IfOk};
 ghost use Rattle.stream_server.specs.Kinds.{IsArray};
 
-use super::{
-    SYNTAX, count, entries_up, entry_answer, interval_end, interval_start, is_word, put, stream_of,
-};
+use super::answers::{entry_answer, put};
+use super::places::stream_of;
+use super::words::is_word;
+use super::{SYNTAX, count, entries_up, interval_end, interval_start};
 use crate::answer::Answer;
 use crate::refusal::Refusal;
 use std::alloc::{AllocError, Global};

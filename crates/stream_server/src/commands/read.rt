@@ -1,5 +1,5 @@
 //! `XREAD`, `XREADGROUP`.
-ghost use Rattle.std.specs.Prelude.{◌≡◌, ◌≤◌, codes, drop, false, length, map, IfOk, OnErr, OnOk};
+ghost use Rattle.std.specs.Prelude.{◌≡◌, ◌≢◌, ◌≤◌, codes, drop, false, length, map, IfOk, OnErr, OnOk};
 ghost use Rattle.stream_server.specs.Delivering.{HandsOut, IsDelivered, entries_behind};
 ghost use Rattle.stream_server.specs.Giving.{IsPut};
 ghost use Rattle.stream_server.specs.Kinds.{IsRows};
@@ -8,16 +8,23 @@ ghost use Rattle.stream_server.specs.Sent.{array_of, item_list, more_rows, no_ro
 ghost use Rattle.stream_store.specs.Consumers.{HasRoom};
 ghost use Rattle.stream_store.specs.Room.{HasPlaces};
 ghost use Rattle.stream_server.specs.Reading.{AreFound, AreNews};
-ghost use Rattle.stream_server.specs.declared.commands.read.Start.TheVariants.{News};
+ghost use Rattle.stream_server.specs.declared.commands.read.Start.TheVariants.{Behind, News};
+ghost use Rattle.stream_server.specs.IdWords.{Fits};
+ghost use Rattle.stream_server.specs.Rereading.{IsRereadIn, IsWordOf, largest};
+ghost use Rattle.stream_store.specs.declared.entry_id.EntryId.{EntryId};
 ghost use Rattle.stream_store.specs.Laws.{AreInOrder};
 
+mod own;
+
+use super::answers::{array, entry_answer, put};
 use super::draft::Draft;
-use super::{
-    SYNTAX, array, count, entry_answer, group_of, id, integer_in, is_word, place_of,
-    place_of_group, put, refusal_of, room_of, settle, shown, stream_of,
-};
+use super::id_words::id;
+use super::places::{group_of, place_of, place_of_group, stream_of};
+use super::words::{is_word, shown};
+use super::{SYNTAX, count, integer_in, refusal_of, room_of, settle};
 use crate::answer::Answer;
 use crate::refusal::Refusal;
+use own::{deliver_again, read_own};
 use std::alloc::{AllocError, Global};
 use stream_store::{EntryId, Group, Pending, Room, Stream};
 
@@ -36,7 +43,7 @@ struct Reader<'a> {
     group: &'a [u8],
     consumer: &'a [u8],
     /// `NOACK`
-    acknowledges: bool,
+    noack: bool,
     now: u64,
     most: u64,
 }
@@ -48,7 +55,7 @@ struct ReadOptions<'a> {
     most: u64,
     /// The group and the consumer.
     names: Option<(&'a [u8], &'a [u8])>,
-    acknowledges: bool,
+    noack: bool,
     keys: &'a [Vec<u8>],
     ids: &'a [Vec<u8>],
 }
@@ -145,7 +152,7 @@ fn read_all<'a>(
     ensures err { OnErr result (streams.new ≡ streams.old) }
 {
     let mut drafts = Vec::new(alloc);
-    let rows = given(alloc, streams, options, reader, &mut drafts)?;
+    let rows = read_for_group(alloc, streams, options, reader, &mut drafts)?;
     let rooms = rooms_of(alloc, streams, &drafts)?;
     for (draft, room) in drafts.into_iter().zip(rooms) {
         settle(streams, draft, room);
@@ -167,7 +174,7 @@ fn rooms_of(
 }
 
 /// What XREADGROUP answers, and what it changes of the groups.
-fn given<'a>(
+fn read_for_group<'a>(
     alloc: Global,
     streams: &[Stream],
     options: &ReadOptions<'a>,
@@ -189,7 +196,7 @@ fn reader_of<'a>(options: &ReadOptions<'a>, now: u64) -> Result<Reader<'a>, Refu
         Some((group, consumer)) => Ok(Reader {
             group,
             consumer,
-            acknowledges: options.acknowledges,
+            noack: options.noack,
             now,
             most: options.most,
         }),
@@ -278,7 +285,7 @@ fn options_in(arguments: &[Vec<u8>], is_group: bool) -> Result<ReadOptions<'_>, 
     let mut options = ReadOptions {
         most: u64::MAX,
         names: None,
-        acknowledges: false,
+        noack: false,
         keys: &[],
         ids: &[],
     };
@@ -309,7 +316,7 @@ fn option_at<'a>(
             if !is_group {
                 return Err(Refusal::Fixed(NOACK_ALONE));
             }
-            options.acknowledges = true;
+            options.noack = true;
             Ok(behind)
         }
         [word, group, consumer, behind @ ..] if is_word(word, "GROUP") => {
@@ -378,7 +385,9 @@ fn group_start_of(
     text: &[u8],
     group: &[u8],
 ) -> Result<Start, Refusal>
-    ensures { IfOk result (λ start. text.now ≡ codes ">" → start ≡ News) }
+    ensures news { IfOk result (λ start. text.now ≡ codes ">" → start ≡ News) }
+    ensures behind { IfOk result (λ start. (id : EntryId) → Fits id → id ≢ largest → IsWordOf id text.now
+        → start ≡ Behind id) }
 {
     let has_group = match stream_of(streams, key) {
         Some(stream) => group_of(stream, group).is_some(),
@@ -446,7 +455,7 @@ fn read_as(
     start: Start,
 ) -> Result<Option<Vec<Answer>>, AllocError>
     ensures { IfOk result (λ found. start ≡ News → AreNews reader.entry.consumer.now reader.entry.now
-        reader.entry.most reader.entry.acknowledges stream.now.entries.items part.old part.new found) }
+        reader.entry.most reader.entry.noack stream.now.entries.items part.old part.new found) }
 {
     match start {
         Start::Behind(behind) => {
@@ -540,7 +549,7 @@ fn hand_out(
     reader: Reader<'_>,
 ) -> Result<(), AllocError>
     ensures { OnOk result (HandsOut reader.entry.consumer.now reader.entry.now reader.entry.most
-        reader.entry.acknowledges stream.now.entries.items group.old group.new) }
+        reader.entry.noack stream.now.entries.items group.old group.new) }
 {
     let start = start_behind(stream, group.last_id);
     let number = group.see(alloc, reader.consumer, reader.now)?;
@@ -576,12 +585,12 @@ fn deliver(
     number: u64,
     reader: Reader<'_>,
 ) -> Result<(), AllocError>
-    ensures { OnOk result (IsDelivered number reader.entry.now reader.entry.acknowledges id
+    ensures { OnOk result (IsDelivered number reader.entry.now reader.entry.noack id
         group.old group.new) }
 {
     group.entries_read = read_up_to(stream, group.entries_read, id);
     group.last_id = id;
-    if reader.acknowledges {
+    if reader.noack {
         return Ok(());
     }
     group.give(Pending {
@@ -641,8 +650,11 @@ fn read_one(
     reader: Reader<'_>,
 ) -> Result<Answer, Refusal>
     ensures rows { IfOk result IsRows }
-    ensures news { IfOk result (λ answer. text.now ≡ codes ">" → reader.entry.acknowledges ≡ false
+    ensures news { IfOk result (λ answer. text.now ≡ codes ">" → reader.entry.noack ≡ false
         → IsReadIn key.now reader.entry.consumer.now reader.entry.now reader.entry.most reader.entry.group.now
+        answer streams.old streams.new) }
+    ensures own { IfOk result (λ answer. (id : EntryId) → Fits id → id ≢ largest → IsWordOf id text.now
+        → IsRereadIn key.now reader.entry.consumer.now reader.entry.now reader.entry.most id reader.entry.group.now
         answer streams.old streams.new) }
     ensures err { OnErr result (streams.new ≡ streams.old) }
 {
@@ -654,6 +666,10 @@ fn read_one(
         return Err(SYNTAX);
     };
     let stream = &streams[index];
+    if let Start::Behind(behind) = start {
+        let read = read_own(alloc, stream, &stream.groups[place], key, reader, behind)?;
+        return Ok(deliver_again(&mut streams[index].groups[place], read, reader.now));
+    }
     let Some(read) = read_of(alloc, stream, &stream.groups[place], key, reader, start)? else {
         return Ok(Answer::NilArray);
     };
@@ -672,7 +688,7 @@ fn read_of(
     start: Start,
 ) -> Result<Option<Outcome>, AllocError>
     ensures rows { IfOk result IsInRows }
-    ensures news { IfOk result (λ read. start ≡ News → reader.entry.acknowledges ≡ false
+    ensures news { IfOk result (λ read. start ≡ News → reader.entry.noack ≡ false
         → AreInOrder stream.now.entries.items → IsFound key.now reader.entry.consumer.now reader.entry.now
         reader.entry.most stream.now.entries.items group.now
         (entries_behind group.now.last_id stream.now.entries.items) read) }

@@ -6,7 +6,10 @@ ghost use Rattle.stream_server.specs.declared.commands.NewId.TheVariants.{Automa
 ghost use Rattle.stream_store.specs.EntryId.{id_text};
 ghost use Rattle.stream_store.specs.declared.entry_id.EntryId.{EntryId};
 
-use super::{INVALID_ID, NewId, SYNTAX, id, integer, is_word, new_id};
+use super::id_words::id;
+use super::new_ids::{NewId, new_id};
+use super::words::is_word;
+use super::{INVALID_ID, SYNTAX, integer};
 use crate::refusal::Refusal;
 use stream_store::{Bound, NODE_ENTRIES, Trim};
 

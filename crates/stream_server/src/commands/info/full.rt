@@ -4,7 +4,8 @@ ghost use Rattle.stream_server.specs.Kinds.{IsInfo};
 
 use super::{head_rows, lag, maybe, put_rows};
 use crate::answer::Answer;
-use crate::commands::{array, bytes_answer, entries_up, length, name_of, number, put};
+use crate::commands::answers::{array, bytes_answer, length, number, put};
+use crate::commands::{entries_up, name_of};
 use std::alloc::{AllocError, Global};
 use stream_store::{Consumer, EntryId, Group, Pending, Stream};
 

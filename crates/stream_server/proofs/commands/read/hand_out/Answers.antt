@@ -7,7 +7,7 @@ use Rattle.stream_server.proofs.commands.read.hand_out.Goals as goal
 pub loop-entry-preserved : goal.loop-entry-preserved
 loop-entry-preserved c = λ new so.
     c.loop-entry.invariant new
-    (delivered_more c.in_ok-number.number c.args.reader.now c.args.reader.acknowledges c.in-Some.entry.now c.loop-entry.group
+    (delivered_more c.in_ok-number.number c.args.reader.now c.args.reader.noack c.in-Some.entry.now c.loop-entry.group
     c.deliver.new.group new c.in_ok-deliver.ensures c.loop-entry.left _ _ c.if-left-eq0.false c.in-Some.ensures.steps so)
 
 pub returns-in-None : goal.returns-in-None
@@ -17,7 +17,7 @@ returns-in-None c =
     ap deque_iter_rest same
     ∙ c.range-entry-items.ensures.rest
     ∙ take_all _ _ (omega (arith, length-drop c.start_behind-start.result c.args.stream.now.entries.items, c.args.stream.now.entries.ok.0)) in
-    all_delivered c.in_ok-number.number c.args.reader.now c.args.reader.acknowledges c.args.reader.consumer.now
+    all_delivered c.in_ok-number.number c.args.reader.now c.args.reader.noack c.args.reader.consumer.now
     c.args.reader.most c.loop-entry.left c.start_behind-start.result c.args.stream.now.entries.items _
     (deque_iter_rest c.loop-entry.entry-iterator) c.args.group.now c.see.new.self c.loop-entry.group
     c.in_ok-number.ensures.ok c.in_ok-number.ensures.others all c.start_behind-start.ensures.behind c.loop-entry.invariant
@@ -30,7 +30,7 @@ returns-then-left-eq0 c =
     ap deque_iter_rest same
     ∙ c.range-entry-items.ensures.rest
     ∙ take_all _ _ (omega (arith, length-drop c.start_behind-start.result c.args.stream.now.entries.items, c.args.stream.now.entries.ok.0)) in
-    all_delivered c.in_ok-number.number c.args.reader.now c.args.reader.acknowledges c.args.reader.consumer.now
+    all_delivered c.in_ok-number.number c.args.reader.now c.args.reader.noack c.args.reader.consumer.now
     c.args.reader.most c.loop-entry.left c.start_behind-start.result c.args.stream.now.entries.items _
     (deque_iter_rest c.loop-entry.entry-iterator) c.args.group.now c.see.new.self c.loop-entry.group
     c.in_ok-number.ensures.ok c.in_ok-number.ensures.others all c.start_behind-start.ensures.behind c.loop-entry.invariant

@@ -8,6 +8,6 @@ use Rattle.stream_server.proofs.commands.read.hand_out.Given as goal
 abbrev pub invariant-loop-entry : goal.invariant-loop-entry
 invariant-loop-entry l =
     (new : Group)
-    → AreDelivered l.number l.reader.now l.reader.acknowledges (take l.left (deque_iter_rest l.entry-iterator)) l.group new
-    → AreDelivered l.number l.reader.now l.reader.acknowledges
+    → AreDelivered l.number l.reader.now l.reader.noack (take l.left (deque_iter_rest l.entry-iterator)) l.group new
+    → AreDelivered l.number l.reader.now l.reader.noack
     (take l.initial.left (deque_iter_rest l.initial.entry-iterator)) l.initial.group new

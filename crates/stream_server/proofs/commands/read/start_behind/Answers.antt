@@ -3,8 +3,8 @@ use Rattle.stream_server.proofs.commands.read.start_behind.Goals as goal
 
 pub returns-in-Ok-clause-behind : goal.returns-in-Ok-clause-behind
 returns-in-Ok-clause-behind c =
-    behind_it c.args.id c.args.stream.now.entries.items c.in-Ok.index c.in-Ok.ensures.bound c.in-Ok.ensures.found
+    behind_it (λ entry. entry.id) c.args.id c.args.stream.now.entries.items c.in-Ok.index c.in-Ok.ensures.bound c.in-Ok.ensures.found
 
 pub returns-in-Err-clause-behind : goal.returns-in-Err-clause-behind
 returns-in-Err-clause-behind c = λ up.
-    behind_gap c.args.id c.args.stream.now.entries.items c.in-Err.index c.in-Err.ensures.bound (c.in-Err.ensures.missing up)
+    behind_gap (λ entry. entry.id) c.args.id c.args.stream.now.entries.items c.in-Err.index c.in-Err.ensures.bound (c.in-Err.ensures.missing up)

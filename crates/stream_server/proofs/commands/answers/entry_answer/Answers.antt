@@ -3,7 +3,7 @@ use Rattle.std.specs.Global.{Vec}
 use Rattle.std.specs.Prelude.{ℕ}
 use Rattle.stream_server.specs.Claiming.{sent_fields}
 use Rattle.stream_server.proofs.ReadLemmas.{entry_answered}
-use Rattle.stream_server.proofs.commands.entry_answer.Goals as goal
+use Rattle.stream_server.proofs.commands.answers.entry_answer.Goals as goal
 
 pub returns : goal.returns
 returns c =

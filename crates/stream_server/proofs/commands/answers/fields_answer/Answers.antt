@@ -2,7 +2,7 @@ use Rattle.std.proofs.Common.{List, ℕ, ◌∙◌, ap}
 use Rattle.redis_resp.specs.Tree.{bulk}
 use Rattle.stream_server.specs.Sent.{plain}
 use Rattle.stream_server.proofs.ReadLemmas.{field_more, fields_sent}
-use Rattle.stream_server.proofs.commands.fields_answer.Goals as goal
+use Rattle.stream_server.proofs.commands.answers.fields_answer.Goals as goal
 
 pub loop-field-preserved : goal.loop-field-preserved
 loop-field-preserved c =

@@ -3,7 +3,7 @@ use Rattle.std.proofs.lemmas.Fn.{always_returns_same}
 use Rattle.std.specs.Cmp.Lexicographic.{slice_cmp}
 use Rattle.std.specs.Ordering.{nat_cmp}
 use Rattle.stream_server.proofs.NameLemmas.{found_by_name, missing_by_name}
-use Rattle.stream_server.proofs.commands.place_of.Goals as goal
+use Rattle.stream_server.proofs.commands.places.place_of.Goals as goal
 
 -- the closure compares the key of a stream with this key
 pub returns-clause-found : goal.returns-clause-found

@@ -1,7 +1,7 @@
 use Rattle.std.proofs.Common.{◌≡◌, map, take}
 use Rattle.redis_resp.specs.Tree.{bulk}
 use Rattle.stream_server.specs.Sent.{plain, sent}
-use Rattle.stream_server.proofs.commands.fields_answer.Given as goal
+use Rattle.stream_server.proofs.commands.answers.fields_answer.Given as goal
 
 -- the fields so far are answers
 abbrev pub invariant-loop-field : goal.invariant-loop-field
