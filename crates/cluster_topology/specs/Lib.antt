@@ -1,0 +1,3 @@
+pub mod Cause
+pub mod Topology
+pub mod TopologyMeaning

@@ -1,0 +1,49 @@
+//! Why a reply tells no topology.
+use redis_resp::ParsingError;
+use std::alloc::AllocError;
+use thiserror::Error;
+
+/// Why a reply tells no topology, or that memory ran out.
+#[derive(Debug, Drop, PartialEq, Eq, Error)]
+pub enum TopologyError {
+    /// The value is no such reply. A slot or port above 65,535 is no number of it.
+    #[error("not a reply of slots")]
+    NotSlots,
+    /// A slot is above 16,383.
+    #[error("a slot is above 16383")]
+    SlotPastLast,
+    /// The first slot of a range is above its last.
+    #[error("the first slot of a range is above its last")]
+    Reversed,
+    /// A slot is in two ranges.
+    #[error("a slot is in two ranges")]
+    Overlap,
+    /// A growth was refused. It says nothing of the value.
+    #[error("out of memory")]
+    Memory,
+}
+
+impl From<AllocError> for TopologyError {
+    ghost use Rattle.std.specs.Prelude.{◌≡◌};
+    ghost use Rattle.cluster_topology.specs.declared.error.TopologyError.TheVariants.{Memory};
+
+    ghost from_gives = { λ _ e. e ≡ Memory };
+
+    fn from(_error: AllocError) -> TopologyError {
+        TopologyError::Memory
+    }
+}
+
+impl From<ParsingError> for TopologyError {
+    ghost use Rattle.std.specs.Prelude.{◌≡◌};
+    ghost use Rattle.cluster_topology.specs.Cause.{cause_of};
+
+    ghost from_gives = { λ error e. e ≡ cause_of error };
+
+    fn from(error: ParsingError) -> TopologyError {
+        match error {
+            ParsingError::Memory => TopologyError::Memory,
+            _ => TopologyError::NotSlots,
+        }
+    }
+}

@@ -1,0 +1,17 @@
+//! Which node is the master of a slot, as a node of the cluster tells: the replies to CLUSTER SLOTS
+//! and CLUSTER SHARDS. Nothing here opens a connection.
+#![tactic(auto)]
+
+mod check;
+mod error;
+mod node;
+mod range;
+mod row;
+mod shard;
+mod topology;
+
+pub use error::TopologyError;
+pub use node::{Node, Role};
+pub use range::SlotRange;
+pub use shard::Shard;
+pub use topology::Topology;
