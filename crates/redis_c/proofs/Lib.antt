@@ -1,12 +1,9 @@
 pub mod PlacedLemmas
 pub mod PackingLemmas
 pub mod SettingsLemmas
+pub mod PartLemmas
 pub mod ServerLemmas
 pub mod ErrorLemmas
-pub mod CursorLemmas
-pub mod CursorReadLemmas
-pub mod CursorTrimLemmas
-pub mod CursorAddLemmas
 pub mod RecordLemmas
 pub mod TellLemmas
 pub mod FindLemmas

@@ -2,11 +2,11 @@ pub mod Outcome
 pub mod Told
 pub mod Claimed
 pub mod Packing
+pub mod Parts
 pub mod Placed
 pub mod Settings
 pub mod Commands
 pub mod Server
-pub mod Cursor
 pub mod Plain
 pub mod Records
 pub mod Nodes

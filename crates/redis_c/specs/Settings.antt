@@ -98,9 +98,13 @@ add_in bytes s =
 
 -- ---- claiming
 
+-- the id at a place, if one is noted
+abbrev pub lastid_by : List ℕ → Bool → Span → Option (Option (List ℕ))
+lastid_by bytes is_noted place = if is_noted then option_map Some (utf8_at bytes place) else Some None
+
 -- the id that is noted, if one is
 abbrev pub lastid_in : List ℕ → ClaimSettings → Option (Option (List ℕ))
-lastid_in bytes s = if s.has_lastid then option_map Some (utf8_at bytes s.lastid) else Some None
+lastid_in bytes s = lastid_by bytes s.has_lastid s.lastid
 
 -- the settings with that id
 abbrev pub claim_with : ClaimSettings → Option (List ℕ) → Claim

@@ -1,16 +1,13 @@
 //! How an entry is added, from what C asks.
-ghost use Rattle.std.specs.Prelude.{◌≡◌, None, false, option_map, IfOk, IfSome};
-ghost use Rattle.stream_options.specs.Add.{AddFits};
-ghost use Rattle.stream_options.specs.Idempotency.{IdempotencyFits};
-ghost use Rattle.stream_options.specs.View.{policy_of, strategy_of, idempotency_of};
+ghost use Rattle.std.specs.Prelude.{option_map};
+ghost use Rattle.stream_options.specs.View.{idempotency_of};
 ghost use Rattle.redis_c.specs.Settings.{idempotency_in, add_in, Makes};
 
 use crate::settings::{AddSettings, Unset};
 use crate::trimming::{any_strategy_in, policy_by, utf8_at};
 use std::alloc::Global;
-use stream_options::{
-    StreamAddOptions, StreamDeletionPolicy, StreamIdempotencyMode, StreamTrimStrategy,
-};
+use stream_options::{StreamAddOptions, StreamIdempotencyMode};
+use stream_sentences::{AddParts, add_with};
 
 /// How the server finds out that an entry was added before, if it does.
 fn idempotency_in(
@@ -18,8 +15,7 @@ fn idempotency_in(
     bytes: &[u8],
     settings: &AddSettings,
 ) -> Result<Option<StreamIdempotencyMode>, Unset>
-    ensures idempotency { Makes (option_map idempotency_of) result (idempotency_in bytes.now settings.now) }
-    ensures fits { IfOk result (λ mode. IfSome (option_map idempotency_of mode) IdempotencyFits) }
+    ensures { Makes (option_map idempotency_of) result (idempotency_in bytes.now settings.now) }
 {
     if settings.idempotency == 0 {
         Ok(None)
@@ -44,70 +40,15 @@ pub fn add_in(
     bytes: &[u8],
     settings: &AddSettings,
 ) -> Result<StreamAddOptions, Unset>
-    ensures add { Makes (λ options. options) result (add_in bytes.now settings.now) }
-    ensures fits { IfOk result (λ options. AddFits options) }
+    ensures { Makes (λ options. options) result (add_in bytes.now settings.now) }
 {
     let policy = policy_by(settings.trim.policy)?;
     let idempotency = idempotency_in(alloc, bytes, settings)?;
     let strategy = any_strategy_in(alloc, bytes, &settings.trim)?;
-    let options = with_nomkstream(StreamAddOptions::default(), settings.nomkstream);
-    let options = with_idempotency(with_policy(options, policy), idempotency);
-    Ok(with_strategy(options, strategy))
-}
-
-/// The flag, where it is wanted.
-fn with_nomkstream(options: StreamAddOptions, wanted: bool) -> StreamAddOptions
-    requires { options.nomkstream ≡ false }
-    ensures { result ≡ record options { nomkstream = wanted } }
-{
-    if wanted {
-        options.nomkstream()
-    } else {
-        options
-    }
-}
-
-/// The policy, where there is one.
-fn with_policy(options: StreamAddOptions, policy: Option<StreamDeletionPolicy>) -> StreamAddOptions
-    requires { options.policy ≡ None }
-    ensures { result ≡ record options { policy = option_map policy_of policy } }
-{
-    match policy {
-        Some(policy) => options.set_deletion_policy(policy),
-        None => options,
-    }
-}
-
-/// The way to find out that an entry was added before, where there is one.
-fn with_idempotency(
-    options: StreamAddOptions,
-    mode: Option<StreamIdempotencyMode>,
-) -> StreamAddOptions
-    requires { options.idempotency ≡ None }
-    ensures { result ≡ record options { idempotency = option_map idempotency_of mode } }
-{
-    match mode {
-        Some(
-            StreamIdempotencyMode::Manual {
-                producer_id,
-                idempotent_id,
-            },
-        ) => options.idmp(producer_id, idempotent_id),
-        Some(StreamIdempotencyMode::Automatic { producer_id }) => options.idmpauto(producer_id),
-        None => options,
-    }
-}
-
-/// The strategy, where there is one.
-fn with_strategy(
-    options: StreamAddOptions,
-    strategy: Option<StreamTrimStrategy>,
-) -> StreamAddOptions
-    requires { options.trim ≡ None }
-    ensures { result ≡ record options { trim = option_map strategy_of strategy } }
-{
-    match strategy {
-        Some(strategy) => options.trim(strategy),
-        None => options,
-    }
+    Ok(add_with(AddParts {
+        nomkstream: settings.nomkstream,
+        policy,
+        idempotency,
+        strategy,
+    }))
 }

@@ -1,6 +1,5 @@
 //! Commands of a worker, packed into a buffer of the caller.
 ghost use Rattle.std.specs.Prelude.{◌≡◌, ◌∷◌, [], IfOk};
-ghost use Rattle.stream_options.specs.Read.{ReadFits};
 ghost use Rattle.stream_commands.specs.WholeCommands.{read_list};
 ghost use Rattle.redis_c.specs.Packing.{IsPacking, IsPackedAs};
 ghost use Rattle.redis_c.specs.Commands.{reading_of, read_of, read_parts, ack_args, autoclaim_args};
@@ -34,8 +33,7 @@ pub struct ReadSettings {
 
 /// The settings that say how long a read waits and how much it reads.
 pub fn reading_of(settings: &ReadSettings) -> StreamReadOptions
-    ensures reading { result ≡ reading_of settings.now }
-    ensures fits { ReadFits result }
+    ensures { result ≡ reading_of settings.now }
 {
     let mut options = StreamReadOptions::default();
     if settings.has_count {
@@ -54,8 +52,7 @@ pub fn options_of(
     group: &[u8],
     consumer: &[u8],
 ) -> Result<StreamReadOptions, AllocError>
-    ensures read { IfOk result (λ options. options ≡ read_of settings.now group.now consumer.now) }
-    ensures fits { IfOk result (λ options. ReadFits options) }
+    ensures { IfOk result (λ options. options ≡ read_of settings.now group.now consumer.now) }
 {
     let mut options = reading_of(settings);
     if settings.noack {

@@ -1,8 +1,7 @@
 //! The options of commands, read back from arguments at places in bytes of the caller: for a server.
 //!
-//! Settings are made of the arguments, and written again: what they write has to be what `stream_sentences`
-//! found in front of the arguments.
-ghost use Rattle.std.specs.Prelude.{◌≡◌, Some, true, map, IfOk};
+//! The settings are those that `stream_sentences` reads, with the places of their texts.
+ghost use Rattle.std.specs.Prelude.{◌≡◌, Some};
 ghost use Rattle.stream_options.specs.Add.{AddFits, add_sentence, add_words};
 ghost use Rattle.stream_options.specs.AutoClaim.{AutoClaimFits, autoclaim_sentence, autoclaim_words};
 ghost use Rattle.stream_options.specs.Claim.{ClaimFits, claim_sentence, claim_words};
@@ -11,22 +10,22 @@ ghost use Rattle.stream_options.specs.Read.{ReadFits, CountAlike, read_sentence,
 ghost use Rattle.stream_options.specs.Trim.{TrimFits, trim_sentence, trim_words};
 ghost use Rattle.redis_c.specs.Placed.{texts_at};
 ghost use Rattle.redis_c.specs.Plain.{IsPlainAdd, IsPlainTrim, IsPlainClaim, IsPlainAutoClaim, IsPlainRead, IsPlainGroup};
-ghost use Rattle.redis_c.specs.Settings.{add_in, trim_in, claim_in, autoclaim_of, Makes};
+ghost use Rattle.redis_c.specs.Settings.{add_in, trim_in, claim_in, autoclaim_of};
 ghost use Rattle.redis_c.specs.Server.{reading_number, reading_count, read_in, IsReading, IsReadAs};
 
-use crate::adding::add_in;
-use crate::claiming::{autoclaim_of, claim_in};
 use crate::code;
-use crate::commands::{ReadSettings, options_of, reading_of};
-use crate::cursor::Cursor;
-use crate::placed::{Unplaced, text_at, texts_at};
-use crate::settings::{AddSettings, AutoClaimSettings, ClaimSettings, TrimSettings, Unset};
-use crate::trimming::trim_in;
-use redis_args::ToRedisArgs;
+use crate::commands::ReadSettings;
+use crate::parts::{
+    add_settings, autoclaim_settings, claim_settings, group_place, read_settings, trim_settings,
+};
+use crate::placed::{Unplaced, texts_at};
+use crate::settings::{AddSettings, AutoClaimSettings, ClaimSettings, TrimSettings};
 use redis_wire::place::Span;
 use std::alloc::Global;
-use stream_options::StreamReadOptions;
-use stream_sentences::{SentenceError, read_add, read_autoclaim, read_claim, read_read, read_trim};
+use stream_sentences::{
+    SentenceError, read_add_parts, read_autoclaim_parts, read_claim_parts, read_read_parts,
+    read_trim_parts,
+};
 
 /// Where the names of a group and its consumer stand.
 #[repr(C)]
@@ -113,36 +112,7 @@ fn of_error(error: SentenceError) -> Reading
     }
 }
 
-/// Whether these are the same arguments.
-fn are_same(a: &[Vec<u8>], b: &[Vec<u8>]) -> bool
-    ensures { result ≡ true → map (λ arg. arg.items) a.now ≡ map (λ arg. arg.items) b.now }
-{
-    if a.len() != b.len() {
-        return false;
-    }
-    for i in 0..a.len() {
-        if a[i].as_slice() != b[i].as_slice() {
-            return false;
-        }
-    }
-    true
-}
-
-/// Whether the settings write what the options do; never where memory runs out.
-fn write_same<A: ToRedisArgs, B: ToRedisArgs>(alloc: Global, a: &A, b: &B) -> bool
-    ensures { result ≡ true → A.args a.now ≡ B.args b.now }
-{
-    let Ok(a) = a.to_redis_args(alloc) else {
-        return false;
-    };
-    let Ok(b) = b.to_redis_args(alloc) else {
-        return false;
-    };
-    are_same(&a, &b)
-}
-
 /// The options of XADD in front of the arguments at these places.
-#[tactic(auto, using(crate::proofs::ServerLemmas::same_add))]
 fn add_reading(alloc: Global, bytes: &[u8], places: &[Span], settings: &mut AddSettings) -> Reading
     ensures is { IsReading AddFits add_sentence add_words Equal (texts_at bytes.now places.now)
         (add_in bytes.now settings.new) result }
@@ -152,16 +122,12 @@ fn add_reading(alloc: Global, bytes: &[u8], places: &[Span], settings: &mut AddS
         Ok(args) => args,
         Err(unplaced) => return of_unplaced(unplaced),
     };
-    let (options, count) = match read_add(alloc, &args) {
+    let (parts, count) = match read_add_parts(alloc, &args) {
         Ok(found) => found,
         Err(error) => return of_error(error),
     };
-    *settings = Cursor { bytes, places }.add();
-    match add_in(alloc, bytes, settings) {
-        Ok(same) if write_same(alloc, &same, &options) => Reading::Options { count },
-        // What the cursor makes of a sentence writes it again, where there is memory for that.
-        _ => Reading::Memory,
-    }
+    *settings = add_settings(&parts, places);
+    Reading::Options { count }
 }
 
 /// Reads the options of XADD that the arguments at these places of bytes begin with, those behind the key: `count`
@@ -182,7 +148,6 @@ pub extern "C" fn redis_read_add(
 }
 
 /// The options of XTRIM in front of the arguments at these places.
-#[tactic(auto, using(crate::proofs::ServerLemmas::same_trim))]
 fn trim_reading(
     alloc: Global,
     bytes: &[u8],
@@ -197,16 +162,12 @@ fn trim_reading(
         Ok(args) => args,
         Err(unplaced) => return of_unplaced(unplaced),
     };
-    let (options, count) = match read_trim(alloc, &args) {
+    let (parts, count) = match read_trim_parts(alloc, &args) {
         Ok(found) => found,
         Err(error) => return of_error(error),
     };
-    *settings = Cursor { bytes, places }.trim();
-    match trim_in(alloc, bytes, settings) {
-        Ok(same) if write_same(alloc, &same, &options) => Reading::Options { count },
-        // What the cursor makes of a sentence writes it again, where there is memory for that.
-        _ => Reading::Memory,
-    }
+    *settings = trim_settings(&parts, places);
+    Reading::Options { count }
 }
 
 /// Reads the options of XTRIM that the arguments at these places of bytes begin with, those behind the key: `count`
@@ -227,7 +188,6 @@ pub extern "C" fn redis_read_trim(
 }
 
 /// The options of XCLAIM in front of the arguments at these places.
-#[tactic(auto, using(crate::proofs::ServerLemmas::same_claim))]
 fn claim_reading(
     alloc: Global,
     bytes: &[u8],
@@ -242,16 +202,12 @@ fn claim_reading(
         Ok(args) => args,
         Err(unplaced) => return of_unplaced(unplaced),
     };
-    let (options, count) = match read_claim(alloc, &args) {
+    let (parts, count) = match read_claim_parts(alloc, &args) {
         Ok(found) => found,
         Err(error) => return of_error(error),
     };
-    *settings = Cursor { bytes, places }.claim();
-    match claim_in(alloc, bytes, settings) {
-        Ok(same) if write_same(alloc, &same, &options) => Reading::Options { count },
-        // What the cursor makes of a sentence writes it again, where there is memory for that.
-        _ => Reading::Memory,
-    }
+    *settings = claim_settings(&parts, places);
+    Reading::Options { count }
 }
 
 /// Reads the options of XCLAIM that the arguments at these places of bytes begin with, those behind the ids:
@@ -272,7 +228,6 @@ pub extern "C" fn redis_read_claim(
 }
 
 /// The options of XAUTOCLAIM in front of the arguments at these places.
-#[tactic(auto, using(crate::proofs::ServerLemmas::same_autoclaim))]
 fn autoclaim_reading(
     alloc: Global,
     bytes: &[u8],
@@ -287,17 +242,12 @@ fn autoclaim_reading(
         Ok(args) => args,
         Err(unplaced) => return of_unplaced(unplaced),
     };
-    let (options, count) = match read_autoclaim(&args) {
+    let (parts, count) = match read_autoclaim_parts(&args) {
         Ok(found) => found,
         Err(error) => return of_error(error),
     };
-    *settings = Cursor { bytes, places }.autoclaim();
-    if write_same(alloc, &autoclaim_of(settings), &options) {
-        Reading::Options { count }
-    } else {
-        // What the cursor makes of a sentence writes it again, where there is memory for that.
-        Reading::Memory
-    }
+    *settings = autoclaim_settings(parts);
+    Reading::Options { count }
 }
 
 /// Reads the options of XAUTOCLAIM that the arguments at these places of bytes begin with, those behind the start:
@@ -317,33 +267,7 @@ pub extern "C" fn redis_read_autoclaim(
     autoclaim_reading(alloc, bytes, places, settings).tell(count)
 }
 
-/// The settings of a read, for a consumer of a group where one is named.
-fn read_in(
-    alloc: Global,
-    bytes: &[u8],
-    settings: &ReadSettings,
-    place: &GroupPlace,
-) -> Result<StreamReadOptions, Unset>
-    ensures read { Makes (λ options. options) result (read_in bytes.now settings.now place.now) }
-    ensures fits { IfOk result (λ options. ReadFits options) }
-{
-    if !place.has_group {
-        return Ok(reading_of(settings));
-    }
-    let Some(group) = text_at(bytes, place.group) else {
-        return Err(Unset::Refused);
-    };
-    let Some(consumer) = text_at(bytes, place.consumer) else {
-        return Err(Unset::Refused);
-    };
-    match options_of(alloc, settings, group.0, consumer.0) {
-        Ok(options) => Ok(options),
-        Err(_) => Err(Unset::Memory),
-    }
-}
-
 /// The options of XREAD or XREADGROUP in front of the arguments at these places.
-#[tactic(auto, using(crate::proofs::ServerLemmas::same_read))]
 fn read_reading(
     alloc: Global,
     bytes: &[u8],
@@ -360,18 +284,13 @@ fn read_reading(
         Ok(args) => args,
         Err(unplaced) => return of_unplaced(unplaced),
     };
-    let (options, count) = match read_read(alloc, &args) {
+    let (parts, count) = match read_read_parts(&args) {
         Ok(found) => found,
         Err(error) => return of_error(error),
     };
-    let mut cursor = Cursor { bytes, places };
-    *group = cursor.group();
-    *settings = cursor.read();
-    match read_in(alloc, bytes, settings, group) {
-        Ok(same) if write_same(alloc, &same, &options) => Reading::Options { count },
-        // What the cursor makes of a sentence writes it again, where there is memory for that.
-        _ => Reading::Memory,
-    }
+    *group = group_place(parts.group, places);
+    *settings = read_settings(parts);
+    Reading::Options { count }
 }
 
 /// Reads the options of XREAD or XREADGROUP that the arguments at these places of bytes begin with: `count` of

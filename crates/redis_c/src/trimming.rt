@@ -1,7 +1,6 @@
 //! How a stream is trimmed, from what C asks.
-ghost use Rattle.std.specs.Prelude.{◌≡◌, None, string_bytes, option_map, IfOk, IfSome};
-ghost use Rattle.std.specs.Str.{IsUtf8};
-ghost use Rattle.stream_options.specs.Trim.{unlimited, StrategyFits, TrimFits};
+ghost use Rattle.std.specs.Prelude.{◌≡◌, string_bytes, option_map};
+ghost use Rattle.stream_options.specs.Trim.{unlimited};
 ghost use Rattle.stream_options.specs.View.{mode_of, policy_of, strategy_of};
 ghost use Rattle.redis_c.specs.Settings.{mode_by, policy_by, utf8_at, bound_in, strategy_in, any_strategy_in};
 ghost use Rattle.redis_c.specs.Settings.{trim_in, Makes};
@@ -13,11 +12,11 @@ use std::alloc::Global;
 use stream_options::{
     StreamDeletionPolicy, StreamTrimOptions, StreamTrimStrategy, StreamTrimmingMode,
 };
+use stream_sentences::{TrimParts, trim_with};
 
 /// The text at a place, where it is within the bytes and UTF-8.
 pub fn utf8_at(alloc: Global, bytes: &[u8], place: Span) -> Result<String, Unset>
-    ensures text { Makes string_bytes result (utf8_at bytes.now place) }
-    ensures fits { IfOk result (λ text. IsUtf8 (string_bytes text)) }
+    ensures { Makes string_bytes result (utf8_at bytes.now place) }
 {
     let Some(text) = text_at(bytes, place) else {
         return Err(Unset::Refused);
@@ -65,8 +64,7 @@ fn bound_in(
     bytes: &[u8],
     settings: &TrimSettings,
 ) -> Result<StreamTrimStrategy, Unset>
-    ensures bound { Makes strategy_of result (option_map unlimited (bound_in bytes.now settings.now)) }
-    ensures fits { IfOk result (λ strategy. StrategyFits (strategy_of strategy)) }
+    ensures { Makes strategy_of result (option_map unlimited (bound_in bytes.now settings.now)) }
 {
     let mode = mode_by(settings.approximate);
     if settings.bound == 1 {
@@ -85,8 +83,7 @@ fn strategy_in(
     bytes: &[u8],
     settings: &TrimSettings,
 ) -> Result<StreamTrimStrategy, Unset>
-    ensures strategy { Makes strategy_of result (strategy_in bytes.now settings.now) }
-    ensures fits { IfOk result (λ strategy. StrategyFits (strategy_of strategy)) }
+    ensures { Makes strategy_of result (strategy_in bytes.now settings.now) }
 {
     let strategy = bound_in(alloc, bytes, settings)?;
     if settings.has_limit {
@@ -102,8 +99,7 @@ pub fn any_strategy_in(
     bytes: &[u8],
     settings: &TrimSettings,
 ) -> Result<Option<StreamTrimStrategy>, Unset>
-    ensures strategy { Makes (option_map strategy_of) result (any_strategy_in bytes.now settings.now) }
-    ensures fits { IfOk result (λ strategy. IfSome (option_map strategy_of strategy) StrategyFits) }
+    ensures { Makes (option_map strategy_of) result (any_strategy_in bytes.now settings.now) }
 {
     if settings.bound == 0 {
         Ok(None)
@@ -119,49 +115,9 @@ pub fn trim_in(
     bytes: &[u8],
     settings: &TrimSettings,
 ) -> Result<StreamTrimOptions, Unset>
-    ensures trim { Makes (λ options. options) result (trim_in bytes.now settings.now) }
-    ensures fits { IfOk result (λ options. TrimFits options) }
+    ensures { Makes (λ options. options) result (trim_in bytes.now settings.now) }
 {
     let strategy = strategy_in(alloc, bytes, settings)?;
     let policy = policy_by(settings.policy)?;
-    Ok(with_policy(trim_by(strategy), policy))
-}
-
-/// The options of this strategy.
-fn trim_by(strategy: StreamTrimStrategy) -> StreamTrimOptions
-    ensures { result ≡ record { strategy = strategy_of strategy; policy = None } }
-{
-    match strategy {
-        StreamTrimStrategy::MaxLen(mode, max_entries, limit) => {
-            with_limit(StreamTrimOptions::maxlen(mode, max_entries), limit)
-        }
-        StreamTrimStrategy::MinId(mode, stream_id, limit) => {
-            with_limit(StreamTrimOptions::minid(mode, stream_id), limit)
-        }
-    }
-}
-
-/// The limit, where there is one.
-fn with_limit(options: StreamTrimOptions, limit: Option<usize>) -> StreamTrimOptions
-    requires { options.strategy.limit ≡ None }
-    ensures { result ≡ record options { strategy = record options.strategy { limit = limit } } }
-{
-    match limit {
-        Some(n) => options.limit(n),
-        None => options,
-    }
-}
-
-/// The policy, where there is one.
-fn with_policy(
-    options: StreamTrimOptions,
-    policy: Option<StreamDeletionPolicy>,
-) -> StreamTrimOptions
-    requires { options.policy ≡ None }
-    ensures { result ≡ record options { policy = option_map policy_of policy } }
-{
-    match policy {
-        Some(policy) => options.set_deletion_policy(policy),
-        None => options,
-    }
+    Ok(trim_with(TrimParts { strategy, policy }))
 }

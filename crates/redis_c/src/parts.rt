@@ -1,0 +1,320 @@
+//! Settings that were read back, as plain numbers, flags and places. The texts of a sentence stand
+//! at the places of its arguments.
+ghost use Rattle.std.specs.Prelude.{◌≡◌, ◌≢◌, List, ℕ, Some, drop, codes, is_some, option_map, string_bytes, IfSome};
+ghost use Rattle.std.specs.Str.{IsUtf8};
+ghost use Rattle.redis_args.specs.Clause.{clause, flag, word_number, word_text};
+ghost use Rattle.stream_options.specs.Add.{AddFits, add_sentence};
+ghost use Rattle.stream_options.specs.Claim.{ClaimFits, claim_sentence};
+ghost use Rattle.stream_options.specs.Idempotency.{IdempotencyFits, idempotency_sentence};
+ghost use Rattle.stream_options.specs.Laws.{Any};
+ghost use Rattle.stream_options.specs.Policy.{policy_sentence};
+ghost use Rattle.stream_options.specs.Read.{group_sentence};
+ghost use Rattle.stream_options.specs.Trim.{StrategyFits, TrimFits, strategy_sentence, trim_sentence};
+ghost use Rattle.stream_options.specs.View.{idempotency_of, mode_of, policy_of, strategy_of};
+ghost use Rattle.stream_sentences.specs.Parts as told;
+ghost use Rattle.redis_c.specs.Outcome.{nowhere};
+ghost use Rattle.redis_c.specs.Parts.{first_place, asked_by, asked_of, group_in, Skips, Tells};
+ghost use Rattle.redis_c.specs.Plain.{IsZeroUnless, IsNowhereUnless, IsPlainTrim, IsPlainAdd, IsPlainClaim};
+ghost use Rattle.redis_c.specs.Plain.{IsPlainAutoClaim, IsPlainRead, IsPlainGroup};
+ghost use Rattle.redis_c.specs.Settings.{if_set, lastid_by, claim_in, autoclaim_of, policy_by, mode_by, strategy_in};
+ghost use Rattle.redis_c.specs.Settings.{any_strategy_in, trim_in, add_in, idempotency_by};
+
+use crate::commands::ReadSettings;
+use crate::server::GroupPlace;
+use crate::settings::{AddSettings, AutoClaimSettings, ClaimSettings, TrimSettings};
+use redis_wire::place::Span;
+use stream_options::{
+    StreamDeletionPolicy, StreamIdempotencyMode, StreamTrimStrategy, StreamTrimmingMode,
+};
+use stream_sentences::{AddParts, AutoClaimParts, ClaimParts, GroupNames, ReadParts, TrimParts};
+
+/// No place.
+fn nowhere() -> Span
+    ensures { result ≡ nowhere }
+{
+    Span { start: 0, len: 0 }
+}
+
+/// The place after so many.
+fn place_after(places: &[Span], n: usize) -> Span
+    ensures { result ≡ first_place (drop n places.now) }
+{
+    match after(places, n) {
+        [place, ..] => *place,
+        [] => nowhere(),
+    }
+}
+
+/// The places after so many.
+fn after(places: &[Span], n: usize) -> &[Span]
+    ensures { result.now ≡ drop n places.now }
+{
+    match places.get(n..) {
+        Some(rest) => rest,
+        None => &[],
+    }
+}
+
+/// The places after a word, if it is there.
+fn after_flag(places: &[Span], is_there: bool) -> &[Span]
+    ensures { (word : List ℕ) → Skips (flag word is_there) places.now result.now }
+{
+    if is_there { after(places, 1) } else { places }
+}
+
+/// The places after a word and its number, if they are there.
+fn after_number(places: &[Span], number: Option<usize>) -> &[Span]
+    ensures { (word : List ℕ) → Skips (clause (word_number word) number) places.now result.now }
+{
+    match number {
+        Some(_) => after(places, 2),
+        None => places,
+    }
+}
+
+/// Whether there is a number, and the number; else 0.
+fn set_number(number: Option<usize>) -> (bool, usize)
+    ensures plain { IsZeroUnless result.0 result.1 }
+    ensures is { if_set result.0 result.1 ≡ number }
+{
+    match number {
+        Some(n) => (true, n),
+        None => (false, 0),
+    }
+}
+
+/// What happens to deleted entries in the pending lists of groups, as a number.
+fn policy_number(policy: &Option<StreamDeletionPolicy>) -> u32
+    ensures { policy_by result ≡ Some (option_map policy_of policy.now) }
+{
+    match policy {
+        None => 0,
+        Some(StreamDeletionPolicy::KeepRef) => 1,
+        Some(StreamDeletionPolicy::DelRef) => 2,
+        Some(StreamDeletionPolicy::Acked) => 3,
+    }
+}
+
+/// Whether the trimming may keep some entries more.
+fn is_approximate(mode: &StreamTrimmingMode) -> bool
+    ensures { mode_by result ≡ mode_of mode.now }
+{
+    match mode {
+        StreamTrimmingMode::Exact => false,
+        StreamTrimmingMode::Approx => true,
+    }
+}
+
+/// No bound, no limit and no policy.
+fn untrimmed() -> TrimSettings
+    ensures bound { result.bound ≡ 0 }
+    ensures plain { IsPlainTrim result }
+{
+    TrimSettings {
+        bound: 0,
+        policy: 0,
+        approximate: false,
+        has_limit: false,
+        maxlen: 0,
+        minid: nowhere(),
+        limit: 0,
+    }
+}
+
+/// How a stream is trimmed, but for the policy. The places are those of the strategy and what follows.
+fn strategy_settings(strategy: &StreamTrimStrategy, places: &[Span]) -> TrimSettings
+    ensures bound { result.bound ≢ 0 }
+    ensures plain { IsPlainTrim result }
+    ensures is { Tells StrategyFits strategy_sentence (λ bytes. strategy_in bytes result)
+        (strategy_of strategy.now) places.now }
+{
+    let mut settings = untrimmed();
+    match strategy {
+        StreamTrimStrategy::MaxLen(mode, maxlen, limit) => {
+            settings.bound = 1;
+            settings.approximate = is_approximate(mode);
+            settings.maxlen = *maxlen;
+            (settings.has_limit, settings.limit) = set_number(*limit);
+        }
+        StreamTrimStrategy::MinId(mode, _, limit) => {
+            settings.bound = 2;
+            settings.approximate = is_approximate(mode);
+            settings.minid = place_after(places, 2);
+            (settings.has_limit, settings.limit) = set_number(*limit);
+        }
+    }
+    settings
+}
+
+/// How a stream is trimmed, but for the policy, if it is.
+fn any_strategy_settings(strategy: &Option<StreamTrimStrategy>, places: &[Span]) -> TrimSettings
+    ensures plain { IsPlainTrim result }
+    ensures is { Tells (λ x. IfSome x StrategyFits) (clause strategy_sentence)
+        (λ bytes. any_strategy_in bytes result) (option_map strategy_of strategy.now) places.now }
+{
+    match strategy {
+        Some(strategy) => strategy_settings(strategy, places),
+        None => untrimmed(),
+    }
+}
+
+/// How a stream is trimmed, by the places of the arguments.
+pub fn trim_settings(parts: &TrimParts, places: &[Span]) -> TrimSettings
+    ensures plain { IsPlainTrim result }
+    ensures is { Tells TrimFits trim_sentence (λ bytes. trim_in bytes result)
+        (told.trim_of parts.now) places.now }
+{
+    let mut settings = strategy_settings(&parts.strategy, places);
+    settings.policy = policy_number(&parts.policy);
+    settings
+}
+
+/// How the server finds out that an entry was added before, and where its texts stand.
+fn idempotency_settings(mode: &Option<StreamIdempotencyMode>, places: &[Span]) -> (u32, Span, Span)
+    ensures producer { result.0 ≡ 0 → result.1 ≡ nowhere }
+    ensures idempotent_id { result.0 ≢ 1 → result.2 ≡ nowhere }
+    ensures is { Tells (λ x. IfSome x IdempotencyFits) (clause idempotency_sentence)
+        (λ bytes. idempotency_by bytes result.0 result.1 result.2) (option_map idempotency_of mode.now)
+        places.now }
+{
+    match mode {
+        None => (0, nowhere(), nowhere()),
+        Some(StreamIdempotencyMode::Manual { .. }) => {
+            (1, place_after(places, 1), place_after(places, 2))
+        }
+        Some(StreamIdempotencyMode::Automatic { .. }) => (2, place_after(places, 1), nowhere()),
+    }
+}
+
+/// The places after how the server finds out that an entry was added before.
+fn after_idempotency<'a>(places: &'a [Span], mode: &Option<StreamIdempotencyMode>) -> &'a [Span]
+    ensures { Skips (clause idempotency_sentence (option_map idempotency_of mode.now)) places.now result.now }
+{
+    match mode {
+        None => places,
+        Some(StreamIdempotencyMode::Manual { .. }) => after(places, 3),
+        Some(StreamIdempotencyMode::Automatic { .. }) => after(places, 2),
+    }
+}
+
+/// The places after a policy, if there is one.
+fn after_policy<'a>(places: &'a [Span], policy: &Option<StreamDeletionPolicy>) -> &'a [Span]
+    ensures { Skips (clause policy_sentence (option_map policy_of policy.now)) places.now result.now }
+{
+    match policy {
+        None => places,
+        Some(_) => after(places, 1),
+    }
+}
+
+/// How an entry is added, by the places of the arguments.
+pub fn add_settings(parts: &AddParts, places: &[Span]) -> AddSettings
+    ensures plain { IsPlainAdd result }
+    ensures is { Tells AddFits add_sentence (λ bytes. add_in bytes result)
+        (told.add_of parts.now) places.now }
+{
+    let rest = after_policy(after_flag(places, parts.nomkstream), &parts.policy);
+    let (idempotency, producer, idempotent_id) = idempotency_settings(&parts.idempotency, rest);
+    let rest = after_idempotency(rest, &parts.idempotency);
+    let mut trim = any_strategy_settings(&parts.strategy, rest);
+    trim.policy = policy_number(&parts.policy);
+    AddSettings {
+        nomkstream: parts.nomkstream,
+        idempotency,
+        producer,
+        idempotent_id,
+        trim,
+    }
+}
+
+/// Whether an id is noted, and where it stands. The places are those of the clause and what follows.
+fn lastid_settings(lastid: &Option<String>, places: &[Span]) -> (bool, Span)
+    ensures plain { IsNowhereUnless result.0 result.1 }
+    ensures is { Tells (λ x. IfSome x IsUtf8) (clause (word_text (codes "LASTID")))
+        (λ bytes. lastid_by bytes result.0 result.1) (option_map string_bytes lastid.now) places.now }
+{
+    match lastid {
+        Some(_) => (true, place_after(places, 1)),
+        None => (false, nowhere()),
+    }
+}
+
+/// How entries are claimed by their ids, by the places of the arguments.
+pub fn claim_settings(parts: &ClaimParts, places: &[Span]) -> ClaimSettings
+    ensures plain { IsPlainClaim result }
+    ensures is { Tells ClaimFits claim_sentence (λ bytes. claim_in bytes result)
+        (told.claim_of parts.now) places.now }
+{
+    let rest = after_number(after_number(places, parts.idle), parts.time);
+    let rest = after_flag(after_number(rest, parts.retry), parts.force);
+    let rest = after_flag(rest, parts.justid);
+    let (has_lastid, lastid) = lastid_settings(&parts.lastid, rest);
+    let (has_idle, idle) = set_number(parts.idle);
+    let (has_time, time) = set_number(parts.time);
+    let (has_retry, retry) = set_number(parts.retry);
+    ClaimSettings {
+        has_idle,
+        has_time,
+        has_retry,
+        force: parts.force,
+        justid: parts.justid,
+        has_lastid,
+        idle,
+        time,
+        retry,
+        lastid,
+    }
+}
+
+/// How idle entries are claimed, whichever they are.
+pub fn autoclaim_settings(parts: AutoClaimParts) -> AutoClaimSettings
+    ensures plain { IsPlainAutoClaim result }
+    ensures is { autoclaim_of result ≡ told.autoclaim_of parts }
+{
+    let (has_count, count) = set_number(parts.count);
+    AutoClaimSettings {
+        has_count,
+        justid: parts.justid,
+        count,
+    }
+}
+
+/// What a read asks for after the group.
+pub fn read_settings(parts: ReadParts<'_>) -> ReadSettings
+    ensures plain { IsPlainRead result }
+    ensures is { asked_by result ≡ asked_of parts.entry }
+{
+    let (has_block, block) = set_number(parts.block);
+    let (has_count, count) = set_number(parts.count);
+    let (has_claim, claim) = set_number(parts.claim);
+    ReadSettings {
+        has_count,
+        has_block,
+        noack: parts.noack,
+        has_claim,
+        count,
+        block,
+        claim,
+    }
+}
+
+/// The group and the consumer, if they are named, by the places of the arguments.
+pub fn group_place(names: Option<GroupNames<'_>>, places: &[Span]) -> GroupPlace
+    ensures plain { IsPlainGroup result }
+    ensures named { result.has_group ≡ is_some names.entry }
+    ensures is { Tells Any (clause group_sentence) (λ bytes. group_in bytes result)
+        (option_map told.group_of names.entry) places.now }
+{
+    match names {
+        Some(_) => GroupPlace {
+            has_group: true,
+            group: place_after(places, 1),
+            consumer: place_after(places, 2),
+        },
+        None => GroupPlace {
+            has_group: false,
+            group: nowhere(),
+            consumer: nowhere(),
+        },
+    }
+}
