@@ -30,9 +30,7 @@ use std::io::{ErrorKind, Read, Write};
 use std::process::ExitCode;
 use stream_outbox::{OutboxError, PostError, Posting};
 use stream_server::{Loopback, Server};
-use stream_worker::{
-    Handler, MakeGroup, NotCommitted, Progress, RequestError, RunError, Settings, Worker,
-};
+use stream_worker::{Handler, MakeGroup, NotCommitted, RequestError, RunError, Settings, Worker};
 
 /// Memory ran out, or standard input or output failed.
 const FAILED: u8 = 2;
@@ -92,7 +90,7 @@ fn begun(alloc: Global) -> Result<Side, AllocError> {
     settings.set_make_group(MakeGroup::FromTheFirst);
     Ok(Side {
         worker: Worker::new(alloc, settings),
-        posting: Posting::new(alloc, Tells { commits: 0 }),
+        posting: Posting::new(alloc, Tells::new()),
     })
 }
 
@@ -181,10 +179,12 @@ fn broken<R: Read + Drop, W: Write + Drop>(
     connection: &mut Connection<R, W>,
     side: &mut Side,
 ) -> Result<Option<String>, AllocError> {
-    match side.posting.round(alloc, connection, &mut side.worker) {
-        Ok(round) if round.progress == Progress::GoesOn => Ok(None),
-        // (the work stops only if memory is refused)
-        Ok(_) => Err(AllocError),
+    let result = side.posting.round(alloc, connection, &mut side.worker);
+    if side.posting.work.ran_out {
+        return Err(AllocError);
+    }
+    match result {
+        Ok(_round) => Ok(None),
         Err(PostError::Outbox(error)) => Ok(Some(left_text(alloc, &error)?)),
         Err(PostError::Round(error)) => Ok(Some(round_text(alloc, &error)?)),
     }

@@ -12,6 +12,18 @@ use stream_worker::{EntryRef, NotCommitted, Verdict};
 pub struct Tells {
     /// How often it committed.
     pub commits: u32,
+    /// Memory ran out.
+    pub ran_out: bool,
+}
+
+impl Tells {
+    /// Nothing was done.
+    pub fn new() -> Tells {
+        Tells {
+            commits: 0,
+            ran_out: false,
+        }
+    }
 }
 
 impl Work for Tells {
@@ -32,6 +44,7 @@ impl Work for Tells {
             .push(alloc, &("XADD", "out", "*", ("of", entry.id())))
             .is_err()
         {
+            self.ran_out = true;
             return Verdict::Stop;
         }
         if entry.get(b"leave").is_some() {
