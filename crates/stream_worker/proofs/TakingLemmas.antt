@@ -8,7 +8,9 @@ use Rattle.stream_refs.specs.Sent.{Pairs, SentEntry}
 use Rattle.stream_worker.specs.Handling.{with_all}
 use Rattle.std.proofs.lemmas.List.{map-append, take_more}
 use Rattle.std.specs.Result.{IsErr}
-use Rattle.stream_worker.specs.Taking.{delivered_of, all_delivered, TookOne, Took, said_ending}
+use Rattle.stream_worker.specs.Machine.{ending_said}
+use Rattle.stream_worker.specs.Taking.{delivered_of, all_delivered, TookOne, Took}
+use Rattle.stream_worker.specs.declared.worker.Progress.{Progress}
 
 -- a verdict for each entry, and each goes on
 abbrev pub Matched : {F : Type 0} → List (Delivered F) → List Verdict → Type 0
@@ -86,8 +88,8 @@ mapped : {A B : Type 0} (f : A → B) (xs done : List A) (x : A) (rest : List A)
     → map f xs ≡ map f done ++ f x ∷ map f rest
 mapped f xs done x rest is = ap (λ ys. map f ys) is ∙ map-append f done (x ∷ rest)
 
-pub said_error : {E : Type 0} (r : Result Bool E) → IsErr r → said_ending r ≡ cut_off
-said_error (Ok b) h = let t : false ≡ true = h in cc
+pub said_error : {E : Type 0} (r : Result Progress E) → IsErr r → ending_said r ≡ cut_off
+said_error (Ok p) h = let t : false ≡ true = h in cc
 said_error (Err e) h = refl
 
 module _ {T : Type 0} (f : T → SentEntry) where

@@ -1,9 +1,11 @@
 -- What a worker makes of entries: the machine's `acks_in` and `told_in`, for some verdicts.
 use Rattle.std.specs.Prelude.{◌≡◌, ℕ, Bool, true, false, List, ◌++◌, map, Result, Ok, Err}
 use Rattle.stream_group.specs.Worker.{Id, Delivered, Verdict, follows, acks_one, told_one, acks_in, told_in, Ending}
-use Rattle.stream_group.specs.Worker.{ending, went_through, stopped, cut_off}
+use Rattle.stream_group.specs.Worker.{ending}
 use Rattle.stream_refs.specs.Sent.{Pairs, SentEntry}
 use Rattle.stream_worker.specs.Handling.{with_all}
+use Rattle.stream_worker.specs.declared.worker.Progress.{Progress}
+use Rattle.stream_worker.specs.declared.worker.Progress.TheVariants.{GoesOn, Stopped}
 
 -- an entry as it was handed out: without fields where nil stands for them, as it does of a deleted one
 abbrev pub delivered_of : SentEntry → Delivered Pairs
@@ -22,8 +24,9 @@ module _ {R : Type 0} (with_verdict : R → List ℕ × Pairs → Verdict → R)
     pub follows_then : on ≡ follows d.1 verdict
 
   -- or it got none, and nothing changed
-  abbrev pub TookOneOr : {E : Type 0} → Delivered Pairs → (old new : List Id) (r s : R) → Result Bool E → Type 0
-  TookOneOr d old new r s (Ok on) = TookOne d old new r s on
+  abbrev pub TookOneOr : {E : Type 0} → Delivered Pairs → (old new : List Id) (r s : R) → Result Progress E → Type 0
+  TookOneOr d old new r s (Ok GoesOn) = TookOne d old new r s true
+  TookOneOr d old new r s (Ok Stopped) = TookOne d old new r s false
   TookOneOr d old new r s (Err e) = (new ≡ old) × (s ≡ r)
 
   -- entries got verdicts, all of them or some at the front
@@ -32,9 +35,3 @@ module _ {R : Type 0} (with_verdict : R → List ℕ × Pairs → Verdict → R)
     pub ids : new ≡ old ++ acks_in es verdicts
     pub history : s ≡ with_all with_verdict r (told_in es verdicts)
     pub ended : how ≡ ending es verdicts
-
--- how it ended, by what is returned: an error cuts it off
-abbrev pub said_ending : {E : Type 0} → Result Bool E → Ending
-said_ending (Ok true) = went_through
-said_ending (Ok false) = stopped
-said_ending (Err e) = cut_off

@@ -1,21 +1,22 @@
 //! What a handler does with entries, and the ids to acknowledge then.
 ghost use Rattle.std.specs.Prelude.{map, string_bytes};
 ghost use Rattle.stream_refs.specs.SentMeaning.{sent_of};
-ghost use Rattle.stream_worker.specs.Taking.{Took, TookOneOr, all_delivered, delivered_of, said_ending};
+ghost use Rattle.stream_worker.specs.Machine.{ending_said};
+ghost use Rattle.stream_worker.specs.Taking.{Took, TookOneOr, all_delivered, delivered_of};
 
 use crate::handler::{Handler, Verdict};
+use crate::worker::Progress;
 use std::alloc::{AllocError, Global};
 use stream_refs::{EntriesRef, EntryRef, EntryRoom, SentRow};
 
 /// Hands one entry to the handler. Its id is remembered before the handler sees it, and forgotten
-/// if it is not done, so that memory cannot run out between the two. False if the handler
-/// says to stop.
+/// if it is not done, so that memory cannot run out between the two.
 fn take_entry<H: Handler>(
     alloc: Global,
     ids: &mut Vec<String>,
     entry: &EntryRef<'_>,
     handler: &mut H,
-) -> Result<bool, AllocError>
+) -> Result<Progress, AllocError>
     ensures { TookOneOr H.with_verdict (delivered_of entry.now)
         (map string_bytes ids.old.items) (map string_bytes ids.new.items)
         (H.history handler.old) (H.history handler.new) result }
@@ -23,17 +24,17 @@ fn take_entry<H: Handler>(
     let len = ids.len();
     ids.push(String::from_str(alloc, entry.id())?)?;
     if entry.is_deleted() {
-        return Ok(true);
+        return Ok(Progress::GoesOn);
     }
     match handler.handle(alloc, entry) {
-        Verdict::Done => Ok(true),
+        Verdict::Done => Ok(Progress::GoesOn),
         Verdict::LeavePending => {
             ids.truncate(len);
-            Ok(true)
+            Ok(Progress::GoesOn)
         }
         Verdict::Stop => {
             ids.truncate(len);
-            Ok(false)
+            Ok(Progress::Stopped)
         }
     }
 }
@@ -45,7 +46,7 @@ fn take_row<H: Handler>(
     ids: &mut Vec<String>,
     row: &SentRow,
     handler: &mut H,
-) -> Result<bool, AllocError>
+) -> Result<Progress, AllocError>
     ensures { TookOneOr H.with_verdict (delivered_of (sent_of row.now))
         (map string_bytes ids.old.items) (map string_bytes ids.new.items)
         (H.history handler.old) (H.history handler.new) result }
@@ -54,41 +55,43 @@ fn take_row<H: Handler>(
     take_entry(alloc, ids, &entry, handler)
 }
 
-/// Hands decoded entries to the handler, in order. False if the handler says to stop.
+/// Hands decoded entries to the handler, in order, until it says to stop.
 pub fn take_entries<H: Handler>(
     alloc: Global,
     ids: &mut Vec<String>,
     entries: &[SentRow],
     handler: &mut H,
-) -> Result<bool, AllocError>
+) -> Result<Progress, AllocError>
     ensures { Took H.with_verdict (all_delivered (map sent_of entries.now))
         (map string_bytes ids.old.items) (map string_bytes ids.new.items)
-        (H.history handler.old) (H.history handler.new) (said_ending result) }
+        (H.history handler.old) (H.history handler.new) (ending_said result) }
 {
     let mut room = EntryRoom::new(alloc);
     for entry in entries {
-        if !take_row(alloc, &mut room, ids, entry, handler)? {
-            return Ok(false);
+        match take_row(alloc, &mut room, ids, entry, handler)? {
+            Progress::GoesOn => {}
+            Progress::Stopped => return Ok(Progress::Stopped),
         }
     }
-    Ok(true)
+    Ok(Progress::GoesOn)
 }
 
-/// Hands entries to the handler in their bytes, in order. False if the handler says to stop.
+/// Hands entries to the handler in their bytes, in order, until it says to stop.
 pub fn take_in_place<H: Handler>(
     alloc: Global,
     ids: &mut Vec<String>,
     entries: EntriesRef<'_>,
     handler: &mut H,
-) -> Result<bool, AllocError>
+) -> Result<Progress, AllocError>
     ensures { Took H.with_verdict (all_delivered entries.entry)
         (map string_bytes ids.old.items) (map string_bytes ids.new.items)
-        (H.history handler.old) (H.history handler.new) (said_ending result) }
+        (H.history handler.old) (H.history handler.new) (ending_said result) }
 {
     for entry in entries {
-        if !take_entry(alloc, ids, &entry, handler)? {
-            return Ok(false);
+        match take_entry(alloc, ids, &entry, handler)? {
+            Progress::GoesOn => {}
+            Progress::Stopped => return Ok(Progress::Stopped),
         }
     }
-    Ok(true)
+    Ok(Progress::GoesOn)
 }

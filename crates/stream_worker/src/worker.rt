@@ -412,11 +412,12 @@ impl Worker {
         ensures asked { self.new.asked ≡ self.old.asked }
     {
         self.phase = Phase::Start;
-        if take_entries(alloc, &mut self.to_commit, entries, handler)? {
-            self.phase = next;
-            Ok(Progress::GoesOn)
-        } else {
-            Ok(Progress::Stopped)
+        match take_entries(alloc, &mut self.to_commit, entries, handler)? {
+            Progress::GoesOn => {
+                self.phase = next;
+                Ok(Progress::GoesOn)
+            }
+            Progress::Stopped => Ok(Progress::Stopped),
         }
     }
 }

@@ -56,9 +56,10 @@ fn my_worker_drains_what_another_connection_adds(rt: HostRuntime) -> Result<(), 
     let loopback = Loopback::new(alloc, Server::new(alloc))?;
     let mut producer = connected(alloc, &loopback)?;
     add_three(alloc, &mut producer)?;
+    drop(producer);
     let mut connection = connected(alloc, &loopback)?;
     assert_eq!(rt; drained(alloc, &mut connection)?, 3);
-    assert_eq!(rt; pending(alloc, &mut producer)?, 0);
+    assert_eq!(rt; pending(alloc, &mut connection)?, 0);
     Ok(())
 }
 
@@ -83,30 +84,39 @@ fn pipelined<R: Read + Drop, W: Write + Drop>(
 fn an_acknowledgement_goes_out_with_the_next_question(rt: HostRuntime) -> Result<(), Fail> {
     let alloc = rt.alloc();
     let loopback = Loopback::new(alloc, Server::new(alloc))?;
-    let mut producer = connected(alloc, &loopback)?;
-    add_three(alloc, &mut producer)?;
     let mut connection = connected(alloc, &loopback)?;
+    add_three(alloc, &mut connection)?;
     let mut handler = Count { done: 0 };
     assert_eq!(rt; pipelined(alloc, &mut connection, &mut handler)?, 1);
     assert_eq!(rt; handler.done, 3);
-    assert_eq!(rt; pending(alloc, &mut producer)?, 0);
+    assert_eq!(rt; pending(alloc, &mut connection)?, 0);
     Ok(())
+}
+
+/// How many entries are pending before a worker ends that did three, and after it.
+fn pending_around_the_end<R: Read + Drop, W: Write + Drop>(
+    alloc: Global,
+    connection: &mut Connection<R, W>,
+    handler: &mut Count,
+) -> Result<(usize, usize), Fail> {
+    let mut worker = worker_of(alloc, "ann")?;
+    let _progress = worker.run(alloc, connection, handler, 5)?;
+    let before = pending(alloc, connection)?;
+    worker.finish(alloc, connection, handler)?;
+    Ok((before, pending(alloc, connection)?))
 }
 
 #[test]
 fn a_worker_that_ends_acknowledges_what_is_done(rt: HostRuntime) -> Result<(), Fail> {
     let alloc = rt.alloc();
     let loopback = Loopback::new(alloc, Server::new(alloc))?;
-    let mut producer = connected(alloc, &loopback)?;
-    add_three(alloc, &mut producer)?;
     let mut connection = connected(alloc, &loopback)?;
-    let mut worker = worker_of(alloc, "ann")?;
+    add_three(alloc, &mut connection)?;
     let mut handler = Count { done: 0 };
-    let _progress = worker.run(alloc, &mut connection, &mut handler, 5)?;
+    let (before, after) = pending_around_the_end(alloc, &mut connection, &mut handler)?;
     assert_eq!(rt; handler.done, 3);
-    assert_eq!(rt; pending(alloc, &mut producer)?, 3);
-    worker.finish(alloc, &mut connection, &mut handler)?;
-    assert_eq!(rt; pending(alloc, &mut producer)?, 0);
+    assert_eq!(rt; before, 3);
+    assert_eq!(rt; after, 0);
     Ok(())
 }
 

@@ -269,8 +269,9 @@ impl Worker {
     {
         self.phase = Phase::Start;
         if let Some(entries) = entries {
-            if !take_in_place(alloc, &mut self.to_commit, entries, handler)? {
-                return Ok(Progress::Stopped);
+            match take_in_place(alloc, &mut self.to_commit, entries, handler)? {
+                Progress::GoesOn => {}
+                Progress::Stopped => return Ok(Progress::Stopped),
             }
         }
         self.phase = next;

@@ -9,13 +9,13 @@ use Rattle.stream_worker.proofs.entries.take_entries.Goals as goal
 
 pub loop-entry-preserved : goal.loop-entry-preserved
 loop-entry-preserved g c =
-    let o = rw c.if-not-branch.false at c.in_ok-take_row.ensures in
+    let o = rw c.in-GoesOn.is at c.in_ok-take_row.ensures in
     loop_step g.H.Handler.with_verdict sent_of c.args.entries.now c.loop-entry.entry-index c.entry-item.result _ _
     _ _ _ _ c.loop-entry-test.true c.entry-item.is c.loop-entry.invariant o
 
-pub returns-then-not-branch : goal.returns-then-not-branch
-returns-then-not-branch g c =
-    let o = rw c.if-not-branch.true at c.in_ok-take_row.ensures in
+pub returns-in-Stopped : goal.returns-in-Stopped
+returns-in-Stopped g c =
+    let o = rw c.in-Stopped.is at c.in_ok-take_row.ensures in
     loop_stops g.H.Handler.with_verdict sent_of c.args.entries.now c.loop-entry.entry-index c.entry-item.result _
     _ _ _ _ _ c.loop-entry-test.true c.entry-item.is c.loop-entry.invariant o
 

@@ -8,7 +8,7 @@ use Rattle.stream_worker.proofs.entries.take_in_place.Goals as goal
 pub loop-entry-preserved : goal.loop-entry-preserved
 loop-entry-preserved g c =
     let next : c.loop-entry.entry-iterator ≡ c.in-Some.entry ∷ c.next.new.self = search rules in
-    let o = rw c.if-not-branch.false at c.in_ok-take_entry.ensures in
+    let o = rw c.in-GoesOn.is at c.in_ok-take_entry.ensures in
     record {
       whole = append_assoc c.loop-entry.yielded (c.in-Some.entry ∷ []) c.next.new.self
           ∙ ap (λ t. c.loop-entry.yielded ++ t) (sym next) ∙ c.loop-entry.invariant.whole;
@@ -16,10 +16,10 @@ loop-entry-preserved g c =
           c.loop-entry.invariant.going o;
     }
 
-pub returns-then-not-branch : goal.returns-then-not-branch
-returns-then-not-branch g c =
+pub returns-in-Stopped : goal.returns-in-Stopped
+returns-in-Stopped g c =
     let next : c.loop-entry.entry-iterator ≡ c.in-Some.entry ∷ c.next.new.self = search rules in
-    let o = rw c.if-not-branch.true at c.in_ok-take_entry.ensures in
+    let o = rw c.in-Stopped.is at c.in_ok-take_entry.ensures in
     next_stops g.H.Handler.with_verdict c.args.entries c.loop-entry.yielded c.next.new.self c.in-Some.entry
     _ _ _ _ _ _ (sym c.loop-entry.invariant.whole ∙ ap (λ t. c.loop-entry.yielded ++ t) next)
     c.loop-entry.invariant.going o
