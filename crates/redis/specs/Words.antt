@@ -74,7 +74,8 @@ pub use Rattle.redis_wire.specs.Laws.{CommandsAreValues, FewBytesHaveFewValues, 
 pub use Rattle.redis_wire.specs.Limits.{default_limits}
 pub use Rattle.redis_wire.specs.Next.{Held, IsRefused, LenIs, NextIs}
 pub use Rattle.redis_wire.specs.Nodes.{AreEnds as AreNodeEnds, AreNodes, Finds, Say}
-unfoldable pub use Rattle.redis_wire.specs.Packed.{command_bytes, command_tree}
+unfoldable pub use Rattle.redis_wire.specs.Packed.{command_bytes}
+pub use Rattle.redis_wire.specs.Packed.{command_tree}
 pub use Rattle.redis_wire.specs.PackedArgs.{IsPacked, IsTooLarge, MayRefuse as MayRefusePacked}
 unfoldable pub use Rattle.redis_wire.specs.PackedArgs.{args_in}
 pub use Rattle.redis_wire.specs.Place.{IsArrayAt, IsIntAt, IsMapAt, IsNilAt, IsTextAt}
