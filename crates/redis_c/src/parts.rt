@@ -170,6 +170,22 @@ pub fn trim_settings(parts: &TrimParts, places: &[Span]) -> TrimSettings
 }
 
 /// How the server finds out that an entry was added before, and where its texts stand.
+fn way_settings(mode: &StreamIdempotencyMode, places: &[Span]) -> (u32, Span, Span)
+    ensures producer { result.0 ≢ 0 }
+    ensures idempotent_id { result.0 ≢ 1 → result.2 ≡ nowhere }
+    ensures is { Tells (λ x. IfSome x IdempotencyFits) (clause idempotency_sentence)
+        (λ bytes. idempotency_by bytes result.0 result.1 result.2) (Some (idempotency_of mode.now))
+        places.now }
+{
+    match mode {
+        StreamIdempotencyMode::Manual { .. } => {
+            (1, place_after(places, 1), place_after(places, 2))
+        }
+        StreamIdempotencyMode::Automatic { .. } => (2, place_after(places, 1), nowhere()),
+    }
+}
+
+/// The same, if it does.
 fn idempotency_settings(mode: &Option<StreamIdempotencyMode>, places: &[Span]) -> (u32, Span, Span)
     ensures producer { result.0 ≡ 0 → result.1 ≡ nowhere }
     ensures idempotent_id { result.0 ≢ 1 → result.2 ≡ nowhere }
@@ -178,11 +194,8 @@ fn idempotency_settings(mode: &Option<StreamIdempotencyMode>, places: &[Span]) -
         places.now }
 {
     match mode {
+        Some(mode) => way_settings(mode, places),
         None => (0, nowhere(), nowhere()),
-        Some(StreamIdempotencyMode::Manual { .. }) => {
-            (1, place_after(places, 1), place_after(places, 2))
-        }
-        Some(StreamIdempotencyMode::Automatic { .. }) => (2, place_after(places, 1), nowhere()),
     }
 }
 
