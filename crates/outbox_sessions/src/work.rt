@@ -1,5 +1,5 @@
 //! Work that tells another stream which entries were done.
-ghost use Rattle.std.specs.Prelude.{[], ◌∷◌, codes};
+ghost use Rattle.std.specs.Prelude.{◌≡◌, [], ◌∷◌, codes, false};
 ghost use Rattle.redis_wire.specs.Packed.{command_bytes};
 ghost use Rattle.stream_outbox.specs.Posts.{if_done};
 
@@ -18,7 +18,10 @@ pub struct Tells {
 
 impl Tells {
     /// Nothing was done.
-    pub fn new() -> Tells {
+    pub fn new() -> Tells
+        ensures commits { result.commits ≡ 0 }
+        ensures ran_out { result.ran_out ≡ false }
+    {
         Tells {
             commits: 0,
             ran_out: false,
