@@ -9,19 +9,25 @@
 //! error            MOVED 3999 127.0.0.1:6381      moved slot 3999 host 127.0.0.1 port 6381: connect
 //! partition        12 user1000                    3
 //! partition-name   3 orders                       orders:{3} slot 1584
+//! slots            42 2a310d0a2a330d0a..          10.0.0.1:6379 | 0-99 master 10.0.0.1:6379
+//! shards           42 2a310d0a25320d0a..          none | 0-9 50-99 master 10.0.0.1:6379
 //! ```
 //!
 //! The stored slots of the first two kinds are those that redis-server told; partitions are those of
-//! another implementation of the checksum.
+//! another implementation of the checksum. The last two kinds have a slot and a reply in hex digits: the
+//! outcome is the master of the slot, and each shard. Most of their replies came from redis-server.
 //!
 //! It ends with 0, or with 2 if memory ran out, or standard input or output failed.
 #![tactic(auto)]
 
 use anyhow::Result;
+use cluster_topology::{Node, Role, Shard, Topology, TopologyError};
 use hex::FromHexError;
 use redis_cluster::{
     ClusterError, NextStep, cluster_error, key_slot, partition_name, partition_of,
 };
+use redis_resp::Value;
+use redis_wire::{Decoded, Limits, Reply, decode};
 use std::alloc::{AllocError, Global};
 use std::io::{BufRead, BufReader, BufWriter, Write};
 use std::num::NonZeroU16;
@@ -69,6 +75,8 @@ fn outcome(alloc: Global, kind: &str, input: &str) -> Result<String> {
         "error" => error_told(alloc, input),
         "partition" => partition_told(alloc, input),
         "partition-name" => partition_name_told(alloc, input),
+        "slots" => topology_told(alloc, Asked::Slots, input),
+        "shards" => topology_told(alloc, Asked::Shards, input),
         _ => Ok(String::from_str(alloc, "no such kind")?),
     }
 }
@@ -160,4 +168,85 @@ fn partition_name_told(alloc: Global, input: &str) -> Result<String> {
         }
         None => Ok(String::from_str(alloc, "no number")?),
     }
+}
+
+/// Which command the reply is of.
+#[derive(Clone, Copy)]
+enum Asked {
+    Slots,
+    Shards,
+}
+
+/// The master of a slot, and the shards, of a reply in hex digits: its text after the slot and a blank.
+fn topology_told(alloc: Global, asked: Asked, input: &str) -> Result<String> {
+    let Some((slot, digits)) = input.split_once(' ') else {
+        return Ok(String::from_str(alloc, "no slot")?);
+    };
+    let Ok(slot) = slot.parse::<u16>() else {
+        return Ok(String::from_str(alloc, "no slot")?);
+    };
+    let Some(value) = value_of_hex(alloc, digits)? else {
+        return Ok(String::from_str(alloc, "no value")?);
+    };
+    let topology = match asked {
+        Asked::Slots => Topology::from_slots(alloc, value),
+        Asked::Shards => Topology::from_shards(alloc, value),
+    };
+    match topology {
+        Ok(topology) => topology_text(alloc, &topology, slot),
+        Err(TopologyError::Memory) => Err(AllocError.into()),
+        Err(error) => Ok(format!(in alloc; "{error}")?),
+    }
+}
+
+/// The value of a reply in hex digits.
+fn value_of_hex(alloc: Global, digits: &str) -> Result<Option<Value>> {
+    let bytes = match hex::decode(alloc, digits) {
+        Ok(bytes) => bytes,
+        Err(FromHexError::OutOfMemory) => return Err(AllocError.into()),
+        Err(_error) => return Ok(None),
+    };
+    match decode(alloc, &bytes, Limits::default())? {
+        Decoded::Complete {
+            reply: Reply::Value(value),
+            ..
+        } => Ok(Some(value)),
+        _ => Ok(None),
+    }
+}
+
+/// The master of the slot, and the shards.
+fn topology_text(alloc: Global, topology: &Topology, slot: u16) -> Result<String> {
+    let mut text = match topology.master_of(slot) {
+        Some(node) => place_text(alloc, node)?,
+        None => String::from_str(alloc, "none")?,
+    };
+    for shard in &topology.shards {
+        text.push_str(" |")?;
+        push_shard(alloc, &mut text, shard)?;
+    }
+    Ok(text)
+}
+
+/// Adds the ranges and the nodes of a shard.
+fn push_shard(alloc: Global, text: &mut String, shard: &Shard) -> Result<()> {
+    for range in &shard.ranges {
+        let (first, last) = (range.first, range.last);
+        text.push_str(format!(in alloc; " {first}-{last}")?.as_str())?;
+    }
+    for node in &shard.nodes {
+        text.push_str(match node.role {
+            Role::Master => " master ",
+            Role::Replica => " replica ",
+        })?;
+        text.push_str(place_text(alloc, node)?.as_str())?;
+    }
+    Ok(())
+}
+
+/// The host and the port of a node.
+fn place_text(alloc: Global, node: &Node) -> Result<String> {
+    let host = node.host.as_str();
+    let port = node.port;
+    Ok(format!(in alloc; "{host}:{port}")?)
 }
