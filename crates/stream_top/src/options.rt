@@ -44,7 +44,9 @@ const ROUNDS: &str = "ROUNDS";
 /// What `--json` and `--openmetrics` are.
 const FORM: &str = "form";
 
-static FORMS: [&str; 2] = ["json", "openmetrics"];
+const JSON: &str = "json";
+
+const OPEN_METRICS: &str = "openmetrics";
 
 /// The task of these words.
 pub fn task_of(alloc: Global, words: &[RawBytes]) -> Result<Task, Error>
@@ -73,15 +75,15 @@ fn command_of<'a>(alloc: Global) -> Result<Command<'a>, AllocError> {
     let about =
         "Shows the groups of a stream in a table, ROUNDS times, or prints the figures of streams for monitors.";
     let json = "Prints the figures of all KEYs once, as a document of JSON";
-    let openmetrics = "Prints the figures of all KEYs once, as a text of OpenMetrics";
+    let open_metrics = "Prints the figures of all KEYs once, as a text of OpenMetrics";
     let once = "Only with one of these, which print once without it too";
     command(alloc, PROGRAM, about)
         .override_usage(USAGE)
         .arg(keys(alloc))?
-        .arg(flag(alloc, "json", json))?
-        .arg(flag(alloc, "openmetrics", openmetrics))?
+        .arg(flag(alloc, JSON, json))?
+        .arg(flag(alloc, OPEN_METRICS, open_metrics))?
         .arg(flag(alloc, "once", once).requires_arg(FORM)?)?
-        .group(ArgGroup::new(alloc, FORM).args(FORMS.as_slice())?)
+        .group(ArgGroup::new(alloc, FORM).arg(JSON)?.arg(OPEN_METRICS)?)
 }
 
 fn keys<'a>(alloc: Global) -> Arg<'a> {
@@ -93,9 +95,9 @@ fn keys<'a>(alloc: Global) -> Arg<'a> {
 }
 
 fn form_of(matches: &ArgMatches<'_>) -> Option<Form> {
-    if matches.get_flag("json") {
+    if matches.get_flag(JSON) {
         Some(Form::Json)
-    } else if matches.get_flag("openmetrics") {
+    } else if matches.get_flag(OPEN_METRICS) {
         Some(Form::OpenMetrics)
     } else {
         None
