@@ -14,7 +14,7 @@ _jagyerti_options() {
         stream_drain) echo --from --count --block --idle --every --dead --json --quiet --until-empty --help --version ;;
         stream_fill) echo --field --json --batch --base --wait --help --version ;;
         stream_sqlite) echo --from --count --block --idle --every --table --columns --until-empty --help --version ;;
-        stream_top) echo --once --json --openmetrics ;;
+        stream_top) echo --json --openmetrics --once --help --version ;;
         stream_serve) ;;
         *) "$_jagyerti_tools/$1" --help 2>/dev/null </dev/null | grep -oE -- '--[a-z][a-z-]*' | sort -u ;;
     esac

@@ -11,19 +11,23 @@
 //! backslash as `\\`. It ends with 0, or with 1 if the connection ends, the server returns an error
 //! or memory runs out.
 //!
-//! With `--once --json` after one key or more it prints one document of JSON, and with
-//! `--once --openmetrics` a text of OpenMetrics, on standard error too. A key that does not exist is a
-//! stream with no entries. It prints all of it or, with status 1, only the reason.
+//! With `--json` and one key or more it prints one document of JSON, and with `--openmetrics` a text
+//! of OpenMetrics, on standard error too. A key that does not exist is a stream with no entries. It
+//! prints all of it or, with status 1, only the reason. If a word is wrong, it ends with 2. `--help`
+//! tells its words.
 #![tactic(auto)]
 
 mod figures;
 mod json_text;
 mod open_metrics;
+mod options;
 
 use crate::figures::{StreamFigures, figures_of};
 use crate::json_text::json_text;
 use crate::open_metrics::metrics_text;
+use crate::options::{Form, Key, Task, task_of};
 use anyhow::{Result, anyhow};
+use command_lines::tell;
 use redis_connection::{AskError, Connection};
 use redis_resp::{FromRedisValue, RawBytes, Value, from_redis_value};
 use redis_streams::{StreamInfoFullConsumer, StreamInfoFullGroup, StreamInfoFullReply};
@@ -32,6 +36,7 @@ use std::alloc::{AllocError, Global};
 use std::env::{Env, FillError};
 use std::io;
 use std::io::{Read, Write};
+use std::process::ExitCode;
 use stream_commands::{AtLeastOne, xinfo_stream_full_count, xread_options};
 use stream_options::StreamReadOptions;
 use unicode_width::UnicodeWidthStr;
@@ -76,92 +81,58 @@ fn wait<R: Read + Drop, W: Write + Drop>(
     Ok(())
 }
 
-/// In less than 120 bytes, which are all that an error shows.
-const USAGE: &str = "wanted: KEY ROUNDS, or KEY .. --once --json, or KEY .. --once --openmetrics";
-
-fn main(rt: HostRuntime) -> Result<()> {
+fn main(rt: HostRuntime) -> Result<ExitCode> {
     let alloc = rt.alloc();
     let words = words_of(alloc, &rt)?;
-    let mut connection = Connection::new(alloc, rt.reader(), io::writer(&rt), Limits::default())?;
-    let (keys, form) = form_of(&words);
-    match form {
-        Some(form) => {
-            let text = text_of(alloc, &mut connection, keys, form)?;
-            eprint!(rt; "{text}")?;
-            Ok(())
-        }
-        None => show_rounds(&rt, &mut connection, &words),
+    match task_of(alloc, &words) {
+        Ok(task) => run(&rt, &task),
+        Err(error) => Ok(tell(alloc, &rt, &error)?),
     }
 }
 
-/// Shows the table of a stream as often as the second word says.
+/// Does a task over standard input and output.
+fn run(rt: &HostRuntime, task: &Task) -> Result<ExitCode> {
+    let alloc = rt.alloc();
+    let mut connection = Connection::new(alloc, rt.reader(), io::writer(rt), Limits::default())?;
+    match task {
+        Task::Tables { key, rounds } => show_rounds(rt, &mut connection, key, *rounds)?,
+        Task::Text { keys, form } => {
+            let text = text_of(alloc, &mut connection, keys, *form)?;
+            eprint!(rt; "{text}")?;
+        }
+    }
+    Ok(ExitCode::SUCCESS)
+}
+
+/// Shows the table of a stream so often.
 fn show_rounds<R: Read + Drop, W: Write + Drop>(
     rt: &HostRuntime,
     connection: &mut Connection<R, W>,
-    words: &[RawBytes],
+    key: &Key,
+    rounds: u32,
 ) -> Result<()> {
     let alloc = rt.alloc();
-    let [key, rounds] = words else {
-        return Err(anyhow!("{USAGE}"));
-    };
-    let rounds: u32 = escaped(alloc, &rounds.0)?.parse()?;
     for round in 0..rounds {
-        let (found, now) = ask(alloc, connection, key)?;
+        let (found, now) = ask(alloc, connection, &key.bytes)?;
         let Some(stream) = found else {
             return Err(anyhow!("the server answers {NO_SUCH_KEY}"));
         };
-        let text = page(alloc, &escaped(alloc, &key.0)?, &stream, now)?;
+        let text = page(alloc, &key.name, &stream, now)?;
         eprint!(rt; "{text}")?;
         if round + 1 < rounds {
-            wait(alloc, connection, key, &stream.last_generated_id)?;
+            wait(alloc, connection, &key.bytes, &stream.last_generated_id)?;
         }
     }
     Ok(())
-}
-
-/// In which form the figures are printed once.
-#[derive(Clone, Copy)]
-enum Form {
-    Json,
-    OpenMetrics,
-}
-
-/// The keys, and the form that the words after them name.
-fn form_of(words: &[RawBytes]) -> (&[RawBytes], Option<Form>) {
-    let [rest @ .., form] = words else {
-        return (words, None);
-    };
-    match form.0.as_slice() {
-        b"--json" => (keys_of(rest), Some(Form::Json)),
-        b"--openmetrics" => (keys_of(rest), Some(Form::OpenMetrics)),
-        _ => (words, None),
-    }
-}
-
-/// The words without a last `--once`.
-fn keys_of(words: &[RawBytes]) -> &[RawBytes] {
-    match words {
-        [keys @ .., once] => {
-            if once.0.as_slice() == b"--once".as_slice() {
-                keys
-            } else {
-                words
-            }
-        }
-        [] => words,
-    }
 }
 
 /// The figures of all keys, in this form.
 fn text_of<R: Read + Drop, W: Write + Drop>(
     alloc: Global,
     connection: &mut Connection<R, W>,
-    keys: &[RawBytes],
+    keys: &[Key],
     form: Form,
 ) -> Result<String> {
-    if keys.is_empty() {
-        return Err(anyhow!("{USAGE}"));
-    }
     let streams = measure(alloc, connection, keys)?;
     let text = match form {
         Form::Json => json_line(alloc, &streams)?,
@@ -184,13 +155,12 @@ fn json_line(alloc: Global, streams: &[StreamFigures]) -> Result<Vec<u8>, AllocE
 fn measure<R: Read + Drop, W: Write + Drop>(
     alloc: Global,
     connection: &mut Connection<R, W>,
-    keys: &[RawBytes],
+    keys: &[Key],
 ) -> Result<Vec<StreamFigures>> {
     let mut streams = Vec::new(alloc);
     for key in keys {
-        let name = escaped(alloc, &key.0)?;
-        if !is_measured(&streams, &name) {
-            streams.push(measure_one(alloc, connection, key, &name)?)?;
+        if !is_measured(&streams, &key.name) {
+            streams.push(measure_one(alloc, connection, key)?)?;
         }
     }
     Ok(streams)
@@ -209,15 +179,14 @@ fn is_measured(streams: &[StreamFigures], key: &str) -> bool {
 fn measure_one<R: Read + Drop, W: Write + Drop>(
     alloc: Global,
     connection: &mut Connection<R, W>,
-    key: &RawBytes,
-    name: &str,
+    key: &Key,
 ) -> Result<StreamFigures> {
-    let (found, now) = ask(alloc, connection, key)?;
+    let (found, now) = ask(alloc, connection, &key.bytes)?;
     let stream = match found {
         Some(stream) => stream,
         None => StreamInfoFullReply::empty(alloc)?,
     };
-    Ok(figures_of(alloc, name, &stream, now)?)
+    Ok(figures_of(alloc, &key.name, &stream, now)?)
 }
 
 /// The words that the program is called with.

@@ -1,0 +1,159 @@
+//! The words that the program is called with.
+ghost use Rattle.std.specs.Prelude.{◌≤◌, length, IfOk};
+
+use crate::escaped;
+use clap::builder::ValueParser;
+use clap::{Arg, ArgAction, ArgGroup, ArgMatches, Command, Error};
+use command_lines::{command, flag, matches_of, word_of};
+use redis_resp::RawBytes;
+use std::alloc::{AllocError, Global};
+
+/// What the program is to do.
+#[derive(Drop)]
+pub enum Task {
+    /// So many tables of a stream are shown.
+    Tables { key: Key, rounds: u32 },
+    /// The figures of streams are printed once.
+    Text { keys: Vec<Key>, form: Form },
+}
+
+/// A key of a stream.
+#[derive(Drop)]
+pub struct Key {
+    pub bytes: RawBytes,
+    /// The text that it is shown as.
+    pub name: String,
+}
+
+/// In which form the figures are printed.
+#[derive(Clone, Copy)]
+pub enum Form {
+    Json,
+    OpenMetrics,
+}
+
+const PROGRAM: &str = "stream_top";
+
+const USAGE: &str =
+    "stream_top <KEY> <ROUNDS>\n       stream_top <--json|--openmetrics> [--once] <KEY>...";
+
+const KEY: &str = "KEY";
+
+const ROUNDS: &str = "ROUNDS";
+
+/// What `--json` and `--openmetrics` are.
+const FORM: &str = "form";
+
+const JSON: &str = "json";
+
+const OPEN_METRICS: &str = "openmetrics";
+
+/// The task of these words.
+pub fn task_of(alloc: Global, words: &[RawBytes]) -> Result<Task, Error>
+    ensures { IfOk result (λ _. 1 ≤ length words.now) }
+{
+    let texts = texts_of(alloc, words)?;
+    let mut command = command_of(alloc)?;
+    let matches = matches_of(alloc, &mut command, &texts, 1)?;
+    let Some(form) = form_of(&matches) else {
+        return tables_of(alloc, words, &texts);
+    };
+    let keys = keys_of(alloc, words, &texts, &matches)?;
+    Ok(Task::Text { keys, form })
+}
+
+// The words as texts. Two words are never one text.
+fn texts_of(alloc: Global, words: &[RawBytes]) -> Result<Vec<String>, AllocError> {
+    let mut texts = Vec::new(alloc);
+    for word in words {
+        texts.push(escaped(alloc, &word.0)?)?;
+    }
+    Ok(texts)
+}
+
+fn command_of<'a>(alloc: Global) -> Result<Command<'a>, AllocError> {
+    let about =
+        "Shows the groups of a stream in a table, ROUNDS times, or prints the figures of streams for monitors.";
+    let json = "Prints the figures of all KEYs once, as a document of JSON";
+    let open_metrics = "Prints the figures of all KEYs once, as a text of OpenMetrics";
+    let once = "Only with one of these, which print once without it too";
+    command(alloc, PROGRAM, about)
+        .override_usage(USAGE)
+        .arg(keys(alloc))?
+        .arg(flag(alloc, JSON, json))?
+        .arg(flag(alloc, OPEN_METRICS, open_metrics))?
+        .arg(flag(alloc, "once", once).requires_arg(FORM)?)?
+        .group(ArgGroup::new(alloc, FORM).arg(JSON)?.arg(OPEN_METRICS)?)
+}
+
+fn keys<'a>(alloc: Global) -> Arg<'a> {
+    Arg::new(alloc, KEY)
+        .required(true)
+        .action(ArgAction::Append)
+        .num_args(1..)
+        .help("The stream; with --json or --openmetrics one stream or more")
+}
+
+fn form_of(matches: &ArgMatches<'_>) -> Option<Form> {
+    if matches.get_flag(JSON) {
+        Some(Form::Json)
+    } else if matches.get_flag(OPEN_METRICS) {
+        Some(Form::OpenMetrics)
+    } else {
+        None
+    }
+}
+
+// The keys that the words name, in order.
+fn keys_of(
+    alloc: Global,
+    words: &[RawBytes],
+    texts: &[String],
+    matches: &ArgMatches<'_>,
+) -> Result<Vec<Key>, AllocError> {
+    let mut keys = Vec::new(alloc);
+    if let Some(names) = matches.get_strs(KEY) {
+        for name in names {
+            keys.push(key_of(alloc, words, texts, name)?)?;
+        }
+    }
+    Ok(keys)
+}
+
+// The key whose text is this one.
+fn key_of(
+    alloc: Global,
+    words: &[RawBytes],
+    texts: &[String],
+    name: &str,
+) -> Result<Key, AllocError> {
+    let mut bytes = Vec::new(alloc);
+    for (word, text) in words.iter().zip(texts) {
+        if text.as_str() == name {
+            bytes = word.0.clone()?;
+        }
+    }
+    Ok(Key {
+        bytes: RawBytes(bytes),
+        name: String::from_str(alloc, name)?,
+    })
+}
+
+// The task of words that name no form: a key, and how many tables of it are shown.
+fn tables_of(alloc: Global, words: &[RawBytes], texts: &[String]) -> Result<Task, Error> {
+    let mut command = command(alloc, PROGRAM, "")
+        .override_usage(USAGE)
+        .arg(Arg::new(alloc, KEY).required(true).action(ArgAction::Set))?
+        .arg(rounds(alloc))?;
+    let matches = matches_of(alloc, &mut command, texts, 2)?;
+    let key = key_of(alloc, words, texts, word_of(&matches, KEY))?;
+    let rounds = matches.get_one::<u32>(ROUNDS).unwrap_or(0);
+    Ok(Task::Tables { key, rounds })
+}
+
+fn rounds<'a>(alloc: Global) -> Arg<'a> {
+    Arg::new(alloc, ROUNDS)
+        .required(true)
+        .action(ArgAction::Set)
+        .value_parser(ValueParser::unsigned(0, u64::from(u32::MAX)))
+}
