@@ -38,9 +38,9 @@ use std::io;
 use std::io::{Read, Write};
 use std::process::ExitCode;
 use stream_commands::{AtLeastOne, xinfo_stream_full_count, xread_options};
+use stream_monitor::group_state::{GroupState, group_state};
 use stream_options::StreamReadOptions;
 use unicode_width::UnicodeWidthStr;
-use stream_monitor::group_state::{GroupState, group_state};
 
 /// At most so many pending entries of a group are looked at.
 const COUNT: usize = 100;
