@@ -66,9 +66,9 @@ module _ (len : ℕ) (counts room : Counts) where
   fields_wanted some rows n (outcomes.Fault f) w same many = absurd w
 
 -- so many places are in a table that has room for them
-pub rows_there : (some rows n told_len told_places : ℕ) → told_len ≡ n → told_places ≡ rows → told_places ≤ some
+pub places_there : (some rows n told_len told_places : ℕ) → told_len ≡ n → told_places ≡ rows → told_places ≤ some
     → TellsPlaces some rows n 0 told_len told_places
-rows_there some rows n told_len told_places same many fits =
+places_there some rows n told_len told_places same many fits =
     inr (inl (refl, omega (arith, many, fits)), (same, many))
 
 -- as many rows as there are places
