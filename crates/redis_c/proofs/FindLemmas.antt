@@ -1,6 +1,6 @@
 -- What is told of entries that are found tells which outcome it is.
-use Rattle.std.proofs.Common.{◌≡◌, ◌≢◌, ◌++◌, ◌∙◌, ℕ, Bool, true, false, List, [], length, take, drop, Option, Some, None}
-use Rattle.std.proofs.Common.{Result, Ok, Err, refl, sym, ap, subst}
+use Rattle.std.proofs.Common.{◌≡◌, ◌≢◌, ◌++◌, ◌∙◌, ℕ, Bool, true, false, List, [], take, drop, Option, None}
+use Rattle.std.proofs.Common.{Ok, Err, refl, sym, ap, subst}
 use Rattle.std.specs.Prelude.{nat_lt, if◌then◌else◌}
 use Rattle.std.proofs.lemmas.List.{take-append-drop}
 use Rattle.redis_resp.specs.Tree.{Tree}
@@ -12,7 +12,7 @@ use Rattle.redis_wire.specs.Decoded.{IsFirstFault}
 use Rattle.redis_wire.specs.Grammar.{IsAnyReply, IsReply}
 use Rattle.redis_wire.specs.Limits.{default_limits}
 use Rattle.redis_wire.specs.Push.{reply_at}
-use Rattle.redis_wire.specs.Reading.{Halt, bad, Read}
+use Rattle.redis_wire.specs.Reading.{bad, Read}
 use Rattle.redis_wire.specs.Reply.{Answer, value, refused, group, pushed}
 use Rattle.redis_wire.proofs.FitsLemmas.{reply_fits}
 use Rattle.stream_refs.specs.Held.{Held}

@@ -2,7 +2,6 @@
 use Rattle.std.proofs.Common.{◌≡◌, ◌≤◌, ◌⊎◌, ◌∙◌, ℕ, List, [], ◌++◌, length, take, drop, Result, Ok, Err}
 use Rattle.std.proofs.Common.{refl, sym, ap, arith, subst, inl, inr}
 use Rattle.std.proofs.lemmas.List.{length-append, length-drop, take-append-drop, append-nil}
-use Rattle.redis_wire.specs.declared.fault.Fault.{Fault}
 use Rattle.redis_wire.specs.declared.fault.WireError.{WireError}
 use Rattle.redis_wire.specs.declared.fault.WireError.TheVariants as errors
 use Rattle.redis_wire.specs.declared.nodes.Found.{Found}

@@ -1,5 +1,5 @@
 -- Texts of a sentence at the places of its arguments.
-use Rattle.std.proofs.Common.{◌≡◌, ◌∙◌, ℕ, Bool, true, false, List, [], ◌∷◌, ◌++◌, length, drop, Option, Some, None}
+use Rattle.std.proofs.Common.{◌≡◌, ◌∙◌, ℕ, true, false, List, [], ◌∷◌, ◌++◌, length, drop, Option, Some, None}
 use Rattle.std.proofs.Common.{refl, ap, codes, arith}
 use Rattle.std.specs.Prelude.{option_map, is_some, nat_eq, IfSome, if◌then◌else◌}
 use Rattle.std.specs.Str.{IsUtf8}
@@ -17,7 +17,7 @@ use Rattle.stream_options.specs.Laws.{Any}
 use Rattle.stream_options.specs.Policy.{policy_sentence}
 use Rattle.stream_options.specs.Read.{Group, ReadFits, group_sentence, read_sentence}
 use Rattle.stream_options.specs.ReadBack.{single_group}
-use Rattle.stream_options.specs.Trim.{Mode, mode_word, max_len, min_id, Strategy, StrategyFits, strategy_sentence}
+use Rattle.stream_options.specs.Trim.{Mode, mode_word, min_id, Strategy, StrategyFits, strategy_sentence}
 use Rattle.stream_options.specs.Trim.{Trim, TrimFits, trim_sentence}
 use Rattle.stream_sentences.specs.Parts.{group_of, read_of}
 use Rattle.stream_sentences.specs.declared.read.GroupNames.{GroupNames}

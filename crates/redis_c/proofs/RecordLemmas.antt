@@ -1,10 +1,9 @@
 -- Records whose texts are copied one after the other: what is put behind them changes none.
-use Rattle.std.proofs.Common.{◌≡◌, ◌≤◌, ◌+◌, ◌-◌, ◌∙◌, ℕ, List, [], ◌∷◌, ◌++◌, length, take, drop, map, refl, sym, ap, arith, subst}
+use Rattle.std.proofs.Common.{◌≡◌, ◌≤◌, ◌+◌, ◌∙◌, ℕ, List, [], ◌∷◌, ◌++◌, length, take, drop, map, refl, sym, ap, arith, subst}
 use Rattle.std.proofs.Common.{◌<◌, get_or, add-one, flat_map, suc, Option, Some, None}
 use Rattle.std.proofs.lemmas.List.{length-append, length-drop, drop-append-le, take-append-le, map-append, flat_map_more}
 use Rattle.std.proofs.Math.Seq.{take-suc}
 use Rattle.redis_wire.specs.declared.place.Span.{Span}
-use Rattle.redis_wire.specs.Place.{text_in, IsSpan}
 use Rattle.redis_streams.specs.Info.{Consumer, Group}
 use Rattle.redis_streams.specs.Pending.{PendingEntry, PendingSummary}
 use Rattle.redis_resp.specs.Tree.{Tree}

@@ -1,24 +1,22 @@
 -- What is told of bytes tells which outcome it is: no two of them are true of the same bytes.
-use Rattle.std.proofs.Common.{◌≡◌, ◌≢◌, ◌≤◌, ◌<◌, ◌+◌, ◌⊎◌, ◌∙◌, ℕ, List, [], ◌∷◌, ◌++◌, length, take, drop, Option, Some, None}
-use Rattle.std.proofs.Common.{Result, Ok, Err, refl, sym, ap, arith, subst, inl, inr}
+use Rattle.std.proofs.Common.{◌≡◌, ◌≢◌, ◌⊎◌, ◌∙◌, ℕ, List, [], ◌++◌, length, take, drop, Option, Some, None}
+use Rattle.std.proofs.Common.{Ok, refl, sym, ap, arith, subst, inl, inr}
 use Rattle.std.proofs.lemmas.List.{length-append, take_at, take-append-drop, append-nil, append_assoc, nil_from_length}
-use Rattle.std.proofs.Math.Seq.{take-length}
 use Rattle.redis_resp.specs.Tree.{Tree}
 use Rattle.redis_wire.specs.declared.fault.Fault.{Fault}
 use Rattle.redis_wire.specs.declared.fault.WireError.TheVariants as errors
-use Rattle.redis_wire.specs.Bounded.{bounded_at}
 use Rattle.redis_wire.specs.Decoded.{NoReply, IsFirstFault}
 use Rattle.redis_wire.specs.Grammar.{IsAnyReply, IsReply}
 use Rattle.redis_wire.specs.Limits.{default_limits}
 use Rattle.redis_wire.specs.Push.{reply_at}
-use Rattle.redis_wire.specs.Reading.{Halt, short, bad, Read}
+use Rattle.redis_wire.specs.Reading.{Read}
 use Rattle.redis_wire.specs.Reply.{Answer, value, refused}
 use Rattle.redis_wire.proofs.DecodeLemmas.{fault_whole}
 use Rattle.redis_wire.proofs.FitsLemmas.{reply_fits}
 use Rattle.redis_c.specs.Outcome.{code, code_of_fault}
-use Rattle.redis_c.specs.Records.{IsRecordAt, IsUnread, IsUnreadAt, AreCopied, AreTooMuch, AreRecords, HasNoRecord}
+use Rattle.redis_c.specs.Records.{IsRecordAt, IsUnread, AreRecords, HasNoRecord}
 use Rattle.redis_c.specs.Records.{IsOrMemory, TellsReplies, HasRoom, TellsRecords, records_code}
-use Rattle.redis_c.specs.Told.{IsAnswered, IsNoError, IsOther, IsErrorAt}
+use Rattle.redis_c.specs.Told.{IsAnswered, IsNoError}
 use Rattle.redis_c.specs.declared.outcome.Outcome.{Outcome}
 use Rattle.redis_c.specs.declared.outcome.Outcome.TheVariants as outcomes
 use Rattle.redis_c.specs.declared.records.Records.{Records}

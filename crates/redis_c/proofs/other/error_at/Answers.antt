@@ -1,6 +1,5 @@
-use Rattle.std.proofs.Common.{◌≡◌, ◌∙◌, ◌++◌, List, ℕ, ap, sym, refl, take}
+use Rattle.std.proofs.Common.{refl, take}
 use Rattle.redis_wire.specs.Limits.{default_limits}
-use Rattle.redis_wire.specs.Packed.{crlf}
 use Rattle.redis_c.proofs.ErrorLemmas.{error_ends}
 use Rattle.redis_c.proofs.other.error_at.Goals as goal
 

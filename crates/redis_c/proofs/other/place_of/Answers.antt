@@ -1,4 +1,4 @@
-use Rattle.std.proofs.Common.{rules, arith, ◌≡◌, ◌∙◌, length, sym, take, drop}
+use Rattle.std.proofs.Common.{arith, ◌≡◌, ◌∙◌, length, sym, take, drop}
 use Rattle.std.proofs.lemmas.Grind.{common_steps}
 use Rattle.redis_c.proofs.ErrorLemmas.{room_there, text_there, apart}
 use Rattle.redis_c.proofs.other.place_of.Goals as goal

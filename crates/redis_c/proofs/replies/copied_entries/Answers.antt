@@ -1,4 +1,4 @@
-use Rattle.std.proofs.Common.{◌≡◌, List, ap, length, map, flat_map}
+use Rattle.std.proofs.Common.{◌≡◌, ap, length, map, flat_map}
 use Rattle.redis_streams.specs.Pending.{pending_count_reading}
 use Rattle.redis_streams.specs.PendingMeaning.{pending_id_meaning, pending_ids_meaning}
 use Rattle.redis_c.specs.Records.{AreAt, IsPendingAt, HoldEntries, pending_text}

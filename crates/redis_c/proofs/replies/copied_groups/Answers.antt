@@ -1,4 +1,4 @@
-use Rattle.std.proofs.Common.{◌≡◌, List, ap, length, map, flat_map}
+use Rattle.std.proofs.Common.{◌≡◌, ap, length, map, flat_map}
 use Rattle.redis_streams.specs.Info.{groups_reading}
 use Rattle.redis_streams.specs.InfoMeaning.{group_meaning, groups_meaning}
 use Rattle.redis_c.specs.Records.{AreAt, IsGroupAt, HoldGroups, group_text}

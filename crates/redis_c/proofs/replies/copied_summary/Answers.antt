@@ -1,4 +1,4 @@
-use Rattle.std.proofs.Common.{◌≡◌, ◌∙◌, ◌++◌, List, ℕ, ap, length}
+use Rattle.std.proofs.Common.{◌∙◌, ◌++◌, List, ℕ, ap, length}
 use Rattle.redis_streams.specs.Pending.{pending_reading}
 use Rattle.redis_streams.specs.PendingMeaning.{pending_meaning}
 use Rattle.redis_c.specs.Records.{HoldSummary, IsSummaryAt, summary_consumers, summary_text}
