@@ -2,7 +2,7 @@
 ghost use Rattle.std.specs.Prelude.{◌≡◌, ◌≤◌, ◌∷◌, ℕ, List, codes, length, true, IfOk, IfSome, Ok, Some};
 ghost use Rattle.stream_server.specs.Adding.{id_alone};
 ghost use Rattle.stream_server.specs.IdWords.{Fits, texts_of};
-ghost use Rattle.stream_server.specs.declared.commands.NewId.TheVariants.{Automatic, Given};
+ghost use Rattle.stream_server.specs.declared.commands.new_ids.NewId.TheVariants.{Automatic, Given};
 ghost use Rattle.stream_store.specs.EntryId.{id_text};
 ghost use Rattle.stream_store.specs.declared.entry_id.EntryId.{EntryId};
 
