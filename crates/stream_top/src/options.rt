@@ -1,5 +1,5 @@
 //! The words that the program is called with.
-ghost use Rattle.std.specs.Prelude.{◌≤◌, length, IfOk};
+ghost use Rattle.std.specs.Prelude.{◌≡◌, ◌≤◌, length, IfOk};
 
 use crate::escaped;
 use clap::builder::ValueParser;
@@ -62,8 +62,10 @@ pub fn task_of(alloc: Global, words: &[RawBytes]) -> Result<Task, Error>
     Ok(Task::Text { keys, form })
 }
 
-// The words as texts. Two words are never one text.
-fn texts_of(alloc: Global, words: &[RawBytes]) -> Result<Vec<String>, AllocError> {
+/// The words as texts. Two words are never one text.
+fn texts_of(alloc: Global, words: &[RawBytes]) -> Result<Vec<String>, AllocError>
+    ensures { IfOk result (λ texts. length texts.items ≡ length words.now) }
+{
     let mut texts = Vec::new(alloc);
     for word in words {
         texts.push(escaped(alloc, &word.0)?)?;
@@ -104,7 +106,7 @@ fn form_of(matches: &ArgMatches<'_>) -> Option<Form> {
     }
 }
 
-// The keys that the words name, in order.
+/// The keys that the words name, in order.
 fn keys_of(
     alloc: Global,
     words: &[RawBytes],
@@ -120,7 +122,7 @@ fn keys_of(
     Ok(keys)
 }
 
-// The key whose text is this one.
+/// The key whose text is this one.
 fn key_of(
     alloc: Global,
     words: &[RawBytes],
