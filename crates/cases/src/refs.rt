@@ -26,7 +26,7 @@ use std::fmt::Debug;
 use stream_entries::{
     StreamAutoClaimJustIdReply, StreamAutoClaimReply, StreamKey, StreamRangeReply, StreamReadReply,
 };
-use stream_refs::{
+use stream_in_place::{
     AutoClaimOutcome, EntryRef, EntryTape, JustIdOutcome, RangeOutcome, ReadOutcome, StreamIdParts,
     read_any_autoclaim, read_any_justid, read_any_range, read_any_streams,
 };

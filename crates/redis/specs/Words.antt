@@ -141,24 +141,24 @@ pub use Rattle.stream_options.specs.Trim.{trim_sentence, trim_words, unlimited}
 pub use Rattle.stream_options.specs.TrimCalls.{final_trim}
 pub use Rattle.stream_options.specs.View.{idempotency_of, maxlen_of, mode_of, nack_of, policy_of, strategy_of}
 pub use Rattle.stream_options.specs.Words.{IsFree, among}
-pub use Rattle.stream_refs.specs.AutoClaim.{copied_autoclaim, IsAutoClaim, IsJustId}
-pub use Rattle.stream_refs.specs.ClaimOutcome.{IsAutoClaimInPlace, IsAutoClaimOutcome, IsJustIdInPlace, IsJustIdOutcome}
-pub use Rattle.stream_refs.specs.ClaimPlaced.{AreClaimPlaces, AreJustIdPlaces, autoclaim_in, justid_in}
-pub use Rattle.stream_refs.specs.Copied.{NotOwned, copied, copied_stream, copied_streams, pairs_or_none}
-pub use Rattle.stream_refs.specs.FieldValue.{signed_value, text_value, unsigned_value}
-pub use Rattle.stream_refs.specs.Held.{Held as HeldPlaces, none_held}
-pub use Rattle.stream_refs.specs.IdParts.{behind_text, id_in, id_number, id_text}
-pub use Rattle.stream_refs.specs.Outcome.{IsRangeInPlace, IsRangeOutcome, IsReadInPlace, IsReadOutcome}
-pub use Rattle.stream_refs.specs.Placed.{IsEntry, IsField, IsStream, entry_in, field_in, fields_if, stream_in}
-pub use Rattle.stream_refs.specs.Range.{IsRange, IsRead}
-pub use Rattle.stream_refs.specs.Sent.{AreAllNamed, AreNamed, AreTextFields, Pairs, SentAutoClaim, SentEntry}
-pub use Rattle.stream_refs.specs.Sent.{SentStream, is_none}
-pub use Rattle.stream_refs.specs.SentMeaning.{claim_of, octet_pair, octet_pairs, sent_all, sent_of}
-pub use Rattle.stream_refs.specs.SentReading.{octet_pairs_reading, octets_reading, sent_autoclaim_reading}
-pub use Rattle.stream_refs.specs.SentReading.{sent_fields_reading, sent_row_reading, sent_streams_reading}
-pub use Rattle.stream_refs.specs.SentRefusal.{RefusesOctetPairs, RefusesOctets, RefusesSentAutoClaim}
-pub use Rattle.stream_refs.specs.SentRefusal.{RefusesSentFields, RefusesSentRow, RefusesSentStreams}
-pub use Rattle.stream_refs.specs.Shapes.{BeginsWithAutoClaim, BeginsWithJustId, BeginsWithRange, BeginsWithStreams}
+pub use Rattle.stream_in_place.specs.AutoClaim.{copied_autoclaim, IsAutoClaim, IsJustId}
+pub use Rattle.stream_in_place.specs.ClaimOutcome.{IsAutoClaimInPlace, IsAutoClaimOutcome, IsJustIdInPlace, IsJustIdOutcome}
+pub use Rattle.stream_in_place.specs.ClaimPlaced.{AreClaimPlaces, AreJustIdPlaces, autoclaim_in, justid_in}
+pub use Rattle.stream_in_place.specs.Copied.{NotOwned, copied, copied_stream, copied_streams, pairs_or_none}
+pub use Rattle.stream_in_place.specs.FieldValue.{signed_value, text_value, unsigned_value}
+pub use Rattle.stream_in_place.specs.Held.{Held as HeldPlaces, none_held}
+pub use Rattle.stream_in_place.specs.IdParts.{behind_text, id_in, id_number, id_text}
+pub use Rattle.stream_in_place.specs.Outcome.{IsRangeInPlace, IsRangeOutcome, IsReadInPlace, IsReadOutcome}
+pub use Rattle.stream_in_place.specs.Placed.{IsEntry, IsField, IsStream, entry_in, field_in, fields_if, stream_in}
+pub use Rattle.stream_in_place.specs.Range.{IsRange, IsRead}
+pub use Rattle.stream_in_place.specs.Sent.{AreAllNamed, AreNamed, AreTextFields, Pairs, SentAutoClaim, SentEntry}
+pub use Rattle.stream_in_place.specs.Sent.{SentStream, is_none}
+pub use Rattle.stream_in_place.specs.SentMeaning.{claim_of, octet_pair, octet_pairs, sent_all, sent_of}
+pub use Rattle.stream_in_place.specs.SentReading.{octet_pairs_reading, octets_reading, sent_autoclaim_reading}
+pub use Rattle.stream_in_place.specs.SentReading.{sent_fields_reading, sent_row_reading, sent_streams_reading}
+pub use Rattle.stream_in_place.specs.SentRefusal.{RefusesOctetPairs, RefusesOctets, RefusesSentAutoClaim}
+pub use Rattle.stream_in_place.specs.SentRefusal.{RefusesSentFields, RefusesSentRow, RefusesSentStreams}
+pub use Rattle.stream_in_place.specs.Shapes.{BeginsWithAutoClaim, BeginsWithJustId, BeginsWithRange, BeginsWithStreams}
 pub use Rattle.stream_sentences.specs.Parts.{add_of as add_of_parts, autoclaim_of as autoclaim_of_parts}
 pub use Rattle.stream_sentences.specs.Parts.{claim_of as claim_of_parts, group_of as group_of_names}
 pub use Rattle.stream_sentences.specs.Parts.{read_of as read_of_parts, trim_of as trim_of_parts}

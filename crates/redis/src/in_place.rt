@@ -1,6 +1,6 @@
 //! Replies that hold entries, read where they are in a server's bytes: nothing is copied, fields keep
 //! their order, and one that comes twice is there twice.
-pub use stream_refs::{
+pub use stream_in_place::{
     AutoClaimJustIdRef, AutoClaimOutcome, AutoClaimPlace, AutoClaimRef, Delivery, EntriesRef,
     EntryPlace, EntryRef, EntryRoom, EntryTables, EntryTape, FieldError, FieldPlace, FieldsRef,
     Full, IdsRef, JustIdOutcome, OctetPairs, Octets, Places, RangeOutcome, RangeRef, ReadOutcome,

@@ -15,11 +15,11 @@ use Rattle.redis_wire.specs.Push.{reply_at}
 use Rattle.redis_wire.specs.Reading.{bad, Read}
 use Rattle.redis_wire.specs.Reply.{Answer, value, refused, group, pushed}
 use Rattle.redis_wire.proofs.FitsLemmas.{reply_fits}
-use Rattle.stream_refs.specs.Held.{Held}
-use Rattle.stream_refs.specs.declared.places.AutoClaimPlace.{AutoClaimPlace}
-use Rattle.stream_refs.specs.declared.places.FieldPlace.{FieldPlace}
-use Rattle.stream_refs.specs.declared.places.EntryPlace.{EntryPlace}
-use Rattle.stream_refs.specs.declared.places.StreamPlace.{StreamPlace}
+use Rattle.stream_in_place.specs.Held.{Held}
+use Rattle.stream_in_place.specs.declared.places.AutoClaimPlace.{AutoClaimPlace}
+use Rattle.stream_in_place.specs.declared.places.FieldPlace.{FieldPlace}
+use Rattle.stream_in_place.specs.declared.places.EntryPlace.{EntryPlace}
+use Rattle.stream_in_place.specs.declared.places.StreamPlace.{StreamPlace}
 use Rattle.redis_c.specs.Claimed.{AutoClaimIn, JustIdIn}
 use Rattle.redis_c.specs.Outcome.{code}
 use Rattle.redis_c.specs.Records.{HasNoRecord, IsUnread, TellsFinding}

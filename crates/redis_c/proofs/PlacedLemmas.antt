@@ -6,8 +6,8 @@ use Rattle.std.proofs.Math.Seq.{drop-cons}
 use Rattle.redis_resp.specs.Reading.{traverse, both_read}
 use Rattle.redis_resp.proofs.ReadLemmas.{ReadSoFar, read_next, read_all}
 use Rattle.redis_wire.specs.declared.place.Span.{Span}
-use Rattle.stream_refs.specs.declared.places.FieldPlace.{FieldPlace}
-use Rattle.stream_refs.specs.declared.places.EntryPlace.{EntryPlace}
+use Rattle.stream_in_place.specs.declared.places.FieldPlace.{FieldPlace}
+use Rattle.stream_in_place.specs.declared.places.EntryPlace.{EntryPlace}
 
 abbrev pub nowhere : Span
 nowhere = record { start = 0; len = 0 }

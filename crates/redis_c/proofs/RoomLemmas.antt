@@ -3,8 +3,8 @@ use Rattle.std.proofs.Common.{◌≡◌, ◌≤◌, ◌+◌, ◌∙◌, ℕ, Lis
 use Rattle.std.proofs.Common.{Option, Some, None}
 use Rattle.std.proofs.lemmas.List.{length-append, length-map, length-take, take-append-drop}
 use Rattle.std.specs.Prelude.{IfSome, IsSomeAnd}
-use Rattle.stream_refs.specs.Held.{Held}
-use Rattle.stream_refs.specs.Lent.{Lent}
+use Rattle.stream_in_place.specs.Held.{Held}
+use Rattle.stream_in_place.specs.Lent.{Lent}
 use Rattle.redis_c.specs.Outcome.{code, found}
 use Rattle.redis_c.specs.Told.{HasCounts, IsRoom, IsTooMuch, IsWanting, TellsPlaces}
 use Rattle.redis_c.specs.declared.outcome.Counts.{Counts}

@@ -1,14 +1,14 @@
 -- Where what XAUTOCLAIM answers stands in the bytes.
 use Rattle.std.specs.Prelude.{◌≡◌, ◌≤◌, ◌+◌, ℕ, List, length}
 use Rattle.redis_wire.specs.Limits.{default_limits}
-use Rattle.stream_refs.specs.declared.places.AutoClaimPlace.{AutoClaimPlace}
-use Rattle.stream_refs.specs.Held.{Held}
-use Rattle.stream_refs.specs.AutoClaim.{IsAutoClaim, IsJustId}
-use Rattle.stream_refs.specs.Sent.{SentAutoClaim}
-use Rattle.stream_refs.specs.Sent.{all_fields}
-use Rattle.stream_refs.specs.Shapes.{BeginsWithAutoClaim, BeginsWithJustId}
+use Rattle.stream_in_place.specs.declared.places.AutoClaimPlace.{AutoClaimPlace}
+use Rattle.stream_in_place.specs.Held.{Held}
+use Rattle.stream_in_place.specs.AutoClaim.{IsAutoClaim, IsJustId}
+use Rattle.stream_in_place.specs.Sent.{SentAutoClaim}
+use Rattle.stream_in_place.specs.Sent.{all_fields}
+use Rattle.stream_in_place.specs.Shapes.{BeginsWithAutoClaim, BeginsWithJustId}
 use Rattle.stream_entries.specs.JustId.{JustId}
-use Rattle.stream_refs.specs.ClaimPlaced.{autoclaim_in, justid_in, AreClaimPlaces, AreJustIdPlaces}
+use Rattle.stream_in_place.specs.ClaimPlaced.{autoclaim_in, justid_in, AreClaimPlaces, AreJustIdPlaces}
 
 -- The first `len` bytes are a reply: its next id stands at that place, and so many of the entries are those that
 -- were claimed; the others are the deleted ids.

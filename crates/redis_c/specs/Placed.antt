@@ -3,8 +3,8 @@ use Rattle.std.specs.Prelude.{◌+◌, leb, ℕ, List, length, Option, Some, Non
 use Rattle.redis_resp.specs.Reading.{traverse, both_read}
 use Rattle.redis_wire.specs.declared.place.Span.{Span}
 use Rattle.redis_wire.specs.Place.{text_in}
-use Rattle.stream_refs.specs.declared.places.FieldPlace.{FieldPlace}
-use Rattle.stream_refs.specs.declared.places.EntryPlace.{EntryPlace}
+use Rattle.stream_in_place.specs.declared.places.FieldPlace.{FieldPlace}
+use Rattle.stream_in_place.specs.declared.places.EntryPlace.{EntryPlace}
 
 -- the text at a place, where it is within the bytes
 abbrev pub text_at : List ℕ → Span → Option (List ℕ)

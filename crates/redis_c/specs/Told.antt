@@ -8,14 +8,14 @@ use Rattle.redis_wire.specs.Place.{text_in, IsSpan}
 use Rattle.redis_wire.specs.declared.fault.Fault.{Fault}
 use Rattle.redis_wire.specs.declared.fault.WireError.TheVariants as errors
 use Rattle.redis_wire.specs.declared.place.Span.{Span}
-use Rattle.stream_refs.specs.declared.places.FieldPlace.{FieldPlace}
-use Rattle.stream_refs.specs.declared.places.EntryPlace.{EntryPlace}
-use Rattle.stream_refs.specs.declared.places.StreamPlace.{StreamPlace}
-use Rattle.stream_refs.specs.Held.{Held}
-use Rattle.stream_refs.specs.Placed.{entry_in, stream_in}
-use Rattle.stream_refs.specs.Range.{IsRange, IsRead}
-use Rattle.stream_refs.specs.Sent.{SentEntry, SentStream, all_fields, all_entries, all_stream_fields}
-use Rattle.stream_refs.specs.Shapes.{BeginsWithRange, BeginsWithStreams}
+use Rattle.stream_in_place.specs.declared.places.FieldPlace.{FieldPlace}
+use Rattle.stream_in_place.specs.declared.places.EntryPlace.{EntryPlace}
+use Rattle.stream_in_place.specs.declared.places.StreamPlace.{StreamPlace}
+use Rattle.stream_in_place.specs.Held.{Held}
+use Rattle.stream_in_place.specs.Placed.{entry_in, stream_in}
+use Rattle.stream_in_place.specs.Range.{IsRange, IsRead}
+use Rattle.stream_in_place.specs.Sent.{SentEntry, SentStream, all_fields, all_entries, all_stream_fields}
+use Rattle.stream_in_place.specs.Shapes.{BeginsWithRange, BeginsWithStreams}
 use Rattle.redis_c.specs.declared.outcome.Counts.{Counts}
 use Rattle.redis_c.specs.declared.outcome.Found.{Found}
 use Rattle.redis_c.specs.declared.outcome.Outcome.{Outcome}

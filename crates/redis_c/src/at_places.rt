@@ -9,7 +9,7 @@ use crate::packing::{Packing, packed};
 use crate::placed::{Unplaced, fields_at, ids_at};
 use std::alloc::Global;
 use stream_commands::{AtLeastOne, xack, xadd, xclaim};
-use stream_refs::{EntryPlace, FieldPlace};
+use stream_in_place::{EntryPlace, FieldPlace};
 
 /// What is told where there are no arguments.
 pub fn of_unplaced(unplaced: Unplaced) -> Packing

@@ -2,8 +2,8 @@
 ghost use Rattle.std.specs.Prelude.{◌≡◌, ◌+◌, [], ℕ, length};
 ghost use Rattle.redis_wire.specs.Limits.{default_limits};
 ghost use Rattle.stream_entries.specs.JustId.{JustId};
-ghost use Rattle.stream_refs.specs.Sent.{SentAutoClaim, all_fields};
-ghost use Rattle.stream_refs.specs.Shapes.{BeginsWithAutoClaim, BeginsWithJustId};
+ghost use Rattle.stream_in_place.specs.Sent.{SentAutoClaim, all_fields};
+ghost use Rattle.stream_in_place.specs.Shapes.{BeginsWithAutoClaim, BeginsWithJustId};
 ghost use Rattle.redis_c.specs.Outcome.{code, found};
 ghost use Rattle.redis_c.specs.Records.{TellsFinding};
 ghost use Rattle.redis_c.specs.Told.{IsRoom, IsOutcome, IsTold, room_of, AreHeld, TellsPlaces};
@@ -14,7 +14,7 @@ use crate::other::other;
 use crate::outcome::{Counts, Found, Outcome, wanted};
 use redis_wire::Limits;
 use std::alloc::Global;
-use stream_refs::{
+use stream_in_place::{
     AutoClaimPlace, EntryPlace, EntryTables, EntryTape, FieldPlace, find_autoclaim, find_justid,
 };
 

@@ -1,8 +1,8 @@
 //! Entries where they stand, in tables of the caller.
 ghost use Rattle.std.specs.Prelude.{◌≡◌, [], ℕ, List, false, length};
 ghost use Rattle.redis_wire.specs.Limits.{default_limits};
-ghost use Rattle.stream_refs.specs.Sent.{SentEntry, SentStream, all_fields, all_entries, all_stream_fields};
-ghost use Rattle.stream_refs.specs.Shapes.{BeginsWithRange, BeginsWithStreams};
+ghost use Rattle.stream_in_place.specs.Sent.{SentEntry, SentStream, all_fields, all_entries, all_stream_fields};
+ghost use Rattle.stream_in_place.specs.Shapes.{BeginsWithRange, BeginsWithStreams};
 ghost use Rattle.redis_c.specs.Outcome.{code, found};
 ghost use Rattle.redis_c.specs.Records.{TellsFinding};
 ghost use Rattle.redis_c.specs.Told.{RangeIn, StreamsIn, RangeFits, ReadFits, HasCounts, IsRoom, IsOutcome, IsTold};
@@ -12,7 +12,7 @@ use crate::other::other;
 use crate::outcome::{Counts, Found, Outcome, wanted};
 use redis_wire::Limits;
 use std::alloc::Global;
-use stream_refs::{
+use stream_in_place::{
     EntryPlace, EntryTables, EntryTape, FieldPlace, Places, StreamPlace, find_range, find_streams,
 };
 

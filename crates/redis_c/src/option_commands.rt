@@ -26,8 +26,8 @@ use stream_commands::{
     xpending_consumer_count, xpending_count, xpending_idle_consumer_count, xpending_idle_count,
     xread_options, xtrim_options,
 };
+use stream_in_place::{EntryPlace, FieldPlace};
 use stream_options::{StreamAddOptions, StreamClaimOptions, StreamReadOptions};
-use stream_refs::{EntryPlace, FieldPlace};
 
 /// What is told where there are no options.
 fn of_unset(unset: Unset) -> Packing

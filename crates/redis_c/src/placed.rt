@@ -5,7 +5,7 @@ ghost use Rattle.redis_c.specs.Placed.{text_at, texts_at, ids_at, fields_at};
 use crate::argument::Argument;
 use redis_wire::place::Span;
 use std::alloc::Global;
-use stream_refs::{EntryPlace, FieldPlace};
+use stream_in_place::{EntryPlace, FieldPlace};
 
 /// Why there are no arguments.
 #[derive(Clone, Copy)]

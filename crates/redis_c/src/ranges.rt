@@ -11,7 +11,7 @@ use crate::packing::{Packing, packed};
 use crate::placed::ids_at;
 use std::alloc::Global;
 use stream_commands::{AtLeastOne, xdel, xlen, xrange, xrange_count, xrevrange, xrevrange_count};
-use stream_refs::EntryPlace;
+use stream_in_place::EntryPlace;
 
 /// Packs `XLEN key`.
 #[unsafe(no_mangle)]

@@ -6,8 +6,8 @@ use Rattle.redis_wire.specs.Reply.{Answer, value}
 use Rattle.redis_wire.specs.Grammar.{IsReply}
 use Rattle.redis_wire.specs.Next.{Held}
 use Rattle.stream_entries.specs.Read.{read_reading, Streams}
-use Rattle.stream_refs.specs.Sent.{SentStream}
-use Rattle.stream_refs.specs.Range.{IsRead}
+use Rattle.stream_in_place.specs.Sent.{SentStream}
+use Rattle.stream_in_place.specs.Range.{IsRead}
 
 -- the bytes begin with a reply of that length
 abbrev pub IsHead : List ℕ → ℕ → Type 0

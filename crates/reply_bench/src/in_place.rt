@@ -4,7 +4,7 @@ ghost use Rattle.reply_bench.specs.Found.{HasStreams, AreInPlace};
 
 use anyhow::anyhow;
 use redis_wire::Limits;
-use stream_refs::{EntriesRef, EntryTape, FieldsRef, StreamsRef};
+use stream_in_place::{EntriesRef, EntryTape, FieldsRef, StreamsRef};
 
 /// Both names are fields of every entry.
 const NAMES: [&[u8]; 2] = [b"customer", b"note"];

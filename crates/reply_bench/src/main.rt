@@ -45,7 +45,7 @@ use std::alloc::Global;
 use std::io::Write;
 use std::process::ExitCode;
 use std::{env, io};
-use stream_refs::EntryTape;
+use stream_in_place::EntryTape;
 
 /// The arguments name no work.
 const NO_WORK: u8 = 1;

@@ -5,7 +5,7 @@ use Rattle.line_log.specs.Lines.{AreLines, EachStartsWith, HasLine, StartsWith}
 use Rattle.redis_connection.specs.Link.{Link}
 use Rattle.stream_group.specs.Law.{Among}
 use Rattle.stream_group.specs.Worker.{Id}
-use Rattle.stream_refs.specs.Sent.{Pairs}
+use Rattle.stream_in_place.specs.Sent.{Pairs}
 use Rattle.stream_worker.specs.Gathered.{Doings}
 use Rattle.stream_worker.specs.Session.{Standing, asking}
 use Rattle.stream_worker.specs.declared.state.Settings.{Settings}

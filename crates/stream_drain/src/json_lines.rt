@@ -10,7 +10,7 @@ ghost use Rattle.stream_worker.specs.Handling.{pair_of};
 use base64::engine::general_purpose::STANDARD;
 use json::Writer;
 use std::alloc::{AllocError, Global};
-use stream_refs::FieldsRef;
+use stream_in_place::FieldsRef;
 use stream_worker::EntryRef;
 
 /// The line of an entry: `{"id":"1-0","fields":[["name","value"],..]}`, where a name or a value that

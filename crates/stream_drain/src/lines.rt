@@ -15,7 +15,7 @@ use crate::resume::ids_told;
 use anyhow::Result as AnyResult;
 use line_log::{LineLog, LogError, LogFile, push_escaped, push_field};
 use std::alloc::{AllocError, Global};
-use stream_refs::FieldsRef;
+use stream_in_place::FieldsRef;
 use stream_worker::{EntryRef, Handler, NotCommitted, Verdict};
 
 /// A handler that writes each entry as a line.

@@ -4,7 +4,7 @@ use Rattle.std.proofs.Common.{Option, Some, None, if◌then◌else◌, append_as
 use Rattle.redis_connection.specs.Link.{Link}
 use Rattle.redis_wire.specs.Reply as wire
 use Rattle.stream_group.specs.Worker.{Id, Verdict, Machine, after, entries_in, told_in}
-use Rattle.stream_refs.specs.Sent.{Pairs}
+use Rattle.stream_in_place.specs.Sent.{Pairs}
 use Rattle.stream_worker.specs.Answered.{Failed, IsNoAnswer}
 use Rattle.stream_worker.specs.Answers.{Heard, told, no_group, group_made, group_after, hears}
 use Rattle.stream_worker.specs.Gathered.{Doings, done_too, committed_too}

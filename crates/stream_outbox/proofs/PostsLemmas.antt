@@ -2,7 +2,7 @@
 use Rattle.std.proofs.Common.{◌≡◌, ◌∙◌, refl, sym, ap, ℕ, Bool, true, false, List, [], ◌∷◌, ◌++◌, if◌then◌else◌}
 use Rattle.std.proofs.Common.{Option, Some, None}
 use Rattle.stream_group.specs.Worker.{Verdict, entries_in, told_in}
-use Rattle.stream_refs.specs.Sent.{Pairs}
+use Rattle.stream_in_place.specs.Sent.{Pairs}
 use Rattle.stream_worker.specs.Answers.{Heard, told, no_group, group_made, group_after, hears}
 use Rattle.stream_worker.specs.Handling.{with_all}
 use Rattle.stream_worker.specs.Machine.{commits}

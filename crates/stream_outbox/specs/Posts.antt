@@ -2,7 +2,7 @@
 use Rattle.std.specs.Prelude.{◌≡◌, ℕ, true, List, [], ◌++◌}
 use Rattle.redis_connection.specs.Link.{Link}
 use Rattle.stream_group.specs.Worker.{Verdict, done, left_pending, stop}
-use Rattle.stream_refs.specs.Sent.{Pairs}
+use Rattle.stream_in_place.specs.Sent.{Pairs}
 use Rattle.stream_worker.specs.Machine.{commits}
 use Rattle.stream_worker.specs.Session.{Standing, Turned, Fails}
 use Rattle.stream_worker.specs.declared.error.RunError.{RunError}

@@ -3,7 +3,7 @@ ghost use Rattle.std.specs.Prelude.{◌≡◌, ◌++◌, ℕ, [], List, IfErr, I
 ghost use Rattle.stream_group.specs.Worker as machine;
 ghost use Rattle.stream_outbox.specs.Posts.{FailsPosting, Posts, PostsRound, committed_after, posted_too, posts_by};
 ghost use Rattle.stream_outbox.specs.Sent.{SendsAll, SendsSome, unsent_of};
-ghost use Rattle.stream_refs.specs.Sent.{Pairs};
+ghost use Rattle.stream_in_place.specs.Sent.{Pairs};
 ghost use Rattle.stream_worker.specs.Handling.{pair_of, verdict_of};
 ghost use Rattle.stream_worker.specs.Session.{standing_of};
 

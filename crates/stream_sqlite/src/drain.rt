@@ -11,7 +11,7 @@ use redis_wire::Fault as WireFault;
 use row_table::{Table, TableError};
 use std::alloc::Global;
 use std::io::{Read, Write};
-use stream_refs::FieldError;
+use stream_in_place::FieldError;
 use stream_table::{Fault, Rows};
 use stream_worker::{Asked, Handler, Pipelined, Progress, RequestError, RunError, Worker};
 

@@ -14,7 +14,7 @@ use Rattle.stream_group.specs.World.{Read}
 use Rattle.stream_once.specs.Consumer.{last_lines}
 use Rattle.stream_once.specs.Law.{Fit, after}
 use Rattle.stream_once.specs.World.{Setting, Event, Send, Arrive, Hear, Restart, Else}
-use Rattle.stream_refs.specs.SentReading.{sent_streams_reading}
+use Rattle.stream_in_place.specs.SentReading.{sent_streams_reading}
 use Rattle.stream_files.specs.Files.{Fields}
 use Rattle.stream_worker.specs.Answers.{Heard, told, says, group_after, hears}
 use Rattle.stream_worker.specs.Gathered.{Doings, done_too, committed_too}

@@ -16,7 +16,7 @@ use Rattle.stream_group.specs.World as group
 use Rattle.stream_rounds.specs.Rounds.{all_done}
 use Rattle.stream_group.specs.Law.{Among}
 use Rattle.stream_group.proofs.Among.{among_left}
-use Rattle.stream_refs.specs.SentReading.{sent_streams_reading}
+use Rattle.stream_in_place.specs.SentReading.{sent_streams_reading}
 use Rattle.stream_files.specs.Files.{Fields, Form, lines, whole_lines}
 use Rattle.stream_files.specs.Law.{IsLineIn}
 use Rattle.stream_files.proofs.LineLemmas.{line_stays, line_behind, are_lines, line_among}

@@ -7,7 +7,7 @@ use Rattle.row_table.specs.Rows.{BeginsWith, Cell, Key, Row, find, with_known, w
 use Rattle.row_table.proofs.RowsLemmas.{found_front, law}
 use Rattle.stream_group.specs.Law.{Among}
 use Rattle.stream_group.specs.Worker.{Entry, Id, Machine, Verdict, done, left_pending, stop, entries_in, told_in}
-use Rattle.stream_refs.specs.Sent.{Pairs}
+use Rattle.stream_in_place.specs.Sent.{Pairs}
 use Rattle.stream_worker.proofs.LifeLemmas.{only_committed}
 use Rattle.stream_worker.specs.Answered.{Failed}
 use Rattle.stream_worker.specs.Answers.{Heard, told, no_group, group_made}

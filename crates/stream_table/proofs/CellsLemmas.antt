@@ -1,7 +1,7 @@
 -- Why an entry has no values.
 use Rattle.std.proofs.Common.{◌≡◌, ℕ, ◌<◌, List, length, get_or}
 use Rattle.row_table.specs.declared.cell.Column.{Column}
-use Rattle.stream_refs.specs.Sent.{Pairs}
+use Rattle.stream_in_place.specs.Sent.{Pairs}
 use Rattle.stream_table.specs.Reasons.{IsWhyOf, IsWhyOfOne}
 use Rattle.stream_table.specs.declared.columns.CellsError.{CellsError}
 use Rattle.stream_table.specs.declared.columns.CellsError.TheVariants.{Memory, Field}

@@ -4,7 +4,7 @@ use Rattle.row_table.specs.declared.cell.Column.{Column}
 use Rattle.row_table.specs.Rows.{Row, with_known, with_rows}
 use Rattle.row_table.proofs.RowsLemmas.{law}
 use Rattle.stream_group.specs.Worker.{Entry, Verdict, done, left_pending, stop}
-use Rattle.stream_refs.specs.Sent.{Pairs}
+use Rattle.stream_in_place.specs.Sent.{Pairs}
 use Rattle.stream_worker.specs.Gathered.{Doings, committed_too, done_too}
 use Rattle.stream_table.specs.Kept.{Beginning, GathersItsRows, Kept, committed_with, kept_of, kept_too, row_in, rows_in}
 

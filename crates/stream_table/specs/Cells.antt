@@ -7,10 +7,10 @@ use Rattle.row_table.specs.Rows.{Cell, null, integer, text, blob}
 use Rattle.row_table.specs.declared.cell.Column.{Column}
 use Rattle.row_table.specs.declared.cell.Kind.{Kind}
 use Rattle.row_table.specs.declared.cell.Kind.TheVariants as kinds
-use Rattle.stream_refs.specs.FieldValue.{text_value, signed_value}
-use Rattle.stream_refs.specs.Sent.{Pairs}
-use Rattle.stream_refs.specs.declared.field_value.FieldError.{FieldError}
-use Rattle.stream_refs.specs.declared.field_value.FieldError.TheVariants.{Missing, NotText, NotNumber}
+use Rattle.stream_in_place.specs.FieldValue.{text_value, signed_value}
+use Rattle.stream_in_place.specs.Sent.{Pairs}
+use Rattle.stream_in_place.specs.declared.field_value.FieldError.{FieldError}
+use Rattle.stream_in_place.specs.declared.field_value.FieldError.TheVariants.{Missing, NotText, NotNumber}
 use Rattle.stream_table.specs.Fields.{fields_tokens}
 
 -- a cell of what was read

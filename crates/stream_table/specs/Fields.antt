@@ -4,7 +4,7 @@ use Rattle.std.specs.Str.{is_utf8}
 use Rattle.base64.specs.Engines as named
 use Rattle.base64.specs.GeneralPurpose.{encode_of}
 use Rattle.json.specs.Token.{Token, begin_object, end_object, begin_array, end_array, key, string}
-use Rattle.stream_refs.specs.Sent.{Pairs}
+use Rattle.stream_in_place.specs.Sent.{Pairs}
 
 -- an object of the Base64 of bytes
 abbrev pub base64_tokens : List ℕ → List Token

@@ -5,9 +5,9 @@ use Rattle.row_table.specs.Rows.{Key, Row, with_known}
 use Rattle.row_table.specs.declared.cell.Column.{Column}
 use Rattle.row_table.specs.declared.row.Row as memory
 use Rattle.stream_group.specs.Worker.{Entry, Id, Verdict, done, left_pending, stop}
-use Rattle.stream_refs.specs.IdParts.{id_in}
-use Rattle.stream_refs.specs.Sent.{Pairs}
-use Rattle.stream_refs.specs.declared.id_parts.StreamIdParts.{StreamIdParts}
+use Rattle.stream_in_place.specs.IdParts.{id_in}
+use Rattle.stream_in_place.specs.Sent.{Pairs}
+use Rattle.stream_in_place.specs.declared.id_parts.StreamIdParts.{StreamIdParts}
 use Rattle.stream_worker.specs.Gathered.{Doings, committed_too, done_too}
 use Rattle.stream_table.specs.Cells.{cells_in}
 

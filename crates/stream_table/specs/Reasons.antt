@@ -4,9 +4,9 @@ use Rattle.row_table.specs.Rows.{Cell}
 use Rattle.row_table.specs.declared.cell.Column.{Column}
 use Rattle.row_table.specs.declared.error.TableError.TheVariants.{Memory, KeyTooLarge, OtherText, Refused}
 use Rattle.stream_group.specs.Worker.{Entry}
-use Rattle.stream_refs.specs.IdParts.{id_in}
-use Rattle.stream_refs.specs.Sent.{Pairs}
-use Rattle.stream_refs.specs.declared.field_value.FieldError.{FieldError}
+use Rattle.stream_in_place.specs.IdParts.{id_in}
+use Rattle.stream_in_place.specs.Sent.{Pairs}
+use Rattle.stream_in_place.specs.declared.field_value.FieldError.{FieldError}
 use Rattle.stream_table.specs.Cells.{cell_read}
 use Rattle.stream_table.specs.declared.columns.CellsError.{CellsError}
 use Rattle.stream_table.specs.declared.columns.CellsError.TheVariants as cells

@@ -3,14 +3,14 @@ ghost use Rattle.std.specs.Prelude.{◌≡◌, ◌++◌, Ok, IfErr, IfOk, OnOk, 
 ghost use Rattle.row_table.specs.OfRow.{cell_of, cells_of};
 ghost use Rattle.row_table.specs.declared.cell.Kind.TheVariants as Kind;
 ghost use Rattle.redis_resp.specs.Table.{last_with};
-ghost use Rattle.stream_refs.specs.Copied.{pairs_or_none};
+ghost use Rattle.stream_in_place.specs.Copied.{pairs_or_none};
 ghost use Rattle.stream_table.specs.Cells.{cell_in, cell_read, cells_in, value_read};
 ghost use Rattle.stream_table.specs.Reasons.{IsWhy, IsWhyOf, IsWhyOfOne};
 
 use crate::fields::fields_text;
 use row_table::{Cell, Column, Kind};
 use std::alloc::{AllocError, AllocFailed, Global};
-use stream_refs::FieldError;
+use stream_in_place::FieldError;
 use stream_worker::EntryRef;
 
 /// Why an entry has no values.

@@ -7,7 +7,7 @@ ghost use Rattle.stream_table.specs.Fields.{base64_tokens, bytes_tokens, field_t
 use base64::engine::general_purpose::STANDARD;
 use json::Writer;
 use std::alloc::{AllocError, Global};
-use stream_refs::FieldsRef;
+use stream_in_place::FieldsRef;
 
 /// The text of fields: `[["name","value"],..]`, in order and with repeated ones, where a name or a value that
 /// is not UTF-8 is `{"base64":"..."}`.

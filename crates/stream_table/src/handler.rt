@@ -9,7 +9,7 @@ ghost use Rattle.stream_worker.specs.Handling.{pair_of, verdict_of};
 use crate::columns::{CellsError, entry_cells};
 use row_table::{Column, Row, Table, TableError, put_all};
 use std::alloc::Global;
-use stream_refs::{FieldError, StreamIdParts};
+use stream_in_place::{FieldError, StreamIdParts};
 use stream_worker::{EntryRef, Handler, NotCommitted, Verdict};
 use thiserror::Error;
 

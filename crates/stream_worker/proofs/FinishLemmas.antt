@@ -6,7 +6,7 @@ use Rattle.redis_wire.specs.Reply as wire
 use Rattle.redis_connection.specs.Link.{Link}
 use Rattle.stream_group.specs.Worker as machine
 use Rattle.stream_group.specs.Worker.{Id, Verdict, Machine, acknowledged, after_commit}
-use Rattle.stream_refs.specs.Sent.{Pairs}
+use Rattle.stream_in_place.specs.Sent.{Pairs}
 use Rattle.stream_worker.specs.Answers.{Heard, told, hears, group_after}
 use Rattle.stream_worker.specs.Finish.{Acknowledge, Finished, FinishBroke, Settles, SettlesNot}
 use Rattle.stream_worker.specs.Machine.{is_empty, is_settled, commits, at_request}

@@ -12,8 +12,8 @@ use Rattle.redis_wire.specs.declared.fault.WireError.{WireError}
 use Rattle.redis_wire.specs.declared.fault.WireError.TheVariants as wire_errors
 use Rattle.redis_wire.specs.declared.limits.Limits.{Limits}
 use Rattle.stream_group.specs.Worker.{Machine, Verdict, begins_again, news, own_pending}
-use Rattle.stream_refs.specs.Sent.{Pairs, SentAutoClaim, SentEntry, SentStream}
-use Rattle.stream_refs.specs.SentReading.{sent_autoclaim_reading, sent_streams_reading}
+use Rattle.stream_in_place.specs.Sent.{Pairs, SentAutoClaim, SentEntry, SentStream}
+use Rattle.stream_in_place.specs.SentReading.{sent_autoclaim_reading, sent_streams_reading}
 use Rattle.stream_worker.specs.Answered.{Failed, Went}
 use Rattle.stream_worker.specs.Answers.{told, all_there, by_value, claim_read, claim_there, group_after, entries_read}
 use Rattle.stream_worker.specs.Answers.{news_read, only_stream, shows_group, those_there}

@@ -10,7 +10,7 @@ use Rattle.stream_group.specs.Worker.{acknowledged, own_pending, taken_over, new
 use Rattle.stream_group.specs.Worker.{handled_one, handled_in, told_in, still, after, after_commit, begins_again}
 use Rattle.stream_group.specs.Worker.{Ending}
 use Rattle.stream_group.proofs.Among.{among_left, among_right, among_split}
-use Rattle.stream_refs.specs.Sent.{Pairs}
+use Rattle.stream_in_place.specs.Sent.{Pairs}
 use Rattle.stream_worker.specs.Answers.{Heard, told, no_group, group_made, hears}
 use Rattle.stream_worker.specs.Answered.{Took, Failed, WasCut}
 use Rattle.stream_worker.specs.Gathered.{Doings, done_too, committed_too}

@@ -12,7 +12,7 @@ use Rattle.redis_connection.specs.declared.error.ConnectionError.{ConnectionErro
 use Rattle.redis_connection.specs.declared.error.ConnectionError.TheVariants as failures
 use Rattle.redis_connection.specs.declared.error.ConnectionError.TheVariants.{TooLong}
 use Rattle.stream_group.specs.Worker.{Verdict, Machine, Ending, went_through, stopped, cut_off, acknowledged, after_commit}
-use Rattle.stream_refs.specs.Sent.{Pairs}
+use Rattle.stream_in_place.specs.Sent.{Pairs}
 use Rattle.stream_worker.specs.Answers.{Heard, told, hears, group_after}
 use Rattle.stream_worker.specs.Answered.{Took, Went, GoesBy}
 use Rattle.stream_worker.specs.Machine.{is_empty, commits, ending_of, machine_of}

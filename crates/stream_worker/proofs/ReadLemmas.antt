@@ -11,12 +11,12 @@ use Rattle.redis_resp.specs.declared.value.pair.PairList.{PairList}
 use Rattle.redis_resp.specs.Refusal.{Refuses}
 use Rattle.redis_resp.specs.declared.value.error.ParsingError.{ParsingError}
 use Rattle.stream_entries.specs.Rows.{joined}
-use Rattle.stream_refs.specs.Sent.{SentEntry, is_none}
-use Rattle.stream_refs.specs.SentMeaning.{octet_pairs, sent_all, sent_of}
-use Rattle.stream_refs.specs.declared.sent.OctetPairs.{OctetPairs}
-use Rattle.stream_refs.specs.SentReading.{sent_row_reading, sent_stream, sent_streams_reading}
-use Rattle.stream_refs.specs.SentRefusal.{RefusesSentStreams}
-use Rattle.stream_refs.specs.declared.sent.SentRow.{SentRow}
+use Rattle.stream_in_place.specs.Sent.{SentEntry, is_none}
+use Rattle.stream_in_place.specs.SentMeaning.{octet_pairs, sent_all, sent_of}
+use Rattle.stream_in_place.specs.declared.sent.OctetPairs.{OctetPairs}
+use Rattle.stream_in_place.specs.SentReading.{sent_row_reading, sent_stream, sent_streams_reading}
+use Rattle.stream_in_place.specs.SentRefusal.{RefusesSentStreams}
+use Rattle.stream_in_place.specs.declared.sent.SentRow.{SentRow}
 use Rattle.stream_worker.specs.Answers.{all_there, first_nil}
 use Rattle.stream_worker.specs.Read.{named, streams_named}
 use Rattle.stream_worker.proofs.TakingLemmas.{split}

@@ -14,7 +14,7 @@ use Rattle.redis_connection.specs.Link.{Link, Receives, Stands}
 use Rattle.redis_connection.specs.Passing.{IsAnswerInPlace, ReceivesAnswer}
 use Rattle.redis_connection.specs.declared.error.ConnectionError.TheVariants.{Memory}
 use Rattle.stream_group.specs.Worker.{Verdict}
-use Rattle.stream_refs.specs.Sent.{Pairs}
+use Rattle.stream_in_place.specs.Sent.{Pairs}
 use Rattle.stream_worker.specs.Answered.{Failed}
 use Rattle.stream_worker.specs.Answers.{group_after, hears}
 use Rattle.stream_worker.specs.InPlace.{Heads, WentInPlace, FailedInPlace}

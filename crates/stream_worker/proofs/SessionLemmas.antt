@@ -13,7 +13,7 @@ use Rattle.redis_connection.specs.Ask.{Exchanges}
 use Rattle.redis_connection.specs.Link.{Link}
 use Rattle.redis_connection.specs.Passing.{Passes}
 use Rattle.stream_group.specs.Worker.{Verdict, Machine, own, after_commit}
-use Rattle.stream_refs.specs.Sent.{Pairs}
+use Rattle.stream_in_place.specs.Sent.{Pairs}
 use Rattle.stream_worker.specs.Answers.{Heard, told, no_group, group_made, hears, group_after}
 use Rattle.stream_worker.specs.Answered.{Went, GoesBy}
 use Rattle.stream_worker.specs.Gathered.{Doings}

@@ -8,7 +8,7 @@ use Rattle.stream_group.specs.Worker.{Ending, entries_in, handled_one, handled_i
 use Rattle.stream_group.specs.Worker.{after_commit}
 use Rattle.stream_group.specs.Group.{Name}
 use Rattle.stream_group.specs.World.{World, Reply, Comes, Commit, comes, happens, with_one, item}
-use Rattle.stream_refs.specs.Sent.{Pairs}
+use Rattle.stream_in_place.specs.Sent.{Pairs}
 use Rattle.stream_worker.specs.Handling.{with_all}
 use Rattle.stream_worker.specs.Answers.{Heard, told}
 use Rattle.stream_worker.specs.Answered.{Took, GoesBy}

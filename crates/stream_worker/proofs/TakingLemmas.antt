@@ -4,7 +4,7 @@ use Rattle.std.proofs.Common.{arith, Result, Ok, Err, List, [], ◌∷◌, ◌++
 use Rattle.std.proofs.Common.{if◌then◌else◌}
 use Rattle.stream_group.specs.Worker.{Id, Delivered, Verdict, follows, acks_one, told_one, of_each, acks_in, told_in}
 use Rattle.stream_group.specs.Worker.{ending, went_through, stopped, cut_off}
-use Rattle.stream_refs.specs.Sent.{Pairs, SentEntry}
+use Rattle.stream_in_place.specs.Sent.{Pairs, SentEntry}
 use Rattle.stream_worker.specs.Handling.{with_all}
 use Rattle.std.proofs.lemmas.List.{map-append, take_more}
 use Rattle.std.specs.Result.{IsErr}

@@ -13,9 +13,9 @@ use Rattle.stream_group.specs.Worker as machine
 use Rattle.stream_group.specs.Worker.{Id, Delivered, Verdict, Answer, acknowledged, own_pending, taken_over, news}
 use Rattle.stream_group.specs.Worker.{Machine, Ending, cut_off, ending, after, after_own, after_claim, after_news}
 use Rattle.stream_group.specs.Worker.{phase_after, phase_at, still, entries_in, acks_in, begins_again}
-use Rattle.stream_refs.specs.Sent.{Pairs, SentAutoClaim, SentEntry}
-use Rattle.stream_refs.specs.SentReading.{sent_autoclaim_reading, sent_streams_reading}
-use Rattle.stream_refs.specs.SentRefusal.{RefusesSentAutoClaim, RefusesSentStreams}
+use Rattle.stream_in_place.specs.Sent.{Pairs, SentAutoClaim, SentEntry}
+use Rattle.stream_in_place.specs.SentReading.{sent_autoclaim_reading, sent_streams_reading}
+use Rattle.stream_in_place.specs.SentRefusal.{RefusesSentAutoClaim, RefusesSentStreams}
 use Rattle.stream_worker.specs.Answered.{Took, Went, WasCut, Failed, HasNil}
 use Rattle.stream_worker.specs.Answers.{Heard, told, no_group, group_made, is_gone, means, says, entries_read, only_stream}
 use Rattle.stream_worker.specs.Answers.{claim_read, claim_there, news_read, those_there}

@@ -7,9 +7,9 @@ use Rattle.redis_resp.specs.declared.value.error.ParsingError.{ParsingError}
 use Rattle.redis_wire.specs.Reply as wire
 use Rattle.stream_group.specs.Worker.{Verdict, Machine, Answer, Ending, cut_off, ending, entries_in, told_in, after}
 use Rattle.stream_group.specs.Worker.{begins_again}
-use Rattle.stream_refs.specs.Sent.{Pairs, SentAutoClaim, SentEntry}
-use Rattle.stream_refs.specs.SentReading.{sent_autoclaim_reading, sent_streams_reading}
-use Rattle.stream_refs.specs.SentRefusal.{RefusesSentAutoClaim, RefusesSentStreams}
+use Rattle.stream_in_place.specs.Sent.{Pairs, SentAutoClaim, SentEntry}
+use Rattle.stream_in_place.specs.SentReading.{sent_autoclaim_reading, sent_streams_reading}
+use Rattle.stream_in_place.specs.SentRefusal.{RefusesSentAutoClaim, RefusesSentStreams}
 use Rattle.stream_worker.specs.Answers.{Heard, told, no_group, group_made, hears, is_gone, entries_read, first_nil}
 use Rattle.stream_worker.specs.Handling.{with_all}
 use Rattle.stream_worker.specs.Machine.{ending_of}

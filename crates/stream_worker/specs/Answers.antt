@@ -8,8 +8,8 @@ use Rattle.redis_resp.specs.Tree.{Tree}
 use Rattle.redis_wire.specs.Reply as wire
 use Rattle.redis_wire.specs.Reply.{code_of}
 use Rattle.stream_group.specs.Worker.{Answer, acknowledged, own_pending, taken_over, news}
-use Rattle.stream_refs.specs.Sent.{Pairs, SentAutoClaim, SentEntry, SentStream, is_none}
-use Rattle.stream_refs.specs.SentReading.{sent_autoclaim_reading, sent_streams_reading}
+use Rattle.stream_in_place.specs.Sent.{Pairs, SentAutoClaim, SentEntry, SentStream, is_none}
+use Rattle.stream_in_place.specs.SentReading.{sent_autoclaim_reading, sent_streams_reading}
 use Rattle.stream_worker.specs.Taking.{all_delivered}
 use Rattle.stream_worker.specs.declared.state.Asked.{Asked}
 use Rattle.stream_worker.specs.declared.state.Asked.TheVariants as asked

@@ -2,7 +2,7 @@
 use Rattle.std.specs.Prelude.{◌≡◌, ◌≤◌, ◌⊎◌, ℕ, true, false, List, [], ◌∷◌}
 use Rattle.redis_connection.specs.Link.{Link}
 use Rattle.stream_group.specs.Worker.{Verdict}
-use Rattle.stream_refs.specs.Sent.{Pairs}
+use Rattle.stream_in_place.specs.Sent.{Pairs}
 use Rattle.stream_worker.specs.Machine.{is_settled}
 use Rattle.stream_worker.specs.Session.{Standing, Turn, asking, after_turn, Rounds, Turned, Fails, Broke}
 use Rattle.stream_worker.specs.declared.error.RunError.{RunError}

@@ -2,9 +2,9 @@
 use Rattle.std.specs.Prelude.{List, [], ◌∷◌, ◌++◌, map, Vec}
 use Rattle.std.specs.declared.alloc.Global.{Global}
 use Rattle.stream_group.specs.Worker.{Entry, Verdict, done, left_pending, stop}
-use Rattle.stream_refs.specs.Sent.{Pairs}
-use Rattle.stream_refs.specs.SentMeaning.{sent_all}
-use Rattle.stream_refs.specs.declared.sent.SentRow.{SentRow}
+use Rattle.stream_in_place.specs.Sent.{Pairs}
+use Rattle.stream_in_place.specs.SentMeaning.{sent_all}
+use Rattle.stream_in_place.specs.declared.sent.SentRow.{SentRow}
 use Rattle.stream_worker.specs.Handling.{pair_of}
 
 -- what was done and not committed, and what was committed

@@ -7,7 +7,7 @@ use Rattle.redis_wire.specs.Reply as wire
 use Rattle.redis_wire.specs.declared.fault.WireError.TheVariants as wire_errors
 use Rattle.redis_wire.specs.declared.limits.Limits.{Limits}
 use Rattle.stream_group.specs.Worker.{Machine, Verdict}
-use Rattle.stream_refs.specs.Sent.{Pairs}
+use Rattle.stream_in_place.specs.Sent.{Pairs}
 use Rattle.stream_worker.specs.Answered.{Failed, Went}
 use Rattle.stream_worker.specs.Answers.{group_after}
 use Rattle.stream_worker.specs.Session.{Standing}

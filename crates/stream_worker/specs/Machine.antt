@@ -5,7 +5,7 @@ use Rattle.std.specs.declared.alloc.Global.{Global}
 use Rattle.stream_group.specs.Worker as machine
 use Rattle.stream_group.specs.Worker.{Id, Delivered, Verdict, Machine, Ending, went_through, stopped, cut_off, ending}
 use Rattle.stream_group.specs.Worker.{acks_in, told_in, phase_at, after_commit}
-use Rattle.stream_refs.specs.Sent.{Pairs}
+use Rattle.stream_in_place.specs.Sent.{Pairs}
 use Rattle.stream_worker.specs.Handling.{with_all}
 use Rattle.stream_worker.specs.Questions.{phase_of}
 use Rattle.stream_worker.specs.declared.worker.Progress.{Progress}

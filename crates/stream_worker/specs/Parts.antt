@@ -6,8 +6,8 @@ use Rattle.redis_resp.specs.Refusal.{Refuses}
 use Rattle.redis_resp.specs.Tree.{Tree}
 use Rattle.redis_resp.specs.declared.value.error.ParsingError.{ParsingError}
 use Rattle.stream_group.specs.Worker.{Machine}
-use Rattle.stream_refs.specs.SentReading.{sent_autoclaim_reading, sent_streams_reading}
-use Rattle.stream_refs.specs.SentRefusal.{RefusesSentAutoClaim, RefusesSentStreams}
+use Rattle.stream_in_place.specs.SentReading.{sent_autoclaim_reading, sent_streams_reading}
+use Rattle.stream_in_place.specs.SentRefusal.{RefusesSentAutoClaim, RefusesSentStreams}
 use Rattle.stream_worker.specs.Answered.{HasNil}
 use Rattle.stream_worker.specs.Answers.{Heard, told, no_group, group_made, entries_read, is_gone}
 use Rattle.stream_worker.specs.Errors.{read_error}

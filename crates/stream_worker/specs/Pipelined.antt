@@ -6,7 +6,7 @@ use Rattle.redis_connection.specs.declared.error.ConnectionError.TheVariants.{To
 use Rattle.redis_wire.specs.Packed.{command_bytes}
 use Rattle.redis_wire.specs.Reply as wire
 use Rattle.stream_group.specs.Worker.{Verdict}
-use Rattle.stream_refs.specs.Sent.{Pairs}
+use Rattle.stream_in_place.specs.Sent.{Pairs}
 use Rattle.stream_worker.specs.Questions.{asks, sentence}
 use Rattle.stream_worker.specs.Session.{Standing, asking, command, HasAsked, IsUnanswered, Turned, Breaks, Fails}
 use Rattle.stream_worker.specs.Taken.{Awaited, Takes, TakesNot}

@@ -2,9 +2,9 @@
 use Rattle.std.specs.Prelude.{List, map, flat_map, String, Vec, string_bytes}
 use Rattle.std.specs.declared.alloc.Global.{Global}
 use Rattle.redis_resp.specs.declared.value.pair.PairList.{PairList}
-use Rattle.stream_refs.specs.Sent.{SentStream}
-use Rattle.stream_refs.specs.SentMeaning.{sent_all}
-use Rattle.stream_refs.specs.declared.sent.SentRow.{SentRow}
+use Rattle.stream_in_place.specs.Sent.{SentStream}
+use Rattle.stream_in_place.specs.SentMeaning.{sent_all}
+use Rattle.stream_in_place.specs.declared.sent.SentRow.{SentRow}
 
 -- a stream of a name and rows
 abbrev pub named : String Global × Vec SentRow Global → SentStream

@@ -11,7 +11,7 @@ use Rattle.redis_connection.specs.Link.{Link, Sends, SendsFront, IsEnded, IsFaul
 use Rattle.redis_connection.specs.Passing.{IsMessage, AwaitsAnswer}
 use Rattle.redis_connection.specs.declared.error.ConnectionError.TheVariants.{TooLong}
 use Rattle.stream_group.specs.Worker.{Verdict, Machine, ending, entries_in, told_in, after, begins_again, own}
-use Rattle.stream_refs.specs.Sent.{Pairs}
+use Rattle.stream_in_place.specs.Sent.{Pairs}
 use Rattle.stream_worker.specs.Answers.{Heard, told, no_group, group_made, group_after, hears}
 use Rattle.stream_worker.specs.Answered.{Failed}
 use Rattle.stream_worker.specs.Gathered.{Doings, done_too, committed_too}

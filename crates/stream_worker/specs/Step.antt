@@ -5,7 +5,7 @@ use Rattle.redis_wire.specs.Reply as wire
 use Rattle.stream_group.specs.Worker.{Verdict, Machine}
 use Rattle.stream_group.specs.Group.{Name}
 use Rattle.stream_group.specs.World.{World, Reply, Comes, Commit, Acknowledge, item, happens}
-use Rattle.stream_refs.specs.Sent.{Pairs}
+use Rattle.stream_in_place.specs.Sent.{Pairs}
 use Rattle.stream_worker.specs.Answers.{hears, told}
 use Rattle.stream_worker.specs.Answered.{Went, WasCut}
 use Rattle.stream_worker.specs.Gathered.{Doings, done_too, committed_too}

@@ -4,7 +4,7 @@ use Rattle.redis_connection.specs.Link.{Link, IsEnded, IsFaulty}
 use Rattle.redis_connection.specs.Passing.{AwaitsAnswer, ReceivesAnswer}
 use Rattle.redis_wire.specs.Reply as wire
 use Rattle.stream_group.specs.Worker.{Verdict}
-use Rattle.stream_refs.specs.Sent.{Pairs}
+use Rattle.stream_in_place.specs.Sent.{Pairs}
 use Rattle.stream_worker.specs.Answered.{Failed, Went}
 use Rattle.stream_worker.specs.Answers.{group_after}
 use Rattle.stream_worker.specs.Session.{Standing}

@@ -2,7 +2,7 @@
 use Rattle.std.specs.Prelude.{◌≡◌, ℕ, Bool, true, false, List, ◌++◌, map, Result, Ok, Err}
 use Rattle.stream_group.specs.Worker.{Id, Delivered, Verdict, follows, acks_one, told_one, acks_in, told_in, Ending}
 use Rattle.stream_group.specs.Worker.{ending}
-use Rattle.stream_refs.specs.Sent.{Pairs, SentEntry}
+use Rattle.stream_in_place.specs.Sent.{Pairs, SentEntry}
 use Rattle.stream_worker.specs.Handling.{with_all}
 use Rattle.stream_worker.specs.declared.worker.Progress.{Progress}
 use Rattle.stream_worker.specs.declared.worker.Progress.TheVariants.{GoesOn, Stopped}

@@ -1,13 +1,13 @@
 //! What a handler does with entries, and the ids to acknowledge then.
 ghost use Rattle.std.specs.Prelude.{map, string_bytes};
-ghost use Rattle.stream_refs.specs.SentMeaning.{sent_of};
+ghost use Rattle.stream_in_place.specs.SentMeaning.{sent_of};
 ghost use Rattle.stream_worker.specs.Machine.{ending_said};
 ghost use Rattle.stream_worker.specs.Taking.{Took, TookOneOr, all_delivered, delivered_of};
 
 use crate::handler::{Handler, Verdict};
 use crate::worker::Progress;
 use std::alloc::{AllocError, Global};
-use stream_refs::{EntriesRef, EntryRef, EntryRoom, SentRow};
+use stream_in_place::{EntriesRef, EntryRef, EntryRoom, SentRow};
 
 /// Hands one entry to the handler. Its id is remembered before the handler sees it, and forgotten
 /// if it is not done, so that memory cannot run out between the two.

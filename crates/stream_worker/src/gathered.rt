@@ -4,7 +4,7 @@ ghost use Rattle.stream_worker.specs.Gathered.{Doings, committed_too, done_too, 
 
 use crate::handler::{Handler, NotCommitted, Verdict};
 use std::alloc::Global;
-use stream_refs::{EntryRef, SentRow};
+use stream_in_place::{EntryRef, SentRow};
 
 /// Keeps a copy of each entry, and stops if there is no memory for one.
 #[derive(Debug, Drop)]

@@ -1,11 +1,11 @@
 //! What is done with entries.
 ghost use Rattle.std.specs.Prelude.{◌≡◌, ℕ, List, OnErr, OnOk};
 ghost use Rattle.stream_group.specs.Worker as machine;
-ghost use Rattle.stream_refs.specs.Sent.{Pairs};
+ghost use Rattle.stream_in_place.specs.Sent.{Pairs};
 ghost use Rattle.stream_worker.specs.Handling.{pair_of, verdict_of};
 
 use std::alloc::Global;
-use stream_refs::EntryRef;
+use stream_in_place::EntryRef;
 use thiserror::Error;
 
 /// What a handler says of an entry.

@@ -1,7 +1,7 @@
 //! What holds of workers over every schedule.
 ghost use Rattle.stream_group.specs.Law.{AcknowledgedIsSettled, EachEntryIsKept, HandledAsDelivered};
 ghost use Rattle.stream_group.specs.Law.{CommittedIsHandled, HandledIsOfTheLog};
-ghost use Rattle.stream_refs.specs.Sent.{Pairs};
+ghost use Rattle.stream_in_place.specs.Sent.{Pairs};
 ghost use Rattle.stream_worker.specs.Life.{OnlyCommittedIsAcknowledged, SessionsAreLived};
 ghost use Rattle.stream_worker.specs.Session.{FailuresBeginAgain};
 ghost use Rattle.stream_worker.specs.Step.{AnswersStayInStep, CutsStayInStep, RequestsStayInStep};

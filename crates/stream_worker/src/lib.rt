@@ -25,5 +25,5 @@ pub use letters::{DeadLetters, LetterAsked, LetterError};
 pub use pipelined::Pipelined;
 pub use session::Round;
 pub use state::{Asked, MakeGroup, Phase, Settings, SettingsError};
-pub use stream_refs::EntryRef;
+pub use stream_in_place::EntryRef;
 pub use worker::{Progress, Worker};

@@ -1,14 +1,14 @@
 //! Where a worker goes on after an answer.
 ghost use Rattle.std.specs.Prelude.{◌≡◌, IfOk, map, string_bytes};
 ghost use Rattle.stream_group.specs.Worker.{after_claim, after_news, after_own};
-ghost use Rattle.stream_refs.specs.SentMeaning.{sent_of};
+ghost use Rattle.stream_in_place.specs.SentMeaning.{sent_of};
 ghost use Rattle.stream_worker.specs.Handed.{entries_sent};
 ghost use Rattle.stream_worker.specs.Questions.{phase_of};
 ghost use Rattle.stream_worker.specs.Taking.{all_delivered};
 
 use crate::state::Phase;
 use std::alloc::{AllocError, Global};
-use stream_refs::{EntriesRef, SentRow};
+use stream_in_place::{EntriesRef, SentRow};
 
 /// Its own pending entries are asked for until none is left.
 #[tactic(auto, using(crate::proofs::PhaseLemmas::after_last))]

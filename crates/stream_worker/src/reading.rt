@@ -1,8 +1,8 @@
 //! The entries that an answer holds.
 ghost use Rattle.std.specs.Prelude.{◌≡◌, [], IfErr, IfOk, Some, map, option_map, string_bytes};
 ghost use Rattle.redis_resp.specs.Value.{tree};
-ghost use Rattle.stream_refs.specs.SentMeaning.{claim_of, sent_all, sent_of};
-ghost use Rattle.stream_refs.specs.SentReading.{sent_streams_reading};
+ghost use Rattle.stream_in_place.specs.SentMeaning.{claim_of, sent_all, sent_of};
+ghost use Rattle.stream_in_place.specs.SentReading.{sent_streams_reading};
 ghost use Rattle.stream_worker.specs.Answers.{claim_read, entries_read, first_nil, news_read, only_stream};
 ghost use Rattle.stream_worker.specs.Handed.{entries_sent};
 ghost use Rattle.stream_worker.specs.Parts.{NoStreams, NotClaimed, NotNews, NotRead};
@@ -11,7 +11,7 @@ ghost use Rattle.stream_worker.specs.Read.{named, streams_named};
 use crate::error::WorkerError;
 use redis_resp::{PairList, Value, from_redis_value};
 use std::alloc::{AllocError, Global};
-use stream_refs::{EntriesRef, SentClaim, SentRow, StreamsRef};
+use stream_in_place::{EntriesRef, SentClaim, SentRow, StreamsRef};
 
 /// The entries of the one stream in a reply to XREADGROUP.
 pub fn read_entries(alloc: Global, key: &str, value: Value) -> Result<Vec<SentRow>, WorkerError>

@@ -7,7 +7,7 @@ ghost use Rattle.redis_wire.specs.Packed.{command_bytes};
 ghost use Rattle.redis_wire.specs.Reply as wire;
 ghost use Rattle.redis_wire.specs.Reply.{answer};
 ghost use Rattle.stream_group.specs.Worker.{begins_again, start};
-ghost use Rattle.stream_refs.specs.SentMeaning.{sent_of};
+ghost use Rattle.stream_in_place.specs.SentMeaning.{sent_of};
 ghost use Rattle.stream_worker.specs.Answered.{Failed, Went};
 ghost use Rattle.stream_worker.specs.Answers.{by_error, by_value, group_after, is_gone, means};
 ghost use Rattle.stream_worker.specs.Machine.{Moved, at_request, commits, ending_said};
@@ -30,7 +30,7 @@ use redis_resp::{Value, from_redis_value};
 use redis_wire::{Reply, ServerError};
 use std::alloc::{AllocError, Global};
 use std::mem;
-use stream_refs::{EntryTape, SentRow};
+use stream_in_place::{EntryTape, SentRow};
 
 /// Whether a worker's handler goes on.
 #[derive(Clone, Copy, Debug, PartialEq, Eq)]

@@ -4,7 +4,7 @@ use redis_wire::place::Span;
 use std::iter::ExactSizeIterator;
 use std::process::Abort;
 use std::test::Fail;
-use stream_refs::{
+use stream_in_place::{
     EntryPlace, EntryTables, EntryTape, FieldPlace, Full, StreamPlace, find_autoclaim, find_justid,
     find_range, find_streams,
 };

@@ -1,7 +1,7 @@
 //! Answers out of the bytes that came, with their entries in them.
 ghost use Rattle.std.specs.Prelude.{◌≡◌, IfErr, IfOk, Some, true};
 ghost use Rattle.redis_resp.specs.Tree.{Tree};
-ghost use Rattle.stream_refs.specs.SentReading.{sent_autoclaim_reading, sent_streams_reading};
+ghost use Rattle.stream_in_place.specs.SentReading.{sent_autoclaim_reading, sent_streams_reading};
 ghost use Rattle.stream_worker.specs.Handed.{entries_sent};
 ghost use Rattle.stream_worker.specs.InPlace.{FailedInPlace, TakenByValue, TakenInPlace, WentInPlace, in_answer};
 ghost use Rattle.stream_worker.specs.Machine.{Moved, ending_said, machine_of};
@@ -20,7 +20,7 @@ use crate::worker::{Progress, Worker};
 use redis_wire::{Decoded, Limits, decode};
 use std::alloc::{AllocError, Global};
 use std::mem;
-use stream_refs::{AutoClaimRef, EntriesRef, EntryTape, StreamsRef};
+use stream_in_place::{AutoClaimRef, EntriesRef, EntryTape, StreamsRef};
 
 impl Worker {
     /// Takes the answer to the command that was requested last, which is the reply at the head of

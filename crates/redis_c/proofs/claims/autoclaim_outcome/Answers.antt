@@ -1,8 +1,8 @@
 use Rattle.std.proofs.Common.{◌∙◌, ◌+◌, ap, length, subst, sym}
 use Rattle.redis_wire.specs.declared.limits.Limits.{Limits}
-use Rattle.stream_refs.specs.Sent.{SentAutoClaim, all_fields}
-use Rattle.stream_refs.specs.declared.places.AutoClaimPlace.{AutoClaimPlace}
-use Rattle.stream_refs.specs.Shapes.{BeginsWithAutoClaim}
+use Rattle.stream_in_place.specs.Sent.{SentAutoClaim, all_fields}
+use Rattle.stream_in_place.specs.declared.places.AutoClaimPlace.{AutoClaimPlace}
+use Rattle.stream_in_place.specs.Shapes.{BeginsWithAutoClaim}
 use Rattle.redis_c.proofs.RoomLemmas.{as_many_parts, entry_room, field_room, found_so, held_fits, places_there, some_found}
 use Rattle.redis_c.proofs.claims.autoclaim_outcome.Goals as goal
 

@@ -1,7 +1,7 @@
 use Rattle.std.proofs.Common.{◌∙◌, ◌+◌, ap, length, subst, sym}
 use Rattle.redis_wire.specs.declared.limits.Limits.{Limits}
-use Rattle.stream_refs.specs.Sent.{SentAutoClaim, all_fields}
-use Rattle.stream_refs.specs.Shapes.{BeginsWithAutoClaim}
+use Rattle.stream_in_place.specs.Sent.{SentAutoClaim, all_fields}
+use Rattle.stream_in_place.specs.Shapes.{BeginsWithAutoClaim}
 use Rattle.redis_c.proofs.RoomLemmas.{as_many_parts, entries_wanted, fields_wanted, found_so, none_found, some_found}
 use Rattle.redis_c.proofs.claims.autoclaim_room.Goals as goal
 

@@ -1,8 +1,8 @@
 use Rattle.std.proofs.Common.{arith, ◌∙◌, ◌+◌, ap, length, subst, sym}
 use Rattle.redis_wire.specs.declared.limits.Limits.{Limits}
 use Rattle.stream_entries.specs.JustId.{JustId}
-use Rattle.stream_refs.specs.declared.places.AutoClaimPlace.{AutoClaimPlace}
-use Rattle.stream_refs.specs.Shapes.{BeginsWithJustId}
+use Rattle.stream_in_place.specs.declared.places.AutoClaimPlace.{AutoClaimPlace}
+use Rattle.stream_in_place.specs.Shapes.{BeginsWithJustId}
 use Rattle.redis_c.proofs.RoomLemmas.{as_many_parts, entry_room, found_so, held_fits, places_there, some_found}
 use Rattle.redis_c.proofs.claims.justid_outcome.Goals as goal
 

@@ -1,5 +1,5 @@
 use Rattle.std.proofs.Common.{[], ◌+◌, length}
-use Rattle.stream_refs.specs.Sent.{all_fields}
+use Rattle.stream_in_place.specs.Sent.{all_fields}
 use Rattle.redis_c.specs.Claimed.{AutoClaimIn}
 use Rattle.redis_c.proofs.FindLemmas.{autoclaim_whole, finding_told}
 use Rattle.redis_c.proofs.RoomLemmas.{told_places}

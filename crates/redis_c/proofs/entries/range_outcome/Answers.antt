@@ -1,7 +1,7 @@
 use Rattle.std.proofs.Common.{◌∙◌, ap, length, subst, sym}
 use Rattle.redis_wire.specs.declared.limits.Limits.{Limits}
-use Rattle.stream_refs.specs.Shapes.{BeginsWithRange}
-use Rattle.stream_refs.specs.Sent.{all_fields}
+use Rattle.stream_in_place.specs.Shapes.{BeginsWithRange}
+use Rattle.stream_in_place.specs.Sent.{all_fields}
 use Rattle.redis_c.proofs.RoomLemmas.{as_many, entry_room, field_room, found_so, held_fits, places_there, some_found}
 use Rattle.redis_c.proofs.entries.range_outcome.Goals as goal
 

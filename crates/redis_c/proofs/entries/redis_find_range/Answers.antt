@@ -1,5 +1,5 @@
 use Rattle.std.proofs.Common.{[], length}
-use Rattle.stream_refs.specs.Sent.{all_fields}
+use Rattle.stream_in_place.specs.Sent.{all_fields}
 use Rattle.redis_c.specs.Told.{RangeIn}
 use Rattle.redis_c.proofs.FindLemmas.{finding_told, range_whole}
 use Rattle.redis_c.proofs.RoomLemmas.{told_places}

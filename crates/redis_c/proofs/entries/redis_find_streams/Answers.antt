@@ -1,5 +1,5 @@
 use Rattle.std.proofs.Common.{length}
-use Rattle.stream_refs.specs.Sent.{all_entries, all_stream_fields}
+use Rattle.stream_in_place.specs.Sent.{all_entries, all_stream_fields}
 use Rattle.redis_c.specs.Told.{StreamsIn}
 use Rattle.redis_c.proofs.FindLemmas.{finding_told, streams_whole}
 use Rattle.redis_c.proofs.RoomLemmas.{told_places}

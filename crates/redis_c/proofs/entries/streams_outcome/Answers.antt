@@ -1,7 +1,7 @@
 use Rattle.std.proofs.Common.{◌∙◌, ap, length, subst, sym, false}
 use Rattle.redis_wire.specs.declared.limits.Limits.{Limits}
-use Rattle.stream_refs.specs.Shapes.{BeginsWithStreams}
-use Rattle.stream_refs.specs.Sent.{all_entries, all_stream_fields}
+use Rattle.stream_in_place.specs.Shapes.{BeginsWithStreams}
+use Rattle.stream_in_place.specs.Sent.{all_entries, all_stream_fields}
 use Rattle.redis_c.proofs.RoomLemmas.{as_many, entry_room, field_room, found_so, held_fits, places_there, some_found, stream_room}
 use Rattle.redis_c.proofs.entries.streams_outcome.Goals as goal
 

@@ -3,7 +3,7 @@ use Rattle.std.proofs.lemmas.Grind.{common_steps}
 use Rattle.redis_resp.specs.Reading.{both_read}
 use Rattle.redis_c.specs.Placed.{text_at}
 use Rattle.redis_c.specs.declared.argument.Argument.{Argument}
-use Rattle.stream_refs.specs.declared.places.FieldPlace.{FieldPlace}
+use Rattle.stream_in_place.specs.declared.places.FieldPlace.{FieldPlace}
 use Rattle.redis_c.proofs.PlacedLemmas.{any_field, place_read, both_there}
 use Rattle.redis_c.proofs.placed.fields_at.Goals as goal
 

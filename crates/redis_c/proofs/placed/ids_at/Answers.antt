@@ -3,7 +3,7 @@ use Rattle.std.proofs.lemmas.Grind.{common_steps}
 use Rattle.redis_resp.proofs.ReadLemmas.{read_start}
 use Rattle.redis_c.specs.Placed.{text_at}
 use Rattle.redis_c.specs.declared.argument.Argument.{Argument}
-use Rattle.stream_refs.specs.declared.places.EntryPlace.{EntryPlace}
+use Rattle.stream_in_place.specs.declared.places.EntryPlace.{EntryPlace}
 use Rattle.redis_c.proofs.PlacedLemmas.{any_entry, place_read, place_outside, places_read}
 use Rattle.redis_c.proofs.placed.ids_at.Goals as goal
 

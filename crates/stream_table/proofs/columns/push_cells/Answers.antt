@@ -1,5 +1,5 @@
 use Rattle.std.proofs.lemmas.Result.{err_from_is_err_and}
-use Rattle.stream_refs.specs.Copied.{pairs_or_none}
+use Rattle.stream_in_place.specs.Copied.{pairs_or_none}
 use Rattle.stream_table.proofs.CellsLemmas.{one_of}
 use Rattle.stream_table.proofs.columns.push_cells.Goals as goal
 

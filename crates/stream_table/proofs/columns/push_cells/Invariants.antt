@@ -1,6 +1,6 @@
 use Rattle.std.proofs.Common.{◌≡◌, ◌++◌, take, map}
 use Rattle.row_table.specs.OfRow.{cells_of}
-use Rattle.stream_refs.specs.Copied.{pairs_or_none}
+use Rattle.stream_in_place.specs.Copied.{pairs_or_none}
 use Rattle.stream_table.specs.Cells.{cell_in}
 use Rattle.stream_table.proofs.columns.push_cells.Given as goal
 

@@ -1,8 +1,8 @@
 use Rattle.std.proofs.Common.{map, take, string_bytes, length, ◌≤◌, arith, ap, sym, subst, ◌≡◌, List}
 use Rattle.std.proofs.lemmas.List.{take_all}
 use Rattle.stream_group.specs.Worker.{Delivered, Ending, went_through}
-use Rattle.stream_refs.specs.Sent.{Pairs}
-use Rattle.stream_refs.specs.SentMeaning.{sent_of}
+use Rattle.stream_in_place.specs.Sent.{Pairs}
+use Rattle.stream_in_place.specs.SentMeaning.{sent_of}
 use Rattle.stream_worker.specs.Taking.{Took, all_delivered}
 use Rattle.stream_worker.proofs.TakingLemmas.{loop_step, loop_stops, loop_cut, ends, said_error}
 use Rattle.stream_worker.proofs.entries.take_entries.Goals as goal

@@ -1,5 +1,5 @@
 use Rattle.std.proofs.Common.{map, take, string_bytes}
-use Rattle.stream_refs.specs.SentMeaning.{sent_of}
+use Rattle.stream_in_place.specs.SentMeaning.{sent_of}
 use Rattle.stream_worker.specs.Taking.{all_delivered}
 use Rattle.stream_worker.proofs.TakingLemmas.{Going}
 use Rattle.stream_worker.proofs.entries.take_entries.Given as goal

@@ -1,6 +1,6 @@
 use Rattle.std.proofs.Common.{rules, map, string_bytes, append_assoc, append-nil, ◌∙◌, ap, sym, subst, ◌≡◌, ◌++◌, ◌∷◌, [], List}
 use Rattle.stream_group.specs.Worker.{Ending, went_through}
-use Rattle.stream_refs.specs.Sent.{SentEntry}
+use Rattle.stream_in_place.specs.Sent.{SentEntry}
 use Rattle.stream_worker.specs.Taking.{Took, all_delivered}
 use Rattle.stream_worker.proofs.TakingLemmas.{next_step, next_stops, next_cut, ends, said_error}
 use Rattle.stream_worker.proofs.entries.take_in_place.Goals as goal

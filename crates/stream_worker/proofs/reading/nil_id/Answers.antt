@@ -1,6 +1,6 @@
 use Rattle.std.proofs.Common.{rules, ◌≡◌, ◌∙◌, ◌≤◌, ap, arith, length, map, not, string_bytes, sym, Some}
 use Rattle.std.proofs.lemmas.List.{take_all}
-use Rattle.stream_refs.specs.SentMeaning.{sent_of}
+use Rattle.stream_in_place.specs.SentMeaning.{sent_of}
 use Rattle.stream_worker.specs.Answers.{first_nil}
 use Rattle.stream_worker.proofs.ReadLemmas.{rows_found, rows_more}
 use Rattle.stream_worker.proofs.reading.nil_id.Goals as goal

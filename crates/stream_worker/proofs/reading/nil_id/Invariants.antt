@@ -1,5 +1,5 @@
 use Rattle.std.proofs.Common.{◌≡◌, map, take, None}
-use Rattle.stream_refs.specs.SentMeaning.{sent_of}
+use Rattle.stream_in_place.specs.SentMeaning.{sent_of}
 use Rattle.stream_worker.specs.Answers.{first_nil}
 use Rattle.stream_worker.proofs.reading.nil_id.Given as goal
 

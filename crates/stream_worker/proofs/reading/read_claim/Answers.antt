@@ -1,6 +1,6 @@
 use Rattle.std.proofs.Common.{inr, refl, sym}
 use Rattle.redis_resp.specs.Value.{tree}
-use Rattle.stream_refs.specs.SentMeaning.{claim_of, sent_all}
+use Rattle.stream_in_place.specs.SentMeaning.{claim_of, sent_all}
 use Rattle.stream_worker.proofs.InPlaceLemmas.{claim_says}
 use Rattle.stream_worker.proofs.ReadLemmas.{there_all}
 use Rattle.stream_worker.proofs.reading.read_claim.Goals as goal

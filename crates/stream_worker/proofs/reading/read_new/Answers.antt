@@ -1,6 +1,6 @@
 use Rattle.std.proofs.Common.{inl, inr, refl, sym}
 use Rattle.redis_resp.specs.Value.{tree}
-use Rattle.stream_refs.specs.SentMeaning.{sent_all}
+use Rattle.stream_in_place.specs.SentMeaning.{sent_all}
 use Rattle.stream_worker.proofs.InPlaceLemmas.{news_say}
 use Rattle.stream_worker.proofs.ReadLemmas.{there_all}
 use Rattle.stream_worker.proofs.WorkerLemmas.{err_is}

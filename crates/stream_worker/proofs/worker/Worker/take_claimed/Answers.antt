@@ -1,6 +1,6 @@
 use Rattle.std.proofs.Common.{refl, []}
 use Rattle.redis_resp.specs.Value.{tree}
-use Rattle.stream_refs.specs.SentMeaning.{claim_of}
+use Rattle.stream_in_place.specs.SentMeaning.{claim_of}
 use Rattle.stream_worker.specs.Machine.{machine_of}
 use Rattle.stream_worker.proofs.WorkerLemmas.{claim_cut, claim_refused, claim_went, err_is, memory_err}
 use Rattle.stream_worker.proofs.worker.Worker.take_claimed.Goals as goal

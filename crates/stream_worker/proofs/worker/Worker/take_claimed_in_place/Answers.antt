@@ -1,5 +1,5 @@
 use Rattle.std.proofs.Common.{refl}
-use Rattle.stream_refs.specs.AutoClaim.{autoclaim_tree}
+use Rattle.stream_in_place.specs.AutoClaim.{autoclaim_tree}
 use Rattle.stream_worker.proofs.InPlaceLemmas.{value_taken}
 use Rattle.stream_worker.proofs.worker.Worker.take_claimed_in_place.Goals as goal
 

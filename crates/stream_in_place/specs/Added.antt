@@ -1,0 +1,142 @@
+-- What the filling of tables finds and adds. `d` is any number of levels behind those needed.
+use Rattle.std.specs.Prelude.{◌≡◌, ◌≤◌, ◌<◌, ◌*◌, ◌^◌, ℕ, suc, List, [], ◌∷◌, ◌++◌, map, flat_map, length, take, drop}
+use Rattle.std.specs.Prelude.{Bool, Ok, if◌then◌else◌}
+use Rattle.std.specs.List.{AllByRecursion}
+use Rattle.redis_resp.specs.Tree.{Tree, bulk}
+use Rattle.redis_wire.specs.declared.limits.Limits.{Limits}
+use Rattle.redis_wire.specs.Reply.{value, values}
+use Rattle.redis_wire.specs.Group.{many}
+use Rattle.redis_wire.specs.Level.{value_at}
+use Rattle.redis_wire.specs.Grammar.{IsAnyReply}
+use Rattle.stream_in_place.specs.declared.places.FieldPlace.{FieldPlace}
+use Rattle.stream_in_place.specs.declared.places.EntryPlace.{EntryPlace}
+use Rattle.stream_in_place.specs.declared.places.StreamPlace.{StreamPlace}
+use Rattle.stream_in_place.specs.Held.{Held}
+use Rattle.stream_in_place.specs.Sent.{SentStream, members_of, fields_tree, delivery_trees, row_tree, rows_tree}
+use Rattle.stream_in_place.specs.Sent.{stream_tree, IsReadTree}
+use Rattle.stream_in_place.specs.Placed.{field_in, fields_if, delivery_if, entry_in, stream_in, IsField, IsEntry, IsStream}
+
+-- fields that were added, all of them within the bytes
+pub record FieldsGrown (bytes : List ℕ) (old new : Held) : Type 0 where
+  pub more : List FieldPlace
+  pub is : new ≡ record { streams = old.streams; entries = old.entries; fields = old.fields ++ more }
+  pub each : AllByRecursion (IsField bytes) more
+
+-- From `at` on there are so many fields, which are added, and they end with the first `after` bytes.
+pub record FieldsAdded (limits : Limits) (bytes : List ℕ) (at count after : ℕ) (old new : Held) : Type 0 where
+  pub grown : FieldsGrown bytes old new
+  pub end : after ≤ length bytes
+  pub reads : (d : ℕ) → many (value_at limits (suc d)) (2 * count) (drop at bytes)
+      ≡ Ok (values (members_of (map (field_in bytes) grown.more)), drop after bytes)
+
+-- From `at` on there are the fields of an entry, or nil where they are deleted.
+pub record OwnAdded (limits : Limits) (bytes : List ℕ) (at : ℕ) (deleted : Bool) (after : ℕ)
+    (old new : Held) : Type 0 where
+  pub grown : FieldsGrown bytes old new
+  pub end : after ≤ length bytes
+  pub reads : (d : ℕ) → value_at limits (suc (suc d)) (drop at bytes)
+      ≡ Ok (value (fields_tree (fields_if deleted (map (field_in bytes) grown.more))), drop after bytes)
+
+-- how many values stand behind the fields of a row
+abbrev pub delivery_count : Bool → ℕ
+delivery_count claim = if claim then 2 else 0
+
+-- how many values a row has
+abbrev pub row_count : Bool → ℕ
+row_count claim = suc (suc (delivery_count claim))
+
+-- From `at` on there are the two numbers of a delivery, where the form has them.
+pub record IsDeliveryAt (limits : Limits) (bytes : List ℕ) (at : ℕ) (claim : Bool)
+    (elapsed count after : ℕ) : Type 0 where
+  pub elapsed_fits : elapsed < 2 ^ 64
+  pub count_fits : count < 2 ^ 64
+  pub end : after ≤ length bytes
+  pub reads : (d : ℕ) → many (value_at limits (suc d)) (delivery_count claim) (drop at bytes)
+      ≡ Ok (values (delivery_trees (delivery_if claim elapsed count)), drop after bytes)
+
+-- an entry of that form, with a time and a count of 64 bits
+pub record IsForm (claim : Bool) (e : EntryPlace) : Type 0 where
+  pub delivered : e.delivered ≡ claim
+  pub elapsed : e.elapsed < 2 ^ 64
+  pub count : e.count < 2 ^ 64
+
+-- From `at` on there is an entry of that form, whose fields are added.
+pub record EntryAdded (limits : Limits) (bytes : List ℕ) (at : ℕ) (claim : Bool) (after : ℕ) (e : EntryPlace)
+    (old new : Held) : Type 0 where
+  pub grown : FieldsGrown bytes old new
+  pub entry : IsEntry bytes (length new.fields) e
+  pub form : IsForm claim e
+  pub end : after ≤ length bytes
+  pub reads : (d : ℕ) → value_at limits (suc (suc (suc d))) (drop at bytes)
+      ≡ Ok (value (row_tree (entry_in bytes new.fields e)), drop after bytes)
+
+-- entries of one form and fields that were added, all of them within the bytes
+pub record Grown (bytes : List ℕ) (claim : Bool) (old new : Held) : Type 0 where
+  pub more : List EntryPlace
+  pub more_fields : List FieldPlace
+  pub is : new ≡ record { streams = old.streams; entries = old.entries ++ more; fields = old.fields ++ more_fields }
+  pub entries : AllByRecursion (IsEntry bytes (length new.fields)) more
+  pub forms : AllByRecursion (IsForm claim) more
+  pub fields : AllByRecursion (IsField bytes) more_fields
+
+-- From `at` on there are so many entries of that form, which are added with their fields.
+pub record EntriesAdded (limits : Limits) (bytes : List ℕ) (at : ℕ) (claim : Bool) (count after : ℕ)
+    (old new : Held) : Type 0 where
+  pub grown : Grown bytes claim old new
+  pub end : after ≤ length bytes
+  pub reads : (d : ℕ) → many (value_at limits (suc (suc (suc d)))) count (drop at bytes)
+      ≡ Ok (values (map (λ e. row_tree (entry_in bytes new.fields e)) grown.more), drop after bytes)
+
+-- how many values a stream is in an array of streams, and in a map
+abbrev pub stream_members : Bool → SentStream → List Tree
+stream_members in_map s = if in_map then bulk s.name ∷ rows_tree s.entries ∷ [] else stream_tree s ∷ []
+
+-- how many values a stream is in an array of streams, and in a map
+abbrev pub stream_count : Bool → ℕ
+stream_count in_map = if in_map then 2 else 1
+
+-- Behind `at` bytes stands what comes before the name of a stream: nothing in a map, and in an array
+-- the head of an array of two.
+pub record IsStreamHead (limits : Limits) (bytes : List ℕ) (at : ℕ) (in_map : Bool) (behind : ℕ) : Type 0 where
+  pub end : behind ≤ length bytes
+  pub reads : (d : ℕ) (s : SentStream) (after : ℕ)
+      → ((e : ℕ) → many (value_at limits (suc (suc (suc (suc e))))) 2 (drop behind bytes)
+      ≡ Ok (values (bulk s.name ∷ rows_tree s.entries ∷ []), drop after bytes))
+      → many (value_at limits (suc (suc (suc (suc (suc d)))))) (stream_count in_map) (drop at bytes)
+      ≡ Ok (values (stream_members in_map s), drop after bytes)
+
+-- From `at` on there is a stream, whose entries are added.
+pub record StreamAdded (limits : Limits) (bytes : List ℕ) (at : ℕ) (in_map claim : Bool) (after : ℕ) (s : StreamPlace)
+    (old new : Held) : Type 0 where
+  pub grown : Grown bytes claim old new
+  pub stream : IsStream bytes (length new.entries) s
+  pub end : after ≤ length bytes
+  pub reads : (d : ℕ) → many (value_at limits (suc (suc (suc (suc (suc d)))))) (stream_count in_map) (drop at bytes)
+      ≡ Ok (values (stream_members in_map (stream_in bytes new.entries new.fields s)), drop after bytes)
+
+-- tables all of whose places are within the bytes, with entries of one form
+pub record AreWithin (bytes : List ℕ) (claim : Bool) (held : Held) : Type 0 where
+  pub streams : AllByRecursion (IsStream bytes (length held.entries)) held.streams
+  pub entries : AllByRecursion (IsEntry bytes (length held.fields)) held.entries
+  pub forms : AllByRecursion (IsForm claim) held.entries
+  pub fields : AllByRecursion (IsField bytes) held.fields
+
+-- From `at` on there are so many streams, and the tables hold these and nothing else.
+pub record StreamsAdded (limits : Limits) (bytes : List ℕ) (at : ℕ) (in_map claim : Bool) (count after : ℕ)
+    (held : Held) : Type 0 where
+  pub within : AreWithin bytes claim held
+  pub end : after ≤ length bytes
+  pub reads : (d : ℕ) → many (value_at limits (suc (suc (suc (suc (suc d)))))) (stream_count in_map * count)
+      (drop at bytes)
+      ≡ Ok (
+        values (flat_map (stream_members in_map) (map (stream_in bytes held.entries held.fields) held.streams)),
+        drop after bytes,
+      )
+
+-- The tables hold the streams of the reply that the first `len` bytes are, and nothing else.
+pub record IsFilled (limits : Limits) (bytes : List ℕ) (claim : Bool) (len : ℕ) (held : Held) : Type 0 where
+  pub within : AreWithin bytes claim held
+  pub end : len ≤ length bytes
+  pub tree : Tree
+  pub is : IsReadTree (map (stream_in bytes held.entries held.fields) held.streams) tree
+  pub reply : IsAnyReply limits (take len bytes) (value tree)

@@ -1,0 +1,244 @@
+//! Finds where rows stand: entries with their fields.
+ghost use Rattle.std.specs.Prelude.{◌≡◌, ◌≤◌, ◌+◌, ◌++◌, ℕ, Bool, List, Option, IfOk, IfSome, IsOk, IsSomeAnd, IsTrue};
+ghost use Rattle.std.specs.Prelude.{drop, flat_map, length, true};
+ghost use Rattle.std.specs.List.{AllByRecursion};
+ghost use Rattle.std.specs.Str.{is_utf8};
+ghost use Rattle.redis_wire.specs.Place.{text_in, IsSpan, IsTextAt, BeginsWithText, EndsBefore};
+ghost use Rattle.stream_in_place.specs.Added.{row_count, FieldsAdded, OwnAdded, IsDeliveryAt, EntryAdded, EntriesAdded};
+ghost use Rattle.stream_in_place.specs.Forms.{is_claim};
+ghost use Rattle.stream_in_place.specs.Lent.{EntriesFit, FieldsFit};
+ghost use Rattle.stream_in_place.specs.Sent.{Pairs, SentEntry, fields_of, all_fields};
+ghost use Rattle.stream_in_place.specs.Shapes.{NilForm, pair_bytes, fields_bytes, delivery_bytes, entry_bytes};
+ghost use Rattle.stream_in_place.specs.Shapes.{AllowsRows, IsPair, ArePairs, IsOfForm, IsEntryOf};
+
+use crate::form::Form;
+use crate::places::{EntryPlace, FieldPlace, Places};
+use crate::short::{bulk_at, count_at};
+use redis_wire::Limits;
+use redis_wire::place::{Span, int_at, nil_at};
+
+/// The text that stands there.
+#[inline(always)]
+pub fn text_in(bytes: &[u8], span: Span) -> &[u8]
+    requires { IsSpan bytes.now span }
+    ensures { result.now ≡ text_in bytes.now span }
+{
+    &bytes[span.start..span.start + span.len]
+}
+
+/// Whether bytes are UTF-8.
+pub fn is_text(bytes: &[u8]) -> bool
+    ensures { result ≡ is_utf8 bytes.now }
+{
+    if bytes.is_ascii() {
+        return true;
+    }
+    match str::from_utf8(bytes) {
+        Ok(_) => true,
+        Err(_) => false,
+    }
+}
+
+/// The UTF-8 text of the bulk string behind `at` bytes, and how many bytes end with it.
+pub fn name_at(limits: Limits, bytes: &[u8], at: usize) -> Option<(Span, usize)>
+    requires { at ≤ length bytes.now }
+    ensures is { IfSome result (λ x. IsTextAt limits bytes.now at x.0 x.1) }
+    ensures text { IfSome result (λ x. is_utf8 (text_in bytes.now x.0) ≡ true) }
+    ensures found { (text rest : List ℕ) → BeginsWithText limits (drop at bytes.now) text rest
+        → is_utf8 text ≡ true
+        → IsSomeAnd result (λ x. (text_in bytes.now x.0 ≡ text) × EndsBefore bytes.now rest x.1) }
+{
+    let (span, after) = bulk_at(limits, bytes, at)?;
+    if is_text(text_in(bytes, span)) {
+        Some((span, after))
+    } else {
+        None
+    }
+}
+
+/// Holds so many fields from `at` on, and returns how many bytes end with them, where they are names
+/// and values in bulk strings.
+fn add_fields<P: Places>(
+    limits: Limits,
+    bytes: &[u8],
+    at: usize,
+    count: u32,
+    places: &mut P,
+) -> Result<Option<usize>, P::Refusal>
+    requires { at ≤ length bytes.now }
+    ensures is { IfOk result (λ o. IfSome o (λ after.
+        FieldsAdded limits bytes.now at count after (P.held places.old) (P.held places.new))) }
+    ensures found { (ps : Pairs) (rest : List ℕ) → AllowsRows limits → AllByRecursion (IsPair limits) ps
+        → drop at bytes.now ≡ flat_map pair_bytes ps ++ rest → count ≡ length ps
+        → IfOk result (λ o. IsSomeAnd o (EndsBefore bytes.now rest)) }
+    ensures counts { IfOk result (λ o. IfSome o (λ _.
+        length (P.held places.new).fields ≡ length (P.held places.old).fields + count)) }
+    ensures fits { FieldsFit (P.lent places.old) (length (P.held places.old).fields + count) → IsOk result }
+    ensures kept { P.lent places.new ≡ P.lent places.old }
+{
+    let mut behind = at;
+    for _ in 0..count {
+        let Some((name, after)) = bulk_at(limits, bytes, behind) else {
+            return Ok(None);
+        };
+        let Some((value, after)) = bulk_at(limits, bytes, after) else {
+            return Ok(None);
+        };
+        places.push_field(FieldPlace { name, value })?;
+        behind = after;
+    }
+    Ok(Some(behind))
+}
+
+/// Holds the fields of an entry from `at` on, and returns whether nil stands there, as it does where
+/// the entry was deleted, and how many bytes end with them.
+fn add_own_fields<P: Places>(
+    limits: Limits,
+    bytes: &[u8],
+    at: usize,
+    places: &mut P,
+) -> Result<Option<(bool, usize)>, P::Refusal>
+    requires { at ≤ length bytes.now }
+    ensures is { IfOk result (λ o. IfSome o (λ x.
+        OwnAdded limits bytes.now at x.0 x.1 (P.held places.old) (P.held places.new))) }
+    ensures found { (nil : NilForm) (fs : Option Pairs) (rest : List ℕ) → AllowsRows limits → ArePairs limits fs
+        → drop at bytes.now ≡ fields_bytes nil fs ++ rest
+        → IfOk result (λ o. IsSomeAnd o (λ x. EndsBefore bytes.now rest x.1)) }
+    ensures counts { (nil : NilForm) (fs : Option Pairs) (rest : List ℕ) → AllowsRows limits → ArePairs limits fs
+        → drop at bytes.now ≡ fields_bytes nil fs ++ rest → IfOk result (λ o. IfSome o (λ _.
+        length (P.held places.new).fields ≡ length (P.held places.old).fields + length (fields_of fs))) }
+    ensures fits { (nil : NilForm) (fs : Option Pairs) (rest : List ℕ) → AllowsRows limits → ArePairs limits fs
+        → drop at bytes.now ≡ fields_bytes nil fs ++ rest
+        → FieldsFit (P.lent places.old) (length (P.held places.old).fields + length (fields_of fs)) → IsOk result }
+    ensures kept { P.lent places.new ≡ P.lent places.old }
+{
+    let Some((members, behind)) = count_at(limits, bytes, at) else {
+        return match nil_at(limits, bytes, at) {
+            None => Ok(None),
+            Some(after) => Ok(Some((true, after))),
+        };
+    };
+    if members % 2 != 0 {
+        return Ok(None);
+    }
+    match add_fields(limits, bytes, behind, members / 2, places)? {
+        None => Ok(None),
+        Some(after) => Ok(Some((false, after))),
+    }
+}
+
+/// When and how often the entry was delivered, where the form says so, and how many bytes end with it.
+fn delivery_at(limits: Limits, bytes: &[u8], at: usize, form: Form) -> Option<(u64, u64, usize)>
+    requires { at ≤ length bytes.now }
+    ensures is { IfSome result (λ x. IsDeliveryAt limits bytes.now at (is_claim form) x.0 x.1 x.2) }
+    ensures found { (delivery : Option (ℕ × ℕ)) (rest : List ℕ) → AllowsRows limits → IsOfForm (is_claim form) delivery
+        → drop at bytes.now ≡ delivery_bytes delivery ++ rest
+        → IsSomeAnd result (λ x. EndsBefore bytes.now rest x.2) }
+{
+    if !form.tells_delivery() {
+        return Some((0, 0, at));
+    }
+    let (elapsed, behind) = int_at(limits, bytes, at)?;
+    let (count, after) = int_at(limits, bytes, behind)?;
+    Some((elapsed, count, after))
+}
+
+/// How many values a row has: an id and fields, and in the claim form a time and a count.
+fn row_len(form: Form) -> u32
+    ensures { result ≡ row_count (is_claim form) }
+{
+    if form.tells_delivery() { 4 } else { 2 }
+}
+
+/// Holds the fields of the entry from `at` on, and returns the entry and how many bytes end with it.
+fn add_entry<P: Places>(
+    limits: Limits,
+    bytes: &[u8],
+    at: usize,
+    form: Form,
+    places: &mut P,
+) -> Result<Option<(EntryPlace, usize)>, P::Refusal>
+    requires { at ≤ length bytes.now }
+    ensures is { IfOk result (λ o. IfSome o (λ x.
+        EntryAdded limits bytes.now at (is_claim form) x.1 x.0 (P.held places.old) (P.held places.new))) }
+    ensures found { (nil : NilForm) (e : SentEntry) (rest : List ℕ) → AllowsRows limits → IsEntryOf limits (is_claim form) e
+        → drop at bytes.now ≡ entry_bytes nil e ++ rest
+        → IfOk result (λ o. IsSomeAnd o (λ x. EndsBefore bytes.now rest x.1)) }
+    ensures counts { (nil : NilForm) (e : SentEntry) (rest : List ℕ) → AllowsRows limits → IsEntryOf limits (is_claim form) e
+        → drop at bytes.now ≡ entry_bytes nil e ++ rest → IfOk result (λ o. IfSome o (λ _.
+        length (P.held places.new).fields ≡ length (P.held places.old).fields + length (fields_of e.fields))) }
+    ensures fits { (nil : NilForm) (e : SentEntry) (rest : List ℕ) → AllowsRows limits → IsEntryOf limits (is_claim form) e
+        → drop at bytes.now ≡ entry_bytes nil e ++ rest
+        → FieldsFit (P.lent places.old) (length (P.held places.old).fields + length (fields_of e.fields))
+        → IsOk result }
+    ensures kept { P.lent places.new ≡ P.lent places.old }
+{
+    let Some((members, behind)) = count_at(limits, bytes, at) else {
+        return Ok(None);
+    };
+    if members != row_len(form) {
+        return Ok(None);
+    }
+    let Some((id, behind)) = name_at(limits, bytes, behind) else {
+        return Ok(None);
+    };
+    let from = places.count_fields();
+    let Some((deleted, behind)) = add_own_fields(limits, bytes, behind, places)? else {
+        return Ok(None);
+    };
+    let Some((elapsed, count, after)) = delivery_at(limits, bytes, behind, form) else {
+        return Ok(None);
+    };
+    let entry = EntryPlace {
+        id,
+        from,
+        to: places.count_fields(),
+        deleted,
+        delivered: form.tells_delivery(),
+        elapsed,
+        count,
+    };
+    Ok(Some((entry, after)))
+}
+
+/// Holds so many entries from `at` on, with their fields, and returns how many bytes end with them.
+pub fn add_entries<P: Places>(
+    limits: Limits,
+    bytes: &[u8],
+    at: usize,
+    form: Form,
+    count: u32,
+    places: &mut P,
+) -> Result<Option<usize>, P::Refusal>
+    requires { at ≤ length bytes.now }
+    ensures is { IfOk result (λ o. IfSome o (λ after.
+        EntriesAdded limits bytes.now at (is_claim form) count after (P.held places.old) (P.held places.new))) }
+    ensures found { (nil : NilForm) (es : List SentEntry) (rest : List ℕ) → AllowsRows limits
+        → AllByRecursion (IsEntryOf limits (is_claim form)) es
+        → drop at bytes.now ≡ flat_map (entry_bytes nil) es ++ rest → count ≡ length es
+        → IfOk result (λ o. IsSomeAnd o (EndsBefore bytes.now rest)) }
+    ensures counts { IfOk result (λ o. IfSome o (λ _.
+        length (P.held places.new).entries ≡ length (P.held places.old).entries + count)) }
+    ensures counts_fields { (nil : NilForm) (es : List SentEntry) (rest : List ℕ) → AllowsRows limits
+        → AllByRecursion (IsEntryOf limits (is_claim form)) es
+        → drop at bytes.now ≡ flat_map (entry_bytes nil) es ++ rest → count ≡ length es
+        → IfOk result (λ o. IfSome o (λ _.
+        length (P.held places.new).fields ≡ length (P.held places.old).fields + length (all_fields es))) }
+    ensures fits { (nil : NilForm) (es : List SentEntry) (rest : List ℕ) → AllowsRows limits
+        → AllByRecursion (IsEntryOf limits (is_claim form)) es
+        → drop at bytes.now ≡ flat_map (entry_bytes nil) es ++ rest → count ≡ length es
+        → EntriesFit (P.lent places.old) (length (P.held places.old).entries + count)
+        → FieldsFit (P.lent places.old) (length (P.held places.old).fields + length (all_fields es))
+        → IsOk result }
+    ensures kept { P.lent places.new ≡ P.lent places.old }
+{
+    let mut behind = at;
+    for _ in 0..count {
+        let Some((entry, after)) = add_entry(limits, bytes, behind, form, places)? else {
+            return Ok(None);
+        };
+        places.push_entry(entry)?;
+        behind = after;
+    }
+    Ok(Some(behind))
+}

@@ -1,6 +1,0 @@
-use Rattle.std.proofs.Common.{◌≡◌, ◌++◌, drop}
-use Rattle.stream_refs.proofs.LaidLemmas.{laid_bytes}
-use Rattle.stream_refs.proofs.laid.EntryRoom.copy.Given as goal
-
-abbrev pub invariant-loop-name : goal.invariant-loop-name
-invariant-loop-name l = l.self.bytes.items ++ laid_bytes (drop l.name-index l.pairs) ≡ laid_bytes l.pairs
