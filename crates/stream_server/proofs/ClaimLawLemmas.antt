@@ -6,10 +6,13 @@ use Rattle.std.proofs.Common.{◌≡◌, ◌<◌, ℕ, List, [], ◌∷◌, map,
 use Rattle.stream_group.specs.World.{World, happens}
 use Rattle.stream_store.specs.EntryId.{id_text}
 use Rattle.stream_store.specs.Stream.{Seen, seen_stream}
+use Rattle.stream_store.specs.declared.entry_id.EntryId.{EntryId}
 use Rattle.stream_store.specs.declared.group.Group.{Group}
 use Rattle.stream_store.specs.declared.stream.Stream.{Stream}
+use Rattle.std.specs.List.{HoldsAt}
 use Rattle.stream_server.specs.Changed.{IsChangedAt, IsGroupChangedAt}
 use Rattle.stream_server.specs.Claiming.{Claims, ids_of}
+use Rattle.stream_server.specs.IdWords.{texts_of}
 use Rattle.stream_server.specs.Model.{AreNumbered, Fields, IsModelIn, IsModelOf}
 use Rattle.stream_server.specs.ModelClaiming.{PendingIsSeen, XautoclaimClaims, XautoclaimIsTheEvent, claiming, is_picked}
 use Rattle.stream_server.specs.Places.{AreInOrder}
@@ -94,21 +97,37 @@ module _ (key name consumer : List ℕ) (claim : Claim) (answer : Answer) (old n
     answered = claims.answered;
   }
 
+-- what is claimed of the group that the words name
+claimed_so : (key name consumer : List ℕ) (claim : Claim) (answer : Answer) (old new : List Stream) (w : World Fields)
+    (model : IsModelIn key name (map seen_stream old) w) → PendingIsSeen w → AreNumbered model.group
+    → model.group.next_number < 18446744073709551615
+    → IsChangedAt key (λ was is. IsGroupChangedAt name (Claims consumer claim answer was) was is) old new
+    → (claimed : List EntryId) × (gone : List EntryId) × (next : EntryId)
+    × XautoclaimClaims key name consumer claim.only_ids claimed gone next answer (map seen_stream new) w
+claimed_so key name consumer claim answer old new w model known numbered room how = (
+  ids_of how.how.how.stalled.claimed.items,
+  how.how.how.stalled.gone.items,
+  how.how.how.stalled.next,
+  claims_so key name consumer claim answer old new w model known numbered room how,
+)
+
+-- the first three words are these
+words_are : (key name consumer : List ℕ) (others : List (List ℕ)) (arguments : List (Vec ℕ))
+    → texts_of arguments ≡ key ∷ name ∷ consumer ∷ others → (k n c : List ℕ)
+    → HoldsAt (λ (word : Vec ℕ). word.items ≡ k) arguments 0 → HoldsAt (λ (word : Vec ℕ). word.items ≡ n) arguments 1
+    → HoldsAt (λ (word : Vec ℕ). word.items ≡ c) arguments 2 → (k ≡ key) × (n ≡ name) × (c ≡ consumer)
+words_are key name consumer others [] texts k n c keyed named by = absurd (omega (arith, ap length texts))
+words_are key name consumer others (x ∷ []) texts k n c keyed named by = absurd (omega (arith, ap length texts))
+words_are key name consumer others (x ∷ y ∷ []) texts k n c keyed named by = absurd (omega (arith, ap length texts))
+words_are key name consumer others (x ∷ y ∷ z ∷ words) texts k n c keyed named by = (
+  sym (keyed x) ∙ ap (λ (ts : List (List ℕ)). get_or ts 0 []) texts,
+  sym (named x) ∙ ap (λ (ts : List (List ℕ)). get_or ts 1 []) texts,
+  sym (by x) ∙ ap (λ (ts : List (List ℕ)). get_or ts 2 []) texts,
+)
+
 pub xautoclaim_is_the_event : XautoclaimIsTheEvent
-xautoclaim_is_the_event key name consumer others [] now answer old new w texts does model numbered room known =
-    absurd (omega (arith, ap length texts))
-xautoclaim_is_the_event key name consumer others (a ∷ []) now answer old new w texts does model numbered room known =
-    absurd (omega (arith, ap length texts))
-xautoclaim_is_the_event key name consumer others (a ∷ b ∷ []) now answer old new w texts does model numbered room known =
-    absurd (omega (arith, ap length texts))
-xautoclaim_is_the_event key name consumer others (a ∷ b ∷ c ∷ words) now answer old new w texts does model numbered room known =
-    let key_is : does.key ≡ key = sym (does.keyed a) ∙ ap (λ (ts : List (List ℕ)). get_or ts 0 []) texts in
-    let name_is : does.name ≡ name = sym (does.named a) ∙ ap (λ (ts : List (List ℕ)). get_or ts 1 []) texts in
-    let by_is : does.consumer ≡ consumer = sym (does.by a) ∙ ap (λ (ts : List (List ℕ)). get_or ts 2 []) texts in
-    let how : IsChangedAt key (λ was is. IsGroupChangedAt name (Claims consumer does.claim answer was) was is) old new =
-    rw (key_is, name_is, by_is) at does.how in (
-      ids_of how.how.how.stalled.claimed.items,
-      how.how.how.stalled.gone.items,
-      how.how.how.stalled.next,
-      claims_so key name consumer does.claim answer old new w model known numbered room how,
-    )
+xautoclaim_is_the_event key name consumer others arguments now answer old new w texts does model numbered room known =
+    let is : (does.key ≡ key) × (does.name ≡ name) × (does.consumer ≡ consumer) =
+    words_are key name consumer others arguments texts does.key does.name does.consumer does.keyed does.named does.by in
+    claimed_so key name consumer does.claim answer old new w model known numbered room
+    (rw (is.0, is.1, is.2) at does.how)

@@ -85,7 +85,7 @@ pub deleted_more : (ids : List EntryId) (i count : ℕ) (old between new : Strea
     → i < length ids → AreDeleted (take i ids) count old between
     → OnTrue r (IsWithoutOne (get_or ids i id) between.entries.items new.entries.items) → OnFalse r (new ≡ between)
     → OnFalse r (EntriesAscend between.entries.items → IsNowhere (λ e. e.id) (get_or ids i id) between.entries.items)
-    → new ≡ record between { entries = new.entries; nodes = new.nodes; max_deleted_id = new.max_deleted_id }
+    → new ≡ record between { entries = new.entries; nodes = new.nodes; gone = new.gone; max_deleted_id = new.max_deleted_id }
     → AreDeleted (take (i + 1) ids) (length old.entries.items - length new.entries.items) old new
 deleted_more ids i count old between new id r lt so_far gone is none others =
     let grown = take_more ids i id lt in
@@ -101,7 +101,7 @@ deleted_more ids i count old between new id r lt so_far gone is none others =
           subst EntriesAscend (sym (step (so_far.order up)))
           (ascend_filter (λ e. not (is_eq (id_order e.id (get_or ids i id)))) between.entries.items (so_far.order up));
       counted = omega (arith, less, so_far.counted);
-      others = others ∙ ap (λ (s : Stream). record s { entries = new.entries; nodes = new.nodes; max_deleted_id = new.max_deleted_id }) so_far.others;
+      others = others ∙ ap (λ (s : Stream). record s { entries = new.entries; nodes = new.nodes; gone = new.gone; max_deleted_id = new.max_deleted_id }) so_far.others;
     }
 
 -- the stream among the others

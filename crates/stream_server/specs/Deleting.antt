@@ -28,7 +28,7 @@ pub record AreDeleted (ids : List EntryId) (count : ℕ) (old new : Stream) : Ty
   pub entries : EntriesAscend old.entries.items → new.entries.items ≡ entries_without_all ids old.entries.items
   pub order : EntriesAscend old.entries.items → EntriesAscend new.entries.items
   pub counted : length new.entries.items + count ≡ length old.entries.items
-  pub others : new ≡ record old { entries = new.entries; nodes = new.nodes; max_deleted_id = new.max_deleted_id }
+  pub others : new ≡ record old { entries = new.entries; nodes = new.nodes; gone = new.gone; max_deleted_id = new.max_deleted_id }
 
 -- the entries with the ids that the other arguments are are deleted from the stream, and counted
 pub record IsXdel (arguments : List (Vec ℕ)) (answer : Answer) (old new : List Stream) : Type 0 where

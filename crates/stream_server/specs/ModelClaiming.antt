@@ -9,7 +9,6 @@ use Rattle.stream_group.specs.World.{World, Event, Claim, Claim_ids, happens}
 use Rattle.stream_store.specs.EntryId.{id_text}
 use Rattle.stream_store.specs.Stream.{Seen, seen_stream}
 use Rattle.stream_store.specs.declared.entry_id.EntryId.{EntryId}
-use Rattle.stream_store.specs.declared.group.Group.{Group}
 use Rattle.stream_store.specs.declared.stream.Stream.{Stream}
 use Rattle.stream_server.specs.Claiming.{IsXautoclaim, sent_claim}
 use Rattle.stream_server.specs.IdWords.{texts_of, words_of_ids}

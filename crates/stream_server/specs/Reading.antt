@@ -1,5 +1,5 @@
 -- What XREADGROUP and XREAD answer of new entries.
-use Rattle.std.specs.Prelude.{◌≡◌, ◌≢◌, ℕ, Bool, List, [], ◌∷◌, Option, Some, None, map, take}
+use Rattle.std.specs.Prelude.{◌≡◌, ◌≢◌, ℕ, Bool, List, [], Option, Some, None, map, take}
 use Rattle.std.specs.Global.{Vec}
 use Rattle.stream_store.specs.Laws.{AreInOrder}
 use Rattle.stream_store.specs.declared.group.Group.{Group}

@@ -1,5 +1,5 @@
 -- What XREADGROUP with `>` does with one stream.
-use Rattle.std.specs.Prelude.{◌≡◌, ℕ, Bool, true, false, List, [], ◌∷◌, Option, Some, None, length, map, take}
+use Rattle.std.specs.Prelude.{◌≡◌, ℕ, false, List, [], ◌∷◌, Option, Some, None, length, map, take}
 use Rattle.stream_store.specs.Consumers.{HasRoom}
 use Rattle.stream_store.specs.Laws.{AreInOrder}
 use Rattle.stream_store.specs.Room.{HasPlaces}

@@ -1,5 +1,5 @@
 -- What XREADGROUP with an id does with one stream.
-use Rattle.std.specs.Prelude.{◌≡◌, ◌≢◌, ◌⊎◌, ◌==◌, ℕ, false, List, [], ◌∷◌, decimal, filter, map, take}
+use Rattle.std.specs.Prelude.{◌≡◌, ◌⊎◌, ◌==◌, ℕ, false, List, [], ◌∷◌, decimal, filter, map, take}
 use Rattle.std.specs.List.{AllByRecursion, Contains}
 use Rattle.std.specs.Ordering.{is_lt}
 use Rattle.stream_store.specs.Consumers.{HasRoom, IsNewcomer, IsSeenAgain}
@@ -13,7 +13,6 @@ use Rattle.stream_store.specs.declared.stream.Entry.{Entry}
 use Rattle.stream_store.specs.declared.stream.Stream.{Stream}
 use Rattle.stream_server.specs.Changed.{IsChangedAt, IsGroupChangedAt}
 use Rattle.stream_server.specs.Claiming.{TakesOver, entry_with, ids_of, sent_entry, sent_id}
-use Rattle.stream_server.specs.IdWords.{Fits}
 use Rattle.stream_server.specs.Model.{AreNumbered}
 use Rattle.stream_server.specs.Places.{IsMissing, consumer_names}
 use Rattle.stream_server.specs.Places.{AreInOrder as NamesAscend}

@@ -15,13 +15,10 @@ mod info;
 mod keys;
 mod names;
 mod new_ids;
-mod numbers;
-mod parts;
 mod pending;
 mod places;
 mod range;
 mod read;
-mod refusals;
 mod remove;
 mod report;
 mod retention;
@@ -33,16 +30,25 @@ use crate::refusal::Refusal;
 use crate::session::Session;
 use answers::{entry_answer, length, number, put};
 use connection::Connection;
+use draft::Draft;
+use id_words::strict_id;
 pub(crate) use names::command_in;
-use places::{group_of, stream_of};
-use refusals::no_group;
+use places::{group_of, place_of, place_of_group, stream_of};
 use report::Report;
 use std::alloc::{AllocError, Global};
-use stream_store::{EntryId, Group, Stream};
+use stream_store::{EntryId, Group, Room, Stream};
+use words::{before_nul, lower, shown};
 
 const SYNTAX: Refusal = Refusal::Fixed("ERR syntax error");
 
 const NOT_AN_INTEGER: Refusal = Refusal::Fixed("ERR value is not an integer or out of range");
+
+const WRONG_NAME: Refusal = Refusal::Fixed(
+    "ERR Client names cannot contain spaces, newlines or special characters.",
+);
+
+/// How many bytes of a word that is not known are shown.
+const MOST_SHOWN: usize = 128;
 
 const INVALID_ID: Refusal = Refusal::Fixed(
     "ERR Invalid stream ID specified as stream command argument",
@@ -291,5 +297,243 @@ fn put_row(
     match rows.push((name, answer)) {
         Ok(()) => Ok(()),
         Err(_) => Err(AllocError),
+    }
+}
+
+/// Whether a connection may have this name.
+fn check_name(name: &[u8]) -> Result<(), Refusal> {
+    for byte in name {
+        if !byte.is_ascii_graphic() {
+            return Err(WRONG_NAME);
+        }
+    }
+    Ok(())
+}
+
+/// The refusal of a command that is not known: its name, and its arguments in quotes.
+fn unknown(alloc: Global, word: &[u8], arguments: &[Vec<u8>]) -> Refusal {
+    match quoted(alloc, arguments) {
+        Ok(text) => refusal_of(
+            alloc,
+            &[
+                b"ERR unknown command '",
+                shown(word, MOST_SHOWN),
+                b"', with args beginning with: ",
+                &text,
+            ],
+        ),
+        Err(_) => Refusal::Memory,
+    }
+}
+
+/// The first arguments in quotes, each with a blank behind it, as long as they are short.
+fn quoted(alloc: Global, arguments: &[Vec<u8>]) -> Result<Vec<u8>, AllocError> {
+    let mut text = Vec::new(alloc);
+    for argument in arguments {
+        let most = MOST_SHOWN.saturating_sub(text.len());
+        if most > 0 {
+            text.push(b'\'')?;
+            text.extend_from_slice(shown(argument, most))?;
+            text.extend_from_slice(b"' ")?;
+        }
+    }
+    Ok(text)
+}
+
+/// Makes the refusal of so many arguments of a command.
+fn wrong_count(alloc: Global, word: &[u8]) -> Refusal {
+    match lower(alloc, word) {
+        Ok(word) => refusal_of(
+            alloc,
+            &[b"ERR wrong number of arguments for '", &word, b"' command"],
+        ),
+        Err(_) => Refusal::Memory,
+    }
+}
+
+/// Makes the refusal of so many arguments of a subcommand.
+fn wrong_subcount(alloc: Global, word: &[u8], subcommand: &[u8]) -> Refusal {
+    match (lower(alloc, word), lower(alloc, subcommand)) {
+        (Ok(word), Ok(subcommand)) => refusal_of(
+            alloc,
+            &[
+                b"ERR wrong number of arguments for '",
+                &word,
+                b"|",
+                &subcommand,
+                b"' command",
+            ],
+        ),
+        _ => Refusal::Memory,
+    }
+}
+
+/// The refusal of a subcommand that is not known.
+fn unknown_subcommand(alloc: Global, word: &[u8], subcommand: &[u8]) -> Refusal {
+    let subcommand = shown(subcommand, MOST_SHOWN);
+    see_help(alloc, b"ERR unknown subcommand '", subcommand, word)
+}
+
+/// The refusal of options that the subcommand does not have.
+fn wrong_options(alloc: Global, word: &[u8], subcommand: &[u8]) -> Refusal {
+    let fault = b"ERR unknown subcommand or wrong number of arguments for '";
+    see_help(alloc, fault, subcommand, word)
+}
+
+/// The fault and the subcommand, and which help there is.
+fn see_help(alloc: Global, fault: &[u8], subcommand: &[u8], word: &[u8]) -> Refusal {
+    let Ok(mut upper) = Vec::from_slice(alloc, word) else {
+        return Refusal::Memory;
+    };
+    upper.make_ascii_uppercase();
+    refusal_of(alloc, &[fault, subcommand, b"'. Try ", &upper, b" HELP."])
+}
+
+/// The texts behind one another as a refusal.
+fn refusal_of(alloc: Global, parts: &[&[u8]]) -> Refusal {
+    let mut text = Vec::new(alloc);
+    for part in parts {
+        if text.extend_from_slice(part).is_err() {
+            return Refusal::Memory;
+        }
+    }
+    Refusal::Text(text)
+}
+
+/// The refusal for a missing group, as XGROUP and XINFO word it.
+fn no_group_for(alloc: Global, key: &[u8], group: &[u8]) -> Refusal {
+    refusal_of(
+        alloc,
+        &[
+            b"NOGROUP No such consumer group '",
+            shown(group, usize::MAX),
+            b"' for key name '",
+            shown(key, usize::MAX),
+            b"'",
+        ],
+    )
+}
+
+/// The refusal for a missing key or group, as XPENDING, XCLAIM and XAUTOCLAIM word it.
+fn no_group(alloc: Global, key: &[u8], group: &[u8]) -> Refusal {
+    refusal_of(
+        alloc,
+        &[
+            b"NOGROUP No such key '",
+            shown(key, usize::MAX),
+            b"' or consumer group '",
+            shown(group, usize::MAX),
+            b"'",
+        ],
+    )
+}
+
+/// A number as Redis takes it: with no plus sign and no leading zero.
+fn integer_in(argument: &[u8]) -> Option<i64> {
+    match argument {
+        [b'0'] => return Some(0),
+        [b'-', b'1'..=b'9', ..] | [b'1'..=b'9', ..] => {}
+        _ => return None,
+    }
+    match std::str::from_utf8(argument) {
+        Ok(text) => text.parse::<i64>().ok(),
+        Err(_) => None,
+    }
+}
+
+/// A number of 64 bits with a sign. Any other text is refused as no integer.
+fn integer(argument: &[u8]) -> Result<i64, Refusal> {
+    integer_in(argument).ok_or(NOT_AN_INTEGER)
+}
+
+/// A number of 64 bits with a sign, and 0 for a negative one. Any other text is refused as no integer.
+fn count(argument: &[u8]) -> Result<u64, Refusal> {
+    Ok(u64::try_from(integer(argument)?).unwrap_or(0))
+}
+
+/// A number of 64 bits with a sign, and 0 for a negative one. None for any other text.
+fn count_in(argument: &[u8]) -> Option<u64> {
+    Some(u64::try_from(integer_in(argument)?).unwrap_or(0))
+}
+
+/// An id, or `-` for the smallest one and `+` for the largest one.
+fn loose_id(text: &[u8], missing: u64) -> Option<EntryId> {
+    match before_nul(text) {
+        [b'-'] => Some(EntryId::ZERO),
+        [b'+'] => Some(EntryId::LAST),
+        _ => strict_id(text, missing),
+    }
+}
+
+/// The first id of an interval that begins so.
+fn interval_start(argument: &[u8]) -> Result<EntryId, Refusal> {
+    let (id, is_exclusive) = interval_end_at(argument, 0)?;
+    if !is_exclusive {
+        return Ok(id);
+    }
+    id.next()
+        .ok_or(Refusal::Fixed("ERR invalid start ID for the interval"))
+}
+
+/// The last id of an interval that ends so.
+fn interval_end(argument: &[u8]) -> Result<EntryId, Refusal> {
+    let (id, is_exclusive) = interval_end_at(argument, u64::MAX)?;
+    if !is_exclusive {
+        return Ok(id);
+    }
+    id.previous()
+        .ok_or(Refusal::Fixed("ERR invalid end ID for the interval"))
+}
+
+/// One end of an interval, and whether the id itself is left out.
+fn interval_end_at(argument: &[u8], missing: u64) -> Result<(EntryId, bool), Refusal> {
+    let (found, is_exclusive) = match argument {
+        [b'(', text @ ..] if !text.is_empty() => (strict_id(text, missing), true),
+        _ => (loose_id(argument, missing), false),
+    };
+    match found {
+        Some(id) => Ok((id, is_exclusive)),
+        None => Err(INVALID_ID),
+    }
+}
+
+/// Room in the group for what is changed, where a consumer was seen.
+fn room_of(
+    alloc: Global,
+    streams: &[Stream],
+    draft: &Draft<'_>,
+) -> Result<Option<Room>, AllocError> {
+    let Some(stream) = stream_of(streams, draft.key) else {
+        return Ok(None);
+    };
+    match (group_of(stream, draft.name), draft.part.consumers.first()) {
+        (Some(group), Some(consumer)) => {
+            let more = draft.part.pending.len();
+            Ok(Some(group.room_for(alloc, &consumer.name, more)?))
+        }
+        _ => Ok(None),
+    }
+}
+
+/// Changes the group as the draft says. With its room, it asks for no memory.
+fn settle(streams: &mut [Stream], draft: Draft<'_>, room: Option<Room>) {
+    let Ok(index) = place_of(streams, draft.key) else {
+        return;
+    };
+    let Ok(place) = place_of_group(&streams[index], draft.name) else {
+        return;
+    };
+    put_part(&mut streams[index].groups[place], draft.part, room);
+}
+
+/// Puts what the part holds into the group.
+fn put_part(group: &mut Group, part: Group, room: Option<Room>) {
+    group.last_id = part.last_id;
+    group.entries_read = part.entries_read;
+    if let (Some(room), Some(consumer)) = (room, part.consumers.first()) {
+        let _number = group.see_in(room, consumer.seen_at);
+    }
+    for pending in &part.pending {
+        let _given = group.give(*pending);
     }
 }

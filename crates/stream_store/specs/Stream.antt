@@ -40,6 +40,7 @@ pub record IsLonger (entry : Entry) (old new : Stream) : Type 0 where
   pub others : new ≡ record old {
     entries = new.entries;
     nodes = new.nodes;
+    gone = new.gone;
     last_id = new.last_id;
     entries_added = new.entries_added;
   }

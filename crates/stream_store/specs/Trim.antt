@@ -37,4 +37,4 @@ pub record IsTrimmed (trim : Trim) (count : ℕ) (old new : Stream) : Type 0 whe
   pub entries : new.entries.items ≡ drop count old.entries.items
   pub exact : trim.is_approximate ≡ false → IsExactCount trim.bound old.entries.items count
   pub whole : trim.is_approximate ≡ true → count ≡ whole_from trim (length old.entries.items) 0 old.nodes.items
-  pub others : new ≡ record old { entries = new.entries; nodes = new.nodes }
+  pub others : new ≡ record old { entries = new.entries; nodes = new.nodes; gone = new.gone }

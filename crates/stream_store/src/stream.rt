@@ -13,9 +13,16 @@ use crate::group::Group;
 use crate::trim::{Bound, Trim};
 use std::alloc::{AllocError, Global};
 use std::collections::VecDeque;
+use std::mem::replace;
 
 /// So many entries stand in one node, and trimming with `~` takes whole nodes.
 pub const NODE_ENTRIES: u64 = 100;
+
+/// If at least so many entries go at once, their memory is given back later.
+const MANY: usize = 1_000;
+
+/// The memory of so many of them is given back with each later change.
+const FEW: usize = 16;
 
 /// An entry of a stream.
 #[derive(Debug, Drop)]
@@ -44,6 +51,8 @@ pub struct Stream {
     pub entries: VecDeque<Entry>,
     /// The nodes of these entries, in their order.
     pub nodes: VecDeque<Node>,
+    /// Entries that were trimmed, whose memory is given back a few at a time.
+    pub gone: VecDeque<Entry>,
     /// The largest id that the stream ever had.
     pub last_id: EntryId,
     /// The largest id that was deleted one by one.
@@ -65,6 +74,7 @@ impl Stream {
             key,
             entries: VecDeque::new(alloc),
             nodes: VecDeque::new(alloc),
+            gone: VecDeque::new(alloc),
             last_id: EntryId::ZERO,
             max_deleted_id: EntryId::ZERO,
             entries_added: 0,
@@ -77,6 +87,7 @@ impl Stream {
         ensures ok { OnOk result (IsLonger (record { id = id; fields = fields }) self.old self.new) }
         ensures err { OnErr result (seen_stream self.new ≡ seen_stream self.old) }
     {
+        self.give_back();
         let is_open = match self.nodes.back() {
             Some(node) => node.appended < NODE_ENTRIES,
             None => false,
@@ -146,6 +157,7 @@ impl Stream {
         ensures others { self.new ≡ record self.old {
           entries = self.new.entries;
           nodes = self.new.nodes;
+          gone = self.new.gone;
           max_deleted_id = self.new.max_deleted_id;
         } }
     {
@@ -159,6 +171,7 @@ impl Stream {
         if id > self.max_deleted_id {
             self.max_deleted_id = id;
         }
+        self.give_back();
         true
     }
 
@@ -172,10 +185,43 @@ impl Stream {
         } else {
             self.exact_count(trim.bound)
         };
-        drop(self.entries.drain(..count));
+        self.give_back();
+        self.take_oldest(count);
         drop(self.nodes.drain(..nodes));
         take_from_first(&mut self.nodes, count.saturating_sub(whole));
         count
+    }
+
+    /// Takes so many of the oldest entries out. If many go, and more than stay, the others move to a
+    /// list of their own, and the memory of those that go is given back by later changes.
+    fn take_oldest(&mut self, count: usize)
+        requires { count ≤ length self.old.entries.items }
+        ensures entries { self.new.entries.items ≡ drop count self.old.entries.items }
+        ensures others { self.new ≡ record self.old { entries = self.new.entries; gone = self.new.gone } }
+    {
+        let left = self.entries.len().saturating_sub(count);
+        if count < MANY || count < left || !self.gone.is_empty() {
+            drop(self.entries.drain(..count));
+            return;
+        }
+        match self.entries.split_off(count) {
+            Ok(rest) => self.gone = replace(&mut self.entries, rest),
+            Err(_) => drop(self.entries.drain(..count)),
+        }
+    }
+
+    /// Gives back the memory of a few entries that are gone.
+    fn give_back(&mut self)
+        ensures { self.new ≡ record self.old { gone = self.new.gone } }
+    {
+        if self.gone.is_empty() {
+            return;
+        }
+        let few = self.gone.len().min(FEW);
+        drop(self.gone.drain(..few));
+        if self.gone.is_empty() {
+            self.gone.shrink_to_fit();
+        }
     }
 
     /// The id of the first entry, 0-0 where there is none.

@@ -2,10 +2,11 @@
 ghost use Rattle.std.specs.Prelude.{◌≡◌, ◌<◌, length, IfOk, OnErr};
 
 use super::answers::bytes_answer;
-use super::numbers::integer_in;
-use super::refusals::{check_name, unknown_subcommand, wrong_count, wrong_subcount};
 use super::words::is_word;
-use super::{NOT_AN_INTEGER, SYNTAX, hello};
+use super::{
+    NOT_AN_INTEGER, SYNTAX, check_name, hello, integer_in, unknown_subcommand, wrong_count,
+    wrong_subcount,
+};
 use crate::answer::{Answer, Status};
 use crate::refusal::Refusal;
 use crate::session::Session;

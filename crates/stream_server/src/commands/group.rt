@@ -6,11 +6,12 @@ ghost use Rattle.stream_server.specs.Streams.{seen_streams};
 ghost use Rattle.stream_store.specs.Stream.{seen_stream};
 
 use super::id_words::strict_id;
-use super::numbers::{integer, loose_id};
 use super::places::{place_of, place_of_group};
-use super::refusals::{no_group_for, unknown_subcommand, wrong_options, wrong_subcount};
 use super::words::is_word;
-use super::{INVALID_ID, SYNTAX, help};
+use super::{
+    INVALID_ID, SYNTAX, help, integer, loose_id, no_group_for, unknown_subcommand, wrong_options,
+    wrong_subcount,
+};
 use crate::answer::Answer;
 use crate::refusal::Refusal;
 use std::alloc::Global;

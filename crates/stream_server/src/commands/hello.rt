@@ -2,10 +2,8 @@
 ghost use Rattle.std.specs.Prelude.{◌≡◌, OnErr};
 
 use super::answers::bytes_answer;
-use super::numbers::integer_in;
-use super::put_row;
-use super::refusals::{check_name, refusal_of};
 use super::words::{is_word, shown};
+use super::{check_name, integer_in, put_row, refusal_of};
 use crate::answer::Answer;
 use crate::refusal::Refusal;
 use crate::session::Session;

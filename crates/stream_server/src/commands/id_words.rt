@@ -6,9 +6,8 @@ ghost use Rattle.stream_server.specs.declared.commands.id_words.Sequence.TheVari
 ghost use Rattle.stream_store.specs.EntryId.{id_text};
 ghost use Rattle.stream_store.specs.declared.entry_id.EntryId.{EntryId};
 
-use super::INVALID_ID;
-use super::numbers::integer_in;
 use super::words::before_nul;
+use super::{INVALID_ID, integer_in};
 use crate::refusal::Refusal;
 use std::alloc::Global;
 use std::str;

@@ -5,11 +5,11 @@ ghost use Rattle.std.specs.Prelude.{◌<◌, length as length_of, IfOk};
 ghost use Rattle.stream_server.specs.Kinds.{IsInfo};
 
 use super::answers::{bytes_answer, entry_answer, length, number, put};
-use super::numbers::integer;
 use super::places::{group_of, stream_of};
-use super::refusals::{no_group_for, unknown_subcommand, wrong_options, wrong_subcount};
 use super::words::is_word;
-use super::{SYNTAX, help, put_row};
+use super::{
+    SYNTAX, help, integer, no_group_for, put_row, unknown_subcommand, wrong_options, wrong_subcount,
+};
 use crate::answer::Answer;
 use crate::refusal::Refusal;
 use std::alloc::{AllocError, Global};

@@ -3,10 +3,12 @@
 ghost use Rattle.std.specs.Prelude.{◌<◌, length as length_of, IfOk};
 
 use super::connection::Connection;
-use super::refusals::{unknown, wrong_count};
 use super::report::Report;
 use super::words::is_word;
-use super::{Change, Command, LookUp, Plain, SYNTAX, Step, connection, group, info, report};
+use super::{
+    Change, Command, LookUp, Plain, SYNTAX, Step, connection, group, info, report, unknown,
+    wrong_count,
+};
 use crate::refusal::Refusal;
 use std::alloc::Global;
 

@@ -3,9 +3,8 @@ ghost use Rattle.std.specs.Prelude.{IfOk};
 ghost use Rattle.stream_server.specs.Kinds.{IsArray};
 
 use super::answers::{array, bytes_answer, length, number, put};
-use super::numbers::{count, interval_end, interval_start};
 use super::words::is_word;
-use super::{SYNTAX, group_for, name_of, stream_for};
+use super::{SYNTAX, count, group_for, interval_end, interval_start, name_of, stream_for};
 use crate::answer::Answer;
 use crate::refusal::Refusal;
 use itoa::Buffer;

@@ -3,10 +3,9 @@ ghost use Rattle.std.specs.Prelude.{IfOk};
 ghost use Rattle.stream_server.specs.Kinds.{IsArray};
 
 use super::answers::{entry_answer, put};
-use super::numbers::{count, interval_end, interval_start};
 use super::places::stream_of;
 use super::words::is_word;
-use super::{SYNTAX, entries_up};
+use super::{SYNTAX, count, entries_up, interval_end, interval_start};
 use crate::answer::Answer;
 use crate::refusal::Refusal;
 use std::alloc::{AllocError, Global};

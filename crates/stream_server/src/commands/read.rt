@@ -16,15 +16,12 @@ ghost use Rattle.stream_store.specs.Laws.{AreInOrder};
 
 mod own;
 
-use super::SYNTAX;
 use super::answers::{array, entry_answer, put};
 use super::draft::Draft;
 use super::id_words::id;
-use super::numbers::{count, integer_in};
-use super::parts::{room_of, settle};
 use super::places::{group_of, place_of, place_of_group, stream_of};
-use super::refusals::refusal_of;
 use super::words::{is_word, shown};
+use super::{SYNTAX, count, integer_in, refusal_of, room_of, settle};
 use crate::answer::Answer;
 use crate::refusal::Refusal;
 use own::{deliver_again, read_own};

@@ -4,12 +4,11 @@ ghost use Rattle.stream_server.specs.Acknowledging.{AcknowledgesIn, AreAcknowled
 ghost use Rattle.stream_server.specs.Deleting.{AreDeleted, DeletesIn};
 ghost use Rattle.stream_server.specs.IdWords.{IsRefusedFor};
 
-use super::SYNTAX;
 use super::id_words::{id, ids};
-use super::numbers::integer;
 use super::places::{place_of, place_of_group};
 use super::retention::retention_in;
 use super::words::is_word;
+use super::{SYNTAX, integer};
 use crate::answer::Answer;
 use crate::refusal::Refusal;
 use std::alloc::Global;

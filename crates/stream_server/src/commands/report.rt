@@ -2,10 +2,9 @@
 ghost use Rattle.std.specs.Prelude.{◌<◌, length as length_of, IfOk};
 ghost use Rattle.stream_server.specs.Kinds.{IsArray, IsBytes};
 
-use super::SYNTAX;
 use super::answers::put;
-use super::refusals::unknown_subcommand;
 use super::words::is_word;
+use super::{SYNTAX, unknown_subcommand};
 use crate::answer::Answer;
 use crate::refusal::Refusal;
 use itoa::Buffer;

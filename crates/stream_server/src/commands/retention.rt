@@ -8,9 +8,8 @@ ghost use Rattle.stream_store.specs.declared.entry_id.EntryId.{EntryId};
 
 use super::id_words::id;
 use super::new_ids::{NewId, new_id};
-use super::numbers::integer;
 use super::words::is_word;
-use super::{INVALID_ID, SYNTAX};
+use super::{INVALID_ID, SYNTAX, integer};
 use crate::refusal::Refusal;
 use stream_store::{Bound, NODE_ENTRIES, Trim};
 

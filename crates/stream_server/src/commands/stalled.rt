@@ -9,13 +9,11 @@ ghost use Rattle.stream_server.specs.Claiming.{ids_of, sent_claim, sent_claimed,
 ghost use Rattle.stream_server.specs.Sent.{sent};
 ghost use Rattle.stream_server.specs.Stalled.{IsFound};
 
-use super::SYNTAX;
 use super::answers::{array, claimed_answer, put};
-use super::numbers::{integer_in, interval_start};
 use super::places::{place_of, place_of_group};
-use super::refusals::no_group;
 use super::remove::acknowledge_all;
 use super::words::is_word;
+use super::{SYNTAX, integer_in, interval_start, no_group};
 use crate::answer::Answer;
 use crate::refusal::Refusal;
 use std::alloc::{AllocError, Global};
