@@ -26,14 +26,15 @@ use anyhow::{Context, Error, Result, anyhow};
 use command_lines::tell;
 use redis_connection::Connection;
 use redis_wire::Limits;
-use row_table::{Column, Kind, TableError};
+use row_table::{Column, Kind, Table, TableError};
 use sqlite::{File, FileStore};
 use sqlite_rows::{Form, OpenError, SqliteTable};
 use std::alloc::{AllocError, Global};
+use std::io::{Read, Write};
 use std::process::ExitCode;
 use std::{env, io};
 use stream_table::Rows;
-use stream_worker::Worker;
+use stream_worker::{Settings, Worker};
 
 fn main(rt: HostRuntime) -> Result<ExitCode> {
     let words = words_of(&rt)?;
@@ -95,21 +96,42 @@ fn drain_by(rt: &HostRuntime, options: Options) -> Result<()> {
     let alloc = rt.alloc();
     let opened = table_at(rt, &path, form_of(alloc, &table, &columns)?)?;
     let mut rows = Rows::with_columns(alloc, opened, columns);
-    let mut connection = Connection::new(alloc, rt.reader(), io::writer(rt), Limits::default())?;
+    let ended = drain_over(
+        rt,
+        rt.reader(),
+        io::writer(rt),
+        settings,
+        &mut rows,
+        until_empty,
+    );
+    let closed = rows.into_table().close();
+    ended?;
+    closed.context(format_args!("cannot close {path}"))
+}
+
+/// Drains over these ends, and says what was done.
+fn drain_over<R: Read + Drop, W: Write + Drop, T: Table + Drop>(
+    rt: &HostRuntime,
+    reader: R,
+    writer: W,
+    settings: Settings,
+    rows: &mut Rows<T>,
+    until_empty: bool,
+) -> Result<()> {
+    let alloc = rt.alloc();
+    let mut connection = Connection::new(alloc, reader, writer, Limits::default())?;
     let mut worker = Worker::new(alloc, settings);
     let mut report = Report::new();
     let ended = drain(
         alloc,
         &mut connection,
         &mut worker,
-        &mut rows,
+        rows,
         &mut report,
         until_empty,
     );
     eprintln!(rt; "{report}")?;
-    let closed = rows.into_table().close();
-    ended?;
-    closed.context(format_args!("cannot close {path}"))
+    ended
 }
 
 /// The statements of a table of this name with these columns, or, if there are none, with one text.
