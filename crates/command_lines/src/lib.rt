@@ -5,7 +5,7 @@
 //! and what is wrong with a line go to standard error.
 #![tactic(auto)]
 
-ghost use Rattle.std.specs.Prelude.{◌≡◌, ◌≢◌, ◌≤◌, ◌∷◌, ◌⊎◌, [], ℕ, List, IfOk, IfSome, None, Some};
+ghost use Rattle.std.specs.Prelude.{◌≡◌, ◌≢◌, ◌≤◌, ◌<◌, ◌∷◌, ◌⊎◌, [], ℕ, List, IfErr, IfOk, IfSome, None, Some};
 ghost use Rattle.std.specs.Prelude.{codes, false, true, length, option_map};
 ghost use Rattle.std.specs.Process.{exit_status};
 ghost use Rattle.clap.specs.Words.{BuildsTo, first_value, found_of, kind_of, new_rule, one_text, rule_of};
@@ -310,4 +310,56 @@ pub fn pair<'a>(alloc: Global, name: &'a str, values: &'a [&'a str], help: &'a s
         .value_names(values)
         .allow_hyphen_values(true)
         .help(help)
+}
+
+// The values of `--wait`, and how an error names it.
+static WAIT_VALUES: [&str; 2] = ["REPLICAS", "MS"];
+
+const WAIT: &str = "--wait <REPLICAS> <MS>";
+
+/// The option `--wait`: so many replicas are to confirm within so many milliseconds, `help` says what.
+pub fn wait<'a>(alloc: Global, help: &'a str) -> Arg<'a>
+    ensures { rule_of result ≡ record (new_rule (codes "wait")) {
+      long = Some (codes "wait");
+      action = Some Set;
+      range = Some (record { start_inclusive = 2; end_inclusive = 2 });
+      value_names = 2;
+      is_simple = false;
+    } }
+{
+    pair(alloc, "wait", WAIT_VALUES.as_slice(), help)
+}
+
+/// The numbers of `--wait`, each 1 at least, where a line has it: of replicas, and of milliseconds. Any other word is
+/// refused.
+pub fn wait_of(
+    alloc: Global,
+    command: &mut Command<'_>,
+    matches: &ArgMatches<'_>,
+) -> Result<Option<(u64, u64)>, Error>
+    ensures range { IfOk result (λ found. IfSome found (λ wait. (0 < wait.0) × (0 < wait.1))) }
+    ensures err { IfErr result (λ e. (kind_of e ≡ ErrorKind.ValueValidation)
+        ⊎ (kind_of e ≡ ErrorKind.OutOfMemory)) }
+{
+    let Some([replicas, milliseconds]) = matches.get_strs("wait") else {
+        return Ok(None);
+    };
+    let replicas = positive(alloc, command, replicas)?;
+    let milliseconds = positive(alloc, command, milliseconds)?;
+    Ok(Some((replicas, milliseconds)))
+}
+
+/// A number of `--wait`, 1 at least.
+fn positive(alloc: Global, command: &mut Command<'_>, word: &str) -> Result<u64, Error>
+    ensures range { IfOk result (λ number. 0 < number) }
+    ensures err { IfErr result (λ e. (kind_of e ≡ ErrorKind.ValueValidation)
+        ⊎ (kind_of e ≡ ErrorKind.OutOfMemory)) }
+{
+    match word.parse::<u64>() {
+        Ok(number) if 0 < number => Ok(number),
+        _ => {
+            let reason = "wanted is a number, 1 at least";
+            Err(refused_value(alloc, command, word, WAIT, reason))
+        }
+    }
 }

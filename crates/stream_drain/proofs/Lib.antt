@@ -2,6 +2,7 @@
 pub mod JsonLemmas
 pub mod WrittenLemmas
 pub mod LivedLemmas
+pub mod ConfirmedLemmas
 pub mod FiledLemmas
 pub mod TellLemmas
 pub mod ResumedLemmas

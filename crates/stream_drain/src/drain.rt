@@ -1,5 +1,6 @@
 //! The loop of the program: it asks, and takes the answers.
-ghost use Rattle.std.specs.Prelude.{◌≡◌, IfErr, IfOk, IsTrue, OnErr, OnOk, false};
+ghost use Rattle.std.specs.Prelude.{◌≡◌, IfErr, IfOk, IfSome, IsTrue, OnErr, OnOk, false};
+ghost use Rattle.stream_confirm.specs.Confirmed.{IsConfirmedRound};
 ghost use Rattle.stream_letters.specs.Besides.{Besides, BreaksBesides, LooksNot};
 ghost use Rattle.stream_drain.specs.Filed.{FiledFrom};
 ghost use Rattle.stream_drain.specs.Lived.{Leads};
@@ -19,6 +20,8 @@ use std::fmt;
 use std::io::{Read, Write};
 use std::rt::Clock;
 use stream_commands::xinfo_groups;
+use stream_confirm::{RoundError, round_confirmed};
+use stream_feed::Wait;
 use stream_letters::DeadLetterSearch;
 use stream_worker::{Asked, Handler, Pipelined, Progress, RequestError, Round, RunError, Worker};
 
@@ -33,6 +36,7 @@ pub fn drain<R: Read + Drop, W: Write + Drop, D: LogFile + Drop, T: Clock + Epri
     lines: &mut Lines<D>,
     report: &mut Report,
     dead: &mut Option<DeadLetterSearch>,
+    wait: Option<Wait>,
     until_empty: bool,
 ) -> Result<()>
     ensures ended { IfOk result (λ _. IsTrue until_empty) }
@@ -50,7 +54,7 @@ pub fn drain<R: Read + Drop, W: Write + Drop, D: LogFile + Drop, T: Clock + Epri
     let mut asked = Asked::Nothing;
     for _ in 0..u64::MAX {
         let seen = lines.seen;
-        asked = turn(rt, connection, worker, lines, report, dead, asked)?;
+        asked = turn(rt, connection, worker, lines, report, dead, wait, asked)?;
         if until_empty && asked == Asked::New && lines.seen == seen {
             return Ok(());
         }
@@ -66,6 +70,7 @@ fn turn<R: Read + Drop, W: Write + Drop, D: LogFile + Drop, T: Clock + Eprint + 
     lines: &mut Lines<D>,
     report: &mut Report,
     dead: &mut Option<DeadLetterSearch>,
+    wait: Option<Wait>,
     asked: Asked,
 ) -> Result<Asked>
     ensures settings { worker.new.settings ≡ worker.old.settings }
@@ -77,7 +82,8 @@ fn turn<R: Read + Drop, W: Write + Drop, D: LogFile + Drop, T: Clock + Eprint + 
         (standing_of worker.new (⟦<Lines<D> as Handler>⟧.history lines.new))) }
 {
     look(rt.alloc(), connection, lines, dead, asked)?;
-    let made = round(rt.alloc(), connection, worker, lines, dead.is_none())?;
+    let alone = dead.is_some();
+    let made = any_round(rt.alloc(), connection, worker, lines, wait, alone)?;
     let due = made.acknowledged || made.round.asked == Asked::Acknowledgement;
     count(rt, connection, report, lines.committed, due)?;
     Ok(made.round.asked)
@@ -100,6 +106,73 @@ fn look<R: Read + Drop, W: Write + Drop, D: LogFile + Drop>(
     match dead.turn(alloc, connection, asked, lines.done > lines.committed) {
         Ok(()) => Ok(()),
         Err(error) => Err(error.into()),
+    }
+}
+
+/// Makes a round that replicas confirm, or one that they need not, after which the worker goes on.
+fn any_round<R: Read + Drop, W: Write + Drop, D: LogFile + Drop>(
+    alloc: Global,
+    connection: &mut Connection<R, W>,
+    worker: &mut Worker,
+    lines: &mut Lines<D>,
+    wait: Option<Wait>,
+    alone: bool,
+) -> Result<Pipelined>
+    ensures settings { worker.new.settings ≡ worker.old.settings }
+    ensures ok { OnOk result (Leads (Loops worker.old.settings) connection.old connection.new
+        (standing_of worker.old (⟦<Lines<D> as Handler>⟧.history lines.old))
+        (standing_of worker.new (⟦<Lines<D> as Handler>⟧.history lines.new))) }
+    ensures err { OnErr result (Leads (Stops worker.old.settings) connection.old connection.new
+        (standing_of worker.old (⟦<Lines<D> as Handler>⟧.history lines.old))
+        (standing_of worker.new (⟦<Lines<D> as Handler>⟧.history lines.new))) }
+    ensures confirmed { IfSome wait (λ w. IfOk result (λ made. IsConfirmedRound
+        ⟦<Lines<D> as Handler>⟧.with_verdict ⟦<Lines<D> as Handler>⟧.with_commit worker.old.settings w
+        connection.old connection.new
+        (standing_of worker.old (⟦<Lines<D> as Handler>⟧.history lines.old))
+        (standing_of worker.new (⟦<Lines<D> as Handler>⟧.history lines.new))
+        made.round.asked made.round.progress)) }
+{
+    match wait {
+        Some(wait) => confirmed(alloc, connection, worker, lines, &wait),
+        None => round(alloc, connection, worker, lines, !alone),
+    }
+}
+
+/// Makes a round that replicas confirm before its entries are handled, after which the worker goes on.
+fn confirmed<R: Read + Drop, W: Write + Drop, D: LogFile + Drop>(
+    alloc: Global,
+    connection: &mut Connection<R, W>,
+    worker: &mut Worker,
+    lines: &mut Lines<D>,
+    wait: &Wait,
+) -> Result<Pipelined>
+    ensures settings { worker.new.settings ≡ worker.old.settings }
+    ensures ok { OnOk result (Leads (Loops worker.old.settings) connection.old connection.new
+        (standing_of worker.old (⟦<Lines<D> as Handler>⟧.history lines.old))
+        (standing_of worker.new (⟦<Lines<D> as Handler>⟧.history lines.new))) }
+    ensures err { OnErr result (Leads (Stops worker.old.settings) connection.old connection.new
+        (standing_of worker.old (⟦<Lines<D> as Handler>⟧.history lines.old))
+        (standing_of worker.new (⟦<Lines<D> as Handler>⟧.history lines.new))) }
+    ensures confirmed { IfOk result (λ made. IsConfirmedRound ⟦<Lines<D> as Handler>⟧.with_verdict
+        ⟦<Lines<D> as Handler>⟧.with_commit worker.old.settings wait.now connection.old connection.new
+        (standing_of worker.old (⟦<Lines<D> as Handler>⟧.history lines.old))
+        (standing_of worker.new (⟦<Lines<D> as Handler>⟧.history lines.new))
+        made.round.asked made.round.progress) }
+{
+    match round_confirmed(alloc, connection, worker, lines, wait) {
+        Ok(round) => {
+            goes_on(round.progress, &lines.fault, &lines.undone)?;
+            Ok(alone(round))
+        }
+        Err(error) => Err(unconfirmed(error, &lines.fault)),
+    }
+}
+
+/// Why a round that was to be confirmed failed.
+fn unconfirmed(error: RoundError, fault: &Option<LogError>) -> Error {
+    match error {
+        RoundError::Run(error) => broken_off(error, fault),
+        RoundError::Unconfirmed(error) => error.into(),
     }
 }
 

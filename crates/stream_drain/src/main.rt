@@ -99,6 +99,7 @@ fn drain_by(rt: &HostRuntime, options: Options) -> Result<()> {
         json,
         quiet,
         dead,
+        wait,
     } = options;
     let alloc = rt.alloc();
     let mut lines = lines_at(rt, &path, json)?;
@@ -120,6 +121,7 @@ fn drain_by(rt: &HostRuntime, options: Options) -> Result<()> {
         &mut lines,
         &mut report,
         &mut dead,
+        wait,
         until_empty,
     );
     report.letters = dead.map(|dead| dead.letters());

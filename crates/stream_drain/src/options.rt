@@ -5,9 +5,10 @@ use crate::resume::LARGEST_COUNT;
 use clap::{ArgMatches, Command, Error};
 use command_lines::{
     BLOCK, EVERY, IDLE, Number, command, flag, from, matches_of, name, pair, refused,
-    refused_value, word_of,
+    refused_value, wait, wait_of, word_of,
 };
 use std::alloc::{AllocError, Global};
+use stream_feed::Wait;
 use stream_letters::GiveUp;
 use stream_worker::{MakeGroup, Settings};
 
@@ -24,6 +25,8 @@ pub struct Options {
     pub quiet: bool,
     /// Entries that were delivered too often go to a stream of dead letters.
     pub dead: Option<GiveUp>,
+    /// So many replicas are to confirm what is asked before entries are handled.
+    pub wait: Option<Wait>,
 }
 
 // Not more than what is acknowledged at the beginning.
@@ -41,6 +44,9 @@ static DEAD_VALUES: [&str; 2] = ["TIMES", "STREAM"];
 
 const DEAD: &str = "--dead <TIMES> <STREAM>";
 
+const WAIT: &str =
+    "So many replicas are to confirm each read within so many milliseconds, each number 1 at least";
+
 /// The options of these words.
 pub fn options_of(alloc: Global, words: &[String]) -> Result<Options, Error>
     ensures { IfOk result (λ _. 4 ≤ length words.now) }
@@ -49,6 +55,7 @@ pub fn options_of(alloc: Global, words: &[String]) -> Result<Options, Error>
     let matches = matches_of(alloc, &mut command, words, 4)?;
     let settings = settings_of(alloc, &mut command, &matches)?;
     let dead = dead_of(alloc, &mut command, &matches)?;
+    let wait = waiting(alloc, &mut command, &matches, dead.is_some())?;
     Ok(Options {
         settings,
         path: String::from_str(alloc, word_of(&matches, "FILE"))?,
@@ -56,6 +63,7 @@ pub fn options_of(alloc: Global, words: &[String]) -> Result<Options, Error>
         json: matches.get_flag("json"),
         quiet: matches.get_flag("quiet"),
         dead,
+        wait,
     })
 }
 
@@ -93,7 +101,8 @@ fn with_flags<'a>(alloc: Global, command: Command<'a>) -> Result<Command<'a>, Al
             alloc,
             "until-empty",
             "It ends with status 0 once a read finds nothing new",
-        ))
+        ))?
+        .arg(wait(alloc, WAIT))
 }
 
 /// The settings of a worker. Those that a line leaves out are the usual ones.
@@ -173,4 +182,24 @@ fn dead_of(
     }
     let stream = String::from_str(alloc, stream)?;
     Ok(Some(GiveUp { deliveries, stream }))
+}
+
+/// How many replicas are to confirm what is asked, and how long it waits for them. Letters are not confirmed, so none
+/// are sent then.
+fn waiting(
+    alloc: Global,
+    command: &mut Command<'_>,
+    matches: &ArgMatches<'_>,
+    gives_up: bool,
+) -> Result<Option<Wait>, Error> {
+    let Some((replicas, milliseconds)) = wait_of(alloc, command, matches)? else {
+        return Ok(None);
+    };
+    if gives_up {
+        return Err(refused(alloc, command, &"--wait does not go with --dead"));
+    }
+    match Wait::new(replicas, milliseconds) {
+        Ok(wait) => Ok(Some(wait)),
+        Err(error) => Err(refused(alloc, command, &error)),
+    }
 }

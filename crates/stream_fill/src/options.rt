@@ -4,7 +4,7 @@ ghost use Rattle.std.specs.Prelude.{◌≤◌, length, IfOk};
 use crate::lines::Form;
 use clap::{ArgMatches, Command, Error};
 use command_lines::{
-    Number, command, flag, matches_of, name, pair, refused, refused_value, text, word_of,
+    Number, command, flag, matches_of, name, refused, text, wait, wait_of, word_of,
 };
 use std::alloc::{AllocError, Global};
 use stream_feed::{Settings, Wait};
@@ -37,11 +37,6 @@ const BASE: Number = Number {
     usual: "0",
 };
 
-// The values of `--wait`, and how an error names it.
-static WAIT_VALUES: [&str; 2] = ["REPLICAS", "MS"];
-
-const WAIT: &str = "--wait <REPLICAS> <MS>";
-
 /// The options of these words.
 pub fn options_of(alloc: Global, words: &[String]) -> Result<Options, Error>
     ensures { IfOk result (λ _. 2 ≤ length words.now) }
@@ -49,7 +44,7 @@ pub fn options_of(alloc: Global, words: &[String]) -> Result<Options, Error>
     let mut command = command_of(alloc)?;
     let matches = matches_of(alloc, &mut command, words, 2)?;
     let settings = settings_of(alloc, &mut command, &matches)?;
-    let wait = wait_of(alloc, &mut command, &matches)?;
+    let wait = waiting(alloc, &mut command, &matches)?;
     Ok(Options {
         settings,
         path: String::from_str(alloc, word_of(&matches, "FILE"))?,
@@ -62,7 +57,7 @@ fn command_of<'a>(alloc: Global) -> Result<Command<'a>, AllocError> {
     let about = "Fills a stream with the lines of a file, each once and in order.";
     let field = "The name of the one field of each record, whose value is the line";
     let json = "Each line is an object of texts, or a line of stream_drain --json";
-    let wait =
+    let help =
         "So many replicas are to confirm each batch within so many milliseconds, each number 1 at least";
     command(alloc, "stream_fill", about)
         .arg(name(alloc, "KEY", "The stream"))?
@@ -71,7 +66,7 @@ fn command_of<'a>(alloc: Global) -> Result<Command<'a>, AllocError> {
         .arg(flag(alloc, "json", json))?
         .arg(BATCH.arg(alloc))?
         .arg(BASE.arg(alloc))?
-        .arg(pair(alloc, "wait", WAIT_VALUES.as_slice(), wait))
+        .arg(wait(alloc, help))
 }
 
 /// What a line is.
@@ -98,29 +93,16 @@ fn settings_of(
 }
 
 /// How many replicas are to confirm each batch, and how long it waits for them.
-fn wait_of(
+fn waiting(
     alloc: Global,
     command: &mut Command<'_>,
     matches: &ArgMatches<'_>,
 ) -> Result<Option<Wait>, Error> {
-    let Some([replicas, milliseconds]) = matches.get_strs("wait") else {
+    let Some((replicas, milliseconds)) = wait_of(alloc, command, matches)? else {
         return Ok(None);
     };
-    let replicas = positive(alloc, command, replicas)?;
-    let milliseconds = positive(alloc, command, milliseconds)?;
     match Wait::new(replicas, milliseconds) {
         Ok(wait) => Ok(Some(wait)),
         Err(error) => Err(refused(alloc, command, &error)),
-    }
-}
-
-/// A number of `--wait`, 1 at least.
-fn positive(alloc: Global, command: &mut Command<'_>, word: &str) -> Result<u64, Error> {
-    match word.parse::<u64>() {
-        Ok(number) if 0 < number => Ok(number),
-        _ => {
-            let reason = "wanted is a number, 1 at least";
-            Err(refused_value(alloc, command, word, WAIT, reason))
-        }
     }
 }

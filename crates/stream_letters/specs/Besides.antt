@@ -9,10 +9,10 @@ use Rattle.stream_letters.specs.Dead.{BreaksOff, Claimer, GivesUp, GivesUpSome}
 use Rattle.stream_letters.specs.declared.search.Waiting.{Waiting}
 use Rattle.stream_system.specs.Desks.{Names}
 
--- the command changes nothing: it is an XPENDING or an XINFO
+-- the command changes nothing: it is an XPENDING, an XINFO or a WAIT
 abbrev pub OnlyLooks : List (List ℕ) → Type 0
 OnlyLooks [] = ⊥
-OnlyLooks (word ∷ words) = (word ≡ codes "XPENDING") ⊎ (word ≡ codes "XINFO")
+OnlyLooks (word ∷ words) = (word ≡ codes "XPENDING") ⊎ ((word ≡ codes "XINFO") ⊎ (word ≡ codes "WAIT"))
 
 -- such a command went out, and then this reply came
 pub record Looks (old new : Link) : Type 0 where

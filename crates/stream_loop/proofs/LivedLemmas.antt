@@ -24,9 +24,9 @@ pub loops_stop : (settings : Settings) (l m n : Link) (v u y : Standing Doings) 
     → Stops settings m u n y b → Stops settings l v n y (a ++ b)
 loops_stop settings l m n v u y a b p (breaks k k' i w x ids q s) =
     breaks l k' i v x (a ++ ids) (loops_both settings l k k' v w x a ids p q) s
-loops_stop settings l m n v u y a b p (stops k k' i w w' x asked ids q t) =
-    subst (λ (all : List Id). Stops settings l v i x all) (append_assoc a ids (deleted_told settings w' t.turn.answer))
-    (stops l k' i v w' x asked (a ++ ids) (loops_both settings l k k' v w w' a ids p q) t)
+loops_stop settings l m n v u y a b p (stops k k' i j w w' x asked ids q t b') =
+    subst (λ (all : List Id). Stops settings l v j x all) (append_assoc a ids (deleted_told settings w' t.turn.answer))
+    (stops l k' i j v w' x asked (a ++ ids) (loops_both settings l k k' v w w' a ids p q) t b')
 loops_stop settings l m n v u y a b p (fails k k' i j w w' x e ids q f left) =
     subst (λ (all : List Id). Stops settings l v j x all) (append_assoc a ids (deleted_at settings k' i w' x e f))
     (fails l k' i j v w' x e (a ++ ids) (loops_both settings l k k' v w w' a ids p q) f left)
@@ -49,7 +49,7 @@ loops_lived settings l n v y deleted gone a (turns k m i w u x asked ids t p) =
 stops_lived : (settings : Settings) (l n : Link) (v y : Standing Doings) (deleted gone : List Id)
     → Lives settings v deleted → Stops settings l v n y gone → Lives settings y (deleted ++ gone)
 stops_lived settings l n v y deleted gone a (breaks k m i w x ids p b) = loops_lived settings k m w x deleted ids a p
-stops_lived settings l n v y deleted gone a (stops k m i w u x asked ids p t) =
+stops_lived settings l n v y deleted gone a (stops k m i j w u x asked ids p t b) =
     let now : List Id = deleted_told settings u t.turn.answer in
     subst (λ (all : List Id). Lives settings x all) (append_assoc deleted ids now)
     (subst (λ (s : Standing Doings). Lives settings s ((deleted ++ ids) ++ now)) (sym t.stands)

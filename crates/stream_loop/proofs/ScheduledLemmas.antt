@@ -33,7 +33,7 @@ module _ (s : Setting Fields) (settings : Settings) where
       → HearsToTheEnd s settings events old new v y told p ms e → Runs s settings events v
       → Runs s settings (events ++ stop_events s settings old new v y told p ms e) y
   stops_run events old new v y told (breaks l m n u x ids p b) ms e h r = loops_run events l m u x ids p ms h r
-  stops_run events old new v y told (stops l m n u x z asked ids p t) ms e h r =
+  stops_run events old new v y told (stops l m n k u x z asked ids p t b) ms e h r =
       let before : List (Event Fields) = loop_events s settings l m u x ids p ms in
       subst (λ (es : List (Event Fields)). Runs s settings es z)
       (append_assoc events before (round_events settings x e t.turn.verdicts))

@@ -1,9 +1,12 @@
 -- Rounds of one history seen as rounds of another, of which it is a picture.
-use Rattle.std.proofs.Common.{◌≡◌, ◌∙◌, refl, sym, ap, subst, inl, inr, ℕ, Bool, true, false, List, [], ◌∷◌, ◌++◌}
+use Rattle.std.proofs.Common.{◌≡◌, ◌⊎◌, ◌∙◌, refl, sym, ap, subst, inl, inr, ℕ, Bool, true, false, List, [], ◌∷◌, ◌++◌}
 use Rattle.std.proofs.Common.{Option, Some, None, if◌then◌else◌, append_assoc, append-nil}
+use Rattle.std.specs.Io.KnownBytes.{Consumes}
 use Rattle.redis_connection.specs.Link.{Link}
+use Rattle.redis_connection.specs.Passing.{AwaitsAnswer}
+use Rattle.redis_connection.specs.declared.error.ConnectionError.TheVariants.{Memory as OutOfMemory}
 use Rattle.redis_wire.specs.Reply as wire
-use Rattle.stream_group.specs.Worker.{Id, Verdict, Machine, after, entries_in, told_in}
+use Rattle.stream_group.specs.Worker.{Id, Verdict, Machine, after, begins_again, entries_in, told_in}
 use Rattle.stream_in_place.specs.Sent.{Pairs}
 use Rattle.stream_worker.specs.Answered.{Failed, IsNoAnswer}
 use Rattle.stream_worker.specs.Answers.{Heard, told, no_group, group_made, group_after, hears}
@@ -15,7 +18,7 @@ use Rattle.stream_worker.specs.Pipelined.{FailsPipelined, WentPipelined}
 use Rattle.stream_worker.specs.Questions.{asks}
 use Rattle.stream_worker.specs.Requested.{Unasked}
 use Rattle.stream_worker.specs.Session.{Standing, Turn, Turned, Breaks, Fails, after_failure, after_turn, asking}
-use Rattle.stream_worker.specs.Session.{having_heard}
+use Rattle.stream_worker.specs.Session.{having_heard, FailsUnanswered, IsAsked}
 use Rattle.stream_worker.specs.declared.error.RequestError.{RequestError}
 use Rattle.stream_worker.specs.declared.error.RequestError.TheVariants.{NotCommitted, TooLong, Memory}
 use Rattle.stream_worker.specs.declared.error.RunError.{RunError}
@@ -28,11 +31,34 @@ use Rattle.stream_worker.specs.declared.state.GroupState.{GroupState}
 use Rattle.stream_worker.specs.declared.state.Settings.{Settings}
 use Rattle.stream_worker.specs.declared.worker.Progress.{Progress}
 use Rattle.stream_worker.specs.declared.worker.Progress.TheVariants.{GoesOn, Stopped}
-use Rattle.stream_letters.specs.Besides.{Besides, BreaksBesides}
-use Rattle.stream_letters.proofs.BesidesLemmas.{no_more}
+use Rattle.stream_letters.specs.Besides.{Besides, BreaksBesides, BreaksLooking, Looks, nothing}
+use Rattle.stream_letters.proofs.BesidesLemmas.{no_more, one_look}
 use Rattle.stream_loop.specs.Loop.{Loops, Stops, Drains, IsLeft, ends, besides, turns, breaks, stops, fails}
 use Rattle.stream_loop.specs.Shown.{IsPicture, Leads, LeadsSo, Way, with_doings}
+use Rattle.stream_worker.proofs.SessionLemmas.{failing}
 use Rattle.stream_loop.proofs.LivedLemmas.{loops_both, loops_stop}
+
+nothing_consumed : (c : Option (List ℕ)) → Consumes c c []
+nothing_consumed None = tt
+nothing_consumed (Some bytes) = refl
+
+-- nothing came in
+nothing_came : (l : Link) → AwaitsAnswer l l
+nothing_came l = record {
+  count = 0;
+  between = l;
+  passes = refl;
+  waits = (
+    [],
+    record {
+      consumes = nothing_consumed l.coming;
+      bytes = sym (append-nil l.held.bytes);
+      limits = refl;
+      written = refl;
+      passed = refl;
+    },
+  );
+}
 
 -- where a worker stands
 abbrev standing : {H : Type 0} → Machine → GroupState → Asked → H → Standing H
@@ -255,13 +281,18 @@ module _ {H P : Type 0} (vH : H → List ℕ × Pairs → Verdict → H) (cH : H
       leads_so p (Loops settings) old new w x d t.0 (deleted_told settings v t.2.turn.answer ++ []) t.1
       (turns old new new v t.0 t.0 asked [] t.2 (ends new t.0))
 
+  -- it stops, and other commands went out then
+  stops_besides : (settings : Settings) (old m new : Link) (w x : Standing H) (asked : Asked)
+      → Turned vH cH settings old m w x asked Stopped → Besides m new → Leads shown (Stops settings) old new w x
+  stops_besides settings old m new w x asked h b p d is =
+      let v = with_doings w d in
+      let t = turned_so settings p old m w x d asked Stopped is h in
+      leads_so p (Stops settings) old new w x d t.0 (deleted_told settings v t.2.turn.answer) t.1
+      (stops old old m new v v t.0 asked [] (ends old v) t.2 b)
+
   pub round_stops : (settings : Settings) (old new : Link) (w x : Standing H) (asked : Asked)
       → Turned vH cH settings old new w x asked Stopped → Leads shown (Stops settings) old new w x
-  round_stops settings old new w x asked h p d is =
-      let v = with_doings w d in
-      let t = turned_so settings p old new w x d asked Stopped is h in
-      leads_so p (Stops settings) old new w x d t.0 (deleted_told settings v t.2.turn.answer) t.1
-      (stops old old new v v t.0 asked [] (ends old v) t.2)
+  round_stops settings old new w x asked h = stops_besides settings old new new w x asked h (nothing new)
 
   -- it fails, and so much of what went out is left
   fails_leaving : (settings : Settings) (old k new : Link) (w x : Standing H) (e : RunError)
@@ -320,7 +351,43 @@ module _ {H P : Type 0} (vH : H → List ℕ × Pairs → Verdict → H) (cH : H
       → FailsPipelined vH cH settings old new w x e → Leads shown (Stops settings) old new w x
   pipelined_fails settings old new w x e (inl f) = round_fails settings old new w x e f
   pipelined_fails settings old new w x e (inr (inl (m, c, f, leaves, names))) =
-      fails_leaving settings old m new w x c f (λ d. inr (c, e, leaves))
+      fails_leaving settings old m new w x c f (λ d. inr (inl (c, e, leaves)))
   pipelined_fails settings old new w x e (inr (inr (m, y, t, f))) =
       leads_stop settings old m new w y x (round_goes_on settings old m w y Acknowledgement t)
       (round_fails settings m new y x e f)
+
+  -- ---- a round, and a command after it that only looks
+
+  pub looked_ok : (settings : Settings) (old m new : Link) (w x : Standing H) (asked : Asked) (r : Progress)
+      → r ≡ GoesOn → Turned vH cH settings old m w x asked r → Looks m new → Leads shown (Loops settings) old new w x
+  looked_ok settings old m new w x asked r is t l =
+      leads_both settings old m new w x x (round_ok settings old m w x asked r is t)
+      (leads_besides settings m new x (one_look m new l))
+
+  pub looked_stopped : (settings : Settings) (old m new : Link) (w x : Standing H) (asked : Asked) (r : Progress)
+      → r ≡ Stopped → Turned vH cH settings old m w x asked r → Looks m new → Leads shown (Stops settings) old new w x
+  looked_stopped settings old m new w x asked r is t l =
+      stops_besides settings old m new w x asked
+      (subst (λ (k : Progress). Turned vH cH settings old m w x asked k) is t) (one_look m new l)
+
+  pub looked_fails : (settings : Settings) (old m new : Link) (w x : Standing H) (e : RunError)
+      → Fails vH cH settings old m w x e → Looks m new → Leads shown (Stops settings) old new w x
+  looked_fails settings old m new w x e f l =
+      fails_leaving settings old m new w x e f
+      (λ d. inr (inr (record { link = m; passed = inl refl; looked = inl l })))
+
+  -- no reply came
+  pub unanswered_fails : (settings : Settings) (old new : Link) (w x : Standing H) (e : RunError)
+      → FailsUnanswered cH settings old new w x e → Leads shown (Stops settings) old new w x
+  unanswered_fails settings old new w x e f =
+      round_fails settings old new w x e (f.0, failing vH cH settings old new w f.0 e f.1, f.2)
+
+  -- it asked, and its reply was passed over: for the worker it is as if none had come
+  pub passed_over : (settings : Settings) (old m new : Link) (w y x : Standing H) (a : wire.Answer)
+      → IsAsked cH settings old m w y a → x ≡ record y { machine = begins_again y.machine }
+      → Looks m new ⊎ BreaksLooking m new → Leads shown (Stops settings) old new w x
+  passed_over settings old m new w y x a asked is l =
+      let sent : Link = asked.1.between in
+      fails_leaving settings old sent new w x (causes.Receive y.asked OutOfMemory)
+      (y, (asked.0, (sent, asked.1.sends, nothing_came sent), tt, tt, refl), is)
+      (λ d. inr (inr (record { link = m; passed = inr (a, asked.1.receives); looked = l })))

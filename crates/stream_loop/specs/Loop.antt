@@ -1,6 +1,8 @@
 -- The rounds of a worker over one connection, one after the other.
 use Rattle.std.specs.Prelude.{◌≡◌, ◌⊎◌, List, [], ◌++◌}
 use Rattle.redis_connection.specs.Link.{Link}
+use Rattle.redis_connection.specs.Passing.{ReceivesAnswer}
+use Rattle.redis_wire.specs.Reply as wire
 use Rattle.stream_group.specs.Worker.{Id}
 use Rattle.stream_worker.specs.Gathered.{Doings, done_too, committed_too}
 use Rattle.stream_worker.specs.Life.{deleted_told, deleted_at}
@@ -10,7 +12,13 @@ use Rattle.stream_worker.specs.declared.error.RunError.{RunError}
 use Rattle.stream_worker.specs.declared.state.Asked.{Asked}
 use Rattle.stream_worker.specs.declared.state.Settings.{Settings}
 use Rattle.stream_worker.specs.declared.worker.Progress.TheVariants.{GoesOn, Stopped}
-use Rattle.stream_letters.specs.Besides.{Besides, BreaksBesides}
+use Rattle.stream_letters.specs.Besides.{Besides, BreaksBesides, BreaksLooking, Looks}
+
+-- its reply was passed over, or it had come before; and then a command that only looks was asked, or broke off
+pub record Looked (old new : Link) : Type 0 where
+  pub link : Link
+  pub passed : (link ≡ old) ⊎ ((a : wire.Answer) × ReceivesAnswer old link a)
+  pub looked : Looks link new ⊎ BreaksLooking link new
 
 module _ (settings : Settings) where
   -- rounds after which the worker goes on, and other commands between them. In these rounds the server said that the
@@ -23,19 +31,20 @@ module _ (settings : Settings) where
         (t : Turned done_too committed_too settings l m v u asked GoesOn) → Loops m u n y told
         → Loops l v n y (deleted_told settings v t.turn.answer ++ told)
 
-  -- nothing more went out; or the question went out with the acknowledgement that failed
+  -- nothing more went out; or the question went out with the acknowledgement that failed; or it was looked then
   abbrev pub IsLeft : Link → Link → Standing Doings → Type 0
   IsLeft old new v = (new ≡ old)
-      ⊎ ((e f : RunError) × LeavesNext old new (next_command settings (asking committed_too settings v)) e f)
+      ⊎ (((e f : RunError) × LeavesNext old new (next_command settings (asking committed_too settings v)) e f)
+      ⊎ Looked old new)
 
   -- such rounds, and then an end: another command broke off, or something else did; or the handler said to stop; or a
   -- round failed, after which the worker asks nothing more
   pub data Stops : Link → Standing Doings → Link → Standing Doings → List Id → Type 0 where
     breaks : (l m n : Link) (v y : Standing Doings) (told : List Id) → Loops l v m y told → BreaksBesides m n
         → Stops l v n y told
-    stops : (l m n : Link) (v u y : Standing Doings) (asked : Asked) (told : List Id) → Loops l v m u told
-        → (t : Turned done_too committed_too settings m n u y asked Stopped)
-        → Stops l v n y (told ++ deleted_told settings u t.turn.answer)
+    stops : (l m n k : Link) (v u y : Standing Doings) (asked : Asked) (told : List Id) → Loops l v m u told
+        → (t : Turned done_too committed_too settings m n u y asked Stopped) → Besides n k
+        → Stops l v k y (told ++ deleted_told settings u t.turn.answer)
     fails : (l m k n : Link) (v u y : Standing Doings) (e : RunError) (told : List Id) → Loops l v m u told
         → (f : Fails done_too committed_too settings m k u y e) → IsLeft k n u
         → Stops l v n y (told ++ deleted_at settings m k u y e f)

@@ -35,7 +35,7 @@ module _ (s : Setting Fields) (settings : Settings) where
   abbrev pub stop_events : (old new : Link) (v y : Standing Doings) (told : List Id)
       → Stops settings old v new y told → List Meantime → Meantime → List (Event Fields)
   stop_events old new v y told (breaks l m n u x ids p b) ms e = loop_events l m u x ids p ms
-  stop_events old new v y told (stops l m n u x z asked ids p t) ms e =
+  stop_events old new v y told (stops l m n k u x z asked ids p t b) ms e =
       loop_events l m u x ids p ms ++ round_events settings x e t.turn.verdicts
   stop_events old new v y told (fails l m k n u x z error ids p f left) ms e =
       loop_events l m u x ids p ms ++ failure_events settings m k x z e error f
@@ -43,7 +43,7 @@ module _ (s : Setting Fields) (settings : Settings) where
   abbrev pub HearsToTheEnd : List (Event Fields) → (old new : Link) (v y : Standing Doings) (told : List Id)
       → Stops settings old v new y told → List Meantime → Meantime → Type 0
   HearsToTheEnd events old new v y told (breaks l m n u x ids p b) ms e = HearsEach events l m u x ids p ms
-  HearsToTheEnd events old new v y told (stops l m n u x z asked ids p t) ms e = HearsEach events l m u x ids p ms
+  HearsToTheEnd events old new v y told (stops l m n k u x z asked ids p t b) ms e = HearsEach events l m u x ids p ms
       × HearsTheAnswer settings x e s (after s (events ++ loop_events l m u x ids p ms)) t.turn.answer
   HearsToTheEnd events old new v y told (fails l m k n u x z error ids p f left) ms e = HearsEach events l m u x ids p ms
       × FailsHearing settings m k x z e s (after s (events ++ loop_events l m u x ids p ms)) error f

@@ -1,4 +1,4 @@
-use Rattle.std.proofs.Common.{inr, refl, subst, sym}
+use Rattle.std.proofs.Common.{inl, inr, refl, subst, sym}
 use Rattle.stream_letters.specs.Besides.{OnlyLooks, nothing}
 use Rattle.stream_letters.proofs.BesidesLemmas.{looked, looked_not, one_look}
 use Rattle.stream_drain.proofs.drain.backlog_told.Goals as goal
@@ -8,8 +8,8 @@ returns-in_default-clause-ok g c = nothing c.args.connection.now
 
 pub returns-in-Ok-clause-ok : goal.returns-in-Ok-clause-ok
 returns-in-Ok-clause-ok g c = one_look _ _
-    (looked _ _ _ _ _ (subst OnlyLooks (sym c.xinfo_groups-asked.ensures) (inr refl)) c.in-Ok.ensures.ok)
+    (looked _ _ _ _ _ (subst OnlyLooks (sym c.xinfo_groups-asked.ensures) (inr (inl refl))) c.in-Ok.ensures.ok)
 
 pub returns-in-Err-clause-err : goal.returns-in-Err-clause-err
 returns-in-Err-clause-err g c = looked_not _ _ _ _ _ c.in-Err.error
-    (subst OnlyLooks (sym c.xinfo_groups-asked.ensures) (inr refl)) c.in-Err.ensures.err
+    (subst OnlyLooks (sym c.xinfo_groups-asked.ensures) (inr (inl refl))) c.in-Err.ensures.err

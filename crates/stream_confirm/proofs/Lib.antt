@@ -1,0 +1,2 @@
+-- Lemmas on confirmed rounds.
+pub mod ConfirmedLemmas

@@ -1,0 +1,66 @@
+-- A round of a worker over a connection, and a WAIT before its reply is taken.
+use Rattle.std.specs.Prelude.{◌≡◌, ◌⊎◌, ℕ, List}
+use Rattle.redis_connection.specs.Link.{Link}
+use Rattle.redis_wire.specs.Reply as wire
+use Rattle.stream_feed.specs.Confirmed.{IsConfirmed, IsUnconfirmed}
+use Rattle.stream_feed.specs.declared.confirming.ConfirmError.{ConfirmError}
+use Rattle.stream_feed.specs.declared.wait.Wait.{Wait}
+use Rattle.stream_group.specs.Worker.{Verdict, begins_again}
+use Rattle.stream_in_place.specs.Sent.{Pairs}
+use Rattle.stream_worker.specs.Answered.{Failed, Went}
+use Rattle.stream_worker.specs.Answers.{group_after}
+use Rattle.stream_worker.specs.Session.{Standing, Turned, Fails, FailsUnanswered, IsAsked, after_failure}
+use Rattle.stream_worker.specs.declared.error.RunError.{RunError}
+use Rattle.stream_worker.specs.declared.error.RunError.TheVariants as causes
+use Rattle.stream_worker.specs.declared.state.Asked.{Asked}
+use Rattle.stream_worker.specs.declared.state.Asked.TheVariants.{Nothing}
+use Rattle.stream_worker.specs.declared.state.Settings.{Settings}
+use Rattle.stream_worker.specs.declared.worker.Progress.{Progress}
+use Rattle.stream_confirm.specs.declared.error.RoundError.{RoundError}
+use Rattle.stream_confirm.specs.declared.error.RoundError.TheVariants as ends
+
+module _ {R : Type 0} (with_verdict : R → List ℕ × Pairs → Verdict → R) (settings : Settings) where
+  -- this answer to what was asked brought the worker on
+  abbrev pub TakesConfirmed : wire.Answer → Standing R → Standing R → Asked → Progress → Type 0
+  TakesConfirmed a y x question p = (question ≡ y.asked)
+      × Went with_verdict settings y.asked a y.machine x.machine y.history x.history p
+      × (x.group ≡ group_after settings y.group y.asked a) × (x.asked ≡ Nothing)
+
+  -- it did not, for a reason that the error says, and the worker begins again
+  abbrev pub TakesNot : wire.Answer → Standing R → Standing R → RunError → Type 0
+  TakesNot a y x (causes.Answer e) = (z : Standing R)
+      × Failed with_verdict settings y.asked a y.machine z.machine y.history z.history e.error
+      × (z.group ≡ group_after settings y.group y.asked a) × (z.asked ≡ Nothing) × (e.asked ≡ y.asked)
+      × (x ≡ after_failure (causes.Answer e) z)
+  TakesNot a y x (causes.Request e) = ⊥
+  TakesNot a y x (causes.Send e) = ⊥
+  TakesNot a y x (causes.Receive named e) = ⊥
+
+module _ {R : Type 0} (with_verdict : R → List ℕ × Pairs → Verdict → R) (with_commit : R → R) (settings : Settings)
+    (wait : Wait) (old new : Link) (w x : Standing R) where
+  -- one round was made, and replicas have what it asked
+  pub record IsConfirmedRound (question : Asked) (p : Progress) : Type 0 where
+    pub link : Link
+    pub turned : Turned with_verdict with_commit settings old link w x question p
+    pub confirmed : IsConfirmed wait link new
+
+  -- one round failed, though replicas have what it asked
+  pub record IsConfirmedFailure (e : RunError) : Type 0 where
+    pub link : Link
+    pub fails : Fails with_verdict with_commit settings old link w x e
+    pub confirmed : IsConfirmed wait link new
+
+  -- it asked, and this reply came, which is passed over, since it is not known that replicas have what it asked. What
+  -- was done before stays, nothing is told to the handler, and the worker begins again
+  pub record IsUnconfirmedRound (e : ConfirmError) : Type 0 where
+    pub link : Link
+    pub standing : Standing R
+    pub answer : wire.Answer
+    pub asked : IsAsked with_commit settings old link w standing answer
+    pub unconfirmed : IsUnconfirmed wait link new e
+    pub stands : x ≡ record standing { machine = begins_again standing.machine }
+
+  -- the round had no reply; or it had one, which does not bring it on, or which is not confirmed
+  abbrev pub FailsConfirmed : RoundError → Type 0
+  FailsConfirmed (ends.Run e) = FailsUnanswered with_commit settings old new w x e ⊎ IsConfirmedFailure e
+  FailsConfirmed (ends.Unconfirmed e) = IsUnconfirmedRound e

@@ -1,0 +1,2 @@
+-- What the contracts of a confirmed round speak of.
+pub mod Confirmed

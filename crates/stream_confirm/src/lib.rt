@@ -1,0 +1,9 @@
+//! Rounds of a worker that replicas confirm: its handler is told of an entry only after as many replicas as are wanted
+//! have that it was delivered. So no failover to one of these hands the entry out again as new.
+#![tactic(auto)]
+
+mod error;
+mod round;
+
+pub use error::RoundError;
+pub use round::round_confirmed;
