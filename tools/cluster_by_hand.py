@@ -20,22 +20,31 @@ sys.dont_write_bytecode = True
 import cluster
 
 GROUP, CONSUMER, BATCH, PAUSE = "packers", "ann", 50, 0.1
-ERRORS = (redis.RedisError, OSError, IndexError, KeyError)  # (the client lets errors of its own out while nodes change)
 
 
-def again(work):
-    """Does it until the client tells no error."""
-    while True:
-        try:
-            return work()
-        except ERRORS:
-            time.sleep(PAUSE)
+class Client:
+    """The cluster's client, made anew after an error: its own errors come out of it too while nodes change."""
 
+    def __init__(self, nodes):
+        places = [place.rsplit(":", 1) for place in nodes.split(",")]
+        self.nodes, self.made = [(host, int(port)) for host, port in places], None
 
-def client_of(nodes):
-    places = [place.rsplit(":", 1) for place in nodes.split(",")]
-    nodes = [ClusterNode(host, int(port)) for host, port in places]
-    return again(lambda: RedisCluster(startup_nodes=nodes, socket_timeout=5))
+    def __call__(self):
+        if self.made is None:
+            self.made = RedisCluster(startup_nodes=[ClusterNode(*node) for node in self.nodes], socket_timeout=5)
+        return self.made
+
+    def again(self, work):
+        """Does it until the client tells no error."""
+        while True:
+            try:
+                return work()
+            except Exception:
+                self.fails()
+
+    def fails(self):
+        self.made = None
+        time.sleep(PAUSE)
 
 
 def fill(client, name, partitions, file, skip):
@@ -44,13 +53,13 @@ def fill(client, name, partitions, file, skip):
     keys = [cluster.partition_name(name, at) for at in range(partitions)]
 
     def add(batch):
-        pipeline = client.pipeline()
+        pipeline = client().pipeline()
         for line in batch:
             pipeline.xadd(keys[cluster.partition_of(line, partitions)], {"line": line})
         pipeline.execute()
 
     for at in range(0, len(lines), BATCH):
-        again(lambda batch=lines[at:at + BATCH]: add(batch))
+        client.again(lambda batch=lines[at:at + BATCH]: add(batch))
 
 
 class Drained:
@@ -62,7 +71,7 @@ class Drained:
 
     def begin(self):
         try:
-            self.client.xgroup_create(self.key, GROUP, id="0", mkstream=True)
+            self.client().xgroup_create(self.key, GROUP, id="0", mkstream=True)
         except redis.ResponseError as error:
             if not str(error).startswith("BUSYGROUP"):
                 raise
@@ -70,7 +79,7 @@ class Drained:
     def turn(self):
         """Takes a batch; whether there was one."""
         try:
-            told = self.client.xreadgroup(GROUP, CONSUMER, {self.key: self.start}, count=100)
+            told = self.client().xreadgroup(GROUP, CONSUMER, {self.key: self.start}, count=100)
             entries = told[0][1] if told else []
             if not entries:
                 was_pending, self.start = self.start != ">", ">"
@@ -78,22 +87,25 @@ class Drained:
             self.file.write(b"".join(fields[b"line"] + b"\n" for _id, fields in entries if fields))
             self.file.flush()
             os.fsync(self.file.fileno())
-            self.client.xack(self.key, GROUP, *(id for id, _fields in entries))
+            self.client().xack(self.key, GROUP, *(id for id, _fields in entries))
             return True
-        except ERRORS:
+        except Exception:
             self.start = "0"
-            time.sleep(PAUSE)
-            again(self.begin)
+            self.client.fails()
+            self.client.again(self.begin)
             return True
 
 
 def drain(client, name, file, which, *words):
-    signal.signal(signal.SIGTERM, lambda *_: sys.exit(128 + signal.SIGTERM))
+    told = []
+    signal.signal(signal.SIGTERM, lambda *_: told.append(True))
     parts = [Drained(client, cluster.partition_name(name, int(at)), f"{file}.{at}") for at in which.split(",")]
     for part in parts:
-        again(part.begin)
+        client.again(part.begin)
     while True:
         took = [part.turn() for part in parts]
+        if told:
+            sys.exit(128 + signal.SIGTERM)
         if not any(took):
             if words == ("--until-empty",):
                 return
@@ -105,7 +117,7 @@ def main(words):
         print(__doc__.strip())
         return
     end, nodes, name, partitions, file, *rest = words
-    client = client_of(nodes)
+    client = Client(nodes)
     if end == "fill":
         fill(client, name, int(partitions), file, *rest)
     else:
