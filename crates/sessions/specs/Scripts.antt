@@ -36,3 +36,13 @@ is_together_script name = if bytes_eq name (codes "cuts") then true
     else if bytes_eq name (codes "schedules") then true
     else if bytes_eq name (codes "settles") then true
     else false
+
+-- whether `outbox` plays a script of this name
+abbrev pub is_outbox_script : List ℕ → Bool
+is_outbox_script name = if bytes_eq name (codes "outbox") then true
+    else false
+
+-- whether `producer` plays a script of this name
+abbrev pub is_producer_script : List ℕ → Bool
+is_producer_script name = if bytes_eq name (codes "producer") then true
+    else false

@@ -1,6 +1,6 @@
 //! Plays scripts of its standard input, and prints what happens: a command to a server in memory, a
-//! session of a worker, a connection whose reader or writer fails, workers over a server whose
-//! connections break.
+//! session of a worker or of a producer, a connection whose reader or writer fails, workers over a
+//! server whose connections break.
 //!
 //! A script ends with an empty line. Its first line says what is played; a line before it that
 //! begins with `#` is its title. Bytes are in it as text, with `\r` and `\n` for the ends of lines, and
@@ -18,10 +18,14 @@
 //! | `streams 3 8 a b` | a command; then a worker for each stream, so many turns each |
 //! | `cuts 2`, `crashes 2 60`, `gone 2 30`, `schedules 1000` | none, see `together` |
 //! | `settles 2 3` | none; two workers take so many entries |
+//! | `outbox` | what a worker with an outbox does, or a command to its server, see `outbox` |
+//! | `producer 100 2 3` | what a producer is asked or hears, see `producer` |
 //!
 //! It ends with 0, or with 2 if memory ran out, or standard input or output failed.
 #![tactic(auto)]
 
+mod outbox;
+mod producer;
 mod together;
 mod worker;
 
@@ -85,7 +89,9 @@ fn play(alloc: Global, script: &str, out: &mut String) -> Result<(), AllocError>
         || poison::play(alloc, name, words, out)?
         || connection::play(alloc, name, words, lines, out)?
         || streams::play(alloc, name, words, lines, out)?
-        || together::play(alloc, name, words, lines, out)?;
+        || together::play(alloc, name, words, lines, out)?
+        || outbox::play(alloc, name, words, lines, out)?
+        || producer::play(alloc, name, words, lines, out)?;
     if is_played {
         return Ok(());
     }

@@ -1,5 +1,4 @@
-//! Plays scripts of a worker with an outbox on its standard input, and prints what happens. A script
-//! ends with an empty line, and has a server in memory and a worker of its own:
+//! A worker with an outbox, over a server in memory of its own. A line is one of these:
 //!
 //! | Line | What happens |
 //! |---|---|
@@ -7,33 +6,46 @@
 //! | `send` | what is in the outbox is sent |
 //! | `commit` | the handler is to commit |
 //! | `killed` | the worker and its outbox are gone, and another worker begins |
-//! | `# ..` | a title |
 //! | another | a command to the server |
 //!
 //! Each has a connection of its own. With `writes 170` at its end it breaks after so many bytes were
 //! written, and with `reads 136` after so many were read.
 //!
 //! The work adds the id of each entry to the stream `out`, and counts its commits. An entry with a field
-//! `leave` is left pending. Ends of lines in a reply are printed as `\r` and `\n`.
-//!
-//! It ends with 0, or with 2 if memory ran out, or standard input or output failed.
-#![tactic(auto)]
+//! `leave` is left pending.
+ghost use Rattle.std.specs.Prelude.{◌≡◌, IfOk, IsTrue};
+ghost use Rattle.sessions.specs.Scripts.{is_outbox_script};
 
 mod work;
 
-use crate::work::Tells;
+use crate::outbox::work::Tells;
+use crate::{number_of, parted, push_exchange, settings_for, text_of};
 use redis_connection::{Connection, ConnectionError};
 use redis_wire::Limits;
 use std::alloc::{AllocError, Global};
-use std::io;
 use std::io::{ErrorKind, Read, Write};
-use std::process::ExitCode;
 use stream_outbox::{OutboxError, PostError, Posting};
 use stream_server::{Loopback, Server};
-use stream_worker::{Handler, MakeGroup, NotCommitted, RequestError, RunError, Settings, Worker};
+use stream_worker::{Handler, MakeGroup, NotCommitted, RequestError, RunError, Worker};
 
-/// Memory ran out, or standard input or output failed.
-const FAILED: u8 = 2;
+/// Plays a worker with an outbox; false if the script is another one.
+pub fn play(
+    alloc: Global,
+    name: &str,
+    _words: &str,
+    lines: &str,
+    out: &mut String,
+) -> Result<bool, AllocError>
+    ensures { IfOk result (λ played. IsTrue played → IsTrue (is_outbox_script name.now)) }
+{
+    match name {
+        "outbox" => {
+            play_lines(alloc, lines, out)?;
+            Ok(true)
+        }
+        _ => Ok(false),
+    }
+}
 
 /// A worker, and its handler.
 #[derive(Drop)]
@@ -42,51 +54,9 @@ struct Side {
     posting: Posting<Tells>,
 }
 
-fn main(rt: HostRuntime) -> ExitCode {
-    match play_all(&rt) {
-        Ok(()) => ExitCode::SUCCESS,
-        Err(_error) => ExitCode::from(FAILED),
-    }
-}
-
-/// Plays each script, and prints its transcript.
-fn play_all(rt: &HostRuntime) -> io::Result<()> {
-    let alloc = rt.alloc();
-    let mut input = String::new(alloc);
-    let _len = rt.reader().read_to_string(&mut input)?;
-    let mut output = io::writer(rt);
-    for script in input.as_str().trim_end().split("\n\n") {
-        let mut transcript = String::new(alloc);
-        play(alloc, script, &mut transcript)?;
-        output.write_all(transcript.as_str().as_bytes())?;
-    }
-    output.flush()
-}
-
-/// Plays a script.
-fn play(alloc: Global, script: &str, out: &mut String) -> io::Result<()> {
-    let loopback = Loopback::new(alloc, Server::new(alloc))?;
-    let mut side = begun(alloc)?;
-    for line in script.lines() {
-        out.push_str(line)?;
-        out.push('\n')?;
-        if !line.starts_with('#') {
-            play_line(alloc, &loopback, &mut side, line, out)?;
-        }
-    }
-    Ok(out.push('\n')?)
-}
-
 /// A worker that begins.
 fn begun(alloc: Global) -> Result<Side, AllocError> {
-    let settings = Settings::new(
-        String::from_str(alloc, "k")?,
-        String::from_str(alloc, "g")?,
-        String::from_str(alloc, "ann")?,
-    );
-    let Ok(mut settings) = settings else {
-        return Err(AllocError);
-    };
+    let mut settings = settings_for(alloc, "k", "ann")?;
     settings.set_make_group(MakeGroup::FromTheFirst);
     Ok(Side {
         worker: Worker::new(alloc, settings),
@@ -94,48 +64,60 @@ fn begun(alloc: Global) -> Result<Side, AllocError> {
     })
 }
 
-/// Plays a line over a new connection.
-fn play_line(
+/// Plays the lines over a server of their own.
+fn play_lines(alloc: Global, lines: &str, out: &mut String) -> Result<(), AllocError> {
+    let Ok(loopback) = Loopback::new(alloc, Server::new(alloc)) else {
+        return Err(AllocError);
+    };
+    let mut side = begun(alloc)?;
+    for line in lines.lines() {
+        let text = done(alloc, &loopback, &mut side, line)?;
+        push_exchange(out, line, text.as_str())?;
+    }
+    Ok(())
+}
+
+/// Does what a line says, over a new connection.
+fn done(
     alloc: Global,
     loopback: &Loopback,
     side: &mut Side,
     line: &str,
-    out: &mut String,
-) -> io::Result<()> {
-    let (mut reader, mut writer) = loopback.connect()?;
+) -> Result<String, AllocError> {
+    let Ok((mut reader, mut writer)) = loopback.connect() else {
+        return Err(AllocError);
+    };
     if let Some((_rounds, bytes)) = line.split_once(" reads ") {
         reader.break_after(number_of(bytes));
     }
     if let Some((_rounds, bytes)) = line.split_once(" writes ") {
         writer.break_after(number_of(bytes));
     }
-    play_over(alloc, reader, writer, side, line, out)
+    done_between(alloc, reader, writer, side, line)
 }
 
-/// Plays a line over these ends.
-fn play_over<R: Read + Drop, W: Write + Drop>(
+/// Does what a line says, over a connection of these ends.
+fn done_between<R: Read + Drop, W: Write + Drop>(
     alloc: Global,
     reader: R,
     writer: W,
     side: &mut Side,
     line: &str,
-    out: &mut String,
-) -> io::Result<()> {
+) -> Result<String, AllocError> {
     let mut connection = Connection::new(alloc, reader, writer, Limits::default())?;
-    let text = done(alloc, &mut connection, side, line)?;
-    Ok(write!(out, "= {text}\n")?)
+    done_over(alloc, &mut connection, side, line)
 }
 
-/// Does what a line says.
-fn done<R: Read + Drop, W: Write + Drop>(
+/// Does what a line says, over a connection.
+fn done_over<R: Read + Drop, W: Write + Drop>(
     alloc: Global,
     connection: &mut Connection<R, W>,
     side: &mut Side,
     line: &str,
 ) -> Result<String, AllocError> {
-    let (verb, words) = parted(line);
+    let (verb, words) = parted(line, ' ');
     match verb {
-        "rounds" => turned(alloc, connection, side, number_of(parted(words).0)),
+        "rounds" => turned(alloc, connection, side, number_of(parted(words, ' ').0)),
         "send" => sent(alloc, connection, side),
         "commit" => committed(alloc, side),
         "killed" => {
@@ -144,16 +126,6 @@ fn done<R: Read + Drop, W: Write + Drop>(
         }
         _ => answered(alloc, connection, line),
     }
-}
-
-/// The first word, and the others.
-fn parted(words: &str) -> (&str, &str) {
-    words.split_once(' ').unwrap_or((words, ""))
-}
-
-/// The number that a word is, or 0.
-fn number_of(word: &str) -> usize {
-    word.parse().unwrap_or(0)
 }
 
 /// Makes so many rounds, to the first that breaks off.
@@ -224,19 +196,6 @@ fn answered<R: Read + Drop, W: Write + Drop>(
         Ok(len) => text_of(alloc, connection.received(len)),
         Err(_) => Err(AllocError),
     }
-}
-
-/// Bytes, with the ends of lines as `\r` and `\n`.
-fn text_of(alloc: Global, bytes: &[u8]) -> Result<String, AllocError> {
-    let mut text = String::new(alloc);
-    for byte in bytes {
-        match *byte {
-            b'\r' => text.push_str("\\r")?,
-            b'\n' => text.push_str("\\n")?,
-            byte => text.push(char::from(byte))?,
-        }
-    }
-    Ok(text)
 }
 
 /// Why a round broke off before anything was posted; an `Err` if memory ran out.
