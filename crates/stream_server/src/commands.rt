@@ -533,7 +533,7 @@ fn put_part(group: &mut Group, part: Group, room: Option<Room>) {
     if let (Some(room), Some(consumer)) = (room, part.consumers.first()) {
         let _number = group.see_in(room, consumer.seen_at);
     }
-    for pending in &part.pending {
-        let _given = group.give(*pending);
+    for held in part.pending.into_vec() {
+        let _given = group.put(held);
     }
 }

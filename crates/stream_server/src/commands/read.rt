@@ -26,7 +26,7 @@ use crate::answer::Answer;
 use crate::refusal::Refusal;
 use own::{deliver_again, read_own};
 use std::alloc::{AllocError, Global};
-use stream_store::{EntryId, Group, Pending, Room, Stream};
+use stream_store::{EntryId, Group, Held, Pending, Room, Stream};
 
 /// Where reading of one stream begins.
 #[derive(Clone, Copy)]
@@ -486,14 +486,15 @@ fn take_up(
     most: u64,
 ) -> Result<(), AllocError> {
     let mut left = most;
-    for pending in group.pending.range(group.start(first)..) {
+    for held in group.pending.range(group.start(first)..) {
         if left == 0 {
             break;
         }
+        let pending = held.get();
         if pending.consumer == number {
             left -= 1;
             if part.get(pending.id).is_none() {
-                part.give(*pending)?;
+                part.give(pending)?;
             }
         }
     }
@@ -512,14 +513,14 @@ fn reread(
     let mut answers = Vec::new(alloc);
     let mut left = reader.most;
     let start = part.start(first);
-    for pending in part.pending.iter_mut().skip(start) {
+    for held in part.pending.iter_mut().skip(start) {
         if left == 0 {
             break;
         }
         left -= 1;
         put(
             &mut answers,
-            given_again(alloc, stream, pending, reader.now)?,
+            given_again(alloc, stream, held, reader.now)?,
         )?;
     }
     Ok(answers)
@@ -529,15 +530,19 @@ fn reread(
 fn given_again(
     alloc: Global,
     stream: &Stream,
-    pending: &mut Pending,
+    held: &mut Held,
     now: u64,
 ) -> Result<Answer, AllocError> {
+    let pending = held.get();
     let Some(entry) = stream.get(pending.id) else {
         return array(alloc, [Answer::Id(pending.id), Answer::NilArray]);
     };
     let answer = entry_answer(alloc, entry)?;
-    pending.given_at = now;
-    pending.deliveries = pending.deliveries.saturating_add(1);
+    held.set(Pending {
+        given_at: now,
+        deliveries: pending.deliveries.saturating_add(1),
+        ..pending
+    });
     Ok(answer)
 }
 
@@ -612,22 +617,17 @@ fn read_up_to(stream: &Stream, before: Option<i64>, id: EntryId) -> Option<i64> 
 
 /// What the part holds is pending in the group for the consumer that the room is for, and the group
 /// has delivered as much as the part. With the room, no memory is asked for.
-fn put_read(group: &mut Group, part: &Group, room: Room, now: u64)
-    ensures { HasRoom room group.old → HasPlaces (length part.now.pending.items) room group.old
-        → IsPut room.name.items now part.now group.old group.new }
+fn put_read(group: &mut Group, part: Group, room: Room, now: u64)
+    ensures { HasRoom room group.old → HasPlaces (length part.pending.items) room group.old
+        → IsPut room.name.items now part group.old group.new }
 {
     group.last_id = part.last_id;
     group.entries_read = part.entries_read;
     let Ok(number) = group.see_in(room, now) else {
         return;
     };
-    for pending in &part.pending {
-        let _given = group.give(Pending {
-            id: pending.id,
-            consumer: number,
-            given_at: pending.given_at,
-            deliveries: pending.deliveries,
-        });
+    for held in part.pending.into_vec() {
+        let _given = group.put(held.for_consumer(number));
     }
 }
 
@@ -674,7 +674,7 @@ fn read_one(
         return Ok(Answer::NilArray);
     };
     let Outcome { answer, part, room } = read;
-    put_read(&mut streams[index].groups[place], &part, room, reader.now);
+    put_read(&mut streams[index].groups[place], part, room, reader.now);
     Ok(answer)
 }
 

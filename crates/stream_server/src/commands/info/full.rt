@@ -103,10 +103,11 @@ fn pending_rows(
 ) -> Result<Vec<Answer>, AllocError> {
     let mut rows = Vec::new(alloc);
     let mut left = most;
-    for pending in &group.pending {
+    for held in &group.pending {
         if left == 0 {
             break;
         }
+        let pending = held.get();
         let is_wanted = match only {
             Some(number) => pending.consumer == number,
             None => true,
@@ -126,7 +127,7 @@ fn pending_rows(
 fn pending_row(
     alloc: Global,
     group: &Group,
-    pending: &Pending,
+    pending: Pending,
     is_asked_for: bool,
 ) -> Result<Answer, AllocError> {
     let id = Answer::Id(pending.id);

@@ -83,13 +83,14 @@ fn pending_for(
 {
     let mut own = Vec::new(alloc);
     let mut left = most;
-    for pending in group.pending.range(start_behind(group, behind)..) {
+    for held in group.pending.range(start_behind(group, behind)..) {
         if left == 0 {
             break;
         }
+        let pending = held.get();
         if pending.consumer == number {
             left -= 1;
-            own.push(*pending)?;
+            own.push(pending)?;
         }
     }
     Ok(own)
