@@ -94,8 +94,8 @@ fn rows(
         None => None,
     };
     let mut left = wanted.most;
-    for held in group.pending.range(group.start(wanted.start)..) {
-        let pending = held.get();
+    for pending in group.pending.range(group.start(wanted.start)..) {
+        let pending = pending.get();
         if pending.id > wanted.end || left == 0 {
             break;
         }

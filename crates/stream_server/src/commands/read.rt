@@ -1,8 +1,9 @@
 //! `XREAD`, `XREADGROUP`.
-ghost use Rattle.std.specs.Prelude.{◌≡◌, ◌≢◌, ◌≤◌, codes, drop, false, length, map, IfOk, OnErr, OnOk};
+ghost use Rattle.std.specs.Prelude.{◌≡◌, ◌≢◌, ◌≤◌, ◌<◌, codes, drop, false, length, map, IfOk, OnErr, OnOk};
 ghost use Rattle.stream_server.specs.Delivering.{HandsOut, IsDelivered, entries_behind};
 ghost use Rattle.stream_server.specs.Giving.{IsPut};
 ghost use Rattle.stream_server.specs.Kinds.{IsRows};
+ghost use Rattle.stream_server.specs.ReadGroup.{ReadsGroup};
 ghost use Rattle.stream_server.specs.ReadingOne.{IsFound, IsInRows, IsReadIn};
 ghost use Rattle.stream_server.specs.Sent.{array_of, item_list, more_rows, no_rows, rows_of, sent};
 ghost use Rattle.stream_store.specs.Consumers.{HasRoom};
@@ -125,6 +126,48 @@ fn put_stream(
 /// `XREADGROUP GROUP group consumer [COUNT n] [BLOCK ms] [NOACK] STREAMS key .. id ..`. It does not
 /// wait. All memory is taken before the first group is changed.
 pub(super) fn read_group(
+    alloc: Global,
+    streams: &mut [Stream],
+    now: u64,
+    arguments: &[Vec<u8>],
+) -> Result<Answer, Refusal>
+    ensures rows { IfOk result IsRows }
+    ensures one { IfOk result (λ answer. ReadsGroup arguments.now now answer streams.old streams.new) }
+    ensures err { OnErr result (streams.new ≡ streams.old) }
+{
+    match arguments {
+        [first, group, consumer, second, key, text]
+            if is_word(first, "GROUP") && is_word(second, "STREAMS") => {
+            let reader = usual_reader(group, consumer, now, u64::MAX);
+            read_one(alloc, streams, key, text, reader)
+        }
+        [first, group, consumer, second, number, third, key, text]
+            if is_word(first, "GROUP") && is_word(second, "COUNT") && is_word(third, "STREAMS") => {
+            let most = most_after(u64::MAX, second, number)?;
+            let reader = usual_reader(group, consumer, now, most);
+            read_one(alloc, streams, key, text, reader)
+        }
+        _ => read_by_options(alloc, streams, now, arguments),
+    }
+}
+
+/// The consumer that reads so many, each of which is then pending for it.
+fn usual_reader<'a>(group: &'a [u8], consumer: &'a [u8], now: u64, most: u64) -> Reader<'a>
+    ensures group { result.group.now ≡ group.now }
+    ensures consumer { result.consumer.now ≡ consumer.now }
+    ensures others { (result.now ≡ now) × (result.most ≡ most) × (result.noack ≡ false) }
+{
+    Reader {
+        group,
+        consumer,
+        noack: false,
+        now,
+        most,
+    }
+}
+
+/// Reads as the options say, in any order.
+fn read_by_options(
     alloc: Global,
     streams: &mut [Stream],
     now: u64,
@@ -335,7 +378,9 @@ fn option_at<'a>(
 }
 
 /// Reads `BLOCK ms` or `COUNT n`, and gives how many entries are read at most.
-fn most_after(most: u64, word: &[u8], text: &[u8]) -> Result<u64, Refusal> {
+fn most_after(most: u64, word: &[u8], text: &[u8]) -> Result<u64, Refusal>
+    ensures { IfOk result (λ n. 0 < most → 0 < n) }
+{
     if is_word(word, "BLOCK") {
         check_timeout(text)?;
         return Ok(most);
@@ -486,11 +531,11 @@ fn take_up(
     most: u64,
 ) -> Result<(), AllocError> {
     let mut left = most;
-    for held in group.pending.range(group.start(first)..) {
+    for pending in group.pending.range(group.start(first)..) {
         if left == 0 {
             break;
         }
-        let pending = held.get();
+        let pending = pending.get();
         if pending.consumer == number {
             left -= 1;
             if part.get(pending.id).is_none() {
@@ -513,14 +558,14 @@ fn reread(
     let mut answers = Vec::new(alloc);
     let mut left = reader.most;
     let start = part.start(first);
-    for held in part.pending.iter_mut().skip(start) {
+    for pending in part.pending.iter_mut().skip(start) {
         if left == 0 {
             break;
         }
         left -= 1;
         put(
             &mut answers,
-            given_again(alloc, stream, held, reader.now)?,
+            given_again(alloc, stream, pending, reader.now)?,
         )?;
     }
     Ok(answers)
@@ -626,8 +671,8 @@ fn put_read(group: &mut Group, part: Group, room: Room, now: u64)
     let Ok(number) = group.see_in(room, now) else {
         return;
     };
-    for held in part.pending.into_vec() {
-        let _given = group.put(held.for_consumer(number));
+    for pending in part.pending.into_vec() {
+        let _given = group.put(pending.for_consumer(number));
     }
 }
 

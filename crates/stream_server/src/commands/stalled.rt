@@ -244,8 +244,8 @@ fn stalled_in(
     let mut next = EntryId::ZERO;
     let mut left = claim.most;
     let mut attempts = claim.most.saturating_mul(10);
-    for held in group.pending.range(group.start(claim.start)..) {
-        let pending = held.get();
+    for pending in group.pending.range(group.start(claim.start)..) {
+        let pending = pending.get();
         if attempts == 0 || left == 0 {
             next = pending.id;
             break;

@@ -103,11 +103,11 @@ fn pending_rows(
 ) -> Result<Vec<Answer>, AllocError> {
     let mut rows = Vec::new(alloc);
     let mut left = most;
-    for held in &group.pending {
+    for pending in &group.pending {
         if left == 0 {
             break;
         }
-        let pending = held.get();
+        let pending = pending.get();
         let is_wanted = match only {
             Some(number) => pending.consumer == number,
             None => true,

@@ -83,11 +83,11 @@ fn pending_for(
 {
     let mut own = Vec::new(alloc);
     let mut left = most;
-    for held in group.pending.range(start_behind(group, behind)..) {
+    for pending in group.pending.range(start_behind(group, behind)..) {
         if left == 0 {
             break;
         }
-        let pending = held.get();
+        let pending = pending.get();
         if pending.consumer == number {
             left -= 1;
             own.push(pending)?;
