@@ -16,7 +16,7 @@ use Rattle.stream_group.proofs.Numbers.{below_further, id_text_injective, not_be
 use Rattle.stream_group.specs.Group as group_model
 use Rattle.stream_group.specs.Group.{Numbers, fits, ids_of, is_below, listed}
 use Rattle.stream_group.specs.Worker as worker_model
-use Rattle.stream_group.specs.World.{World, Append, appended, happens, log_of}
+use Rattle.stream_group.specs.World.{World, Append, happens, log_of}
 use Rattle.stream_store.proofs.LawLemmas.{entry_laws}
 use Rattle.stream_store.specs.EntryId.{id_text}
 use Rattle.stream_store.specs.Order.{id_order}
@@ -202,7 +202,7 @@ module _ (key name : List ℕ) (asked : NewId) (fields : Fields) (given : Vec (V
   }
 
 -- a stream that is there is not missing
-never : (key name : List ℕ) (old : List Stream) (w : World Fields) → IsModelIn key name (map seen_stream old) w
+pub never : (key name : List ℕ) (old : List Stream) (w : World Fields) → IsModelIn key name (map seen_stream old) w
     → (AreInOrder (map (λ s. s.key.items) old) → IsMissing key (map (λ s. s.key.items) old)) → ⊥
 never key name old w model none =
     let missing : IsMissing key (map (λ s. s.key) (map seen_stream old)) =

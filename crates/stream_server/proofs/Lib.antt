@@ -1,4 +1,5 @@
-pub mod StreamLemmas
+pub mod SteppingLemmas
+mod StreamLemmas
 pub mod SentLemmas
 pub mod SentReadLemmas
 mod AcknowledgeLemmas
@@ -24,7 +25,9 @@ mod ReadAnswerLemmas
 mod ReadEventLemmas
 mod ReadLemmas
 mod ReadModelLemmas
+mod ReadGroupLemmas
 mod ReadOneLemmas
+mod ReadStepLemmas
 mod NameLemmas
 mod RereadLemmas
 mod RereadLawLemmas

@@ -2,6 +2,7 @@ pub mod Acknowledging
 pub mod Adding
 pub mod Changed
 pub mod Claiming
+pub mod Commands
 pub mod Creating
 pub mod Deleting
 pub mod Delivering
@@ -18,6 +19,7 @@ pub mod ModelRereading
 pub mod Places
 pub mod Quoted
 pub mod ReadBack
+pub mod ReadGroup
 pub mod Reading
 pub mod ReadingOne
 pub mod Refusal
@@ -28,4 +30,5 @@ pub mod Serving
 pub mod Session
 pub mod Shown
 pub mod Stalled
+pub mod Stepping
 pub mod Streams

@@ -1,5 +1,6 @@
 //! The commands by their names, and what they share.
-ghost use Rattle.std.specs.Prelude.{◌≡◌, OnErr};
+ghost use Rattle.std.specs.Prelude.{◌≡◌, IfErr, IfOk, OnErr};
+ghost use Rattle.stream_server.specs.Commands.{IsDone, MayRefuse, PlainIsDone, PlainMayRefuse};
 ghost use Rattle.stream_server.specs.Streams.{seen_streams};
 
 mod add;
@@ -119,6 +120,8 @@ pub(crate) fn run(
     command: Plain,
     words: Vec<Vec<u8>>,
 ) -> Result<Answer, Refusal>
+    ensures done { IfOk result (λ answer. PlainIsDone command words.items now answer streams.old.items streams.new.items) }
+    ensures refused { IfErr result (PlainMayRefuse command words.items) }
     ensures streams { OnErr result (seen_streams streams.new ≡ seen_streams streams.old) }
     ensures session { OnErr result (session.new ≡ session.old) }
 {
@@ -138,7 +141,9 @@ fn run_change(
     change: Change,
     words: Vec<Vec<u8>>,
 ) -> Result<Answer, Refusal>
-    ensures { OnErr result (seen_streams streams.new ≡ seen_streams streams.old) }
+    ensures done { IfOk result (λ answer. IsDone change words.items now answer streams.old.items streams.new.items) }
+    ensures refused { IfErr result (MayRefuse change words.items) }
+    ensures err { OnErr result (seen_streams streams.new ≡ seen_streams streams.old) }
 {
     let [word, arguments @ ..] = words.as_slice() else {
         return Err(SYNTAX);
@@ -533,7 +538,7 @@ fn put_part(group: &mut Group, part: Group, room: Option<Room>) {
     if let (Some(room), Some(consumer)) = (room, part.consumers.first()) {
         let _number = group.see_in(room, consumer.seen_at);
     }
-    for pending in &part.pending {
-        let _given = group.give(*pending);
+    for pending in part.pending.into_vec() {
+        let _given = group.put(pending);
     }
 }

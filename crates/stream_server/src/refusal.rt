@@ -1,6 +1,7 @@
 //! Why a command is refused.
-ghost use Rattle.std.specs.Prelude.{◌≡◌, IfOk};
+ghost use Rattle.std.specs.Prelude.{◌≡◌, ◌≢◌, IfOk, OnOk};
 ghost use Rattle.stream_server.specs.Refusal.{refusal_text};
+ghost use Rattle.stream_server.specs.declared.refusal.Refusal.TheVariants.{Memory};
 
 use std::alloc::{AllocError, AllocFailed, Global};
 
@@ -18,7 +19,8 @@ pub(crate) enum Refusal {
 impl Refusal {
     /// What it says; an `Err` where memory was refused, also for the text.
     pub(crate) fn into_text(self, alloc: Global) -> Result<Vec<u8>, AllocError>
-        ensures { IfOk result (λ text. text.items ≡ refusal_text self) }
+        ensures text { IfOk result (λ text. text.items ≡ refusal_text self) }
+        ensures memory { OnOk result (self ≢ Memory) }
     {
         match self {
             Refusal::Memory => Err(AllocError),

@@ -1,6 +1,8 @@
 //! The server: its streams, and one command after the other.
 ghost use Rattle.std.specs.Prelude.{◌≡◌, [], IfOk, OnErr};
 ghost use Rattle.stream_server.specs.Server.{IsRefused};
+ghost use Rattle.stream_server.specs.Stepping.{XackSteps, XaddSteps, XautoclaimSteps, XdelSteps, XreadgroupSteps};
+ghost use Rattle.stream_server.specs.declared.session.Mode.TheVariants.{AtOnce};
 
 use crate::answer::Reply;
 use crate::session::Session;
@@ -54,6 +56,13 @@ impl Server {
         ensures err { OnErr result (self.new ≡ self.old) }
         ensures session { OnErr result (session.new ≡ session.old) }
         ensures refused { IfOk result (λ r. IsRefused r → self.new ≡ self.old) }
+        ensures xack { IfOk result (λ r. session.old.mode ≡ AtOnce → XackSteps command.items r self.old self.new) }
+        ensures xdel { IfOk result (λ r. session.old.mode ≡ AtOnce → XdelSteps command.items r self.old self.new) }
+        ensures xadd { IfOk result (λ r. session.old.mode ≡ AtOnce → XaddSteps command.items r self.old self.new) }
+        ensures xautoclaim { IfOk result (λ r. session.old.mode ≡ AtOnce
+            → XautoclaimSteps command.items r self.old self.new) }
+        ensures xreadgroup { IfOk result (λ r. session.old.mode ≡ AtOnce
+            → XreadgroupSteps command.items r self.old self.new) }
     {
         transaction::answered(alloc, &mut self.streams, now, session, command)
     }

@@ -1,7 +1,13 @@
 //! `MULTI`, `EXEC`, `DISCARD`, `WATCH`: when commands are done.
-ghost use Rattle.std.specs.Prelude.{◌≡◌, IfOk, OnErr};
+ghost use Rattle.std.specs.Prelude.{◌≡◌, ◌≢◌, ◌<◌, ℕ, length, IfOk, OnErr};
+ghost use Rattle.std.specs.Global.{Vec};
+ghost use Rattle.stream_server.specs.Commands.{IsNamed, PlainReplies, Replies, least_of};
 ghost use Rattle.stream_server.specs.Server.{IsRefused};
 ghost use Rattle.stream_server.specs.Streams.{seen_streams};
+ghost use Rattle.stream_server.specs.declared.commands.Change.{Change};
+ghost use Rattle.stream_server.specs.declared.answer.Reply.TheVariants.{Refused};
+ghost use Rattle.stream_server.specs.declared.refusal.Refusal.TheVariants.{Memory};
+ghost use Rattle.stream_server.specs.declared.session.Mode.TheVariants.{AtOnce};
 
 use crate::answer::{Answer, Reply, Status};
 use crate::commands::{self, Command, Plain, Step};
@@ -38,6 +44,9 @@ pub(crate) fn answered(
     session: &mut Session,
     words: Vec<Vec<u8>>,
 ) -> Result<Reply, AllocError>
+    ensures done { IfOk result (λ r. session.old.mode ≡ AtOnce → (change : Change) → IsNamed change words.items
+        → least_of change < length words.items
+        → Replies change words.items now streams.old.items streams.new.items r) }
     ensures err { OnErr result (seen_streams streams.new ≡ seen_streams streams.old) }
     ensures session { OnErr result (session.new ≡ session.old) }
     ensures refused { IfOk result (λ r. IsRefused r
@@ -62,6 +71,7 @@ fn at_once(
     command: Plain,
     words: Vec<Vec<u8>>,
 ) -> Result<Reply, AllocError>
+    ensures done { IfOk result (PlainReplies command words.items now streams.old.items streams.new.items) }
     ensures err { OnErr result (seen_streams streams.new ≡ seen_streams streams.old) }
     ensures session { OnErr result (session.new ≡ session.old) }
     ensures refused { IfOk result (λ r. IsRefused r
@@ -95,7 +105,9 @@ fn rejected(alloc: Global, session: &mut Session, refusal: Refusal) -> Result<Re
 }
 
 /// Replies that a command is refused.
-fn refused(alloc: Global, refusal: Refusal) -> Result<Reply, AllocError> {
+fn refused(alloc: Global, refusal: Refusal) -> Result<Reply, AllocError>
+    ensures { IfOk result (λ r. (refusal ≢ Memory) × (text : Vec ℕ) × (r ≡ Refused text)) }
+{
     Ok(Reply::Refused(refusal.into_text(alloc)?))
 }
 

@@ -27,6 +27,11 @@ pub record IsRegiven (p : Pending) (old new : Group) : Type 0 where
   pub is : new.pending.items ≡ slice_set old.pending.items index p
   pub counts : new.consumers.items ≡ map (with_more p.consumer) (map (with_less was.consumer) old.consumers.items)
 
+-- it is pending in addition, at this index
+pub record IsGivenAt (index : ℕ) (p : Pending) (old new : Group) : Type 0 where
+  pub is : new.pending.items ≡ insert old.pending.items index p
+  pub counts : new.consumers.items ≡ map (with_more p.consumer) old.consumers.items
+
 -- it is pending in addition, where its id belongs
 pub record IsGivenNew (p : Pending) (old new : Group) : Type 0 where
   pub index : ℕ

@@ -1,5 +1,5 @@
 //! A group of consumers.
-ghost use Rattle.std.specs.Prelude.{◌≡◌, ◌≤◌, ◌+◌, ℕ, [], length, map, vec_capacity, vec_len, IfErr, IfNone, IfOk, IfSome, OnOk, OnErr};
+ghost use Rattle.std.specs.Prelude.{◌≡◌, ◌≤◌, ◌<◌, ◌+◌, ℕ, [], length, map, vec_capacity, vec_len, IfErr, IfNone, IfOk, IfSome, OnOk, OnErr};
 ghost use Rattle.std.specs.VecDeque.{deque_capacity, deque_len};
 ghost use Rattle.std.specs.Bool.{OnTrue, OnFalse};
 ghost use Rattle.std.specs.List.{Contains, HoldsAt};
@@ -7,12 +7,13 @@ ghost use Rattle.std.specs.List.Sorted.{IsSearchInRange};
 ghost use Rattle.stream_store.specs.Order.{IsAscending, IsGapFor, IsNowhere, IsSplitBefore};
 ghost use Rattle.stream_store.specs.Consumers.{HasRoom, IsNewcomer, IsRemoved, IsSeen};
 ghost use Rattle.stream_store.specs.Room.{HasPlaces, IsOpenFor};
-ghost use Rattle.stream_store.specs.Pending.{IsAcknowledged, IsGiven, pending_without, with_less, with_more};
+ghost use Rattle.stream_store.specs.Pending.{IsAcknowledged, IsGiven, IsGivenAt, IsRegiven, pending_without, with_less, with_more};
 
 use crate::entry_id::EntryId;
 use crate::room::Room;
 use std::alloc::{AllocError, Global};
 use std::collections::VecDeque;
+use std::marker::Model;
 
 /// An entry that was given to a consumer and is not acknowledged.
 #[derive(Clone, Copy, Debug, PartialEq, Eq)]
@@ -24,6 +25,54 @@ pub struct Pending {
     pub given_at: u64,
     /// How often it was given.
     pub deliveries: u64,
+}
+
+/// What is pending, in memory of its own. So a list of many moves one word for each.
+///
+/// A contract sees what is pending.
+#[derive(Debug, Drop)]
+pub struct Held {
+    pending: Box<Pending>,
+}
+
+impl Model for Held {
+    ghost use Rattle.stream_store.specs.declared.group.Pending.{Pending};
+
+    ghost Value = { Pending };
+
+    ghost view = { λ held. held.pending.value };
+}
+
+impl Held {
+    /// Takes memory for it.
+    pub fn new(alloc: Global, pending: Pending) -> Result<Held, AllocError>
+        ensures { IfOk result (λ held. held ≡ pending) }
+    {
+        let pending = Box::new(alloc, pending)?;
+        Ok(Held { pending })
+    }
+
+    /// What is pending.
+    pub fn get(&self) -> Pending
+        ensures { result ≡ self.now }
+    {
+        *self.pending
+    }
+
+    /// It is pending for the consumer of this number.
+    pub fn for_consumer(mut self, number: u64) -> Held
+        ensures { result ≡ record self { consumer = number } }
+    {
+        self.pending.consumer = number;
+        self
+    }
+
+    /// It is pending so from now on.
+    pub fn set(&mut self, pending: Pending)
+        ensures { self.new ≡ pending }
+    {
+        *self.pending = pending;
+    }
 }
 
 /// A consumer of a group.
@@ -39,7 +88,7 @@ pub struct Consumer {
 }
 
 /// A group: what it was given last, and what is pending for its consumers.
-#[derive(Clone, Debug, Drop)]
+#[derive(Debug, Drop)]
 pub struct Group {
     pub name: Vec<u8>,
     /// The last id that was delivered.
@@ -47,7 +96,7 @@ pub struct Group {
     /// How many entries were read, where that is known.
     pub entries_read: Option<i64>,
     /// What is pending, in the order of its ids.
-    pub pending: VecDeque<Pending>,
+    pub pending: VecDeque<Held>,
     /// The consumers, in the order of their names.
     pub consumers: Vec<Consumer>,
     /// The number of the next consumer.
@@ -80,7 +129,7 @@ impl Group {
         ensures missing { IfErr result (λ index. IsAscending (λ pending. pending.id) self.now.pending.items
             → IsGapFor (λ pending. pending.id) id self.now.pending.items index) }
     {
-        self.pending.binary_search_by_key(&id, |pending| pending.id)
+        self.pending.binary_search_by_key(&id, |held| held.get().id)
     }
 
     /// The index of the first that is pending with at least this id.
@@ -96,14 +145,14 @@ impl Group {
     }
 
     /// What is pending with this id.
-    pub fn get(&self, id: EntryId) -> Option<&Pending>
-        ensures some { IfSome result (λ pending. pending.now.id ≡ id) }
-        ensures there { IfSome result (λ pending. Contains self.now.pending.items pending.now) }
+    pub fn get(&self, id: EntryId) -> Option<Pending>
+        ensures some { IfSome result (λ pending. pending.id ≡ id) }
+        ensures there { IfSome result (λ pending. Contains self.now.pending.items pending) }
         ensures none { IfNone result (IsAscending (λ pending. pending.id) self.now.pending.items
             → IsNowhere (λ pending. pending.id) id self.now.pending.items) }
     {
         match self.place(id) {
-            Ok(index) => self.pending.get(index),
+            Ok(index) => Some(self.pending[index].get()),
             Err(_) => None,
         }
     }
@@ -239,7 +288,7 @@ impl Group {
         Ok(number)
     }
 
-    /// The entry is pending so, whether it was pending or not.
+    /// The entry is pending so, whether it was pending or not. It asks for memory only if it was not.
     pub fn give(&mut self, pending: Pending) -> Result<(), AllocError>
         ensures ok { OnOk result (IsGiven pending self.old self.new) }
         ensures err { OnErr result (self.new.pending.items ≡ self.old.pending.items) }
@@ -247,18 +296,64 @@ impl Group {
         ensures err_new { OnErr result (IsAscending (λ pending. pending.id) self.old.pending.items
             → IsNowhere (λ pending. pending.id) pending.id self.old.pending.items) }
         ensures others { self.new ≡ record self.old { pending = self.new.pending; consumers = self.new.consumers } }
+    {
+        match self.place(pending.id) {
+            Ok(index) => self.replace(index, pending),
+            Err(index) => {
+                let held = Held::new(*self.pending.allocator(), pending)?;
+                self.insert(index, held)?;
+            }
+        }
+        Ok(())
+    }
+
+    /// The same of what is held. If the group has memory for one more, it asks for none.
+    pub fn put(&mut self, held: Held) -> Result<(), AllocError>
+        ensures ok { OnOk result (IsGiven held self.old self.new) }
+        ensures err { OnErr result (self.new.pending.items ≡ self.old.pending.items) }
+        ensures err_consumers { OnErr result (self.new.consumers ≡ self.old.consumers) }
+        ensures err_new { OnErr result (IsAscending (λ pending. pending.id) self.old.pending.items
+            → IsNowhere (λ pending. pending.id) held.id self.old.pending.items) }
+        ensures others { self.new ≡ record self.old { pending = self.new.pending; consumers = self.new.consumers } }
         ensures full { OnErr result (IsOpenFor 1 self.old → ⊥) }
         ensures places { (more : ℕ) → IsOpenFor (more + 1) self.old → IsOpenFor more self.new }
     {
+        let pending = held.get();
         match self.place(pending.id) {
-            Ok(index) => {
-                let old = self.pending[index].consumer;
-                self.pending[index] = pending;
-                one_less(&mut self.consumers, old);
-            }
-            Err(index) => self.pending.insert(index, pending)?,
+            Ok(index) => self.replace(index, pending),
+            Err(index) => self.insert(index, held)?,
         }
+        Ok(())
+    }
+
+    /// What is pending with its id is pending so from now on; it is at this index.
+    fn replace(&mut self, index: usize, pending: Pending)
+        requires within { index < length self.old.pending.items }
+        requires named { HoldsAt (λ old. old.id ≡ pending.id) self.old.pending.items index }
+        ensures is { IsRegiven pending self.old self.new }
+        ensures others { self.new ≡ record self.old { pending = self.new.pending; consumers = self.new.consumers } }
+        ensures places { (more : ℕ) → IsOpenFor (more + 1) self.old → IsOpenFor more self.new }
+    {
+        let held = &mut self.pending[index];
+        let old = held.get().consumer;
+        held.set(pending);
+        one_less(&mut self.consumers, old);
         one_more(&mut self.consumers, pending.consumer);
+    }
+
+    /// It is pending in addition, at this index.
+    fn insert(&mut self, index: usize, held: Held) -> Result<(), AllocError>
+        requires { index ≤ length self.old.pending.items }
+        ensures ok { OnOk result (IsGivenAt index held self.old self.new) }
+        ensures err { OnErr result (self.new.pending.items ≡ self.old.pending.items) }
+        ensures err_consumers { OnErr result (self.new.consumers ≡ self.old.consumers) }
+        ensures others { self.new ≡ record self.old { pending = self.new.pending; consumers = self.new.consumers } }
+        ensures full { OnErr result (IsOpenFor 1 self.old → ⊥) }
+        ensures places { (more : ℕ) → IsOpenFor (more + 1) self.old → IsOpenFor more self.new }
+    {
+        let consumer = held.get().consumer;
+        self.pending.insert(index, held)?;
+        one_more(&mut self.consumers, consumer);
         Ok(())
     }
 
@@ -277,10 +372,10 @@ impl Group {
         let Ok(index) = self.place(id) else {
             return false;
         };
-        let Some(pending) = self.pending.remove(index) else {
+        let Some(held) = self.pending.remove(index) else {
             return false;
         };
-        one_less(&mut self.consumers, pending.consumer);
+        one_less(&mut self.consumers, held.get().consumer);
         true
     }
 
@@ -294,7 +389,7 @@ impl Group {
         };
         let consumer = self.consumers.remove(index);
         self.pending
-            .retain(|pending| pending.consumer != consumer.number);
+            .retain(|held| held.get().consumer != consumer.number);
         consumer.pending
     }
 
@@ -315,7 +410,7 @@ impl Group {
 }
 
 /// What is pending moves into the room, where that is larger.
-fn move_pending(pending: &mut VecDeque<Pending>, mut room: VecDeque<Pending>)
+fn move_pending(pending: &mut VecDeque<Held>, mut room: VecDeque<Held>)
     ensures items { pending.new.items ≡ pending.old.items }
     ensures len { deque_len pending.new ≡ deque_len pending.old }
     ensures capacity { deque_capacity pending.old ≤ deque_capacity pending.new }

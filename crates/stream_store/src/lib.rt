@@ -11,7 +11,7 @@ mod stream;
 mod trim;
 
 pub use entry_id::EntryId;
-pub use group::{Consumer, Group, Pending};
+pub use group::{Consumer, Group, Held, Pending};
 pub use room::Room;
 pub use stream::{Entry, NODE_ENTRIES, Node, Stream};
 pub use trim::{Bound, Trim};

@@ -87,7 +87,7 @@ fn claimed<'a>(
 fn take_up(group: &Group, part: &mut Group, ids: &[EntryId]) -> Result<(), AllocError> {
     for id in ids {
         if let Some(pending) = group.get(*id) {
-            part.give(*pending)?;
+            part.give(pending)?;
         }
     }
     Ok(())

@@ -1,6 +1,11 @@
 //! Which command the words name, and how many arguments each may have.
 
-ghost use Rattle.std.specs.Prelude.{◌<◌, length as length_of, IfOk};
+ghost use Rattle.std.specs.Prelude.{◌≡◌, ◌≢◌, ◌<◌, length as length_of, nat_le, Ok, Some, IfOk, IfSome, IsOk};
+ghost use Rattle.stream_server.specs.Commands.{IsNamed, event_of, least_of};
+ghost use Rattle.stream_server.specs.declared.commands.Change.{Change as Changing};
+ghost use Rattle.stream_server.specs.declared.commands.Change.TheVariants.{Group};
+ghost use Rattle.stream_server.specs.declared.commands.Command.TheVariants.{Plain as plain};
+ghost use Rattle.stream_server.specs.declared.commands.Plain.TheVariants.{Change as change_plain};
 
 use super::connection::Connection;
 use super::report::Report;
@@ -14,7 +19,9 @@ use std::alloc::Global;
 
 /// The command of these words, where there is one, and it may have so many arguments.
 pub(crate) fn command_in(alloc: Global, words: &[Vec<u8>]) -> Result<Command, Refusal>
-    ensures { IfOk result (λ _. 0 < length_of words.now) }
+    ensures some { IfOk result (λ _. 0 < length_of words.now) }
+    ensures named { (change : Changing) → IsNamed change words.now → least_of change < length_of words.now
+        → result ≡ Ok (plain (change_plain change)) }
 {
     let [word, arguments @ ..] = words else {
         return Err(SYNTAX);
@@ -30,7 +37,9 @@ pub(crate) fn command_in(alloc: Global, words: &[Vec<u8>]) -> Result<Command, Re
 }
 
 /// The command of this name.
-fn command_named(word: &[u8]) -> Option<Command> {
+fn command_named(word: &[u8]) -> Option<Command>
+    ensures { IfSome (event_of word.now) (λ change. result ≡ Some (plain (change_plain change))) }
+{
     if let Some(change) = change_named(word) {
         return Some(Command::Plain(Plain::Change(change)));
     }
@@ -47,13 +56,13 @@ fn command_named(word: &[u8]) -> Option<Command> {
 }
 
 /// The command of this name that changes streams.
-fn change_named(word: &[u8]) -> Option<Change> {
+fn change_named(word: &[u8]) -> Option<Change>
+    ensures { IfSome (event_of word.now) (λ change. result ≡ Some change) }
+{
+    if let Some(change) = event_named(word) {
+        return Some(change);
+    }
     let names = [
-        ("XADD", Change::Add),
-        ("XREADGROUP", Change::ReadGroup),
-        ("XACK", Change::Acknowledge),
-        ("XAUTOCLAIM", Change::AutoClaim),
-        ("XDEL", Change::DeleteEntries),
         ("XTRIM", Change::Trim),
         ("XGROUP", Change::Group),
         ("XCLAIM", Change::Claim),
@@ -68,6 +77,25 @@ fn change_named(word: &[u8]) -> Option<Change> {
         }
     }
     None
+}
+
+/// The command of this name that is an event of the model of a group.
+fn event_named(word: &[u8]) -> Option<Change>
+    ensures { result ≡ event_of word.now }
+{
+    if is_word(word, "XADD") {
+        Some(Change::Add)
+    } else if is_word(word, "XREADGROUP") {
+        Some(Change::ReadGroup)
+    } else if is_word(word, "XACK") {
+        Some(Change::Acknowledge)
+    } else if is_word(word, "XAUTOCLAIM") {
+        Some(Change::AutoClaim)
+    } else if is_word(word, "XDEL") {
+        Some(Change::DeleteEntries)
+    } else {
+        None
+    }
 }
 
 /// The command of this name that reads streams.
@@ -140,7 +168,9 @@ fn step_named(word: &[u8]) -> Option<Step> {
 }
 
 /// Whether the command may have so many arguments.
-fn has_right_count(command: Command, count: usize) -> bool {
+fn has_right_count(command: Command, count: usize) -> bool
+    ensures { (change : Changing) → command ≡ plain (change_plain change) → result ≡ nat_le (least_of change) count }
+{
     match command {
         Command::Plain(Plain::Change(change)) => change_takes(change, count),
         Command::Plain(Plain::LookUp(look_up)) => look_up_takes(look_up, count),
@@ -151,7 +181,9 @@ fn has_right_count(command: Command, count: usize) -> bool {
 }
 
 /// Whether it may have so many arguments.
-fn change_takes(change: Change, count: usize) -> bool {
+fn change_takes(change: Change, count: usize) -> bool
+    ensures { result ≡ nat_le (least_of change) count }
+{
     match change {
         Change::DeleteAll => true,
         Change::Delete | Change::Group => count >= 1,
@@ -207,7 +239,9 @@ fn check_subcommand(
     command: Command,
     word: &[u8],
     arguments: &[Vec<u8>],
-) -> Result<(), Refusal> {
+) -> Result<(), Refusal>
+    ensures { (change : Changing) → command ≡ plain (change_plain change) → change ≢ Group → IsOk result }
+{
     match command {
         Command::Plain(Plain::Change(Change::Group)) => group::check(alloc, word, arguments),
         Command::Plain(Plain::LookUp(LookUp::Info)) => info::check(alloc, word, arguments),

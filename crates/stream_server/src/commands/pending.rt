@@ -95,6 +95,7 @@ fn rows(
     };
     let mut left = wanted.most;
     for pending in group.pending.range(group.start(wanted.start)..) {
+        let pending = pending.get();
         if pending.id > wanted.end || left == 0 {
             break;
         }
@@ -112,7 +113,7 @@ fn rows(
 }
 
 /// What is told of a pending entry that was given so long ago.
-fn row(alloc: Global, group: &Group, pending: &Pending, idle: u64) -> Result<Answer, AllocError> {
+fn row(alloc: Global, group: &Group, pending: Pending, idle: u64) -> Result<Answer, AllocError> {
     let id = Answer::Id(pending.id);
     let name = bytes_answer(alloc, name_of(group, pending.consumer))?;
     array(alloc, [id, name, number(idle), number(pending.deliveries)])
@@ -124,7 +125,12 @@ fn summary(alloc: Global, group: &Group) -> Result<Vec<Answer>, AllocError> {
     let row = match (group.pending.front(), group.pending.back()) {
         (Some(first), Some(last)) => {
             let counts = Answer::Array(counts(alloc, group)?);
-            [pending, Answer::Id(first.id), Answer::Id(last.id), counts]
+            [
+                pending,
+                Answer::Id(first.get().id),
+                Answer::Id(last.get().id),
+                counts,
+            ]
         }
         _ => [pending, Answer::Nil, Answer::Nil, Answer::NilArray],
     };

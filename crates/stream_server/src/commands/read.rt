@@ -1,8 +1,9 @@
 //! `XREAD`, `XREADGROUP`.
-ghost use Rattle.std.specs.Prelude.{◌≡◌, ◌≢◌, ◌≤◌, codes, drop, false, length, map, IfOk, OnErr, OnOk};
+ghost use Rattle.std.specs.Prelude.{◌≡◌, ◌≢◌, ◌≤◌, ◌<◌, codes, drop, false, length, map, IfOk, OnErr, OnOk};
 ghost use Rattle.stream_server.specs.Delivering.{HandsOut, IsDelivered, entries_behind};
 ghost use Rattle.stream_server.specs.Giving.{IsPut};
 ghost use Rattle.stream_server.specs.Kinds.{IsRows};
+ghost use Rattle.stream_server.specs.ReadGroup.{ReadsGroup};
 ghost use Rattle.stream_server.specs.ReadingOne.{IsFound, IsInRows, IsReadIn};
 ghost use Rattle.stream_server.specs.Sent.{array_of, item_list, more_rows, no_rows, rows_of, sent};
 ghost use Rattle.stream_store.specs.Consumers.{HasRoom};
@@ -26,7 +27,7 @@ use crate::answer::Answer;
 use crate::refusal::Refusal;
 use own::{deliver_again, read_own};
 use std::alloc::{AllocError, Global};
-use stream_store::{EntryId, Group, Pending, Room, Stream};
+use stream_store::{EntryId, Group, Held, Pending, Room, Stream};
 
 /// Where reading of one stream begins.
 #[derive(Clone, Copy)]
@@ -125,6 +126,48 @@ fn put_stream(
 /// `XREADGROUP GROUP group consumer [COUNT n] [BLOCK ms] [NOACK] STREAMS key .. id ..`. It does not
 /// wait. All memory is taken before the first group is changed.
 pub(super) fn read_group(
+    alloc: Global,
+    streams: &mut [Stream],
+    now: u64,
+    arguments: &[Vec<u8>],
+) -> Result<Answer, Refusal>
+    ensures rows { IfOk result IsRows }
+    ensures one { IfOk result (λ answer. ReadsGroup arguments.now now answer streams.old streams.new) }
+    ensures err { OnErr result (streams.new ≡ streams.old) }
+{
+    match arguments {
+        [first, group, consumer, second, key, text]
+            if is_word(first, "GROUP") && is_word(second, "STREAMS") => {
+            let reader = usual_reader(group, consumer, now, u64::MAX);
+            read_one(alloc, streams, key, text, reader)
+        }
+        [first, group, consumer, second, number, third, key, text]
+            if is_word(first, "GROUP") && is_word(second, "COUNT") && is_word(third, "STREAMS") => {
+            let most = most_after(u64::MAX, second, number)?;
+            let reader = usual_reader(group, consumer, now, most);
+            read_one(alloc, streams, key, text, reader)
+        }
+        _ => read_by_options(alloc, streams, now, arguments),
+    }
+}
+
+/// The consumer that reads so many, each of which is then pending for it.
+fn usual_reader<'a>(group: &'a [u8], consumer: &'a [u8], now: u64, most: u64) -> Reader<'a>
+    ensures group { result.group.now ≡ group.now }
+    ensures consumer { result.consumer.now ≡ consumer.now }
+    ensures others { (result.now ≡ now) × (result.most ≡ most) × (result.noack ≡ false) }
+{
+    Reader {
+        group,
+        consumer,
+        noack: false,
+        now,
+        most,
+    }
+}
+
+/// Reads as the options say, in any order.
+fn read_by_options(
     alloc: Global,
     streams: &mut [Stream],
     now: u64,
@@ -335,7 +378,9 @@ fn option_at<'a>(
 }
 
 /// Reads `BLOCK ms` or `COUNT n`, and gives how many entries are read at most.
-fn most_after(most: u64, word: &[u8], text: &[u8]) -> Result<u64, Refusal> {
+fn most_after(most: u64, word: &[u8], text: &[u8]) -> Result<u64, Refusal>
+    ensures { IfOk result (λ n. 0 < most → 0 < n) }
+{
     if is_word(word, "BLOCK") {
         check_timeout(text)?;
         return Ok(most);
@@ -490,10 +535,11 @@ fn take_up(
         if left == 0 {
             break;
         }
+        let pending = pending.get();
         if pending.consumer == number {
             left -= 1;
             if part.get(pending.id).is_none() {
-                part.give(*pending)?;
+                part.give(pending)?;
             }
         }
     }
@@ -529,15 +575,19 @@ fn reread(
 fn given_again(
     alloc: Global,
     stream: &Stream,
-    pending: &mut Pending,
+    held: &mut Held,
     now: u64,
 ) -> Result<Answer, AllocError> {
+    let pending = held.get();
     let Some(entry) = stream.get(pending.id) else {
         return array(alloc, [Answer::Id(pending.id), Answer::NilArray]);
     };
     let answer = entry_answer(alloc, entry)?;
-    pending.given_at = now;
-    pending.deliveries = pending.deliveries.saturating_add(1);
+    held.set(Pending {
+        given_at: now,
+        deliveries: pending.deliveries.saturating_add(1),
+        ..pending
+    });
     Ok(answer)
 }
 
@@ -612,22 +662,17 @@ fn read_up_to(stream: &Stream, before: Option<i64>, id: EntryId) -> Option<i64> 
 
 /// What the part holds is pending in the group for the consumer that the room is for, and the group
 /// has delivered as much as the part. With the room, no memory is asked for.
-fn put_read(group: &mut Group, part: &Group, room: Room, now: u64)
-    ensures { HasRoom room group.old → HasPlaces (length part.now.pending.items) room group.old
-        → IsPut room.name.items now part.now group.old group.new }
+fn put_read(group: &mut Group, part: Group, room: Room, now: u64)
+    ensures { HasRoom room group.old → HasPlaces (length part.pending.items) room group.old
+        → IsPut room.name.items now part group.old group.new }
 {
     group.last_id = part.last_id;
     group.entries_read = part.entries_read;
     let Ok(number) = group.see_in(room, now) else {
         return;
     };
-    for pending in &part.pending {
-        let _given = group.give(Pending {
-            id: pending.id,
-            consumer: number,
-            given_at: pending.given_at,
-            deliveries: pending.deliveries,
-        });
+    for pending in part.pending.into_vec() {
+        let _given = group.put(pending.for_consumer(number));
     }
 }
 
@@ -674,7 +719,7 @@ fn read_one(
         return Ok(Answer::NilArray);
     };
     let Outcome { answer, part, room } = read;
-    put_read(&mut streams[index].groups[place], &part, room, reader.now);
+    put_read(&mut streams[index].groups[place], part, room, reader.now);
     Ok(answer)
 }
 

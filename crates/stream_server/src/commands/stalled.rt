@@ -245,6 +245,7 @@ fn stalled_in(
     let mut left = claim.most;
     let mut attempts = claim.most.saturating_mul(10);
     for pending in group.pending.range(group.start(claim.start)..) {
+        let pending = pending.get();
         if attempts == 0 || left == 0 {
             next = pending.id;
             break;
@@ -254,7 +255,7 @@ fn stalled_in(
             gone.push(pending.id)?;
             left -= 1;
         } else if claim.now.saturating_sub(pending.given_at) >= claim.least_idle {
-            claimed.push(*pending)?;
+            claimed.push(pending)?;
             left -= 1;
         }
     }

@@ -2,13 +2,16 @@
 ghost use Rattle.std.specs.Prelude.{◌≡◌, ◌≤◌, ◌↔◌, IfOk, IsTrue, length as length_of, map, take};
 ghost use Rattle.std.specs.Char.{to_ascii_lowercase};
 ghost use Rattle.std.specs.List.{prefix_len};
+ghost use Rattle.std.specs.Str.{bytes_eq};
+ghost use Rattle.stream_server.specs.Commands.{lower_case};
 ghost use Rattle.stream_server.specs.Shown.{is_not_nul, text_before_nul};
 
 use std::alloc::{AllocError, Global};
 
 /// Whether the argument is this word, in either case.
 pub(super) fn is_word(argument: &[u8], word: &str) -> bool
-    ensures { IsTrue result ↔ (map to_ascii_lowercase argument.now ≡ map to_ascii_lowercase word.now) }
+    ensures word { IsTrue result ↔ (map to_ascii_lowercase argument.now ≡ map to_ascii_lowercase word.now) }
+    ensures same { result ≡ bytes_eq (lower_case argument.now) (lower_case word.now) }
 {
     argument.eq_ignore_ascii_case(word.as_bytes())
 }

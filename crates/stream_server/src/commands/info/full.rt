@@ -107,6 +107,7 @@ fn pending_rows(
         if left == 0 {
             break;
         }
+        let pending = pending.get();
         let is_wanted = match only {
             Some(number) => pending.consumer == number,
             None => true,
@@ -126,7 +127,7 @@ fn pending_rows(
 fn pending_row(
     alloc: Global,
     group: &Group,
-    pending: &Pending,
+    pending: Pending,
     is_asked_for: bool,
 ) -> Result<Answer, AllocError> {
     let id = Answer::Id(pending.id);

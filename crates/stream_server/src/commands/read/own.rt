@@ -87,9 +87,10 @@ fn pending_for(
         if left == 0 {
             break;
         }
+        let pending = pending.get();
         if pending.consumer == number {
             left -= 1;
-            own.push(*pending)?;
+            own.push(pending)?;
         }
     }
     Ok(own)

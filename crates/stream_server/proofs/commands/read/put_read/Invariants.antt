@@ -1,5 +1,5 @@
 use Rattle.std.proofs.Common.{length, map}
-use Rattle.std.specs.VecDeque.Iter.{deque_iter_rest}
+use Rattle.std.specs.Vec.Iter.{into_iter_items}
 use Rattle.stream_store.specs.Room.{IsOpenFor}
 use Rattle.stream_store.specs.declared.group.Group.{Group}
 use Rattle.stream_server.specs.Giving.{AreGiven, for_consumer}
@@ -8,8 +8,8 @@ use Rattle.stream_server.proofs.commands.read.put_read.Given as goal
 -- the group has memory for what is left; once that is given, all is
 abbrev pub invariant-loop-pending : goal.invariant-loop-pending
 invariant-loop-pending l =
-    (IsOpenFor (length (deque_iter_rest l.initial.pending-iterator)) l.initial.group
-    → IsOpenFor (length (deque_iter_rest l.pending-iterator)) l.group)
-    × (IsOpenFor (length (deque_iter_rest l.initial.pending-iterator)) l.initial.group
-    → (new : Group) → AreGiven (map (for_consumer l.number) (deque_iter_rest l.pending-iterator)) l.group new
-    → AreGiven (map (for_consumer l.number) (deque_iter_rest l.initial.pending-iterator)) l.initial.group new)
+    (IsOpenFor (length (into_iter_items l.initial.pending-iterator)) l.initial.group
+    → IsOpenFor (length (into_iter_items l.pending-iterator)) l.group)
+    × (IsOpenFor (length (into_iter_items l.initial.pending-iterator)) l.initial.group
+    → (new : Group) → AreGiven (map (for_consumer l.number) (into_iter_items l.pending-iterator)) l.group new
+    → AreGiven (map (for_consumer l.number) (into_iter_items l.initial.pending-iterator)) l.initial.group new)

@@ -3,6 +3,7 @@ use Rattle.std.proofs.lemmas.Bool.Decides.{nat_tests}
 use Rattle.std.proofs.lemmas.List.{length-drop, take_all}
 use Rattle.std.specs.Prelude.{◌==◌, ◌||◌}
 use Rattle.std.specs.VecDeque.Iter.{deque_iter_rest}
+use Rattle.stream_store.specs.declared.group.Pending.{Pending}
 use Rattle.stream_server.specs.Stalled.{found_in, nothing_until}
 use Rattle.stream_server.proofs.StalledLemmas.{absent, present, goes_gone, goes_claimed, goes_past, ends_empty, ends_at, told}
 use Rattle.stream_server.proofs.commands.stalled.stalled_in.Goals as goal
@@ -15,8 +16,8 @@ loop-pending-preserved-then-is_none c = record {
       c.loop-pending.attempts c.loop-pending.left c.in-Some.pending.now _ _ c.loop-pending.claimed.items
       c.loop-pending.gone.items _ (search rules) (search rules) c.in-Some.ensures.steps (c.loop-pending.invariant.found up)
       c.push.new.self.items
-      (absent c.args.stream.now.entries.items c.in-Some.pending.now.id c.get.result (search rules) c.get.ensures.none up)
-      c.in_ok-push.ensures.items;
+      (absent c.args.stream.now.entries.items c.in-Some.pending.now.id c.get.result (search rules) (rw c.get-pending.ensures at c.get.ensures.none) up)
+      (rw c.get-pending.ensures at c.in_ok-push.ensures.items);
 }
 
 pub loop-pending-preserved-then-saturating_sub-claim : goal.loop-pending-preserved-then-saturating_sub-claim
@@ -26,8 +27,8 @@ loop-pending-preserved-then-saturating_sub-claim c = record {
       c.loop-pending.attempts c.loop-pending.left c.in-Some.pending.now _ _ c.loop-pending.claimed.items
       c.loop-pending.gone.items _ (search rules) (search rules) c.in-Some.ensures.steps (c.loop-pending.invariant.found up)
       c.push-then-saturating_sub-claim.new.self.items
-      (present c.args.stream.now.entries.items c.in-Some.pending.now.id c.get.result (search rules) c.get.ensures.some c.get.ensures.there)
-      (search rules) c.in_ok-push-2.ensures.items;
+      (present c.args.stream.now.entries.items c.in-Some.pending.now.id c.get.result (search rules) (rw c.get-pending.ensures at c.get.ensures.some) c.get.ensures.there)
+      (search rules) (rw c.get-pending.ensures at c.in_ok-push-2.ensures.items);
 }
 
 pub loop-pending-preserved : goal.loop-pending-preserved
@@ -36,7 +37,7 @@ loop-pending-preserved c = record {
   found = λ up. goes_past c.args.stream.now.entries.items c.args.claim.now.now c.args.claim.now.least_idle
       c.loop-pending.attempts c.loop-pending.left c.in-Some.pending.now _ _ c.loop-pending.claimed.items
       c.loop-pending.gone.items _ (search rules) (search rules) c.in-Some.ensures.steps (c.loop-pending.invariant.found up)
-      (present c.args.stream.now.entries.items c.in-Some.pending.now.id c.get.result (search rules) c.get.ensures.some c.get.ensures.there)
+      (present c.args.stream.now.entries.items c.in-Some.pending.now.id c.get.result (search rules) (rw c.get-pending.ensures at c.get.ensures.some) c.get.ensures.there)
       (search rules);
 }
 
@@ -65,7 +66,7 @@ returns c = record {
             ] in
             ends_at c.args.stream.now.entries.items c.args.claim.now.now c.args.claim.now.least_idle c.loop-pending.attempts
             c.loop-pending.left w.in-Some.pending.now _ _ w.in-Some.ensures.steps stops
-            ∙ ap nothing_until (sym w.next-is)
+            ∙ ap nothing_until (ap (λ (p : Pending). p.id) (sym w.get-pending.ensures) ∙ sym w.next-is)
       ] in
       rw (sym c.saturating_mul-attempts.ensures, sym rest)
       (told c.loop-pending.claimed.items c.loop-pending.gone.items c.match-next.next _ _ ends (c.loop-pending.invariant.found up));
