@@ -1,7 +1,7 @@
 -- No two texts have one number.
 use Rattle.std.proofs.Common.{◌≡◌, ◌∙◌, ◌<◌, ◌+◌, ◌*◌, refl, sym, ap, subst, inl, inr, arith, ℕ, suc, Bool, true, false, List, [], ◌∷◌, ◌++◌, decimal}
 use Rattle.std.proofs.Common.{drop, Option, Some, None, if◌then◌else◌}
-use Rattle.std.specs.Prelude.{option_and_then}
+use Rattle.std.specs.Prelude.{option_and_then, ◌==◌, ◌||◌}
 use Rattle.std.specs.List.{prefix_len}
 use Rattle.std.specs.Str.{bytes_eq}
 use Rattle.std.proofs.lemmas.List.{take-append-drop}
@@ -10,6 +10,7 @@ use Rattle.std.proofs.lemmas.Bool.Decides.{nat_tests}
 use Rattle.std.proofs.lemmas.Slice.Eq.{bytes_eq-Decides}
 use Rattle.redis_resp.specs.Number.{unsigned_of, within}
 use Rattle.known_ids.specs.Cut.{before, from, is_other}
+use Rattle.known_ids.specs.Known.{KnowsOneMore, has_number, knows}
 use Rattle.known_ids.specs.Number.{NumbersTell, both, if_written_so, number_of, part_of, seq_of}
 
 -- the text is a number of 64 bits as it is written
@@ -60,12 +61,13 @@ hyphen (x ∷ xs) b rest is = elim (cases_eq x 45) [
     head_is same = cc same
 
 -- two parts with a hyphen between them
-record AreParts (text : List ℕ) (n : ℕ) : Type 0 where
-  ms : ℕ
-  seq : ℕ
-  small : seq < 18446744073709551616
-  is : text ≡ decimal ms ++ 45 ∷ decimal seq
-  number : ms * 18446744073709551616 + seq ≡ n
+pub record AreParts (text : List ℕ) (n : ℕ) : Type 0 where
+  pub ms : ℕ
+  pub seq : ℕ
+  pub ms_fits : ms < 18446744073709551616
+  pub small : seq < 18446744073709551616
+  pub is : text ≡ decimal ms ++ 45 ∷ decimal seq
+  pub number : ms * 18446744073709551616 + seq ≡ n
 
 parts_by : (text front back : List ℕ) (n : ℕ) (p q : Option ℕ) → text ≡ front ++ back → part_of front ≡ p → seq_of back ≡ q
     → ((b : ℕ) (rest : List ℕ) → back ≡ b ∷ rest → b ≡ 45) → both p q ≡ Some n → AreParts text n
@@ -78,6 +80,7 @@ parts_by text front (b ∷ rest) n (Some m) (Some s) whole first second is_hyphe
     record {
       ms = m;
       seq = s;
+      ms_fits = ms.fits;
       small = seq.fits;
       is = whole ∙ (ap (λ (xs : List ℕ). xs ++ b ∷ rest) (sym ms.is)
           ∙ (ap (λ (x : ℕ). decimal m ++ x ∷ rest) (is_hyphen b rest refl)
@@ -85,7 +88,7 @@ parts_by text front (b ∷ rest) n (Some m) (Some s) whole first second is_hyphe
       number = some_is (m * 18446744073709551616 + s) n is;
     }
 
-parts : (text : List ℕ) (n : ℕ) → number_of text ≡ Some n → AreParts text n
+pub parts : (text : List ℕ) (n : ℕ) → number_of text ≡ Some n → AreParts text n
 parts text n is = parts_by text (before 45 text) (from 45 text) n (part_of (before 45 text)) (seq_of (from 45 text))
     (sym (take-append-drop (prefix_len (is_other 45) text) text)) refl refl (hyphen text) is
 
@@ -97,3 +100,37 @@ numbers_tell a b n first second =
     let seq : p.seq ≡ q.seq = omega (arith, p.small, q.small, p.number, q.number) in
     p.is ∙ (ap (λ (m : ℕ). decimal m ++ 45 ∷ decimal p.seq) ms ∙ (ap (λ (s : ℕ). decimal q.ms ++ 45 ∷ decimal s) seq
     ∙ sym q.is))
+
+-- ---- ids that are known
+
+-- whether it is this number
+abbrev is_number : ℕ → Option ℕ → Bool
+is_number n None = false
+is_number n (Some m) = n == m
+
+-- the text is that of this id exactly if its number is
+same_number : (id other : List ℕ) (n : ℕ) → number_of id ≡ Some n → bytes_eq id other ≡ is_number n (number_of other)
+same_number id other n is = by (bytes_eq id other) (number_of other) refl refl
+  where
+    same : (b : Bool) → bytes_eq id other ≡ b → b ≡ true → number_of other ≡ Some n
+    same b eq holds = ap number_of (sym ((bytes_eq-Decides id other).0 (eq ∙ holds))) ∙ is
+
+    by : (b : Bool) (o : Option ℕ) → bytes_eq id other ≡ b → number_of other ≡ o → b ≡ is_number n o
+    by false None eq none = refl
+    by true None eq none = let wrong : None ≡ Some n = sym none ∙ same true eq refl in absurd (cc wrong)
+    by true (Some m) eq some =
+        let equal : n ≡ m = some_is n m (sym (same true eq refl) ∙ some) in grind (arith, nat_tests, equal)
+    by false (Some m) eq some = elim (cases_eq n m) [
+      | inl equal ↦
+          let text : id ≡ other = numbers_tell id other n is (some ∙ ap Some (sym equal)) in
+          let wrong : false ≡ true = sym eq ∙ (bytes_eq-Decides id other).1 text in absurd (cc wrong)
+      | inr differ ↦ grind (arith, nat_tests, differ)
+    ]
+
+pub knows_one_more : KnowsOneMore
+knows_one_more old new id n is more other =
+    by (number_of other) ∙ ap (λ (b : Bool). b || knows old other) (sym (same_number id other n is))
+  where
+    by : (o : Option ℕ) → has_number new o ≡ (is_number n o || has_number old o)
+    by None = refl
+    by (Some m) = more m

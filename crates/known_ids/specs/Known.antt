@@ -1,6 +1,7 @@
 -- Whether an id is known.
 use Rattle.std.specs.Prelude.{◌≡◌, ◌<◌, ◌≤◌, ◌==◌, length, get_or, Result, MatchResult, ◌||◌, ℕ, List, Bool, false, Option, Some, None, Vec}
 use Rattle.std.specs.List.{list_any}
+use Rattle.std.specs.Str.{bytes_eq}
 use Rattle.std.specs.Vec.{vec_capacity, vec_len}
 use Rattle.std.specs.declared.alloc.Global.{Global}
 use Rattle.known_ids.specs.Number.{number_of}
@@ -37,3 +38,8 @@ pub record IsGap (numbers : List ℕ) (n at : ℕ) : Type 0 where
   pub within : at ≤ length numbers
   pub before : (k : ℕ) → k < at → get_or numbers k 0 ≤ n
   pub behind : (k : ℕ) → at ≤ k → k < length numbers → n ≤ get_or numbers k 0
+
+-- the law: with one more number, its id is known, and every id that was, and no other
+abbrev pub KnowsOneMore : Type 0
+KnowsOneMore = (old new id : List ℕ) (n : ℕ) → number_of id ≡ Some n → HasOneMore old new n
+    → (other : List ℕ) → knows new other ≡ (bytes_eq id other || knows old other)

@@ -20,7 +20,7 @@ pub enum FileError {
     #[error("{0}")]
     Log(LogError),
     /// The line of this number tells no id.
-    #[error("line {0} is of no entry")]
+    #[error("line {0} is of no entry: correct the file, or take another one")]
     NoEntry(u64),
 }
 
