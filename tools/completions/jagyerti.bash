@@ -11,7 +11,7 @@ _jagyerti_tools=$(cd "$(dirname "${BASH_SOURCE[0]}")/.." && pwd)
 # Prints the options of a program or a tool.
 _jagyerti_options() {
     case $1 in
-        stream_drain) echo --from --count --block --idle --every --dead --json --quiet --until-empty --wait --help --version ;;
+        stream_drain) echo --from --count --block --idle --every --dead --json --look-up --quiet --until-empty --wait --help --version ;;
         stream_fill) echo --field --json --batch --base --wait --help --version ;;
         stream_sqlite) echo --from --count --block --idle --every --table --columns --until-empty --help --version ;;
         stream_top) echo --json --openmetrics --once --help --version ;;

@@ -19,8 +19,8 @@ use Rattle.stream_worker.specs.declared.state.Asked.{Asked}
 use Rattle.stream_worker.specs.declared.state.Settings.{Settings}
 use Rattle.stream_worker.specs.declared.worker.Progress.{Progress}
 use Rattle.stream_worker.specs.declared.worker.Progress.TheVariants.{GoesOn, Stopped}
-use Rattle.stream_drain.specs.Lived.{Leads, lines_shown}
-use Rattle.stream_drain.specs.Written.{Written, committed_with, written_too}
+use Rattle.stream_drain.specs.Lived.{Leads}
+use Rattle.stream_drain.specs.Written.{Written, committed_with, written_of, written_too}
 use Rattle.stream_drain.proofs.LivedLemmas.{lines_picture}
 
 confirmed_looks : (wait : Wait) (old new : Link) → IsConfirmed wait old new → Looks old new
@@ -40,23 +40,23 @@ module _ (settings : Settings) (wait : Wait) (old new : Link) (w x : Standing Wr
       → IsConfirmedRound written_too committed_with settings wait old new w x asked p
       → Leads (Loops settings) old new w x
   confirmed_ok asked p is r =
-      shown.looked_ok written_too committed_with lines_shown lines_picture settings old r.link new w x asked p is r.turned
+      shown.looked_ok written_too committed_with written_of lines_picture settings old r.link new w x asked p is r.turned
       (confirmed_looks wait r.link new r.confirmed)
 
   pub confirmed_stopped : (asked : Asked) (p : Progress) → p ≡ Stopped
       → IsConfirmedRound written_too committed_with settings wait old new w x asked p
       → Leads (Stops settings) old new w x
   confirmed_stopped asked p is r =
-      shown.looked_stopped written_too committed_with lines_shown lines_picture settings old r.link new w x asked p is
+      shown.looked_stopped written_too committed_with written_of lines_picture settings old r.link new w x asked p is
       r.turned (confirmed_looks wait r.link new r.confirmed)
 
   pub confirmed_fails : (e : RoundError) → FailsConfirmed written_too committed_with settings wait old new w x e
       → Leads (Stops settings) old new w x
   confirmed_fails (ends.Run e) (inl u) =
-      shown.unanswered_fails written_too committed_with lines_shown lines_picture settings old new w x e u
+      shown.unanswered_fails written_too committed_with written_of lines_picture settings old new w x e u
   confirmed_fails (ends.Run e) (inr f) =
-      shown.looked_fails written_too committed_with lines_shown lines_picture settings old f.link new w x e f.fails
+      shown.looked_fails written_too committed_with written_of lines_picture settings old f.link new w x e f.fails
       (confirmed_looks wait f.link new f.confirmed)
   confirmed_fails (ends.Unconfirmed e) u =
-      shown.passed_over written_too committed_with lines_shown lines_picture settings old u.link new w u.standing x u.answer
+      shown.passed_over written_too committed_with written_of lines_picture settings old u.link new w u.standing x u.answer
       u.asked u.stands (unconfirmed_looks wait u.link new e u.unconfirmed)

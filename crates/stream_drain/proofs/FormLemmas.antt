@@ -12,7 +12,7 @@ use Rattle.stream_files.specs.Files.{Form}
 use Rattle.stream_files.proofs.Whole.{text}
 use Rattle.stream_drain.specs.Line.{line_in}
 use Rattle.stream_drain.specs.Tell.{AreBytes, LinesAreAForm}
-use Rattle.stream_drain.proofs.FiledLemmas.{one_line}
+use Rattle.stream_drain.proofs.LinesLemmas.{one_line}
 use Rattle.stream_drain.proofs.SameLineLemmas.{tell}
 use Rattle.stream_drain.proofs.TellLemmas.{begins_with_id}
 

@@ -1,5 +1,8 @@
 -- Lemmas on lines, in text and in JSON, and on the rounds of the program.
 pub mod JsonLemmas
+pub mod KnownLemmas
+pub mod LinesLemmas
+pub mod UniqueLemmas
 pub mod WrittenLemmas
 pub mod LivedLemmas
 pub mod ConfirmedLemmas
@@ -9,3 +12,6 @@ pub mod ResumedLemmas
 pub mod SameLineLemmas
 pub mod FormLemmas
 pub mod ResumeLemmas
+pub mod ModelLemmas
+pub mod OnceLemmas
+pub mod ReachLemmas

@@ -1,11 +1,10 @@
 -- The steps of a program that begins with what its file tells.
-use Rattle.std.proofs.Common.{◌≡◌, ◌+◌, ◌<◌, ◌∙◌, sym, ap, subst, ℕ, Bool, List, [], ◌∷◌, ◌++◌, codes, drop}
+use Rattle.std.proofs.Common.{◌≡◌, ◌+◌, ◌<◌, ◌∙◌, sym, ap, subst, ℕ, Bool, List, [], ◌∷◌, ◌++◌, drop}
 use Rattle.std.proofs.Common.{length, map, take, take-suc, add-one, get_or, string_bytes, Option, Some, None, IfSome, IfOk, Result, Ok, Err, Vec}
 use Rattle.std.proofs.Common.{◌≤◌, append-nil}
 use Rattle.std.proofs.Math.Seq.{drop-length}
 use Rattle.std.proofs.lemmas.List.Folds.{drop_split}
 use Rattle.std.specs.List.{slice_range}
-use Rattle.std.proofs.lemmas.List.{take-append-drop}
 use Rattle.std.specs.declared.alloc.AllocError.{AllocError}
 use Rattle.std.proofs.lemmas.List.{map-append}
 use Rattle.std.specs.Prelude.{String}
@@ -20,6 +19,7 @@ use Rattle.stream_worker.specs.declared.state.GroupState.{GroupState}
 use Rattle.stream_worker.specs.declared.state.GroupState.TheVariants.{Unknown}
 use Rattle.stream_worker.specs.declared.state.Settings.{Settings}
 use Rattle.stream_drain.specs.Resumed.{BeginsSo, BeginsWithLast, TellEach, Tells}
+use Rattle.stream_drain.specs.Known.{Known}
 use Rattle.stream_drain.specs.Written.{Written}
 use Rattle.stream_drain.proofs.ResumedLemmas.{begins_so, begins_with_last}
 use Rattle.stream_drain.proofs.TellLemmas.{tell_more}
@@ -41,71 +41,56 @@ told_one_more json lines i line ids more id lt is pushed each tells =
     (tell_more json (bytes_of (take i lines)) (map string_bytes ids) line.items (string_bytes id) each tells))
 
 -- where a worker stands at its beginning, with so much in its file
-abbrev begun_with : Settings → Bool → List Id → List ℕ → Option (List ℕ) → Standing Written
-begun_with settings json ids loose committed = record {
+abbrev begun_with : Settings → Bool → Known → List Id → List ℕ → Option (List ℕ) → Standing Written
+begun_with settings json known ids loose committed = record {
   machine = record (start settings.every) { to_acknowledge = ids };
   group = Unknown;
   asked = Nothing;
-  history = record { json = json; loose = loose; committed = committed };
+  history = record { json = json; known = known; loose = loose; committed = committed };
 }
 
-pub it_begins_so : (number : ℕ) (settings : Settings) (json : Bool) (ids : List Id) (loose : List ℕ)
+-- it is such a worker
+abbrev begun_as : Machine → GroupState → Asked → Bool → Known → List ℕ → Option (List ℕ) → Standing Written
+begun_as machine group asked json known loose committed = record {
+  machine = machine;
+  group = group;
+  asked = asked;
+  history = record { json = json; known = known; loose = loose; committed = committed };
+}
+
+begun_is : (settings : Settings) (json : Bool) (known : Known) (ids : List Id) (loose : List ℕ) (committed : Option (List ℕ))
+    (machine : Machine) (group : GroupState) (asked : Asked)
+    → machine ≡ record (start settings.every) { to_acknowledge = ids } → group ≡ Unknown → asked ≡ Nothing → loose ≡ []
+    → begun_as machine group asked json known loose committed ≡ begun_with settings json known ids [] committed
+begun_is settings json known ids loose committed machine group asked m g a l =
+    ap (λ (x : Machine). begun_as x group asked json known loose committed) m
+    ∙ (ap (λ (y : GroupState). begun_as (record (start settings.every) { to_acknowledge = ids }) y asked json known loose committed) g
+    ∙ (ap (λ (z : Asked). begun_as (record (start settings.every) { to_acknowledge = ids }) Unknown z json known loose committed) a
+    ∙ ap (λ (x : List ℕ). begun_with settings json known ids x committed) l))
+
+pub it_begins_so : (number : ℕ) (settings : Settings) (json : Bool) (known : Known) (ids : List Id) (loose : List ℕ)
     (committed : Option (List ℕ)) (machine : Machine) (group : GroupState) (asked : Asked)
     → machine ≡ record (start settings.every) { to_acknowledge = ids } → group ≡ Unknown → asked ≡ Nothing → loose ≡ []
     → IfSome committed (λ bytes. TellEach json (last_of number (lines_of bytes)) ids)
-    → IfSome committed (λ bytes. BeginsSo number settings json bytes (record {
-      machine = machine;
-      group = group;
-      asked = asked;
-      history = record { json = json; loose = loose; committed = committed };
-    }))
-it_begins_so number settings json ids loose None machine group asked m g a l each = tt
-it_begins_so number settings json ids loose (Some bytes) machine group asked m g a l each =
-    subst (λ (x : Machine). BeginsSo number settings json bytes (record {
-      machine = x;
-      group = group;
-      asked = asked;
-      history = record { json = json; loose = loose; committed = Some bytes };
-    })) (sym m)
-    (subst (λ (x : GroupState). BeginsSo number settings json bytes (record {
-      machine = record (start settings.every) { to_acknowledge = ids };
-      group = x;
-      asked = asked;
-      history = record { json = json; loose = loose; committed = Some bytes };
-    })) (sym g)
-    (subst (λ (x : Asked). BeginsSo number settings json bytes (record {
-      machine = record (start settings.every) { to_acknowledge = ids };
-      group = Unknown;
-      asked = x;
-      history = record { json = json; loose = loose; committed = Some bytes };
-    })) (sym a)
-    (subst (λ (x : List ℕ). BeginsSo number settings json bytes (begun_with settings json ids x (Some bytes))) (sym l)
-    (begins_so number settings json bytes ids each))))
+    → IfSome committed (λ bytes. BeginsSo number settings json known bytes
+    (begun_as machine group asked json known loose committed))
+it_begins_so number settings json known ids loose None machine group asked m g a l each = tt
+it_begins_so number settings json known ids loose (Some bytes) machine group asked m g a l each =
+    subst (λ (w : Standing Written). BeginsSo number settings json known bytes w)
+    (sym (begun_is settings json known ids loose (Some bytes) machine group asked m g a l))
+    (begins_so number settings json known bytes ids each)
 
 -- so it begins with the ids of the last lines
-pub it_begins_with_last : (number : ℕ) (settings : Settings) (json : Bool) (ids : List Id) (loose : List ℕ)
+pub it_begins_with_last : (number : ℕ) (settings : Settings) (json : Bool) (known : Known) (ids : List Id) (loose : List ℕ)
     (committed : Option (List ℕ)) (machine : Machine) (group : GroupState) (asked : Asked)
     → machine ≡ record (start settings.every) { to_acknowledge = ids } → group ≡ Unknown → asked ≡ Nothing → loose ≡ []
     → IfSome committed (λ bytes. TellEach json (last_of number (lines_of bytes)) ids)
-    → IfSome committed (λ bytes. BeginsWithLast number settings json bytes (record {
-      machine = machine;
-      group = group;
-      asked = asked;
-      history = record { json = json; loose = loose; committed = committed };
-    }))
-it_begins_with_last number settings json ids loose None machine group asked m g a l each = tt
-it_begins_with_last number settings json ids loose (Some bytes) machine group asked m g a l each = λ es is.
-    let begun : Machine → GroupState → Asked → Standing Written = λ x y z. record {
-      machine = x;
-      group = y;
-      asked = z;
-      history = record { json = json; loose = loose; committed = Some bytes };
-    } in
-    ap (λ (x : Machine). begun x group asked) m
-    ∙ (ap (λ (y : GroupState). begun (record (start settings.every) { to_acknowledge = ids }) y asked) g
-    ∙ (ap (λ (z : Asked). begun (record (start settings.every) { to_acknowledge = ids }) Unknown z) a
-    ∙ (ap (λ (x : List ℕ). begun_with settings json ids x (Some bytes)) l
-    ∙ begins_with_last number settings json bytes ids each es is)))
+    → IfSome committed (λ bytes. BeginsWithLast number settings json known bytes
+    (begun_as machine group asked json known loose committed))
+it_begins_with_last number settings json known ids loose None machine group asked m g a l each = tt
+it_begins_with_last number settings json known ids loose (Some bytes) machine group asked m g a l each = λ es is.
+    begun_is settings json known ids loose (Some bytes) machine group asked m g a l
+    ∙ begins_with_last number settings json known bytes ids each es is
 
 -- what is found of the text of an id holds of an id that tells
 pub told_by : (json : Bool) (line id : List ℕ) (r : Result (Option (String Global)) AllocError) → Tells json line id
@@ -114,22 +99,6 @@ pub told_by : (json : Bool) (line id : List ℕ) (r : Result (Option (String Glo
 told_by json line id (Ok None) tells is = tt
 told_by json line id (Ok (Some text)) tells is = subst (λ (x : List ℕ). Tells json line x) (sym is) tells
 told_by json line id (Err e) tells is = tt
-
--- a line of JSON in its parts
-pub of_parts : (line rest behind : List ℕ) (len : ℕ) → take 7 line ≡ codes "{\"id\":\"" → rest ≡ drop 7 line
-    → behind ≡ drop len rest → take 12 behind ≡ codes "\",\"fields\":["
-    → (more : List ℕ) × (line ≡ codes "{\"id\":\"" ++ (take len rest ++ 34 ∷ more))
-of_parts line rest behind len head is after end =
-    let more : List ℕ = codes ",\"fields\":[" ++ drop 12 behind in
-    let first : behind ≡ 34 ∷ more =
-    sym (take-append-drop 12 behind) ∙ ap (λ (xs : List ℕ). xs ++ drop 12 behind) end in
-    let text : rest ≡ take len rest ++ 34 ∷ more =
-    sym (take-append-drop len rest) ∙ ap (λ (xs : List ℕ). take len rest ++ xs) (sym after ∙ first) in (
-      more,
-      sym (take-append-drop 7 line)
-          ∙ (ap (λ (xs : List ℕ). xs ++ drop 7 line) head
-          ∙ ap (λ (xs : List ℕ). codes "{\"id\":\"" ++ xs) (sym is ∙ text)),
-    )
 
 -- what a slice has from a place on
 pub from_on : (xs : List ℕ) (a : ℕ) → a ≤ length xs → slice_range xs a (length xs) ≡ drop a xs

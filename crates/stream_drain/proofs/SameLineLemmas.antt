@@ -110,6 +110,10 @@ entry_once a b are-a are-b same =
     let rest : flat_map field_tokens a.1 ++ end_tokens ≡ flat_map field_tokens b.1 ++ end_tokens = cc same in
     ap₂ (λ x y. (x, y)) id (fields_once a.1 b.1 are-a are-b rest)
 
+-- the ids alone
+pub same_id : (a b : Entry) → print (entry_tokens a) ≡ print (entry_tokens b) → a.0 ≡ b.0
+same_id a b same = let tokens_are = same_tokens a b same in cc tokens_are
+
 -- ---- the law
 
 pub tell : tabs.LinesTellEntries → LinesTellEntries

@@ -1,10 +1,11 @@
 -- What the lines of entries tell: their ids.
 use Rattle.std.proofs.Common.{◌≡◌, ◌≢◌, ◌∙◌, ◌⊎◌, ◌/◌, ◌%◌, inl, inr, refl, sym, ap, subst, ℕ, Bool, true, false, cond, List, [], ◌∷◌}
-use Rattle.std.proofs.Common.{◌++◌, Some, codes, arith, flat_map, drop}
+use Rattle.std.proofs.Common.{◌++◌, Some, codes, arith, flat_map, drop, take}
 use Rattle.std.specs.Prelude.{nat_lt}
 use Rattle.std.specs.Char.{digit_char}
 use Rattle.std.specs.List.{list_all}
 use Rattle.std.proofs.lemmas.Bool.{and_parts, true≢false}
+use Rattle.std.proofs.lemmas.List.{take-append-drop}
 use Rattle.json.specs.Token.{begin_array, key}
 use Rattle.json.specs.Print.{escape, escape_byte, escape_letter, print_from}
 use Rattle.line_log.specs.EntryLine.{Entry, IsEntryIn}
@@ -95,3 +96,19 @@ json_tells line id rest is all e same =
     let both : codes "{\"id\":\"" ++ ((escape e.0 ++ 34 ∷ []) ++ behind_id e) ≡ codes "{\"id\":\"" ++ (id ++ 34 ∷ rest) =
     sym (begins_with_id e) ∙ same ∙ is in
     same_text e.0 id rest (behind_id e) (ap (λ (xs : List ℕ). drop 7 xs) both) all
+
+-- a line of JSON in its parts
+pub of_parts : (line rest behind : List ℕ) (len : ℕ) → take 7 line ≡ codes "{\"id\":\"" → rest ≡ drop 7 line
+    → behind ≡ drop len rest → take 12 behind ≡ codes "\",\"fields\":["
+    → (more : List ℕ) × (line ≡ codes "{\"id\":\"" ++ (take len rest ++ 34 ∷ more))
+of_parts line rest behind len head is after end =
+    let more : List ℕ = codes ",\"fields\":[" ++ drop 12 behind in
+    let first : behind ≡ 34 ∷ more =
+    sym (take-append-drop 12 behind) ∙ ap (λ (xs : List ℕ). xs ++ drop 12 behind) end in
+    let text : rest ≡ take len rest ++ 34 ∷ more =
+    sym (take-append-drop len rest) ∙ ap (λ (xs : List ℕ). take len rest ++ xs) (sym after ∙ first) in (
+      more,
+      sym (take-append-drop 7 line)
+          ∙ (ap (λ (xs : List ℕ). xs ++ drop 7 line) head
+          ∙ ap (λ (xs : List ℕ). codes "{\"id\":\"" ++ xs) (sym is ∙ text)),
+    )

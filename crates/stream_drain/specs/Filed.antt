@@ -1,5 +1,5 @@
 -- What a crash leaves of the file: the lines of the entries that were committed.
-use Rattle.std.specs.Prelude.{◌≡◌, ◌⊎◌, ℕ, List, ◌++◌, Bool, Some, IfSome}
+use Rattle.std.specs.Prelude.{◌≡◌, ◌⊎◌, ℕ, List, ◌++◌, Bool, true, Some, IfSome}
 use Rattle.line_log.specs.EntryLine.{Entry}
 use Rattle.line_log.specs.Lines.{AreLines, EachStartsWith, HasLine, StartsWith}
 use Rattle.redis_connection.specs.Link.{Link}
@@ -12,7 +12,8 @@ use Rattle.stream_worker.specs.declared.state.Settings.{Settings}
 use Rattle.stream_drain.specs.Line.{line_in}
 use Rattle.stream_drain.specs.Lived.{LeadsSo, LivesSo}
 use Rattle.stream_loop.specs.Loop.{Drains}
-use Rattle.stream_drain.specs.Written.{Written, committed_with, lines_in, written_of}
+use Rattle.stream_drain.specs.Known.{Known, is_known, lines_for}
+use Rattle.stream_drain.specs.Written.{Beginning, Written, committed_with, lines_in, written_of}
 
 -- whatever a crash leaves begins with what was there first and the lines of these entries, in order; and each of them is
 -- a line of it
@@ -20,21 +21,33 @@ pub record AreFiled (json : Bool) (first : List ℕ) (es : List Entry) (may_leav
   pub in_order : EachStartsWith (first ++ lines_in json es) may_leave
   pub each : (e : Entry) → Among e es → (c : List ℕ) → may_leave c → HasLine (line_in json e) c
 
--- the rounds lead so, after whole lines, and what is committed in the end is in whatever a crash leaves
+-- a handler begins with these bytes in its file
+abbrev pub with_bytes : Bool → Known → List ℕ → Beginning
+with_bytes json known first = record { json = json; known = known; first = Some first }
+
+-- the rounds lead so, after whole lines, and in the end the line of each entry that was committed, and had none, is in
+-- whatever a crash leaves
 abbrev pub FiledFrom : Settings → Link → Link → Standing Written → Standing Written → (List ℕ → Type 0) → Type 0
-FiledFrom settings old new w x may_leave = (json : Bool) (first : List ℕ) (d : Doings) → AreLines first
-    → w.history ≡ written_of json (Some first) d → (l : LeadsSo (Drains settings) old new w x json (Some first) d)
-    × AreFiled json first l.doings.committed may_leave
+FiledFrom settings old new w x may_leave = (json : Bool) (known : Known) (first : List ℕ) (d : Doings) → AreLines first
+    → w.history ≡ written_of (with_bytes json known first) d
+    → (l : LeadsSo (Drains settings) old new w x (with_bytes json known first) d)
+    × AreFiled json first (lines_for known l.doings.committed) may_leave
 
 -- an entry of this id is a line of what a crash left
 abbrev pub IsFiled : Bool → Id → List ℕ → Type 0
 IsFiled json id c = (fields : Pairs) × HasLine (line_in json (id, fields)) c
 
+-- so it is with each id that is known
+abbrev pub AreThere : Bool → Known → List ℕ → Type 0
+AreThere json known c = (id : Id) → is_known known id ≡ true → IsFiled json id c
+
 -- the law: before a worker asks to acknowledge an id, its entry is a line of whatever a crash leaves that begins with what
--- is committed then; or the server said that it was deleted
+-- is committed then; or the server said that it was deleted. If entries are looked up, what was known at first is in the
+-- file
 abbrev pub AcknowledgedIsFiled : Type 0
-AcknowledgedIsFiled = (settings : Settings) (json : Bool) (first : List ℕ) (w : Standing Written) (deleted : List Id)
-    (c : List ℕ) → AreLines first → LivesSo settings json (Some first) w deleted
+AcknowledgedIsFiled = (settings : Settings) (json : Bool) (known : Known) (first : List ℕ) (w : Standing Written)
+    (deleted : List Id) (c : List ℕ) → AreLines first → AreThere json known first
+    → LivesSo settings (with_bytes json known first) w deleted
     → IfSome (asking committed_with settings w).history.committed (λ lines. StartsWith lines c)
     → (id : Id) → Among id (asking committed_with settings w).machine.to_acknowledge
     → IsFiled json id c ⊎ Among id deleted

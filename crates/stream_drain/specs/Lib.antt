@@ -2,8 +2,10 @@
 pub mod Json
 pub mod Line
 pub mod Report
+pub mod Known
 pub mod Written
 pub mod Lived
 pub mod Filed
 pub mod Tell
 pub mod Resumed
+pub mod Once

@@ -1,5 +1,5 @@
 -- The rounds of a worker whose handler writes lines, as rounds of its life.
-use Rattle.std.specs.Prelude.{◌≡◌, ℕ, List, [], ◌++◌, Bool, Option}
+use Rattle.std.specs.Prelude.{◌≡◌, List, [], ◌++◌}
 use Rattle.redis_connection.specs.Link.{Link}
 use Rattle.stream_group.specs.Worker.{Id, start}
 use Rattle.stream_loop.specs.Loop.{Loops, Stops, Drains}
@@ -14,42 +14,36 @@ use Rattle.stream_worker.specs.declared.state.Asked.TheVariants.{Nothing}
 use Rattle.stream_worker.specs.declared.state.GroupState.TheVariants.{Unknown}
 use Rattle.stream_worker.specs.declared.state.Settings.{Settings}
 use Rattle.stream_worker.specs.declared.worker.Progress.TheVariants.{GoesOn, Stopped}
-use Rattle.stream_drain.specs.Written.{Written, committed_with, written_of, written_too}
+use Rattle.stream_drain.specs.Written.{Beginning, Written, committed_with, written_of, written_too}
 
 -- it stands so in its life, with these ids of deleted entries, if its handler did something of which the lines are what
 -- is gathered, and what is committed after what was there first
-pub record LivesSo (settings : Settings) (json : Bool) (first : Option (List ℕ)) (w : Standing Written)
-    (deleted : List Id) : Type 0 where
+pub record LivesSo (settings : Settings) (first : Beginning) (w : Standing Written) (deleted : List Id) : Type 0 where
   pub doings : Doings
   pub lives : Lives settings (with_doings w doings) deleted
-  pub written : w.history ≡ written_of json first doings
+  pub written : w.history ≡ written_of first doings
 
 -- a new worker, whose handler has gathered nothing, with so much in its file
-abbrev pub newborn_with : Settings → Bool → Option (List ℕ) → Standing Written
-newborn_with settings json first = record {
+abbrev pub newborn_with : Settings → Beginning → Standing Written
+newborn_with settings first = record {
   machine = start settings.every;
   group = Unknown;
   asked = Nothing;
-  history = record { json = json; loose = []; committed = first };
+  history = record { json = first.json; known = first.known; loose = []; committed = first.first };
 }
 
--- the lines of what a handler did: of JSON or not, and after what was in the file first
-abbrev pub lines_shown : Bool × Option (List ℕ) → Doings → Written
-lines_shown p d = written_of p.0 p.1 d
-
 -- if what is written are the lines of these doings, this way leads to what is written then, the lines of more doings
-abbrev pub LeadsSo : Way → Link → Link → Standing Written → Standing Written → Bool → Option (List ℕ) → Doings → Type 0
-LeadsSo way old new w x json first d = loops.LeadsSo lines_shown way old new w x (json, first) d
+abbrev pub LeadsSo : Way → Link → Link → Standing Written → Standing Written → Beginning → Doings → Type 0
+LeadsSo way old new w x first d = loops.LeadsSo written_of way old new w x first d
 
 -- so it is, whatever was in the file first and was done since
 abbrev pub Leads : Way → Link → Link → Standing Written → Standing Written → Type 0
-Leads way old new w x = loops.Leads lines_shown way old new w x
+Leads way old new w x = loops.Leads written_of way old new w x
 
 -- the law: so a worker begins; each round is such a way; and where it lives at first it lives after such rounds, where
 -- just those entries were deleted meanwhile of which the replies in these rounds said so
 pub record RoundsAreLived : Type 0 where
-  pub begins : (settings : Settings) (json : Bool) (first : Option (List ℕ))
-      → LivesSo settings json first (newborn_with settings json first) []
+  pub begins : (settings : Settings) (first : Beginning) → LivesSo settings first (newborn_with settings first) []
   pub goes_on : (settings : Settings) (old new : Link) (w x : Standing Written) (asked : Asked)
       → Turned written_too committed_with settings old new w x asked GoesOn → Leads (Loops settings) old new w x
   pub stops : (settings : Settings) (old new : Link) (w x : Standing Written) (asked : Asked)

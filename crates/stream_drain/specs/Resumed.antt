@@ -1,8 +1,9 @@
 -- Where a worker begins that acknowledges first what the last lines of its file say.
-use Rattle.std.specs.Prelude.{◌≡◌, ◌≤◌, ◌⊎◌, ◌&&◌, ◌||◌, ◌==◌, ℕ, nat_le, List, [], ◌∷◌, ◌++◌, length, map, Bool, Some}
+use Rattle.std.specs.Prelude.{◌≡◌, ◌≤◌, ◌⊎◌, ◌&&◌, ◌||◌, ◌==◌, ℕ, nat_le, List, [], ◌∷◌, ◌++◌, length, map, Bool, Some, None}
 use Rattle.line_log.specs.EntryLine.{Entry}
-use Rattle.line_log.specs.LastLines.{last_of}
+use Rattle.line_log.specs.LastLines.{last_of, lines_of}
 use Rattle.line_log.specs.Lines.{AreLines}
+use Rattle.stream_group.specs.Group.{listed}
 use Rattle.stream_group.specs.Worker.{Id, start}
 use Rattle.stream_worker.specs.Session.{Standing, standing_of}
 use Rattle.stream_worker.specs.declared.state.Asked.TheVariants.{Nothing}
@@ -11,7 +12,9 @@ use Rattle.stream_worker.specs.declared.state.Settings.{Settings}
 use Rattle.stream_worker.specs.declared.worker.Worker.{Worker}
 use Rattle.stream_system.specs.Rounds.{IsStarted}
 use Rattle.stream_drain.specs.Line.{line_in}
+use Rattle.stream_drain.specs.Filed.{with_bytes}
 use Rattle.stream_drain.specs.Lived.{LivesSo}
+use Rattle.stream_drain.specs.Known.{Known}
 use Rattle.stream_drain.specs.Written.{Written, lines_in}
 
 -- the ids of entries, in order
@@ -37,35 +40,44 @@ TellEach json (line ∷ lines) (id ∷ ids) = Tells json line id × TellEach jso
 abbrev pub AreLast : ℕ → List ℕ → List Entry → Type 0
 AreLast number first es = (length es ≡ number) ⊎ ((first ≡ []) × (length es ≤ number))
 
+-- the ids that are known at first: just those of the lines of the file, wherever these are of entries
+abbrev pub KnowsItsFile : Bool → List ℕ → Known → Type 0
+KnowsItsFile json bytes None = Unit {0}
+KnowsItsFile json bytes (Some known) = (es : List Entry) → lines_of bytes ≡ map (line_in json) es
+    → (id : Id) → known id ≡ listed (ids_in es) id
+
 -- a worker that is to acknowledge these ids first, whose handler has gathered nothing, with so much in its file
-abbrev pub resumed_so : Settings → Bool → List Id → List ℕ → Standing Written
-resumed_so settings json ids committed = record {
+abbrev pub resumed_so : Settings → Bool → Known → List Id → List ℕ → Standing Written
+resumed_so settings json known ids committed = record {
   machine = record (start settings.every) { to_acknowledge = ids };
   group = Unknown;
   asked = Nothing;
-  history = record { json = json; loose = []; committed = Some committed };
+  history = record { json = json; known = known; loose = []; committed = Some committed };
 }
 
--- a worker begins so with its file: wherever the file is whole lines, of which the last so many are those of entries, it
--- lives so as one that committed these entries
-abbrev pub BeginsSo : ℕ → Settings → Bool → List ℕ → Standing Written → Type 0
-BeginsSo number settings json committed w = (first : List ℕ) (es : List Entry) → AreLines first
-    → committed ≡ first ++ lines_in json es → AreLast number first es → LivesSo settings json (Some first) w []
+-- a worker begins so with its file. If nothing is looked up: wherever the file is whole lines, of which the last so many
+-- are those of entries, it lives so as one that committed these entries. Else: wherever the file is the lines of entries,
+-- whose ids are known, it lives so as one that committed the last of them
+abbrev pub BeginsSo : ℕ → Settings → Bool → Known → List ℕ → Standing Written → Type 0
+BeginsSo number settings json None committed w = (first : List ℕ) (es : List Entry) → AreLines first
+    → committed ≡ first ++ lines_in json es → AreLast number first es → LivesSo settings (with_bytes json None first) w []
+BeginsSo number settings json (Some known) committed w = (es : List Entry) → committed ≡ lines_in json es
+    → KnowsItsFile json committed (Some known) → LivesSo settings (with_bytes json (Some known) committed) w []
 
 -- and it begins with the ids of the last lines: wherever the file is the lines of entries, it is to acknowledge first the
 -- ids of the last so many of these, in order, and its handler has gathered nothing
-abbrev pub BeginsWithLast : ℕ → Settings → Bool → List ℕ → Standing Written → Type 0
-BeginsWithLast number settings json committed w = (es : List Entry) → committed ≡ lines_in json es
-    → w ≡ resumed_so settings json (ids_in (last_of number es)) committed
+abbrev pub BeginsWithLast : ℕ → Settings → Bool → Known → List ℕ → Standing Written → Type 0
+BeginsWithLast number settings json known committed w = (es : List Entry) → committed ≡ lines_in json es
+    → w ≡ resumed_so settings json known (ids_in (last_of number es)) committed
 
 -- the law: so a worker begins that is to acknowledge the ids of these entries, whose lines are the last of its file
 abbrev pub ResumedIsLived : Type 0
 ResumedIsLived = (settings : Settings) (json : Bool) (first : List ℕ) (es : List Entry)
-    → LivesSo settings json (Some first) (resumed_so settings json (ids_in es) (first ++ lines_in json es)) []
+    → LivesSo settings (with_bytes json None first) (resumed_so settings json None (ids_in es) (first ++ lines_in json es)) []
 
 -- the law: over a file that is the lines of entries, the worker is started as `stream_system` says, with the ids of the
 -- last so many of them
 abbrev pub StartsOverItsFile : Type 0
-StartsOverItsFile = (number : ℕ) (settings : Settings) (json : Bool) (es : List Entry) (worker : Worker) (history : Written)
-    → BeginsWithLast number settings json (lines_in json es) (standing_of worker history)
+StartsOverItsFile = (number : ℕ) (settings : Settings) (json : Bool) (known : Known) (es : List Entry) (worker : Worker)
+    (history : Written) → BeginsWithLast number settings json known (lines_in json es) (standing_of worker history)
     → IsStarted settings (ids_in (last_of number es)) worker

@@ -8,13 +8,13 @@ ghost use Rattle.stream_loop.specs.Loop.{Loops, Stops};
 ghost use Rattle.stream_worker.specs.Session.{standing_of};
 
 use crate::backlog::{Backlog, Watched, backlog_of};
-use crate::lines::Lines;
+use crate::lines::{Fault, Lines};
 use crate::report::Report;
 use anyhow::{Error, Result, anyhow, bail};
-use line_log::{LogError, LogFile};
+use line_log::LogFile;
 use redis_connection::{AskError, Connection, ConnectionError};
 use redis_streams::StreamInfoGroupsReply;
-use redis_wire::Fault;
+use redis_wire::Fault as WireFault;
 use std::alloc::Global;
 use std::fmt;
 use std::io::{Read, Write};
@@ -169,7 +169,7 @@ fn confirmed<R: Read + Drop, W: Write + Drop, D: LogFile + Drop>(
 }
 
 /// Why a round that was to be confirmed failed.
-fn unconfirmed(error: RoundError, fault: &Option<LogError>) -> Error {
+fn unconfirmed(error: RoundError, fault: &Option<Fault>) -> Error {
     match error {
         RoundError::Run(error) => broken_off(error, fault),
         RoundError::Unconfirmed(error) => error.into(),
@@ -224,7 +224,7 @@ fn alone(round: Round) -> Pipelined
 }
 
 /// An error if the handler said to stop.
-fn goes_on(progress: Progress, fault: &Option<LogError>, undone: &Option<String>) -> Result<()>
+fn goes_on(progress: Progress, fault: &Option<Fault>, undone: &Option<String>) -> Result<()>
     ensures ok { OnOk result (progress ≡ Progress.GoesOn) }
     ensures err { OnErr result (progress ≡ Progress.Stopped) }
 {
@@ -321,11 +321,11 @@ fn backlog_in(reply: &StreamInfoGroupsReply, name: &str) -> Option<Backlog> {
 }
 
 /// Why a round failed.
-fn broken_off(error: RunError, fault: &Option<LogError>) -> Error {
+fn broken_off(error: RunError, fault: &Option<Fault>) -> Error {
     match error {
         RunError::Request(RequestError::NotCommitted) => not_committed(fault),
         RunError::Receive {
-            error: ConnectionError::Fault(Fault::Overfull),
+            error: ConnectionError::Fault(WireFault::Overfull),
             ..
         } => { anyhow!("an answer is larger than {LARGEST}: take a smaller --count") }
         RunError::Receive {
@@ -337,7 +337,7 @@ fn broken_off(error: RunError, fault: &Option<LogError>) -> Error {
 }
 
 /// Why what was done was not committed.
-fn not_committed(fault: &Option<LogError>) -> Error {
+fn not_committed(fault: &Option<Fault>) -> Error {
     match fault {
         Some(reason) => anyhow!("cannot write the file: {reason}"),
         _ => RunError::Request(RequestError::NotCommitted).into(),
@@ -345,7 +345,7 @@ fn not_committed(fault: &Option<LogError>) -> Error {
 }
 
 /// Why an entry was not done, and which one if its id is known.
-fn stopped(fault: &Option<LogError>, undone: &Option<String>) -> Error {
+fn stopped(fault: &Option<Fault>, undone: &Option<String>) -> Error {
     match (fault, undone) {
         (Some(reason), Some(id)) => anyhow!("cannot write the line of the entry {id}: {reason}"),
         (Some(reason), None) => anyhow!("cannot write a line: {reason}"),

@@ -1,6 +1,7 @@
 //! What holds of the lines that are gathered and committed, over the rounds of a worker.
 ghost use Rattle.stream_drain.specs.Filed.{AcknowledgedIsFiled};
 ghost use Rattle.stream_drain.specs.Lived.{RoundsAreLived};
+ghost use Rattle.stream_drain.specs.Once.{LooksUpAsTheModel, NoIdIsTwice, StartsLookingUp};
 ghost use Rattle.stream_drain.specs.Resumed.{ResumedIsLived, StartsOverItsFile};
 ghost use Rattle.stream_drain.specs.Tell.{LinesAreAForm, LinesTellEntries};
 ghost use Rattle.stream_drain.specs.Written.{GathersItsLines};
@@ -47,4 +48,20 @@ pub fn lines_tell_entries()
 /// `stream_system` hold of them, for entries whose names and values are bytes, as all are.
 pub fn lines_are_a_form()
     ensures { LinesAreAForm }
+{}
+
+/// If entries are looked up, no id is a line of the file twice, after every schedule of rounds, failures, crashes and
+/// starts, whatever the server hands out. The premises are that none was at first, that each start knows the ids of the
+/// file, and that a crash leaves some of the lines that were gathered from the first on, and no others. The program
+/// starts so over the lines of entries.
+pub fn no_id_is_twice()
+    ensures twice { NoIdIsTwice }
+    ensures starts { StartsLookingUp }
+{}
+
+/// The entries of a reply, a commit, and a crash with the start after it change what the handler has written as they
+/// change the file of the consumer of `stream_failover`, which looks up too. Its law says that no id is twice in that
+/// file, with any server.
+pub fn looks_up_as_the_model()
+    ensures { LooksUpAsTheModel }
 {}

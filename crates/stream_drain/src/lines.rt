@@ -1,11 +1,13 @@
 //! Entries as lines of a file.
-ghost use Rattle.std.specs.Prelude.{◌≡◌, ◌++◌, ◌∷◌, [], List, ℕ, IfOk, IfSome, OnErr, OnOk, flat_map};
+ghost use Rattle.std.specs.Prelude.{◌≡◌, ◌++◌, ◌∷◌, [], List, ℕ, IfOk, IfSome, OnErr, OnOk, flat_map, is_some};
+ghost use Rattle.stream_group.specs.Worker.{done};
 ghost use Rattle.line_log.specs.EntryLine.{field_text, line_of};
 ghost use Rattle.line_log.specs.Holds.{Holds, IsHeld, committed_in};
 ghost use Rattle.line_log.specs.LastLines.{last_of, lines_of};
 ghost use Rattle.line_log.specs.Lines.{AreLines, IsRepaired};
 ghost use Rattle.stream_drain.specs.Line.{line_in};
-ghost use Rattle.stream_drain.specs.Resumed.{TellEach};
+ghost use Rattle.stream_drain.specs.Resumed.{KnowsItsFile, TellEach};
+ghost use Rattle.stream_drain.specs.Known.{known_by, numbers_known};
 ghost use Rattle.stream_drain.specs.Written.{Written, committed_with, written_by, written_too};
 ghost use Rattle.stream_worker.specs.Handling.{pair_of, verdict_of};
 ghost use Rattle.stream_worker.specs.Machine.{ids_of};
@@ -13,10 +15,23 @@ ghost use Rattle.stream_worker.specs.Machine.{ids_of};
 use crate::json_lines::json_line;
 use crate::resume::ids_told;
 use anyhow::Result as AnyResult;
+use known_ids::{FileError, KnownIds, number_of, numbers_of_file};
 use line_log::{LineLog, LogError, LogFile, push_escaped, push_field};
 use std::alloc::{AllocError, Global};
 use stream_in_place::FieldsRef;
 use stream_worker::{EntryRef, Handler, NotCommitted, Verdict};
+use thiserror::Error;
+
+/// Why a line was not gathered, or not committed.
+#[derive(Debug, Drop, Error)]
+pub enum Fault {
+    /// The log did not take it, or memory ran out.
+    #[error("{0}")]
+    Log(LogError),
+    /// Its id is looked up, and is not as servers write one.
+    #[error("its id is not two numbers")]
+    NotAnId,
+}
 
 /// A handler that writes each entry as a line.
 #[derive(Drop)]
@@ -24,14 +39,16 @@ pub struct Lines<D: LogFile + Drop> {
     log: LineLog<D>,
     /// Each line is JSON.
     json: bool,
+    /// If each entry is looked up: the ids that have a line, also one that is gathered.
+    known: Option<KnownIds>,
     /// The line of the entry that is handled; it keeps its room for the next one.
     text: Vec<u8>,
     /// How many entries were handed out, how many were done, and how many of them are committed.
     pub seen: u64,
     pub done: u64,
     pub committed: u64,
-    /// Why it stopped, or did not commit: the log did not take a line, or memory ran out for one.
-    pub fault: Option<LogError>,
+    /// Why it stopped, or did not commit.
+    pub fault: Option<Fault>,
     /// The id of the entry at which it stopped, if there was memory to keep it.
     pub undone: Option<String>,
     ghost held: { ∥ IsHeld D.seen D.may_leave D.is_sound log.file log.len log.is_broken ∥₁ },
@@ -39,18 +56,25 @@ pub struct Lines<D: LogFile + Drop> {
 
 impl<D: LogFile + Drop> Lines<D> {
     /// Opens the log in this file, and writes into it, lines of tabs or of JSON. What is committed at first
-    /// is the whole lines that the file has.
-    pub fn open(alloc: Global, file: D, json: bool) -> Result<Lines<D>, LogError>
+    /// is the whole lines that the file has. If entries are to be looked up, the file is read from its start;
+    /// it is an error if one of its lines tells no id.
+    pub fn open(alloc: Global, file: D, json: bool, look_up: bool) -> Result<Lines<D>, FileError>
         requires { D.is_sound file }
         ensures new { IfOk result (λ lines. (lines.json ≡ json) × (lines.log.batch.items ≡ [])
             × (lines.seen ≡ 0) × (lines.done ≡ 0) × (lines.committed ≡ 0)) }
         ensures repaired { IfOk result (λ lines. IsRepaired (D.seen file) (D.seen lines.log.file)) }
         ensures whole { IfOk result (λ lines.
             IfSome (committed_in (D.seen lines.log.file) lines.log.len) AreLines) }
+        ensures looks { IfOk result (λ lines. is_some lines.known ≡ look_up) }
+        ensures knows { IfOk result (λ lines. IfSome (D.seen file) (λ _.
+            IfSome (committed_in (D.seen lines.log.file) lines.log.len)
+            (λ bytes. KnowsItsFile json bytes (known_by lines.known)))) }
     {
+        let known = ids_of(alloc, &file, json, look_up)?;
         Ok(Lines {
             log: LineLog::open(alloc, file)?,
             json,
+            known,
             text: Vec::new(alloc),
             seen: 0,
             done: 0,
@@ -70,18 +94,25 @@ impl<D: LogFile + Drop> Lines<D> {
         ids_told(alloc, &lines, self.json)
     }
 
-    /// Adds the line of an entry to the log.
-    fn add(&mut self, alloc: Global, entry: &EntryRef<'_>) -> Result<(), LogError>
-        ensures ok { OnOk result (self.new.log.batch.items ≡ self.old.log.batch.items
-            ++ (line_in self.old.json (pair_of entry.now) ++ 10 ∷ [])) }
-        ensures err { OnErr result (self.new.log.batch.items ≡ self.old.log.batch.items) }
+    /// Adds the line of an entry to the log, unless its id is known.
+    fn take(&mut self, alloc: Global, entry: &EntryRef<'_>) -> Result<(), Fault>
+        ensures ok { OnOk result (⟦<Lines<D> as Handler>⟧.history self.new
+            ≡ written_too (⟦<Lines<D> as Handler>⟧.history self.old) (pair_of entry.now) done) }
+        ensures err { OnErr result (⟦<Lines<D> as Handler>⟧.history self.new
+            ≡ ⟦<Lines<D> as Handler>⟧.history self.old) }
         ensures file { (self.new.log.file ≡ self.old.log.file) × (self.new.log.len ≡ self.old.log.len)
             × (self.new.log.is_broken ≡ self.old.log.is_broken) }
-        ensures json { self.new.json ≡ self.old.json }
     {
-        match put(alloc, &mut self.text, entry, self.json) {
-            Ok(()) => self.log.add_line(&self.text),
-            Err(_) => Err(LogError::Memory),
+        match &mut self.known {
+            Some(known) => add_new(
+                alloc,
+                known,
+                &mut self.log,
+                &mut self.text,
+                entry,
+                self.json,
+            ),
+            None => add(alloc, &mut self.log, &mut self.text, entry, self.json),
         }
     }
 }
@@ -93,7 +124,7 @@ impl<D: LogFile + Drop> Handler for Lines<D> {
 
     ghost with_commit = { committed_with };
 
-    ghost history = { λ h. written_by h.json h.log.batch.items (D.seen h.log.file) h.log.len };
+    ghost history = { λ h. written_by h.json (known_by h.known) h.log.batch.items (D.seen h.log.file) h.log.len };
 
     /// Gathers the line of the entry, which is done then; if it cannot, the worker stops.
     fn handle(&mut self, alloc: Global, entry: &EntryRef<'_>) -> Verdict
@@ -103,7 +134,7 @@ impl<D: LogFile + Drop> Handler for Lines<D> {
             × (self.new.log.is_broken ≡ self.old.log.is_broken) }
     {
         self.seen = self.seen.saturating_add(1);
-        match self.add(alloc, entry) {
+        match self.take(alloc, entry) {
             Ok(()) => {
                 self.done = self.done.saturating_add(1);
                 Verdict::Done
@@ -139,11 +170,77 @@ impl<D: LogFile + Drop> Handler for Lines<D> {
                 Ok(())
             }
             Err(error) => {
-                self.fault = Some(error);
+                self.fault = Some(Fault::Log(error));
                 Err(NotCommitted)
             }
         }
     }
+}
+
+/// The ids of the lines of a file, if they are to be looked up.
+fn ids_of<D: LogFile>(
+    alloc: Global,
+    file: &D,
+    json: bool,
+    look_up: bool,
+) -> Result<Option<KnownIds>, FileError>
+    ensures looks { IfOk result (λ known. is_some known ≡ look_up) }
+    ensures knows { IfOk result (λ known. IfSome (D.seen file.now) (λ bytes. KnowsItsFile json bytes (known_by known))) }
+{
+    if look_up {
+        Ok(Some(KnownIds::of(numbers_of_file(alloc, file, json)?)))
+    } else {
+        Ok(None)
+    }
+}
+
+/// Adds the line of an entry to the log, unless its id is known. Then its id is known.
+fn add_new<D: LogFile + Drop>(
+    alloc: Global,
+    known: &mut KnownIds,
+    log: &mut LineLog<D>,
+    text: &mut Vec<u8>,
+    entry: &EntryRef<'_>,
+    json: bool,
+) -> Result<(), Fault>
+    ensures ok { OnOk result (written_by json (numbers_known known.new.numbers.items) log.new.batch.items
+        (D.seen log.new.file) log.new.len
+        ≡ written_too (written_by json (numbers_known known.old.numbers.items) log.old.batch.items
+        (D.seen log.old.file) log.old.len) (pair_of entry.now) done) }
+    ensures err { OnErr result ((known.new.numbers.items ≡ known.old.numbers.items)
+        × (log.new.batch.items ≡ log.old.batch.items)) }
+    ensures file { (log.new.file ≡ log.old.file) × (log.new.len ≡ log.old.len)
+        × (log.new.is_broken ≡ log.old.is_broken) }
+{
+    let Some(number) = number_of(entry.id().as_bytes()) else {
+        return Err(Fault::NotAnId);
+    };
+    if known.has(number) {
+        return Ok(());
+    }
+    known.make_room()?;
+    add(alloc, log, text, entry, json)?;
+    known.add(number)?;
+    Ok(())
+}
+
+/// Adds the line of an entry to the log.
+fn add<D: LogFile + Drop>(
+    alloc: Global,
+    log: &mut LineLog<D>,
+    text: &mut Vec<u8>,
+    entry: &EntryRef<'_>,
+    json: bool,
+) -> Result<(), Fault>
+    ensures ok { OnOk result (log.new.batch.items ≡ log.old.batch.items
+        ++ (line_in json (pair_of entry.now) ++ 10 ∷ [])) }
+    ensures err { OnErr result (log.new.batch.items ≡ log.old.batch.items) }
+    ensures file { (log.new.file ≡ log.old.file) × (log.new.len ≡ log.old.len)
+        × (log.new.is_broken ≡ log.old.is_broken) }
+{
+    put(alloc, text, entry, json)?;
+    log.add_line(text)?;
+    Ok(())
 }
 
 /// Puts the line of an entry in place of this text.
@@ -180,4 +277,16 @@ fn push_fields(text: &mut Vec<u8>, fields: FieldsRef<'_>) -> Result<(), AllocErr
         push_field(text, name, value)?;
     }
     Ok(())
+}
+
+impl From<LogError> for Fault {
+    fn from(error: LogError) -> Fault {
+        Fault::Log(error)
+    }
+}
+
+impl From<AllocError> for Fault {
+    fn from(_error: AllocError) -> Fault {
+        Fault::Log(LogError::Memory)
+    }
 }

@@ -97,12 +97,13 @@ fn drain_by(rt: &HostRuntime, options: Options) -> Result<()> {
         path,
         until_empty,
         json,
+        look_up,
         quiet,
         dead,
         wait,
     } = options;
     let alloc = rt.alloc();
-    let mut lines = lines_at(rt, &path, json)?;
+    let mut lines = lines_at(rt, &path, json, look_up)?;
     let mut connection = Connection::new(alloc, rt.reader(), io::writer(rt), Limits::default())?;
     let mut report = report_of(rt, &settings, quiet)?;
     let mut dead = dead_of(alloc, &mut settings, dead)?;
@@ -130,12 +131,12 @@ fn drain_by(rt: &HostRuntime, options: Options) -> Result<()> {
 }
 
 /// The lines in the file of this path.
-fn lines_at(rt: &HostRuntime, path: &str, json: bool) -> Result<Lines<SystemFile>> {
+fn lines_at(rt: &HostRuntime, path: &str, json: bool, look_up: bool) -> Result<Lines<SystemFile>> {
     let file = match SystemFile::open(rt, path) {
         Ok(file) => file,
         Err(error) => return Err(not_opened(path, error)),
     };
-    Lines::open(rt.alloc(), file, json).context(format_args!("cannot open {path}"))
+    Lines::open(rt.alloc(), file, json, look_up).context(format_args!("cannot open {path}"))
 }
 
 /// Why a file was not opened.

@@ -21,6 +21,8 @@ pub struct Options {
     pub until_empty: bool,
     /// Each line is JSON.
     pub json: bool,
+    /// Each entry is looked up in the file, and none gets a second line.
+    pub look_up: bool,
     /// Nothing is shown but the counts at the end.
     pub quiet: bool,
     /// Entries that were delivered too often go to a stream of dead letters.
@@ -44,6 +46,9 @@ static DEAD_VALUES: [&str; 2] = ["TIMES", "STREAM"];
 
 const DEAD: &str = "--dead <TIMES> <STREAM>";
 
+const LOOK_UP: &str =
+    "Reads the whole file first, and writes no entry of it again, whatever the server hands out";
+
 const WAIT: &str =
     "So many replicas are to confirm each read within so many milliseconds, each number 1 at least";
 
@@ -61,6 +66,7 @@ pub fn options_of(alloc: Global, words: &[String]) -> Result<Options, Error>
         path: String::from_str(alloc, word_of(&matches, "FILE"))?,
         until_empty: matches.get_flag("until-empty"),
         json: matches.get_flag("json"),
+        look_up: matches.get_flag("look-up"),
         quiet: matches.get_flag("quiet"),
         dead,
         wait,
@@ -96,6 +102,7 @@ fn with_flags<'a>(alloc: Global, command: Command<'a>) -> Result<Command<'a>, Al
     command
         .arg(pair(alloc, "dead", DEAD_VALUES.as_slice(), dead))?
         .arg(flag(alloc, "json", "Each line is an object of JSON"))?
+        .arg(flag(alloc, "look-up", LOOK_UP))?
         .arg(flag(alloc, "quiet", "Nothing is shown but the counts at the end"))?
         .arg(flag(
             alloc,

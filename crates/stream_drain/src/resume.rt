@@ -4,6 +4,7 @@ ghost use Rattle.std.specs.List.{list_all};
 ghost use Rattle.line_log.specs.Holds.{committed_in};
 ghost use Rattle.line_log.specs.LineTexts.{bytes_of};
 ghost use Rattle.stream_drain.specs.Resumed.{BeginsSo, BeginsWithLast, Tells, TellEach, is_of_id};
+ghost use Rattle.stream_drain.specs.Known.{known_by};
 ghost use Rattle.stream_worker.specs.Machine.{ids_of};
 ghost use Rattle.stream_worker.specs.Session.{standing_of};
 
@@ -35,11 +36,11 @@ pub fn begun<D: LogFile + Drop>(
     ensures settings { IfOk result (λ b. b.worker.settings ≡ settings) }
     ensures lives { IfOk result (λ b. lines.now.log.batch.items ≡ []
         → IfSome (committed_in (D.seen lines.now.log.file) lines.now.log.len)
-        (λ bytes. BeginsSo LARGEST_COUNT settings lines.now.json bytes
+        (λ bytes. BeginsSo LARGEST_COUNT settings lines.now.json (known_by lines.now.known) bytes
         (standing_of b.worker (⟦<Lines<D> as Handler>⟧.history lines.now)))) }
     ensures last { IfOk result (λ b. lines.now.log.batch.items ≡ []
         → IfSome (committed_in (D.seen lines.now.log.file) lines.now.log.len)
-        (λ bytes. BeginsWithLast LARGEST_COUNT settings lines.now.json bytes
+        (λ bytes. BeginsWithLast LARGEST_COUNT settings lines.now.json (known_by lines.now.known) bytes
         (standing_of b.worker (⟦<Lines<D> as Handler>⟧.history lines.now)))) }
 {
     let ids = lines.last_ids(alloc, LARGEST_COUNT)?;

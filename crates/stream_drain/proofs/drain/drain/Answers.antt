@@ -4,6 +4,7 @@ use Rattle.stream_worker.specs.declared.state.Settings.{Settings}
 use Rattle.stream_worker.specs.declared.worker.Worker.{Worker}
 use Rattle.stream_drain.specs.Lived.{Leads}
 use Rattle.stream_loop.specs.Loop.{Loops, Stops}
+use Rattle.stream_drain.specs.Known.{Known, known_by}
 use Rattle.stream_drain.specs.Written.{Written, written_by}
 use Rattle.stream_letters.proofs.DeadLemmas.{on_err}
 use Rattle.stream_drain.proofs.FiledLemmas.{filed_from, with_loops, with_stops}
@@ -11,17 +12,17 @@ use Rattle.stream_drain.proofs.LivedLemmas.{leads_both, leads_end, leads_same, l
 use Rattle.stream_drain.proofs.drain.drain.Goals as goal
 
 -- where a worker stands, with what its handler has written
-abbrev stands : Worker → Bool → List ℕ → Option (List ℕ) → ℕ → Standing Written
-stands w json loose known len = standing_of w (written_by json loose known len)
+abbrev stands : Worker → Bool → Known → List ℕ → Option (List ℕ) → ℕ → Standing Written
+stands w json known loose file len = standing_of w (written_by json known loose file len)
 
 pub returns-in_err-asked-clause-err : goal.returns-in_err-asked-clause-err
 returns-in_err-asked-clause-err g c =
     let settings = c.args.worker.now.settings in
-    let w = stands c.args.worker.now c.args.lines.now.json c.args.lines.now.log.batch.items
+    let w = stands c.args.worker.now c.args.lines.now.json (known_by c.args.lines.now.known) c.args.lines.now.log.batch.items
     (g.D.LogFile.seen c.args.lines.now.log.file) c.args.lines.now.log.len in
-    let x = stands c.loop.worker c.loop.lines.json c.loop.lines.log.batch.items
+    let x = stands c.loop.worker c.loop.lines.json (known_by c.loop.lines.known) c.loop.lines.log.batch.items
     (g.D.LogFile.seen c.loop.lines.log.file) c.loop.lines.log.len in
-    let y = stands c.turn.new.worker c.turn.new.lines.json c.turn.new.lines.log.batch.items
+    let y = stands c.turn.new.worker c.turn.new.lines.json (known_by c.turn.new.lines.known) c.turn.new.lines.log.batch.items
     (g.D.LogFile.seen c.turn.new.lines.log.file) c.turn.new.lines.log.len in
     on_err c.from_residual.result
     (leads_stop settings c.args.connection.now c.loop.connection c.turn.new.connection w x y c.loop.invariant.leads
@@ -31,14 +32,14 @@ returns-in_err-asked-clause-err g c =
 pub returns-in_err-asked-clause-filed : goal.returns-in_err-asked-clause-filed
 returns-in_err-asked-clause-filed g c =
     let settings = c.args.worker.now.settings in
-    let w = stands c.args.worker.now c.args.lines.now.json c.args.lines.now.log.batch.items
+    let w = stands c.args.worker.now c.args.lines.now.json (known_by c.args.lines.now.known) c.args.lines.now.log.batch.items
     (g.D.LogFile.seen c.args.lines.now.log.file) c.args.lines.now.log.len in
-    let x = stands c.loop.worker c.loop.lines.json c.loop.lines.log.batch.items
+    let x = stands c.loop.worker c.loop.lines.json (known_by c.loop.lines.known) c.loop.lines.log.batch.items
     (g.D.LogFile.seen c.loop.lines.log.file) c.loop.lines.log.len in
-    let y = stands c.turn.new.worker c.turn.new.lines.json c.turn.new.lines.log.batch.items
+    let y = stands c.turn.new.worker c.turn.new.lines.json (known_by c.turn.new.lines.known) c.turn.new.lines.log.batch.items
     (g.D.LogFile.seen c.turn.new.lines.log.file) c.turn.new.lines.log.len in
     filed_from g.D.LogFile.seen g.D.LogFile.may_leave g.D.LogFile.is_sound settings c.args.connection.now
-    c.turn.new.connection w c.turn.new.worker c.turn.new.lines.json c.turn.new.lines.log.batch.items
+    c.turn.new.connection w c.turn.new.worker c.turn.new.lines.json (known_by c.turn.new.lines.known) c.turn.new.lines.log.batch.items
     c.turn.new.lines.log.file c.turn.new.lines.log.len c.turn.new.lines.log.is_broken c.turn.new.lines.held
     (with_stops settings c.args.connection.now c.turn.new.connection w y
     (leads_stop settings c.args.connection.now c.loop.connection c.turn.new.connection w x y c.loop.invariant.leads
@@ -48,11 +49,11 @@ returns-in_err-asked-clause-filed g c =
 pub returns-then-lines-seen-clause-ok : goal.returns-then-lines-seen-clause-ok
 returns-then-lines-seen-clause-ok g c =
     let settings = c.args.worker.now.settings in
-    let w = stands c.args.worker.now c.args.lines.now.json c.args.lines.now.log.batch.items
+    let w = stands c.args.worker.now c.args.lines.now.json (known_by c.args.lines.now.known) c.args.lines.now.log.batch.items
     (g.D.LogFile.seen c.args.lines.now.log.file) c.args.lines.now.log.len in
-    let x = stands c.loop.worker c.loop.lines.json c.loop.lines.log.batch.items
+    let x = stands c.loop.worker c.loop.lines.json (known_by c.loop.lines.known) c.loop.lines.log.batch.items
     (g.D.LogFile.seen c.loop.lines.log.file) c.loop.lines.log.len in
-    let y = stands c.turn.new.worker c.turn.new.lines.json c.turn.new.lines.log.batch.items
+    let y = stands c.turn.new.worker c.turn.new.lines.json (known_by c.turn.new.lines.known) c.turn.new.lines.log.batch.items
     (g.D.LogFile.seen c.turn.new.lines.log.file) c.turn.new.lines.log.len in
     leads_both settings c.args.connection.now c.loop.connection c.turn.new.connection w x y c.loop.invariant.leads
     (subst (λ (s : Settings). Leads (Loops s) c.loop.connection c.turn.new.connection x y)
@@ -61,49 +62,49 @@ returns-then-lines-seen-clause-ok g c =
 pub returns-then-lines-seen-clause-filed : goal.returns-then-lines-seen-clause-filed
 returns-then-lines-seen-clause-filed g c =
     let settings = c.args.worker.now.settings in
-    let w = stands c.args.worker.now c.args.lines.now.json c.args.lines.now.log.batch.items
+    let w = stands c.args.worker.now c.args.lines.now.json (known_by c.args.lines.now.known) c.args.lines.now.log.batch.items
     (g.D.LogFile.seen c.args.lines.now.log.file) c.args.lines.now.log.len in
-    let y = stands c.turn.new.worker c.turn.new.lines.json c.turn.new.lines.log.batch.items
+    let y = stands c.turn.new.worker c.turn.new.lines.json (known_by c.turn.new.lines.known) c.turn.new.lines.log.batch.items
     (g.D.LogFile.seen c.turn.new.lines.log.file) c.turn.new.lines.log.len in
     filed_from g.D.LogFile.seen g.D.LogFile.may_leave g.D.LogFile.is_sound settings c.args.connection.now
-    c.turn.new.connection w c.turn.new.worker c.turn.new.lines.json c.turn.new.lines.log.batch.items
+    c.turn.new.connection w c.turn.new.worker c.turn.new.lines.json (known_by c.turn.new.lines.known) c.turn.new.lines.log.batch.items
     c.turn.new.lines.log.file c.turn.new.lines.log.len c.turn.new.lines.log.is_broken c.turn.new.lines.held
     (with_loops settings c.args.connection.now c.turn.new.connection w y (returns-then-lines-seen-clause-ok g c))
 
 pub returns-clause-err : goal.returns-clause-err
 returns-clause-err g c =
-    let w = stands c.args.worker.now c.args.lines.now.json c.args.lines.now.log.batch.items
+    let w = stands c.args.worker.now c.args.lines.now.json (known_by c.args.lines.now.known) c.args.lines.now.log.batch.items
     (g.D.LogFile.seen c.args.lines.now.log.file) c.args.lines.now.log.len in
-    let x = stands c.loop.worker c.loop.lines.json c.loop.lines.log.batch.items
+    let x = stands c.loop.worker c.loop.lines.json (known_by c.loop.lines.known) c.loop.lines.log.batch.items
     (g.D.LogFile.seen c.loop.lines.log.file) c.loop.lines.log.len in
     leads_end c.args.worker.now.settings c.args.connection.now c.loop.connection w x c.loop.invariant.leads
 
 pub returns-clause-filed : goal.returns-clause-filed
 returns-clause-filed g c =
     let settings = c.args.worker.now.settings in
-    let w = stands c.args.worker.now c.args.lines.now.json c.args.lines.now.log.batch.items
+    let w = stands c.args.worker.now c.args.lines.now.json (known_by c.args.lines.now.known) c.args.lines.now.log.batch.items
     (g.D.LogFile.seen c.args.lines.now.log.file) c.args.lines.now.log.len in
-    let x = stands c.loop.worker c.loop.lines.json c.loop.lines.log.batch.items
+    let x = stands c.loop.worker c.loop.lines.json (known_by c.loop.lines.known) c.loop.lines.log.batch.items
     (g.D.LogFile.seen c.loop.lines.log.file) c.loop.lines.log.len in
     filed_from g.D.LogFile.seen g.D.LogFile.may_leave g.D.LogFile.is_sound settings c.args.connection.now
-    c.loop.connection w c.loop.worker c.loop.lines.json c.loop.lines.log.batch.items c.loop.lines.log.file
+    c.loop.connection w c.loop.worker c.loop.lines.json (known_by c.loop.lines.known) c.loop.lines.log.batch.items c.loop.lines.log.file
     c.loop.lines.log.len c.loop.lines.log.is_broken c.loop.lines.held
     (with_loops settings c.args.connection.now c.loop.connection w x c.loop.invariant.leads)
 
 pub loop-init : goal.loop-init
 loop-init g c =
-    let w = stands c.args.worker.now c.args.lines.now.json c.args.lines.now.log.batch.items
+    let w = stands c.args.worker.now c.args.lines.now.json (known_by c.args.lines.now.known) c.args.lines.now.log.batch.items
     (g.D.LogFile.seen c.args.lines.now.log.file) c.args.lines.now.log.len in
     record { settings = refl; leads = leads_same c.args.worker.now.settings c.args.connection.now w }
 
 pub loop-preserved : goal.loop-preserved
 loop-preserved g c =
     let settings = c.args.worker.now.settings in
-    let w = stands c.args.worker.now c.args.lines.now.json c.args.lines.now.log.batch.items
+    let w = stands c.args.worker.now c.args.lines.now.json (known_by c.args.lines.now.known) c.args.lines.now.log.batch.items
     (g.D.LogFile.seen c.args.lines.now.log.file) c.args.lines.now.log.len in
-    let x = stands c.loop.worker c.loop.lines.json c.loop.lines.log.batch.items
+    let x = stands c.loop.worker c.loop.lines.json (known_by c.loop.lines.known) c.loop.lines.log.batch.items
     (g.D.LogFile.seen c.loop.lines.log.file) c.loop.lines.log.len in
-    let y = stands c.turn.new.worker c.turn.new.lines.json c.turn.new.lines.log.batch.items
+    let y = stands c.turn.new.worker c.turn.new.lines.json (known_by c.turn.new.lines.known) c.turn.new.lines.log.batch.items
     (g.D.LogFile.seen c.turn.new.lines.log.file) c.turn.new.lines.log.len in
     record {
       settings = c.turn.ensures.settings ∙ c.loop.invariant.settings;

@@ -1,18 +1,19 @@
 use Rattle.std.proofs.Common.{ℕ, Bool, List, Option}
 use Rattle.stream_worker.specs.Session.{Standing, standing_of}
 use Rattle.stream_worker.specs.declared.worker.Worker.{Worker}
+use Rattle.stream_drain.specs.Known.{Known, known_by}
 use Rattle.stream_drain.specs.Written.{Written, written_by}
 use Rattle.stream_letters.proofs.DeadLemmas.{on_err}
 use Rattle.stream_drain.proofs.LivedLemmas.{leads_besides, leads_both, leads_breaks, leads_stop}
 use Rattle.stream_drain.proofs.drain.turn.Goals as goal
 
 -- where a worker stands, with what its handler has written
-abbrev stands : Worker → Bool → List ℕ → Option (List ℕ) → ℕ → Standing Written
-stands w json loose known len = standing_of w (written_by json loose known len)
+abbrev stands : Worker → Bool → Known → List ℕ → Option (List ℕ) → ℕ → Standing Written
+stands w json known loose file len = standing_of w (written_by json known loose file len)
 
 pub returns-in_err-look-clause-err : goal.returns-in_err-look-clause-err
 returns-in_err-look-clause-err g c =
-    let w = stands c.args.worker.now c.args.lines.now.json c.args.lines.now.log.batch.items
+    let w = stands c.args.worker.now c.args.lines.now.json (known_by c.args.lines.now.known) c.args.lines.now.log.batch.items
     (g.D.LogFile.seen c.args.lines.now.log.file) c.args.lines.now.log.len in
     on_err c.from_residual.result
     (leads_breaks c.args.worker.now.settings c.args.connection.now c.look.new.connection w c.in_err-look.ensures.err)
@@ -20,9 +21,9 @@ returns-in_err-look-clause-err g c =
 pub returns-in_err-made-clause-err : goal.returns-in_err-made-clause-err
 returns-in_err-made-clause-err g c =
     let settings = c.args.worker.now.settings in
-    let w = stands c.args.worker.now c.args.lines.now.json c.args.lines.now.log.batch.items
+    let w = stands c.args.worker.now c.args.lines.now.json (known_by c.args.lines.now.known) c.args.lines.now.log.batch.items
     (g.D.LogFile.seen c.args.lines.now.log.file) c.args.lines.now.log.len in
-    let y = stands c.any_round.new.worker c.any_round.new.lines.json c.any_round.new.lines.log.batch.items
+    let y = stands c.any_round.new.worker c.any_round.new.lines.json (known_by c.any_round.new.lines.known) c.any_round.new.lines.log.batch.items
     (g.D.LogFile.seen c.any_round.new.lines.log.file) c.any_round.new.lines.log.len in
     on_err c.from_residual-in_err-made.result
     (leads_stop settings c.args.connection.now c.look.new.connection c.any_round.new.connection w w y
@@ -32,9 +33,9 @@ returns-in_err-made-clause-err g c =
 pub returns-in_err-count-clause-err : goal.returns-in_err-count-clause-err
 returns-in_err-count-clause-err g c =
     let settings = c.args.worker.now.settings in
-    let w = stands c.args.worker.now c.args.lines.now.json c.args.lines.now.log.batch.items
+    let w = stands c.args.worker.now c.args.lines.now.json (known_by c.args.lines.now.known) c.args.lines.now.log.batch.items
     (g.D.LogFile.seen c.args.lines.now.log.file) c.args.lines.now.log.len in
-    let y = stands c.any_round.new.worker c.any_round.new.lines.json c.any_round.new.lines.log.batch.items
+    let y = stands c.any_round.new.worker c.any_round.new.lines.json (known_by c.any_round.new.lines.known) c.any_round.new.lines.log.batch.items
     (g.D.LogFile.seen c.any_round.new.lines.log.file) c.any_round.new.lines.log.len in
     on_err c.from_residual-in_err-count.result
     (leads_stop settings c.args.connection.now c.any_round.new.connection c.count.new.connection w y y
@@ -46,9 +47,9 @@ returns-in_err-count-clause-err g c =
 pub returns-clause-ok : goal.returns-clause-ok
 returns-clause-ok g c =
     let settings = c.args.worker.now.settings in
-    let w = stands c.args.worker.now c.args.lines.now.json c.args.lines.now.log.batch.items
+    let w = stands c.args.worker.now c.args.lines.now.json (known_by c.args.lines.now.known) c.args.lines.now.log.batch.items
     (g.D.LogFile.seen c.args.lines.now.log.file) c.args.lines.now.log.len in
-    let y = stands c.any_round.new.worker c.any_round.new.lines.json c.any_round.new.lines.log.batch.items
+    let y = stands c.any_round.new.worker c.any_round.new.lines.json (known_by c.any_round.new.lines.known) c.any_round.new.lines.log.batch.items
     (g.D.LogFile.seen c.any_round.new.lines.log.file) c.any_round.new.lines.log.len in
     leads_both settings c.args.connection.now c.any_round.new.connection c.count.new.connection w y y
     (leads_both settings c.args.connection.now c.look.new.connection c.any_round.new.connection w w y

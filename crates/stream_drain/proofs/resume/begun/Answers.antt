@@ -1,13 +1,14 @@
 use Rattle.line_log.specs.Holds.{committed_in}
 use Rattle.stream_worker.specs.Machine.{ids_of, machine_of}
 use Rattle.stream_drain.specs.declared.resume.TheConstants.{LARGEST_COUNT}
+use Rattle.stream_drain.specs.Known.{known_by}
 use Rattle.stream_drain.proofs.ResumeLemmas.{it_begins_so, it_begins_with_last}
 use Rattle.stream_drain.proofs.resume.begun.Goals as goal
 
 pub returns-clause-lives : goal.returns-clause-lives
 returns-clause-lives g c empty =
     let w = c.resumed-worker.result in
-    it_begins_so LARGEST_COUNT c.args.settings c.args.lines.now.json (ids_of c.in_ok-ids.ids)
+    it_begins_so LARGEST_COUNT c.args.settings c.args.lines.now.json (known_by c.args.lines.now.known) (ids_of c.in_ok-ids.ids)
     c.args.lines.now.log.batch.items
     (committed_in (g.D.LogFile.seen c.args.lines.now.log.file) c.args.lines.now.log.len)
     (machine_of w) w.group w.asked c.resumed-worker.ensures.machine c.resumed-worker.ensures.group
@@ -16,7 +17,7 @@ returns-clause-lives g c empty =
 pub returns-clause-last : goal.returns-clause-last
 returns-clause-last g c empty =
     let w = c.resumed-worker.result in
-    it_begins_with_last LARGEST_COUNT c.args.settings c.args.lines.now.json (ids_of c.in_ok-ids.ids)
+    it_begins_with_last LARGEST_COUNT c.args.settings c.args.lines.now.json (known_by c.args.lines.now.known) (ids_of c.in_ok-ids.ids)
     c.args.lines.now.log.batch.items
     (committed_in (g.D.LogFile.seen c.args.lines.now.log.file) c.args.lines.now.log.len)
     (machine_of w) w.group w.asked c.resumed-worker.ensures.machine c.resumed-worker.ensures.group

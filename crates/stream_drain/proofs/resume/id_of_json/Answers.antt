@@ -1,7 +1,8 @@
 use Rattle.std.proofs.Common.{◌≡◌, ℕ, true, List, ◌∷◌, ◌++◌, codes, take, drop, length, ◌≤◌, ◌∙◌, rules, subst}
 use Rattle.std.specs.List.{list_all, slice_range}
 use Rattle.stream_drain.specs.Resumed.{is_of_id}
-use Rattle.stream_drain.proofs.ResumeLemmas.{from_on, of_parts}
+use Rattle.stream_drain.proofs.ResumeLemmas.{from_on}
+use Rattle.stream_drain.proofs.TellLemmas.{of_parts}
 use Rattle.stream_drain.proofs.resume.id_of_json.Goals as goal
 
 pub returns-then-is_next : goal.returns-then-is_next

@@ -1,0 +1,15 @@
+use Rattle.std.proofs.Common.{◌≤◌, ◌-◌}
+use Rattle.line_log.specs.Lines.{HasNoEnd}
+use Rattle.known_ids.proofs.FileLemmas.{TookTo}
+use Rattle.known_ids.proofs.file.numbers_of_file.Given as goal
+
+-- the ids so far, and those of what is left, are all
+abbrev pub invariant-loop-at : goal.invariant-loop-at
+invariant-loop-at g l = record {
+  within : l.at ≤ l.len;
+  no_end : HasNoEnd l.line.items;
+  so_far : TookTo (g.D.LogFile.seen l.fn.file) l.fn.json l.numbers.items l.line.items l.at;
+}
+
+abbrev pub decreases-loop-at : goal.decreases-loop-at
+decreases-loop-at g l = l.len - l.at

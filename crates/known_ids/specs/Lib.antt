@@ -1,0 +1,5 @@
+-- What is known of ids, and what lines tell.
+pub mod Cut
+pub mod Number
+pub mod Known
+pub mod Told

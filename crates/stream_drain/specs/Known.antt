@@ -1,0 +1,39 @@
+-- Ids that are looked up, and the entries that get a line.
+use Rattle.std.specs.Prelude.{◌||◌, ℕ, List, [], ◌∷◌, Bool, false, Option, Some, None, if◌then◌else◌, option_map}
+use Rattle.std.specs.Str.{bytes_eq}
+use Rattle.known_ids.specs.Known.{knows}
+use Rattle.known_ids.specs.declared.known.KnownIds.{KnownIds}
+use Rattle.line_log.specs.EntryLine.{Entry}
+use Rattle.stream_group.specs.Worker.{Id}
+
+-- whether an id is known: that of a line that is there, or is gathered. None if no entry is looked up
+abbrev pub Known : Type 0
+Known = Option (Id → Bool)
+
+-- the entry of this id gets no line
+abbrev pub is_known : Known → Id → Bool
+is_known None id = false
+is_known (Some known) id = known id
+
+-- with this id too
+abbrev pub known_too : Known → Id → Known
+known_too known id = option_map (λ before other. bytes_eq id other || before other) known
+
+-- of these numbers
+abbrev pub numbers_known : List ℕ → Known
+numbers_known numbers = Some (knows numbers)
+
+-- of these ids
+abbrev pub known_by : Option KnownIds → Known
+known_by None = None
+known_by (Some ids) = numbers_known ids.numbers.items
+
+-- the entries that get a line: none whose id is known, or is that of an entry before it
+abbrev pub lines_for : Known → List Entry → List Entry
+lines_for known [] = []
+lines_for known (e ∷ es) = if is_known known e.0 then lines_for known es else e ∷ lines_for (known_too known e.0) es
+
+-- what is known after them
+abbrev pub known_after : Known → List Entry → Known
+known_after known [] = known
+known_after known (e ∷ es) = if is_known known e.0 then known_after known es else known_after (known_too known e.0) es

@@ -1,0 +1,74 @@
+-- No id is twice in the file of a worker that looks entries up, whatever the server hands out.
+use Rattle.std.specs.Prelude.{◌≡◌, ℕ, List, [], Bool, Some}
+use Rattle.line_log.specs.EntryLine.{Entry}
+use Rattle.line_log.specs.Holds.{with_more}
+use Rattle.line_log.specs.Lines.{StartsWith}
+use Rattle.redis_connection.specs.Link.{Link}
+use Rattle.stream_group.specs.Group.{ids_of, listed}
+use Rattle.stream_group.specs.Worker.{Answer, Id, Verdict, entries_in, told_in}
+use Rattle.stream_in_place.specs.Sent.{Pairs}
+use Rattle.stream_once.specs.Consumer.{Consumer, restarts, syncs}
+use Rattle.stream_once.specs.Law.{Once}
+use Rattle.stream_failover.specs.Lookup.{lines_of, looks_up}
+use Rattle.stream_worker.specs.Handling.{with_all}
+use Rattle.stream_worker.specs.Session.{Standing, Turned, Fails}
+use Rattle.stream_worker.specs.declared.error.RunError.{RunError}
+use Rattle.stream_worker.specs.declared.state.Asked.{Asked}
+use Rattle.stream_worker.specs.declared.state.Settings.{Settings}
+use Rattle.stream_worker.specs.declared.worker.Progress.{Progress}
+use Rattle.stream_drain.specs.Resumed.{BeginsWithLast, KnowsItsFile, ids_in}
+use Rattle.stream_drain.specs.Written.{Written, committed_with, lines_in, written_too}
+
+-- nothing is gathered over a file that is the lines of these entries, whose ids are known
+abbrev pub over_file : Bool → List Entry → Written
+over_file json es =
+    record { json = json; known = Some (listed (ids_in es)); loose = []; committed = Some (lines_in json es) }
+
+-- where a worker that looks entries up may stand. At first its file is the lines of entries, and no id is there twice.
+-- In each round any reply brings it on, or the round fails. At any time it may end or crash: then its file has what was
+-- committed and the first so many of the lines that were gathered, and another worker is started over it
+pub data Reaches (json : Bool) : Standing Written → Type 0 where
+  begins : (es : List Entry) (w : Standing Written) → Once (ids_in es) → w.history ≡ over_file json es → Reaches json w
+  turns : (settings : Settings) (w x : Standing Written) (old new : Link) (q : Asked) (p : Progress) → Reaches json w
+      → Turned written_too committed_with settings old new w x q p → Reaches json x
+  fails : (settings : Settings) (w x : Standing Written) (old new : Link) (e : RunError) → Reaches json w
+      → Fails written_too committed_with settings old new w x e → Reaches json x
+  crashes : (w x : Standing Written) (kept es : List Entry) → Reaches json w
+      → StartsWith (lines_in json kept) w.history.loose
+      → with_more (lines_in json kept) w.history.committed ≡ Some (lines_in json es) → x.history ≡ over_file json es
+      → Reaches json x
+
+-- what is committed is the lines of entries, and no id is there twice
+pub record HasEachOnce (json : Bool) (w : Standing Written) : Type 0 where
+  pub es : List Entry
+  pub committed : w.history.committed ≡ Some (lines_in json es)
+  pub once : Once (ids_in es)
+
+-- the law
+abbrev pub NoIdIsTwice : Type 0
+NoIdIsTwice = (json : Bool) (w : Standing Written) → Reaches json w → HasEachOnce json w
+
+-- the law: a worker that begins over the lines of entries, whose ids are known, begins so
+abbrev pub StartsLookingUp : Type 0
+StartsLookingUp = (number : ℕ) (settings : Settings) (json : Bool) (known : Id → Bool) (es : List Entry) (w : Standing Written)
+    → KnowsItsFile json (lines_in json es) (Some known)
+    → BeginsWithLast number settings json (Some known) (lines_in json es) w → w.history ≡ over_file json es
+
+-- what a handler has written that gathered the lines of this consumer of `stream_failover`, over its file
+abbrev pub written_as : Bool → Consumer Pairs → Written
+written_as json c = record {
+  json = json;
+  known = Some (listed (ids_of (lines_of c)));
+  loose = lines_in json c.lines;
+  committed = Some (lines_in json c.file);
+}
+
+-- the law: the entries of a reply, a commit, and a crash with the start after it change what the handler has written as
+-- they change the consumer of `stream_failover`
+pub record LooksUpAsTheModel : Type 0 where
+  pub reply : (json : Bool) (c : Consumer Pairs) (a : Answer Pairs) (verdicts : List Verdict)
+      → with_all written_too (written_as json c) (told_in (entries_in a) verdicts)
+      ≡ written_as json (looks_up verdicts (Some a) c)
+  pub commit : (json : Bool) (c : Consumer Pairs) → committed_with (written_as json c) ≡ written_as json (syncs c)
+  pub start : (json : Bool) (every kept more : ℕ) (c : Consumer Pairs)
+      → over_file json (restarts every kept more c).file ≡ written_as json (restarts every kept more c)
