@@ -83,10 +83,12 @@ abbrev pub PlainIsDone : Plain → List (Vec ℕ) → ℕ → Answer → List St
 PlainIsDone (plain.Change change) words now answer old new = IsDone change words now answer old new
 PlainIsDone command words now answer old new = Unit {0}
 
+-- so it is of what such a command may be refused with
 abbrev pub PlainMayRefuse : Plain → List (Vec ℕ) → Refusal → Type 0
 PlainMayRefuse (plain.Change change) words e = MayRefuse change words e
 PlainMayRefuse command words e = Unit {0}
 
+-- so it is of the reply to such a command
 abbrev pub PlainReplies : Plain → List (Vec ℕ) → ℕ → List Stream → List Stream → Reply → Type 0
 PlainReplies (plain.Change change) words now old new reply = Replies change words now old new reply
 PlainReplies command words now old new reply = Unit {0}
