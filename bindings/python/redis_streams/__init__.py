@@ -2,7 +2,7 @@
 
 `find_streams` and its like read the reply at the head of bytes; a `Decoder` reads replies from pieces of bytes, and a
 `Connection` from a socket. `commands` has the commands, `errors` what goes wrong. A `Consumer` reads for a group and
-acknowledges what its handler returned for, at least once. `partition_of` spreads records over the partitions of a stream.
+acknowledges what its handler returned for, at least once. `partition_of` spreads records over partitions.
 """
 from . import cluster, commands, errors
 from .cluster import key_slot, partition_name, partition_of

@@ -10,10 +10,13 @@ from redis_streams import NoPartition, key_slot, partition_name, partition_of
 # As redis-server 7.0.15 told them by CLUSTER KEYSLOT.
 SLOTS = {
     "": 0, "foo": 12182, "user1000": 3443, "{user1000}.following": 3443, "foo{}{bar}": 8363, "foo{{bar}}zap": 4015,
-    "foo{bar}{zap}": 5061, "{}": 15257, "{}a": 10875, "{{x}}": 11068, "}{": 12793, "123456789": 12739, b"\xff\x00": 1023,
+    "foo{bar}{zap}": 5061, "{}": 15257, "{}a": 10875, "{{x}}": 11068, "}{": 12793, "123456789": 12739,
+    b"\xff\x00": 1023,
 }
 # Of another implementation of the checksum.
-PARTITIONS = {("user1000", 12): 3, ("user1000", 1): 0, ("user1000", 65535): 19827, ("", 12): 0, ("{a}b", 12): 0, ("{a}c", 12): 1}
+PARTITIONS = {
+    ("user1000", 12): 3, ("user1000", 1): 0, ("user1000", 65535): 19827, ("", 12): 0, ("{a}b", 12): 0, ("{a}c", 12): 1,
+}
 
 
 class ClusterTest(unittest.TestCase):
