@@ -1,5 +1,5 @@
-/* Redis streams for C: replies read in place, in the bytes of a connection, and commands written
-   into a buffer of the caller.
+/* Redis streams for C: replies read in place, in the bytes of a connection, commands written into a
+   buffer of the caller, and the partitions of a stream.
 
    The library is proved: what a comment here says of a call is a contract of the function that it calls.
    Three things are the caller's, and nothing checks them:
@@ -27,18 +27,19 @@ extern "C" {
 
 /* What a call says. A number from REDIS_FAULT on is a fault of the bytes. */
 enum {
-    REDIS_OK = 0,           /* it is done */
-    REDIS_ROOM = 1,         /* there is too little room, and so much is wanted */
-    REDIS_INCOMPLETE = 2,   /* the bytes end before the reply does: call again with more of them */
-    REDIS_SERVER_ERROR = 3, /* the server sent an error */
-    REDIS_OTHER = 4,        /* a reply of another shape than the call reads */
-    REDIS_MEMORY = 5,       /* out of memory; it says nothing of the bytes */
-    REDIS_TOO_LARGE = 6,    /* an argument of 2^32 bytes or more */
-    REDIS_OUTSIDE = 7,      /* a place that was handed in is not within the bytes */
-    REDIS_NOTHING = 8,      /* no entry, field or stream was handed in, and the server wants one */
-    REDIS_SETTINGS = 9,     /* settings that name nothing: a number is none of its choices, or a text that they
-                               place is not within the bytes or is not UTF-8 */
-    REDIS_NO_OPTIONS = 10,  /* the arguments do not begin with options, of which none is an option too */
+    REDIS_OK = 0,            /* it is done */
+    REDIS_ROOM = 1,          /* there is too little room, and so much is wanted */
+    REDIS_INCOMPLETE = 2,    /* the bytes end before the reply does: call again with more of them */
+    REDIS_SERVER_ERROR = 3,  /* the server sent an error */
+    REDIS_OTHER = 4,         /* a reply of another shape than the call reads */
+    REDIS_MEMORY = 5,        /* out of memory; it says nothing of the bytes */
+    REDIS_TOO_LARGE = 6,     /* an argument of 2^32 bytes or more */
+    REDIS_OUTSIDE = 7,       /* a place that was handed in is not within the bytes */
+    REDIS_NOTHING = 8,       /* no entry, field or stream was handed in, and the server wants one */
+    REDIS_SETTINGS = 9,      /* settings that name nothing: a number is none of its choices, or a text that they
+                                place is not within the bytes or is not UTF-8 */
+    REDIS_NO_OPTIONS = 10,   /* the arguments do not begin with options, of which none is an option too */
+    REDIS_NO_PARTITION = 11, /* there are 0 partitions or more than 65,535, or the number of one is above 65,535 */
 
     /* The bytes are no reply, however they go on: the first fault that reading from the left meets. */
     REDIS_FAULT = 16,
@@ -531,6 +532,34 @@ uint32_t redis_read_autoclaim(const uint8_t *bytes, size_t len, const redis_span
    them. */
 uint32_t redis_read_read(const uint8_t *bytes, size_t len, const redis_span *arguments, size_t argument_count,
                          redis_read_settings *settings, redis_group_place *group, size_t *count);
+
+/* ---- Redis Cluster
+
+   A stream is one key, so one node serves it. Records that are written to several keys, the partitions of a stream,
+   are spread over the nodes. Keys and names are any bytes. */
+
+/* Returns the slot of a key, from 0 to 16,383: CRC-16/XMODEM of its hash tag, or of the whole key if it has none,
+   modulo 16,384. The hash tag is between the first `{` and the first `}` after it, if there is a byte between them.
+   It is the one call that returns none of the numbers above: it cannot fail. It takes no memory. */
+uint32_t redis_key_slot(const uint8_t *key, size_t key_len);
+
+/* Tells the partition of a record, if there are `number` of them: CRC-16/XMODEM of the whole key of the record, braces
+   and all, modulo `number`. Records of one key stay in one partition as long as `number` stays.
+
+   REDIS_OK: `number` is from 1 to 65,535, and `*partition` is from 0 to `number` - 1.
+   REDIS_NO_PARTITION: `number` is another one, and `*partition` is 0.
+   It takes no memory, and returns no other number. */
+uint32_t redis_partition_of(const uint8_t *record_key, size_t record_key_len, size_t number, size_t *partition);
+
+/* Writes the name of a partition of a stream, which is its key: the name, `:{`, the number in decimal, `}`, as in
+   orders:{3}. The number is the hash tag, if the name has no `{`.
+
+   REDIS_OK: `out` begins with the name of the partition, of `*len` bytes.
+   REDIS_ROOM: it has `*len` bytes, for which `room` is too little.
+   REDIS_NO_PARTITION: `partition` is above 65,535, and `*len` is 0. It is returned for each such number.
+   REDIS_MEMORY: `*len` is 0. Memory is taken for the name, and given back before the call ends. */
+uint32_t redis_partition_name(const uint8_t *name, size_t name_len, size_t partition, uint8_t *out, size_t room,
+                              size_t *len);
 
 #ifdef __cplusplus
 }

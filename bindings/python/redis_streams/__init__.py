@@ -2,23 +2,25 @@
 
 `find_streams` and its like read the reply at the head of bytes; a `Decoder` reads replies from pieces of bytes, and a
 `Connection` from a socket. `commands` has the commands, `errors` what goes wrong. A `Consumer` reads for a group and
-acknowledges what its handler returned for, at least once.
+acknowledges what its handler returned for, at least once. `partition_of` spreads records over partitions.
 """
-from . import commands, errors
+from . import cluster, commands, errors
+from .cluster import key_slot, partition_name, partition_of
 from .commands import Command, pack
 from .connection import Connection, Decoder, SocketLike
 from .consumer import Consumer, LeavePending
-from .errors import (ArgumentTooLarge, BadSettings, ConnectionClosed, Error, LibraryNotFound, NothingGiven, OtherReply,
-                     OutOfMemory, ProtocolError, ServerError)
+from .errors import (ArgumentTooLarge, BadSettings, ConnectionClosed, Error, LibraryNotFound, NoPartition, NothingGiven,
+                     OtherReply, OutOfMemory, ProtocolError, ServerError)
 from .records import Group, PendingEntry, PendingSummary, read_groups, read_pending, read_pending_summary
 from .replies import (Claimed, ClaimedIds, Entries, Entry, Stream, Streams, Value, find_autoclaim, find_justid,
                       find_range, find_streams, find_value)
 
 __all__ = [
     "ArgumentTooLarge", "BadSettings", "Claimed", "ClaimedIds", "Command", "Connection", "ConnectionClosed", "Consumer",
-    "Decoder", "Entries", "Entry", "Error", "Group", "LeavePending", "LibraryNotFound", "NothingGiven", "OtherReply",
-    "OutOfMemory", "PendingEntry", "PendingSummary", "ProtocolError", "ServerError", "SocketLike", "Stream", "Streams",
-    "Value", "commands", "errors", "find_autoclaim", "find_justid", "find_range", "find_streams", "find_value", "pack",
-    "read_groups", "read_pending", "read_pending_summary",
+    "Decoder", "Entries", "Entry", "Error", "Group", "LeavePending", "LibraryNotFound", "NoPartition", "NothingGiven",
+    "OtherReply", "OutOfMemory", "PendingEntry", "PendingSummary", "ProtocolError", "ServerError", "SocketLike", "Stream",
+    "Streams", "Value", "cluster", "commands", "errors", "find_autoclaim", "find_justid", "find_range", "find_streams",
+    "find_value", "key_slot", "pack", "partition_name", "partition_of", "read_groups", "read_pending",
+    "read_pending_summary",
 ]
 __version__ = "1.0.0"

@@ -107,13 +107,15 @@ _COMMANDS = {
     "redis_xgroup_setid": "BBB", "redis_xgroup_destroy": "BB", "redis_xinfo_stream": "B", "redis_xinfo_groups": "B",
     "redis_xinfo_consumers": "BB", "redis_xpending_summary": "BB",
 }
+_PARTITIONS = {"redis_key_slot": "B", "redis_partition_of": "BNP", "redis_partition_name": "BNTP"}
 _TYPES: dict[str, list[type]] = {
     "B": [ctypes.c_char_p, SIZE], "T": [ctypes.c_void_p, SIZE], "N": [SIZE], "F": [BOOL], "P": [ctypes.c_void_p],
 }
 
 
 def _declare(library: ctypes.CDLL) -> None:
-    for name, handed in [*_READINGS.items(), *((name, handed + "TP") for name, handed in _COMMANDS.items())]:
+    commands = {name: handed + "TP" for name, handed in _COMMANDS.items()}
+    for name, handed in {**_READINGS, **commands, **_PARTITIONS}.items():
         call = getattr(library, name)
         call.restype = ctypes.c_uint32
         call.argtypes = [kind for letter in handed for kind in _TYPES[letter]]

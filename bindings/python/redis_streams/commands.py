@@ -263,14 +263,19 @@ def _ids(texts: _Texts, ids: Ids) -> tuple[Any, int]:
 
 
 def _packed(name: str, *handed: Any) -> Command:
-    """The command that a call writes: it tells how much room it wants if that is too little."""
+    """The command that a call writes."""
+    return Command(_written(name, *handed))
+
+
+def _written(name: str, *handed: Any) -> bytes:
+    """The bytes that a call writes: it tells how much room it wants if that is too little."""
     call: Callable[..., int] = getattr(c.library(), name)
     room, length = 256, c.SIZE()
     while True:
         out = ctypes.create_string_buffer(room)
         told = call(*handed, out, room, ctypes.byref(length))
         if told == OK:
-            return Command(out.raw[: length.value])
+            return out.raw[: length.value]
         if told != ROOM:
             raise error_of(told)
         room = length.value

@@ -50,6 +50,10 @@ class BadSettings(Error, ValueError):
     """Settings that name nothing, such as an id that is no UTF-8."""
 
 
+class NoPartition(Error, ValueError):
+    """There are 0 partitions or more than 65,535, or the number of one is above 65,535."""
+
+
 class ProtocolError(Error):
     """The bytes are no reply, however they go on: nothing more can be read from their connection."""
 
@@ -116,9 +120,9 @@ class TooMany(ProtocolError):
 
 OK, ROOM, INCOMPLETE, SERVER_ERROR, OTHER = range(5)
 _NAMED: dict[int, type[Error]] = {
-    5: OutOfMemory, 6: ArgumentTooLarge, 8: NothingGiven, 9: BadSettings, 16: UnknownType, 17: StreamedValue,
-    18: BadEnd, 19: BadLength, 20: TooLong, 21: LongLine, 22: TooDeep, 23: BadNumber, 24: BadNull, 25: BadBoolean,
-    26: NotUtf8, 27: BadVerbatim, 28: BadPush, 29: Overfull, 30: TooMany,
+    5: OutOfMemory, 6: ArgumentTooLarge, 8: NothingGiven, 9: BadSettings, 11: NoPartition, 16: UnknownType,
+    17: StreamedValue, 18: BadEnd, 19: BadLength, 20: TooLong, 21: LongLine, 22: TooDeep, 23: BadNumber, 24: BadNull,
+    25: BadBoolean, 26: NotUtf8, 27: BadVerbatim, 28: BadPush, 29: Overfull, 30: TooMany,
 }
 
 

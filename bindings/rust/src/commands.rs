@@ -35,7 +35,7 @@ pub fn pack<T: AsRef<[u8]>>(words: impl IntoIterator<Item = T>) -> Vec<u8> {
 }
 
 /// The bytes that a call writes, in a buffer that is as large as the call wants it.
-fn packed(call: impl Fn(&mut [u8], &mut usize) -> u32) -> Result<Vec<u8>, Error> {
+pub(crate) fn packed(call: impl Fn(&mut [u8], &mut usize) -> u32) -> Result<Vec<u8>, Error> {
     let mut out = vec![0; 256];
     loop {
         let mut len = 0;

@@ -19,6 +19,8 @@ pub enum Error {
     NothingGiven,
     /// Settings that name nothing, such as an id that is no UTF-8.
     BadSettings,
+    /// There are 0 partitions.
+    NoPartition,
     /// Another number than the library's header has.
     Unknown(u32),
 }
@@ -87,6 +89,7 @@ impl Error {
             6 => Error::ArgumentTooLarge,
             8 => Error::NothingGiven,
             9 => Error::BadSettings,
+            11 => Error::NoPartition,
             _ => {
                 let index = number.wrapping_sub(FIRST_FAULT) as usize;
                 FAULTS.get(index).map_or(Error::Unknown(number), |(fault, _)| Error::Protocol(*fault))
@@ -105,6 +108,7 @@ impl fmt::Display for Error {
             Error::ArgumentTooLarge => f.write_str("an argument of 2^32 bytes or more"),
             Error::NothingGiven => f.write_str("no id, field or stream was given"),
             Error::BadSettings => f.write_str("settings that name nothing"),
+            Error::NoPartition => f.write_str("there are 0 partitions"),
             Error::Unknown(number) => write!(f, "the library returned {number}"),
         }
     }

@@ -4,11 +4,13 @@
 //! - [`Decoder`] takes bytes in pieces, [`Connection`] anything that reads and writes.
 //! - [`commands`] has the commands with their options.
 //! - [`records`] reads what a server tells of groups and of what is pending.
+//! - [`cluster`] has the slots of keys, and the partitions of a stream.
 //!
 //! The module `raw` alone has `unsafe`. What the library returns is checked once more where it is used: a place outside
 //! the bytes would be a panic, and never a read of other memory.
 #![deny(unsafe_code)]
 
+pub mod cluster;
 pub mod commands;
 mod connection;
 mod error;

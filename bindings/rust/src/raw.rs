@@ -182,7 +182,7 @@ pub struct PendingSummary {
     pub end_id: Span,
 }
 
-/// Calls that write a command of texts, and of one number or flag after them.
+/// Calls that write a command, or a name, of texts, and of one number or flag after them.
 macro_rules! commands_of_texts {
     ($($name:ident = $call:ident($($text:ident),+ $(; $more:ident: $kind:ty)?);)+) => {
         extern "C" {
@@ -210,6 +210,22 @@ commands_of_texts! {
     xinfo_groups = redis_xinfo_groups(key);
     xinfo_consumers = redis_xinfo_consumers(key, group);
     xpending_summary = redis_xpending_summary(key, group);
+    partition_name = redis_partition_name(name; partition: usize);
+}
+
+extern "C" {
+    fn redis_key_slot(key: *const u8, key_len: usize) -> u32;
+    fn redis_partition_of(key: *const u8, key_len: usize, number: usize, partition: *mut usize) -> u32;
+}
+
+pub fn key_slot(key: &[u8]) -> u32 {
+    // SAFETY: slices.
+    unsafe { redis_key_slot(key.as_ptr(), key.len()) }
+}
+
+pub fn partition_of(record_key: &[u8], number: usize, partition: &mut usize) -> u32 {
+    // SAFETY: slices, apart.
+    unsafe { redis_partition_of(record_key.as_ptr(), record_key.len(), number, partition) }
 }
 
 #[rustfmt::skip]

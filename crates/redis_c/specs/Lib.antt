@@ -10,3 +10,4 @@ pub mod Server
 pub mod Plain
 pub mod Records
 pub mod Nodes
+pub mod Cluster

@@ -22,6 +22,8 @@ pub const NOTHING: u32 = 8;
 pub const SETTINGS: u32 = 9;
 /// The arguments do not begin with options.
 pub const NO_OPTIONS: u32 = 10;
+/// There are 0 partitions or more than 65,535, or the number of one is above 65,535.
+pub const NO_PARTITION: u32 = 11;
 
 /// The first byte of a value names no type of the protocol.
 pub const FAULT_UNKNOWN_TYPE: u32 = 16;

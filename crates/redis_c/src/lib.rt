@@ -1,5 +1,6 @@
-//! A static library for C and what speaks C: replies of streams where they stand in the bytes, and
-//! commands written into buffers, over numbers and byte slices. Its header is `redis_streams.h`.
+//! A static library for C and what speaks C: replies of streams where they stand in the bytes, commands
+//! written into buffers, and the partitions of a stream. All is over numbers and byte slices. Its header
+//! is `redis_streams.h`.
 //!
 //! Each export calls what the crates below have, and says again what they promise.
 #![tactic(auto)]
@@ -9,6 +10,7 @@ mod argument;
 mod at_places;
 mod claiming;
 mod claims;
+mod cluster;
 mod code;
 mod commands;
 mod copying;
@@ -31,6 +33,7 @@ mod trimming;
 
 pub use at_places::{redis_xack_entries, redis_xadd_fields, redis_xclaim_entries};
 pub use claims::{redis_find_autoclaim, redis_find_justid};
+pub use cluster::{redis_key_slot, redis_partition_name, redis_partition_of};
 pub use commands::{
     ReadSettings, redis_xack, redis_xautoclaim, redis_xpending, redis_xreadgroup, redis_xtrim,
 };

@@ -73,7 +73,7 @@ impl Packing {
 }
 
 /// Copies the bytes to the front of the buffer, where they have room.
-fn copied(bytes: &[u8], out: &mut [u8]) -> Packing
+pub fn copied(bytes: &[u8], out: &mut [u8]) -> Packing
     ensures { IsWritten bytes.now out.new result }
 {
     if bytes.len() > out.len() {
