@@ -39,10 +39,10 @@ def read(path):
         return file.read()
 
 
-def edited(crate, edit):
+def edited(crate, edit, texts=None):
     """Returns the function that an edit names, if it names one, the texts of the files that it changes, and for each change
-    the file and the place of it."""
-    function, path, old, texts, sites = None, None, None, {}, []
+    the file and the place of it. `texts` are files that other edits changed before, which it is applied to."""
+    function, path, old, texts, sites = None, None, None, dict(texts or {}), []
     for line in read(edit).split("\n"):
         word, _, rest = line.partition(":")
         rest = rest[1:]
@@ -95,10 +95,18 @@ def checked(crate, texts, functions, kept):
         return ran.stdout.rstrip().split("\n"), ran.returncode
 
 
-def reason(said):
-    """Returns the first reason that a check gave why something is not proved. If it gave none but that a proof names what
-    the edit took away, the reason says so."""
-    told = [it for it in said if re.match(r"(note: )?\S+:\d+:\d+: ", it) and (": error" in it or "it is not proved" in it or it.startswith("note: "))]
-    names = r"(note: )?(\./)?proofs/.*(has no field|is not in scope|has no `|was not admitted)"
-    first = next((it for it in told if not re.match(names, it)), "")
-    return f"(only since a proof names what the edit took away) {told[0][:160]}" if told and not first else first[:160]
+TOLD = re.compile(r"(?:note: )?(?:\./)?(\S+?):(\d+):\d+: ")
+
+
+def reasons(said):
+    """Returns the reasons that a check gave why something is not proved: for each its file, its line in it, and the text."""
+    found = [(TOLD.match(line), line) for line in said]
+    return [(at[1], int(at[2]), line) for at, line in found
+            if at and (": error" in line or "it is not proved" in line or line.startswith("note: "))]
+
+
+def first_of(reasons):
+    """Returns the first of some reasons. If there are none but that a proof names what the edit took away, it says so."""
+    names = re.compile(r"(note: )?(\./)?proofs/.*(has no field|is not in scope|has no `|was not admitted)")
+    first = next((line for _, _, line in reasons if not names.match(line)), "")
+    return f"(only since a proof names what the edit took away) {reasons[0][2][:160]}" if reasons and not first else first[:160]
