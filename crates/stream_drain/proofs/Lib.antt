@@ -15,3 +15,4 @@ pub mod ResumeLemmas
 pub mod ModelLemmas
 pub mod OnceLemmas
 pub mod ReachLemmas
+pub mod FailoverLemmas

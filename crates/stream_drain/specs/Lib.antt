@@ -9,3 +9,4 @@ pub mod Filed
 pub mod Tell
 pub mod Resumed
 pub mod Once
+pub mod Failover

@@ -1,0 +1,11 @@
+use Rattle.worker_failover.proofs.ScheduleLemmas.{code_writes_once, code_writes_the_log, code_loses_nothing}
+use Rattle.worker_failover.proofs.laws.the_code_writes_each_entry_once.Goals as goal
+
+pub returns-clause-once : goal.returns-clause-once
+returns-clause-once g c = code_writes_once
+
+pub returns-clause-of_log : goal.returns-clause-of_log
+returns-clause-of_log g c = code_writes_the_log
+
+pub returns-clause-kept : goal.returns-clause-kept
+returns-clause-kept g c = code_loses_nothing

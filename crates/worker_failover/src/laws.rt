@@ -1,0 +1,34 @@
+//! What holds of a worker that looks up, over each schedule with failovers.
+ghost use Rattle.worker_failover.specs.Keeps.{EntriesLookUp};
+ghost use Rattle.worker_failover.specs.Schedule.{CodeLosesNothing, CodeWritesOnce, CodeWritesTheLog};
+ghost use Rattle.worker_failover.specs.Schedule.{RunsAreEvents, RunsWait};
+
+/// A handler that keeps entries, and looks each up before it adds it, does with a reply and with a
+/// commit what the consumer of `stream_failover` does.
+pub fn entries_are_looked_up()
+    ensures { EntriesLookUp }
+{}
+
+/// A worker whose handler looks up (`LooksUp`) is the consumer of `stream_failover`, in which the
+/// server may go back to an earlier state. It is so after each schedule (`Runs`) of rounds, of rounds
+/// that fail or are not confirmed, of breaks, of crashes with the start after them, and of failovers.
+/// If its rounds are those of `round_confirmed`, a WAIT comes with each of its questions for entries.
+///
+/// There are four premises. The worker hears the reply that the model's server sent. The reply to WAIT
+/// is the one that this server sent. A start reads back the lines of its last commit, or more. After
+/// a failover the master is a replica that confirmed: that is the model's own premise.
+pub fn rounds_are_those_of_failover<R>()
+    ensures runs { RunsAreEvents R }
+    ensures waits { RunsWait R }
+{}
+
+/// After each schedule no id is twice in the worker's file, with WAIT or without.
+///
+/// If the worker and the producer ask WAIT, each entry of the file is in the log, with its own fields,
+/// after any failover, and comes to nobody as new. Each record that the producer took to be in the stream is to
+/// come, or pending, or in the file, or was deleted, if nobody else adds or acknowledges.
+pub fn the_code_writes_each_entry_once<R>()
+    ensures once { CodeWritesOnce R }
+    ensures of_log { CodeWritesTheLog R }
+    ensures kept { CodeLosesNothing R }
+{}
