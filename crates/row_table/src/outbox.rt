@@ -65,7 +65,7 @@ pub trait WithOutbox {
         ensures crash { LeavesNoOther (may_leave self.old) (may_leave self.new) };
 
     /// Removes the post of this key.
-    fn remove(&mut self, post: &Post) -> Result<(), TableError>
+    fn remove(&mut self, alloc: Global, post: &Post) -> Result<(), TableError>
         ensures seen { OnOk result (seen self.new
             ≡ option_map (λ s. without_post s (post_of post.now).key) (seen self.old)) }
         ensures committed { committed self.new ≡ committed self.old }
