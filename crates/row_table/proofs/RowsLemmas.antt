@@ -8,7 +8,7 @@ use Rattle.row_table.specs.Rows.{Cell, Key, Row, same_key, find, with_row, with_
 
 -- ---- keys
 
-both_true : (a b : Bool) → a && b ≡ true → (a ≡ true) × (b ≡ true)
+pub both_true : (a b : Bool) → a && b ≡ true → (a ≡ true) × (b ≡ true)
 both_true true b h = (refl, h)
 both_true false b h = absurd (true≢false (sym h))
 

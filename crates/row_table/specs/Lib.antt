@@ -2,3 +2,6 @@
 pub mod Rows
 pub mod Laws
 pub mod OfRow
+pub mod Posts
+pub mod OfPost
+pub mod Sent

@@ -67,17 +67,17 @@ PutsIn true more old new = (new ≡ with_known more old) × AreKnown more new
 PutsIn false more old new = new ≡ old
 
 -- whatever a crash leaves is what is known
-abbrev pub LeavesJust : Option (List Row) → (List Row → Type 0) → Type 0
-LeavesJust known may_leave = (left : List Row) → may_leave left → IfSome known (λ rows. left ≡ rows)
+abbrev pub LeavesJust : {A : Type 0} → Option A → (A → Type 0) → Type 0
+LeavesJust {A} known may_leave = (left : A) → may_leave left → IfSome known (λ is. left ≡ is)
 
 -- whatever a crash leaves begins with what is known
 abbrev pub LeavesAll : Option (List Row) → (List Row → Type 0) → Type 0
 LeavesAll known may_leave = (left : List Row) → may_leave left → IfSome known (λ rows. BeginsWith rows left)
 
 -- whatever a crash leaves now, it might have left before
-abbrev pub LeavesNoOther : (List Row → Type 0) → (List Row → Type 0) → Type 0
-LeavesNoOther old new = (left : List Row) → new left → old left
+abbrev pub LeavesNoOther : {A : Type 0} → (A → Type 0) → (A → Type 0) → Type 0
+LeavesNoOther {A} old new = (left : A) → new left → old left
 
--- or it is these rows, where they are known
-abbrev pub LeavesOldOr : Option (List Row) → (List Row → Type 0) → (List Row → Type 0) → Type 0
-LeavesOldOr known old new = (left : List Row) → new left → old left ⊎ IfSome known (λ rows. left ≡ rows)
+-- or it is this, where it is known
+abbrev pub LeavesOldOr : {A : Type 0} → Option A → (A → Type 0) → (A → Type 0) → Type 0
+LeavesOldOr {A} known old new = (left : A) → new left → old left ⊎ IfSome known (λ is. left ≡ is)

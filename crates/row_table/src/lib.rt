@@ -3,17 +3,26 @@
 //! A `Table` is what a database offers of a transaction: it begins, rows are put in or looked up, and it is
 //! committed or taken back. `put_all` puts rows into a table as one transaction: a row whose key is there is
 //! left out if it has the same values, and is an error if it has others.
+//!
+//! `WithOutbox` is a table that has an outbox too: posts, each a command that is sent for a row. `put_all_posted`
+//! puts rows in with their posts, as one transaction.
 #![tactic(auto)]
 
 mod cell;
 mod error;
 pub mod laws;
+mod outbox;
+mod post;
 mod put;
+mod put_posted;
 mod row;
 mod table;
 
 pub use cell::{Cell, Column, Kind};
 pub use error::TableError;
+pub use outbox::WithOutbox;
+pub use post::{Post, PostedRow};
 pub use put::{ROWS_AT_ONCE, put_all};
+pub use put_posted::put_all_posted;
 pub use row::Row;
 pub use table::Table;

@@ -1,3 +1,4 @@
 -- What the contracts speak of.
 pub mod Form
 pub mod Statements
+pub mod Outbox

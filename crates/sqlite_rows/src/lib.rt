@@ -2,6 +2,8 @@
 //!
 //! The key of a row is in the columns `milliseconds` and `sequence`. The other columns are what the `Form` of
 //! the table says: of `Form::usual` the one column `fields`, of a table `entries`.
+//!
+//! `SqliteOutbox` is such a table with an outbox, the table `outbox` of the same file.
 #![tactic(auto)]
 
 mod error;
@@ -11,4 +13,4 @@ mod values;
 
 pub use error::OpenError;
 pub use form::Form;
-pub use table::SqliteTable;
+pub use table::{OUTBOX, OUTBOX_CREATE, SqliteOutbox, SqliteTable};

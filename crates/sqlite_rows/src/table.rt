@@ -12,6 +12,10 @@ use sqlite::types::ValueRef;
 use sqlite::{Alter, Connection, Error, ErrorCode, File, FileStore};
 use std::alloc::Global;
 
+mod outbox;
+
+pub use outbox::{OUTBOX, OUTBOX_CREATE, SqliteOutbox};
+
 const KNOWN: &str = "SELECT sql FROM sqlite_schema WHERE lower(name) = lower(?1)";
 
 /// A table of a database.
@@ -55,11 +59,7 @@ impl<S: Alter + Drop> SqliteTable<S> {
         ensures form { IfOk result (λ table. table.form ≡ form) }
     {
         let mut conn = conn;
-        match definition(alloc, &mut conn, &form.name)? {
-            None => run(&mut conn, &form.create)?,
-            Some(text) if text.as_slice() == form.create.as_bytes() => {}
-            Some(text) => return Err(another(text)),
-        }
+        make(alloc, &mut conn, &form.name, &form.create)?;
         Ok(SqliteTable { conn, form })
     }
 }
@@ -195,13 +195,36 @@ fn shows<S: Alter + Drop>(
     }
 }
 
+/// Makes the table of this name by this statement, if it is not there. If it is, the same statement made it.
+fn make<S: Alter + Drop>(
+    alloc: Global,
+    conn: &mut Connection<S>,
+    name: &str,
+    create: &str,
+) -> Result<(), OpenError>
+    ensures named { IfErr result IsNamedAtOpening }
+{
+    match definition(alloc, conn, name)? {
+        None => Ok(run(conn, create)?),
+        Some(text) if text.as_slice() == create.as_bytes() => Ok(()),
+        Some(text) => Err(another(text)),
+    }
+}
+
+/// What is there is not as the table was made.
+fn malformed() -> TableError
+    ensures { IsNamed result }
+{
+    TableError::Refused("the database is malformed")
+}
+
 /// The table that is there is another one, which this SQL made.
 fn another(text: Vec<u8>) -> OpenError
     ensures { IsNamedAtOpening result }
 {
     match String::from_utf8(text) {
         Ok(text) => OpenError::Another(text),
-        Err(_) => OpenError::Table(TableError::Refused("the database is malformed")),
+        Err(_) => OpenError::Table(malformed()),
     }
 }
 
@@ -234,7 +257,7 @@ fn text_of<S: Alter + Drop>(
     };
     match row.get_ref(0) {
         Ok(ValueRef::Text(text)) => Ok(Some(Vec::from_slice(alloc, text)?)),
-        _ => Err(TableError::Refused("the database is malformed")),
+        _ => Err(malformed()),
     }
 }
 

@@ -3,9 +3,12 @@ ghost use Rattle.std.specs.Prelude.{◌≡◌, ◌++◌, IfOk, OnOk, flat_map, p
 ghost use Rattle.sqlite.specs.Values.{bound, bound_value};
 ghost use Rattle.sqlite_value.specs.Value.{owned};
 ghost use Rattle.row_table.specs.OfRow.{cell_of, cells_of, row_of};
-ghost use Rattle.sqlite_rows.specs.Statements.{row_values, value_of, values_of};
+ghost use Rattle.row_table.specs.OfPost.{posted_of};
+ghost use Rattle.row_table.specs.Posts.{post_for};
+ghost use Rattle.sqlite_rows.specs.Outbox.{post_values};
+ghost use Rattle.sqlite_rows.specs.Statements.{key_values, row_values, value_of, values_of};
 
-use row_table::{Cell, Row, TableError};
+use row_table::{Cell, PostedRow, Row, TableError};
 use sqlite::types::ValueRef;
 use std::alloc::{AllocError, Global};
 
@@ -33,23 +36,53 @@ pub fn values_of_all<'a>(alloc: Global, rows: &'a [Row]) -> Result<Vec<ValueRef<
 fn push_row<'a>(values: &mut Vec<ValueRef<'a>>, row: &'a Row) -> Result<(), TableError>
     ensures { OnOk result (bound values.new.items ≡ bound values.old.items ++ row_values (row_of row.now)) }
 {
-    let (first, second) = key(row)?;
-    values.push(ValueRef::Int(first))?;
-    values.push(ValueRef::Int(second))?;
+    push_key(values, row.first, row.second)?;
     Ok(push_values(values, &row.cells)?)
 }
 
-/// The key of a row as the database has it: two numbers below 2^63.
-fn key(row: &Row) -> Result<(i64, i64), TableError>
-    ensures { IfOk result (λ k. (k.0 ≡ pos row.now.first) × (k.1 ≡ pos row.now.second)) }
+/// The numbers of a key.
+fn push_key(values: &mut Vec<ValueRef<'_>>, first: u64, second: u64) -> Result<(), TableError>
+    ensures { OnOk result (bound values.new.items ≡ bound values.old.items ++ key_values (first, second)) }
 {
-    match (i64::try_from(row.first), i64::try_from(row.second)) {
-        (Ok(first), Ok(second)) => Ok((first, second)),
-        _ => Err(TableError::KeyTooLarge {
-            first: row.first,
-            second: row.second,
-        }),
+    let (first, second) = key_of(first, second)?;
+    values.push(ValueRef::Int(first))?;
+    Ok(values.push(ValueRef::Int(second))?)
+}
+
+/// A key as the database has it: two numbers below 2^63.
+fn key_of(first: u64, second: u64) -> Result<(i64, i64), TableError>
+    ensures { IfOk result (λ k. (k.0 ≡ pos first) × (k.1 ≡ pos second)) }
+{
+    match (i64::try_from(first), i64::try_from(second)) {
+        (Ok(key_first), Ok(key_second)) => Ok((key_first, key_second)),
+        _ => Err(TableError::KeyTooLarge { first, second }),
     }
+}
+
+/// A key.
+pub fn values_of_key<'a>(
+    alloc: Global,
+    first: u64,
+    second: u64,
+) -> Result<Vec<ValueRef<'a>>, TableError>
+    ensures { IfOk result (λ values. bound values.items ≡ key_values (first, second)) }
+{
+    let mut values = Vec::with_capacity(alloc, 4)?;
+    push_key(&mut values, first, second)?;
+    Ok(values)
+}
+
+/// The key of a row, and what is sent for it.
+pub fn values_of_post<'a>(
+    alloc: Global,
+    row: &'a PostedRow,
+) -> Result<Vec<ValueRef<'a>>, TableError>
+    ensures { IfOk result (λ values. bound values.items ≡ post_values (post_for (posted_of row.now))) }
+{
+    let mut values = values_of_key(alloc, row.row.first, row.row.second)?;
+    values.push(ValueRef::Blob(row.command.as_slice()))?;
+    values.push(ValueRef::Blob(row.question.as_slice()))?;
+    Ok(values)
 }
 
 /// Values, in order.

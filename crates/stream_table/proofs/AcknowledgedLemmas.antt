@@ -125,7 +125,7 @@ among_both [] b id among = inr among
 among_both (x ∷ a) b id (inl is) = inl (inl is)
 among_both (x ∷ a) b id (inr later) = ⊎_elim (λ first. inl (inr first)) inr (among_both a b id later)
 
-some_is : (a b : List Row) → Some a ≡ Some b → a ≡ b
+pub some_is : (a b : List Row) → Some a ≡ Some b → a ≡ b
 some_is a b e = ap (λ (o : Option (List Row)). elim o [ None ↦ a | Some rows ↦ rows ]) e
 
 module _ (settings : Settings) (columns : List Column) (gone : List Id) where

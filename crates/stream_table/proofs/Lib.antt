@@ -3,4 +3,6 @@ mod FieldsLemmas
 mod CellsLemmas
 mod KeptLemmas
 pub mod LivedLemmas
-mod AcknowledgedLemmas
+pub mod AcknowledgedLemmas
+mod ForwardedLemmas
+mod SendLemmas

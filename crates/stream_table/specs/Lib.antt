@@ -5,3 +5,5 @@ pub mod Reasons
 pub mod Kept
 pub mod Lived
 pub mod Acknowledged
+pub mod Forwarded
+pub mod Passed

@@ -162,7 +162,7 @@ impl<T: Table + Drop> Handler for Rows<T> {
 }
 
 /// The row of an entry. An id of 2^63 milliseconds or more is refused, and so is such a sequence number.
-fn row_of_entry(alloc: Global, columns: &[Column], entry: &EntryRef<'_>) -> Result<Row, Fault>
+pub fn row_of_entry(alloc: Global, columns: &[Column], entry: &EntryRef<'_>) -> Result<Row, Fault>
     ensures row { IfOk result (λ row. row_of row ≡ row_in columns.now (pair_of entry.now)) }
     ensures small { IfOk result (λ row. (row.first < 2 ^ 63) × (row.second < 2 ^ 63)) }
     ensures why { IfErr result (IsFaultOf columns.now (pair_of entry.now)) }

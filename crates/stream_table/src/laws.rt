@@ -2,6 +2,7 @@
 ghost use Rattle.stream_table.specs.Acknowledged.{AcknowledgedIsARow};
 ghost use Rattle.stream_table.specs.Kept.{GathersItsRows};
 ghost use Rattle.stream_table.specs.Lived.{RoundsAreLived};
+ghost use Rattle.stream_table.specs.Passed.{AcknowledgedIsPassedOn};
 
 /// The gathered rows are those of the entries that were done and not committed, in order. The committed rows are
 /// those that the table had first, with the rows of the committed entries put in, in order. Each verdict and
@@ -22,4 +23,11 @@ pub fn rounds_are_lived()
 /// crashes and restarts. No id is a row twice. Nothing is supposed of what the server remembers.
 pub fn acknowledged_is_a_row()
     ensures { AcknowledgedIsARow }
+{}
+
+/// Each id that was acknowledged by a worker that forwards is a row, and what is sent for it is in the outbox, or its
+/// command was answered, or the row was there before the outbox. This is over every schedule of rounds, commits,
+/// answers, crashes and restarts. Nothing is supposed of what the server remembers.
+pub fn acknowledged_is_passed_on()
+    ensures { AcknowledgedIsPassedOn }
 {}

@@ -5,12 +5,21 @@
 //! transaction of the table, and its entries are acknowledged after that was committed. An entry whose id is
 //! there already is left out if it has the same fields, and else it is an error. So each id is one row,
 //! whatever is delivered again, to whom and how often.
+//!
+//! `Forwarding` sends entries on to another stream too. What it sends is in an outbox beside the table, put in by the
+//! transaction of the row. After the commit `send_posts` adds each under its own id, and then removes it. So a crash
+//! loses none, and a command that is sent again is refused for its id.
 #![tactic(auto)]
 
 mod columns;
 mod fields;
+mod forwarding;
 mod handler;
 pub mod laws;
+mod posts;
+mod sending;
 
 pub use fields::fields_text;
+pub use forwarding::Forwarding;
 pub use handler::{Fault, Rows};
+pub use sending::{SendError, send_posts};

@@ -1,0 +1,85 @@
+//! What a table with an outbox is.
+ghost use Rattle.std.specs.Prelude.{◌≡◌, ◌⊎◌, Bool, true, false, List, Option, OnErr, OnOk, IfOk, IfSome, IsTrue, ◌↔◌};
+ghost use Rattle.std.specs.Prelude.{option_map, is_some, if◌then◌else◌};
+ghost use Rattle.row_table.specs.Posts as posts;
+ghost use Rattle.row_table.specs.Posts.{IsFirst, with_post, with_stored, without_post};
+ghost use Rattle.row_table.specs.Rows.{IsRow, LeavesJust, LeavesNoOther, LeavesOldOr, find};
+ghost use Rattle.row_table.specs.OfPost.{post_of, posted_of};
+ghost use Rattle.row_table.specs.OfRow.{key_of, row_of};
+
+use crate::error::TableError;
+use crate::post::{Post, PostedRow};
+use crate::row::Row;
+use std::alloc::Global;
+
+/// A table of rows with an outbox beside it, in a database whose transactions are over both.
+///
+/// Its clauses are those of a database whose disk is honest: a transaction is there as a whole or not at
+/// all, whatever crash comes, and after an Ok of its commit it is there.
+pub trait WithOutbox {
+    /// The rows and the posts as the transaction has them, where they are known.
+    ghost seen: { Self → Option posts.Stored };
+
+    /// The rows and the posts of the last commit, where they are known.
+    ghost committed: { Self → Option posts.Stored };
+
+    /// What a crash at this moment may leave.
+    ghost may_leave: { Self → posts.Stored → Type 0 };
+
+    /// Begins a transaction.
+    fn begin(&mut self) -> Result<(), TableError>
+        ensures seen { OnOk result (seen self.new ≡ committed self.old) }
+        ensures committed { committed self.new ≡ committed self.old }
+        ensures crash { LeavesNoOther (may_leave self.old) (may_leave self.new) };
+
+    /// Puts in a row, unless its key is there. Whether it was put in.
+    fn insert(&mut self, alloc: Global, row: &Row) -> Result<bool, TableError>
+        ensures seen { OnOk result (seen self.new
+            ≡ option_map (λ s. with_stored s (row_of row.now)) (seen self.old)) }
+        ensures told { IfOk result (λ is_new. IfSome (seen self.old)
+            (λ s. is_some (find (key_of row.now) s.rows) ≡ (if is_new then false else true))) }
+        ensures committed { committed self.new ≡ committed self.old }
+        ensures crash { LeavesNoOther (may_leave self.old) (may_leave self.new) };
+
+    /// Whether the row of this key is there, with the same values.
+    fn holds(&mut self, alloc: Global, row: &Row) -> Result<bool, TableError>
+        ensures seen { OnOk result (seen self.new ≡ seen self.old) }
+        ensures told { IfOk result (λ is_there. IfSome (seen self.old)
+            (λ s. IsTrue is_there ↔ IsRow s.rows (row_of row.now))) }
+        ensures committed { committed self.new ≡ committed self.old }
+        ensures crash { LeavesNoOther (may_leave self.old) (may_leave self.new) };
+
+    /// Puts in the post of this row. It is an error if a post of its key is there.
+    fn enqueue(&mut self, alloc: Global, row: &PostedRow) -> Result<(), TableError>
+        ensures seen { OnOk result (seen self.new
+            ≡ option_map (λ s. with_post s (posts.post_for (posted_of row.now))) (seen self.old)) }
+        ensures committed { committed self.new ≡ committed self.old }
+        ensures crash { LeavesNoOther (may_leave self.old) (may_leave self.new) };
+
+    /// The post of the first key, in the order of keys; none if there is no post.
+    fn first(&mut self, alloc: Global) -> Result<Option<Post>, TableError>
+        ensures seen { OnOk result (seen self.new ≡ seen self.old) }
+        ensures first { IfOk result (λ found. IfSome (seen self.old)
+            (λ s. IsFirst (option_map post_of found) s.posts)) }
+        ensures committed { committed self.new ≡ committed self.old }
+        ensures crash { LeavesNoOther (may_leave self.old) (may_leave self.new) };
+
+    /// Removes the post of this key.
+    fn remove(&mut self, alloc: Global, post: &Post) -> Result<(), TableError>
+        ensures seen { OnOk result (seen self.new
+            ≡ option_map (λ s. without_post s (post_of post.now).key) (seen self.old)) }
+        ensures committed { committed self.new ≡ committed self.old }
+        ensures crash { LeavesNoOther (may_leave self.old) (may_leave self.new) };
+
+    /// Commits the transaction. After an Ok it is there, whatever crash comes.
+    fn commit(&mut self) -> Result<(), TableError>
+        ensures ok { OnOk result (committed self.new ≡ seen self.old) }
+        ensures err { OnErr result (committed self.new ≡ committed self.old) }
+        ensures durable { OnOk result (LeavesJust (seen self.old) (may_leave self.new)) }
+        ensures crash { LeavesOldOr (seen self.old) (may_leave self.old) (may_leave self.new) };
+
+    /// Takes the transaction back, if one is open.
+    fn roll_back(&mut self)
+        ensures committed { committed self.new ≡ committed self.old }
+        ensures crash { LeavesNoOther (may_leave self.old) (may_leave self.new) };
+}

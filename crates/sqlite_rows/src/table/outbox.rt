@@ -1,0 +1,206 @@
+//! The table with an outbox beside it, in the same database.
+ghost use Rattle.std.specs.Prelude.{[], ◌≡◌, ℕ, None, IfErr, IfOk, OnOk, codes, option_map, pos, string_bytes};
+ghost use Rattle.sqlite.specs.Order.{column};
+ghost use Rattle.sqlite.specs.Values.{bound};
+ghost use Rattle.row_table.specs.OfPost.{post_of, posted_of};
+ghost use Rattle.row_table.specs.OfRow.{row_of};
+ghost use Rattle.row_table.specs.Posts.{post_for};
+ghost use Rattle.sqlite_rows.specs.Outbox.{AreValues, FoundPost, bytes_value, enqueue_text, first_text, number_value, post_values, remove_text};
+ghost use Rattle.sqlite_rows.specs.Statements.{IsNamedAtOpening, LeavesBy, Ran, RanOne, Shows, key_values, row_values};
+
+use super::{SqliteTable, make, malformed, refused};
+use crate::error::OpenError;
+use crate::values::{values_of_key, values_of_post};
+use row_table::{Post, PostedRow, Row, Table, TableError, WithOutbox};
+use sqlite::types::ValueRef;
+use sqlite::{Alter, Connection, Error, Row as Shown};
+use std::alloc::Global;
+
+/// The name of the outbox.
+pub const OUTBOX: &str = "outbox";
+
+/// Makes the outbox.
+pub const OUTBOX_CREATE: &str =
+    "CREATE TABLE outbox (milliseconds INTEGER NOT NULL, sequence INTEGER NOT NULL, command BLOB NOT NULL, question BLOB NOT NULL, PRIMARY KEY (milliseconds, sequence)) STRICT";
+
+const ENQUEUE: &str =
+    "INSERT INTO outbox (milliseconds, sequence, command, question) VALUES (?1, ?2, ?3, ?4)";
+
+const FIRST: &str =
+    "SELECT milliseconds, sequence, command, question FROM outbox ORDER BY milliseconds, sequence LIMIT 1";
+
+const REMOVE: &str = "DELETE FROM outbox WHERE milliseconds = ?1 AND sequence = ?2";
+
+/// A table of a database with an outbox beside it, the table `outbox`.
+#[derive(Drop)]
+pub struct SqliteOutbox<S: Alter + Drop> {
+    table: SqliteTable<S>,
+}
+
+impl<S: Alter + Drop> SqliteOutbox<S> {
+    /// The table with its outbox, which is made if it is not there.
+    pub fn beside(alloc: Global, table: SqliteTable<S>) -> Result<SqliteOutbox<S>, OpenError>
+        ensures named { IfErr result IsNamedAtOpening }
+        ensures form { IfOk result (λ outbox. outbox.table.form ≡ table.form) }
+    {
+        let mut table = table;
+        make(alloc, &mut table.conn, OUTBOX, OUTBOX_CREATE)?;
+        Ok(SqliteOutbox { table })
+    }
+
+    /// The table.
+    pub fn into_table(self) -> SqliteTable<S>
+        ensures { result ≡ self.table }
+    {
+        self.table
+    }
+}
+
+impl<S: Alter + Drop> WithOutbox for SqliteOutbox<S> {
+    ghost seen = { λ _. None };
+
+    ghost committed = { λ _. None };
+
+    ghost may_leave = { λ _ _. Unit {0} };
+
+    /// Runs BEGIN.
+    fn begin(&mut self) -> Result<(), TableError>
+        ensures ran { OnOk result ((count : ℕ)
+            × Ran S.Store self.old.table.conn self.new.table.conn (codes "BEGIN") [] count) }
+        ensures leaves { LeavesBy S.Store self.old.table.conn self.new.table.conn (codes "BEGIN") [] }
+        ensures form { self.new.table.form ≡ self.old.table.form }
+    {
+        self.table.begin()
+    }
+
+    /// Runs INSERT .. ON CONFLICT DO NOTHING with the key and the values.
+    fn insert(&mut self, alloc: Global, row: &Row) -> Result<bool, TableError>
+        ensures ran { IfOk result (RanOne S.Store self.old.table.conn self.new.table.conn
+            (string_bytes self.old.table.form.insert) (row_values (row_of row.now))) }
+        ensures form { self.new.table.form ≡ self.old.table.form }
+    {
+        self.table.insert(alloc, row)
+    }
+
+    /// Runs SELECT with the key and the values.
+    fn holds(&mut self, alloc: Global, row: &Row) -> Result<bool, TableError>
+        ensures shows { IfOk result (Shows S.Store self.old.table.conn self.new.table.conn
+            (string_bytes self.old.table.form.holds) (row_values (row_of row.now))) }
+        ensures form { self.new.table.form ≡ self.old.table.form }
+    {
+        self.table.holds(alloc, row)
+    }
+
+    /// Runs INSERT with the key and the two commands.
+    fn enqueue(&mut self, alloc: Global, row: &PostedRow) -> Result<(), TableError>
+        ensures ran { OnOk result ((count : ℕ) × Ran S.Store self.old.table.conn self.new.table.conn
+            enqueue_text (post_values (post_for (posted_of row.now))) count) }
+        ensures form { self.new.table.form ≡ self.old.table.form }
+    {
+        let values = values_of_post(alloc, row)?;
+        write(&mut self.table.conn, ENQUEUE, &values)
+    }
+
+    /// Runs SELECT .. ORDER BY milliseconds, sequence LIMIT 1.
+    fn first(&mut self, alloc: Global) -> Result<Option<Post>, TableError>
+        ensures found { IfOk result (λ found. FoundPost S.Store self.old.table.conn self.new.table.conn
+            first_text (option_map post_of found)) }
+        ensures form { self.new.table.form ≡ self.old.table.form }
+    {
+        first_post(alloc, &mut self.table.conn)
+    }
+
+    /// Runs DELETE with the key.
+    fn remove(&mut self, alloc: Global, post: &Post) -> Result<(), TableError>
+        ensures ran { OnOk result ((count : ℕ) × Ran S.Store self.old.table.conn self.new.table.conn
+            remove_text (key_values (post_of post.now).key) count) }
+        ensures form { self.new.table.form ≡ self.old.table.form }
+    {
+        let values = values_of_key(alloc, post.first, post.second)?;
+        write(&mut self.table.conn, REMOVE, &values)
+    }
+
+    /// Runs COMMIT.
+    fn commit(&mut self) -> Result<(), TableError>
+        ensures ran { OnOk result ((count : ℕ)
+            × Ran S.Store self.old.table.conn self.new.table.conn (codes "COMMIT") [] count) }
+        ensures leaves { LeavesBy S.Store self.old.table.conn self.new.table.conn (codes "COMMIT") [] }
+        ensures form { self.new.table.form ≡ self.old.table.form }
+    {
+        self.table.commit()
+    }
+
+    fn roll_back(&mut self) {
+        self.table.roll_back();
+    }
+}
+
+/// Runs a statement with these values.
+fn write<S: Alter + Drop>(
+    conn: &mut Connection<S>,
+    sql: &str,
+    values: &[ValueRef<'_>],
+) -> Result<(), TableError>
+    ensures { OnOk result ((count : ℕ) × Ran S.Store conn.old conn.new sql.now (bound values.now) count) }
+{
+    match conn.execute(sql, values) {
+        Ok(_) => Ok(()),
+        Err(error) => Err(refused(error)),
+    }
+}
+
+/// The post that the query shows; none if it shows no row.
+fn first_post<S: Alter + Drop>(
+    alloc: Global,
+    conn: &mut Connection<S>,
+) -> Result<Option<Post>, TableError>
+    ensures { IfOk result (λ found. FoundPost S.Store conn.old conn.new first_text (option_map post_of found)) }
+{
+    match conn.query_row(FIRST, &[]) {
+        Ok(row) => Ok(Some(post_in(alloc, &row)?)),
+        Err(Error::QueryReturnedNoRows) => Ok(None),
+        Err(error) => Err(refused(error)),
+    }
+}
+
+/// The post of a row: two numbers and two texts of bytes.
+fn post_in(alloc: Global, row: &Shown) -> Result<Post, TableError>
+    ensures { IfOk result (λ post. AreValues row.now (post_of post)) }
+{
+    Ok(Post {
+        first: number_at(row, 0)?,
+        second: number_at(row, 1)?,
+        command: bytes_at(alloc, row, 2)?,
+        question: bytes_at(alloc, row, 3)?,
+    })
+}
+
+/// The number at this place.
+fn number_at(row: &Shown, at: usize) -> Result<u64, TableError>
+    ensures { IfOk result (λ number. column row.now at ≡ number_value number) }
+{
+    match row.get_ref(at) {
+        Ok(ValueRef::Int(number)) => unsigned(number),
+        _ => Err(malformed()),
+    }
+}
+
+/// A number that is not below zero.
+fn unsigned(number: i64) -> Result<u64, TableError>
+    ensures { IfOk result (λ n. number ≡ pos n) }
+{
+    match u64::try_from(number) {
+        Ok(number) => Ok(number),
+        Err(_) => Err(malformed()),
+    }
+}
+
+/// The bytes at this place.
+fn bytes_at(alloc: Global, row: &Shown, at: usize) -> Result<Vec<u8>, TableError>
+    ensures { IfOk result (λ bytes. column row.now at ≡ bytes_value bytes.items) }
+{
+    match row.get_ref(at) {
+        Ok(ValueRef::Blob(bytes)) => Ok(Vec::from_slice(alloc, bytes)?),
+        _ => Err(malformed()),
+    }
+}

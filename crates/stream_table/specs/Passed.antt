@@ -1,0 +1,22 @@
+-- What is acknowledged is a row, and went on or will.
+use Rattle.std.specs.Prelude.{◌≡◌, ◌⊎◌, List, Some}
+use Rattle.row_table.specs.declared.cell.Column.{Column}
+use Rattle.row_table.specs.Posts.{Stored}
+use Rattle.row_table.specs.Rows.{Key, Row}
+use Rattle.row_table.specs.Sent.{Goes, HasKey, HasPost}
+use Rattle.stream_group.specs.Law.{Among}
+use Rattle.stream_group.specs.Worker.{Id}
+use Rattle.stream_worker.specs.Session.{Standing}
+use Rattle.stream_worker.specs.declared.state.Settings.{Settings}
+use Rattle.stream_table.specs.Acknowledged.{IsThere, Reaches}
+use Rattle.stream_table.specs.Kept.{Kept, key_in}
+
+-- the law: a worker that forwards stands so after some schedule, and its table has what it has after a schedule of
+-- transactions and answers. Then each id that was acknowledged is a row, which was there first, or whose post is there or
+-- was answered; or the server said that it was deleted
+abbrev pub AcknowledgedIsPassedOn : Type 0
+AcknowledgedIsPassedOn = (settings : Settings) (columns : List Column) (gone : List Id) (began : List Row)
+    (w : Standing Kept) (deleted acknowledged : List Id) (first s : Stored) (done : List Key)
+    → Reaches settings columns gone began w deleted acknowledged → Goes first s done
+    → w.history.committed ≡ Some s.rows → (id : Id) → Among id acknowledged
+    → (IsThere s.rows id × (IsThere first.rows id ⊎ (HasPost (key_in id) s.posts ⊎ HasKey (key_in id) done))) ⊎ Among id gone

@@ -1,0 +1,202 @@
+//! What is queued for another stream, on its way there.
+ghost use Rattle.std.specs.Prelude.{◌≡◌, ◌⊎◌, false, true, IfOk, OnErr, OnOk};
+ghost use Rattle.redis_resp.specs.Value.{tree};
+ghost use Rattle.redis_wire.specs.Reply.{answer};
+ghost use Rattle.row_table.specs.OfPost.{post_of};
+ghost use Rattle.row_table.specs.Rows.{LeavesNoOther};
+ghost use Rattle.stream_table.specs.Forwarded.{AsksBy, HasSent, IsAdded, LeavesSent, has_entry, is_taken, is_too_small, shows_one};
+
+use redis_connection::{Connection, ConnectionError};
+use redis_resp::Value;
+use redis_wire::{Reply, ServerError};
+use row_table::{Post, TableError, WithOutbox};
+use std::alloc::Global;
+use std::io::{Read, Write};
+use thiserror::Error;
+
+/// What `XADD` answers where the id is not above the last one.
+const TOO_SMALL: &[u8] =
+    b"ERR The ID specified in XADD is equal or smaller than the target stream top item";
+
+/// Why not all that is queued was sent. What was answered before is removed, but after `Table`: then nothing is.
+#[derive(Debug, Drop, Error)]
+pub enum SendError {
+    /// The table refuses.
+    #[error("{0}")]
+    Table(TableError),
+    /// A command was not sent, or no reply came.
+    #[error("{0}")]
+    Connection(ConnectionError),
+    /// The server refused a command.
+    #[error("the server answers {0}")]
+    Refused(ServerError),
+    /// The reply is none of the command.
+    #[error("no answer of a command")]
+    NotAnAnswer,
+    /// The id is not above the last one of the target, and no entry there has it.
+    #[error("the id {first}-{second} is not above the last one, and no entry has it")]
+    NotThere { first: u64, second: u64 },
+}
+
+impl From<ConnectionError> for SendError {
+    ghost use Rattle.stream_table.specs.declared.sending.SendError.TheVariants.{Connection};
+
+    ghost from_gives = { λ e error. error ≡ Connection e };
+
+    fn from(error: ConnectionError) -> SendError {
+        SendError::Connection(error)
+    }
+}
+
+/// Sends what is queued, in the order of keys, one command after the other, and removes what was answered. A
+/// command whose id is not above the last one counts as answered if an entry of this id is there.
+///
+/// All of it is one transaction. If the table refuses, it is taken back, and what was answered is sent again. After
+/// any other `Err` what was answered before is removed. `sent` counts the answers.
+pub fn send_posts<T: WithOutbox, R: Read + Drop, W: Write + Drop>(
+    alloc: Global,
+    table: &mut T,
+    connection: &mut Connection<R, W>,
+    sent: &mut u64,
+) -> Result<(), SendError>
+    ensures ok { OnOk result (HasSent result connection.old (T.committed table.old)
+        connection.new (T.committed table.new)) }
+    ensures err { OnErr result ((T.committed table.new ≡ T.committed table.old)
+        ⊎ HasSent result connection.old (T.committed table.old) connection.new (T.committed table.new)) }
+    ensures crash { LeavesSent connection.old (T.committed table.old) (T.may_leave table.old) (T.may_leave table.new) }
+{
+    match send_and_commit(alloc, table, connection, sent) {
+        Ok(ended) => ended,
+        Err(error) => {
+            table.roll_back();
+            Err(SendError::Table(error))
+        }
+    }
+}
+
+/// Sends what is queued and commits: how the sending ended. An `Err` leaves the transaction as it is.
+fn send_and_commit<T: WithOutbox, R: Read + Drop, W: Write + Drop>(
+    alloc: Global,
+    table: &mut T,
+    connection: &mut Connection<R, W>,
+    sent: &mut u64,
+) -> Result<Result<(), SendError>, TableError>
+    ensures ok { IfOk result (λ ended. HasSent ended connection.old (T.committed table.old)
+        connection.new (T.committed table.new)) }
+    ensures err { OnErr result (T.committed table.new ≡ T.committed table.old) }
+    ensures crash { LeavesSent connection.old (T.committed table.old) (T.may_leave table.old) (T.may_leave table.new) }
+{
+    table.begin()?;
+    let ended = send_each(alloc, table, connection, sent)?;
+    table.commit()?;
+    Ok(ended)
+}
+
+/// Sends posts until there is none: how it ended.
+fn send_each<T: WithOutbox, R: Read + Drop, W: Write + Drop>(
+    alloc: Global,
+    table: &mut T,
+    connection: &mut Connection<R, W>,
+    sent: &mut u64,
+) -> Result<Result<(), SendError>, TableError>
+    ensures sent { IfOk result (λ ended. HasSent ended connection.old (T.seen table.old)
+        connection.new (T.seen table.new)) }
+    ensures committed { T.committed table.new ≡ T.committed table.old }
+    ensures crash { LeavesNoOther (T.may_leave table.old) (T.may_leave table.new) }
+{
+    for _ in 0..u64::MAX {
+        let Some(post) = table.first(alloc)? else {
+            return Ok(Ok(()));
+        };
+        if let Err(error) = send_post(alloc, connection, &post) {
+            return Ok(Err(error));
+        }
+        table.remove(alloc, &post)?;
+        *sent = sent.saturating_add(1);
+    }
+    Err(TableError::Refused("too many posts"))
+}
+
+/// Sends a post: the server takes its command, or an entry of its id is there.
+fn send_post<R: Read + Drop, W: Write + Drop>(
+    alloc: Global,
+    connection: &mut Connection<R, W>,
+    post: &Post,
+) -> Result<(), SendError>
+    ensures { OnOk result (IsAdded (post_of post.now) connection.old connection.new) }
+{
+    let reply = ask(alloc, connection, &post.command)?;
+    if is_too_small(reply)? {
+        return find_entry(alloc, connection, post);
+    }
+    Ok(())
+}
+
+/// Whether the reply says that the id is not above the last one; else it says that the command was taken.
+fn is_too_small(reply: Reply) -> Result<bool, SendError>
+    ensures small { IfOk result (λ small. small ≡ true → is_too_small (answer reply) ≡ true) }
+    ensures taken { IfOk result (λ small. small ≡ false → is_taken (answer reply) ≡ true) }
+{
+    match reply {
+        Reply::Value(_) => Ok(false),
+        Reply::Error(error) => {
+            if error.text.as_slice() == TOO_SMALL {
+                return Ok(true);
+            }
+            Err(SendError::Refused(error))
+        }
+        _ => Err(SendError::NotAnAnswer),
+    }
+}
+
+/// Asks whether an entry of the id of this post is there.
+fn find_entry<R: Read + Drop, W: Write + Drop>(
+    alloc: Global,
+    connection: &mut Connection<R, W>,
+    post: &Post,
+) -> Result<(), SendError>
+    ensures { OnOk result ((a : _) × AsksBy (post_of post.now).question a connection.old connection.new
+        × (shows_one a ≡ true)) }
+{
+    let reply = ask(alloc, connection, &post.question)?;
+    if shows_one(reply)? {
+        return Ok(());
+    }
+    Err(SendError::NotThere {
+        first: post.first,
+        second: post.second,
+    })
+}
+
+/// Whether the reply has an entry.
+fn shows_one(reply: Reply) -> Result<bool, SendError>
+    ensures { IfOk result (λ shown. shown ≡ true → shows_one (answer reply) ≡ true) }
+{
+    match reply {
+        Reply::Value(value) => has_entry(value),
+        Reply::Error(error) => Err(SendError::Refused(error)),
+        _ => Err(SendError::NotAnAnswer),
+    }
+}
+
+/// Whether the value is an array with an entry in it.
+fn has_entry(value: Value) -> Result<bool, SendError>
+    ensures { IfOk result (λ has. has ≡ true → has_entry (tree value) ≡ true) }
+{
+    match value {
+        Value::Array(entries) => Ok(!entries.is_empty()),
+        _ => Err(SendError::NotAnAnswer),
+    }
+}
+
+/// Sends these bytes, and takes an answer.
+fn ask<R: Read + Drop, W: Write + Drop>(
+    alloc: Global,
+    connection: &mut Connection<R, W>,
+    bytes: &[u8],
+) -> Result<Reply, ConnectionError>
+    ensures { IfOk result (λ reply. AsksBy bytes.now (answer reply) connection.old connection.new) }
+{
+    connection.send_bytes(bytes)?;
+    connection.receive(alloc)
+}
