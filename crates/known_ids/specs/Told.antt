@@ -1,10 +1,11 @@
--- The ids that lines tell.
-use Rattle.std.specs.Prelude.{◌≡◌, ℕ, List, [], ◌∷◌, ◌++◌, take, drop, length, codes, ◌&&◌, Bool, true, false, Option, Some, None}
+-- The ids that lines tell, and where the lines begin.
+use Rattle.std.specs.Prelude.{◌≡◌, ◌+◌, ℕ, suc, List, [], ◌∷◌, ◌++◌, take, drop, length, codes, ◌&&◌, Bool, true, false, Option, Some, None}
 use Rattle.std.specs.Prelude.{if◌then◌else◌, option_and_then, option_map}
 use Rattle.std.specs.Str.{bytes_eq}
 use Rattle.line_log.specs.LastLines.{lines_of}
 use Rattle.line_log.specs.Lines.{HasNoEnd}
 use Rattle.known_ids.specs.Cut.{before, from}
+use Rattle.known_ids.specs.Known.{Place}
 use Rattle.known_ids.specs.Number.{number_of}
 
 -- the text begins so
@@ -21,21 +22,24 @@ abbrev pub line_number : Bool → List ℕ → Option ℕ
 line_number true line = option_and_then number_of (id_of_json line)
 line_number false line = number_of (before 9 line)
 
--- with the number of this line
-abbrev pub and_told : Option ℕ → Option (List ℕ) → Option (List ℕ)
-and_told None ns = None
-and_told (Some n) ns = option_map (λ rest. n ∷ rest) ns
+-- with the number of this line, which begins there
+abbrev pub and_told : ℕ → Option ℕ → Option (List Place) → Option (List Place)
+and_told at None places = None
+and_told at (Some n) places = option_map (λ rest. (n, at) ∷ rest) places
 
--- the numbers of the ids that these lines tell, in order; none if a line tells no id
-abbrev pub told : Bool → List (List ℕ) → Option (List ℕ)
-told json [] = Some []
-told json (line ∷ lines) = and_told (line_number json line) (told json lines)
+-- the numbers of the ids that these lines tell, in order, and where each line begins: the first one at this place, and
+-- each other one behind the end of the line before it. None if a line tells no id
+abbrev pub told : Bool → ℕ → List (List ℕ) → Option (List Place)
+told json at [] = Some []
+told json at (line ∷ lines) = and_told at (line_number json line) (told json (at + suc (length line)) lines)
 
--- the numbers that were told, and those of the lines among these bytes
-abbrev pub told_too : Bool → List ℕ → List ℕ → Option (List ℕ)
-told_too json numbers bytes = option_map (λ more. numbers ++ more) (told json (lines_of bytes))
+-- what was told, and what the lines among these bytes tell, which begin at this place
+abbrev pub told_too : Bool → List Place → ℕ → List ℕ → Option (List Place)
+told_too json places at bytes = option_map (λ more. places ++ more) (told json at (lines_of bytes))
 
 -- of a line that has begun and the bytes behind it, the ids of the lines that ended were taken, and these bytes are left
-pub record Took (json : Bool) (old line bytes new begun left : List ℕ) : Type 0 where
+pub record Took (json : Bool) (old : List Place) (start : ℕ) (line bytes : List ℕ) (new : List Place) (next : ℕ)
+    (begun left : List ℕ) : Type 0 where
   pub no_end : HasNoEnd begun
-  pub same : (behind : List ℕ) → told_too json old (line ++ (bytes ++ behind)) ≡ told_too json new (begun ++ (left ++ behind))
+  pub same : (behind : List ℕ)
+      → told_too json old start (line ++ (bytes ++ behind)) ≡ told_too json new next (begun ++ (left ++ behind))

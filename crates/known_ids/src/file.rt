@@ -1,13 +1,16 @@
 //! The ids of the lines of a file.
-ghost use Rattle.std.specs.Prelude.{◌≡◌, ◌∷◌, ◌++◌, [], Contains, IfOk, IfSome, IsNone, OnOk, Some, option_map};
+ghost use Rattle.std.specs.Prelude.{◌≡◌, ◌+◌, ◌∷◌, ◌++◌, [], Contains, IfOk, IfSome, IsNone, OnOk, Some, length, option_map, suc};
 ghost use Rattle.line_log.specs.LastLines.{lines_of};
 ghost use Rattle.line_log.specs.Lines.{HasNoEnd};
+ghost use Rattle.known_ids.specs.Known.{places_in};
 ghost use Rattle.known_ids.specs.Told.{Took, line_number, told};
 
 use crate::head::line_number;
+use crate::known::KnownId;
 use line_log::{LogError, LogFile};
 use memchr::memchr;
 use std::alloc::{AllocError, AllocFailed, Global};
+use std::io::{self, ErrorKind};
 use thiserror::Error;
 
 /// How many bytes are read at once.
@@ -24,79 +27,99 @@ pub enum FileError {
     NoEntry(u64),
 }
 
-/// The numbers of the ids that the lines of a file tell, in order. What stands behind the last end of a line is none.
-/// The file is read from its start, in pieces.
+/// The numbers of the ids that the lines of a file tell, in order, and where each line begins. What stands behind the
+/// last end of a line is none. The file is read from its start, in pieces.
 pub fn numbers_of_file<D: LogFile>(
     alloc: Global,
     file: &D,
     json: bool,
-) -> Result<Vec<u128>, FileError>
-    ensures { IfOk result (λ numbers. IfSome (D.seen file.now)
-        (λ bytes. told json (lines_of bytes) ≡ Some numbers.items)) }
+) -> Result<Vec<KnownId>, FileError>
+    ensures { IfOk result (λ ids. IfSome (D.seen file.now)
+        (λ bytes. told json 0 (lines_of bytes) ≡ Some (places_in ids.items))) }
 {
     let len = file.len()?;
-    let mut numbers = Vec::new(alloc);
+    let mut ids = Vec::new(alloc);
     let mut line = Vec::new(alloc);
+    let mut start = 0;
     let mut at = 0;
     while at < len {
         let more = PIECE.min(len - at);
         let piece = file.read_at(alloc, at, more)?;
-        take_piece(&mut numbers, &mut line, &piece, json)?;
+        take_piece(&mut ids, &mut start, &mut line, &piece, json)?;
         at += more;
     }
-    Ok(numbers)
+    Ok(ids)
 }
 
 /// Takes more bytes of a file: the ids of the lines that they end. What begins a line stays behind.
 fn take_piece(
-    numbers: &mut Vec<u128>,
+    ids: &mut Vec<KnownId>,
+    start: &mut usize,
     line: &mut Vec<u8>,
     piece: &[u8],
     json: bool,
 ) -> Result<(), FileError>
-    ensures { HasNoEnd line.old.items → OnOk result (Took json numbers.old.items line.old.items piece.now
-        numbers.new.items line.new.items []) }
+    ensures { HasNoEnd line.old.items → OnOk result (Took json (places_in ids.old.items) start.old line.old.items piece.now
+        (places_in ids.new.items) start.new line.new.items []) }
 {
     let mut rest = piece;
     while let Some((end, after)) = split_line(rest) {
-        take_line(numbers, line, end, json)?;
+        take_line(ids, start, line, end, json)?;
         rest = after;
     }
     line.extend_from_slice(rest)?;
     Ok(())
 }
 
-/// Takes the end of a line: its id. The next line has no bytes yet.
+/// Takes the end of a line: its id. The next line begins behind it, and has no bytes yet.
 fn take_line(
-    numbers: &mut Vec<u128>,
+    ids: &mut Vec<KnownId>,
+    start: &mut usize,
     line: &mut Vec<u8>,
     end: &[u8],
     json: bool,
 ) -> Result<(), FileError>
-    ensures told { OnOk result (option_map (λ n. numbers.old.items ++ n ∷ [])
-        (line_number json (line.old.items ++ end.now)) ≡ Some numbers.new.items) }
+    ensures told { OnOk result (option_map (λ n. places_in ids.old.items ++ (n, start.old) ∷ [])
+        (line_number json (line.old.items ++ end.now)) ≡ Some (places_in ids.new.items)) }
     ensures next { OnOk result (line.new.items ≡ []) }
+    ensures start { OnOk result (start.new ≡ start.old + suc (length (line.old.items ++ end.now))) }
 {
     if line.is_empty() {
-        return take_id(numbers, end, json);
+        return take_id(ids, start, end, json);
     }
     line.extend_from_slice(end)?;
-    take_id(numbers, line, json)?;
+    take_id(ids, start, line, json)?;
     line.clear();
     Ok(())
 }
 
-/// Takes the id of a line.
-fn take_id(numbers: &mut Vec<u128>, line: &[u8], json: bool) -> Result<(), FileError>
-    ensures { OnOk result (option_map (λ n. numbers.old.items ++ n ∷ []) (line_number json line.now)
-        ≡ Some numbers.new.items) }
+/// Takes the id of a line that begins at this place, behind which the next one begins.
+fn take_id(
+    ids: &mut Vec<KnownId>,
+    start: &mut usize,
+    line: &[u8],
+    json: bool,
+) -> Result<(), FileError>
+    ensures told { OnOk result (option_map (λ n. places_in ids.old.items ++ (n, start.old) ∷ [])
+        (line_number json line.now) ≡ Some (places_in ids.new.items)) }
+    ensures start { OnOk result (start.new ≡ start.old + suc (length line.now)) }
 {
-    match line_number(line, json) {
-        Some(number) => {
-            numbers.push(number)?;
-            Ok(())
-        }
-        None => Err(FileError::NoEntry((numbers.len() as u64).saturating_add(1))),
+    let Some(number) = line_number(line, json) else {
+        return Err(FileError::NoEntry((ids.len() as u64).saturating_add(1)));
+    };
+    let next = behind(*start, line.len())?;
+    ids.push(KnownId::new(number, *start))?;
+    *start = next;
+    Ok(())
+}
+
+/// The place behind a line of this length and its end.
+fn behind(start: usize, len: usize) -> Result<usize, FileError>
+    ensures { IfOk result (λ next. next ≡ start + suc len) }
+{
+    match start.saturating_add(len).checked_add(1) {
+        Some(next) => Ok(next),
+        None => Err(FileError::Log(LogError::File(io::Error::from(ErrorKind::FileTooLarge)))),
     }
 }
 

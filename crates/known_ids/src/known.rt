@@ -1,78 +1,131 @@
 //! Ids that are known.
-ghost use Rattle.std.specs.Prelude.{◌≡◌, ◌∷◌, ◌≤◌, OnErr, OnOk, IfOk, IfErr, ℕ, length};
+ghost use Rattle.std.specs.Prelude.{◌≡◌, ◌∷◌, ◌≤◌, OnErr, OnOk, IfOk, IfErr, IfSome, ℕ, is_some, length, true};
 ghost use Rattle.std.proofs.Props.{props};
-ghost use Rattle.std.specs.List.Sorted.{IsNonDecreasing};
-ghost use Rattle.known_ids.specs.Known.{HasOneMore, HasRoom, IsGap, IsPlace, has};
+ghost use Rattle.std.specs.List.Sorted.{IsNonDecreasingBy};
+ghost use Rattle.known_ids.specs.Known.{HasOneMore, HasPlaceToo, HasRoom, IsFound, IsGap, has, has_at, number_in, places_in};
 
 use std::alloc::AllocError;
 
-/// Numbers of ids, in order.
+/// The numbers of an id, and where its line begins.
+#[derive(Clone, Copy, Debug)]
+pub struct KnownId {
+    ms: u64,
+    seq: u64,
+    place: usize,
+}
+
+impl KnownId {
+    /// The id of this number, whose line begins at this place.
+    pub fn new(number: u128, place: usize) -> KnownId
+        ensures number { number_in result ≡ number }
+        ensures place { result.place ≡ place }
+    {
+        KnownId {
+            ms: (number / 18_446_744_073_709_551_616) as u64,
+            seq: (number % 18_446_744_073_709_551_616) as u64,
+            place,
+        }
+    }
+
+    /// Its number.
+    pub fn number(&self) -> u128
+        ensures { result ≡ number_in self.now }
+    {
+        self.ms as u128 * 18_446_744_073_709_551_616 + self.seq as u128
+    }
+
+    /// Where its line begins.
+    pub fn place(&self) -> usize
+        ensures { result ≡ self.now.place }
+    {
+        self.place
+    }
+}
+
+/// Ids in the order of their numbers, and where the line of each begins.
 #[derive(Debug, Drop)]
 pub struct KnownIds {
-    numbers: Vec<u128>,
-    ghost rises: { IsNonDecreasing numbers.items } by { Prim.hlevel props },
+    ids: Vec<KnownId>,
+    ghost rises: { IsNonDecreasingBy number_in ids.items } by { Prim.hlevel props },
 }
 
 impl KnownIds {
-    /// These numbers, in whatever order they are.
-    pub fn of(numbers: Vec<u128>) -> KnownIds
-        ensures { (n : ℕ) → has result.numbers.items n ≡ has numbers.items n }
+    /// These ids, in whatever order they are.
+    pub fn of(ids: Vec<KnownId>) -> KnownIds
+        ensures numbers { (n : ℕ) → has (places_in result.ids.items) n ≡ has (places_in ids.items) n }
+        ensures places { (n at : ℕ) → has_at (places_in result.ids.items) n at ≡ has_at (places_in ids.items) n at }
     {
-        let mut numbers = numbers;
-        numbers.sort_unstable();
-        KnownIds { numbers }
+        let mut ids = ids;
+        ids.sort_unstable_by_key(|id| id.number());
+        KnownIds { ids }
     }
 
     /// How many there are.
     pub fn len(&self) -> usize
-        ensures { result ≡ length self.now.numbers.items }
+        ensures { result ≡ length self.now.ids.items }
     {
-        self.numbers.len()
+        self.ids.len()
     }
 
     /// Whether this number is one of them.
     pub fn has(&self, number: u128) -> bool
-        ensures { result ≡ has self.now.numbers.items number }
+        ensures { result ≡ has (places_in self.now.ids.items) number }
     {
-        self.place(number).is_ok()
+        self.search(number).is_ok()
+    }
+
+    /// Where the line of this number begins, or one of them if it has several. None if the number is none of them.
+    pub fn place_of(&self, number: u128) -> Option<usize>
+        ensures some { is_some result ≡ has (places_in self.now.ids.items) number }
+        ensures place { IfSome result (λ at. has_at (places_in self.now.ids.items) number at ≡ true) }
+    {
+        match self.search(number) {
+            Ok(at) => Some(self.ids[at].place),
+            Err(_) => None,
+        }
     }
 
     /// Makes room for one more. An `Err` changes nothing.
     pub fn make_room(&mut self) -> Result<(), AllocError>
-        ensures room { OnOk result (HasRoom self.new.numbers) }
-        ensures same { self.new.numbers.items ≡ self.old.numbers.items }
+        ensures room { OnOk result (HasRoom self.new.ids) }
+        ensures same { self.new.ids.items ≡ self.old.ids.items }
     {
-        self.numbers.reserve(1)
+        self.ids.reserve(1)
     }
 
-    /// Adds a number. If there is room for one more, it does not fail; an `Err` changes nothing.
-    pub fn add(&mut self, number: u128) -> Result<(), AllocError>
-        ensures more { OnOk result (HasOneMore self.old.numbers.items self.new.numbers.items number) }
-        ensures same { OnErr result (self.new.numbers.items ≡ self.old.numbers.items) }
-        ensures room { OnErr result (HasRoom self.old.numbers → ⊥) }
+    /// Adds a number, whose line begins at this place. If there is room for one more, it does not fail; an `Err`
+    /// changes nothing.
+    pub fn add(&mut self, number: u128, place: usize) -> Result<(), AllocError>
+        ensures more { OnOk result (HasOneMore (places_in self.old.ids.items) (places_in self.new.ids.items) number) }
+        ensures place { OnOk result (HasPlaceToo (places_in self.old.ids.items) (places_in self.new.ids.items)
+            number place) }
+        ensures same { OnErr result (self.new.ids.items ≡ self.old.ids.items) }
+        ensures room { OnErr result (HasRoom self.old.ids → ⊥) }
     {
         let at = self.gap(number);
-        self.numbers.insert(at, number)?;
+        self.ids.insert(at, KnownId::new(number, place))?;
         Ok(())
     }
 
     /// Where this number would be put.
     fn gap(&self, number: u128) -> usize
-        ensures { IsGap self.now.numbers.items number result }
+        ensures { IsGap self.now.ids.items number result }
     {
-        match self.place(number) {
+        match self.search(number) {
             Ok(at) => at,
             Err(at) => at,
         }
     }
 
     /// Where this number is, or where it would be put.
-    fn place(&self, number: u128) -> Result<usize, usize>
-        ensures { IsPlace self.now.numbers.items number result }
+    fn search(&self, number: u128) -> Result<usize, usize>
+        ensures { IsFound self.now.ids.items number result }
     {
-        match self.numbers.last() {
-            Some(last) if number <= *last => self.numbers.binary_search(&number),
-            _ => Err(self.numbers.len()),
+        match self.ids.last() {
+            Some(last) if number <= last.number() => {
+                self.ids.binary_search_by_key(&number, |id| id.number())
+            }
+            _ => Err(self.ids.len()),
         }
     }
 }

@@ -1,5 +1,5 @@
 //! Numbers of ids, what is known, and what files tell. Each outcome is worked out by hand.
-use crate::{FileError, KnownIds, number_of, numbers_of_file};
+use crate::{FileError, KnownId, KnownIds, number_of, numbers_of_file};
 use line_log::{LogError, MemoryFile};
 use std::alloc::AllocError;
 use std::process::Abort;
@@ -46,37 +46,62 @@ fn another_text_has_none(rt: HostRuntime) {
     }
 }
 
-/// These are known, and those are not.
-fn check_known(rt: &(impl AllocGlobal + Abort), ids: &KnownIds, known: &[u128], new: &[u128]) {
+#[test]
+fn an_id_keeps_its_number_and_its_place(rt: HostRuntime) {
+    for number in [0u128, 7, id(1, 0), id(12, 34), u128::MAX] {
+        let id = KnownId::new(number, 340);
+        assert_eq!(rt; id.number(), number);
+        assert_eq!(rt; id.place(), 340);
+    }
+}
+
+/// These are known, with the places of their lines, and those are not.
+fn check_known(
+    rt: &(impl AllocGlobal + Abort),
+    ids: &KnownIds,
+    known: &[(u128, usize)],
+    new: &[u128],
+) {
     assert_eq!(rt; ids.len(), known.len());
-    for number in known {
+    for (number, place) in known {
         assert!(rt; ids.has(*number), "{number} is not known");
+        assert_eq!(rt; ids.place_of(*number), Some(*place));
     }
     for number in new {
         assert!(rt; !ids.has(*number), "{number} is known");
+        assert_eq!(rt; ids.place_of(*number), None);
     }
 }
 
 fn fill(rt: &(impl AllocGlobal + Abort)) -> Result<(), AllocError> {
-    let mut numbers = Vec::new(rt.alloc());
-    for number in [9u128, 3, 5] {
-        numbers.push(number)?;
+    let mut told = Vec::new(rt.alloc());
+    for (number, place) in [(9u128, 0usize), (3, 8), (5, 16)] {
+        told.push(KnownId::new(number, place))?;
     }
-    let mut ids = KnownIds::of(numbers);
+    let mut ids = KnownIds::of(told);
     check_known(
         rt,
         &ids,
-        [3u128, 5, 9].as_slice(),
+        [(3u128, 8usize), (5, 16), (9, 0)].as_slice(),
         [0u128, 4, 8, 10].as_slice(),
     );
-    for number in [10u128, 4, 0, u128::MAX] {
+    for (number, place) in [(10u128, 24usize), (4, 40), (0, 41), (u128::MAX, 97)] {
         ids.make_room()?;
-        match ids.add(number) {
+        match ids.add(number, place) {
             Ok(()) => {}
             Err(_) => panic!(rt; "there was room"),
         }
     }
-    let known = [0u128, 3, 4, 5, 9, 10, u128::MAX].as_slice();
+    let known = [
+        (0u128, 41usize),
+        (3, 8),
+        (4, 40),
+        (5, 16),
+        (9, 0),
+        (10, 24),
+        (u128::MAX, 97),
+    ]
+    .as_slice();
     check_known(rt, &ids, known, [1u128, 2, 6, 8, 11].as_slice());
     Ok(())
 }
@@ -97,14 +122,23 @@ fn told_by(
     rt: &(impl AllocGlobal + Abort),
     bytes: &[u8],
     json: bool,
-) -> Result<Vec<u128>, FileError> {
+) -> Result<Vec<KnownId>, FileError> {
     let file = MemoryFile::new(rt.alloc(), bytes.to_vec(rt.alloc())?);
     numbers_of_file(rt.alloc(), &file, json)
 }
 
-fn check_told(rt: &(impl AllocGlobal + Abort), bytes: &[u8], json: bool, numbers: &[u128]) {
+/// These ids were told, and these are the places of their lines.
+fn check_ids(rt: &impl Abort, told: &[KnownId], ids: &[(u128, usize)]) {
+    assert_eq!(rt; told.len(), ids.len());
+    for (told, (number, place)) in told.iter().zip(ids) {
+        assert_eq!(rt; told.number(), *number);
+        assert_eq!(rt; told.place(), *place);
+    }
+}
+
+fn check_told(rt: &(impl AllocGlobal + Abort), bytes: &[u8], json: bool, ids: &[(u128, usize)]) {
     match told_by(rt, bytes, json) {
-        Ok(told) => assert_eq!(rt; told.as_slice(), numbers),
+        Ok(told) => check_ids(rt, &told, ids),
         Err(error) => panic!(rt; "{error}"),
     }
 }
@@ -119,12 +153,13 @@ fn check_untold(rt: &(impl AllocGlobal + Abort), bytes: &[u8], json: bool, line:
 #[test]
 fn lines_of_tabs_tell_ids(rt: HostRuntime) {
     check_told(&rt, b"", false, [].as_slice());
-    check_told(&rt, b"1-0\tn\tv\n", false, [id(1, 0)].as_slice());
+    check_told(&rt, b"1-0\tn\tv\n", false, [(id(1, 0), 0usize)].as_slice());
+    // The lines have 3, 7 and 6 bytes, and an end each.
     check_told(
         &rt,
         b"3-1\n1-0\tn\tv\n2-7\tn\t\n",
         false,
-        [id(3, 1), id(1, 0), id(2, 7)].as_slice(),
+        [(id(3, 1), 0usize), (id(1, 0), 4), (id(2, 7), 12)].as_slice(),
     );
     check_untold(&rt, b"1-0\tn\tv\n\n", false, 2);
     check_untold(&rt, b"no entry\n", false, 1);
@@ -136,7 +171,8 @@ fn lines_of_tabs_tell_ids(rt: HostRuntime) {
 fn lines_of_json_tell_ids(rt: HostRuntime) {
     let lines =
         b"{\"id\":\"1-0\",\"fields\":[]}\n{\"id\":\"0-2\",\"fields\":[[\"n\",\"v\"]]}\n".as_slice();
-    check_told(&rt, lines, true, [id(1, 0), 2].as_slice());
+    // The first line has 24 bytes and its end.
+    check_told(&rt, lines, true, [(id(1, 0), 0usize), (2, 25)].as_slice());
     check_untold(&rt, b"{\"id\":\"1-0\"}\n", true, 1);
     check_untold(&rt, b"{\"id\":\"\\u0031-0\",\"fields\":[]}\n", true, 1);
     check_untold(&rt, b"{\"id\":1-0\",\"fields\":[]}\n", true, 1);
@@ -145,9 +181,14 @@ fn lines_of_json_tell_ids(rt: HostRuntime) {
 
 #[test]
 fn what_has_no_end_is_no_line(rt: HostRuntime) {
-    check_told(&rt, b"1-0\tn\tv\n2-0", false, [id(1, 0)].as_slice());
+    check_told(
+        &rt,
+        b"1-0\tn\tv\n2-0",
+        false,
+        [(id(1, 0), 0usize)].as_slice(),
+    );
     check_told(&rt, b"no entry", false, [].as_slice());
-    check_told(&rt, b"1-0\tn\tv\n{", false, [id(1, 0)].as_slice());
+    check_told(&rt, b"1-0\tn\tv\n{", false, [(id(1, 0), 0usize)].as_slice());
 }
 
 /// A file of several pieces: lines are cut at their ends.
@@ -170,8 +211,12 @@ fn check_long(rt: &(impl AllocGlobal + Abort)) -> Result<(), FileError> {
     let told = told_by(rt, &bytes, false)?;
     assert_eq!(rt; told.len(), 20_000);
     for number in 0..20_000usize {
-        assert_eq!(rt; told[number], id(number as u64, number as u64 % 7));
+        assert_eq!(rt; told[number].number(), id(number as u64, number as u64 % 7));
     }
+    // A line has 33 bytes with its end, and beside these its number twice: ten of one digit, 90 of two, and so on.
+    assert_eq!(rt; told[1].place(), 35);
+    assert_eq!(rt; told[10].place(), 350);
+    assert_eq!(rt; told[19_999].place(), 837_737);
     Ok(())
 }
 
@@ -186,7 +231,7 @@ fn refused_memory_changes_nothing_else(rt: HostRuntime) {
         Ok(()) | Err(AllocError) => {}
     }
     match told_by(&rt, b"1-0\tn\tv\n2-0\n3-0", false) {
-        Ok(told) => assert_eq!(rt; told.as_slice(), [id(1, 0), id(2, 0)].as_slice()),
+        Ok(told) => check_ids(&rt, &told, [(id(1, 0), 0usize), (id(2, 0), 8)].as_slice()),
         Err(error) => assert!(rt; matches!(error, FileError::Log(LogError::Memory))),
     }
 }

@@ -107,7 +107,7 @@ drop_none (suc n) zero xs le = absurd (omega (arith, le))
 drop_none (suc n) (suc k) [] le = refl
 drop_none (suc n) (suc k) (x ∷ xs) le = drop_none n k xs (omega (arith, le))
 
-piece_of : (n at more : ℕ) (xs : List ℕ) → at + more ≤ n → take more (drop at (take n xs)) ≡ take more (drop at xs)
+pub piece_of : (n at more : ℕ) (xs : List ℕ) → at + more ≤ n → take more (drop at (take n xs)) ≡ take more (drop at xs)
 piece_of n zero zero xs le = refl
 piece_of n (suc at) zero xs le = refl
 piece_of zero zero (suc more) xs le = absurd (omega (arith, le))

@@ -8,5 +8,6 @@ pub mod LastLinesLemmas
 pub mod LineLemmas
 pub mod LineTextsLemmas
 mod Moments
+mod PartLemmas
 pub mod RepairLemmas
 mod TornLemmas

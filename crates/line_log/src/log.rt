@@ -1,5 +1,5 @@
 //! Lines that are gathered, and committed at once.
-ghost use Rattle.std.specs.Prelude.{◌≡◌, ◌≤◌, ◌++◌, [], ◌∷◌, ℕ, List, Some, length, take, true, false, IfOk, IfSome, IsSome, IsNone, OnOk, OnErr};
+ghost use Rattle.std.specs.Prelude.{◌≡◌, ◌≤◌, ◌+◌, ◌++◌, [], ◌∷◌, ℕ, List, Some, length, take, drop, true, false, IfOk, IfSome, IsSome, IsNone, OnOk, OnErr};
 ghost use Rattle.std.specs.Io.KnownBytes.{Appends};
 ghost use Rattle.line_log.specs.Device.{IsOnDisk, LeavesOnly};
 ghost use Rattle.line_log.specs.Holds.{Holds, IsHeld, committed_in, cut_back, with_more};
@@ -163,12 +163,45 @@ impl<D: LogFile + Drop> LineLog<D> {
         last_lines_in(alloc, &self.file, self.len, number)
     }
 
+    /// Where the next line begins: so many bytes are committed and gathered.
+    pub fn end(&self) -> Result<usize, LogError>
+        ensures { IfOk result (λ at. at ≡ self.now.len + length self.now.batch.items) }
+    {
+        match self.len.checked_add(self.batch.len()) {
+            Some(end) => Ok(end),
+            None => Err(LogError::File(io::Error::from(ErrorKind::FileTooLarge))),
+        }
+    }
+
+    /// So many bytes from this place on, of what is committed and of the lines that are gathered behind it,
+    /// or what there is of them. It changes nothing.
+    pub fn bytes_at(&self, alloc: Global, at: usize, len: usize) -> Result<Vec<u8>, LogError>
+        ensures { IfOk result (λ read. IfSome (committed_in (D.seen self.now.file) self.now.len)
+            (λ bytes. self.now.len ≡ length bytes
+            → read.items ≡ take len (drop at (bytes ++ self.now.batch.items)))) }
+    {
+        let committed = len.min(self.len.saturating_sub(at));
+        let mut read = self.file.read_at(alloc, at, committed)?;
+        let gathered = part(&self.batch, at.saturating_sub(self.len), len - committed);
+        read.extend_from_slice(gathered)?;
+        Ok(read)
+    }
+
     /// The file. Lines that were not committed are not in it.
     pub fn into_file(self) -> D
         ensures { result ≡ self.file }
     {
         self.file
     }
+}
+
+/// So many of these bytes from a place on, or what there is of them.
+fn part(bytes: &[u8], at: usize, len: usize) -> &[u8]
+    ensures { result.now ≡ take len (drop at bytes.now) }
+{
+    let (_front, rest) = bytes.split_at(at.min(bytes.len()));
+    let (part, _behind) = rest.split_at(len.min(rest.len()));
+    part
 }
 
 /// Appends a line and its end. An `Err` changes nothing.

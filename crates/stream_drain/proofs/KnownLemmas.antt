@@ -1,6 +1,6 @@
 -- The ids that a file tells, and those that are known.
-use Rattle.std.proofs.Common.{◌≡◌, ◌≢◌, ◌∙◌, ◌⊎◌, ◌<◌, inl, inr, refl, sym, ap, subst, arith, ℕ, suc, Bool, true, false}
-use Rattle.std.proofs.Common.{List, [], ◌∷◌, ◌++◌, take, drop, map, flat_map, append-nil, Option, Some, None, if◌then◌else◌}
+use Rattle.std.proofs.Common.{◌≡◌, ◌≢◌, ◌∙◌, ◌⊎◌, ◌<◌, ◌+◌, inl, inr, refl, sym, ap, subst, arith, ℕ, suc, Bool, true, false}
+use Rattle.std.proofs.Common.{List, [], ◌∷◌, ◌++◌, length, take, drop, map, flat_map, append-nil, Option, Some, None, if◌then◌else◌}
 use Rattle.std.proofs.Common.{codes, decimal}
 use Rattle.std.specs.Prelude.{◌||◌, ◌&&◌, option_and_then}
 use Rattle.std.specs.List.{AllByRecursion, list_all, prefix_len}
@@ -14,7 +14,7 @@ use Rattle.std.proofs.lemmas.List.Folds.{list_all-append}
 use Rattle.std.proofs.lemmas.Slice.Eq.{bytes_eq-Decides}
 use Rattle.std.proofs.lemmas.Str.Parse.{IsDigitsTest, numerals_by_value}
 use Rattle.known_ids.specs.Cut.{before, from, is_other}
-use Rattle.known_ids.specs.Known.{HasOneMore, has_number, knows}
+use Rattle.known_ids.specs.Known.{HasOneMore, Place, has_number, knows}
 use Rattle.known_ids.specs.Number.{number_of}
 use Rattle.known_ids.specs.Told.{and_told, begins, line_number, told}
 use Rattle.known_ids.proofs.NumberLemmas.{knows_one_more, parts}
@@ -39,7 +39,7 @@ known_or (Some known) a b is = by (bytes_eq a b) refl is
     by false same holds = inr holds
 
 -- with the number of an id more
-pub numbers_more : (old new : List ℕ) (id : Id) (n : ℕ) → number_of id ≡ Some n → HasOneMore old new n
+pub numbers_more : (old new : List Place) (id : Id) (n : ℕ) → number_of id ≡ Some n → HasOneMore old new n
     → numbers_known new ≡ known_too (numbers_known old) id
 numbers_more old new id n is more =
     ap (λ (k : Id → Bool). Some k) (fun_ext (λ other. knows_one_more old new id n is more other))
@@ -153,29 +153,30 @@ number_told false e n is = text_number e n is
 
 -- ---- the ids of a file
 
-some_list : (a b : List ℕ) → Some a ≡ Some b → a ≡ b
+some_list : (a b : List Place) → Some a ≡ Some b → a ≡ b
 some_list a b same = cc same
 
-told_parts : (o : Option ℕ) (p : Option (List ℕ)) (ns : List ℕ) → and_told o p ≡ Some ns
-    → (n : ℕ) × (ms : List ℕ) × (o ≡ Some n) × (p ≡ Some ms) × (ns ≡ n ∷ ms)
-told_parts None p ns is = absurd (cc is)
-told_parts (Some n) None ns is = absurd (cc is)
-told_parts (Some n) (Some ms) ns is = (n, ms, refl, refl, sym (some_list (n ∷ ms) ns is))
+told_parts : (at : ℕ) (o : Option ℕ) (p : Option (List Place)) (ps : List Place) → and_told at o p ≡ Some ps
+    → (n : ℕ) × (ms : List Place) × (o ≡ Some n) × (p ≡ Some ms) × (ps ≡ (n, at) ∷ ms)
+told_parts at None p ps is = absurd (cc is)
+told_parts at (Some n) None ps is = absurd (cc is)
+told_parts at (Some n) (Some ms) ps is = (n, ms, refl, refl, sym (some_list ((n, at) ∷ ms) ps is))
 
 -- what the lines of entries tell is their ids, and nothing else
-pub told_known : (json : Bool) (es : List Entry) (ns : List ℕ) → told json (map (line_in json) es) ≡ Some ns → (id : Id)
-    → knows ns id ≡ listed (ids_in es) id
-told_known json [] ns is id = ap (λ (xs : List ℕ). knows xs id) (sym (some_list [] ns is)) ∙ none (number_of id)
+pub told_known : (json : Bool) (at : ℕ) (es : List Entry) (ps : List Place) → told json at (map (line_in json) es) ≡ Some ps
+    → (id : Id) → knows ps id ≡ listed (ids_in es) id
+told_known json at [] ps is id = ap (λ (xs : List Place). knows xs id) (sym (some_list [] ps is)) ∙ none (number_of id)
   where
     none : (o : Option ℕ) → has_number [] o ≡ false
     none None = refl
     none (Some m) = refl
-told_known json (e ∷ es) ns is id =
-    let p = told_parts (line_number json (line_in json e)) (told json (map (line_in json) es)) ns is in
+told_known json at (e ∷ es) ps is id =
+    let next = at + suc (length (line_in json e)) in
+    let p = told_parts at (line_number json (line_in json e)) (told json next (map (line_in json) es)) ps is in
     let number : number_of e.0 ≡ Some p.0 = number_told json e p.0 p.2 in
-    ap (λ (xs : List ℕ). knows xs id) p.4
-    ∙ (knows_one_more p.1 (p.0 ∷ p.1) e.0 p.0 number (λ m. refl) id
-    ∙ (ap (λ (b : Bool). bytes_eq e.0 id || b) (told_known json es p.1 p.3 id) ∙ either (bytes_eq e.0 id)))
+    ap (λ (xs : List Place). knows xs id) p.4
+    ∙ (knows_one_more p.1 ((p.0, at) ∷ p.1) e.0 p.0 number (λ m. refl) id
+    ∙ (ap (λ (b : Bool). bytes_eq e.0 id || b) (told_known json next es p.1 p.3 id) ∙ either (bytes_eq e.0 id)))
   where
     either : (b : Bool) → (b || listed (ids_in es) id) ≡ (if b then true else listed (ids_in es) id)
     either true = refl

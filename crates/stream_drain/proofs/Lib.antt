@@ -2,6 +2,7 @@
 pub mod JsonLemmas
 pub mod KnownLemmas
 pub mod LinesLemmas
+pub mod ThereLemmas
 pub mod UniqueLemmas
 pub mod WrittenLemmas
 pub mod LivedLemmas

@@ -7,13 +7,15 @@ use Rattle.line_log.specs.LastLines.{before_first, lines_of}
 use Rattle.line_log.specs.Lines.{HasNoEnd, IsRepaired}
 use Rattle.line_log.proofs.EntryLineLemmas.{line_whole}
 use Rattle.line_log.proofs.LastLinesLemmas.{line_before, lines_join, within_line}
-use Rattle.known_ids.specs.Known.{HasOneMore, has, has_number, knows}
+use Rattle.known_ids.specs.Known.{HasOneMore, Place, has, has_at, has_number, knows, places_in}
 use Rattle.known_ids.specs.Number.{number_of}
 use Rattle.known_ids.specs.Told.{told}
+use Rattle.known_ids.specs.declared.known.KnownIds.{KnownIds}
 use Rattle.stream_group.specs.Worker.{Id, done}
 use Rattle.stream_drain.specs.Known.{Known, numbers_known}
 use Rattle.stream_drain.specs.Line.{entry_tokens, line_in}
 use Rattle.stream_drain.specs.Resumed.{KnowsItsFile}
+use Rattle.stream_drain.specs.There.{KnowsPlaces}
 use Rattle.stream_drain.specs.Written.{Written, line_too, lines_in, written_by, written_too}
 use Rattle.stream_drain.proofs.JsonLemmas.{entry_texts, no_end}
 use Rattle.stream_drain.proofs.KnownLemmas.{numbers_more, told_known}
@@ -33,7 +35,7 @@ lines_are json (e ∷ es) =
 
 -- ---- what a file tells
 
-same_known : (ns ms : List ℕ) → ((n : ℕ) → has ms n ≡ has ns n) → (id : Id) → knows ms id ≡ knows ns id
+same_known : (ns ms : List Place) → ((n : ℕ) → has ms n ≡ has ns n) → (id : Id) → knows ms id ≡ knows ns id
 same_known ns ms same id = by (number_of id)
   where
     by : (o : Option ℕ) → has_number ms o ≡ has_number ns o
@@ -41,12 +43,22 @@ same_known ns ms same id = by (number_of id)
     by (Some n) = same n
 
 -- the ids that the lines of a file tell, in whatever order they are kept
-pub file_known : (file : Option (List ℕ)) (json : Bool) (ns ms : List ℕ) → ((n : ℕ) → has ms n ≡ has ns n)
-    → IfSome file (λ bytes. told json (lines_of bytes) ≡ Some ns)
+pub file_known : (file : Option (List ℕ)) (json : Bool) (ns ms : List Place) → ((n : ℕ) → has ms n ≡ has ns n)
+    → IfSome file (λ bytes. told json 0 (lines_of bytes) ≡ Some ns)
     → IfSome file (λ bytes. KnowsItsFile json bytes (numbers_known ms))
 file_known None json ns ms same is = tt
 file_known (Some bytes) json ns ms same is = λ es lines id. same_known ns ms same id
-    ∙ told_known json es ns (sym (ap (told json) lines) ∙ is) id
+    ∙ told_known json 0 es ns (sym (ap (told json 0) lines) ∙ is) id
+
+-- and where they begin
+pub places_known : (file : Option (List ℕ)) (json : Bool) (ps : List Place) (ids : KnownIds)
+    → ((n at : ℕ) → has_at (places_in ids.ids.items) n at ≡ has_at ps n at)
+    → IfSome file (λ bytes. told json 0 (lines_of bytes) ≡ Some ps)
+    → IfSome file (λ bytes. KnowsPlaces json bytes (Some ids))
+places_known None json ps ids same is = tt
+places_known (Some bytes) json ps ids same is = subst
+    (λ (o : Option (List Place)). IfSome o (λ places. (n at : ℕ) → has_at (places_in ids.ids.items) n at ≡ has_at places n at))
+    (sym is) same
 
 no_line : (line : List ℕ) → HasNoEnd line → lines_of line ≡ []
 no_line [] none = refl
@@ -88,7 +100,7 @@ opened seen may_leave is_sound (Some bytes) file len is_broken json known repair
 
 -- ---- a line that is added
 
-pub line_added : (json : Bool) (old new batch more : List ℕ) (before after : Option (List ℕ)) (len now : ℕ) (e : Entry) (n : ℕ)
+pub line_added : (json : Bool) (old new : List Place) (batch more : List ℕ) (before after : Option (List ℕ)) (len now : ℕ) (e : Entry) (n : ℕ)
     → number_of e.0 ≡ Some n → has old n ≡ false → HasOneMore old new n → more ≡ batch ++ (line_in json e ++ 10 ∷ [])
     → after ≡ before → now ≡ len → written_by json (numbers_known new) more after now
     ≡ written_too (written_by json (numbers_known old) batch before len) e done

@@ -1,7 +1,7 @@
 -- Ids that are looked up, and the entries that get a line.
 use Rattle.std.specs.Prelude.{◌||◌, ℕ, List, [], ◌∷◌, Bool, false, Option, Some, None, if◌then◌else◌, option_map}
 use Rattle.std.specs.Str.{bytes_eq}
-use Rattle.known_ids.specs.Known.{knows}
+use Rattle.known_ids.specs.Known.{Place, knows, places_in}
 use Rattle.known_ids.specs.declared.known.KnownIds.{KnownIds}
 use Rattle.line_log.specs.EntryLine.{Entry}
 use Rattle.stream_group.specs.Worker.{Id}
@@ -20,13 +20,13 @@ abbrev pub known_too : Known → Id → Known
 known_too known id = option_map (λ before other. bytes_eq id other || before other) known
 
 -- of these numbers
-abbrev pub numbers_known : List ℕ → Known
-numbers_known numbers = Some (knows numbers)
+abbrev pub numbers_known : List Place → Known
+numbers_known places = Some (knows places)
 
 -- of these ids
 abbrev pub known_by : Option KnownIds → Known
 known_by None = None
-known_by (Some ids) = numbers_known ids.numbers.items
+known_by (Some ids) = numbers_known (places_in ids.ids.items)
 
 -- the entries that get a line: none whose id is known, or is that of an entry before it
 abbrev pub lines_for : Known → List Entry → List Entry

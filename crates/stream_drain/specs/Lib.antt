@@ -3,6 +3,7 @@ pub mod Json
 pub mod Line
 pub mod Report
 pub mod Known
+pub mod There
 pub mod Written
 pub mod Lived
 pub mod Filed

@@ -1,19 +1,24 @@
 //! Entries as lines of a file.
-ghost use Rattle.std.specs.Prelude.{◌≡◌, ◌++◌, ◌∷◌, [], List, ℕ, IfOk, IfSome, OnErr, OnOk, flat_map, is_some};
-ghost use Rattle.stream_group.specs.Worker.{done};
+ghost use Rattle.std.specs.Prelude.{◌≡◌, ◌+◌, ◌++◌, ◌∷◌, [], List, ℕ, IfErr, IfOk, IfSome, OnErr, OnOk, false, flat_map, is_some, length, true};
+ghost use Rattle.stream_group.specs.Worker.{done, stop};
+ghost use Rattle.known_ids.specs.Known.{HasPlaceToo, knows, places_in};
+ghost use Rattle.known_ids.specs.Number.{number_of};
 ghost use Rattle.line_log.specs.EntryLine.{field_text, line_of};
 ghost use Rattle.line_log.specs.Holds.{Holds, IsHeld, committed_in};
 ghost use Rattle.line_log.specs.LastLines.{last_of, lines_of};
 ghost use Rattle.line_log.specs.Lines.{AreLines, IsRepaired};
 ghost use Rattle.stream_drain.specs.Line.{line_in};
 ghost use Rattle.stream_drain.specs.Resumed.{KnowsItsFile, TellEach};
-ghost use Rattle.stream_drain.specs.Known.{known_by, numbers_known};
+ghost use Rattle.stream_drain.specs.Known.{is_known, known_by, numbers_known};
+ghost use Rattle.stream_drain.specs.There.{Explains, Finds, HasItsLine, IsOfLog, KnowsPlaces, OfAll, Says, Stands, there};
 ghost use Rattle.stream_drain.specs.Written.{Written, committed_with, written_by, written_too};
+ghost use Rattle.stream_drain.specs.declared.there.There.TheVariants.{Same};
 ghost use Rattle.stream_worker.specs.Handling.{pair_of, verdict_of};
 ghost use Rattle.stream_worker.specs.Machine.{ids_of};
 
 use crate::json_lines::json_line;
 use crate::resume::ids_told;
+use crate::there::{There, what_is_at};
 use anyhow::Result as AnyResult;
 use known_ids::{FileError, KnownIds, number_of, numbers_of_file};
 use line_log::{LineLog, LogError, LogFile, push_escaped, push_field};
@@ -31,6 +36,12 @@ pub enum Fault {
     /// Its id is looked up, and is not as servers write one.
     #[error("its id is not two numbers")]
     NotAnId,
+    /// Its id is known, and where the line of that begins another line of this id stands.
+    #[error("a line of its id is there with other fields")]
+    OtherFields,
+    /// Its id is known, and where the line of that begins no line of this id stands.
+    #[error("the file was changed")]
+    Changed,
 }
 
 /// A handler that writes each entry as a line.
@@ -69,6 +80,8 @@ impl<D: LogFile + Drop> Lines<D> {
         ensures knows { IfOk result (λ lines. IfSome (D.seen file) (λ _.
             IfSome (committed_in (D.seen lines.log.file) lines.log.len)
             (λ bytes. KnowsItsFile json bytes (known_by lines.known)))) }
+        ensures places { IfOk result (λ lines. IfSome (D.seen file)
+            (λ bytes. KnowsPlaces json bytes lines.known)) }
     {
         let known = ids_of(alloc, &file, json, look_up)?;
         Ok(Lines {
@@ -94,12 +107,17 @@ impl<D: LogFile + Drop> Lines<D> {
         ids_told(alloc, &lines, self.json)
     }
 
-    /// Adds the line of an entry to the log, unless its id is known.
+    /// Adds the line of an entry to the log, unless its id is known; then this line has to be there.
     fn take(&mut self, alloc: Global, entry: &EntryRef<'_>) -> Result<(), Fault>
         ensures ok { OnOk result (⟦<Lines<D> as Handler>⟧.history self.new
             ≡ written_too (⟦<Lines<D> as Handler>⟧.history self.old) (pair_of entry.now) done) }
         ensures err { OnErr result (⟦<Lines<D> as Handler>⟧.history self.new
             ≡ ⟦<Lines<D> as Handler>⟧.history self.old) }
+        ensures there { OnOk result (is_known (known_by self.old.known) (pair_of entry.now).0 ≡ true
+            → HasItsLine self.old.json (pair_of entry.now) (committed_in (D.seen self.new.log.file) self.new.log.len)
+            self.new.log.batch.items) }
+        ensures why { IfErr result (λ fault. Explains fault self.old.json (pair_of entry.now) self.old.known
+            (committed_in (D.seen self.new.log.file) self.new.log.len) self.new.log.batch.items) }
         ensures file { (self.new.log.file ≡ self.old.log.file) × (self.new.log.len ≡ self.old.log.len)
             × (self.new.log.is_broken ≡ self.old.log.is_broken) }
     {
@@ -126,10 +144,17 @@ impl<D: LogFile + Drop> Handler for Lines<D> {
 
     ghost history = { λ h. written_by h.json (known_by h.known) h.log.batch.items (D.seen h.log.file) h.log.len };
 
-    /// Gathers the line of the entry, which is done then; if it cannot, the worker stops.
+    /// Gathers the line of the entry, which is done then; if it cannot, the worker stops. If its id is known, this very
+    /// line is there already, or the worker stops.
     fn handle(&mut self, alloc: Global, entry: &EntryRef<'_>) -> Verdict
         ensures history { ⟦<Lines<D> as Handler>⟧.history self.new
             ≡ written_too (⟦<Lines<D> as Handler>⟧.history self.old) (pair_of entry.now) (verdict_of result) }
+        ensures there { verdict_of result ≡ done → is_known (known_by self.old.known) (pair_of entry.now).0 ≡ true
+            → HasItsLine self.old.json (pair_of entry.now) (committed_in (D.seen self.new.log.file) self.new.log.len)
+            self.new.log.batch.items }
+        ensures why { verdict_of result ≡ stop → IfSome self.new.fault (λ fault. Explains fault self.old.json
+            (pair_of entry.now) self.old.known (committed_in (D.seen self.new.log.file) self.new.log.len)
+            self.new.log.batch.items) }
         ensures file { (self.new.log.file ≡ self.old.log.file) × (self.new.log.len ≡ self.old.log.len)
             × (self.new.log.is_broken ≡ self.old.log.is_broken) }
     {
@@ -186,6 +211,7 @@ fn ids_of<D: LogFile>(
 ) -> Result<Option<KnownIds>, FileError>
     ensures looks { IfOk result (λ known. is_some known ≡ look_up) }
     ensures knows { IfOk result (λ known. IfSome (D.seen file.now) (λ bytes. KnowsItsFile json bytes (known_by known))) }
+    ensures places { IfOk result (λ known. IfSome (D.seen file.now) (λ bytes. KnowsPlaces json bytes known)) }
 {
     if look_up {
         Ok(Some(KnownIds::of(numbers_of_file(alloc, file, json)?)))
@@ -194,7 +220,8 @@ fn ids_of<D: LogFile>(
     }
 }
 
-/// Adds the line of an entry to the log, unless its id is known. Then its id is known.
+/// Adds the line of an entry to the log, and then its id is known, and where its line begins. If its id was known, this
+/// line has to be there.
 fn add_new<D: LogFile + Drop>(
     alloc: Global,
     known: &mut KnownIds,
@@ -203,25 +230,56 @@ fn add_new<D: LogFile + Drop>(
     entry: &EntryRef<'_>,
     json: bool,
 ) -> Result<(), Fault>
-    ensures ok { OnOk result (written_by json (numbers_known known.new.numbers.items) log.new.batch.items
+    ensures ok { OnOk result (written_by json (numbers_known (places_in known.new.ids.items)) log.new.batch.items
         (D.seen log.new.file) log.new.len
-        ≡ written_too (written_by json (numbers_known known.old.numbers.items) log.old.batch.items
+        ≡ written_too (written_by json (numbers_known (places_in known.old.ids.items)) log.old.batch.items
         (D.seen log.old.file) log.old.len) (pair_of entry.now) done) }
-    ensures err { OnErr result ((known.new.numbers.items ≡ known.old.numbers.items)
+    ensures err { OnErr result ((known.new.ids.items ≡ known.old.ids.items)
         × (log.new.batch.items ≡ log.old.batch.items)) }
+    ensures there { OnOk result (knows (places_in known.old.ids.items) (pair_of entry.now).0 ≡ true
+        → OfAll (committed_in (D.seen log.new.file) log.new.len) log.new.len log.new.batch.items
+        (Stands Same json (pair_of entry.now) (places_in known.old.ids.items))) }
+    ensures place { OnOk result (knows (places_in known.old.ids.items) (pair_of entry.now).0 ≡ false
+        → IfSome (number_of (pair_of entry.now).0) (λ n. HasPlaceToo (places_in known.old.ids.items)
+        (places_in known.new.ids.items) n (log.old.len + length log.old.batch.items))) }
+    ensures why { IfErr result (λ fault. OfAll (committed_in (D.seen log.new.file) log.new.len) log.new.len
+        log.new.batch.items (Says fault json (pair_of entry.now) (places_in known.old.ids.items))) }
     ensures file { (log.new.file ≡ log.old.file) × (log.new.len ≡ log.old.len)
         × (log.new.is_broken ≡ log.old.is_broken) }
 {
     let Some(number) = number_of(entry.id().as_bytes()) else {
         return Err(Fault::NotAnId);
     };
-    if known.has(number) {
-        return Ok(());
+    if let Some(at) = known.place_of(number) {
+        return look_at(alloc, log, at, text, entry, json);
     }
     known.make_room()?;
+    let at = log.end()?;
     add(alloc, log, text, entry, json)?;
-    known.add(number)?;
+    known.add(number, at)?;
     Ok(())
+}
+
+/// Looks at the line of an entry whose id is known, which has to begin at this place.
+fn look_at<D: LogFile + Drop>(
+    alloc: Global,
+    log: &LineLog<D>,
+    at: usize,
+    text: &mut Vec<u8>,
+    entry: &EntryRef<'_>,
+    json: bool,
+) -> Result<(), Fault>
+    ensures ok { OnOk result (OfAll (committed_in (D.seen log.now.file) log.now.len) log.now.len log.now.batch.items
+        (λ bytes. there json (pair_of entry.now).0 (line_in json (pair_of entry.now)) bytes at ≡ Same)) }
+    ensures why { IfErr result (λ fault. OfAll (committed_in (D.seen log.now.file) log.now.len) log.now.len
+        log.now.batch.items (λ bytes. Finds fault (there json (pair_of entry.now).0 (line_in json (pair_of entry.now)) bytes at))) }
+{
+    put(alloc, text, entry, json)?;
+    match what_is_at(alloc, log, at, text, entry.id().as_bytes(), json)? {
+        There::Same => Ok(()),
+        There::Other => Err(Fault::OtherFields),
+        There::Neither => Err(Fault::Changed),
+    }
 }
 
 /// Adds the line of an entry to the log.
@@ -235,6 +293,7 @@ fn add<D: LogFile + Drop>(
     ensures ok { OnOk result (log.new.batch.items ≡ log.old.batch.items
         ++ (line_in json (pair_of entry.now) ++ 10 ∷ [])) }
     ensures err { OnErr result (log.new.batch.items ≡ log.old.batch.items) }
+    ensures why { IfErr result IsOfLog }
     ensures file { (log.new.file ≡ log.old.file) × (log.new.len ≡ log.old.len)
         × (log.new.is_broken ≡ log.old.is_broken) }
 {
@@ -280,12 +339,21 @@ fn push_fields(text: &mut Vec<u8>, fields: FieldsRef<'_>) -> Result<(), AllocErr
 }
 
 impl From<LogError> for Fault {
+    ghost use Rattle.stream_drain.specs.declared.lines.Fault.TheVariants.{Log};
+
+    ghost from_gives = { λ error fault. fault ≡ Log error };
+
     fn from(error: LogError) -> Fault {
         Fault::Log(error)
     }
 }
 
 impl From<AllocError> for Fault {
+    ghost use Rattle.line_log.specs.declared.error.LogError.TheVariants.{Memory};
+    ghost use Rattle.stream_drain.specs.declared.lines.Fault.TheVariants.{Log};
+
+    ghost from_gives = { λ _ fault. fault ≡ Log Memory };
+
     fn from(_error: AllocError) -> Fault {
         Fault::Log(LogError::Memory)
     }

@@ -28,6 +28,7 @@ mod lines;
 mod options;
 mod report;
 mod resume;
+mod there;
 
 use crate::backlog::Watched;
 use crate::drain::drain;

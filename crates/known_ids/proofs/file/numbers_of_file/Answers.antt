@@ -1,4 +1,5 @@
 use Rattle.std.proofs.Common.{◌≡◌, ◌+◌, ◌≤◌, refl, rules, take, drop, IfSome}
+use Rattle.known_ids.specs.Known.{places_in}
 use Rattle.known_ids.proofs.FileLemmas.{all_taken, piece_taken}
 use Rattle.known_ids.proofs.file.numbers_of_file.Goals as goal
 
@@ -11,13 +12,15 @@ loop-at-preserved g c =
     record {
       within = within;
       no_end = took.no_end;
-      so_far = piece_taken (g.D.LogFile.seen c.args.file.now) c.args.json c.loop-at.numbers.items c.loop-at.line.items
-          c.take_piece.new.numbers.items c.take_piece.new.line.items c.deref.result.now c.loop-at.at c.min-more.result
-          (c.loop-at.at + c.min-more.result) refl stands took c.loop-at.invariant.so_far;
+      so_far = piece_taken (g.D.LogFile.seen c.args.file.now) c.args.json (places_in c.loop-at.ids.items) c.loop-at.start
+          c.loop-at.line.items (places_in c.take_piece.new.ids.items) c.take_piece.new.start c.take_piece.new.line.items
+          c.deref.result.now c.loop-at.at c.min-more.result (c.loop-at.at + c.min-more.result) refl stands took
+          c.loop-at.invariant.so_far;
     }
 
 pub returns : goal.returns
 returns g c =
     let past : c.in_ok-len.len ≤ c.loop-at.at = search rules in
-    all_taken (g.D.LogFile.seen c.args.file.now) c.args.json c.loop-at.numbers.items c.loop-at.line.items c.in_ok-len.len
-    c.loop-at.at c.loop-at.invariant.no_end c.in_ok-len.ensures past c.loop-at.invariant.so_far
+    all_taken (g.D.LogFile.seen c.args.file.now) c.args.json (places_in c.loop-at.ids.items) c.loop-at.start
+    c.loop-at.line.items c.in_ok-len.len c.loop-at.at c.loop-at.invariant.no_end c.in_ok-len.ensures past
+    c.loop-at.invariant.so_far

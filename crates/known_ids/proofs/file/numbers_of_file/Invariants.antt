@@ -1,5 +1,6 @@
 use Rattle.std.proofs.Common.{◌≤◌, ◌-◌}
 use Rattle.line_log.specs.Lines.{HasNoEnd}
+use Rattle.known_ids.specs.Known.{places_in}
 use Rattle.known_ids.proofs.FileLemmas.{TookTo}
 use Rattle.known_ids.proofs.file.numbers_of_file.Given as goal
 
@@ -8,7 +9,7 @@ abbrev pub invariant-loop-at : goal.invariant-loop-at
 invariant-loop-at g l = record {
   within : l.at ≤ l.len;
   no_end : HasNoEnd l.line.items;
-  so_far : TookTo (g.D.LogFile.seen l.fn.file) l.fn.json l.numbers.items l.line.items l.at;
+  so_far : TookTo (g.D.LogFile.seen l.fn.file) l.fn.json (places_in l.ids.items) l.start l.line.items l.at;
 }
 
 abbrev pub decreases-loop-at : goal.decreases-loop-at

@@ -3,4 +3,4 @@ use Rattle.known_ids.proofs.KnownLemmas.{found_is}
 use Rattle.known_ids.proofs.known.KnownIds.has.Goals as goal
 
 pub returns : goal.returns
-returns c = c.is_ok.ensures.value ∙ found_is c.args.self.now.numbers.items c.args.number c.place.result c.place.ensures
+returns c = c.is_ok.ensures.value ∙ found_is c.args.self.now.ids.items c.args.number c.search.result c.search.ensures

@@ -1,0 +1,97 @@
+-- What stands where the line of a known id begins.
+use Rattle.std.specs.Prelude.{◌≡◌, ◌-◌, ◌==◌, ◌&&◌, ◌||◌, ℕ, zero, suc, List, [], ◌∷◌, ◌++◌, length, drop, codes, Bool, true, false}
+use Rattle.std.specs.Prelude.{Option, Some, None, IfSome, if◌then◌else◌}
+use Rattle.known_ids.specs.Known.{Place, has_at, places_in}
+use Rattle.known_ids.specs.Number.{number_of}
+use Rattle.known_ids.specs.Told.{begins, told}
+use Rattle.known_ids.specs.declared.known.KnownIds.{KnownIds}
+use Rattle.line_log.specs.EntryLine.{Entry}
+use Rattle.line_log.specs.LastLines.{lines_of}
+use Rattle.line_log.specs.Lines.{HasLine}
+use Rattle.stream_group.specs.Worker.{Id}
+use Rattle.stream_drain.specs.Line.{line_in}
+use Rattle.stream_drain.specs.declared.lines.Fault.{Fault}
+use Rattle.stream_drain.specs.declared.lines.Fault.TheVariants.{Log, NotAnId, OtherFields, Changed}
+use Rattle.stream_drain.specs.declared.there.There.{There}
+use Rattle.stream_drain.specs.declared.there.There.TheVariants.{Same, Other, Neither}
+
+-- a line ends here
+abbrev pub ends : List ℕ → Bool
+ends [] = false
+ends (b ∷ rest) = b == 10
+
+-- a tab is here, or a line ends
+abbrev pub ends_text : List ℕ → Bool
+ends_text [] = false
+ends_text (b ∷ rest) = (b == 9) || (b == 10)
+
+-- the text begins with this line and its end
+abbrev pub has_line : List ℕ → List ℕ → Bool
+has_line line text = begins line text && ends (drop (length line) text)
+
+-- the text begins as a line of this id does: of JSON, or of texts that tabs separate
+abbrev pub has_id : Bool → Id → List ℕ → Bool
+has_id true id text = begins (codes "{\"id\":\"") text
+    && (begins id (drop 7 text) && begins (codes "\",\"fields\":[") (drop (length id) (drop 7 text)))
+has_id false id text = begins id text && ends_text (drop (length id) text)
+
+-- the line of this id, another one of the id, or neither
+abbrev pub found_in : Bool → Id → List ℕ → Option (List ℕ) → There
+found_in json id line None = Neither
+found_in json id line (Some text) = if has_line line text then Same else if has_id json id text then Other else Neither
+
+-- what stands at a place, if a line begins there: with the first byte, or behind the end of another line
+abbrev pub begun : ℕ → List ℕ → Option (List ℕ)
+begun zero bytes = Some bytes
+begun (suc k) [] = None
+begun (suc k) (b ∷ rest) = if b == 10 then Some rest else None
+
+-- what stands at this place of these bytes
+abbrev pub there : Bool → Id → List ℕ → List ℕ → ℕ → There
+there json id line bytes at = found_in json id line (begun at (drop (at - 1) bytes))
+
+-- of what is committed and of what is gathered behind it, where the file is known, and no shorter than it was
+abbrev pub OfAll : Option (List ℕ) → ℕ → List ℕ → (List ℕ → Type 0) → Type 0
+OfAll committed len batch P = IfSome committed (λ bytes. len ≡ length bytes → P (bytes ++ batch))
+
+-- where the line of an entry was known to begin, this stands
+abbrev pub Stands : There → Bool → Entry → List Place → List ℕ → Type 0
+Stands found json e places bytes = (n at : ℕ) × (number_of e.0 ≡ Some n) × (has_at places n at ≡ true)
+    × (there json e.0 (line_in json e) bytes at ≡ found)
+
+-- what is found there if an entry is not done for this
+abbrev pub Finds : Fault → There → Type 0
+Finds (Log error) found = Unit {0}
+Finds NotAnId found = ⊥
+Finds OtherFields found = found ≡ Other
+Finds Changed found = found ≡ Neither
+
+-- why an entry was not done
+abbrev pub Says : Fault → Bool → Entry → List Place → List ℕ → Type 0
+Says (Log error) json e places bytes = Unit {0}
+Says NotAnId json e places bytes = number_of e.0 ≡ None
+Says OtherFields json e places bytes = Stands Other json e places bytes
+Says Changed json e places bytes = Stands Neither json e places bytes
+
+-- the log did not take it
+abbrev pub IsOfLog : Fault → Type 0
+IsOfLog (Log error) = Unit {0}
+IsOfLog NotAnId = ⊥
+IsOfLog OtherFields = ⊥
+IsOfLog Changed = ⊥
+
+-- why an entry was not done, if entries are looked up, and if they are not
+abbrev pub Explains : Fault → Bool → Entry → Option KnownIds → Option (List ℕ) → List ℕ → Type 0
+Explains fault json e None committed batch = IsOfLog fault
+Explains fault json e (Some ids) committed batch =
+    IfSome committed (λ bytes. Says fault json e (places_in ids.ids.items) (bytes ++ batch))
+
+-- the line of an entry is one of those that are committed and gathered
+abbrev pub HasItsLine : Bool → Entry → Option (List ℕ) → List ℕ → Type 0
+HasItsLine json e committed batch = IfSome committed (λ bytes. HasLine (line_in json e) (bytes ++ batch))
+
+-- where the lines of the known ids begin: just where those of the file do
+abbrev pub KnowsPlaces : Bool → List ℕ → Option KnownIds → Type 0
+KnowsPlaces json bytes None = Unit {0}
+KnowsPlaces json bytes (Some ids) = IfSome (told json 0 (lines_of bytes))
+    (λ places. (n at : ℕ) → has_at (places_in ids.ids.items) n at ≡ has_at places n at)

@@ -1,0 +1,130 @@
+//! What stands where the line of a known id begins.
+ghost use Rattle.std.specs.Prelude.{◌≡◌, IfOk, Some, option_map, true};
+ghost use Rattle.known_ids.specs.Told.{begins};
+ghost use Rattle.line_log.specs.Holds.{committed_in};
+ghost use Rattle.stream_drain.specs.There.{OfAll, begun, ends, ends_text, found_in, has_id, has_line, there};
+
+use line_log::{LineLog, LogError, LogFile};
+use std::alloc::Global;
+
+const JSON_HEAD: &[u8] = b"{\"id\":\"";
+
+const JSON_NEXT: &[u8] = b"\",\"fields\":[";
+
+/// So many bytes stand around the id at the head of a line of JSON.
+const AROUND: usize = 19;
+
+/// What stands where the line of a known id begins.
+#[derive(Clone, Copy)]
+pub enum There {
+    /// This line, with its end.
+    Same,
+    /// Another line of its id.
+    Other,
+    /// Neither.
+    Neither,
+}
+
+/// What stands at this place of the lines that are committed and gathered. It reads as many bytes as the line has, or
+/// as the head of another line of its id, and two more.
+pub fn what_is_at<D: LogFile + Drop>(
+    alloc: Global,
+    log: &LineLog<D>,
+    at: usize,
+    line: &[u8],
+    id: &[u8],
+    json: bool,
+) -> Result<There, LogError>
+    ensures { IfOk result (λ found. OfAll (committed_in (D.seen log.now.file) log.now.len) log.now.len
+        log.now.batch.items (λ bytes. found ≡ there json id.now line.now bytes at)) }
+{
+    let len = line.len().max(id.len() + AROUND) + 2;
+    let read = log.bytes_at(alloc, at.saturating_sub(1), len)?;
+    match begun(&read, at) {
+        Some(text) => Ok(found_in(text, line, id, json)),
+        None => Ok(There::Neither),
+    }
+}
+
+/// What stands at this place, if a line begins there. The bytes begin one before it, or there if it is the first.
+fn begun(bytes: &[u8], at: usize) -> Option<&[u8]>
+    ensures { option_map (λ text. text.now) result ≡ begun at bytes.now }
+{
+    if at == 0 {
+        return Some(bytes);
+    }
+    match bytes {
+        [b'\n', text @ ..] => Some(text),
+        _ => None,
+    }
+}
+
+/// Which line this text begins with.
+fn found_in(text: &[u8], line: &[u8], id: &[u8], json: bool) -> There
+    ensures { result ≡ found_in json id.now line.now (Some text.now) }
+{
+    if has_line(text, line) {
+        There::Same
+    } else if has_id(text, id, json) {
+        There::Other
+    } else {
+        There::Neither
+    }
+}
+
+/// Whether the text begins with this line and its end.
+fn has_line(text: &[u8], line: &[u8]) -> bool
+    ensures { result ≡ has_line line.now text.now }
+{
+    match text.strip_prefix(line) {
+        Some(rest) => ends(rest),
+        None => false,
+    }
+}
+
+/// Whether the text begins as a line of this id does.
+fn has_id(text: &[u8], id: &[u8], json: bool) -> bool
+    ensures { result ≡ has_id json id.now text.now }
+{
+    if json {
+        has_id_of_json(text, id)
+    } else {
+        match text.strip_prefix(id) {
+            Some(rest) => ends_text(rest),
+            None => false,
+        }
+    }
+}
+
+/// Whether the text begins as a line of JSON of this id does.
+fn has_id_of_json(text: &[u8], id: &[u8]) -> bool
+    ensures { result ≡ has_id true id.now text.now }
+{
+    let Some(rest) = text.strip_prefix(JSON_HEAD) else {
+        return false;
+    };
+    match rest.strip_prefix(id) {
+        Some(rest) => rest.starts_with(JSON_NEXT),
+        None => false,
+    }
+}
+
+/// Whether a line ends here.
+fn ends(text: &[u8]) -> bool
+    ensures { result ≡ ends text.now }
+{
+    match text {
+        [first, ..] => *first == b'\n',
+        [] => false,
+    }
+}
+
+/// Whether a tab is here, or a line ends.
+fn ends_text(text: &[u8]) -> bool
+    ensures { result ≡ ends_text text.now }
+{
+    match text {
+        [first, ..] => *first == b'\t' || *first == b'\n',
+        [] => false,
+    }
+}
