@@ -11,9 +11,10 @@ use Rattle.stream_worker.specs.Session.{Standing, standing_of}
 use Rattle.worker_failover.specs.Keeps.{LooksUp}
 use Rattle.worker_failover.specs.Rounds.{file_left}
 use Rattle.worker_failover.specs.Schedule.{HasFile, file_after}
-use Rattle.worker_failover.proofs.ScheduleLemmas.{code_loses_nothing, code_writes_once, code_writes_the_log}
+use Rattle.worker_failover.proofs.ScheduleLemmas.{code_loses_nothing, code_writes_each_record, code_writes_once}
+use Rattle.worker_failover.proofs.ScheduleLemmas.{code_writes_the_log}
 use Rattle.stream_drain.specs.Failover.{HasLines, LinesAreOfTheLog, LinesLookUp, LinesLoseNothing, LinesOnce}
-use Rattle.stream_drain.specs.Failover.{StartsOverTheModel, keeps_lines}
+use Rattle.stream_drain.specs.Failover.{LinesAreTheRecords, StartsOverTheModel, keeps_lines}
 use Rattle.stream_drain.specs.Once.{over_file}
 use Rattle.stream_drain.specs.Written.{Written, lines_in}
 use Rattle.stream_drain.proofs.ModelLemmas.{looks_up_as_the_model}
@@ -64,7 +65,12 @@ lines_are_of_the_log json s wait settings events w r waits =
     (has_lines json w (file_after s events) h.0, h.1)
 
 pub lines_lose_nothing : LinesLoseNothing
-lines_lose_nothing json s fit wait settings earlier later w r h j adds adds_too acks acks_too e known =
-    let k = code_loses_nothing (keeps_lines json) (lines_look_up json) s fit wait settings earlier later w r h j adds adds_too
-    acks acks_too e known in
+lines_lose_nothing json s fit wait settings earlier later w r h j e known =
+    let k = code_loses_nothing (keeps_lines json) (lines_look_up json) s fit wait settings earlier later w r h j e known in
+    (has_lines json w (file_after s (earlier ++ later)) k.0, k.1)
+
+pub lines_are_the_records : LinesAreTheRecords
+lines_are_the_records json s fit wait settings earlier later w r h j is_done drained none =
+    let k = code_writes_each_record (keeps_lines json) (lines_look_up json) s fit wait settings earlier later w r h j is_done
+    drained none in
     (has_lines json w (file_after s (earlier ++ later)) k.0, k.1)

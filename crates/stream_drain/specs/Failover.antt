@@ -1,7 +1,7 @@
 -- The program with `--look-up` is the consumer of `stream_failover`, whose server may go back to an earlier state.
-use Rattle.std.specs.Prelude.{◌≡◌, ◌≤◌, ℕ, List, ◌++◌, take, Bool, Option, Some}
+use Rattle.std.specs.Prelude.{◌≡◌, ◌≤◌, ℕ, List, [], ◌++◌, take, Bool, Option, Some}
 use Rattle.line_log.specs.EntryLine.{Entry}
-use Rattle.stream_failover.specs.Law.{after, NoOtherAcks, NoOtherAdds, ProducerAlwaysWaits}
+use Rattle.stream_failover.specs.Law.{after, ProducerAlwaysWaits}
 use Rattle.stream_failover.specs.World.{Event}
 use Rattle.stream_feed.specs.declared.wait.Wait.{Wait}
 use Rattle.stream_group.specs.Group.{ids_of}
@@ -10,14 +10,14 @@ use Rattle.stream_group.specs.Worker.{Id}
 use Rattle.stream_in_place.specs.Sent.{Pairs}
 use Rattle.stream_once.specs.Consumer.{Consumer, new_consumer}
 use Rattle.stream_once.specs.Feed.{entries, known_in}
-use Rattle.stream_once.specs.Law.{Fit, IsKept, Once, log}
+use Rattle.stream_once.specs.Law.{Fit, HasEachOnce, IsDone, IsDrained, IsKept, Once, log}
 use Rattle.stream_once.specs.World.{Setting}
 use Rattle.stream_worker.specs.Session.{Standing, standing_of}
 use Rattle.stream_worker.specs.declared.state.Settings.{Settings}
 use Rattle.stream_worker.specs.declared.worker.Worker.{Worker}
 use Rattle.worker_failover.specs.Keeps.{Keeps, LooksUp}
 use Rattle.worker_failover.specs.Rounds.{StartsOver, added_last, file_left}
-use Rattle.worker_failover.specs.Schedule.{Runs, file_after}
+use Rattle.worker_failover.specs.Schedule.{NobodyElse, Runs, file_after}
 use Rattle.stream_drain.specs.Once.{written_as}
 use Rattle.stream_drain.specs.Resumed.{BeginsWithLast, KnowsItsFile}
 use Rattle.stream_drain.specs.Written.{Written, committed_with, lines_in, written_too}
@@ -67,7 +67,17 @@ abbrev pub LinesLoseNothing : Type 0
 LinesLoseNothing = (json : Bool) (s : Setting Pairs) → Fit s → (wait : Wait) (settings : Settings)
     (earlier later : List (Event Pairs)) (w : Standing Written)
     → Runs (keeps_lines json) s (Some wait) settings (earlier ++ later) w
-    → ProducerAlwaysWaits earlier → ProducerAlwaysWaits later → NoOtherAdds earlier → NoOtherAdds later
-    → NoOtherAcks earlier → NoOtherAcks later → (e : Entry)
+    → NobodyElse earlier → NobodyElse later → (e : Entry)
     → Among e (take (known_in (after s earlier).now.producer.stage) (entries s.base s.records))
     → HasLines json w (file_after s (earlier ++ later)) × IsKept (after s (earlier ++ later)).now e
+
+-- the law: if the producer said once that all is in, then when the stream is drained, and nothing is deleted, the file has a
+-- line of each record, once
+abbrev pub LinesAreTheRecords : Type 0
+LinesAreTheRecords = (json : Bool) (s : Setting Pairs) → Fit s → (wait : Wait) (settings : Settings)
+    (earlier later : List (Event Pairs)) (w : Standing Written)
+    → Runs (keeps_lines json) s (Some wait) settings (earlier ++ later) w
+    → NobodyElse earlier → NobodyElse later → IsDone s (after s earlier).now
+    → IsDrained (after s (earlier ++ later)).now → (after s (earlier ++ later)).now.stream.deleted ≡ []
+    → HasLines json w (file_after s (earlier ++ later))
+    × HasEachOnce (file_after s (earlier ++ later)) (entries s.base s.records)

@@ -1,6 +1,6 @@
 //! What holds of the lines that are gathered and committed, over the rounds of a worker.
 ghost use Rattle.stream_drain.specs.Failover.{LinesAreOfTheLog, LinesLookUp, LinesLoseNothing, LinesOnce};
-ghost use Rattle.stream_drain.specs.Failover.{StartsOverTheModel};
+ghost use Rattle.stream_drain.specs.Failover.{LinesAreTheRecords, StartsOverTheModel};
 ghost use Rattle.stream_drain.specs.Filed.{AcknowledgedIsFiled};
 ghost use Rattle.stream_drain.specs.Lived.{RoundsAreLived};
 ghost use Rattle.stream_drain.specs.Once.{LooksUpAsTheModel, NoIdIsTwice, StartsLookingUp};
@@ -69,15 +69,17 @@ pub fn looks_up_as_the_model()
 {}
 
 /// With `--look-up` the worker and its file are the consumer of `stream_failover` after each schedule (`Runs` of
-/// `worker_failover`): of rounds, failures, crashes with the start after them, and failovers. So no id is a line twice.
-/// With `--wait`, over a producer that asks WAIT too, each entry of the file is in the log after any failover, and comes
-/// to nobody as new. Each record that the producer took to be in the stream is to come, or pending, or a line, or was deleted.
+/// `worker_failover`): of rounds, failures, crashes with the start after them, and failovers. So no id is a line
+/// twice. A start over a file whose ids are known is one of those.
 ///
-/// The premises are those of `worker_failover`. A worker without letters and rows makes such rounds.
+/// With `--wait`, over a producer that asks WAIT too, each entry of the file is in the log after any failover, and
+/// comes to nobody as new. Each record that the producer took to be in the stream is to come, or pending, or a line,
+/// or was deleted. A drained stream has each record in the file, once. The premises are those of `worker_failover`.
 pub fn is_the_consumer_of_failover()
     ensures looks_up { LinesLookUp }
     ensures starts { StartsOverTheModel }
     ensures once { LinesOnce }
     ensures of_log { LinesAreOfTheLog }
     ensures kept { LinesLoseNothing }
+    ensures all { LinesAreTheRecords }
 {}

@@ -1,6 +1,6 @@
 -- A schedule that meets the premises: a worker is handed an entry in a round that a replica confirms, the server fails over,
 -- a crash comes in the commit, and the file has the entry. And what becomes of a round that no replica confirms.
-use Rattle.std.proofs.Common.{◌≡◌, ◌<◌, refl, sym, ap, subst, ◌∙◌, ℕ, arith, true, false, Bool, List, [], ◌∷◌, ◌++◌, string_bytes}
+use Rattle.std.proofs.Common.{◌≡◌, ◌<◌, refl, sym, ap, subst, ◌∙◌, ℕ, arith, true, Bool, List, [], ◌∷◌, ◌++◌, string_bytes}
 use Rattle.std.proofs.Common.{codes, Option, Some, None}
 use Rattle.std.specs.Fmt.{digits}
 use Rattle.std.specs.Char.{encode_utf8}
@@ -9,10 +9,10 @@ use Rattle.redis_connection.specs.Link.{Link}
 use Rattle.redis_resp.specs.Tree.{Tree, array, bulk, trees}
 use Rattle.redis_wire.specs.Reply as wire
 use Rattle.stream_failover.specs.Law.{after}
-use Rattle.stream_failover.specs.World.{World, Event, Plain, Arrive_waits, Ask_waits, Failover, run, first_world}
+use Rattle.stream_failover.specs.World.{Event, Plain, Arrive_waits, Failover, run, first_world}
 use Rattle.stream_feed.specs.declared.wait.Wait.{Wait}
 use Rattle.stream_files.specs.Files.{Fields}
-use Rattle.stream_group.specs.Worker.{Entry, Phase, own, claiming, done, own_pending, begins_with}
+use Rattle.stream_group.specs.Worker.{Entry, done, own_pending, begins_with}
 use Rattle.stream_group.specs.World.{Read}
 use Rattle.stream_in_place.specs.SentReading.{sent_streams_reading}
 use Rattle.stream_once.specs.World.{Setting, Send, Hear, Take, Restart, Else}
@@ -29,7 +29,7 @@ use Rattle.stream_worker.specs.declared.state.Settings.{Settings}
 use Rattle.stream_worker.specs.declared.worker.Progress.{Progress}
 use Rattle.stream_worker.specs.declared.worker.Worker.{Worker}
 use Rattle.worker_failover.specs.Keeps.{keeps_entries}
-use Rattle.worker_failover.specs.Rounds.{IsConsumer, comes, Meantime, HearsTheReply, until_replied, IsRound, between, file_left}
+use Rattle.worker_failover.specs.Rounds.{comes, Meantime, HearsTheReply, until_replied, IsRound, between, file_left}
 use Rattle.worker_failover.specs.Schedule.{Runs, begins, rests, turns, round_events, consumer_at}
 
 abbrev fields : Fields

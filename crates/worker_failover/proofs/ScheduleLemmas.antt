@@ -1,5 +1,5 @@
 -- After each schedule the worker is the consumer of `stream_failover`, and what holds of that holds of it.
-use Rattle.std.proofs.Common.{◌⊎◌, refl, sym, subst, ◌∙◌, ℕ, List, [], ◌∷◌, ◌++◌, Bool, true, false, Option, Some, map}
+use Rattle.std.proofs.Common.{◌≡◌, ◌⊎◌, refl, sym, subst, ◌∙◌, ℕ, List, [], ◌∷◌, ◌++◌, Bool, true, false, Option, Some, map}
 use Rattle.std.proofs.Common.{if◌then◌else◌}
 use Rattle.redis_connection.specs.Link.{Link}
 use Rattle.stream_confirm.specs.declared.error.RoundError.{RoundError}
@@ -8,13 +8,15 @@ use mathlib.Core.Logic.{inl, inr}
 use Rattle.stream_failover.specs.Law.{after, AllWait, Waits, ProducerWaits, ProducerAlwaysWaits}
 use Rattle.stream_failover.specs.World.{World, Event, Plain, Arrive_waits, Ask_waits, Failover, first_world, run}
 use Rattle.stream_failover.proofs.Looked.{file_once}
-use Rattle.stream_failover.proofs.Safe.{nothing_confirmed_is_lost}
+use Rattle.stream_failover.proofs.Safe.{nothing_confirmed_is_lost, each_comes_out_once}
+use Rattle.stream_failover.proofs.Undeleted.{producer_loses_nothing}
 use Rattle.stream_failover.proofs.Stays.{file_is_of_log, handled_is_not_new}
 use Rattle.stream_feed.specs.declared.wait.Wait.{Wait}
 use Rattle.stream_files.specs.Files.{Fields}
 use Rattle.stream_group.specs.Worker.{Id, Machine}
 use Rattle.stream_once.specs.Consumer.{Consumer}
-use Rattle.stream_once.specs.Law.{IsKept}
+use Rattle.stream_once.specs.Feed.{entries}
+use Rattle.stream_once.specs.Law.{IsKept, IsDrained, HasEachOnce}
 use Rattle.stream_once.specs.World.{Setting, Take, Reconnect, Restart}
 use Rattle.stream_once.specs.World as once
 use Rattle.stream_system.specs.Once.{committing, unasked_events}
@@ -39,6 +41,7 @@ use Rattle.worker_failover.specs.Rounds.{Moment, between, within, events_until, 
 use Rattle.worker_failover.specs.Schedule.{Runs, begins, rests, turns, fails, breaks, restarts, round_events}
 use Rattle.worker_failover.specs.Schedule.{consumer_at, RunsAreEvents, RunsWait, HasFile, file_after}
 use Rattle.worker_failover.specs.Schedule.{CodeWritesOnce, CodeWritesTheLog, CodeLosesNothing}
+use Rattle.worker_failover.specs.Schedule.{NobodyElse, CodeLosesNothingAdded, CodeWritesEachRecord}
 use Rattle.worker_failover.proofs.RoundLemmas.{run_on, Rests, as_is, rests_again, all_keep, is_one, round_is}
 use Rattle.worker_failover.proofs.RoundLemmas.{failure_is, break_is, start_is}
 
@@ -268,11 +271,35 @@ producer_on : (es more : List (Event Fields)) → ProducerAlwaysWaits es → Pro
 producer_on [] more h j = j
 producer_on (e ∷ es) more h j = (h.0, producer_on es more h.1 j)
 
+-- a WAIT comes with each request and each question for entries
+both_waits : {R : Type 0} (k : Keeps R) (s : Setting Fields) (w : Wait) (settings : Settings)
+    (earlier later : List (Event Fields)) (v : Standing R) → Runs k s (Some w) settings (earlier ++ later) v
+    → NobodyElse earlier → NobodyElse later → AllWait earlier × AllWait later
+both_waits k s w settings earlier later v r h j = waits_front earlier later
+    (runs_wait k s w settings (earlier ++ later) v r (producer_on earlier later h.0 j.0))
+
 pub code_loses_nothing : {R : Type 0} → CodeLosesNothing R
-code_loses_nothing k law s fit w settings earlier later v r h j adds adds_too acks acks_too e known =
-    let all : AllWait earlier × AllWait later = waits_front earlier later
-    (runs_wait k s w settings (earlier ++ later) v r (producer_on earlier later h j)) in (
+code_loses_nothing k law s fit w settings earlier later v r h j e known =
+    let all = both_waits k s w settings earlier later v r h j in (
       has_file k law s (Some w) settings (earlier ++ later) v r,
       subst (λ (z : World Fields). IsKept z.now e) (sym (run_on s earlier later first_world))
-          (nothing_confirmed_is_lost s fit earlier later adds adds_too all.0 all.1 acks acks_too e known),
+          (nothing_confirmed_is_lost s fit earlier later h.1 j.1 all.0 all.1 h.2 j.2 e known),
+    )
+
+pub code_loses_nothing_added : {R : Type 0} → CodeLosesNothingAdded R
+code_loses_nothing_added k law s fit wait settings earlier later v r h j none none_too e known = (
+  has_file k law s wait settings (earlier ++ later) v r,
+  subst (λ (z : World Fields). IsKept z.now e) (sym (run_on s earlier later first_world))
+      (producer_loses_nothing s fit earlier later h.1 j.1 h.0 j.0 h.2 j.2 none none_too e known),
+)
+
+pub code_writes_each_record : {R : Type 0} → CodeWritesEachRecord R
+code_writes_each_record k law s fit w settings earlier later v r h j is_done drained none =
+    let all = both_waits k s w settings earlier later v r h j in
+    let same : after s (earlier ++ later) ≡ run s later (after s earlier) = run_on s earlier later first_world in (
+      has_file k law s (Some w) settings (earlier ++ later) v r,
+      subst (λ (z : World Fields). HasEachOnce z.now.consumer.file (entries s.base s.records)) (sym same)
+          (each_comes_out_once s fit earlier later h.1 j.1 all.0 all.1 h.2 j.2 is_done
+          (subst (λ (z : World Fields). IsDrained z.now) same drained)
+          (subst (λ (z : World Fields). z.now.stream.deleted ≡ []) same none)),
     )

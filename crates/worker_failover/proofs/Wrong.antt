@@ -1,14 +1,12 @@
 -- Wrong definitions, and a schedule that refutes each.
 use Rattle.std.proofs.Common.{◌≡◌, refl, ap, ◌∙◌, true, ℕ, List, [], ◌∷◌, ◌++◌, Some}
 use Rattle.std.proofs.Common.{codes, if◌then◌else◌}
-use Rattle.std.specs.Fmt.{digits}
 use Rattle.stream_failover.specs.Law.{after}
-use Rattle.stream_failover.specs.World.{Event, Plain, Arrive_waits, Ask_waits, Failover}
+use Rattle.stream_failover.specs.World.{Event, Plain, Ask_waits}
 use Rattle.stream_files.specs.Files.{Fields}
 use Rattle.stream_group.specs.Group.{ids_of, listed}
 use Rattle.stream_group.specs.Worker.{Entry, Machine, Verdict, claiming, done, left_pending, own, stop, told_in}
-use Rattle.stream_once.specs.Law.{Once, log}
-use Rattle.stream_once.specs.World.{Setting, Acknowledge_now, Ask, Hear, Send, Sync, Take}
+use Rattle.stream_once.specs.World.{Setting, Take}
 use Rattle.stream_worker.specs.Gathered.{Doings, done_too, committed_too}
 use Rattle.stream_worker.specs.Handling.{with_all}
 use Rattle.stream_worker.specs.Session.{Standing}

@@ -2,7 +2,7 @@
 use Rattle.std.specs.Prelude.{◌≡◌, List, [], ◌∷◌, ◌++◌, take, true, false, Option, Some}
 use Rattle.redis_connection.specs.Link.{Link}
 use Rattle.stream_confirm.specs.declared.error.RoundError.{RoundError}
-use Rattle.stream_failover.specs.Law.{after, AllWait, ProducerAlwaysWaits, NoOtherAdds, NoOtherAcks}
+use Rattle.stream_failover.specs.Law.{after, AllWait, ProducerAlwaysWaits, NoOtherAdds, NoOtherAcks, NoDeletes}
 use Rattle.stream_failover.specs.World.{World, Event, Plain, run}
 use Rattle.stream_feed.specs.declared.wait.Wait.{Wait}
 use Rattle.stream_files.specs.Files.{Fields}
@@ -11,7 +11,7 @@ use Rattle.stream_group.specs.Law.{Among}
 use Rattle.stream_group.specs.Worker.{Entry}
 use Rattle.stream_once.specs.Consumer.{Consumer}
 use Rattle.stream_once.specs.Feed.{entries, known_in}
-use Rattle.stream_once.specs.Law.{Fit, Once, IsKept, log}
+use Rattle.stream_once.specs.Law.{Fit, Once, IsKept, IsDone, IsDrained, HasEachOnce, log}
 use Rattle.stream_once.specs.World.{Setting, Take, Reconnect, Restart}
 use Rattle.stream_system.specs.Rounds.{IsStarted}
 use Rattle.stream_worker.specs.Session.{Standing, standing_of}
@@ -110,12 +110,34 @@ CodeWritesTheLog R = (k : Keeps R) → LooksUp k → (s : Setting Fields) (w : W
     → HasFile k v (file_after s events) × ((e : Entry Fields) → Among e (file_after s events)
     → Among e (log (after s events).now) × (Among e (after s events).now.stream.fresh → ⊥))
 
+-- the producer asks WAIT, and nobody else adds or acknowledges
+abbrev pub NobodyElse : List (Event Fields) → Type 0
+NobodyElse events = ProducerAlwaysWaits events × NoOtherAdds events × NoOtherAcks events
+
 -- then each record that the producer took to be in the stream is still to come, or pending, or in the file, or was deleted,
--- whatever happened later, if nobody else adds or acknowledges
+-- whatever happened later
 abbrev pub CodeLosesNothing : Type 0 → Type 0
 CodeLosesNothing R = (k : Keeps R) → LooksUp k → (s : Setting Fields) → Fit s → (w : Wait) (settings : Settings)
     (earlier later : List (Event Fields)) (v : Standing R) → Runs k s (Some w) settings (earlier ++ later) v
-    → ProducerAlwaysWaits earlier → ProducerAlwaysWaits later → NoOtherAdds earlier → NoOtherAdds later
-    → NoOtherAcks earlier → NoOtherAcks later → (e : Entry Fields)
+    → NobodyElse earlier → NobodyElse later → (e : Entry Fields)
     → Among e (take (known_in (after s earlier).now.producer.stage) (entries s.base s.records))
     → HasFile k v (file_after s (earlier ++ later)) × IsKept (after s (earlier ++ later)).now e
+
+-- for this the worker need not ask WAIT, if nobody deletes
+abbrev pub CodeLosesNothingAdded : Type 0 → Type 0
+CodeLosesNothingAdded R = (k : Keeps R) → LooksUp k → (s : Setting Fields) → Fit s → (wait : Option Wait)
+    (settings : Settings) (earlier later : List (Event Fields)) (v : Standing R)
+    → Runs k s wait settings (earlier ++ later) v → NobodyElse earlier → NobodyElse later
+    → NoDeletes earlier → NoDeletes later → (e : Entry Fields)
+    → Among e (take (known_in (after s earlier).now.producer.stage) (entries s.base s.records))
+    → HasFile k v (file_after s (earlier ++ later)) × IsKept (after s (earlier ++ later)).now e
+
+-- if the producer said once that all is in, then when the stream is drained, and nothing is deleted, its file has each
+-- record once
+abbrev pub CodeWritesEachRecord : Type 0 → Type 0
+CodeWritesEachRecord R = (k : Keeps R) → LooksUp k → (s : Setting Fields) → Fit s → (w : Wait) (settings : Settings)
+    (earlier later : List (Event Fields)) (v : Standing R) → Runs k s (Some w) settings (earlier ++ later) v
+    → NobodyElse earlier → NobodyElse later → IsDone s (after s earlier).now
+    → IsDrained (after s (earlier ++ later)).now → (after s (earlier ++ later)).now.stream.deleted ≡ []
+    → HasFile k v (file_after s (earlier ++ later))
+    × HasEachOnce (file_after s (earlier ++ later)) (entries s.base s.records)

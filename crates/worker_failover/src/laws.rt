@@ -1,6 +1,7 @@
 //! What holds of a worker that looks up, over each schedule with failovers.
 ghost use Rattle.worker_failover.specs.Keeps.{EntriesLookUp};
-ghost use Rattle.worker_failover.specs.Schedule.{CodeLosesNothing, CodeWritesOnce, CodeWritesTheLog};
+ghost use Rattle.worker_failover.specs.Schedule.{CodeLosesNothing, CodeLosesNothingAdded, CodeWritesEachRecord};
+ghost use Rattle.worker_failover.specs.Schedule.{CodeWritesOnce, CodeWritesTheLog};
 ghost use Rattle.worker_failover.specs.Schedule.{RunsAreEvents, RunsWait};
 
 /// A handler that keeps entries, and looks each up before it adds it, does with a reply and with a
@@ -25,10 +26,15 @@ pub fn rounds_are_those_of_failover<R>()
 /// After each schedule no id is twice in the worker's file, with WAIT or without.
 ///
 /// If the worker and the producer ask WAIT, each entry of the file is in the log, with its own fields,
-/// after any failover, and comes to nobody as new. Each record that the producer took to be in the stream is to
-/// come, or pending, or in the file, or was deleted, if nobody else adds or acknowledges.
+/// after any failover, and comes to nobody as new. Each record that the producer took to be in the stream
+/// is to come, or pending, or in the file, or was deleted. If the producer said once that all is in, the
+/// file of a drained stream has each record once. For these two nobody else adds or acknowledges
+/// (`NobodyElse`), and the ids fit (`Fit`). If nobody deletes, the worker need not ask WAIT for the first
+/// of them.
 pub fn the_code_writes_each_entry_once<R>()
     ensures once { CodeWritesOnce R }
     ensures of_log { CodeWritesTheLog R }
     ensures kept { CodeLosesNothing R }
+    ensures added { CodeLosesNothingAdded R }
+    ensures all { CodeWritesEachRecord R }
 {}

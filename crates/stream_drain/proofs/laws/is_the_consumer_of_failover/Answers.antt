@@ -1,5 +1,5 @@
 use Rattle.stream_drain.proofs.FailoverLemmas.{lines_are_of_the_log, lines_look_up, lines_lose_nothing, lines_once}
-use Rattle.stream_drain.proofs.FailoverLemmas.{starts_over_the_model}
+use Rattle.stream_drain.proofs.FailoverLemmas.{lines_are_the_records, starts_over_the_model}
 use Rattle.stream_drain.proofs.laws.is_the_consumer_of_failover.Goals as goal
 
 pub returns-clause-looks_up : goal.returns-clause-looks_up
@@ -16,3 +16,6 @@ returns-clause-of_log c = lines_are_of_the_log
 
 pub returns-clause-kept : goal.returns-clause-kept
 returns-clause-kept c = lines_lose_nothing
+
+pub returns-clause-all : goal.returns-clause-all
+returns-clause-all c = lines_are_the_records
