@@ -1,7 +1,7 @@
 """Wrong bodies, as tools/refused and tools/planted try them: each in a copy of its crate, and only in some functions.
 
-'rt must-fail' proves a crate once more for its bodies. Here the prover is asked for the functions that are named alone,
-and for those that they call. So what a body costs does not grow with the crate.
+'rt ci' would prove a crate once more for bodies in a folder must-fail/. Here the prover is asked for the functions that are
+named alone, and for those that they call. So what a body costs does not grow with the crate.
 """
 import os
 import re
@@ -95,6 +95,62 @@ def checked(crate, texts, functions, kept):
         return ran.stdout.rstrip().split("\n"), ran.returncode
 
 
+def module_of(path):
+    """Returns the module that a file of src/ is, as the prover names it: '' is the root, and None is no module."""
+    if not path.startswith("src/"):
+        return None
+    parts = path[len("src/"):-len(".rt")].split("/")
+    return "" if parts in (["lib"], ["main"]) else "::".join(it for it in parts if it != "mod")
+
+
+def functions_in(text):
+    """Returns the functions of a file: of each its name, the type of its impl if it is in one, and where it begins and ends."""
+    found = []
+    for head in re.finditer(r"(?m)^( *)(?:[a-z]+(?:\([a-z]+\))? |extern \"C\" )*fn (\w+)", text):
+        end = re.compile(rf"(?m)^{head[1]}}}").search(text, head.end())
+        owner = [*re.finditer(r"(?m)^impl\b(?:<[^{]*?>)? (?:[^{]*? for )?(\w+)", text[:head.start()])] if head[1] else []
+        if end:
+            found.append((head[2], owner[-1][1] if owner else "", head.start(), end.end()))
+    return found
+
+
+def sources(crate):
+    """Returns the path and the text of each file of src/ of the crate."""
+    folder = f"{ROOT}/crates/{crate}"
+    return [(os.path.relpath(f"{at}/{name}", folder), read(f"{at}/{name}"))
+            for at, _, names in os.walk(f"{folder}/src") for name in names]
+
+
+class Calls:
+    """Which functions of a crate call which others, by the names in their texts. Names of several functions are passed over:
+    a body that is tried at once with one that its function calls is not judged, and is tried by itself then."""
+
+    def __init__(self, crate):
+        texts, several, self.reached = {}, set(), {}
+        for _, text in sources(crate):
+            for name, _, start, end in functions_in(text):
+                several |= {name} & {*texts}
+                texts[name] = text[start:end]
+        words = {name: {*re.findall(r"\w+", text)} & {*texts} - several - {name} for name, text in texts.items()}
+        for name in words:
+            reached, more = set(), {name}
+            while more:
+                reached |= more
+                more = {it for one in more for it in words[one]} - reached
+            self.reached[name] = reached
+
+    def are_apart(self, some, others):
+        """Whether no function of one of these sets of names is in the other, or calls one of the other."""
+        reach = lambda names: {it for name in names for it in self.reached.get(name, {name})}
+        return not reach(some) & others and not reach(others) & some
+
+
+def lost_in(said):
+    """Returns the functions that a check says it did not prove. One that only calls such a one is not judged itself."""
+    lost = (re.match(r"fn (\S+): (?:not proved|no proof(?!: it calls ))", line) for line in said)
+    return {it[1] for it in lost if it}
+
+
 TOLD = re.compile(r"(?:note: )?(?:\./)?(\S+?):(\d+):\d+: ")
 
 
@@ -110,3 +166,16 @@ def first_of(reasons):
     names = re.compile(r"(note: )?(\./)?proofs/.*(has no field|is not in scope|has no `|was not admitted)")
     first = next((line for _, _, line in reasons if not names.match(line)), "")
     return f"(only since a proof names what the edit took away) {reasons[0][2][:160]}" if reasons and not first else first[:160]
+
+
+def told_of(names, texts, told):
+    """Returns those of the reasons that are of some functions: of each the file, which has its text here, and the name."""
+    lines, folders = set(), []
+    for path, name in names:
+        folders.append(("proofs/" + (module_of(path) or "").replace("::", "/"), f"/{name}/"))
+        for other, _, start, end in functions_in(texts[path]):
+            if other == name:
+                first = texts[path].count("\n", 0, start) + 1
+                lines |= {(path, line) for line in range(first, first + texts[path].count("\n", start, end) + 1)}
+    return [it for it in told if (it[0], it[1]) in lines
+            or any(it[0].startswith(folder) and name in it[0] for folder, name in folders)]
