@@ -1,9 +1,12 @@
 -- Rounds, and what goes out between them.
-use Rattle.std.proofs.Common.{◌≡◌, sym, subst, inl, inr, Result, Ok, Err, OnErr}
+use Rattle.std.proofs.Common.{◌≡◌, sym, subst, inl, inr, [], Option, IfSome, Result, Ok, Err, OnErr, OnOk}
 use Rattle.redis_connection.specs.Link.{Link}
+use Rattle.row_table.specs.Posts.{Stored}
 use Rattle.stream_loop.specs.Loop.{Loops, Stops}
+use Rattle.stream_table.specs.Forwarded.{HasSent, Went}
 use Rattle.stream_table.specs.Kept.{Kept, committed_with, kept_too}
 use Rattle.stream_table.specs.Lived.{Leads}
+use Rattle.stream_table.specs.declared.sending.SendError.{SendError}
 use Rattle.stream_table.proofs.LivedLemmas.{lived}
 use Rattle.stream_worker.specs.Session.{Standing, Turned}
 use Rattle.stream_worker.specs.declared.state.Asked.{Asked}
@@ -64,3 +67,12 @@ forwards_end settings l m n w x y a e = record {
 pub err_too : {A E P Q : Type 0} (r : Result A E) → OnErr r P → (P → Q) → OnErr r Q
 err_too (Ok x) p f = tt
 err_too (Err e) p f = f p
+
+-- ---- what is sent
+
+pub all_went : {A : Type 0} (r : Result A SendError) (x : A) (old new : Link) (s t : Option Stored) → r ≡ Ok x
+    → OnOk r (HasSent r old s new t) → AllWent old new
+all_went {A} r x old new s t is sent =
+    let went : Went old s new t × IfSome t (λ u. u.posts ≡ []) =
+    subst (λ (q : Result A SendError). OnOk q (HasSent q old s new t)) is sent in
+    (s, t, went.0, went.1)

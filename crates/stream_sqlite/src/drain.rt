@@ -4,11 +4,10 @@ ghost use Rattle.stream_loop.specs.Loop.{Loops, Stops};
 ghost use Rattle.stream_table.specs.Lived.{Leads};
 ghost use Rattle.stream_worker.specs.Session.{standing_of};
 
-mod forward;
+pub mod forward;
 
 use crate::report::Report;
 use anyhow::{Error, Result, anyhow, bail};
-pub use forward::forward;
 use redis_connection::{Connection, ConnectionError};
 use redis_wire::Fault as WireFault;
 use row_table::{Table, TableError};

@@ -22,7 +22,8 @@ mod drain;
 mod options;
 mod report;
 
-use crate::drain::{drain, forward};
+use crate::drain::drain;
+use crate::drain::forward::forward;
 use crate::options::{Options, TABLE, options_of};
 use crate::report::Report;
 use anyhow::{Context, Error, Result, anyhow};

@@ -60,12 +60,12 @@ went_keeps : (l n : Link) (s t : Option Stored) → Went l s n t → rows_known 
 went_keeps l n s t (none m u) = refl
 went_keeps l n s t (more o m k u v p went first added) = rows_left v p.key ∙ went_keeps o m u v went
 
-pub sent_keeps : {A : Type 0} (columns : List Column) (loose now : List Posted) (r : Result A SendError) (old new : Link)
-    (s t : Option Stored) → now ≡ loose → OnOk r (HasSent r old s new t) → OnErr r ((t ≡ s) ⊎ HasSent r old s new t)
-    → forwarding_kept columns now t ≡ forwarding_kept columns loose s
-sent_keeps columns loose now r old new s t same ok err =
-    ap (λ (ps : List Posted). forwarding_kept columns ps t) same
-    ∙ ap (λ (rows : Option (List Row)). record { columns = columns; loose = rows_in loose; committed = rows }) (by r ok err)
+-- what a handler keeps after it sent
+pub sent_keeps : {A : Type 0} (columns : List Column) (loose : List Posted) (r : Result A SendError) (old new : Link)
+    (s t : Option Stored) → OnOk r (HasSent r old s new t) → OnErr r ((t ≡ s) ⊎ HasSent r old s new t)
+    → forwarding_kept columns loose t ≡ forwarding_kept columns loose s
+sent_keeps columns loose r old new s t ok err =
+    ap (λ (rows : Option (List Row)). record { columns = columns; loose = rows_in loose; committed = rows }) (by r ok err)
   where
     by : {A : Type 0} (r : Result A SendError) → OnOk r (HasSent r old s new t)
         → OnErr r ((t ≡ s) ⊎ HasSent r old s new t) → rows_known t ≡ rows_known s
@@ -80,7 +80,7 @@ sent_keeps columns loose now r old new s t same ok err =
 pub committed_posted : (columns : List Column) (old new : List Posted) (before after : Option Stored) → new ≡ []
     → after ≡ with_known_posted old before
     → forwarding_kept columns new after ≡ committed_with (forwarding_kept columns old before)
-committed_posted columns old new before after none put =
-    ap (λ (ps : List Posted). forwarding_kept columns ps after) none
+committed_posted columns old new before after cleared put =
+    ap (λ (ps : List Posted). forwarding_kept columns ps after) cleared
     ∙ ap (forwarding_kept columns []) put
     ∙ ap (λ (rows : Option (List Row)). record { columns = columns; loose = []; committed = rows }) (rows_put old before)
