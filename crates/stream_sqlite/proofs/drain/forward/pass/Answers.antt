@@ -11,12 +11,12 @@ returns-in_err-send-clause-err g c = on_err c.from_residual.result
     (stayed c.args.worker.now.settings c.args.connection.now c.send.new.connection _ _
     (ap (λ (k : Kept). standing_of c.args.worker.now k) c.send.ensures.history))
 
-pub returns-in_ok-send-clause-ok : goal.returns-in_ok-send-clause-ok
-returns-in_ok-send-clause-ok g c = ok_too c.turn.result c.turn.ensures.ok
+pub returns-clause-ok : goal.returns-clause-ok
+returns-clause-ok g c = ok_too c.turn.result c.turn.ensures.ok
     (passed c.args.worker.now.settings c.args.connection.now c.send.new.connection c.turn.new.connection _ _ _
     (ap (λ (k : Kept). standing_of c.args.worker.now k) c.send.ensures.history) c.in_ok-send.ensures.ok)
 
-pub returns-in_ok-send-clause-err : goal.returns-in_ok-send-clause-err
-returns-in_ok-send-clause-err g c = err_too c.turn.result c.turn.ensures.err
+pub returns-clause-err : goal.returns-clause-err
+returns-clause-err g c = err_too c.turn.result c.turn.ensures.err
     (passed_not c.args.worker.now.settings c.args.connection.now c.send.new.connection c.turn.new.connection _ _ _
     (ap (λ (k : Kept). standing_of c.args.worker.now k) c.send.ensures.history) c.in_ok-send.ensures.ok)
