@@ -1,1 +1,2 @@
 -- Lemmas.
+mod ForwardLemmas

@@ -1,2 +1,3 @@
 -- What the program's contracts speak of.
 pub mod Report
+pub mod Forwards

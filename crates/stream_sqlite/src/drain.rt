@@ -4,6 +4,8 @@ ghost use Rattle.stream_loop.specs.Loop.{Loops, Stops};
 ghost use Rattle.stream_table.specs.Lived.{Leads};
 ghost use Rattle.stream_worker.specs.Session.{standing_of};
 
+pub mod forward;
+
 use crate::report::Report;
 use anyhow::{Error, Result, anyhow, bail};
 use redis_connection::{Connection, ConnectionError};

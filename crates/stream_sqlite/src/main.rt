@@ -8,8 +8,11 @@
 //! Each entry is a row of the table `entries`: `milliseconds` and `sequence` are its id, and `fields` is a text
 //! of JSON, `[["name","value"],..]`. With `--table NAME` it is a row of another table, and with
 //! `--columns item:text,pieces:integer,photo:blob?` it has the fields of these names in place of that text.
-//! A batch is one transaction, and its entries are acknowledged after that was committed. An entry whose id is in the table already is left out if its fields are the same, and else the
-//! program ends with an error.
+//! A batch is one transaction, and its entries are acknowledged after that was committed. An entry whose id is in the
+//! table already is left out if its fields are the same, and else the program ends with an error.
+//!
+//! With `--forward TARGET` each new row is sent on to the stream TARGET of the same server, under its own id. What is to
+//! be sent is in the table `outbox` of the same file, from the transaction of the row until the server has answered.
 //!
 //! At the end it says on standard error what it did. It ends with 0 if `--until-empty` is there and nothing new
 //! came, with 2 if a word is wrong, and else with 1 and the reason. `--help` tells its words.
@@ -20,20 +23,21 @@ mod options;
 mod report;
 
 use crate::drain::drain;
+use crate::drain::forward::forward;
 use crate::options::{Options, TABLE, options_of};
 use crate::report::Report;
 use anyhow::{Context, Error, Result, anyhow};
 use command_lines::tell;
 use redis_connection::Connection;
 use redis_wire::Limits;
-use row_table::{Column, Kind, Table, TableError};
-use sqlite::{File, FileStore};
-use sqlite_rows::{Form, OpenError, SqliteTable};
+use row_table::{Column, Kind, Table, TableError, WithOutbox};
+use sqlite::{Alter, File, FileStore};
+use sqlite_rows::{Form, OUTBOX, OUTBOX_CREATE, OpenError, SqliteOutbox, SqliteTable};
 use std::alloc::{AllocError, Global};
 use std::io::{Read, Write};
 use std::process::ExitCode;
 use std::{env, io};
-use stream_table::Rows;
+use stream_table::{Forwarding, Rows};
 use stream_worker::{Settings, Worker};
 
 fn main(rt: HostRuntime) -> Result<ExitCode> {
@@ -92,10 +96,30 @@ fn drain_by(rt: &HostRuntime, options: Options) -> Result<()> {
         table,
         columns,
         until_empty,
+        forward,
     } = options;
-    let alloc = rt.alloc();
-    let opened = table_at(rt, &path, form_of(alloc, &table, &columns)?)?;
-    let mut rows = Rows::with_columns(alloc, opened, columns);
+    let opened = table_at(rt, &path, form_of(rt.alloc(), &table, &columns)?)?;
+    let (table, ended) = match forward {
+        Some(target) => {
+            let outbox = outbox_beside(rt, &path, opened)?;
+            forward_into(rt, settings, outbox, columns, target, until_empty)
+        }
+        None => drain_into(rt, settings, opened, columns, until_empty),
+    };
+    let closed = table.close();
+    ended?;
+    closed.context(format_args!("cannot close {path}"))
+}
+
+/// Drains into this table, which it gives back.
+fn drain_into<S: Alter + Drop>(
+    rt: &HostRuntime,
+    settings: Settings,
+    table: SqliteTable<S>,
+    columns: Vec<Column>,
+    until_empty: bool,
+) -> (SqliteTable<S>, Result<()>) {
+    let mut rows = Rows::with_columns(rt.alloc(), table, columns);
     let ended = drain_over(
         rt,
         rt.reader(),
@@ -104,9 +128,28 @@ fn drain_by(rt: &HostRuntime, options: Options) -> Result<()> {
         &mut rows,
         until_empty,
     );
-    let closed = rows.into_table().close();
-    ended?;
-    closed.context(format_args!("cannot close {path}"))
+    (rows.into_table(), ended)
+}
+
+/// Drains into the table of this outbox, which it gives back, and sends the entries on to this stream.
+fn forward_into<S: Alter + Drop>(
+    rt: &HostRuntime,
+    settings: Settings,
+    outbox: SqliteOutbox<S>,
+    columns: Vec<Column>,
+    target: String,
+    until_empty: bool,
+) -> (SqliteTable<S>, Result<()>) {
+    let mut rows = Forwarding::new(rt.alloc(), outbox, columns, target);
+    let ended = forward_over(
+        rt,
+        rt.reader(),
+        io::writer(rt),
+        settings,
+        &mut rows,
+        until_empty,
+    );
+    (rows.into_table().into_table(), ended)
 }
 
 /// Drains over these ends, and says what was done.
@@ -134,6 +177,32 @@ fn drain_over<R: Read + Drop, W: Write + Drop, T: Table + Drop>(
     ended
 }
 
+/// Drains over these ends and sends on, and says what was done.
+fn forward_over<R: Read + Drop, W: Write + Drop, T: WithOutbox + Drop>(
+    rt: &HostRuntime,
+    reader: R,
+    writer: W,
+    settings: Settings,
+    rows: &mut Forwarding<T>,
+    until_empty: bool,
+) -> Result<()> {
+    let alloc = rt.alloc();
+    let mut connection = Connection::new(alloc, reader, writer, Limits::default())?;
+    let mut worker = Worker::new(alloc, settings);
+    let mut report = Report::new();
+    let ended = forward(
+        alloc,
+        &mut connection,
+        &mut worker,
+        rows,
+        &mut report,
+        until_empty,
+    );
+    let sent = rows.sent;
+    eprintln!(rt; "{report}, {sent} sent on")?;
+    ended
+}
+
 /// The statements of a table of this name with these columns, or, if there are none, with one text.
 fn form_of(alloc: Global, table: &str, columns: &[Column]) -> Result<Form> {
     if !columns.is_empty() {
@@ -155,15 +224,37 @@ fn form_of(alloc: Global, table: &str, columns: &[Column]) -> Result<Form> {
 fn table_at(rt: &HostRuntime, path: &str, form: Form) -> Result<SqliteTable<FileStore<File>>> {
     let name = form.name.clone()?;
     let wanted = form.create.clone()?;
-    match SqliteTable::open(rt, path, form) {
+    let opened = SqliteTable::open(rt, path, form);
+    opened_in(rt, path, &name, &wanted, opened)
+}
+
+/// The table of the file of this path, with its outbox.
+fn outbox_beside<S: Alter + Drop>(
+    rt: &HostRuntime,
+    path: &str,
+    table: SqliteTable<S>,
+) -> Result<SqliteOutbox<S>> {
+    let opened = SqliteOutbox::beside(rt.alloc(), table);
+    opened_in(rt, path, OUTBOX, OUTBOX_CREATE, opened)
+}
+
+/// A table of this name that was opened in this file. If it is another one, what is there and what is wanted are told.
+fn opened_in<T: Drop>(
+    rt: &HostRuntime,
+    path: &str,
+    name: &str,
+    wanted: &str,
+    opened: std::result::Result<T, OpenError>,
+) -> Result<T> {
+    match opened {
         Ok(table) => Ok(table),
         Err(OpenError::Table(error)) => {
-            let failed: std::result::Result<SqliteTable<FileStore<File>>, TableError> = Err(error);
+            let failed: std::result::Result<T, TableError> = Err(error);
             failed.context(format_args!("cannot open {path}"))
         }
         Err(OpenError::Another(there)) => {
             eprintln!(rt; "there: {}", shown(rt.alloc(), &there)?)?;
-            eprintln!(rt; "wanted: {}", shown(rt.alloc(), &wanted)?)?;
+            eprintln!(rt; "wanted: {}", shown(rt.alloc(), wanted)?)?;
             Err(anyhow!("its table `{name}` is another one")).context(format_args!(
                 "cannot open {path}"
             ))

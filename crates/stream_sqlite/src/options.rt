@@ -1,12 +1,14 @@
 //! The words that the program is called with.
 ghost use Rattle.std.specs.Prelude.{◌≤◌, length, IfOk};
 
-use clap::{ArgMatches, Command, Error};
+use clap::builder::ValueParser;
+use clap::{Arg, ArgMatches, Command, Error};
 use command_lines::{
     BLOCK, EVERY, IDLE, Number, command, flag, from, matches_of, name, refused, refused_value,
     text, word_of,
 };
 use row_table::{Column, Kind};
+use sqlite_rows::OUTBOX;
 use std::alloc::{AllocError, Global};
 use stream_worker::{MakeGroup, Settings};
 
@@ -24,6 +26,8 @@ pub struct Options {
     pub columns: Vec<Column>,
     /// It ends where a read finds nothing new.
     pub until_empty: bool,
+    /// The stream that the entries go on to.
+    pub forward: Option<String>,
 }
 
 const COUNT: Number = Number {
@@ -43,12 +47,14 @@ pub fn options_of(alloc: Global, words: &[String]) -> Result<Options, Error>
     let matches = matches_of(alloc, &mut command, words, 4)?;
     let settings = settings_of(alloc, &mut command, &matches)?;
     let columns = columns_of(alloc, &mut command, &matches)?;
+    let forward = forward_of(alloc, &mut command, &matches)?;
     Ok(Options {
         settings,
         path: String::from_str(alloc, word_of(&matches, "FILE"))?,
         table: String::from_str(alloc, word_of(&matches, "table"))?,
         columns,
         until_empty: matches.get_flag("until-empty"),
+        forward,
     })
 }
 
@@ -77,11 +83,19 @@ fn with_rest<'a>(alloc: Global, command: Command<'a>) -> Result<Command<'a>, All
         .arg(EVERY.arg(alloc))?
         .arg(text(alloc, "table", "NAME", "The name of the table").default_value(TABLE))?
         .arg(text(alloc, "columns", "LIST", columns))?
+        .arg(forward(alloc))?
         .arg(flag(
             alloc,
             "until-empty",
             "It ends with status 0 once a read finds nothing new",
         ))
+}
+
+/// The option `--forward`.
+fn forward<'a>(alloc: Global) -> Arg<'a> {
+    let help =
+        "Sends the entries on to this stream, each under its own id, after they are committed";
+    text(alloc, "forward", "TARGET", help).value_parser(ValueParser::NonEmptyString)
 }
 
 /// The settings of a worker. Those that a line leaves out are the usual ones.
@@ -156,6 +170,10 @@ fn columns_of(
 // As an error names the option.
 const COLUMNS: &str = "--columns <LIST>";
 
+const FORWARD: &str = "--forward <TARGET>";
+
+const NAME: &str = "--table <NAME>";
+
 /// A column: its name, and what its values are. With a question mark a row may have none.
 fn column_of(alloc: Global, command: &mut Command<'_>, part: &str) -> Result<Column, Error> {
     let Some((name, kind)) = part.rsplit_once(':') else {
@@ -183,6 +201,28 @@ fn kind_of(alloc: Global, command: &mut Command<'_>, kind: &str) -> Result<Kind,
             Err(refused_value(alloc, command, kind, COLUMNS, reason))
         }
     }
+}
+
+/// The stream that the entries go on to, if one is named. They come from another one, and their table is not the
+/// outbox.
+fn forward_of(
+    alloc: Global,
+    command: &mut Command<'_>,
+    matches: &ArgMatches<'_>,
+) -> Result<Option<String>, Error> {
+    let Some(target) = matches.get_str("forward") else {
+        return Ok(None);
+    };
+    if target == word_of(matches, "KEY") {
+        let reason = "the entries come from this stream";
+        return Err(refused_value(alloc, command, target, FORWARD, reason));
+    }
+    let table = word_of(matches, "table");
+    if table.eq_ignore_ascii_case(OUTBOX) {
+        let reason = "with --forward this is the outbox";
+        return Err(refused_value(alloc, command, table, NAME, reason));
+    }
+    Ok(Some(String::from_str(alloc, target)?))
 }
 
 /// Whether there is a column of this name, to which the case of ASCII letters is all one.

@@ -1,5 +1,6 @@
 -- Posts that go out.
-use Rattle.std.proofs.Common.{◌≡◌, ◌∙◌, refl, sym, ap, subst, inr, ℕ, Bool, true, false, true≢false, not, ◌==◌, length, Vec, List, [], ◌∷◌, map, Option, Some, None, IfSome, option_map}
+use Rattle.std.proofs.Common.{◌≡◌, ◌⊎◌, ◌∙◌, refl, sym, ap, subst, inl, inr, ℕ, Bool, true, false, true≢false, not, ◌==◌, length}
+use Rattle.std.proofs.Common.{Vec, List, [], ◌∷◌, map, Option, Some, None, IfSome, option_map, Result, Ok, Err, OnErr, OnOk}
 use Rattle.redis_connection.specs.Link.{Link}
 use Rattle.redis_resp.proofs.TreeLemmas.{tree-Array}
 use Rattle.redis_resp.specs.Tree.{trees}
@@ -10,11 +11,13 @@ use Rattle.std.specs.declared.alloc.Global.{Global}
 use Rattle.row_table.specs.declared.cell.Column.{Column}
 use Rattle.row_table.specs.declared.post.Post as memory
 use Rattle.row_table.specs.OfPost.{post_of}
-use Rattle.row_table.specs.Posts.{IsFirst, Post, Posted, Stored, with_known_posted, without_post}
-use Rattle.row_table.specs.Rows.{Row}
+use Rattle.row_table.specs.Posts.{IsFirst, Post, Posted, Stored, rows_in, rows_known, with_known_posted, without_post}
+use Rattle.row_table.specs.Rows.{Key, Row}
 use Rattle.row_table.proofs.PostsLemmas.{rows_put}
-use Rattle.stream_table.specs.Forwarded.{AsksBy, IsAdded, Went, are_some, forwarding_kept, has_entry, is_too_small, more, shows_one}
+use Rattle.stream_table.specs.Forwarded.{AsksBy, HasSent, IsAdded, Went, are_some, forwarding_kept, has_entry, is_too_small}
+use Rattle.stream_table.specs.Forwarded.{more, none, shows_one}
 use Rattle.stream_table.specs.Kept.{Kept, committed_with}
+use Rattle.stream_table.specs.declared.sending.SendError.{SendError}
 
 -- ---- a post
 
@@ -47,12 +50,37 @@ one_went l m n s t u v found p went first is added same without =
     (more l m n s t (post_of p) went
     (subst (λ (f : Option memory.Post). IfSome t (λ x. IsFirst (option_map post_of f) x.posts)) is first) added)
 
+-- ---- the rows stay
+
+rows_left : (s : Option Stored) (k : Key) → rows_known (option_map (λ u. without_post u k) s) ≡ rows_known s
+rows_left None k = refl
+rows_left (Some s) k = refl
+
+went_keeps : (l n : Link) (s t : Option Stored) → Went l s n t → rows_known t ≡ rows_known s
+went_keeps l n s t (none m u) = refl
+went_keeps l n s t (more o m k u v p went first added) = rows_left v p.key ∙ went_keeps o m u v went
+
+-- what a handler keeps after it sent
+pub sent_keeps : {A : Type 0} (columns : List Column) (loose : List Posted) (r : Result A SendError) (old new : Link)
+    (s t : Option Stored) → OnOk r (HasSent r old s new t) → OnErr r ((t ≡ s) ⊎ HasSent r old s new t)
+    → forwarding_kept columns loose t ≡ forwarding_kept columns loose s
+sent_keeps columns loose r old new s t ok err =
+    ap (λ (rows : Option (List Row)). record { columns = columns; loose = rows_in loose; committed = rows }) (by r ok err)
+  where
+    by : {A : Type 0} (r : Result A SendError) → OnOk r (HasSent r old s new t)
+        → OnErr r ((t ≡ s) ⊎ HasSent r old s new t) → rows_known t ≡ rows_known s
+    by (Ok x) done failed = went_keeps old new s t done.0
+    by (Err e) done failed = elim failed [
+      | inl is ↦ ap rows_known is
+      | inr sent ↦ went_keeps old sent.0 s t sent.1
+    ]
+
 -- ---- a commit
 
 pub committed_posted : (columns : List Column) (old new : List Posted) (before after : Option Stored) → new ≡ []
     → after ≡ with_known_posted old before
     → forwarding_kept columns new after ≡ committed_with (forwarding_kept columns old before)
-committed_posted columns old new before after none put =
-    ap (λ (ps : List Posted). forwarding_kept columns ps after) none
+committed_posted columns old new before after cleared put =
+    ap (λ (ps : List Posted). forwarding_kept columns ps after) cleared
     ∙ ap (forwarding_kept columns []) put
     ∙ ap (λ (rows : Option (List Row)). record { columns = columns; loose = []; committed = rows }) (rows_put old before)

@@ -62,6 +62,13 @@ impl<T: WithOutbox + Drop> Forwarding<T> {
         }
     }
 
+    /// The stream that they go on to.
+    pub fn target(&self) -> &str
+        ensures { result.now ≡ string_bytes self.now.target }
+    {
+        self.target.as_str()
+    }
+
     /// The table.
     pub fn into_table(self) -> T
         ensures { result ≡ self.table }
@@ -81,6 +88,8 @@ impl<T: WithOutbox + Drop> Forwarding<T> {
             ⊎ HasSent result connection.old (T.committed self.old.table) connection.new (T.committed self.new.table)) }
         ensures crash { LeavesSent connection.old (T.committed self.old.table)
             (T.may_leave self.old.table) (T.may_leave self.new.table) }
+        ensures history { ⟦<Forwarding<T> as Handler>⟧.history self.new
+            ≡ ⟦<Forwarding<T> as Handler>⟧.history self.old }
         ensures loose { self.new.loose ≡ self.old.loose }
         ensures columns { self.new.columns ≡ self.old.columns }
     {

@@ -24,27 +24,39 @@ pub enum SendError {
     /// The table refuses.
     #[error("{0}")]
     Table(TableError),
-    /// A command was not sent, or no reply came.
+    /// The post of this key stays queued, and each one behind it.
+    #[error("{first}-{second}: {error}")]
+    Post {
+        first: u64,
+        second: u64,
+        error: PostError,
+    },
+}
+
+/// Why a post stays queued.
+#[derive(Debug, Drop, Error)]
+pub enum PostError {
+    /// The command was not sent, or no reply came.
     #[error("{0}")]
     Connection(ConnectionError),
-    /// The server refused a command.
+    /// The server refused the command.
     #[error("the server answers {0}")]
     Refused(ServerError),
     /// The reply is none of the command.
     #[error("no answer of a command")]
     NotAnAnswer,
     /// The id is not above the last one of the target, and no entry there has it.
-    #[error("the id {first}-{second} is not above the last one, and no entry has it")]
-    NotThere { first: u64, second: u64 },
+    #[error("its id is not above the last one, and no entry has it")]
+    NotThere,
 }
 
-impl From<ConnectionError> for SendError {
-    ghost use Rattle.stream_table.specs.declared.sending.SendError.TheVariants.{Connection};
+impl From<ConnectionError> for PostError {
+    ghost use Rattle.stream_table.specs.declared.sending.PostError.TheVariants.{Connection};
 
     ghost from_gives = { λ e error. error ≡ Connection e };
 
-    fn from(error: ConnectionError) -> SendError {
-        SendError::Connection(error)
+    fn from(error: ConnectionError) -> PostError {
+        PostError::Connection(error)
     }
 }
 
@@ -109,7 +121,11 @@ fn send_each<T: WithOutbox, R: Read + Drop, W: Write + Drop>(
             return Ok(Ok(()));
         };
         if let Err(error) = send_post(alloc, connection, &post) {
-            return Ok(Err(error));
+            return Ok(Err(SendError::Post {
+                first: post.first,
+                second: post.second,
+                error,
+            }));
         }
         table.remove(alloc, &post)?;
         *sent = sent.saturating_add(1);
@@ -122,7 +138,7 @@ fn send_post<R: Read + Drop, W: Write + Drop>(
     alloc: Global,
     connection: &mut Connection<R, W>,
     post: &Post,
-) -> Result<(), SendError>
+) -> Result<(), PostError>
     ensures { OnOk result (IsAdded (post_of post.now) connection.old connection.new) }
 {
     let reply = ask(alloc, connection, &post.command)?;
@@ -133,7 +149,7 @@ fn send_post<R: Read + Drop, W: Write + Drop>(
 }
 
 /// Whether the reply says that the id is not above the last one; else it says that the command was taken.
-fn is_too_small(reply: Reply) -> Result<bool, SendError>
+fn is_too_small(reply: Reply) -> Result<bool, PostError>
     ensures small { IfOk result (λ small. small ≡ true → is_too_small (answer reply) ≡ true) }
     ensures taken { IfOk result (λ small. small ≡ false → is_taken (answer reply) ≡ true) }
 {
@@ -143,9 +159,9 @@ fn is_too_small(reply: Reply) -> Result<bool, SendError>
             if error.text.as_slice() == TOO_SMALL {
                 return Ok(true);
             }
-            Err(SendError::Refused(error))
+            Err(PostError::Refused(error))
         }
-        _ => Err(SendError::NotAnAnswer),
+        _ => Err(PostError::NotAnAnswer),
     }
 }
 
@@ -154,7 +170,7 @@ fn find_entry<R: Read + Drop, W: Write + Drop>(
     alloc: Global,
     connection: &mut Connection<R, W>,
     post: &Post,
-) -> Result<(), SendError>
+) -> Result<(), PostError>
     ensures { OnOk result ((a : _) × AsksBy (post_of post.now).question a connection.old connection.new
         × (shows_one a ≡ true)) }
 {
@@ -162,30 +178,27 @@ fn find_entry<R: Read + Drop, W: Write + Drop>(
     if shows_one(reply)? {
         return Ok(());
     }
-    Err(SendError::NotThere {
-        first: post.first,
-        second: post.second,
-    })
+    Err(PostError::NotThere)
 }
 
 /// Whether the reply has an entry.
-fn shows_one(reply: Reply) -> Result<bool, SendError>
+fn shows_one(reply: Reply) -> Result<bool, PostError>
     ensures { IfOk result (λ shown. shown ≡ true → shows_one (answer reply) ≡ true) }
 {
     match reply {
         Reply::Value(value) => has_entry(value),
-        Reply::Error(error) => Err(SendError::Refused(error)),
-        _ => Err(SendError::NotAnAnswer),
+        Reply::Error(error) => Err(PostError::Refused(error)),
+        _ => Err(PostError::NotAnAnswer),
     }
 }
 
 /// Whether the value is an array with an entry in it.
-fn has_entry(value: Value) -> Result<bool, SendError>
+fn has_entry(value: Value) -> Result<bool, PostError>
     ensures { IfOk result (λ has. has ≡ true → has_entry (tree value) ≡ true) }
 {
     match value {
         Value::Array(entries) => Ok(!entries.is_empty()),
-        _ => Err(SendError::NotAnAnswer),
+        _ => Err(PostError::NotAnAnswer),
     }
 }
 

@@ -1,0 +1,17 @@
+use Rattle.std.proofs.Common.{◌≡◌}
+use Rattle.row_table.specs.OfPost.{all_posted}
+use Rattle.stream_worker.specs.Session.{standing_of}
+use Rattle.stream_table.specs.Forwarded.{forwarding_kept}
+use Rattle.stream_sqlite.specs.Forwards.{Forwards}
+use Rattle.stream_sqlite.proofs.drain.forward.forward.Given as goal
+
+-- the rounds so far, and what went out between them, lead from where the worker was to where it is
+abbrev pub invariant-loop : goal.invariant-loop
+invariant-loop g l = record {
+  settings : l.worker.settings ≡ l.fn.worker.settings;
+  forwards : Forwards l.fn.worker.settings l.fn.connection
+      (standing_of l.fn.worker (forwarding_kept l.fn.rows.columns.items (all_posted l.fn.rows.loose.items)
+      (g.T.WithOutbox.committed l.fn.rows.table))) l.connection
+      (standing_of l.worker (forwarding_kept l.rows.columns.items (all_posted l.rows.loose.items)
+      (g.T.WithOutbox.committed l.rows.table)));
+}
