@@ -1,5 +1,5 @@
 -- What is sent to another stream.
-use Rattle.std.proofs.Common.{◌≡◌, ◌∙◌, ◌⊎◌, refl, sym, ap, subst, inl, inr, ⊎_elim, List, [], ◌∷◌, ◌++◌}
+use Rattle.std.proofs.Common.{◌≡◌, ◌∙◌, sym, subst, inl, inr, ⊎_elim, List}
 use Rattle.row_table.specs.Rows.{Row}
 use Rattle.row_table.proofs.SentLemmas as sent
 use Rattle.stream_table.proofs.AcknowledgedLemmas.{law_holds, some_is}

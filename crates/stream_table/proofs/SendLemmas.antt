@@ -1,5 +1,5 @@
 -- Posts that go out.
-use Rattle.std.proofs.Common.{◌≡◌, ◌⊎◌, ◌∙◌, refl, sym, ap, subst, inl, inr, ℕ, Bool, true, false, true≢false, not, ◌==◌, length}
+use Rattle.std.proofs.Common.{◌≡◌, ◌⊎◌, ◌∙◌, refl, sym, ap, subst, inl, inr, ℕ, Bool, true, true≢false, not, ◌==◌, length}
 use Rattle.std.proofs.Common.{Vec, List, [], ◌∷◌, map, Option, Some, None, IfSome, option_map, Result, Ok, Err, OnErr, OnOk}
 use Rattle.redis_connection.specs.Link.{Link}
 use Rattle.redis_resp.proofs.TreeLemmas.{tree-Array}
@@ -16,7 +16,7 @@ use Rattle.row_table.specs.Rows.{Key, Row}
 use Rattle.row_table.proofs.PostsLemmas.{rows_put}
 use Rattle.stream_table.specs.Forwarded.{AsksBy, HasSent, IsAdded, Went, are_some, forwarding_kept, has_entry, is_too_small}
 use Rattle.stream_table.specs.Forwarded.{more, none, shows_one}
-use Rattle.stream_table.specs.Kept.{Kept, committed_with}
+use Rattle.stream_table.specs.Kept.{committed_with}
 use Rattle.stream_table.specs.declared.sending.SendError.{SendError}
 
 -- ---- a post

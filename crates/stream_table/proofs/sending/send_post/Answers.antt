@@ -1,4 +1,3 @@
-use Rattle.std.proofs.Common.{◌∙◌}
 use Rattle.redis_wire.specs.Reply.{answer}
 use Rattle.row_table.specs.OfPost.{post_of}
 use Rattle.row_table.proofs.PostsLemmas.{ok_too}
