@@ -1,4 +1,4 @@
-use Rattle.std.proofs.Common.{◌≡◌, ap}
+use Rattle.std.proofs.Common.{ap}
 use Rattle.row_table.proofs.PostsLemmas.{ok_too}
 use Rattle.stream_letters.proofs.DeadLemmas.{on_err}
 use Rattle.stream_table.specs.Kept.{Kept}
