@@ -1,7 +1,7 @@
 -- The rounds of a worker whose entries go on to another stream, and what goes out between them.
 use Rattle.std.specs.Prelude.{◌≡◌, ◌⊎◌, [], Option, IfSome}
 use Rattle.redis_connection.specs.Link.{Link}
-use Rattle.row_table.specs.Posts.{Stored}
+use Rattle.row_table.specs.Posts.{Stored, rows_known}
 use Rattle.stream_loop.specs.Loop.{Loops, Stops}
 use Rattle.stream_table.specs.Forwarded.{Went}
 use Rattle.stream_table.specs.Kept.{Kept}
@@ -9,21 +9,24 @@ use Rattle.stream_table.specs.Lived.{Leads}
 use Rattle.stream_worker.specs.Session.{Standing}
 use Rattle.stream_worker.specs.declared.state.Settings.{Settings}
 
--- all posts that there were went out, each was answered and then removed
-abbrev pub AllWent : Link → Link → Type 0
-AllWent old new = (s : Option Stored) × (t : Option Stored) × Went old s new t × IfSome t (λ u. u.posts ≡ [])
+-- each post of what is committed went out, was answered and then removed
+abbrev pub AllWent : Link → Option Stored → Link → Option Stored → Type 0
+AllWent old s new t = Went old s new t × IfSome t (λ u. u.posts ≡ [])
 
 module _ (settings : Settings) where
-  -- rounds after which the worker goes on, and before each of them all posts went out
-  pub data Forwards : Link → Standing Kept → Link → Standing Kept → Type 0 where
-    begins : (l : Link) (w : Standing Kept) → Forwards l w l w
-    passes : (l m k n : Link) (w x y : Standing Kept) → Forwards l w m x → AllWent m k → Leads (Loops settings) k n x y
-        → Forwards l w n y
+  -- rounds after which the worker goes on. Before each of them all posts of a table went out: before the first round those
+  -- of this table, and after the last round the table is that one; the rows in between are those that the handler committed
+  pub data Forwards : Link → Option Stored → Standing Kept → Link → Option Stored → Standing Kept → Type 0 where
+    begins : (l : Link) (s : Option Stored) (w : Standing Kept) → Forwards l s w l s w
+    passes : (l m k n : Link) (s t u v : Option Stored) (w x y : Standing Kept) → Forwards l s w m t x
+        → AllWent m t k u → Leads (Loops settings) k n x y → rows_known v ≡ y.history.committed → Forwards l s w n v y
 
   -- such rounds, and then an end: all posts went out, and the round after that failed, or the handler stopped in it; or not
   -- all was sent, and the worker did nothing more
-  pub record Ends (old new : Link) (w y : Standing Kept) : Type 0 where
+  pub record Ends (old new : Link) (s : Option Stored) (w y : Standing Kept) : Type 0 where
     pub between : Link
+    pub known : Option Stored
     pub stands : Standing Kept
-    pub forwards : Forwards old w between stands
-    pub ends : ((k : Link) × AllWent between k × Leads (Stops settings) k new stands y) ⊎ (stands ≡ y)
+    pub forwards : Forwards old s w between known stands
+    pub ends : ((k : Link) × (t : Option Stored) × AllWent between known k t × Leads (Stops settings) k new stands y)
+        ⊎ (stands ≡ y)

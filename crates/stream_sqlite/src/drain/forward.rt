@@ -26,10 +26,12 @@ pub fn forward<R: Read + Drop, W: Write + Drop, T: WithOutbox + Drop>(
     until_empty: bool,
 ) -> Result<()>
     ensures ended { IfOk result (λ _. IsTrue until_empty) }
-    ensures ok { OnOk result (Forwards worker.old.settings connection.old
+    ensures ok { OnOk result (Forwards worker.old.settings connection.old (T.committed rows.old.table)
         (standing_of worker.old (⟦<Forwarding<T> as Handler>⟧.history rows.old)) connection.new
+        (T.committed rows.new.table)
         (standing_of worker.new (⟦<Forwarding<T> as Handler>⟧.history rows.new))) }
     ensures err { OnErr result (Ends worker.old.settings connection.old connection.new
+        (T.committed rows.old.table)
         (standing_of worker.old (⟦<Forwarding<T> as Handler>⟧.history rows.old))
         (standing_of worker.new (⟦<Forwarding<T> as Handler>⟧.history rows.new))) }
 {
@@ -52,10 +54,12 @@ fn pass<R: Read + Drop, W: Write + Drop, T: WithOutbox + Drop>(
     report: &mut Report,
 ) -> Result<Asked>
     ensures settings { worker.new.settings ≡ worker.old.settings }
-    ensures ok { OnOk result (Forwards worker.old.settings connection.old
+    ensures ok { OnOk result (Forwards worker.old.settings connection.old (T.committed rows.old.table)
         (standing_of worker.old (⟦<Forwarding<T> as Handler>⟧.history rows.old)) connection.new
+        (T.committed rows.new.table)
         (standing_of worker.new (⟦<Forwarding<T> as Handler>⟧.history rows.new))) }
     ensures err { OnErr result (Ends worker.old.settings connection.old connection.new
+        (T.committed rows.old.table)
         (standing_of worker.old (⟦<Forwarding<T> as Handler>⟧.history rows.old))
         (standing_of worker.new (⟦<Forwarding<T> as Handler>⟧.history rows.new))) }
 {
@@ -69,7 +73,8 @@ fn send<R: Read + Drop, W: Write + Drop, T: WithOutbox + Drop>(
     connection: &mut Connection<R, W>,
     rows: &mut Forwarding<T>,
 ) -> Result<()>
-    ensures ok { OnOk result (AllWent connection.old connection.new) }
+    ensures ok { OnOk result (AllWent connection.old (T.committed rows.old.table) connection.new
+        (T.committed rows.new.table)) }
     ensures history { ⟦<Forwarding<T> as Handler>⟧.history rows.new
         ≡ ⟦<Forwarding<T> as Handler>⟧.history rows.old }
 {

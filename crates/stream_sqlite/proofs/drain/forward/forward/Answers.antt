@@ -27,8 +27,11 @@ returns-in_err-asked-clause-err g c =
     let y = stands c.pass.new.worker c.pass.new.rows.columns.items c.pass.new.rows.loose.items
     (g.T.WithOutbox.committed c.pass.new.rows.table) in
     on_err c.from_residual.result
-    (forwards_end settings c.args.connection.now c.loop.connection c.pass.new.connection w x y c.loop.invariant.forwards
-    (subst (λ (s : Settings). Ends s c.loop.connection c.pass.new.connection x y)
+    (forwards_end settings c.args.connection.now c.loop.connection c.pass.new.connection
+    (g.T.WithOutbox.committed c.args.rows.now.table) (g.T.WithOutbox.committed c.loop.rows.table) w x y
+    c.loop.invariant.forwards
+    (subst (λ (s : Settings). Ends s c.loop.connection c.pass.new.connection
+    (g.T.WithOutbox.committed c.loop.rows.table) x y)
     c.loop.invariant.settings c.in_err-asked.ensures.err))
 
 pub returns-then-rows-seen-clause-ok : goal.returns-then-rows-seen-clause-ok
@@ -40,8 +43,11 @@ returns-then-rows-seen-clause-ok g c =
     (g.T.WithOutbox.committed c.loop.rows.table) in
     let y = stands c.pass.new.worker c.pass.new.rows.columns.items c.pass.new.rows.loose.items
     (g.T.WithOutbox.committed c.pass.new.rows.table) in
-    forwards_both settings c.args.connection.now c.loop.connection c.pass.new.connection w x y c.loop.invariant.forwards
-    (subst (λ (s : Settings). Forwards s c.loop.connection x c.pass.new.connection y)
+    forwards_both settings c.args.connection.now c.loop.connection c.pass.new.connection
+    (g.T.WithOutbox.committed c.args.rows.now.table) (g.T.WithOutbox.committed c.loop.rows.table)
+    (g.T.WithOutbox.committed c.pass.new.rows.table) w x y c.loop.invariant.forwards
+    (subst (λ (s : Settings). Forwards s c.loop.connection (g.T.WithOutbox.committed c.loop.rows.table) x
+    c.pass.new.connection (g.T.WithOutbox.committed c.pass.new.rows.table) y)
     c.loop.invariant.settings c.in_ok-asked.ensures.ok)
 
 pub returns-clause-err : goal.returns-clause-err
@@ -51,14 +57,16 @@ returns-clause-err g c =
     (g.T.WithOutbox.committed c.args.rows.now.table) in
     let x = stands c.loop.worker c.loop.rows.columns.items c.loop.rows.loose.items
     (g.T.WithOutbox.committed c.loop.rows.table) in
-    forwards_end settings c.args.connection.now c.loop.connection c.loop.connection w x x c.loop.invariant.forwards
-    (stayed settings c.loop.connection c.loop.connection x x refl)
+    forwards_end settings c.args.connection.now c.loop.connection c.loop.connection
+    (g.T.WithOutbox.committed c.args.rows.now.table) (g.T.WithOutbox.committed c.loop.rows.table) w x x
+    c.loop.invariant.forwards
+    (stayed settings c.loop.connection c.loop.connection (g.T.WithOutbox.committed c.loop.rows.table) x x refl)
 
 pub loop-init : goal.loop-init
 loop-init g c =
     let w = stands c.args.worker.now c.args.rows.now.columns.items c.args.rows.now.loose.items
     (g.T.WithOutbox.committed c.args.rows.now.table) in
-    record { settings = refl; forwards = begins c.args.connection.now w }
+    record { settings = refl; forwards = begins c.args.connection.now (g.T.WithOutbox.committed c.args.rows.now.table) w }
 
 pub loop-preserved : goal.loop-preserved
 loop-preserved g c =
@@ -71,8 +79,10 @@ loop-preserved g c =
     (g.T.WithOutbox.committed c.pass.new.rows.table) in
     record {
       settings = c.pass.ensures.settings ∙ c.loop.invariant.settings;
-      forwards = forwards_both settings c.args.connection.now c.loop.connection c.pass.new.connection w x y
-          c.loop.invariant.forwards
-          (subst (λ (s : Settings). Forwards s c.loop.connection x c.pass.new.connection y)
+      forwards = forwards_both settings c.args.connection.now c.loop.connection c.pass.new.connection
+          (g.T.WithOutbox.committed c.args.rows.now.table) (g.T.WithOutbox.committed c.loop.rows.table)
+          (g.T.WithOutbox.committed c.pass.new.rows.table) w x y c.loop.invariant.forwards
+          (subst (λ (s : Settings). Forwards s c.loop.connection (g.T.WithOutbox.committed c.loop.rows.table) x
+          c.pass.new.connection (g.T.WithOutbox.committed c.pass.new.rows.table) y)
           c.loop.invariant.settings c.in_ok-asked.ensures.ok);
     }

@@ -9,9 +9,9 @@ use Rattle.stream_sqlite.proofs.drain.forward.forward.Given as goal
 abbrev pub invariant-loop : goal.invariant-loop
 invariant-loop g l = record {
   settings : l.worker.settings ≡ l.fn.worker.settings;
-  forwards : Forwards l.fn.worker.settings l.fn.connection
+  forwards : Forwards l.fn.worker.settings l.fn.connection (g.T.WithOutbox.committed l.fn.rows.table)
       (standing_of l.fn.worker (forwarding_kept l.fn.rows.columns.items (all_posted l.fn.rows.loose.items)
-      (g.T.WithOutbox.committed l.fn.rows.table))) l.connection
+      (g.T.WithOutbox.committed l.fn.rows.table))) l.connection (g.T.WithOutbox.committed l.rows.table)
       (standing_of l.worker (forwarding_kept l.rows.columns.items (all_posted l.rows.loose.items)
       (g.T.WithOutbox.committed l.rows.table)));
 }

@@ -1,4 +1,4 @@
-use Rattle.std.proofs.Common.{ap}
+use Rattle.std.proofs.Common.{refl, ap}
 use Rattle.row_table.proofs.PostsLemmas.{ok_too}
 use Rattle.stream_letters.proofs.DeadLemmas.{on_err}
 use Rattle.stream_table.specs.Kept.{Kept}
@@ -8,15 +8,19 @@ use Rattle.stream_sqlite.proofs.drain.forward.pass.Goals as goal
 
 pub returns-in_err-send-clause-err : goal.returns-in_err-send-clause-err
 returns-in_err-send-clause-err g c = on_err c.from_residual.result
-    (stayed c.args.worker.now.settings c.args.connection.now c.send.new.connection _ _
+    (stayed c.args.worker.now.settings c.args.connection.now c.send.new.connection
+    (g.T.WithOutbox.committed c.args.rows.now.table) _ _
     (ap (λ (k : Kept). standing_of c.args.worker.now k) c.send.ensures.history))
 
 pub returns-clause-ok : goal.returns-clause-ok
-returns-clause-ok g c = ok_too c.turn.result c.turn.ensures.ok
-    (passed c.args.worker.now.settings c.args.connection.now c.send.new.connection c.turn.new.connection _ _ _
-    (ap (λ (k : Kept). standing_of c.args.worker.now k) c.send.ensures.history) c.in_ok-send.ensures.ok)
+returns-clause-ok g c = ok_too c.turn.result c.turn.ensures.ok (λ leads.
+    passed c.args.worker.now.settings c.args.connection.now c.send.new.connection c.turn.new.connection
+    (g.T.WithOutbox.committed c.args.rows.now.table) (g.T.WithOutbox.committed c.send.new.rows.table)
+    (g.T.WithOutbox.committed c.turn.new.rows.table) _ _ _
+    (ap (λ (k : Kept). standing_of c.args.worker.now k) c.send.ensures.history) c.in_ok-send.ensures.ok leads refl)
 
 pub returns-clause-err : goal.returns-clause-err
 returns-clause-err g c = err_too c.turn.result c.turn.ensures.err
-    (passed_not c.args.worker.now.settings c.args.connection.now c.send.new.connection c.turn.new.connection _ _ _
+    (passed_not c.args.worker.now.settings c.args.connection.now c.send.new.connection c.turn.new.connection
+    (g.T.WithOutbox.committed c.args.rows.now.table) (g.T.WithOutbox.committed c.send.new.rows.table) _ _ _
     (ap (λ (k : Kept). standing_of c.args.worker.now k) c.send.ensures.history) c.in_ok-send.ensures.ok)
