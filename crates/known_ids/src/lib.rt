@@ -15,6 +15,3 @@ pub use file::{FileError, numbers_of_file};
 pub use head::line_number;
 pub use known::{KnownId, KnownIds};
 pub use number::number_of;
-
-#[cfg(test)]
-mod tests;

@@ -11,6 +11,3 @@ mod round;
 pub use commands::{wait, wait_aof};
 pub use error::RoundError;
 pub use round::round_confirmed;
-
-#[cfg(test)]
-mod tests;

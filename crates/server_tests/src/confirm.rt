@@ -1,8 +1,8 @@
 //! The words of the commands, and what their replies are read as.
-use crate::{wait, wait_aof};
 use redis_resp::{ParsingError, ToRedisArgs, Value};
 use std::alloc::{AllocError, Global};
 use std::process::Abort;
+use stream_confirm::{wait, wait_aof};
 
 /// The command is written as the words of this line.
 fn check<T: ToRedisArgs>(rt: &(impl AllocGlobal + Abort), command: &T, line: &str) {

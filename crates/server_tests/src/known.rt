@@ -1,5 +1,5 @@
 //! Numbers of ids, what is known, and what files tell. Each outcome is worked out by hand.
-use crate::{FileError, KnownId, KnownIds, number_of, numbers_of_file};
+use known_ids::{FileError, KnownId, KnownIds, number_of, numbers_of_file};
 use line_log::{LogError, MemoryFile};
 use std::alloc::AllocError;
 use std::process::Abort;
