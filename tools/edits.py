@@ -169,13 +169,16 @@ def first_of(reasons):
 
 
 def told_of(names, texts, told):
-    """Returns those of the reasons that are of some functions: of each the file, which has its text here, and the name."""
+    """Returns those of the reasons that are of some functions: of each the file, which has its text here, and the name. A
+    reason may stand at an attribute above its function."""
     lines, folders = set(), []
     for path, name in names:
         folders.append(("proofs/" + (module_of(path) or "").replace("::", "/"), f"/{name}/"))
         for other, _, start, end in functions_in(texts[path]):
             if other == name:
-                first = texts[path].count("\n", 0, start) + 1
-                lines |= {(path, line) for line in range(first, first + texts[path].count("\n", start, end) + 1)}
+                first, above = texts[path].count("\n", 0, start) + 1, texts[path][:start].split("\n")[:-1]
+                while above and above[-1].lstrip().startswith("#["):
+                    above.pop()
+                lines |= {(path, line) for line in range(len(above) + 1, first + texts[path].count("\n", start, end) + 1)}
     return [it for it in told if (it[0], it[1]) in lines
             or any(it[0].startswith(folder) and name in it[0] for folder, name in folders)]
