@@ -163,7 +163,7 @@ def reasons(said):
 
 def first_of(reasons):
     """Returns the first of some reasons. If there are none but that a proof names what the edit took away, it says so."""
-    names = re.compile(r"(note: )?(\./)?proofs/.*(has no field|is not in scope|has no `|was not admitted)")
+    names = re.compile(r"(note: )?(\./)?proofs/.*(has no field|is not in scope|has no `|was not admitted|depends? on)")
     first = next((line for _, _, line in reasons if not names.match(line)), "")
     return f"(only since a proof names what the edit took away) {reasons[0][2][:160]}" if reasons and not first else first[:160]
 
