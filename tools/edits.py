@@ -121,6 +121,12 @@ def sources(crate):
             for at, _, names in os.walk(f"{folder}/src") for name in names]
 
 
+def size_of(crate):
+    """Returns how many bytes the texts of the crate have: the more, the longer its check takes."""
+    folder = f"{ROOT}/crates/{crate}"
+    return sum(os.path.getsize(f"{at}/{name}") for part in PARTS for at, _, names in os.walk(f"{folder}/{part}") for name in names)
+
+
 class Calls:
     """Which functions of a crate call which others, by the names in their texts. Names of several functions are passed over:
     a body that is tried at once with one that its function calls is not judged, and is tried by itself then."""
