@@ -176,7 +176,8 @@ def first_of(reasons):
 
 def told_of(names, texts, told):
     """Returns those of the reasons that are of some functions: of each the file, which has its text here, and the name. A
-    reason may stand at an attribute above its function."""
+    reason may stand at an attribute above its function. The proof of a method stands with its type, which may be in
+    another module: if there is no reason in the file or beside it, those of all proofs of that name are returned."""
     lines, folders = set(), []
     for path, name in names:
         folders.append(("proofs/" + (module_of(path) or "").replace("::", "/"), f"/{name}/"))
@@ -187,4 +188,5 @@ def told_of(names, texts, told):
                     above.pop()
                 lines |= {(path, line) for line in range(len(above) + 1, first + texts[path].count("\n", start, end) + 1)}
     return [it for it in told if (it[0], it[1]) in lines
-            or any(it[0].startswith(folder) and name in it[0] for folder, name in folders)]
+            or any(it[0].startswith(folder) and name in it[0] for folder, name in folders)] or [
+        it for it in told if it[0].startswith("proofs/") and any(name in it[0] for _, name in folders)]
