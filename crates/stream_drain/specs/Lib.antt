@@ -2,6 +2,7 @@
 pub mod Json
 pub mod Line
 pub mod Report
+pub mod Backlog
 pub mod Known
 pub mod There
 pub mod Written

@@ -1,7 +1,9 @@
 //! What a group has still to do, as the server tells it.
 ghost use Rattle.std.specs.Prelude.{◌≡◌};
+ghost use Rattle.redis_streams.specs.InfoMeaning.{group_meaning, groups_meaning};
+ghost use Rattle.stream_drain.specs.Backlog.{left_in, left_to};
 
-use redis_streams::StreamInfoGroup;
+use redis_streams::{StreamInfoGroup, StreamInfoGroupsReply};
 use std::fmt;
 
 /// The group that is watched.
@@ -22,10 +24,21 @@ pub struct Backlog {
     pending: usize,
 }
 
+/// The backlog of the first group of this name, as XINFO GROUPS tells it; None if there is no such group.
+pub fn backlog_in(reply: &StreamInfoGroupsReply, name: &str) -> Option<Backlog>
+    ensures { result ≡ left_in name.now (groups_meaning reply.now) }
+{
+    for group in &reply.groups {
+        if group.name.as_str() == name {
+            return Some(backlog_of(group));
+        }
+    }
+    None
+}
+
 /// The backlog of a group, as XINFO GROUPS tells it.
-pub fn backlog_of(group: &StreamInfoGroup) -> Backlog
-    ensures lag { result.lag ≡ group.now.lag }
-    ensures pending { result.pending ≡ group.now.pending }
+fn backlog_of(group: &StreamInfoGroup) -> Backlog
+    ensures { result ≡ left_to (group_meaning group.now) }
 {
     Backlog {
         lag: group.lag,

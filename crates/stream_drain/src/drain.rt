@@ -2,12 +2,13 @@
 ghost use Rattle.std.specs.Prelude.{◌≡◌, IfErr, IfOk, IfSome, IsTrue, OnErr, OnOk, false};
 ghost use Rattle.stream_confirm.specs.Confirmed.{IsConfirmedRound};
 ghost use Rattle.stream_letters.specs.Besides.{Besides, BreaksBesides, LooksNot};
+ghost use Rattle.stream_drain.specs.Backlog.{Hears};
 ghost use Rattle.stream_drain.specs.Filed.{FiledFrom};
 ghost use Rattle.stream_drain.specs.Lived.{Leads};
 ghost use Rattle.stream_loop.specs.Loop.{Loops, Stops};
 ghost use Rattle.stream_worker.specs.Session.{standing_of};
 
-use crate::backlog::{Backlog, Watched, backlog_of};
+use crate::backlog::{Backlog, Watched, backlog_in};
 use crate::lines::{Fault, Lines};
 use crate::report::Report;
 use anyhow::{Error, Result, anyhow, bail};
@@ -299,6 +300,7 @@ fn backlog_told<R: Read + Drop, W: Write + Drop>(
 ) -> std::result::Result<Option<Backlog>, AskError>
     ensures ok { OnOk result (Besides connection.old connection.new) }
     ensures err { IfErr result (LooksNot connection.old connection.new) }
+    ensures heard { Hears watched.now connection.old connection.new result }
 {
     let Some(watched) = watched else {
         return Ok(None);
@@ -308,16 +310,6 @@ fn backlog_told<R: Read + Drop, W: Write + Drop>(
         Ok(reply) => Ok(backlog_in(&reply, &watched.group)),
         Err(error) => Err(error),
     }
-}
-
-/// The backlog of the group of this name.
-fn backlog_in(reply: &StreamInfoGroupsReply, name: &str) -> Option<Backlog> {
-    for group in &reply.groups {
-        if group.name.as_str() == name {
-            return Some(backlog_of(group));
-        }
-    }
-    None
 }
 
 /// Why a round failed.
