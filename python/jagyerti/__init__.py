@@ -1,0 +1,1 @@
+"""Redis streams that lose nothing: the command `jagyerti`, and what it is made of."""
