@@ -1,0 +1,101 @@
+"""What a drain did, as a text of OpenMetrics in a file."""
+from __future__ import annotations
+
+import os
+import re
+import time
+from typing import Callable, Dict, Optional, Sequence, Tuple, Union
+
+Value = Union[int, str, None]
+Row = Tuple[Sequence[str], Dict[str, Value]]
+
+# The name of each figure, its type, and what it is.
+FIGURES = (
+    ("entries", "counter", "Entries that were written and acknowledged."),
+    ("batches", "counter", "Batches of entries."),
+    ("dead_letters", "counter", "Entries that were given up to the stream of dead letters."),
+    ("starts", "counter", "Runs of the program."),
+    ("last_entry_timestamp_seconds", "gauge", "Time at which the last entries were counted."),
+    ("to_come", "gauge", "Entries that the group has not read yet."),
+    ("pending", "gauge", "Entries that were delivered and not acknowledged."),
+)
+COUNTS = {"entries": "entr(?:y|ies)", "batches": "batch(?:es)?", "dead_letters": "dead letters?"}
+BACKLOG = {"to_come": "to come", "pending": "pending"}
+LABELS = ("stream", "group", "consumer")
+
+
+class Figures:
+    """What the runs of a program did so far, and what the group still has to do."""
+
+    def __init__(self) -> None:
+        self.before, self.now = dict.fromkeys(COUNTS, 0), dict.fromkeys(COUNTS, 0)
+        self.starts = 0
+        self.last_entry: Optional[str] = None
+        self.backlog: Dict[str, Optional[int]] = {}
+
+    def begin(self) -> None:
+        """Counts a run, whose own counts begin at 0."""
+        self.before, self.now = self.counts(), dict.fromkeys(COUNTS, 0)
+        self.starts += 1
+
+    def counts(self) -> Dict[str, int]:
+        """Returns the counts of all runs together."""
+        return {name: self.before[name] + self.now[name] for name in COUNTS}
+
+    def take(self, line: str) -> None:
+        """Takes a line of counts, as in '7 entries in 2 batches, 3 to come, 1 pending'."""
+        counts = {name: found_number(line, text) for name, text in COUNTS.items()}
+        if (counts["entries"] or 0) > self.now["entries"]:
+            self.last_entry = f"{time.time():.3f}"
+        self.now.update((name, count) for name, count in counts.items() if count is not None)
+        self.backlog = {name: found_number(line, text) for name, text in BACKLOG.items()}
+
+    def all(self) -> Dict[str, Value]:
+        """Returns each figure; one that is not known is None or missing."""
+        return {**self.counts(), "starts": self.starts, "last_entry_timestamp_seconds": self.last_entry, **self.backlog}
+
+
+def found_number(line: str, text: str) -> Optional[int]:
+    """Returns the number that is before this text in a line."""
+    found = re.search(rf"\b([0-9]+) {text}\b", line)
+    return int(found[1]) if found else None
+
+
+def render(prefix: str, rows: Sequence[Row]) -> str:
+    """Returns the figures of streams as OpenMetrics. A row is KEY, GROUP and CONSUMER, and the figures."""
+    text = ""
+    for name, kind, meaning in FIGURES:
+        whole = f"{prefix}_{name}"
+        unit = f"# UNIT {whole} seconds\n" if name.endswith("_seconds") else ""
+        text += f"# TYPE {whole} {kind}\n{unit}# HELP {whole} {meaning}\n"
+        for words, figures in rows:
+            labels = ",".join(f'{label}="{escaped(word)}"' for label, word in zip(LABELS, words))
+            if figures.get(name) is not None:
+                text += f"{whole}{'_total' if kind == 'counter' else ''}{{{labels}}} {figures[name]}\n"
+    return text + "# EOF\n"
+
+
+def escaped(word: str) -> str:
+    """Returns the value of a label. A byte that is not UTF-8 is the replacement character."""
+    text = os.fsencode(word).decode(errors="replace")
+    return text.replace("\\", "\\\\").replace('"', '\\"').replace("\n", "\\n")
+
+
+class MetricsFile:
+    """The file of the figures. If it cannot be written, that is said once, and the work goes on."""
+
+    def __init__(self, path: str, prefix: str, say: Callable[[str], None]) -> None:
+        self.path, self.prefix, self.say = path, prefix, say
+        self.failed: Optional[str] = None
+
+    def write(self, rows: Sequence[Row]) -> None:
+        """Writes FILE.tmp and renames it, so that a reader never sees half a file."""
+        try:
+            with open(self.path + ".tmp", "w", encoding="utf-8") as file:
+                file.write(render(self.prefix, rows))
+            os.replace(self.path + ".tmp", self.path)
+            self.failed = None
+        except OSError as error:
+            if self.failed != str(error):
+                self.say(f"--metrics: {error}")
+            self.failed = str(error)
