@@ -9,7 +9,7 @@ from __future__ import annotations
 import argparse
 import importlib
 import sys
-from typing import List
+from typing import List, Sequence
 
 from .. import hide
 from ..connect import USAGE, Failed
@@ -26,13 +26,13 @@ example: jagyerti drain redis://127.0.0.1:6379 orders packers ann orders.txt --u
 """
 
 
-def make_parser() -> argparse.ArgumentParser:
-    """Returns the parser of all subcommands. One whose module is not installed is left out."""
+def make_parser(names: Sequence[str] = NAMES) -> argparse.ArgumentParser:
+    """Returns the parser of these subcommands. One whose module is not installed is left out."""
     parser = argparse.ArgumentParser(prog="jagyerti", description="Redis streams that lose nothing.", epilog=EPILOG,
                                      formatter_class=argparse.RawDescriptionHelpFormatter, allow_abbrev=False)
     parser.add_argument("--version", action="version", version=version_text())
     subparsers = parser.add_subparsers(dest="subcommand", metavar="COMMAND", required=True)
-    for name in NAMES:
+    for name in names:
         try:
             module = importlib.import_module(f"{__name__}.{name}")
         except ModuleNotFoundError as error:
@@ -62,7 +62,8 @@ def main(argv: List[str]) -> int:
     """Runs the subcommand that these words say, and returns the exit status."""
     hide.passwords()
     end = argv.index("--") if "--" in argv else len(argv)
-    arguments, rest = make_parser().parse_known_args(argv[:end])
+    # Only the module of the subcommand is loaded, so that it starts soon.
+    arguments, rest = make_parser(argv[:1] if argv[0:1] and argv[0] in NAMES else NAMES).parse_known_args(argv[:end])
     command = arguments.subcommand
     module = importlib.import_module(f"{__name__}.{command}")
     if rest and not getattr(module, "TAKES_REST", False):
