@@ -110,7 +110,7 @@ class Command(unittest.TestCase):
             connection.recv(100)
             connection.sendall(b"+OK\r\n")
             connection.shutdown(socket.SHUT_WR)
-            wanted = ["--count", "5", "k", "g", "c", "f", "--dead=3", "-1", "--json", "--timeout", "x"]
+            wanted = ["--count", "5", "k", "g", "c", "f", "--dead=3", "-1", "--json", "--", "--timeout", "x"]
             self.ends(running, 0, f"ready\n{wanted}\n")
 
     def test_no_password_in_ps_nor_in_the_program(self):

@@ -9,7 +9,7 @@ from ..connect import USAGE, Failed
 from ..fleet import Fleet, Share
 from ..process import find_program
 from ..tries import Tries
-from .options import add_command, add_connection_options, add_run_options, make_plan, show_help
+from .options import add_command, add_connection_options, add_run_options, make_plan, program_words
 
 TAKES_REST = True
 USAGE_LINE = "jagyerti drain [URL] KEY GROUP CONSUMER FILE [options] [options of stream_drain]"
@@ -63,8 +63,7 @@ def add_parser(subparsers: Any) -> None:
 def run(arguments: argparse.Namespace) -> int:
     """Runs it. Returns the exit status."""
     program = find_program("stream_drain", arguments.program)
-    show_help(program, arguments.after)
-    plan = make_plan(arguments, program, [*arguments.rest, *arguments.after], metrics=arguments.metrics)
+    plan = make_plan(arguments, program, program_words(arguments, program), metrics=arguments.metrics)
     if (arguments.metrics or arguments.cluster) and len(leading_words(list(plan.words))) < 4:
         raise Failed("--metrics and --cluster want KEY GROUP CONSUMER FILE before the options of stream_drain", USAGE)
     if not arguments.cluster:

@@ -10,7 +10,7 @@ from ..fleet import Fleet
 from ..process import find_program
 from ..tries import Tries
 from .drain import add_cluster_options, leading_words, refuse_partitions, share_of
-from .options import add_command, add_connection_options, add_run_options, make_plan, show_help
+from .options import add_command, add_connection_options, add_run_options, make_plan, program_words
 
 TAKES_REST = True
 USAGE_LINE = "jagyerti fill [URL] KEY FILE [options] [options of stream_fill]"
@@ -45,8 +45,7 @@ def add_parser(subparsers: Any) -> None:
 def run(arguments: argparse.Namespace) -> int:
     """Runs it. Returns the exit status."""
     program = find_program("stream_fill", arguments.program)
-    show_help(program, arguments.after)
-    plan = make_plan(arguments, program, [*arguments.rest, *arguments.after])
+    plan = make_plan(arguments, program, program_words(arguments, program))
     if not arguments.cluster:
         refuse_partitions(arguments)
         return Tries(plan).run_to_the_end()

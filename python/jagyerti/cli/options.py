@@ -118,11 +118,11 @@ def make_plan(arguments: argparse.Namespace, program: str, words: List[str], **m
 def run_program(arguments: argparse.Namespace, name: str, **more: Any) -> int:
     """Runs a program of this package on a connection. Its own words are those that the parser does not know."""
     program = find_program(name, arguments.program)
-    show_help(program, arguments.after)
-    return Tries(make_plan(arguments, program, [*arguments.rest, *arguments.after], **more)).run_to_the_end()
+    return Tries(make_plan(arguments, program, program_words(arguments, program), **more)).run_to_the_end()
 
 
-def show_help(program: str, words: List[str]) -> None:
-    """Has the program itself show its help or its version, if it is asked for behind `--`."""
-    if words in (["--help"], ["-h"], ["--version"], ["-V"]):
-        os.execv(program, [program, *words])
+def program_words(arguments: argparse.Namespace, program: str) -> List[str]:
+    """Returns the words that are the program's. If these are `-- --help` or `-- --version`, it is run here and now."""
+    if not arguments.rest and arguments.after in (["--help"], ["-h"], ["--version"], ["-V"]):
+        os.execv(program, [program, *arguments.after])
+    return [*arguments.rest, *(["--"] if arguments.after else []), *arguments.after]
