@@ -16,8 +16,8 @@ import time
 import redis
 from redis.cluster import ClusterNode, RedisCluster
 
-sys.dont_write_bytecode = True
-import cluster
+sys.path.insert(0, os.path.join(os.path.dirname(os.path.dirname(os.path.abspath(__file__))), "python"))
+from jagyerti import cluster
 
 GROUP, CONSUMER, BATCH, PAUSE = "packers", "ann", 50, 0.1
 
