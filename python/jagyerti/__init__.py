@@ -1,1 +1,26 @@
-"""Redis streams that lose nothing: the command `jagyerti`, and what it is made of."""
+"""Redis streams: replies read in place, and commands, by the C library redis_c.
+
+`find_streams` and its like read the reply at the head of bytes; a `Decoder` reads replies from pieces of bytes, and a
+`Connection` from a socket. `commands` has the commands, `errors` what goes wrong. A `Consumer` reads for a group and
+acknowledges what its handler returned for, at least once. `partition_of` spreads records over partitions.
+"""
+from . import commands, errors, slots
+from .commands import Command, pack
+from .connection import Connection, Decoder, SocketLike
+from .consumer import Consumer, LeavePending
+from .errors import (ArgumentTooLarge, BadSettings, ConnectionClosed, Error, LibraryNotFound, NoPartition, NothingGiven,
+                     OtherReply, OutOfMemory, ProtocolError, ServerError)
+from .records import Group, PendingEntry, PendingSummary, read_groups, read_pending, read_pending_summary
+from .replies import (Claimed, ClaimedIds, Entries, Entry, Stream, Streams, Value, find_autoclaim, find_justid,
+                      find_range, find_streams, find_value)
+from .slots import key_slot, partition_name, partition_of
+
+__all__ = [
+    "ArgumentTooLarge", "BadSettings", "Claimed", "ClaimedIds", "Command", "Connection", "ConnectionClosed", "Consumer",
+    "Decoder", "Entries", "Entry", "Error", "Group", "LeavePending", "LibraryNotFound", "NoPartition", "NothingGiven",
+    "OtherReply", "OutOfMemory", "PendingEntry", "PendingSummary", "ProtocolError", "ServerError", "SocketLike", "Stream",
+    "Streams", "Value", "commands", "errors", "find_autoclaim", "find_justid", "find_range", "find_streams",
+    "find_value", "key_slot", "pack", "partition_name", "partition_of", "read_groups", "read_pending",
+    "read_pending_summary", "slots",
+]
+__version__ = "1.0.0"

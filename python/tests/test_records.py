@@ -3,7 +3,7 @@ from __future__ import annotations
 
 import unittest
 
-from redis_streams import (Group, OtherReply, PendingEntry, PendingSummary, ServerError, read_groups, read_pending,
+from jagyerti import (Group, OtherReply, PendingEntry, PendingSummary, ServerError, read_groups, read_pending,
                            read_pending_summary)
 
 GROUP = (b"*12\r\n$4\r\nname\r\n$2\r\ng1\r\n$9\r\nconsumers\r\n:2\r\n$7\r\npending\r\n:3\r\n$17\r\nlast-delivered-id\r\n"

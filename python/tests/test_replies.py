@@ -7,20 +7,20 @@ import random
 import unittest
 from typing import Any
 
-import redis_streams
-from redis_streams import errors
+import jagyerti
+from jagyerti import errors
 
 from . import resp
 from .stored import REPLIES, ROWS, group, bulk, mutated
 
-FINDING = {"streams": redis_streams.find_streams, "range": redis_streams.find_range, "value": redis_streams.find_value,
-           "autoclaim": redis_streams.find_autoclaim, "justid": redis_streams.find_justid}
+FINDING = {"streams": jagyerti.find_streams, "range": jagyerti.find_range, "value": jagyerti.find_value,
+           "autoclaim": jagyerti.find_autoclaim, "justid": jagyerti.find_justid}
 COUNT = int(os.environ.get("MUTATIONS", "100000"))
 FAULTS = {kind for kind in vars(errors).values()
           if isinstance(kind, type) and issubclass(kind, errors.ProtocolError) and kind is not errors.ProtocolError}
 
 
-def entries(found: redis_streams.Entries) -> Any:
+def entries(found: jagyerti.Entries) -> Any:
     return [(it.id, None if it.deleted else [(bytes(name), bytes(value)) for name, value in it]) for it in found]
 
 
@@ -37,7 +37,7 @@ def plain(kind: str, found: Any) -> Any:
 def same(ours: Any, theirs: Any) -> bool:
     """Whether two values of any reply are the same."""
     if isinstance(theirs, resp.Failure):
-        return isinstance(ours, redis_streams.ServerError) and ours.text == theirs.text
+        return isinstance(ours, jagyerti.ServerError) and ours.text == theirs.text
     if isinstance(theirs, resp.Pairs):
         if isinstance(ours, dict):
             return all(any(same(key, it) for key in ours) for it, _ in theirs.pairs)
@@ -53,11 +53,11 @@ def outcome(kind: str, data: bytes) -> tuple[Any, ...]:
     """What the package says of bytes; an exception that is none of its own comes out."""
     try:
         found = FINDING[kind](data)
-    except redis_streams.ServerError as error:
+    except jagyerti.ServerError as error:
         return ("error", error.text)
-    except redis_streams.OtherReply as error:
+    except jagyerti.OtherReply as error:
         return ("other", len(error.reply))
-    except redis_streams.ProtocolError as error:
+    except jagyerti.ProtocolError as error:
         return ("refused",) if type(error) in FAULTS else ("unnamed", error)
     return ("not yet",) if found is None else ("found", found[0] if kind == "value" else plain(kind, found[0]), found[1])
 
@@ -100,7 +100,7 @@ class RepliesTest(unittest.TestCase):
 
     def test_many_entries(self) -> None:
         rows = [b"*2\r\n" + bulk(b"%d-0" % at) + group(bulk(b"name"), bulk(b"%d" % at)) for at in range(5000)]
-        found = redis_streams.find_range(group(*rows))
+        found = jagyerti.find_range(group(*rows))
         assert found is not None
         self.assertEqual(len(found[0]), 5000)
         self.assertEqual(found[0].ids()[4999], b"4999-0")
@@ -110,12 +110,25 @@ class RepliesTest(unittest.TestCase):
             found[0][5000]
 
     def test_entry(self) -> None:
-        found = redis_streams.find_range(ROWS)
+        found = jagyerti.find_range(ROWS)
         assert found is not None
         tea, milk, gone, unnamed, last = found[0]
         self.assertEqual(tea.to_dict(), {b"item": b"tea", b"cups": b"2"})
         self.assertEqual((len(tea.items()), milk.items(), gone.deleted, gone.items()), (2, [(b"item", b"\r\nmilk")], True, []))
         self.assertEqual((last.get(b"item"), last.get(b"none")), (b"2", None))
+
+    def test_a_name_of_text(self) -> None:
+        found = jagyerti.find_range(group(entry(b"1-0", b"item", b"tea", "naïve".encode(), b"2")))
+        assert found is not None
+        self.assertEqual([found[0][0].get(name) for name in ("item", "naïve", "none")], [b"tea", b"2", None])
+        self.assertEqual(found[0][0].get(memoryview(b"item")), b"tea")
+        with self.assertRaises(TypeError):
+            found[0][0].get(5)  # type: ignore[arg-type]
+
+    def test_the_rest_of_an_entry(self) -> None:
+        found = jagyerti.find_range(ROWS)
+        assert found is not None
+        tea, gone = found[0][0], found[0][2]
         self.assertTrue(all(isinstance(part, memoryview) for field in tea for part in field))
         self.assertEqual(repr(gone), "Entry(id=b'3-0', fields=[], deleted)")
 
@@ -127,15 +140,27 @@ class RepliesTest(unittest.TestCase):
                  b">1\r\n$1\r\n\xff\r\n": errors.NotUtf8}
         for data, kind in named.items():
             with self.assertRaises(kind):
-                redis_streams.find_value(data)
+                jagyerti.find_value(data)
 
     def test_error(self) -> None:
-        with self.assertRaises(redis_streams.ServerError) as raised:
-            redis_streams.find_streams(b"-NOGROUP no such group\r\n")
+        with self.assertRaises(jagyerti.ServerError) as raised:
+            jagyerti.find_streams(b"-NOGROUP no such group\r\n")
         self.assertEqual((raised.exception.code, str(raised.exception)), ("NOGROUP", "NOGROUP no such group"))
 
+    def test_which_errors_are_worth_another_try(self) -> None:
+        # As docs/CALLING.md says of redis_client.
+        for code in ("READONLY", "UNBLOCKED", "LOADING", "MASTERDOWN", "CLUSTERDOWN", "TRYAGAIN", "BUSY", "OOM", "MISCONF",
+                     "NOREPLICAS"):
+            self.assertTrue(errors.ServerError(f"{code} it says".encode()).is_transient, code)
+        self.assertTrue(errors.ServerError(b"ERR max number of clients reached").is_transient)
+        for text in (b"NOGROUP none", b"WRONGTYPE other", b"ERR LOADING", b"BUSYGROUP there", b"NOAUTH first", b"MOVED 1 a:1", b""):
+            self.assertFalse(errors.ServerError(text).is_transient, text)
+        for error, wanted in ((errors.ConnectionClosed(), True), (errors.OutOfMemory(), True), (errors.OtherReply(b""), False),
+                              (errors.UnknownType(), False), (errors.NothingGiven(), False), (errors.LibraryNotFound(), False)):
+            self.assertIs(error.is_transient, wanted, error)
+
     def test_a_number_of_many_digits(self) -> None:
-        self.assertEqual(redis_streams.find_value(b"(" + b"1" * 5000 + b"\r\n"), (b"1" * 5000, 5003))
+        self.assertEqual(jagyerti.find_value(b"(" + b"1" * 5000 + b"\r\n"), (b"1" * 5000, 5003))
 
 
 class DecoderTest(unittest.TestCase):
@@ -143,7 +168,7 @@ class DecoderTest(unittest.TestCase):
         for kind, replies in REPLIES.items():
             whole = [reply for reply in replies if reply[:1] not in b"-!"]
             for size in (1, 2, 7, 1000):
-                decoder, found, data = redis_streams.Decoder(), [], b"".join(whole)
+                decoder, found, data = jagyerti.Decoder(), [], b"".join(whole)
                 for at in range(0, len(data), size):
                     decoder.feed(data[at : at + size])
                     while (reply := getattr(decoder, kind)()) is not None:
@@ -155,11 +180,11 @@ class DecoderTest(unittest.TestCase):
                     self.assertTrue(same(one, wanted) if kind == "value" else one == wanted, (one, wanted))
 
     def test_what_comes_after_an_error(self) -> None:
-        decoder = redis_streams.Decoder()
+        decoder = jagyerti.Decoder()
         decoder.feed(b"-ERR no\r\n:1\r\n" + REPLIES["streams"][0] + b"?")
-        with self.assertRaises(redis_streams.ServerError):
+        with self.assertRaises(jagyerti.ServerError):
             decoder.streams()
-        with self.assertRaises(redis_streams.OtherReply) as raised:
+        with self.assertRaises(jagyerti.OtherReply) as raised:
             decoder.streams()
         self.assertEqual(raised.exception.reply, b":1\r\n")
         self.assertEqual(len(decoder.streams() or ()), 1)
@@ -168,7 +193,7 @@ class DecoderTest(unittest.TestCase):
                 decoder.streams()
 
     def test_what_was_read_stays(self) -> None:
-        decoder = redis_streams.Decoder()
+        decoder = jagyerti.Decoder()
         decoder.feed(ROWS)
         found = decoder.range()
         assert found is not None

@@ -3,7 +3,7 @@ from __future__ import annotations
 
 import unittest
 
-from redis_streams import ArgumentTooLarge, BadSettings, Command, NothingGiven, commands, pack
+from jagyerti import ArgumentTooLarge, BadSettings, Command, NothingGiven, commands, pack
 
 FIELDS = {"item": "tea", b"cups": b"2"}
 

@@ -8,7 +8,7 @@ from __future__ import annotations
 import ctypes
 from typing import Any, Callable, Iterable, Mapping, Union
 
-from . import _library as c
+from . import library as c
 from .errors import OK, ROOM, BadSettings, error_of
 
 Text = Union[bytes, str]

@@ -4,7 +4,7 @@ from __future__ import annotations
 import ctypes
 from typing import Any, NamedTuple
 
-from . import _library as c
+from . import library as c
 from .errors import OK, ROOM
 from .replies import tell
 
@@ -32,7 +32,7 @@ class PendingEntry(NamedTuple):
 class PendingSummary(NamedTuple):
     """What is pending for a group, as XPENDING without a range tells of it, and how much for each consumer."""
 
-    count: int
+    count: int  # type: ignore[assignment]
     start_id: bytes
     end_id: bytes
     consumers: list[tuple[bytes, int]]

@@ -5,8 +5,8 @@ import ctypes
 from typing import Any, Callable, Protocol, TypeVar
 
 from . import replies
-from .commands import Command, Text, pack
-from .errors import INCOMPLETE, OK, OTHER, SERVER_ERROR, ConnectionClosed
+from .commands import Command, Text, pack, xgroup_create
+from .errors import INCOMPLETE, OK, OTHER, SERVER_ERROR, ConnectionClosed, ServerError
 
 _PIECE = 65536
 _MOST = 1 << 24
@@ -91,6 +91,7 @@ class Connection:
         self.decoder = Decoder()
 
     def send(self, command: bytes) -> None:
+        """Sends the bytes of a command."""
         self.socket.sendall(command)
 
     def call(self, *words: Text | int) -> replies.Value:
@@ -101,6 +102,20 @@ class Connection:
         """Sends a command, and returns its reply, whatever shape it has."""
         self.send(command)
         return self._wait(self.decoder.value)[0]
+
+    def ensure_group(self, key: Text, group: Text, id: Text = b"0-0") -> bool:
+        """Makes a group of a stream, and the stream too, unless they are there. Returns whether the group was made.
+
+        A group that is made is given the entries after `id`: by default all of the stream, with `$` those that are
+        added from now on. A group that is there stays as it is.
+        """
+        try:
+            self.value_of(xgroup_create(key, group, id, mkstream=True))
+        except ServerError as error:
+            if error.code == "BUSYGROUP":
+                return False
+            raise
+        return True
 
     def streams_of(self, command: Command) -> replies.Streams:
         """Sends an XREAD or XREADGROUP, and returns its reply."""

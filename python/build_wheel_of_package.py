@@ -12,15 +12,7 @@ import tarfile
 import zipfile
 
 HERE = os.path.dirname(os.path.abspath(__file__))
-PACKAGE = "redis_streams"
-NAME, VERSION = "redis_streams_c", "1.0.0"
-INFO = f"{NAME}-{VERSION}.dist-info"
-METADATA = f"""Metadata-Version: 2.1
-Name: redis-streams-c
-Version: {VERSION}
-Summary: Redis streams: replies read in place, and commands, by the C library redis_c
-Requires-Python: >=3.9
-"""
+PACKAGE = NAME = "jagyerti"
 
 
 def read(path):
@@ -28,9 +20,20 @@ def read(path):
         return file.read()
 
 
+VERSION = read(f"{HERE}/../VERSION").decode().strip() if os.path.isfile(f"{HERE}/../VERSION") else "0"
+INFO = f"{NAME}-{VERSION}.dist-info"
+METADATA = f"""Metadata-Version: 2.1
+Name: {NAME}
+Version: {VERSION}
+Summary: Redis streams that lose nothing
+Requires-Python: >=3.9
+"""
+COMMAND = b"[console_scripts]\njagyerti = jagyerti.cli:main\n"
+
+
 def shared_library():
     """Returns the path of the shared library, None if there is none."""
-    paths = [os.environ.get("REDIS_C_LIBRARY", ""), f"{HERE}/{PACKAGE}/libredis_c.so", f"{HERE}/../../dist/libredis_c.so"]
+    paths = [os.environ.get("REDIS_C_LIBRARY", ""), f"{HERE}/{PACKAGE}/lib/libredis_c.so", f"{HERE}/../dist/libredis_c.so"]
     return next((path for path in paths if os.path.isfile(path)), None)
 
 
@@ -38,7 +41,8 @@ def write_wheel(folder, files, is_pure):
     platform = "any" if is_pure else sysconfig.get_platform().replace("-", "_").replace(".", "_")
     tag = f"py3-none-{platform}"
     wheel = f"Wheel-Version: 1.0\nGenerator: build_wheel_of_package\nRoot-Is-Purelib: {str(is_pure).lower()}\nTag: {tag}\n"
-    files = files | {f"{INFO}/METADATA": METADATA.encode(), f"{INFO}/WHEEL": wheel.encode()}
+    files = {**files, f"{INFO}/METADATA": METADATA.encode(), f"{INFO}/WHEEL": wheel.encode(),
+             f"{INFO}/entry_points.txt": COMMAND}
     sums = {name: base64.urlsafe_b64encode(hashlib.sha256(data).digest()).decode().rstrip("=") for name, data in files.items()}
     lines = [f"{name},sha256={sums[name]},{len(data)}" for name, data in files.items()] + [f"{INFO}/RECORD,,"]
     name = f"{NAME}-{VERSION}-{tag}.whl"
@@ -50,11 +54,12 @@ def write_wheel(folder, files, is_pure):
 
 
 def build_wheel(wheel_directory, config_settings=None, metadata_directory=None):
-    names = [name for name in os.listdir(f"{HERE}/{PACKAGE}") if name.endswith((".py", ".typed"))]
-    files = {f"{PACKAGE}/{name}": read(f"{HERE}/{PACKAGE}/{name}") for name in sorted(names)}
+    paths = [os.path.join(folder, name) for folder, _, names in os.walk(f"{HERE}/{PACKAGE}") for name in names]
+    names = [os.path.relpath(path, HERE) for path in paths if path.endswith((".py", ".typed"))]
+    files = {name: read(f"{HERE}/{name}") for name in sorted(names)}
     library = shared_library()
     if library is not None:
-        files[f"{PACKAGE}/libredis_c.so"] = read(library)
+        files[f"{PACKAGE}/lib/libredis_c.so"] = read(library)
     return write_wheel(wheel_directory, files, library is None)
 
 

@@ -5,7 +5,7 @@ import binascii
 import random
 import unittest
 
-from redis_streams import NoPartition, key_slot, partition_name, partition_of
+from jagyerti import NoPartition, key_slot, partition_name, partition_of
 
 # As redis-server 7.0.15 told them by CLUSTER KEYSLOT.
 SLOTS = {

@@ -17,7 +17,7 @@ import time
 from typing import Any, Callable
 
 sys.path.insert(0, os.path.dirname(os.path.abspath(__file__)))
-import redis_streams  # noqa: E402
+import jagyerti  # noqa: E402
 
 RUNS = 3
 SECONDS = 0.3  # so long each run takes at least
@@ -61,8 +61,8 @@ class Pieces:
         pass
 
 
-def found(data: bytes) -> redis_streams.Streams:
-    whole = redis_streams.find_streams(data)
+def found(data: bytes) -> jagyerti.Streams:
+    whole = jagyerti.find_streams(data)
     assert whole is not None
     return whole[0]
 
@@ -75,18 +75,18 @@ def as_views(data: bytes) -> int:
     return count
 
 
-def as_dicts(streams: redis_streams.Streams) -> list[Any]:
+def as_dicts(streams: jagyerti.Streams) -> list[Any]:
     return [(stream.name, [(entry.id, entry.to_dict()) for entry in stream.entries]) for stream in streams]
 
 
-COMMAND = redis_streams.pack("PING")
+COMMAND = jagyerti.pack("PING")
 OURS: dict[str, Callable[[bytes], Any]] = {
-    "redis_streams, where all is": found,
-    "redis_streams, all fields as memoryviews": as_views,
-    "redis_streams, all fields as bytes": lambda data: [(it.id, it.items()) for it in found(data).entries],
-    "redis_streams, a dict for each": lambda data: as_dicts(found(data)),
-    "redis_streams, a dict for each, from a socket": lambda data: as_dicts(
-        redis_streams.Connection(Pieces(data)).streams_of(COMMAND)),
+    "jagyerti, where all is": found,
+    "jagyerti, all fields as memoryviews": as_views,
+    "jagyerti, all fields as bytes": lambda data: [(it.id, it.items()) for it in found(data).entries],
+    "jagyerti, a dict for each": lambda data: as_dicts(found(data)),
+    "jagyerti, a dict for each, from a socket": lambda data: as_dicts(
+        jagyerti.Connection(Pieces(data)).streams_of(COMMAND)),
 }
 
 

@@ -5,6 +5,16 @@ from __future__ import annotations
 class Error(Exception):
     """What the library tells, or a connection."""
 
+    @property
+    def is_transient(self) -> bool:
+        """Whether the same may succeed later: close the connection, pause, and try again over another one."""
+        return False
+
+
+# The codes after which the crate redis_client pauses and tries again.
+_TRANSIENT = frozenset(("READONLY", "UNBLOCKED", "LOADING", "MASTERDOWN", "CLUSTERDOWN", "TRYAGAIN", "BUSY", "OOM",
+                        "MISCONF", "NOREPLICAS"))
+
 
 class LibraryNotFound(Error, ImportError):
     """The shared library is not there, or is not this library."""
@@ -12,6 +22,10 @@ class LibraryNotFound(Error, ImportError):
 
 class ConnectionClosed(Error, ConnectionError):
     """The server closed the connection while a reply was waited for."""
+
+    @property
+    def is_transient(self) -> bool:
+        return True
 
 
 class ServerError(Error):
@@ -25,6 +39,11 @@ class ServerError(Error):
     def code(self) -> str:
         return self.text.partition(b" ")[0].decode("utf-8", "backslashreplace")
 
+    @property
+    def is_transient(self) -> bool:
+        """True if the server starts, became a replica, lacks memory, disk or replicas, or has too many clients."""
+        return self.code in _TRANSIENT or self.text.startswith(b"ERR max number of clients reached")
+
 
 class OtherReply(Error):
     """A reply of another shape than was asked for: `reply` is its bytes, which `find_value` reads."""
@@ -36,6 +55,10 @@ class OtherReply(Error):
 
 class OutOfMemory(Error, MemoryError):
     """Out of memory; it says nothing of the bytes."""
+
+    @property
+    def is_transient(self) -> bool:
+        return True
 
 
 class ArgumentTooLarge(Error, ValueError):

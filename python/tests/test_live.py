@@ -9,7 +9,7 @@ import tempfile
 import time
 import unittest
 
-from redis_streams import Connection, Consumer, Entry, ServerError, commands
+from jagyerti import Connection, Consumer, Entry, ServerError, commands
 
 
 @unittest.skipUnless(shutil.which("redis-server"), "redis-server is not installed")
@@ -46,7 +46,7 @@ class LiveTest(unittest.TestCase):
                 self.consume(self.connected(protocol), f"orders{protocol}")
 
     def consume(self, connection: Connection, key: str) -> None:
-        self.assertEqual(connection.call("XGROUP", "CREATE", key, "g", "0", "MKSTREAM"), b"OK")
+        self.assertEqual([connection.ensure_group(key, "g") for _ in range(2)], [True, False])
         value = bytes(range(256)) * 300
         ids = [connection.value_of(commands.xadd(key, {"number": str(at), "value": value})) for at in range(500)]
         seen: list[bytes] = []

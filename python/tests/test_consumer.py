@@ -3,8 +3,8 @@ from __future__ import annotations
 
 import unittest
 
-import redis_streams
-from redis_streams import Consumer, LeavePending, commands
+import jagyerti
+from jagyerti import Consumer, LeavePending, commands
 
 from .stored import bulk, entry, group
 
@@ -28,7 +28,7 @@ class Scripted:
         self.sent: list[str] = []
 
     def sendall(self, data: bytes) -> None:
-        self.sent.append(" ".join(word.decode() for word in redis_streams.Command(data).arguments))
+        self.sent.append(" ".join(word.decode() for word in jagyerti.Command(data).arguments))
         self.left += self.replies.pop(0) if self.replies else b""
 
     def recv(self, size: int) -> bytes:
@@ -56,7 +56,7 @@ class ConsumerTest(unittest.TestCase):
     def test_what_a_handler_raises(self) -> None:
         socket = Scripted(answer(), answer(row(1), row(2)), b":1\r\n")
 
-        def handler(it: redis_streams.Entry) -> None:
+        def handler(it: jagyerti.Entry) -> None:
             self.assertEqual(len([sent for sent in socket.sent if sent.startswith("XACK")]), 0)
             if it.id == b"2-0":
                 raise KeyError("no such item")
@@ -68,7 +68,7 @@ class ConsumerTest(unittest.TestCase):
     def test_what_is_left_pending(self) -> None:
         socket = Scripted(answer(row(1)), answer(), answer(row(2), row(3)), b":1\r\n", NIL)
 
-        def handler(it: redis_streams.Entry) -> None:
+        def handler(it: jagyerti.Entry) -> None:
             if it.id != b"3-0":
                 raise LeavePending
 
@@ -82,16 +82,25 @@ class ConsumerTest(unittest.TestCase):
         self.assertEqual(socket.sent[-1], "XACK orders g 1-0 2-0")
 
     def test_what_ends_a_run(self) -> None:
-        for replies, kind in (((b"-NOGROUP no such group\r\n",), redis_streams.ServerError),
-                              ((b"*1\r\n",), redis_streams.ConnectionClosed), ((b"?",), redis_streams.ProtocolError),
-                              ((b"+OK\r\n",), redis_streams.OtherReply), ((answer(row(1)), b"+OK\r\n"), redis_streams.Error)):
+        for replies, kind in (((b"-NOGROUP no such group\r\n",), jagyerti.ServerError),
+                              ((b"*1\r\n",), jagyerti.ConnectionClosed), ((b"?",), jagyerti.ProtocolError),
+                              ((b"+OK\r\n",), jagyerti.OtherReply), ((answer(row(1)), b"+OK\r\n"), jagyerti.Error)):
             with self.assertRaises(kind):
                 consumer(Scripted(*replies)).run(lambda it: None)
+
+    def test_ensure_group(self) -> None:
+        socket = Scripted(b"+OK\r\n", b"-BUSYGROUP Consumer Group name already exists\r\n", b"-WRONGTYPE other\r\n")
+        connection = jagyerti.Connection(socket)
+        self.assertTrue(connection.ensure_group("orders", "g"))
+        self.assertFalse(connection.ensure_group("orders", "g", "$"))
+        with self.assertRaises(jagyerti.ServerError):
+            connection.ensure_group("orders", "g")
+        self.assertEqual(socket.sent[:2], ["XGROUP CREATE orders g 0-0 MKSTREAM", "XGROUP CREATE orders g $ MKSTREAM"])
 
     def test_connection(self) -> None:
         socket = Scripted(b"+PONG\r\n", group(row(1)), group(bulk(b"0-0"), group(row(1)), group(bulk(b"2-0"))),
                           group(bulk(b"3-0"), group(bulk(b"1-0")), group()))
-        connection = redis_streams.Connection(socket)
+        connection = jagyerti.Connection(socket)
         self.assertEqual(connection.call("PING"), b"PONG")
         self.assertEqual(connection.range_of(commands.xclaim("orders", "g", "ann", 0, "1-0"))[0].get(b"item"), b"tea")
         claimed = connection.claimed_of(commands.xautoclaim("orders", "g", "ann", 0))

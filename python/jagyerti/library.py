@@ -126,9 +126,18 @@ def _declare(library: ctypes.CDLL) -> None:
 
 
 def library_paths() -> list[str]:
-    """Where the library is looked for: at the path in the variable, else beside the package, else in a checkout's dist/."""
+    """Returns where the library is looked for, the first place first.
+
+    If the variable is set, that is its path alone. Else it is the package, the folders of an installation, and the
+    folder dist/ of a checkout, where `tools/release` puts it.
+    """
     named = os.environ.get(VARIABLE)
-    return [named] if named else [os.path.join(HERE, NAME), os.path.join(HERE, "..", "..", "..", "dist", NAME)]
+    if named:
+        return [named]
+    above = os.path.dirname(HERE)
+    root = os.path.dirname(above)
+    return [os.path.join(folder, NAME)
+            for folder in (os.path.join(HERE, "lib"), above, os.path.join(root, "lib"), os.path.join(root, "dist"))]
 
 
 @functools.lru_cache(maxsize=None)
@@ -137,7 +146,8 @@ def library() -> ctypes.CDLL:
     paths = library_paths()
     path = next((path for path in paths if os.path.isfile(path)), None)
     if path is None:
-        raise LibraryNotFound(f"no {NAME} at {' or '.join(paths)}: set {VARIABLE} to its path")
+        raise LibraryNotFound(f"no {NAME} at {' or '.join(paths)}: set {VARIABLE} to its path. In a checkout "
+                              "'tools/release --unproved' makes it")
     try:
         loaded = ctypes.CDLL(path)
         _declare(loaded)

@@ -6,7 +6,8 @@ import struct
 import threading
 from typing import Any, Callable, Iterator, NamedTuple, Sequence, TypeVar, Union
 
-from . import _library as c
+from . import library as c
+from .commands import Text, _bytes
 from .errors import INCOMPLETE, OK, OTHER, ROOM, SERVER_ERROR, OtherReply, ServerError, error_of
 
 _FIELD = struct.Struct("@NNNN")
@@ -54,11 +55,11 @@ class Entry:
         return {whole[name : name + name_len]: whole[value : value + value_len]
                 for name, name_len, value, value_len in self._places()}
 
-    def get(self, name: bytes) -> memoryview | None:
-        """The value of the last field of this name."""
-        found = None
+    def get(self, name: Text) -> memoryview | None:
+        """The value of the last field of this name, None if there is none. A str is taken as UTF-8."""
+        found, wanted = None, _bytes(name)
         for own, value in self:
-            if own == name:
+            if own == wanted:
                 found = value
         return found
 

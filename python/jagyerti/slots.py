@@ -6,7 +6,7 @@ from __future__ import annotations
 
 import ctypes
 
-from . import _library as c
+from . import library as c
 from .commands import Text, _text, _written
 from .errors import OK, NoPartition, error_of
 

@@ -1,0 +1,54 @@
+"""The shared library: how it is found."""
+from __future__ import annotations
+
+import os
+import shutil
+import subprocess
+import sys
+import tempfile
+import unittest
+
+import jagyerti
+from jagyerti import library
+
+PACKAGE = os.path.dirname(jagyerti.__file__)
+
+TRIED = """
+import jagyerti
+try:
+    jagyerti.find_streams(b"_\\r\\n")
+except jagyerti.LibraryNotFound as error:
+    print(error)
+"""
+
+
+class LibraryTest(unittest.TestCase):
+    def told(self, path: str) -> str:
+        env = dict(os.environ, REDIS_C_LIBRARY=path, PYTHONPATH=os.path.dirname(PACKAGE))
+        return subprocess.run([sys.executable, "-c", TRIED], env=env, capture_output=True, text=True, check=True).stdout
+
+    def test_a_library_that_is_not_there(self) -> None:
+        self.assertIn("/nowhere/libredis_c.so", self.told("/nowhere/libredis_c.so"))
+
+    def test_what_is_no_library(self) -> None:
+        self.assertIn(__file__, self.told(__file__))
+
+    def test_the_path_in_the_variable(self) -> None:
+        path = library.library()._name
+        self.assertEqual(self.told(path), "")
+
+    def test_the_places_of_an_installation(self) -> None:
+        for home, place in (("lib/jagyerti", "lib/jagyerti/lib"), ("lib/jagyerti", "lib"), ("python/jagyerti", "lib"),
+                            ("python/jagyerti", "dist")):
+            with self.subTest(home=home, place=place), tempfile.TemporaryDirectory() as root:
+                shutil.copytree(PACKAGE, os.path.join(root, home), ignore=shutil.ignore_patterns("__pycache__", "lib"))
+                os.makedirs(os.path.join(root, place), exist_ok=True)
+                os.symlink(library.library()._name, os.path.join(root, place, library.NAME))
+                env = {"PYTHONPATH": os.path.dirname(os.path.join(root, home))}
+                code = TRIED + "from jagyerti import library\nprint(library.library()._name)"
+                ran = subprocess.run([sys.executable, "-c", code], env=env, capture_output=True, text=True, check=True)
+                self.assertTrue(os.path.samefile(ran.stdout.strip(), library.library()._name), ran.stdout)
+
+
+if __name__ == "__main__":
+    unittest.main()
