@@ -1,6 +1,8 @@
 """What goes wrong, by name. All of it is an `Error`."""
 from __future__ import annotations
 
+from .retry import may_pass
+
 
 class Error(Exception):
     """What the library tells, or a connection."""
@@ -9,11 +11,6 @@ class Error(Exception):
     def is_transient(self) -> bool:
         """Whether the same may succeed later: close the connection, pause, and try again over another one."""
         return False
-
-
-# The codes after which the crate redis_client pauses and tries again.
-_TRANSIENT = frozenset(("READONLY", "UNBLOCKED", "LOADING", "MASTERDOWN", "CLUSTERDOWN", "TRYAGAIN", "BUSY", "OOM",
-                        "MISCONF", "NOREPLICAS"))
 
 
 class LibraryNotFound(Error, ImportError):
@@ -42,7 +39,7 @@ class ServerError(Error):
     @property
     def is_transient(self) -> bool:
         """True if the server starts, became a replica, lacks memory, disk or replicas, or has too many clients."""
-        return self.code in _TRANSIENT or self.text.startswith(b"ERR max number of clients reached")
+        return may_pass(str(self))
 
 
 class OtherReply(Error):
