@@ -11,7 +11,7 @@ import jagyerti
 from jagyerti import errors
 
 from . import resp
-from .stored import REPLIES, ROWS, group, bulk, mutated
+from .stored import REPLIES, ROWS, bulk, entry, group, mutated
 
 FINDING = {"streams": jagyerti.find_streams, "range": jagyerti.find_range, "value": jagyerti.find_value,
            "autoclaim": jagyerti.find_autoclaim, "justid": jagyerti.find_justid}
