@@ -69,7 +69,7 @@ def open_at_key(address: url.Address, options: connect.Options, key: str) -> soc
     for _ in range(REDIRECTIONS):
         connection = connect.open(address, options)
         try:
-            resp.ask(connection, "EXISTS", key)
+            resp.ask(connection, "XLEN", key)
             return connection
         except resp.ReplyError as error:
             connection.close()
