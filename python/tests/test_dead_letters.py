@@ -91,12 +91,12 @@ class DeadLettersTest(unittest.TestCase):
         self.ask("XADD", "d", "2-0", "entry", "6-0", "deliveries", "1", "reason", "no such column", "item", "cup")
         self.ask("XADD", "d", "3-0", "item", "tea")
         self.assertEqual(self.dead("list", "d"), (0, "1-0  entry 5-0  3 deliveries\n"
-                                                     "2-0  entry 6-0  1 delivery  no such column\n3-0  is no dead letter\n", ""))
+                                                     "2-0  entry 6-0  1 delivery  reason: no such column\n3-0  is no dead letter\n", ""))
         self.assertEqual(self.dead("show", "d", "1"),
                          (0, "1-0\n    entry: 5-0\n    deliveries: 3\n    item: tea\n    \\xff: a\\nb\n", ""))
         rows = [json.loads(line) for line in self.dead("list", "--json", "d")[1].splitlines()]
         self.assertEqual(rows[0], {"id": "1-0", "entry": "5-0", "deliveries": 3, "fields": [["item", "tea"], ["\\xff", "a\nb"]]})
-        self.assertEqual((rows[1]["reason"], rows[2]["entry"]), ("no such column", None))
+        self.assertEqual((rows[1]["fields"][0], rows[2]["entry"]), (["reason", "no such column"], None))
         status, shown, error = self.dead("show", "d", "1-0", "9-0", "--json")
         self.assertEqual((status, [json.loads(line)["id"] for line in shown.splitlines()]), (1, ["1-0"]))
         self.assertIn("9-0: no such letter in d", error)

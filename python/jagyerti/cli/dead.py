@@ -89,7 +89,7 @@ def list_letters(connection: socket.socket, stream: str, ids: List[str], argumen
             print(f"{letter.id}  is no dead letter")
         else:
             times = "1 delivery" if letter.deliveries == 1 else f"{letter.deliveries} deliveries"
-            reason = "" if letter.reason is None else f"  {on_one_line(letter.reason)}"
+            reason = "" if letter.reason is None else f"  reason: {on_one_line(letter.reason)}"
             print(f"{letter.id}  entry {letter.entry}  {times}{reason}")
     return 0
 
@@ -168,8 +168,7 @@ def refusal(error: resp.ReplyError, id: str, stream: str, onto: str) -> str:
 def as_json(letter: Letter) -> Dict[str, Any]:
     """Returns a letter as JSON has it: fields are pairs, since a name may be there twice."""
     fields = [[as_text(name), as_text(value)] for name, value in letter.fields]
-    reason = {} if letter.reason is None else {"reason": as_text(letter.reason)}
-    return {"id": letter.id, "entry": letter.entry, "deliveries": letter.deliveries, **reason, "fields": fields}
+    return {"id": letter.id, "entry": letter.entry, "deliveries": letter.deliveries, "fields": fields}
 
 
 ACTING = {"list": list_letters, "show": show_letters, "replay": replay_letters, "drop": drop_letters}
