@@ -109,7 +109,8 @@ def _snapshots(save: Optional[str]) -> List[Finding]:
 def _sync(value: Optional[str]) -> Finding:
     if value is None:
         return _not_known("appendfsync")
-    lost = {"everysec": "up to two seconds of what was written", "no": "what the system had not put on disk, up to half a minute of it"}
+    lost = {"everysec": "up to two seconds of what was written",
+            "no": "what the system had not put on disk, up to half a minute of it"}
     if value == "always":
         return Finding("appendfsync", value, OK, "each reply comes after a sync")
     return Finding("appendfsync", value, LOSES, f"a crash of the machine loses {lost.get(value, 'what was not synced')}: "
@@ -120,7 +121,8 @@ def _sync_while_rewriting(settings: Dict[str, str]) -> List[Finding]:
     name = "no-appendfsync-on-rewrite"
     if settings.get(name) != "yes":
         return []
-    return [Finding(name, "yes", LOSES, "while the file is rewritten nothing is synced, whatever appendfsync says: set it to no")]
+    text = "while the file is rewritten nothing is synced, whatever appendfsync says: set it to no"
+    return [Finding(name, "yes", LOSES, text)]
 
 
 def _failed_writes(facts: Facts) -> List[Finding]:

@@ -11,7 +11,7 @@ import threading
 import time
 from typing import Any, Callable, List, Optional, Tuple
 
-from . import connect, process, resp
+from . import connect, process, resp, sentinel
 from .connect import SILENT, Failed
 from .retry import Pauses
 from .shown import on_one_line
@@ -29,12 +29,24 @@ NO_STREAM = "ERR no such key"
 
 @dataclasses.dataclass(frozen=True)
 class Plan:
-    """Which program shows which streams of which server."""
+    """Which program shows which streams of which server. With a `master` the servers are sentinels that know it."""
 
     program: str
-    address: Address
+    servers: Tuple[Address, ...]
     options: connect.Options
     keys: Tuple[str, ...]
+    master: Optional[str] = None
+
+    @property
+    def place(self) -> str:
+        """The server, as it is shown."""
+        return self.servers[0].place if self.master is None else f"the master {self.master}"
+
+    def connect(self) -> socket.socket:
+        """Connects with the server. Raises Failed."""
+        if self.master is None:
+            return connect.open(self.servers[0], self.options)
+        return connect.open(sentinel.find_master(self.servers, self.master, self.options), self.options)
 
 
 def run_once(plan: Plan, *words: str) -> str:
@@ -48,7 +60,7 @@ def run_once(plan: Plan, *words: str) -> str:
         lines.append(line)
         return False
 
-    run = process.Run([plan.program, *words], connect.open(plan.address, plan.options), 0, plan.options.timeout)
+    run = process.Run([plan.program, *words], plan.connect(), 0, plan.options.timeout)
     timer = threading.Timer(plan.options.timeout, run.kill)
     try:
         run.start(hear)
@@ -58,7 +70,7 @@ def run_once(plan: Plan, *words: str) -> str:
         timer.cancel()
         run.close()
     if status < 0:
-        raise Failed(f"{plan.address.place} says nothing for {plan.options.timeout:g} seconds", SILENT)
+        raise Failed(f"{plan.place} says nothing for {plan.options.timeout:g} seconds", SILENT)
     if status:
         raise Failed("\n".join(lines) or f"{plan.program} ended with {status}")
     return "".join(f"{line}\n" for line in lines)
@@ -123,9 +135,8 @@ class Watch(threading.Thread):
     def _run_program(self) -> Failed:
         """Runs the program until it ends. Returns why it did."""
         try:
-            connection = connect.open(self.plan.address, self.plan.options)
-            silence = self.plan.options.timeout + 1
-            run = process.Run([self.plan.program, "--", self.key, str(ROUNDS)], connection, silence, self.plan.options.timeout)
+            timeout = self.plan.options.timeout
+            run = process.Run([self.plan.program, "--", self.key, str(ROUNDS)], self.plan.connect(), timeout + 1, timeout)
         except Failed as failed:
             return failed
         try:

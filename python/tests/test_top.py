@@ -22,6 +22,7 @@ from typing import Callable, Optional, Tuple
 
 from jagyerti import connect, monitor, process, screen, server
 
+from .scripted import scripted
 from .test_dead_letters import called
 
 PACKAGES = process.PACKAGES
@@ -57,7 +58,7 @@ class LinesTest(unittest.TestCase):
         url = "redis://127.0.0.1:1"
         for words, said in (((url,), "no stream"), ((url, "k", "--json", "--openmetrics"), "not allowed"),
                             ((url, "k", "--listen", "1:2", "--once"), "does not go"), ((url, "k", "--listen", "x"), "HOST:PORT"),
-                            ((url, "k", "--jsn"), "unknown"), ((url, "k", "--timeout", "0"), "no number of seconds")):
+                            ((url, "k", "--jsn"), "unknown"), ((url, "k", "--timeout", "0"), "at least 0.01")):
             status, shown, error = called("top", *words, "--program", sys.executable)
             self.assertEqual((status, shown), (2, ""), words)
             self.assertIn(said, error, words)
@@ -195,6 +196,15 @@ class TopTest(unittest.TestCase):
         status, shown, error = called("top", self.server.url, "--once", "nothing")
         self.assertEqual((status, shown, error), (1, "", "jagyerti top: Error: the server answers ERR no such key\n"))
         self.assertEqual(called("top", self.server.url, "--json", "--", "--once")[0], 0)
+
+    def test_sentinel(self) -> None:
+        port = str(self.server.port).encode()
+        reply = b"*2\r\n$9\r\n127.0.0.1\r\n$%d\r\n%s\r\n" % (len(port), port)
+        for words in (("top", "--json", "orders"), ("dead", "list", "orders")):
+            with scripted([reply]) as (sentinel, noted):
+                status, shown, _ = called(*words, f"redis://127.0.0.1:{sentinel}", "--sentinel", "main")
+            self.assertEqual((status, noted[0][1:]), (0, [b"GET-MASTER-ADDR-BY-NAME", b"main"]))
+            self.assertIn("5-0", shown) if words[0] == "dead" else self.assertIn('"orders"', shown)
 
     def test_a_password(self) -> None:
         self.server.ask("CONFIG", "SET", "requirepass", "s3cret")

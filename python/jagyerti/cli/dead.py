@@ -6,15 +6,17 @@ import json
 import socket
 from typing import Any, Callable, Dict, Iterator, List
 
-from .. import dead_letters, resp, url
+from .. import dead_letters, resp
 from ..connect import FAILED, USAGE, Failed
 from ..dead_letters import Letter
 from ..shown import as_text, on_one_line
 from . import reach, say
+from .options import add_command, add_connection_options
 
 TAKES_REST = True
 ACTIONS = ("list", "show", "replay", "drop")
-DESCRIPTION = """\
+USAGE_LINE = "jagyerti dead list|show|replay|drop [URL] STREAM [ID ..] [options]"
+TEXT = """\
 Dead letters are the entries that a worker gave up: 'jagyerti drain --dead 3 orders:dead' adds them to orders:dead.
 
   list     a line for each letter: its id, the id of the entry, its deliveries, and the reason if it has one
@@ -24,8 +26,7 @@ Dead letters are the entries that a worker gave up: 'jagyerti drain --dead 3 ord
 
 replay and drop want ids, or --all. A letter is replayed once, however often this is called: it is gone after it. All groups
 of the stream get the entry again. The new entry has an id of its own.
-"""
-EPILOG = """\
+
 exit status: 0; 1 if a letter is not there, or for the reason that is printed; 2 if the words are others; 3 if the server
 says nothing.
 
@@ -36,20 +37,18 @@ example: jagyerti dead list redis://127.0.0.1:6379 orders:dead
 
 def add_parser(subparsers: Any) -> None:
     """Adds the subcommand."""
-    parser = subparsers.add_parser("dead", help="dead letters: list, show, replay or drop them", description=DESCRIPTION,
-                                   epilog=EPILOG, formatter_class=argparse.RawDescriptionHelpFormatter, allow_abbrev=False,
-                                   usage="jagyerti dead list|show|replay|drop [URL] STREAM [ID ..] [options]")
+    parser = add_command(subparsers, "dead", "Lists, shows, replays or drops dead letters.", USAGE_LINE, TEXT)
     parser.add_argument("action", choices=ACTIONS, metavar="ACTION", help="list, show, replay or drop")
     parser.add_argument("words", nargs="*", metavar="[URL] STREAM [ID ..]", help="the stream of the letters, and their ids")
     parser.add_argument("--to", metavar="KEY", help="replay: the stream that the entries came from")
     parser.add_argument("--all", action="store_true", help="replay, drop: all letters")
     parser.add_argument("--json", action="store_true", help="list, show: a line of JSON for each letter")
-    reach.add_options(parser)
+    add_connection_options(parser)
 
 
 def run(arguments: argparse.Namespace) -> int:
     """Runs the subcommand, and returns the exit status."""
-    named, words = reach.take_words(arguments)
+    servers, words = reach.take_words(arguments)
     if not words:
         raise Failed("no stream is named: jagyerti dead --help", USAGE)
     try:
@@ -57,7 +56,7 @@ def run(arguments: argparse.Namespace) -> int:
     except ValueError as error:
         raise Failed(str(error), USAGE) from None
     refuse_words(arguments, stream, ids)
-    address, options = url.from_words(named), reach.options_of(arguments)
+    address, options = reach.find_server(arguments, servers)
     with reach.failures_of(address, options), reach.open_at_key(address, options, stream) as connection:
         return ACTING[arguments.action](connection, stream, ids, arguments)
 
@@ -71,7 +70,8 @@ def refuse_words(arguments: argparse.Namespace, stream: str, ids: List[str]) -> 
         f"{action} takes ids or --all, and not both": changes and ids and arguments.all,
         f"{action} takes no --all": not changes and arguments.all,
         f"{action} takes no --json": changes and arguments.json,
-        "replay wants --to KEY: a letter does not say which stream its entry is of": action == "replay" and arguments.to is None,
+        "replay wants --to KEY: a letter does not say which stream its entry is of":
+            action == "replay" and arguments.to is None,
         f"{action} takes no --to": action != "replay" and arguments.to is not None,
         "--to is the stream of the letters itself": arguments.to == stream,
     }

@@ -6,17 +6,17 @@ import dataclasses
 import json
 from typing import Any, List
 
-from .. import connect, durability, url
+from .. import connect, durability
 from ..connect import USAGE, Failed
 from ..durability import Finding
 from . import reach
+from .options import add_command, add_connection_options
 
 TAKES_REST = True
-DESCRIPTION = """\
+TEXT = """\
 Asks a server for its version, its persistence, its limit of memory and its replicas, by INFO and CONFIG GET, and says what of
 it can lose messages that were added or acknowledged. It changes nothing.
-"""
-EPILOG = """\
+
 If the server forbids CONFIG, what INFO does not have is not known, and counts as something that can lose messages.
 
 exit status: 0 if nothing can lose messages; 1 if something can, or if there is no connection; 2 if the words are others; 3 if
@@ -28,22 +28,21 @@ example: jagyerti doctor redis://127.0.0.1:6379
 
 def add_parser(subparsers: Any) -> None:
     """Adds the subcommand."""
-    parser = subparsers.add_parser("doctor", help="what of a server's settings can lose messages", description=DESCRIPTION,
-                                   epilog=EPILOG, formatter_class=argparse.RawDescriptionHelpFormatter, allow_abbrev=False,
-                                   usage="jagyerti doctor [URL] [options]")
+    parser = add_command(subparsers, "doctor", "Says what of a server's settings can lose messages.",
+                         "jagyerti doctor [URL] [options]", TEXT)
     parser.add_argument("words", nargs="*", metavar="URL", help="the server")
     parser.add_argument("--wait", action="store_true", help="all programs confirm what they write, by their option --wait: a "
                         "failover then loses nothing of it")
     parser.add_argument("--json", action="store_true", help="one document of JSON")
-    reach.add_options(parser)
+    add_connection_options(parser)
 
 
 def run(arguments: argparse.Namespace) -> int:
     """Runs the subcommand, and returns the exit status."""
-    named, words = reach.take_words(arguments)
+    servers, words = reach.take_words(arguments)
     if words:
         raise Failed(f"{words[0]} is no URL: jagyerti doctor --help", USAGE)
-    address, options = url.from_words(named), reach.options_of(arguments)
+    address, options = reach.find_server(arguments, servers)
     with connect.open(address, options) as connection, reach.failures_of(address, options):
         findings = durability.examine(durability.read_facts(connection), arguments.wait)
     losing, unknown = durability.can_lose(findings)

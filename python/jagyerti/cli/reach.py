@@ -1,54 +1,37 @@
-"""What the subcommands that ask a server themselves share: the options that say how to connect, and what goes wrong."""
+"""What the subcommands share that ask a server themselves: which server, its connection, and what goes wrong."""
 from __future__ import annotations
 
 import argparse
 import contextlib
 import socket
-from typing import Iterator, List, Optional, Tuple
+from typing import Iterator, List, Tuple
 
-from .. import connect, resp, url
-
-REDIRECTIONS = 5
-
-
-def add_options(parser: argparse.ArgumentParser) -> None:
-    """Adds the options that say how to connect."""
-    group = parser.add_argument_group("connection")
-    group.add_argument("--timeout", metavar="SECONDS", type=seconds, default=10.0,
-                       help="for so long the server may say nothing (10)")
-    group.add_argument("--name", help="CLIENT SETNAME with this name")
-    group.add_argument("--cacert", metavar="FILE", help="certificates to verify the server with, if the URL is rediss://")
-    group.add_argument("--cert", metavar="FILE", help="the certificate that the server is shown")
-    group.add_argument("--key", metavar="FILE", help="the key of that certificate")
-    group.add_argument("--tls-no-verify", action="store_true", help="anybody may be the server: nothing is verified")
+from .. import cluster, connect, resp, sentinel, url
+from .options import connection_options, take_url
 
 
-def seconds(text: str) -> float:
-    """Reads a number of seconds above 0, for argparse."""
-    number = float(text)
-    if not 0 < number < 1e6:
-        raise argparse.ArgumentTypeError(f"{text} is no number of seconds")
-    return number
-
-
-def options_of(arguments: argparse.Namespace) -> connect.Options:
-    """Returns how to connect, as the options of `add_options` say."""
-    return connect.Options(timeout=arguments.timeout, client_name=arguments.name, cacert=arguments.cacert,
-                           cert=arguments.cert, key=arguments.key, verify=not arguments.tls_no_verify)
-
-
-def take_words(arguments: argparse.Namespace) -> Tuple[Optional[str], List[str]]:
-    """Returns the URL, if one is the first word, and the other words that are no options.
+def take_words(arguments: argparse.Namespace) -> Tuple[List[url.Address], List[str]]:
+    """Returns the servers of the URL, or of REDIS_URL, and the other words that are no options.
 
     argparse takes positional words of any number only if they are beside one another, and leaves the others in
-    `arguments.rest`. Words after `--` may begin with a hyphen. Raises connect.Failed if an option is unknown.
+    `arguments.rest`. Words after `--` may begin with a hyphen. Raises connect.Failed, if an option is unknown too.
     """
     for word in arguments.rest:
         if word.startswith("-") and word != "-":
-            raise connect.Failed(f"{word} is unknown: --help has the options", connect.USAGE)
-    words = arguments.words + arguments.rest
-    address = words.pop(0) if words and url.is_url(words[0]) else None
-    return address, words + arguments.after
+            raise connect.Failed(f"{word} is unknown: jagyerti {arguments.subcommand} --help", connect.USAGE)
+    given, words = take_url(arguments.words + arguments.rest)
+    servers = url.all_from_words(given)
+    if len(servers) > 1 and arguments.sentinel is None:
+        raise connect.Failed("several hosts are for --sentinel", connect.USAGE)
+    return servers, words + arguments.after
+
+
+def find_server(arguments: argparse.Namespace, servers: List[url.Address]) -> Tuple[url.Address, connect.Options]:
+    """Returns the server, which sentinels are asked for with --sentinel, and how to connect with it."""
+    options = connection_options(arguments, servers)
+    if arguments.sentinel is None:
+        return servers[0], options
+    return sentinel.find_master(servers, arguments.sentinel, options), options
 
 
 @contextlib.contextmanager
@@ -66,18 +49,18 @@ def failures_of(address: url.Address, options: connect.Options) -> Iterator[None
 
 def open_at_key(address: url.Address, options: connect.Options, key: str) -> socket.socket:
     """Connects to the node of a cluster that has the key. Outside a cluster that is the server itself."""
-    for _ in range(REDIRECTIONS):
+    for _ in range(cluster.MOST_REDIRECTIONS):
         connection = connect.open(address, options)
         try:
             resp.ask(connection, "XLEN", key)
             return connection
         except resp.ReplyError as error:
             connection.close()
-            if error.code != "MOVED":
+            moved = cluster.cluster_error(str(error).encode())
+            if moved is None or moved.code != b"MOVED":
                 raise
-            host, _, port = str(error).split(" ")[2].rpartition(":")
-            address = address.at(host or address.host, int(port))
+            address = address.at(moved.host.decode() or address.host, moved.port)
         except BaseException:
             connection.close()
             raise
-    raise connect.Failed(f"more than {REDIRECTIONS} redirections in a row, the last one to {address.place}")
+    raise connect.Failed(f"{cluster.MOST_REDIRECTIONS} redirections in a row, the last one to {address.place}")

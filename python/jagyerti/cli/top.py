@@ -8,20 +8,21 @@ import threading
 import time
 from typing import Any, List
 
-from .. import monitor, process, url
+from .. import monitor, process
 from ..connect import USAGE, Failed
 from ..monitor import Plan, Watch
 from ..screen import Screen, Signals
 from ..shown import on_one_line
 from . import reach, say
+from .options import add_command, add_connection_options, connection_options
 
 TAKES_REST = True
 TICK = 0.1  # seconds
-DESCRIPTION = """\
+USAGE_LINE = "jagyerti top [URL] KEY .. [options]"
+TEXT = """\
 Shows the groups of streams: how much is to read, what is pending for which consumer, and since when. The screen is new each
 second, and as soon as an entry comes, until q or Ctrl-C. If standard output is no terminal, each table is a text.
-"""
-EPILOG = """\
+
 With --listen each scrape connects to the server, and one goes on at a time. If it fails, the reply is 503 with the reason,
 which is on standard error too. PORT 0 is any free port; the line on standard output names it. SIGTERM ends it. There is no
 TLS and no login at this port: whoever reaches it sees the names of groups and consumers. Keys that begin with a hyphen come
@@ -37,9 +38,8 @@ example: jagyerti top redis://127.0.0.1:6379 orders orders:dead
 
 def add_parser(subparsers: Any) -> None:
     """Adds the subcommand."""
-    parser = subparsers.add_parser("top", help="the groups of streams, on a screen or for Prometheus", description=DESCRIPTION,
-                                   epilog=EPILOG, formatter_class=argparse.RawDescriptionHelpFormatter, allow_abbrev=False,
-                                   usage="jagyerti top [URL] KEY .. [options]")
+    parser = add_command(subparsers, "top", "Shows the groups of streams, or serves their figures to Prometheus.",
+                         USAGE_LINE, TEXT)
     parser.add_argument("words", nargs="*", metavar="[URL] KEY ..", help="the streams")
     parser.add_argument("--once", action="store_true", help="shows it once, and ends")
     form = parser.add_mutually_exclusive_group()
@@ -48,18 +48,18 @@ def add_parser(subparsers: Any) -> None:
                       help="prints a text of OpenMetrics, once")
     form.add_argument("--listen", metavar="HOST:PORT", help="serves http://HOST:PORT/metrics to Prometheus")
     parser.add_argument("--program", metavar="FILE", help="the program, in place of the stream_top that is installed")
-    reach.add_options(parser)
+    add_connection_options(parser)
 
 
 def run(arguments: argparse.Namespace) -> int:
     """Runs the subcommand, and returns the exit status."""
-    named, keys = reach.take_words(arguments)
+    servers, keys = reach.take_words(arguments)
     if not keys:
         raise Failed("no stream is named: jagyerti top --help", USAGE)
     if arguments.listen and arguments.once:
         raise Failed("--once does not go with --listen", USAGE)
-    address = url.from_words(named)
-    plan = Plan(process.find_program("stream_top", arguments.program), address, reach.options_of(arguments), tuple(keys))
+    plan = Plan(process.find_program("stream_top", arguments.program), tuple(servers), connection_options(arguments, servers),
+                tuple(keys), arguments.sentinel)
     if arguments.listen:
         return serve(plan, arguments.listen)
     if arguments.form or arguments.once:
@@ -112,7 +112,7 @@ def show(plan: Plan, watches: List[Watch], screen: Screen, signals: Signals) -> 
             screen.suspend()
         for one in watches:
             one.take()
-        screen.draw([f"{plan.address.place}  {time.strftime('%H:%M:%S')}  q ends", *lines_of(watches)])
+        screen.draw([f"{plan.place}  {time.strftime('%H:%M:%S')}  q ends", *lines_of(watches)])
         if screen.read_key(TICK) in ("q", "Q"):
             return
 
