@@ -8,8 +8,8 @@ from . import commands, errors, slots
 from .commands import Command, pack
 from .connection import Connection, Decoder, SocketLike
 from .consumer import Consumer, LeavePending
-from .errors import (ArgumentTooLarge, BadSettings, ConnectionClosed, Error, LibraryNotFound, NoPartition, NothingGiven,
-                     OtherReply, OutOfMemory, ProtocolError, ServerError)
+from .errors import (ArgumentTooLarge, BadSettings, ConnectionClosed, Error, LibraryNotFound, NoPartition, NotConnected,
+                     NothingGiven, OtherReply, OutOfMemory, ProtocolError, ServerError)
 from .records import Group, PendingEntry, PendingSummary, read_groups, read_pending, read_pending_summary
 from .replies import (Claimed, ClaimedIds, Entries, Entry, Stream, Streams, Value, find_autoclaim, find_justid,
                       find_range, find_streams, find_value)
@@ -17,8 +17,8 @@ from .slots import key_slot, partition_name, partition_of
 
 __all__ = [
     "ArgumentTooLarge", "BadSettings", "Claimed", "ClaimedIds", "Command", "Connection", "ConnectionClosed", "Consumer",
-    "Decoder", "Entries", "Entry", "Error", "Group", "LeavePending", "LibraryNotFound", "NoPartition", "NothingGiven",
-    "OtherReply", "OutOfMemory", "PendingEntry", "PendingSummary", "ProtocolError", "ServerError", "SocketLike", "Stream",
+    "Decoder", "Entries", "Entry", "Error", "Group", "LeavePending", "LibraryNotFound", "NoPartition", "NotConnected",
+    "NothingGiven", "OtherReply", "OutOfMemory", "PendingEntry", "PendingSummary", "ProtocolError", "ServerError", "SocketLike", "Stream",
     "Streams", "Value", "commands", "errors", "find_autoclaim", "find_justid", "find_range", "find_streams",
     "find_value", "key_slot", "pack", "partition_name", "partition_of", "read_groups", "read_pending",
     "read_pending_summary", "slots",

@@ -17,6 +17,14 @@ class LibraryNotFound(Error, ImportError):
     """The shared library is not there, or is not this library."""
 
 
+class NotConnected(Error, ConnectionError):
+    """There is no connection: the server is not there, says nothing, or takes no login."""
+
+    @property
+    def is_transient(self) -> bool:
+        return True
+
+
 class ConnectionClosed(Error, ConnectionError):
     """The server closed the connection while a reply was waited for."""
 

@@ -2,14 +2,22 @@
 from __future__ import annotations
 
 import os
+import re
 import shutil
 import socket
 import subprocess
+import sys
 import tempfile
 import time
 import unittest
 
-from jagyerti import Connection, Consumer, Entry, ServerError, commands
+import jagyerti
+from jagyerti import Connection, Consumer, Entry, NotConnected, ServerError, commands, server
+
+from .servers import redis_at
+
+PACKAGES = os.path.dirname(os.path.dirname(jagyerti.__file__))
+README = os.path.join(os.path.dirname(os.path.dirname(os.path.abspath(__file__))), "README.md")
 
 
 @unittest.skipUnless(shutil.which("redis-server"), "redis-server is not installed")
@@ -79,6 +87,51 @@ class LiveTest(unittest.TestCase):
             Consumer(connection, key, "other", "ann").read_new()
         self.assertEqual(raised.exception.code, "NOGROUP")
         self.assertEqual(connection.call("PING"), b"PONG")
+
+
+@unittest.skipUnless(shutil.which("redis-server"), "redis-server is not installed")
+@unittest.skipUnless(os.path.exists(README), "the page is not beside the tests")
+class PageTest(unittest.TestCase):
+    def blocks(self, url: str) -> list[str]:
+        """The programs of the page, over this server."""
+        with open(README, encoding="utf-8") as file:
+            found = re.findall(r"^```python\n(.*?)^```$", file.read(), re.S | re.M)
+        return [text.replace("redis://localhost:6379", url) for text in found]
+
+    def test_the_first_consumer_twice(self) -> None:
+        with server.start_redis() as one:
+            program = self.blocks(one.url)[0].replace(".run(handle)", ".run(handle, until_empty=True)").replace(
+                '"ann")', '"ann", block=1)')
+            shown = []
+            for number in (1, 2):
+                one.ask("XADD", "orders", f"{number}-0", "item", "tea")
+                ran = subprocess.run([sys.executable, "-c", program], env=dict(os.environ, PYTHONPATH=PACKAGES),
+                                     capture_output=True, text=True, timeout=60)
+                self.assertEqual((ran.returncode, ran.stderr), (0, ""))
+                shown.append(ran.stdout)
+            self.assertEqual(shown, ["b'1-0' {b'item': b'tea'}\n", "b'2-0' {b'item': b'tea'}\n"])
+
+    def test_a_consumer_that_outlives_its_server(self) -> None:
+        port = server.free_port()
+        program = self.blocks(f"redis://127.0.0.1:{port}")[1]
+        program += "\ndef handle(entry):\n    print(entry.id.decode(), flush=True)\nwork_for_ever(handle)\n"
+        with subprocess.Popen([sys.executable, "-c", program], env=dict(os.environ, PYTHONPATH=PACKAGES),
+                              stdout=subprocess.PIPE, text=True) as worker:
+            assert worker.stdout is not None
+            try:
+                for number in ("1-0", "2-0"):
+                    with redis_at(port):
+                        with Connection.open(f"redis://127.0.0.1:{port}") as connection:
+                            connection.value_of(commands.xadd("orders", {"item": "tea"}, number))
+                        self.assertEqual(worker.stdout.readline(), f"{number}\n")
+            finally:
+                worker.kill()
+
+    def test_no_connection(self) -> None:
+        with self.assertRaises(NotConnected) as raised:
+            Connection.open(f"redis://127.0.0.1:{server.free_port()}")
+        self.assertTrue(raised.exception.is_transient)
+        self.assertRaises(ValueError, Connection.open, "http://127.0.0.1")
 
 
 if __name__ == "__main__":

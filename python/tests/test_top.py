@@ -23,6 +23,7 @@ from typing import Callable, Optional, Tuple
 from jagyerti import connect, monitor, process, screen, server
 
 from .scripted import scripted
+from .servers import redis_at
 from .test_dead_letters import called
 
 PACKAGES = process.PACKAGES
@@ -152,12 +153,12 @@ class TopTest(unittest.TestCase):
         self.assertEqual(one.wait(), (0, True))
 
     def test_a_server_that_goes_and_comes(self) -> None:
-        port, folder = self.server.port, self.server.folder
+        port = self.server.port
         one = self.shown()
         self.server.process.kill()
         self.server.process.wait()
         self.assertTrue(one.read_until(lambda text: "not of now: " in text), one.text[-2000:])
-        with server_at(port, folder) as again:
+        with redis_at(port) as again:
             again.ask("XGROUP", "CREATE", "orders", "billing", "0", "MKSTREAM")
             self.assertTrue(one.read_until(lambda text: "billing" in text), one.text[-2000:])
         os.write(one.main, b"q")
@@ -212,19 +213,6 @@ class TopTest(unittest.TestCase):
         self.assertEqual(status, 1)
         self.assertIn("NOAUTH", error)
         self.assertEqual(called("top", f"redis://:s3cret@127.0.0.1:{self.server.port}", "--json", "orders")[0], 0)
-
-
-@contextlib.contextmanager
-def server_at(port: int, folder: str):
-    """A redis-server at this port."""
-    words = ["redis-server", "--port", str(port), "--bind", "127.0.0.1", "--save", "", "--dir", folder]
-    running = subprocess.Popen(words, stdout=subprocess.DEVNULL)
-    try:
-        server._wait_for(running, port)
-        yield server.Server(port, running, folder)
-    finally:
-        running.kill()
-        running.wait()
 
 
 @unittest.skipUnless(PROGRAM, "stream_top is not built")
