@@ -9,6 +9,7 @@ import shutil
 import subprocess
 import tempfile
 import threading
+import time
 import unittest
 from typing import Dict, List, Optional, Tuple
 
@@ -155,6 +156,23 @@ class DeadLettersTest(unittest.TestCase):
         self.ask("CONFIG", "SET", "maxmemory", "0")
         self.assertEqual((self.ask("XLEN", "d"), self.ask("XLEN", "k"), self.ask("EXISTS", "none")), (2, 1, 0))
         self.assertIn("WRONGTYPE", self.dead("list", "text")[2])
+
+    def test_a_cluster(self) -> None:
+        with server.start_redis("--cluster-enabled", "yes") as node:
+            node.ask("CLUSTER", "ADDSLOTSRANGE", 0, 16383)
+            for _ in range(100):
+                if b"cluster_state:ok" in node.ask("CLUSTER", "INFO"):
+                    break
+                time.sleep(0.05)
+            for stream, onto in (("dead", "orders"), ("{orders}:dead", "{orders}")):
+                node.ask("XADD", stream, "1-0", *LETTER, "item", "tea")
+                node.ask("XADD", onto, "1-0", "item", "old")
+            status, shown, error = called("dead", "replay", node.url, "dead", "--to", "orders", "--all")
+            self.assertEqual((status, shown), (1, ""))
+            self.assertIn("CROSSSLOT", error)
+            self.assertEqual((node.ask("XLEN", "dead"), node.ask("XLEN", "orders")), (1, 1))
+            self.assertEqual(called("dead", "replay", node.url, "{orders}:dead", "--to", "{orders}", "--all")[0], 0)
+            self.assertEqual((node.ask("XLEN", "{orders}:dead"), node.ask("XLEN", "{orders}")), (0, 2))
 
     def test_drop(self) -> None:
         for at in (1, 2, 3):
