@@ -76,7 +76,7 @@ def xreadgroup(group: Text, consumer: Text, streams: Texts, *, count: int | None
                block: int | None = None, noack: bool = False, claim: int | None = None) -> Command:
     """XREADGROUP of streams, each with an id: `>` for entries that no consumer was given yet.
 
-    `claim`, of Redis 8.4, takes over entries that are idle for so long. Its reply has four values an entry, and
+    `claim`, of Redis 8.4, takes over entries that are idle for this long. Its reply has four values an entry, and
     `find_value` reads it, not `find_streams`.
     """
     texts = _Texts()
@@ -262,20 +262,20 @@ def _ids(texts: _Texts, ids: Ids) -> tuple[Any, int]:
     return (c.Entry * max(len(rows), 1))(*rows), len(rows)
 
 
-def _packed(name: str, *handed: Any) -> Command:
+def _packed(name: str, *arguments: Any) -> Command:
     """The command that a call writes."""
-    return Command(_written(name, *handed))
+    return Command(_written(name, *arguments))
 
 
-def _written(name: str, *handed: Any) -> bytes:
-    """The bytes that a call writes: it tells how much room it wants if that is too little."""
+def _written(name: str, *arguments: Any) -> bytes:
+    """The bytes that a call writes. If the room is too little, the call says how much it needs."""
     call: Callable[..., int] = getattr(c.library(), name)
     room, length = 256, c.SIZE()
     while True:
         out = ctypes.create_string_buffer(room)
-        told = call(*handed, out, room, ctypes.byref(length))
-        if told == OK:
+        status = call(*arguments, out, room, ctypes.byref(length))
+        if status == OK:
             return out.raw[: length.value]
-        if told != ROOM:
-            raise error_of(told)
+        if status != ROOM:
+            raise error_of(status)
         room = length.value

@@ -71,13 +71,13 @@ class Decoder:
         tables, address = self._tables, (ctypes.c_char * size).from_buffer(self._buffer)
         if self._short and replies.is_short(tables, address, size):
             return None
-        told, length = finding(tables, address, size)
-        self._short = told == INCOMPLETE
+        status, length = finding(tables, address, size)
+        self._short = status == INCOMPLETE
         del address  # the buffer cannot be cut before
-        reply = bytes(self._buffer[:length]) if told in (OK, SERVER_ERROR, OTHER) else b""
+        reply = bytes(self._buffer[:length]) if status in (OK, SERVER_ERROR, OTHER) else b""
         del self._buffer[: len(reply)]
-        replies.tell(told, lambda: reply, tables.found.error)
-        return making(tables, reply) if told == OK else None
+        replies.raise_error(status, lambda: reply, tables.found.error)
+        return making(tables, reply) if status == OK else None
 
 
 class Connection:

@@ -17,7 +17,7 @@ class LeavePending(Exception):
 
 
 class Consumer:
-    """Reads entries of a stream as a consumer of a group, and hands them to a handler.
+    """Reads entries of a stream as a consumer of a group, and passes them to a handler.
 
     **At least once**: an entry is acknowledged after the handler returned for it, and never before. If the process ends
     between the two, or the connection does, the entry comes again, so a handler has to bear that. Each run begins with
@@ -36,7 +36,7 @@ class Consumer:
         self._stopped = False
 
     def run(self, handler: Handler, *, until_empty: bool = False) -> int:
-        """Hands entries to the handler until `stop` is called, or with `until_empty` until a read finds nothing new.
+        """Passes entries to the handler until `stop` is called, or with `until_empty` until a read finds nothing new.
 
         Returns how many entries the handler returned for. What the handler raises comes out of here, but LeavePending;
         before that, the entries that it returned for are acknowledged.
@@ -70,7 +70,7 @@ class Consumer:
                                               block=self.block))
 
     def handle(self, entries: Entries, handler: Handler) -> int:
-        """Hands entries to the handler, and acknowledges those for which it returned, and those that are deleted."""
+        """Passes entries to the handler, and acknowledges those for which it returned, and those that are deleted."""
         ids: list[bytes] = []
         done = 0
         try:

@@ -154,8 +154,10 @@ def _count_replicas(facts: Facts) -> int:
 
 
 def _replicas(facts: Facts, waits: bool) -> List[Finding]:
-    """What a failover can lose. Without a replica there is none."""
+    """What a failover can lose. Without a replica there is none, and a replica itself does not know of it."""
     count = _count_replicas(facts)
+    if facts.info.get("role") == "slave":
+        return []
     if not count:
         return [Finding("replicas", "0", OK, "no failover; if the machine is lost, so is what it keeps")]
     found = Finding("replicas", str(count), OK, "")

@@ -5,7 +5,7 @@ from .retry import may_pass
 
 
 class Error(Exception):
-    """What the library tells, or a connection."""
+    """An error of the library, or of a connection."""
 
     @property
     def is_transient(self) -> bool:
@@ -154,7 +154,7 @@ _NAMED: dict[int, type[Error]] = {
 }
 
 
-def error_of(told: int) -> Error:
-    """The error by the number that the library tells."""
-    kind = _NAMED.get(told)
-    return kind(kind.__doc__) if kind else Error(f"the library tells {told}")
+def error_of(status: int) -> Error:
+    """Returns the error for a status of the library."""
+    kind = _NAMED.get(status)
+    return kind(kind.__doc__) if kind else Error(f"the library returned {status}")

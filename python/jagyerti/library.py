@@ -91,7 +91,7 @@ class PendingSummary(ctypes.Structure):
     _fields_ = [("count", SIZE), ("start_id", Span), ("end_id", Span)]
 
 
-# Of each call what it is handed: B bytes and their number, T a table and its room or number, N a number, F a flag,
+# The arguments of each call: B bytes and their number, T a table and its room or number, N a number, F a flag,
 # P a pointer to one record. The calls that write a command take a buffer, its room and a place for the length at the end.
 _READINGS = {
     "redis_find_streams": "BTTTP", "redis_find_range": "BTTP", "redis_find_autoclaim": "BTTPP",
@@ -114,12 +114,12 @@ _TYPES: dict[str, list[type]] = {
 
 
 def _declare(library: ctypes.CDLL) -> None:
-    commands = {name: handed + "TP" for name, handed in _COMMANDS.items()}
-    for name, handed in {**_READINGS, **commands, **_PARTITIONS}.items():
+    commands = {name: letters + "TP" for name, letters in _COMMANDS.items()}
+    for name, letters in {**_READINGS, **commands, **_PARTITIONS}.items():
         call = getattr(library, name)
         call.restype = ctypes.c_uint32
-        call.argtypes = [kind for letter in handed for kind in _TYPES[letter]]
-    # Bytes that are read may be a bytearray, too, which is handed in by its address.
+        call.argtypes = [kind for letter in letters for kind in _TYPES[letter]]
+    # Bytes that are read may be a bytearray, too, which is passed by its address.
     for name in _READINGS:
         call = getattr(library, name)
         call.argtypes = [ctypes.c_void_p, *call.argtypes[1:]]

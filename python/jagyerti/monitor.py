@@ -22,7 +22,7 @@ PLAIN = "text/plain; charset=utf-8"
 ROUNDS = (1 << 32) - 1  # of one second at most each
 # The first line of a table, after the name of the stream.
 HEAD = re.compile(r".*: [0-9]+ entries, [0-9]+ groups, last id .*", re.DOTALL)
-QUIET = 0.03  # for so many seconds no line comes after the last one of a table
+QUIET = 0.03  # seconds in which no line comes after the last one of a table
 LONGEST_PAUSE = 10.0
 NO_STREAM = "ERR no such key"
 

@@ -1,4 +1,4 @@
-"""What a server tells of groups and of what is pending, as plain records."""
+"""Groups, and what is pending, as plain records."""
 from __future__ import annotations
 
 import ctypes
@@ -6,11 +6,11 @@ from typing import Any, NamedTuple
 
 from . import library as c
 from .errors import OK, ROOM
-from .replies import tell
+from .replies import raise_error
 
 
 class Group(NamedTuple):
-    """A group of a stream, as XINFO GROUPS tells of it. None is what the server does not tell."""
+    """A group of a stream, as XINFO GROUPS shows it. None is what the server does not say."""
 
     name: bytes
     consumers: int
@@ -21,7 +21,7 @@ class Group(NamedTuple):
 
 
 class PendingEntry(NamedTuple):
-    """A pending entry, as XPENDING with a range tells of it."""
+    """A pending entry, as XPENDING with a range shows it."""
 
     id: bytes
     consumer: bytes
@@ -30,7 +30,7 @@ class PendingEntry(NamedTuple):
 
 
 class PendingSummary(NamedTuple):
-    """What is pending for a group, as XPENDING without a range tells of it, and how much for each consumer."""
+    """What is pending for a group, as XPENDING without a range shows it, and how much for each consumer."""
 
     count: int  # type: ignore[assignment]
     start_id: bytes
@@ -81,10 +81,10 @@ def _read(name: str, row: Any, data: bytes, *more: Any) -> tuple[list[Any], byte
     """The rows that a call reads, their texts, and how many bytes the reply has. The tables grow if they have to."""
     data = bytes(data)
     call, found = getattr(c.library(), name), c.RecordsFound(records=16, text=1024)
-    told = ROOM
-    while told == ROOM:
+    status = ROOM
+    while status == ROOM:
         room, text_room = found.records, found.text
         rows, texts = (row * max(room, 1))(), ctypes.create_string_buffer(max(text_room, 1))
-        told = call(data, len(data), *more, rows, room, texts, text_room, ctypes.byref(found))
-    tell(told, lambda: data[: found.len], found.error)
-    return (rows[: found.records], texts.raw[: found.text], found.len) if told == OK else None
+        status = call(data, len(data), *more, rows, room, texts, text_room, ctypes.byref(found))
+    raise_error(status, lambda: data[: found.len], found.error)
+    return (rows[: found.records], texts.raw[: found.text], found.len) if status == OK else None

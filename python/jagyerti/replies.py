@@ -185,26 +185,26 @@ def is_short(tables: Tables, address: Any, size: int) -> bool:
     return bool(c.library().redis_find_nodes(address, size, tables.nodes, 0, length, count) == INCOMPLETE)
 
 
-def tell(told: int, reply: Callable[[], bytes], error: c.Span) -> None:
-    """Raises what the library tells, but that all is done or that the bytes end too early."""
-    if told == SERVER_ERROR:
+def raise_error(status: int, reply: Callable[[], bytes], error: c.Span) -> None:
+    """Raises the error of a status, if it is one: OK is none, and neither is that the bytes end too early."""
+    if status == SERVER_ERROR:
         raise ServerError(reply()[error.start : error.start + error.len])
-    if told == OTHER:
+    if status == OTHER:
         raise OtherReply(reply())
-    if told not in (OK, INCOMPLETE):
-        raise error_of(told)
+    if status not in (OK, INCOMPLETE):
+        raise error_of(status)
 
 
 def streams_of(tables: Tables, address: Any, size: int) -> tuple[int, int]:
-    """What the library tells of the reply of XREAD, and how many bytes it has. The tables grow if they have to."""
+    """Returns the status of a reply of XREAD, and how many bytes it has. The tables grow if they have to."""
     call, found = c.library().redis_find_streams, tables.found
-    told = ROOM
-    while told == ROOM:
+    status = ROOM
+    while status == ROOM:
         streams, entries, fields = tables.tables
-        told = call(address, size, streams, len(streams), entries, len(entries), fields, len(fields), ctypes.byref(found))
-        if told == ROOM:
+        status = call(address, size, streams, len(streams), entries, len(entries), fields, len(fields), ctypes.byref(found))
+        if status == ROOM:
             tables.grow()
-    return told, found.len
+    return status, found.len
 
 
 def range_of(tables: Tables, address: Any, size: int) -> tuple[int, int]:
@@ -217,24 +217,24 @@ def autoclaim_of(tables: Tables, address: Any, size: int) -> tuple[int, int]:
 
 def _entries_of(call: Callable[..., int], tables: Tables, address: Any, size: int, more: list[Any]) -> tuple[int, int]:
     found = tables.found
-    told = ROOM
-    while told == ROOM:
+    status = ROOM
+    while status == ROOM:
         _, entries, fields = tables.tables
-        told = call(address, size, entries, len(entries), fields, len(fields), *more, ctypes.byref(found))
-        if told == ROOM:
+        status = call(address, size, entries, len(entries), fields, len(fields), *more, ctypes.byref(found))
+        if status == ROOM:
             tables.grow()
-    return told, found.len
+    return status, found.len
 
 
 def justid_of(tables: Tables, address: Any, size: int) -> tuple[int, int]:
     call, found, claim = c.library().redis_find_justid, tables.found, tables.claim
-    told = ROOM
-    while told == ROOM:
+    status = ROOM
+    while status == ROOM:
         _, entries, _ = tables.tables
-        told = call(address, size, entries, len(entries), ctypes.byref(claim), ctypes.byref(found))
-        if told == ROOM:
+        status = call(address, size, entries, len(entries), ctypes.byref(claim), ctypes.byref(found))
+        if status == ROOM:
             tables.grow()
-    return told, found.len
+    return status, found.len
 
 
 def make_streams(tables: Tables, reply: bytes) -> Streams:
@@ -261,12 +261,12 @@ def make_claimed_ids(tables: Tables, reply: bytes) -> ClaimedIds:
 
 def nodes_of(tables: Tables, address: Any, size: int) -> tuple[int, int]:
     call, length, count = c.library().redis_find_nodes, tables.length, tables.count
-    told = ROOM
-    while told == ROOM:
-        told = call(address, size, tables.nodes, len(tables.nodes), ctypes.byref(length), ctypes.byref(count))
-        if told == ROOM:
+    status = ROOM
+    while status == ROOM:
+        status = call(address, size, tables.nodes, len(tables.nodes), ctypes.byref(length), ctypes.byref(count))
+        if status == ROOM:
             tables.nodes = (c.Node * count.value)()
-    return told, length.value
+    return status, length.value
 
 
 def make_value(tables: Tables, reply: bytes) -> Value:
@@ -331,9 +331,9 @@ def _find(finding: Finding, making: Callable[[Tables, bytes], T], data: bytes) -
     """What is at the head of bytes, and how many bytes it has: None if they end too early."""
     data = bytes(data)
     tables = _tables()
-    told, length = finding(tables, data, len(data))
-    tell(told, lambda: data[:length], tables.found.error)
-    return (making(tables, data), length) if told == OK else None
+    status, length = finding(tables, data, len(data))
+    raise_error(status, lambda: data[:length], tables.found.error)
+    return (making(tables, data), length) if status == OK else None
 
 
 def find_streams(data: bytes) -> tuple[Streams, int] | None:

@@ -20,7 +20,7 @@ HOME, REST_OF_LINE, REST = b"\x1b[H", b"\x1b[K", b"\x1b[J"
 
 
 class Signals:
-    """Notes which signal came, so that a loop ends where it likes to."""
+    """Notes which signal came, for a loop that looks for it."""
 
     def __init__(self) -> None:
         self.end = 0

@@ -18,14 +18,14 @@ def key_slot(key: Text) -> int:
 
 
 def partition_of(record_key: Text, number: int) -> int:
-    """The partition of a record, if there are so many of them, from 1 to 65,535.
+    """The partition of a record, for a number of partitions from 1 to 65,535.
 
     A record stays where it is only as long as that number does.
     """
     partition = c.SIZE()
-    told = c.library().redis_partition_of(*_text(record_key), _size(number), ctypes.byref(partition))
-    if told != OK:
-        raise error_of(told)
+    status = c.library().redis_partition_of(*_text(record_key), _size(number), ctypes.byref(partition))
+    if status != OK:
+        raise error_of(status)
     return partition.value
 
 
@@ -35,7 +35,7 @@ def partition_name(name: Text, partition: int) -> bytes:
 
 
 def _size(number: int) -> int:
-    """The number, if a call can be handed it."""
+    """Returns the number, if a call can take it."""
     if not 0 <= number < 1 << 64:
         raise NoPartition(f"{number} is no number from 0 to 65,535")
     return number

@@ -12,7 +12,7 @@ NIL = b"*-1\r\n"
 DELETED = b"*2\r\n" + bulk(b"9-0") + b"*-1\r\n"
 
 
-def answer(*rows: bytes) -> bytes:
+def reply_of(*rows: bytes) -> bytes:
     return group(group(bulk(b"orders"), group(*rows)))
 
 
@@ -21,7 +21,7 @@ def row(number: int) -> bytes:
 
 
 class Scripted:
-    """A socket that answers each command by the next reply, a few bytes at a time, and keeps what was sent."""
+    """A socket that replies to each command with the next reply, a few bytes at a time, and keeps what was sent."""
 
     def __init__(self, *replies: bytes) -> None:
         self.replies, self.left = list(replies), b""
@@ -46,7 +46,7 @@ NEW = "XREADGROUP GROUP g ann BLOCK 9 COUNT 2 STREAMS orders >"
 
 class ConsumerTest(unittest.TestCase):
     def test_until_empty(self) -> None:
-        socket = Scripted(answer(row(1), DELETED), b":2\r\n", answer(), answer(row(10), row(11)), b":2\r\n", NIL)
+        socket = Scripted(reply_of(row(1), DELETED), b":2\r\n", reply_of(), reply_of(row(10), row(11)), b":2\r\n", NIL)
         seen: list[bytes] = []
         self.assertEqual(consumer(socket).run(lambda it: seen.append(it.id), until_empty=True), 3)
         self.assertEqual(seen, [b"1-0", b"10-0", b"11-0"])
@@ -54,7 +54,7 @@ class ConsumerTest(unittest.TestCase):
                                        "XACK orders g 10-0 11-0", NEW])
 
     def test_what_a_handler_raises(self) -> None:
-        socket = Scripted(answer(), answer(row(1), row(2)), b":1\r\n")
+        socket = Scripted(reply_of(), reply_of(row(1), row(2)), b":1\r\n")
 
         def handler(it: jagyerti.Entry) -> None:
             self.assertEqual(len([sent for sent in socket.sent if sent.startswith("XACK")]), 0)
@@ -66,7 +66,7 @@ class ConsumerTest(unittest.TestCase):
         self.assertEqual(socket.sent[-1], "XACK orders g 1-0")
 
     def test_what_is_left_pending(self) -> None:
-        socket = Scripted(answer(row(1)), answer(), answer(row(2), row(3)), b":1\r\n", NIL)
+        socket = Scripted(reply_of(row(1)), reply_of(), reply_of(row(2), row(3)), b":1\r\n", NIL)
 
         def handler(it: jagyerti.Entry) -> None:
             if it.id != b"3-0":
@@ -76,7 +76,7 @@ class ConsumerTest(unittest.TestCase):
         self.assertEqual([sent for sent in socket.sent if sent.startswith("XACK")], ["XACK orders g 3-0"])
 
     def test_stop(self) -> None:
-        socket = Scripted(answer(), answer(row(1), row(2)), b":2\r\n")
+        socket = Scripted(reply_of(), reply_of(row(1), row(2)), b":2\r\n")
         mine = consumer(socket)
         self.assertEqual(mine.run(lambda it: mine.stop()), 2)
         self.assertEqual(socket.sent[-1], "XACK orders g 1-0 2-0")
@@ -84,7 +84,7 @@ class ConsumerTest(unittest.TestCase):
     def test_what_ends_a_run(self) -> None:
         for replies, kind in (((b"-NOGROUP no such group\r\n",), jagyerti.ServerError),
                               ((b"*1\r\n",), jagyerti.ConnectionClosed), ((b"?",), jagyerti.ProtocolError),
-                              ((b"+OK\r\n",), jagyerti.OtherReply), ((answer(row(1)), b"+OK\r\n"), jagyerti.Error)):
+                              ((b"+OK\r\n",), jagyerti.OtherReply), ((reply_of(row(1)), b"+OK\r\n"), jagyerti.Error)):
             with self.assertRaises(kind):
                 consumer(Scripted(*replies)).run(lambda it: None)
 

@@ -103,7 +103,9 @@ class CommandTest(unittest.TestCase):
                 self.assertEqual(status, 1)
                 self.assertIn("min-replicas-to-write", shown)
                 self.assertEqual(called("doctor", one.url, "--wait")[0], 0)
-                self.assertIn(f"of 127.0.0.1:{one.port}", called("doctor", other.url)[1])
+                shown = called("doctor", other.url)[1]
+                self.assertIn(f"of 127.0.0.1:{one.port}", shown)
+                self.assertNotIn("failover", shown)
             one.ask("ACL", "SETUSER", "bob", "on", ">pw", "+@all", "-config", "~*")
             status, shown, error = called("doctor", f"redis://bob:pw@127.0.0.1:{one.port}")
             self.assertEqual((status, error), (1, ""))

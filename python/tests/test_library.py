@@ -23,19 +23,19 @@ except jagyerti.LibraryNotFound as error:
 
 
 class LibraryTest(unittest.TestCase):
-    def told(self, path: str) -> str:
+    def shown_by(self, path: str) -> str:
         env = dict(os.environ, REDIS_C_LIBRARY=path, PYTHONPATH=os.path.dirname(PACKAGE))
         return subprocess.run([sys.executable, "-c", TRIED], env=env, capture_output=True, text=True, check=True).stdout
 
     def test_a_library_that_is_not_there(self) -> None:
-        self.assertIn("/nowhere/libredis_c.so", self.told("/nowhere/libredis_c.so"))
+        self.assertIn("/nowhere/libredis_c.so", self.shown_by("/nowhere/libredis_c.so"))
 
     def test_what_is_no_library(self) -> None:
-        self.assertIn(__file__, self.told(__file__))
+        self.assertIn(__file__, self.shown_by(__file__))
 
     def test_the_path_in_the_variable(self) -> None:
         path = library.library()._name
-        self.assertEqual(self.told(path), "")
+        self.assertEqual(self.shown_by(path), "")
 
     def test_the_places_of_an_installation(self) -> None:
         for home, place in (("lib/jagyerti", "lib/jagyerti/lib"), ("lib/jagyerti", "lib"), ("python/jagyerti", "lib"),

@@ -1,4 +1,4 @@
-"""What a server tells of groups and of what is pending."""
+"""Groups, and what is pending."""
 from __future__ import annotations
 
 import unittest

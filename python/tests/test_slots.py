@@ -7,7 +7,7 @@ import unittest
 
 from jagyerti import NoPartition, key_slot, partition_name, partition_of
 
-# As redis-server 7.0.15 told them by CLUSTER KEYSLOT.
+# As redis-server 7.0.15 says by CLUSTER KEYSLOT.
 SLOTS = {
     "": 0, "foo": 12182, "user1000": 3443, "{user1000}.following": 3443, "foo{}{bar}": 8363, "foo{{bar}}zap": 4015,
     "foo{bar}{zap}": 5061, "{}": 15257, "{}a": 10875, "{{x}}": 11068, "}{": 12793, "123456789": 12739,
