@@ -158,7 +158,7 @@ class DeadLettersTest(unittest.TestCase):
         self.assertIn("WRONGTYPE", self.dead("list", "text")[2])
 
     def test_a_cluster(self) -> None:
-        with server.start_redis("--cluster-enabled", "yes") as node:
+        with server.start_redis("--cluster-enabled", "yes", "--cluster-port", str(server.free_port())) as node:
             node.ask("CLUSTER", "ADDSLOTSRANGE", 0, 16383)
             for _ in range(100):
                 if b"cluster_state:ok" in node.ask("CLUSTER", "INFO"):

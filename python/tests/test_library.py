@@ -7,6 +7,7 @@ import subprocess
 import sys
 import tempfile
 import unittest
+import unittest.mock
 
 import jagyerti
 from jagyerti import library
@@ -37,9 +38,15 @@ class LibraryTest(unittest.TestCase):
         path = library.library()._name
         self.assertEqual(self.shown_by(path), "")
 
+    def folder_of_checkout(self) -> str:
+        """The folder of a checkout that the library is made in."""
+        with unittest.mock.patch.dict(os.environ):
+            os.environ.pop(library.VARIABLE, None)
+            return os.path.basename(os.path.dirname(library.library_paths()[-1]))
+
     def test_the_places_of_an_installation(self) -> None:
         for home, place in (("lib/jagyerti", "lib/jagyerti/lib"), ("lib/jagyerti", "lib"), ("python/jagyerti", "lib"),
-                            ("python/jagyerti", "dist")):
+                            ("python/jagyerti", self.folder_of_checkout())):
             with self.subTest(home=home, place=place), tempfile.TemporaryDirectory() as root:
                 shutil.copytree(PACKAGE, os.path.join(root, home), ignore=shutil.ignore_patterns("__pycache__", "lib"))
                 os.makedirs(os.path.join(root, place), exist_ok=True)

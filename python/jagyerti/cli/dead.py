@@ -43,7 +43,7 @@ def add_parser(subparsers: Any) -> None:
     parser.add_argument("--to", metavar="KEY", help="replay: the stream that the entries came from")
     parser.add_argument("--all", action="store_true", help="replay, drop: all letters")
     parser.add_argument("--json", action="store_true", help="list, show: a line of JSON for each letter")
-    add_connection_options(parser)
+    add_connection_options(parser, has_block=False)
 
 
 def run(arguments: argparse.Namespace) -> int:

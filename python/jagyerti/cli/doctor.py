@@ -34,7 +34,7 @@ def add_parser(subparsers: Any) -> None:
     parser.add_argument("--wait", action="store_true", help="all programs confirm what they write, by their option --wait: a "
                         "failover then loses nothing of it")
     parser.add_argument("--json", action="store_true", help="one document of JSON")
-    add_connection_options(parser)
+    add_connection_options(parser, has_block=False)
 
 
 def run(arguments: argparse.Namespace) -> int:

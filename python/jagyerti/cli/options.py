@@ -44,11 +44,11 @@ def add_command(subparsers: Any, name: str, about: str, usage: str, text: str) -
     return parser
 
 
-def add_connection_options(parser: argparse.ArgumentParser) -> None:
-    """Adds the options of a connection."""
+def add_connection_options(parser: argparse.ArgumentParser, has_block: bool = True) -> None:
+    """Adds the options of a connection. `has_block` says that the program has an option --block."""
     group = parser.add_argument_group("connection")
     group.add_argument("--timeout", metavar="SECONDS", type=seconds, default=10.0,
-                       help="how long the server may say nothing, beyond what --block lets it wait (10)")
+                       help=f"how long the server may say nothing{', beyond what --block lets it wait' if has_block else ''} (10)")
     group.add_argument("--protocol", type=int, choices=(2, 3), help="HELLO with this version first")
     group.add_argument("--name", metavar="NAME", help="CLIENT SETNAME with this name")
     group.add_argument("--cacert", metavar="FILE", help="rediss://: certificates to verify the server with, in place of the system's")

@@ -48,7 +48,7 @@ def add_parser(subparsers: Any) -> None:
                       help="prints a text of OpenMetrics, once")
     form.add_argument("--listen", metavar="HOST:PORT", help="serves http://HOST:PORT/metrics to Prometheus")
     parser.add_argument("--program", metavar="FILE", help="the program, in place of the stream_top that is installed")
-    add_connection_options(parser)
+    add_connection_options(parser, has_block=False)
 
 
 def run(arguments: argparse.Namespace) -> int:
