@@ -47,8 +47,9 @@ def add_command(subparsers: Any, name: str, about: str, usage: str, text: str) -
 def add_connection_options(parser: argparse.ArgumentParser, has_block: bool = True) -> None:
     """Adds the options of a connection. `has_block` says that the program has an option --block."""
     group = parser.add_argument_group("connection")
+    more = ", beyond what --block lets it wait" if has_block else ""
     group.add_argument("--timeout", metavar="SECONDS", type=seconds, default=10.0,
-                       help=f"how long the server may say nothing{', beyond what --block lets it wait' if has_block else ''} (10)")
+                       help=f"how long the server may say nothing{more} (10)")
     group.add_argument("--protocol", type=int, choices=(2, 3), help="HELLO with this version first")
     group.add_argument("--name", metavar="NAME", help="CLIENT SETNAME with this name")
     group.add_argument("--cacert", metavar="FILE", help="rediss://: certificates to verify the server with, in place of the system's")
