@@ -19,7 +19,7 @@ __all__ = [
     "ArgumentTooLarge", "BadSettings", "Claimed", "ClaimedIds", "Command", "Connection", "ConnectionClosed", "Consumer",
     "Decoder", "Entries", "Entry", "Error", "Group", "LeavePending", "LibraryNotFound", "NoPartition", "NotConnected",
     "NothingGiven", "OtherReply", "OutOfMemory", "PendingEntry", "PendingSummary", "ProtocolError", "ServerError", "SocketLike", "Stream",
-    "Streams", "Value", "commands", "errors", "find_autoclaim", "find_justid", "find_range", "find_streams",
+    "Streams", "Value", "__version__", "commands", "errors", "find_autoclaim", "find_justid", "find_range", "find_streams",
     "find_value", "key_slot", "pack", "partition_name", "partition_of", "read_groups", "read_pending",
     "read_pending_summary", "slots",
 ]

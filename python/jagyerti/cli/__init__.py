@@ -11,11 +11,11 @@ import importlib
 import sys
 from typing import List, Sequence
 
-from .. import hide
+from .. import hide, version
 from ..connect import USAGE, Failed
 from ..url import UrlError
 
-NAMES = ("drain", "fill", "sqlite", "top", "serve", "connect", "dead", "doctor", "demo")
+NAMES = ("drain", "fill", "sqlite", "top", "serve", "connect", "dead", "doctor", "demo", "completions")
 
 EPILOG = """\
 URL is redis://[user[:password]@]host[:port][/database], rediss:// for TLS, or unix://[user:password@]/path[?db=N], as
@@ -30,7 +30,7 @@ def make_parser(names: Sequence[str] = NAMES) -> argparse.ArgumentParser:
     """Returns the parser of these subcommands. One whose module is not installed is left out."""
     parser = argparse.ArgumentParser(prog="jagyerti", description="Redis streams that lose nothing.", epilog=EPILOG,
                                      formatter_class=argparse.RawDescriptionHelpFormatter, allow_abbrev=False)
-    parser.add_argument("--version", action="version", version=version_text())
+    parser.add_argument("--version", action=ShowVersion, nargs=0, help="show the version, and what it was built from")
     subparsers = parser.add_subparsers(dest="subcommand", metavar="COMMAND", required=True)
     for name in names:
         try:
@@ -43,13 +43,12 @@ def make_parser(names: Sequence[str] = NAMES) -> argparse.ArgumentParser:
     return parser
 
 
-def version_text() -> str:
-    """Returns what --version shows."""
-    try:
-        version = importlib.import_module("jagyerti.version")
-    except ModuleNotFoundError:
-        return "jagyerti"
-    return str(version.text())
+class ShowVersion(argparse.Action):
+    """Prints the version, which asks git in a checkout, and ends."""
+
+    def __call__(self, parser: argparse.ArgumentParser, *_: object) -> None:
+        print(version.text())
+        parser.exit()
 
 
 def say(command: str, text: str) -> None:
