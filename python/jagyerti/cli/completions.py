@@ -111,14 +111,17 @@ def run(arguments: argparse.Namespace) -> int:
 
 
 def _cases(commands: Sequence[Command], form: str) -> Iterator[str]:
-    """Yields a case of the shell for each option that has a value, and one for each command, the longest first."""
+    """Yields the cases of the shell, the longest command first: each option that has a value, the word after the command,
+    and any later word."""
     for command in sorted(commands, key=lambda it: -len(it.words)):
         begin = "".join(f" {word}" for word in command.words)
         for option in command.options:
             if option.names and option.has_value:
                 ends = "|".join(f"'{begin}'*' {name} '" for name in option.names)
                 yield form.format(pattern=ends, words=_quoted(" ".join(option.choices)), flags="''")
-        yield form.format(pattern=f"'{begin} '*", words=_quoted(" ".join(command.next)), flags=_quoted(" ".join(command.flags)))
+        flags = _quoted(" ".join(command.flags))
+        yield form.format(pattern=f"'{begin} '", words=_quoted(" ".join(command.next)), flags=flags)
+        yield form.format(pattern=f"'{begin} '*", words="''", flags=flags)
 
 
 def _fish_begin(seen: Sequence[str]) -> str:
