@@ -9,7 +9,7 @@ from .errors import LibraryNotFound
 
 VARIABLE = "REDIS_C_LIBRARY"
 NAME = "libredis_c.so"
-HERE = os.path.dirname(os.path.abspath(__file__))
+HERE = os.path.dirname(os.path.realpath(__file__))
 SIZE, BOOL, LONG = ctypes.c_size_t, ctypes.c_bool, ctypes.c_uint64
 
 

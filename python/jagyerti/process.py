@@ -17,7 +17,7 @@ from typing import Callable, Dict, IO, List, Optional, Sequence, Tuple
 from .bridge import Bridge
 from .connect import Failed, set_limits
 
-PACKAGE = os.path.dirname(os.path.abspath(__file__))
+PACKAGE = os.path.dirname(os.path.realpath(__file__))
 # The folder that the package is in: that of a checkout is python/.
 PACKAGES = os.path.dirname(PACKAGE)
 HELD = (signal.SIGTERM, signal.SIGINT)

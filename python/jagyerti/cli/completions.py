@@ -3,11 +3,20 @@ from __future__ import annotations
 
 import argparse
 import dataclasses
+import re
+import subprocess
 from typing import Iterator, List, Sequence, Tuple
+
+from ..connect import Failed
+from ..process import find_program
 
 EXAMPLE = """\
 example: jagyerti completions bash > ~/.local/share/bash-completion/completions/jagyerti
 """
+# The subcommands that take the options of a program too.
+PROGRAMS = {"drain": "stream_drain", "fill": "stream_fill", "sqlite": "stream_sqlite"}
+# An option as a program prints it at --help.
+SHOWN = re.compile(r"^ +(?:(-\w), )?(--[\w-]+)((?: <\w+>)*) +(.*?)(?: \[possible values: (.*)\])?$", re.M)
 
 
 @dataclasses.dataclass(frozen=True)
@@ -29,6 +38,7 @@ class Command:
     options: Tuple[Option, ...]
     below: Tuple[str, ...]
     parser: argparse.ArgumentParser
+    program_help: str
 
     @property
     def flags(self) -> List[str]:
@@ -53,16 +63,35 @@ def find_commands(parser: argparse.ArgumentParser, words: Sequence[str] = (), he
             choices = tuple(str(choice) for choice in action.choices or ())
             shown = (action.help or "") % {"default": action.default, "prog": parser.prog}
             options.append(Option(tuple(action.option_strings), action.nargs != 0, choices, shown))
-    yield Command(tuple(words), help, tuple(options), tuple(parsers), parser)
+    program_help = ask_help(PROGRAMS[words[-1]]) if words and words[-1] in PROGRAMS else ""
+    known = {name for option in options for name in option.names}
+    options += [option for option in read_options(program_help) if not known & set(option.names)]
+    yield Command(tuple(words), help, tuple(options), tuple(parsers), parser, program_help)
     for name, below in parsers.items():
         yield from find_commands(below, [*words, name], helps.get(name, ""))
+
+
+def ask_help(program: str) -> str:
+    """Returns what a program prints at --help; nothing if it is not installed."""
+    try:
+        asked = subprocess.run([find_program(program), "--help"], stdin=subprocess.DEVNULL, stdout=subprocess.PIPE,
+                               stderr=subprocess.STDOUT, timeout=60, check=False)
+    except (Failed, OSError):
+        return ""
+    return asked.stdout.decode("utf-8", "replace")
+
+
+def read_options(text: str) -> Iterator[Option]:
+    """Yields the options that the help of a program lists."""
+    for short, name, values, help, choices in SHOWN.findall(text):
+        yield Option(tuple(filter(None, (short, name))), bool(values), tuple(choices.split(", ")) if choices else (), help)
 
 
 def write_bash(commands: Sequence[Command]) -> str:
     """Returns the completion for bash. A word that is neither an option nor a choice is completed as a file."""
     lines = ["# Completes the words of jagyerti in bash.", "_jagyerti() {",
-             '    local line=" ${COMP_WORDS[*]:1:COMP_CWORD-1} " word=${COMP_WORDS[COMP_CWORD]} words= flags=',
-             '    case "$line" in', *_cases(commands, '        {pattern}) words={words} flags={flags} ;;'), "    esac",
+             '    local line="${COMP_WORDS[*]:1:COMP_CWORD-1}" word=${COMP_WORDS[COMP_CWORD]} words= flags=',
+             '    case "${line:+ $line}" in', *_cases(commands, '        {pattern}) words={words} flags={flags} ;;'), "    esac",
              '    [[ $word != -* ]] || words=$flags', '    mapfile -t COMPREPLY < <(compgen -W "$words" -- "$word")', "}",
              "complete -o default -F _jagyerti jagyerti"]
     return "\n".join(lines) + "\n"
@@ -71,7 +100,7 @@ def write_bash(commands: Sequence[Command]) -> str:
 def write_zsh(commands: Sequence[Command]) -> str:
     """Returns the completion for zsh."""
     lines = ["#compdef jagyerti", "# Completes the words of jagyerti in zsh.",
-             'local line=" ${(j: :)words[2,CURRENT-1]} " choices= flags=', "case $line in",
+             'local line="${(j: :)words[2,CURRENT-1]}" choices= flags=', 'case "${line:+ $line}" in',
              *_cases(commands, "    ({pattern}) choices={words} flags={flags} ;;"), "esac",
              "[[ $PREFIX != -* ]] || choices=$flags", "if [[ -n $choices ]]; then compadd -- ${=choices}; else _files; fi"]
     return "\n".join(lines) + "\n"
@@ -117,10 +146,10 @@ def _cases(commands: Sequence[Command], form: str) -> Iterator[str]:
         begin = "".join(f" {word}" for word in command.words)
         for option in command.options:
             if option.names and option.has_value:
-                ends = "|".join(f"'{begin}'*' {name} '" for name in option.names)
+                ends = "|".join(f"'{begin}'*' {name}'" for name in option.names)
                 yield form.format(pattern=ends, words=_quoted(" ".join(option.choices)), flags="''")
         flags = _quoted(" ".join(command.flags))
-        yield form.format(pattern=f"'{begin} '", words=_quoted(" ".join(command.next)), flags=flags)
+        yield form.format(pattern=f"'{begin}'", words=_quoted(" ".join(command.next)), flags=flags)
         yield form.format(pattern=f"'{begin} '*", words="''", flags=flags)
 
 
