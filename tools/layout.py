@@ -1,0 +1,293 @@
+"""The files of an installation, and their paths below a prefix: what tools/install and tools/release have in common."""
+from __future__ import annotations
+
+import glob
+import hashlib
+import os
+import subprocess
+import sys
+import tempfile
+from typing import Dict, Iterator, List, NamedTuple, Sequence
+
+sys.dont_write_bytecode = True
+from unproved import KIT, ROOT, words_of_sources
+
+sys.path.insert(0, f"{ROOT}/python")
+import man_pages
+from jagyerti.cli import completions, make_parser
+
+PROGRAMS = ("stream_drain", "stream_fill", "stream_serve", "stream_sqlite", "stream_top")
+LIBRARY, SONAME = "redis_c", "libredis_c.so.0"
+KEPT = f"{ROOT}/build"
+PACKAGE = "lib/jagyerti"
+DOC = "share/doc/jagyerti"
+# In a program this text is followed by a text of 44 bytes, which --version prints without the spaces at its end.
+MARK, ROOM = b"@jagyerti-build@", 44
+EXPORTED = "{ global: redis_*; local: *; };\n"
+LAUNCHER = '''\
+#!/usr/bin/env python3
+"""Runs the command jagyerti, whose package is in lib/ beside this folder."""
+import os
+import sys
+
+sys.path[0] = os.path.join(os.path.dirname(os.path.dirname(os.path.realpath(__file__))), "lib")
+from jagyerti.cli import main
+
+sys.exit(main(sys.argv[1:]))
+'''
+# It is read at any prefix, and what is linked by it finds the library there.
+PKG_CONFIG = """\
+prefix=${{pcfiledir}}/../..
+libdir=${{prefix}}/lib
+includedir=${{prefix}}/include
+
+Name: redis_c
+Description: Redis streams: replies read in place, and commands
+Version: {version}
+Cflags: -I${{includedir}}
+Libs: -L${{libdir}} -Wl,-rpath,${{libdir}} -lredis_c
+"""
+UNIT = """\
+# /etc/jagyerti/NAME.env has the settings of jagyerti-drain@NAME.service: REDIS_URL, KEY, GROUP, CONSUMER and FILE, and
+# in OPTIONS others of 'jagyerti drain'. A FILE that is no absolute path is in /var/lib/jagyerti.
+[Unit]
+Description=Drain of a Redis stream into a file (%i)
+Documentation=man:jagyerti-drain(1)
+Wants=network-online.target
+After=network-online.target
+
+[Service]
+EnvironmentFile=/etc/jagyerti/%i.env
+ExecStart={prefix}/bin/jagyerti drain $OPTIONS ${{KEY}} ${{GROUP}} ${{CONSUMER}} ${{FILE}}
+Restart=on-failure
+RestartSec=5
+DynamicUser=yes
+StateDirectory=jagyerti
+WorkingDirectory=%S/jagyerti
+ProtectSystem=strict
+ProtectHome=yes
+
+[Install]
+WantedBy=multi-user.target
+"""
+
+
+class Entry(NamedTuple):
+    """A file: its bytes and mode; or a link, and what it leads to."""
+
+    data: bytes = b""
+    mode: int = 0o644
+    link: str = ""
+
+
+Tree = Dict[str, Entry]
+
+
+class Build(NamedTuple):
+    """What is built: its version, whether it is proved, of which commit, and the time of that in seconds since 1970."""
+
+    version: str
+    is_proved: bool
+    commit: str
+    is_changed: bool
+    time: int
+
+    @property
+    def text(self) -> str:
+        """What --version says beside the version."""
+        commit = f"commit {self.commit[:12]}" if self.commit else "no commit"
+        return f"{'proved' if self.is_proved else 'unproved'}, {commit}{', changed' if self.is_changed else ''}"
+
+
+class NotMade(Exception):
+    """Why there is no installation and no release."""
+
+
+def run(words: Sequence[str], given: str = "") -> str:
+    """Runs a command over a text, and returns what it prints."""
+    try:
+        ran = subprocess.run(words, input=given, stdout=subprocess.PIPE, stderr=subprocess.STDOUT, cwd=ROOT, text=True,
+                             errors="replace", check=False)
+    except OSError as error:
+        raise NotMade(str(error)) from None
+    if ran.returncode:
+        raise NotMade(f"{' '.join(words[:3])}: {ran.stdout[-1500:]}")
+    return ran.stdout
+
+
+def read(path: str) -> bytes:
+    """Returns the bytes of a file of the repository."""
+    with open(os.path.join(ROOT, path), "rb") as file:
+        return file.read()
+
+
+def describe_build(is_proved: bool) -> Build:
+    """Returns what would be built here and now."""
+    version = read("VERSION").decode().strip()
+    try:
+        commit, time = run(["git", "log", "-1", "--format=%H %ct"]).split()
+        changed = bool(run(["git", "status", "--porcelain"]).strip())
+    except NotMade:
+        commit, time, changed = "", "0", False
+    return Build(version if is_proved else f"{version}+unproved", is_proved, commit, changed, int(time))
+
+
+def crates_below(crate: str) -> List[str]:
+    """Returns the crate and all crates of the repository that it needs."""
+    lines = [line.partition("#")[0].partition(":") for line in read("crates.txt").decode().splitlines()]
+    uses = {names.split()[0]: below.split() for names, _, below in lines if names.strip()}
+    found = [crate]
+    for each in found:
+        found += [it for it in uses.get(each, []) if it in uses and it not in found]
+    return found
+
+
+def newest_source(crate: str) -> str:
+    """Returns the file that was written last of those that a program and its proofs are made of."""
+    files = [file for each in crates_below(crate) for folder in ("src", "specs", "proofs")
+             for file in glob.glob(f"{ROOT}/crates/{each}/{folder}/**/*.*t*", recursive=True)]
+    return max(files, key=os.path.getmtime)
+
+
+def is_current(path: str, crate: str) -> bool:
+    """Whether a file is there, and was made after the sources of this crate and those below it."""
+    return os.path.isfile(path) and os.path.getmtime(path) >= os.path.getmtime(newest_source(crate))
+
+
+def build_programs(is_proved: bool) -> Dict[str, str]:
+    """Builds the programs that are missing or older than their sources. Returns the path of each."""
+    paths = {name: f"{ROOT}/crates/{name}/out/{name}" if is_proved else f"{KEPT}/{name}" for name in PROGRAMS}
+    lacking = [name for name in PROGRAMS if not is_current(paths[name], name)]
+    if lacking:
+        how = "proved and built, which takes up to an hour or two" if is_proved else "built, which takes minutes"
+        print(f"{', '.join(lacking)}: to be {how}", file=sys.stderr, flush=True)
+    if lacking and not is_proved:
+        run([f"{ROOT}/tools/build-program", *lacking, KEPT])
+    for name in lacking if is_proved else ():
+        run(["bash", "-c", f"cd crates/{name} && rt run -- --help < /dev/null"])
+    return paths
+
+
+def build_library(is_proved: bool) -> Dict[str, bytes]:
+    """Returns the C library in its two forms, each with what it takes memory by: an archive and a shared library."""
+    raw, into = f"{ROOT}/crates/{LIBRARY}/out/lib{LIBRARY}.a", f"{KEPT}/proved" if is_proved else KEPT
+    archive, shared = f"{into}/lib{LIBRARY}.a", f"{into}/{SONAME}"
+    if not is_current(archive, LIBRARY) or not is_current(shared, LIBRARY):
+        os.makedirs(into, exist_ok=True)
+        run([f"{ROOT}/tools/build-c", *([] if is_proved else ["--unproved"])])
+        run([f"{KIT}/toolchain/bin/llvm-ar", "-M"],
+            f"create {archive}\naddlib {raw}\naddlib {KIT}/c/liblibc_c.a\nsave\nend\n")
+        run(["strip", "--strip-debug", "--enable-deterministic-archives", archive])
+        with tempfile.NamedTemporaryFile("w", prefix="exported-") as exported:
+            exported.write(EXPORTED)
+            exported.flush()
+            run(["cc", "-shared", "-s", "-o", shared, f"-Wl,-soname,{SONAME}", "-Wl,--whole-archive", archive,
+                 "-Wl,--no-whole-archive", f"-Wl,--version-script={exported.name}", "-Wl,-z,defs", "-Wl,-z,now"])
+    return {f"lib{LIBRARY}.a": read(archive), SONAME: read(shared)}
+
+
+def stamp(name: str, path: str, build: Build) -> bytes:
+    """Returns a program without its symbols, in which the place for the build has this one's text."""
+    with tempfile.TemporaryDirectory(prefix="stamp-") as folder:
+        stripped = f"{folder}/{name}"
+        run(["strip", "-o", stripped, path])
+        data = read(stripped)
+        places = data.count(MARK)
+        if places > 1 or len(build.text) > ROOM:
+            raise NotMade(f"{name}: {places} places for the text '{build.text}'")
+        at = data.find(MARK) + len(MARK)
+        return data[:at] + build.text.encode().ljust(ROOM) + data[at + ROOM:] if places else data
+
+
+def licences_of_kit() -> str:
+    """Returns the licences of what the programs and the library are linked with, each text once."""
+    words = [word for name in (*PROGRAMS, LIBRARY) for word in words_of_sources(name) if f"={KIT}/rattle/" in word]
+    crates = sorted({word.partition(":")[0] for word in words})
+    texts: Dict[str, List[str]] = {}
+    for crate in crates:
+        for path in sorted(glob.glob(f"{KIT}/rattle/{crate}/LICENSE*")):
+            texts.setdefault(read(path).decode("utf-8", "replace").strip(), []).append(crate)
+    parts = [f"The programs and the library have code of these crates of {kit_version()}: {', '.join(crates)}.\n"
+             "Each licence is that of the crates named above it.\n"]
+    return "\n".join(parts + [f"{'=' * 79}\n{', '.join(names)}\n{'=' * 79}\n\n{text}\n" for text, names in texts.items()])
+
+
+def kit_version() -> str:
+    """Returns the name of the toolchain, and the sum of its logic."""
+    return run(["rt", "version"]).strip()
+
+
+def package_files(build: Build) -> Tree:
+    """Returns the Python package, with a module that says what was built."""
+    paths = [path for path in glob.glob(f"{ROOT}/python/jagyerti/**/*", recursive=True) if path.endswith((".py", ".typed"))]
+    tree = {os.path.relpath(path, f"{ROOT}/python/jagyerti"): Entry(read(path)) for path in sorted(paths)}
+    tree["_build.py"] = Entry(f'"""What was built."""\nVERSION = "{build.version}"\nBUILD = "{build.text}"\n'.encode())
+    return tree
+
+
+def make_tree(build: Build) -> Tree:
+    """Builds what is missing, and returns all files of an installation."""
+    programs = build_programs(build.is_proved)
+    tree = {f"bin/{name}": Entry(stamp(name, path, build), 0o755) for name, path in programs.items()}
+    tree["bin/jagyerti"] = Entry(LAUNCHER.encode(), 0o755)
+    tree.update({f"lib/{name}": Entry(data) for name, data in build_library(build.is_proved).items()})
+    tree[f"lib/lib{LIBRARY}.so"] = Entry(link=SONAME)
+    tree["include/redis_streams.h"] = Entry(read(f"crates/{LIBRARY}/redis_streams.h"))
+    tree[f"lib/pkgconfig/{LIBRARY}.pc"] = Entry(PKG_CONFIG.format(version=build.version).encode())
+    tree.update({f"{PACKAGE}/{path}": entry for path, entry in package_files(build).items()})
+    tree.update({path: Entry(text.encode()) for path, text in shell_files(build, programs)})
+    tree[f"{DOC}/LICENSE"] = Entry(read("LICENSE"))
+    tree[f"{DOC}/CHANGELOG.md"] = Entry(read("CHANGELOG.md"))
+    tree[f"{DOC}/THIRD-PARTY.txt"] = Entry(licences_of_kit().encode())
+    return tree
+
+
+def shell_files(build: Build, programs: Dict[str, str]) -> Iterator[tuple[str, str]]:
+    """Yields the completions and the man pages, each with its path. Both have what the programs print at --help."""
+    with tempfile.TemporaryDirectory(prefix="programs-") as folder:
+        for name, path in programs.items():
+            os.symlink(path, f"{folder}/{name}")
+        os.environ["JAGYERTI_PROGRAMS"] = folder
+        commands = list(completions.find_commands(make_parser()))
+    yield "share/bash-completion/completions/jagyerti", completions.write_bash(commands)
+    yield "share/zsh/site-functions/_jagyerti", completions.write_zsh(commands)
+    yield "share/fish/vendor_completions.d/jagyerti.fish", completions.write_fish(commands)
+    for command in commands:
+        if len(command.words) < 2:
+            name = "-".join(["jagyerti", *command.words])
+            yield f"share/man/man1/{name}.1", man_pages.write(name, command, build.version, build.time)
+
+
+def unit(prefix: str) -> Entry:
+    """Returns the unit of systemd for `jagyerti drain`."""
+    return Entry(UNIT.format(prefix=prefix).encode())
+
+
+def describe_proofs(build: Build, tree: Tree) -> str:
+    """Returns the text of PROVED.txt: what was proved, by what, and the sum of each file."""
+    crates = sorted({crate for name in (*PROGRAMS, LIBRARY) for crate in crates_below(name)})
+    lines = [f"jagyerti {build.version} ({build.text})", "", f"commit  {build.commit or 'none'}", f"kit     {kit_version()}", ""]
+    if build.is_proved:
+        lines += ["Proved, and then built: " + ", ".join(PROGRAMS) + f", lib{LIBRARY}; and these crates below them:",
+                  *(f"  {crate}" for crate in crates)]
+    else:
+        lines += ["Nothing of it was proved where it was built. It is compiled from the sources alone, with a trap at each",
+                  "sum that wraps and each index out of range."]
+    lines += ["", "The SHA-256 of each file:"]
+    lines += [f"{hashlib.sha256(entry.data).hexdigest()}  {path}" for path, entry in sorted(tree.items()) if not entry.link]
+    return "\n".join(lines) + "\n"
+
+
+def write(tree: Tree, folder: str) -> None:
+    """Writes the files below a folder. Each takes its place whole, also that of a program that is running."""
+    for path, entry in tree.items():
+        to = os.path.join(folder, path)
+        os.makedirs(os.path.dirname(to), exist_ok=True)
+        made = f"{to}.new"
+        if entry.link:
+            os.symlink(entry.link, made)
+        else:
+            with open(made, "wb") as file:
+                file.write(entry.data)
+            os.chmod(made, entry.mode)
+        os.replace(made, to)
