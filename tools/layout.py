@@ -7,6 +7,7 @@ import os
 import subprocess
 import sys
 import tempfile
+import textwrap
 from typing import Dict, Iterator, List, NamedTuple, Sequence
 
 sys.dont_write_bytecode = True
@@ -171,7 +172,7 @@ def build_programs(is_proved: bool) -> Dict[str, str]:
 def build_library(is_proved: bool) -> Dict[str, bytes]:
     """Returns the C library in its two forms, each with what it takes memory by: an archive and a shared library."""
     raw, into = f"{ROOT}/crates/{LIBRARY}/out/lib{LIBRARY}.a", f"{KEPT}/proved" if is_proved else KEPT
-    archive, shared = f"{into}/lib{LIBRARY}.a", f"{into}/{SONAME}"
+    archive, shared = f"{into}/lib{LIBRARY}.a", f"{into}/lib{LIBRARY}.so"
     if not is_current(archive, LIBRARY) or not is_current(shared, LIBRARY):
         os.makedirs(into, exist_ok=True)
         run([f"{ROOT}/tools/build-c", *([] if is_proved else ["--unproved"])])
@@ -207,8 +208,8 @@ def licences_of_kit() -> str:
     for crate in crates:
         for path in sorted(glob.glob(f"{KIT}/rattle/{crate}/LICENSE*")):
             texts.setdefault(read(path).decode("utf-8", "replace").strip(), []).append(crate)
-    parts = [f"The programs and the library have code of these crates of {kit_version()}: {', '.join(crates)}.\n"
-             "Each licence is that of the crates named above it.\n"]
+    head = f"The programs and the library have code of these crates of {kit_version()}: {', '.join(crates)}."
+    parts = [textwrap.fill(head, 79) + "\n\nEach licence is that of the crates that are named above it.\n"]
     return "\n".join(parts + [f"{'=' * 79}\n{', '.join(names)}\n{'=' * 79}\n\n{text}\n" for text, names in texts.items()])
 
 
@@ -249,6 +250,7 @@ def shell_files(build: Build, programs: Dict[str, str]) -> Iterator[tuple[str, s
             os.symlink(path, f"{folder}/{name}")
         os.environ["JAGYERTI_PROGRAMS"] = folder
         commands = list(completions.find_commands(make_parser()))
+        helps = {name: completions.ask_help(name) for name in PROGRAMS if name != "stream_serve"}
     yield "share/bash-completion/completions/jagyerti", completions.write_bash(commands)
     yield "share/zsh/site-functions/_jagyerti", completions.write_zsh(commands)
     yield "share/fish/vendor_completions.d/jagyerti.fish", completions.write_fish(commands)
@@ -256,6 +258,8 @@ def shell_files(build: Build, programs: Dict[str, str]) -> Iterator[tuple[str, s
         if len(command.words) < 2:
             name = "-".join(["jagyerti", *command.words])
             yield f"share/man/man1/{name}.1", man_pages.write(name, command, build.version, build.time)
+    for name, said in helps.items():
+        yield f"share/man/man1/{name}.1", man_pages.write_of_help(name, said, build.version, build.time)
 
 
 def unit(prefix: str) -> Entry:

@@ -129,7 +129,7 @@ def library_paths() -> list[str]:
     """Returns where the library is looked for, the first place first.
 
     If the variable is set, that is its path alone. Else it is the package, the folders of an installation, and the
-    folder dist/ of a checkout, where `tools/release` puts it.
+    folder build/ of a checkout, where tools/install keeps it.
     """
     named = os.environ.get(VARIABLE)
     if named:
@@ -137,7 +137,7 @@ def library_paths() -> list[str]:
     above = os.path.dirname(HERE)
     root = os.path.dirname(above)
     return [os.path.join(folder, NAME)
-            for folder in (os.path.join(HERE, "lib"), above, os.path.join(root, "lib"), os.path.join(root, "dist"))]
+            for folder in (os.path.join(HERE, "lib"), above, os.path.join(root, "lib"), os.path.join(root, "build"))]
 
 
 @functools.lru_cache(maxsize=None)
@@ -147,7 +147,7 @@ def library() -> ctypes.CDLL:
     path = next((path for path in paths if os.path.isfile(path)), None)
     if path is None:
         raise LibraryNotFound(f"no {NAME} at {' or '.join(paths)}: set {VARIABLE} to its path. In a checkout "
-                              "'tools/release --unproved' makes it")
+                              "'tools/install --unproved' makes it")
     try:
         loaded = ctypes.CDLL(path)
         _declare(loaded)
