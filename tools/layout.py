@@ -25,17 +25,6 @@ DOC = "share/doc/jagyerti"
 # In a program this text is followed by a text of 44 bytes, which --version prints without the spaces at its end.
 MARK, ROOM = b"@jagyerti-build@", 44
 EXPORTED = "{ global: redis_*; local: *; };\n"
-LAUNCHER = '''\
-#!/usr/bin/env python3
-"""Runs the command jagyerti, whose package is in lib/ beside this folder."""
-import os
-import sys
-
-sys.path[0] = os.path.join(os.path.dirname(os.path.dirname(os.path.realpath(__file__))), "lib")
-from jagyerti.cli import main
-
-sys.exit(main(sys.argv[1:]))
-'''
 # It is read at any prefix, and what is linked by it finds the library there.
 PKG_CONFIG = """\
 prefix=${{pcfiledir}}/../..
@@ -230,7 +219,7 @@ def make_tree(build: Build) -> Tree:
     """Builds what is missing, and returns all files of an installation."""
     programs = build_programs(build.is_proved)
     tree = {f"bin/{name}": Entry(stamp(name, path, build), 0o755) for name, path in programs.items()}
-    tree["bin/jagyerti"] = Entry(LAUNCHER.encode(), 0o755)
+    tree["bin/jagyerti"] = Entry(read("bin/jagyerti").replace(b'"python"', b'"lib"').replace(b" from a checkout", b""), 0o755)
     tree.update({f"lib/{name}": Entry(data) for name, data in build_library(build.is_proved).items()})
     tree[f"lib/lib{LIBRARY}.so"] = Entry(link=SONAME)
     tree["include/redis_streams.h"] = Entry(read(f"crates/{LIBRARY}/redis_streams.h"))

@@ -9,7 +9,7 @@ from __future__ import annotations
 import argparse
 import importlib
 import sys
-from typing import List, Sequence
+from typing import List, Optional, Sequence
 
 from .. import hide, version
 from ..connect import USAGE, Failed
@@ -57,9 +57,10 @@ def say(command: str, text: str) -> None:
     print(f"jagyerti {command}: {shown}\n", end="", file=sys.stderr, flush=True)
 
 
-def main(argv: List[str]) -> int:
-    """Runs the subcommand that these words say, and returns the exit status."""
+def main(argv: Optional[List[str]] = None) -> int:
+    """Runs the subcommand that these words say, or those of the process, and returns the exit status."""
     hide.passwords()
+    argv = sys.argv[1:] if argv is None else argv
     end = argv.index("--") if "--" in argv else len(argv)
     # Only the module of the subcommand is loaded, so that it starts soon.
     arguments, rest = make_parser(argv[:1] if argv[0:1] and argv[0] in NAMES else NAMES).parse_known_args(argv[:end])
