@@ -1,6 +1,6 @@
 """Reads the entries of stored replies in place, by the static library made a shared one.
 
-usage: streams.py LIBRARY <REPLIES     LIBRARY: dist/libredis_c.so, or what `cc -shared` makes of libredis_c.a
+usage: streams.py LIBRARY <REPLIES     LIBRARY: lib/libredis_c.so of an installation, or what `cc -shared` makes of libredis_c.a
 
 Prints a line for each entry: the stream, the id, then each field as name=value. At the end it prints the XAUTOCLAIM that
 takes over the ids of at most a hundred entries that are pending for a minute.

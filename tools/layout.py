@@ -8,6 +8,7 @@ import subprocess
 import sys
 import tempfile
 import textwrap
+from concurrent.futures import ThreadPoolExecutor
 from typing import Dict, Iterator, List, NamedTuple, Sequence
 
 sys.dont_write_bytecode = True
@@ -17,7 +18,8 @@ sys.path.insert(0, f"{ROOT}/python")
 import man_pages
 from jagyerti.cli import completions, make_parser
 
-PROGRAMS = ("stream_drain", "stream_fill", "stream_serve", "stream_sqlite", "stream_top")
+# The one that takes longest to build is the first.
+PROGRAMS = ("stream_sqlite", "stream_drain", "stream_top", "stream_fill", "stream_serve")
 LIBRARY, SONAME = "redis_c", "libredis_c.so.0"
 KEPT = f"{ROOT}/build"
 PACKAGE = "lib/jagyerti"
@@ -217,10 +219,13 @@ def package_files(build: Build) -> Tree:
 
 def make_tree(build: Build) -> Tree:
     """Builds what is missing, and returns all files of an installation."""
-    programs = build_programs(build.is_proved)
+    with ThreadPoolExecutor(1 if build.is_proved else 2) as pool:
+        building = pool.submit(build_programs, build.is_proved)
+        library = pool.submit(build_library, build.is_proved).result()
+        programs = building.result()
     tree = {f"bin/{name}": Entry(stamp(name, path, build), 0o755) for name, path in programs.items()}
     tree["bin/jagyerti"] = Entry(read("bin/jagyerti").replace(b'"python"', b'"lib"').replace(b" from a checkout", b""), 0o755)
-    tree.update({f"lib/{name}": Entry(data) for name, data in build_library(build.is_proved).items()})
+    tree.update({f"lib/{name}": Entry(data) for name, data in library.items()})
     tree[f"lib/lib{LIBRARY}.so"] = Entry(link=SONAME)
     tree["include/redis_streams.h"] = Entry(read(f"crates/{LIBRARY}/redis_streams.h"))
     tree[f"lib/pkgconfig/{LIBRARY}.pc"] = Entry(PKG_CONFIG.format(version=build.version).encode())
