@@ -14,6 +14,7 @@ from .records import Group, PendingEntry, PendingSummary, read_groups, read_pend
 from .replies import (Claimed, ClaimedIds, Entries, Entry, Stream, Streams, Value, find_autoclaim, find_justid,
                       find_range, find_streams, find_value)
 from .slots import key_slot, partition_name, partition_of
+from .version import VERSION as __version__
 
 __all__ = [
     "ArgumentTooLarge", "BadSettings", "Claimed", "ClaimedIds", "Command", "Connection", "ConnectionClosed", "Consumer",
@@ -23,4 +24,3 @@ __all__ = [
     "find_value", "key_slot", "pack", "partition_name", "partition_of", "read_groups", "read_pending",
     "read_pending_summary", "slots",
 ]
-__version__ = "1.0.0"
