@@ -21,6 +21,8 @@ from jagyerti.cli import completions, make_parser
 # The one that takes longest to build is the first.
 PROGRAMS = ("stream_sqlite", "stream_drain", "stream_top", "stream_fill", "stream_serve")
 LIBRARY, SONAME = "redis_c", "libredis_c.so.0"
+# Those that take options, and have --help and --version.
+OPTIONED = PROGRAMS[:-1]
 KEPT = f"{ROOT}/build"
 PACKAGE = "lib/jagyerti"
 DOC = "share/doc/jagyerti"
@@ -50,7 +52,7 @@ After=network-online.target
 
 [Service]
 EnvironmentFile=/etc/jagyerti/%i.env
-ExecStart={prefix}/bin/jagyerti drain $OPTIONS ${{KEY}} ${{GROUP}} ${{CONSUMER}} ${{FILE}}
+ExecStart={prefix}/bin/jagyerti drain ${{KEY}} ${{GROUP}} ${{CONSUMER}} ${{FILE}} $OPTIONS
 Restart=on-failure
 RestartSec=5
 DynamicUser=yes
@@ -185,7 +187,7 @@ def stamp(name: str, path: str, build: Build) -> bytes:
         run(["strip", "-o", stripped, path])
         data = read(stripped)
         places = data.count(MARK)
-        if places > 1 or len(build.text) > ROOM:
+        if places != (name in OPTIONED) or len(build.text) > ROOM:
             raise NotMade(f"{name}: {places} places for the text '{build.text}'")
         at = data.find(MARK) + len(MARK)
         return data[:at] + build.text.encode().ljust(ROOM) + data[at + ROOM:] if places else data
@@ -244,7 +246,7 @@ def shell_files(build: Build, programs: Dict[str, str]) -> Iterator[tuple[str, s
             os.symlink(path, f"{folder}/{name}")
         os.environ["JAGYERTI_PROGRAMS"] = folder
         commands = list(completions.find_commands(make_parser()))
-        helps = {name: completions.ask_help(name) for name in PROGRAMS if name != "stream_serve"}
+        helps = {name: completions.ask_help(name) for name in OPTIONED}
     yield "share/bash-completion/completions/jagyerti", completions.write_bash(commands)
     yield "share/zsh/site-functions/_jagyerti", completions.write_zsh(commands)
     yield "share/fish/vendor_completions.d/jagyerti.fish", completions.write_fish(commands)

@@ -33,7 +33,7 @@ def options_of_help(command: completions.Command) -> Set[str]:
     said = io.StringIO()
     with contextlib.redirect_stdout(said), contextlib.suppress(SystemExit):
         main([*command.words, "--help"])
-    listed = re.findall(r"^ +(-.*?)(?:  |$)", said.getvalue() + command.program_help, re.M)
+    listed = re.findall(r"^ {2,6}(-.*?)(?:  |$)", said.getvalue() + command.program_help, re.M)
     return {name for line in listed for name in re.findall(r"(?:^|, )(--?[a-zA-Z-]+)", line)}
 
 

@@ -161,7 +161,8 @@ def _fish_begin(seen: Sequence[str]) -> str:
 def _fish_words(option: Option) -> str:
     """Returns how fish names an option."""
     named = "".join(f" -l {name[2:]}" if name.startswith("--") else f" -s {name[1:]}" for name in option.names)
-    choices = f" -x -a {_quoted(' '.join(option.choices))}" if option.choices else " -r" if option.has_value else ""
+    listed = " ".join(option.choices).replace("$", "\\$")  # fish expands it once more
+    choices = f" -x -a {_quoted(listed)}" if listed else " -r" if option.has_value else ""
     return named + choices + (f" -d {_quoted(option.help)}" if option.help else "")
 
 
