@@ -168,7 +168,7 @@ def build_library(is_proved: bool) -> Dict[str, bytes]:
     archive, shared = f"{into}/lib{LIBRARY}.a", f"{into}/lib{LIBRARY}.so"
     if not is_current(archive, LIBRARY) or not is_current(shared, LIBRARY):
         os.makedirs(into, exist_ok=True)
-        run([f"{ROOT}/tools/build-c", *([] if is_proved else ["--unproved"])])
+        compile_library(is_proved)
         run([f"{KIT}/toolchain/bin/llvm-ar", "-M"],
             f"create {archive}\naddlib {raw}\naddlib {KIT}/c/liblibc_c.a\nsave\nend\n")
         run(["strip", "--strip-debug", "--enable-deterministic-archives", archive])
@@ -178,6 +178,17 @@ def build_library(is_proved: bool) -> Dict[str, bytes]:
             run(["cc", "-shared", "-s", "-o", shared, f"-Wl,-soname,{SONAME}", "-Wl,--whole-archive", archive,
                  "-Wl,--no-whole-archive", f"-Wl,--version-script={exported.name}", "-Wl,-z,defs", "-Wl,-z,now"])
     return {f"lib{LIBRARY}.a": read(archive), SONAME: read(shared)}
+
+
+def compile_library(is_proved: bool) -> None:
+    """Compiles the crate of the library; if it is proved, over the libraries that the gate left, or else over new ones."""
+    if not is_proved:
+        run([f"{ROOT}/tools/build-c", "--unproved"])
+        return
+    try:
+        run([f"{ROOT}/tools/build-c"])
+    except NotMade:
+        run(["bash", "-c", f"cd crates/{LIBRARY} && rt lib"])
 
 
 def stamp(name: str, path: str, build: Build) -> bytes:
