@@ -23,8 +23,8 @@ pub struct SystemFile {
 }
 
 impl SystemFile {
-    /// Opens the file of this path, and makes it where there is none. It is `WouldBlock` where
-    /// another process has it open as a log.
+    /// Opens the file of this path, and creates it if it does not exist. The error is of the kind
+    /// `WouldBlock` if another process has the file open as a log, and its text says so.
     pub fn open<R: Files<File = File>>(rt: &R, path: &str) -> Result<SystemFile, LogError>
         ensures { IfErr result IsOfTheSystem }
     {
@@ -36,7 +36,10 @@ impl SystemFile {
         match file.try_lock() {
             Ok(()) => {}
             Err(TryLockError::WouldBlock) => {
-                return Err(LogError::File(io::Error::from(ErrorKind::WouldBlock)));
+                return Err(LogError::File(io::Error::new(
+                    ErrorKind::WouldBlock,
+                    "another process has this file open as a log",
+                )));
             }
             Err(TryLockError::Error(error)) => return Err(LogError::File(error)),
         }

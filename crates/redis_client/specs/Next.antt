@@ -1,5 +1,6 @@
 -- What an error asks for.
-use Rattle.std.specs.Prelude.{ℕ, List, Bool, codes, if◌then◌else◌, ◌||◌}
+use Rattle.std.specs.Prelude.{ℕ, List, Bool, codes, if◌then◌else◌, ◌||◌, ◌==◌}
+use Rattle.std.specs.List.{starts_with}
 use Rattle.std.specs.Str.{bytes_eq}
 use Rattle.redis_connection.specs.declared.error.AskError.{AskError}
 use Rattle.redis_connection.specs.declared.error.AskError.TheVariants as ask_errors
@@ -34,6 +35,14 @@ is_passing code = (is_starting code || is_working code) || is_lacking code
 abbrev pub after_code : List ℕ → Next
 after_code code = if is_moving code then Reconnect else if is_passing code then Later else GiveUp
 
+-- the server has no room for one more connection, and closes this one
+abbrev pub is_full : List ℕ → Bool
+is_full text = starts_with (λ a b. a == b) text (codes "ERR max number of clients")
+
+-- what the error of a server asks for: its code decides, but for a server that is full
+abbrev pub after_server : List ℕ → Next
+after_server text = if is_full text then Reconnect else after_code (code_of text)
+
 -- a connection that broke is made anew, and so is one after memory ran out; what has no reply is
 -- given up, and so is a server that does not speak the protocol
 abbrev pub after_connection : ConnectionError → Next
@@ -48,6 +57,6 @@ after_connection (errors.Fault fault) = GiveUp
 -- a reply that does not fit its command is given up
 abbrev pub after_answer : AskError → Next
 after_answer (ask_errors.Connection e) = after_connection e
-after_answer (ask_errors.Server e) = after_code (code_of e.text.items)
+after_answer (ask_errors.Server e) = after_server e.text.items
 after_answer (ask_errors.Parsing e) = GiveUp
 after_answer ask_errors.NotAnAnswer = GiveUp

@@ -1,8 +1,7 @@
 //! What an error asks for.
 ghost use Rattle.std.specs.Prelude.{◌≡◌};
 ghost use Rattle.std.specs.Str.{bytes_eq};
-ghost use Rattle.redis_wire.specs.Reply.{code_of};
-ghost use Rattle.redis_client.specs.Next.{after_answer, after_connection, after_code, is_moving, is_passing};
+ghost use Rattle.redis_client.specs.Next.{after_answer, after_connection, after_code, after_server, is_full, is_moving, is_passing};
 
 use redis_connection::{AskError, ConnectionError};
 use redis_wire::ServerError;
@@ -55,10 +54,20 @@ pub fn next_after_code(code: &[u8]) -> Next
     }
 }
 
-/// What the error of a server asks for.
-pub fn next_after_server(error: &ServerError) -> Next
-    ensures { result ≡ after_code (code_of error.now.text.items) }
+/// Whether the server has no room for one more connection. Redis replies so, and then closes the connection.
+fn is_full(text: &[u8]) -> bool
+    ensures { result ≡ is_full text.now }
 {
+    text.starts_with(b"ERR max number of clients")
+}
+
+/// What the error of a server asks for: its code decides, but for `ERR max number of clients reached`.
+pub fn next_after_server(error: &ServerError) -> Next
+    ensures { result ≡ after_server error.now.text.items }
+{
+    if is_full(&error.text) {
+        return Next::Reconnect;
+    }
     next_after_code(error.code())
 }
 
