@@ -63,7 +63,7 @@ class Partition(Tries):
     """The runs of one partition, one after the other. What happens is reported by `tell`."""
 
     def __init__(self, plan: Plan, at: int, nodes: cluster.Nodes, tell: Callable[[State], None], fills: bool) -> None:
-        super().__init__(dataclasses.replace(plan, metrics=None))
+        super().__init__(plan)
         self.slot, self.nodes, self.tell, self.fills = cluster.key_slot(os.fsencode(plan.words[0])), nodes, tell, fills
         self.state: State = {"at": at, "node": None, "state": "begins", "entries": None, "to_come": None, "pending": None,
                              "starts": 0, "moved": 0, "ask": 0, "waits": 0, "figures": {}}
@@ -291,7 +291,8 @@ class Fleet:
     def _serve(self, at: int, given: int) -> int:
         """Runs a partition, in the process of its own."""
         random.seed()
-        plan = dataclasses.replace(self.plan, words=words_of_partition(self.plan.words, self.share.place, at))
+        words = words_of_partition(self.plan.program_words()[1:], self.share.place, at)
+        plan = dataclasses.replace(self.plan, words=words, metrics=None)
 
         def tell(state: State) -> None:
             os.write(given, json.dumps(state).encode() + b"\n")
