@@ -71,8 +71,11 @@ class Address:
         return f"{self.scheme}://{login}{'@' if login else ''}{self.place}{tail}"
 
 
-def parse_all(text: str) -> List[Address]:
-    """Reads a URL that may have several hosts, with commas between them: sentinels, or nodes of a cluster."""
+def parse_all(text: str, port: int = PORT) -> List[Address]:
+    """Reads a URL that may have several hosts, with commas between them: sentinels, or nodes of a cluster.
+
+    A host without a port has this one.
+    """
     found = FORM.fullmatch(text)
     if not found or found["scheme"] not in ("redis", "rediss", "unix"):
         raise UrlError("wanted redis://HOST:PORT, rediss://HOST:PORT or unix:///PATH")
@@ -84,8 +87,8 @@ def parse_all(text: str) -> List[Address]:
             raise UrlError("unix://: wanted an absolute path, as in unix:///run/redis/redis.sock")
         return [Address(scheme, "", 0, _decoded(path), user, password, _database_of_query(query))]
     hosts, _, database = place.partition("/")
-    places = [_host_and_port(scheme, one) for one in hosts.split(",")]
-    return [Address(scheme, host, port, "", user, password, _database(scheme, database)) for host, port in places]
+    places = [_host_and_port(scheme, one, port) for one in hosts.split(",")]
+    return [Address(scheme, host, number, "", user, password, _database(scheme, database)) for host, number in places]
 
 
 def from_words(text: Optional[str]) -> Address:
@@ -104,7 +107,7 @@ def all_from_words(text: Optional[str], port: int = PORT) -> List[Address]:
     text = os.environ.get("REDIS_URL") if text is None else text
     if not text:
         raise UrlError("no server is named: give redis://HOST:PORT as the first word, or set REDIS_URL")
-    return [_completed(address) for address in parse_all(text)]
+    return [_completed(address) for address in parse_all(text, port)]
 
 
 def is_url(word: str) -> bool:
@@ -134,11 +137,11 @@ def _decoded(text: str) -> str:
     return os.fsdecode(unquote_to_bytes(text))
 
 
-def _host_and_port(scheme: str, text: str) -> tuple[str, int]:
+def _host_and_port(scheme: str, text: str, port: int) -> tuple[str, int]:
     found = re.fullmatch(r"(?:\[([0-9A-Fa-f:.]+(?:%[^\]]+)?)\]|([^:\[\]?#]*))(?::([0-9]+))?", text)
     if not found:
         raise UrlError(f"{scheme}://{text}: wanted HOST or HOST:PORT, an IPv6 address in brackets")
-    port = int(found[3] or PORT)
+    port = int(found[3] or port)
     if not 0 < port < 65536:
         raise UrlError(f"{port} is not the number of a port")
     return found[1] or _decoded(found[2]) or "127.0.0.1", port

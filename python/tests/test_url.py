@@ -58,6 +58,7 @@ class Urls(unittest.TestCase):
     def test_several_hosts(self):
         places = [(one.host, one.port, one.password) for one in url.parse_all("redis://:x@a:1,[::1]:2,c")]
         self.assertEqual(places, [("a", 1, "x"), ("::1", 2, "x"), ("c", 6379, "x")])
+        self.assertEqual([one.port for one in url.parse_all("redis://a,b:7", url.SENTINEL_PORT)], [26379, 7])
         with self.assertRaises(url.UrlError):
             url.Address.parse("redis://a,b")
 

@@ -57,8 +57,8 @@ def add_connection_options(parser: argparse.ArgumentParser, has_block: bool = Tr
     group.add_argument("--key", metavar="FILE", help="rediss://: the key of that certificate")
     group.add_argument("--tls-no-verify", action="store_true",
                        help="rediss://: the server is not verified, so anybody may be the server")
-    group.add_argument("--sentinel", metavar="MASTER", help="URL names sentinels, with commas between them; the server is the "
-                       "master of this name, which they are asked for before each connection")
+    group.add_argument("--sentinel", metavar="MASTER", help="URL names sentinels, with commas between them (port 26379); the "
+                       "server is the master of this name, which they are asked for before each connection")
 
 
 def add_run_options(parser: argparse.ArgumentParser) -> None:
@@ -107,7 +107,7 @@ def block_seconds(words: List[str]) -> float:
 def make_plan(arguments: argparse.Namespace, program: str, words: List[str], **more: Any) -> Plan:
     """Returns what a subcommand runs. Raises Failed or UrlError."""
     given, words = take_url(words)
-    servers = url.all_from_words(given)
+    servers = url.all_from_words(given, url.PORT if arguments.sentinel is None else url.SENTINEL_PORT)
     is_many = arguments.sentinel is not None or getattr(arguments, "cluster", False)
     if len(servers) > 1 and not is_many:
         raise Failed("several hosts are for --cluster and --sentinel", USAGE)
