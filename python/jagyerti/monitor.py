@@ -89,7 +89,7 @@ def tables(plan: Plan) -> str:
 class Watch(threading.Thread):
     """Has the table of one stream, anew each second and as entries come. After an error it tries again.
 
-    `table` has its lines, and `error` says why it is not of now. `failure` is the first error, if there was no table
+    `table` has its lines, and `error` says why it is not current. `failure` is the first error, if there was no table
     before it: then nothing is tried again.
     """
 

@@ -157,7 +157,7 @@ class TopTest(unittest.TestCase):
         one = self.shown()
         self.server.process.kill()
         self.server.process.wait()
-        self.assertTrue(one.read_until(lambda text: "not of now: " in text), one.text[-2000:])
+        self.assertTrue(one.read_until(lambda text: "not current: " in text), one.text[-2000:])
         with redis_at(port) as again:
             again.ask("XGROUP", "CREATE", "orders", "billing", "0", "MKSTREAM")
             self.assertTrue(one.read_until(lambda text: "billing" in text), one.text[-2000:])
@@ -183,6 +183,15 @@ class TopTest(unittest.TestCase):
             self.assertEqual(one.wait(20), 0)
         self.assertEqual(lines[0], "orders: 2 entries, 1 groups, last id 6-0\n")
         self.assertEqual((lines[3], lines[0]), ("\n", lines[4]))
+
+    def test_nobody_reads(self) -> None:
+        words = [sys.executable, "-m", "jagyerti", "top", self.server.url, "orders"]
+        with subprocess.Popen(words, stdin=subprocess.DEVNULL, stdout=subprocess.PIPE, stderr=subprocess.PIPE,
+                              env=dict(os.environ, PYTHONPATH=PACKAGES), text=True) as one:
+            assert one.stdout is not None and one.stderr is not None
+            one.stdout.readline()
+            one.stdout.close()
+            self.assertEqual((one.stderr.read(), one.wait(20)), ("", 0))
 
     def test_texts(self) -> None:
         status, shown, error = called("top", self.server.url, "--once", "--json", "orders", "orders:dead")

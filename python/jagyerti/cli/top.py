@@ -2,6 +2,7 @@
 from __future__ import annotations
 
 import argparse
+import os
 import signal
 import sys
 import threading
@@ -123,14 +124,18 @@ def lines_of(watches: List[Watch]) -> List[str]:
     for one in watches:
         lines += ["", *one.table]
         if one.error:
-            lines.append(f"not of now: {one.error}")
+            lines.append(f"not current: {one.error}")
     return lines
 
 
 def copy(watches: List[Watch], signals: Signals) -> None:
-    """Prints each table that comes."""
+    """Prints each table that comes, until nobody reads them any more."""
     while not signals.end and not any(one.failure for one in watches):
         for one in watches:
             if one.take():
-                print("\n".join(one.table), end="\n\n", flush=True)
+                try:
+                    print("\n".join(one.table), end="\n\n", flush=True)
+                except BrokenPipeError:
+                    os.dup2(os.open(os.devnull, os.O_WRONLY), sys.stdout.fileno())  # for the flush at the end
+                    return
         time.sleep(TICK)
