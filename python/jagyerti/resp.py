@@ -3,7 +3,7 @@ from __future__ import annotations
 
 import re
 import socket
-from typing import Any, Iterable, Optional, Protocol, Union
+from typing import Any, Iterable, List, Optional, Protocol, Sequence, Union
 
 Word = Union[str, bytes, int]
 # None, bool, int, float, bytes, a list or a dict of these; inside a list or a dict also a ReplyError.
@@ -66,6 +66,21 @@ def ask(connection: socket.socket, *words: Word) -> Reply:
     connection.sendall(encode(words))
     with connection.makefile("rb", buffering=0) as reader:
         return read_reply(reader)
+
+
+def ask_all(connection: socket.socket, commands: Iterable[Sequence[Word]], at_once: int = 1000) -> List[Reply]:
+    """Sends commands, this many before it reads their replies, and returns all replies.
+
+    Nothing else may come over the connection meanwhile. Raises ReplyError at the first reply that is an error.
+    """
+    replies: List[Reply] = []
+    left = list(commands)
+    with connection.makefile("rb") as reader:
+        for first in range(0, len(left), at_once):
+            part = left[first:first + at_once]
+            connection.sendall(b"".join(map(encode, part)))
+            replies += [read_reply(reader) for _ in part]
+    return replies
 
 
 def _read(reader: Reader) -> Reply:
