@@ -135,10 +135,15 @@ fn status_of(error: &Error) -> u8
     }
 }
 
-/// What to do about an error of the server that this text names, if a user can do something.
-pub fn remedy_of(text: &str) -> Option<&'static str> {
-    let (_, error) = text.split_once("the server answers ")?;
-    match error.split(' ').next()? {
+/// What to do about an error of the server with this code, such as `NOGROUP`, if a user can do something.
+pub fn remedy_of(code: &str) -> Option<&'static str>
+    ensures group { code.now ≡ codes "NOGROUP" → option_map (λ text. text.now) result ≡ Some NO_GROUP.now }
+    ensures moved { (code.now ≡ codes "MOVED") ⊎ (code.now ≡ codes "ASK")
+        → option_map (λ text. text.now) result ≡ Some MOVED.now }
+    ensures none { code.now ≢ codes "NOGROUP" → code.now ≢ codes "MOVED" → code.now ≢ codes "ASK"
+        → result ≡ None }
+{
+    match code {
         "NOGROUP" => Some(NO_GROUP),
         "MOVED" | "ASK" => Some(MOVED),
         _ => None,

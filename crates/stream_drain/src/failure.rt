@@ -37,19 +37,29 @@ impl From<Error> for Failure {
 impl Failure {
     /// What is shown of it: an error of the server whole, and what to do about it. A control character, which could steer
     /// a terminal, is shown as `?`.
-    pub fn text(&self, alloc: Global) -> Result<String, AllocError> {
+    pub(crate) fn text(&self, alloc: Global) -> Result<String, AllocError> {
         if let Failure::Other(error) = self {
             let text = format!(in alloc; "{error:?}")?;
             return masked(alloc, &text, true);
         }
         let text = format!(in alloc; "{self}")?;
         let mut text = masked(alloc, &text, false)?;
-        if let Some(remedy) = remedy_of(&text) {
+        let remedy = match code_in(&text) {
+            Some(code) => remedy_of(code),
+            None => None,
+        };
+        if let Some(remedy) = remedy {
             text.push_str("\n")?;
             text.push_str(remedy)?;
         }
         Ok(text)
     }
+}
+
+/// The code of the server's error that a text names.
+fn code_in(text: &str) -> Option<&str> {
+    let (_, error) = text.split_once("the server answers ")?;
+    error.split(' ').next()
 }
 
 /// The text with `?` for each control character. Line feeds may stay.
