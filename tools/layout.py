@@ -153,7 +153,7 @@ def build_programs(is_proved: bool) -> Dict[str, str]:
     paths = {name: f"{ROOT}/crates/{name}/out/{name}" if is_proved else f"{KEPT}/{name}" for name in PROGRAMS}
     lacking = [name for name in PROGRAMS if not is_current(paths[name], name)]
     if lacking:
-        how = "proved and built, which takes up to an hour or two" if is_proved else "built, which takes minutes"
+        how = "proved and built, which takes up to two hours" if is_proved else "built, which takes minutes"
         print(f"{', '.join(lacking)}: to be {how}", file=sys.stderr, flush=True)
     if lacking and not is_proved:
         run([f"{ROOT}/tools/build-program", *lacking, KEPT])

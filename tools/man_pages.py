@@ -36,7 +36,8 @@ def write_of_help(name: str, help: str, version: str, moment: int) -> str:
 
 def _head(name: str, about: str, version: str, moment: int) -> List[str]:
     date = time.strftime("%Y-%m-%d", time.gmtime(moment))
-    return [f'.TH {name.upper()} 1 "{date}" "jagyerti {version}" "User Commands"', ".SH NAME", f"{_plain(name)} \\- {_plain(about)}"]
+    return [f'.TH {name.upper()} 1 "{date}" "jagyerti {version}" "User Commands"', ".SH NAME",
+            f"{_plain(name)} \\- {_plain(about)}"]
 
 
 def _lines_of(parser: argparse.ArgumentParser, action: argparse.Action) -> List[str]:
