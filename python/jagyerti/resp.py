@@ -26,6 +26,10 @@ class ProtocolError(Exception):
     """What came is no reply."""
 
 
+class Encoded(bytes):
+    """A reply, or a part of one, that is written as it is sent: encode_reply does not change it."""
+
+
 class Reader(Protocol):
     """What replies are read from: a file that is open for binary reading."""
 
@@ -45,6 +49,33 @@ def encode(words: Iterable[Word]) -> bytes:
     """Returns a command as an array of bulk strings."""
     texts = [to_bytes(word) for word in words]
     return b"*%d\r\n" % len(texts) + b"".join(b"$%d\r\n%s\r\n" % (len(text), text) for text in texts)
+
+
+def encode_reply(value: Any, protocol: int = 3) -> bytes:
+    """Returns a reply as a server sends it: what a script of a server is made of.
+
+    Bytes and str are bulk strings, and a ReplyError is an error. Nil, bool, float and dict have types of their own in
+    RESP3. In RESP2 they are a null bulk string, an integer, a bulk string, and an array of keys and values.
+    """
+    if isinstance(value, Encoded):
+        return value
+    if value is None:
+        return b"_\r\n" if protocol == 3 else b"$-1\r\n"
+    if isinstance(value, ReplyError):
+        return b"-%s\r\n" % to_bytes(str(value))
+    if isinstance(value, bool):
+        return (b"#t\r\n" if value else b"#f\r\n") if protocol == 3 else b":%d\r\n" % value
+    if isinstance(value, int):
+        return b":%d\r\n" % value
+    if isinstance(value, float) and protocol == 3:
+        return b",%s\r\n" % to_bytes(repr(value))
+    if isinstance(value, dict):
+        parts = [encode_reply(part, protocol) for pair in value.items() for part in pair]
+        return (b"%%%d\r\n" % len(value) if protocol == 3 else b"*%d\r\n" % len(parts)) + b"".join(parts)
+    if isinstance(value, list):
+        return b"*%d\r\n" % len(value) + b"".join(encode_reply(part, protocol) for part in value)
+    text = to_bytes(repr(value) if isinstance(value, float) else value)
+    return b"$%d\r\n%s\r\n" % (len(text), text)
 
 
 def read_reply(reader: Reader) -> Reply:

@@ -38,6 +38,24 @@ WRONG = (b"\r\n", b"OK\r\n", b":x\r\n", b": 1\r\n", b":1_0\r\n", b"$x\r\n", b"$-
          b"$2\r\nabc\r\n", b"+a\n", b",1.x\r\n", b"HTTP/1.1 400 Bad Request\r\n", b"*1\r\n" * 100_000,
          b"+" + b"a" * resp.LONGEST_LINE + b"\r\n", b"~-1\r\n")
 
+# Values, and how RESP3 and RESP2 write them.
+ENCODED = (
+    (b"a\r\n", b"$3\r\na\r\n\r\n", b"$3\r\na\r\n\r\n"),
+    ("\u00e9\udcff", b"$3\r\n\xc3\xa9\xff\r\n", b"$3\r\n\xc3\xa9\xff\r\n"),
+    ("", b"$0\r\n\r\n", b"$0\r\n\r\n"),
+    (-3, b":-3\r\n", b":-3\r\n"),
+    (None, b"_\r\n", b"$-1\r\n"),
+    (True, b"#t\r\n", b":1\r\n"),
+    (False, b"#f\r\n", b":0\r\n"),
+    (1.25, b",1.25\r\n", b"$4\r\n1.25\r\n"),
+    (-math.inf, b",-inf\r\n", b"$4\r\n-inf\r\n"),
+    ([], b"*0\r\n", b"*0\r\n"),
+    ([1, [None]], b"*2\r\n:1\r\n*1\r\n_\r\n", b"*2\r\n:1\r\n*1\r\n$-1\r\n"),
+    ({"k": 1, "l": [{}]}, b"%2\r\n$1\r\nk\r\n:1\r\n$1\r\nl\r\n*1\r\n%0\r\n", b"*4\r\n$1\r\nk\r\n:1\r\n$1\r\nl\r\n*1\r\n*0\r\n"),
+    (resp.ReplyError("ERR no"), b"-ERR no\r\n", b"-ERR no\r\n"),
+    ([resp.Encoded(b"*-1\r\n"), resp.Encoded(b"+OK\r\n")], b"*2\r\n*-1\r\n+OK\r\n", b"*2\r\n*-1\r\n+OK\r\n"),
+)
+
 
 class Slow:
     """A reader that returns one byte of each read."""
@@ -54,6 +72,11 @@ class Replies(unittest.TestCase):
     def test_commands(self):
         self.assertEqual(resp.encode(["XADD", "k\u00e9y", b"\xff\r\n", 12]), b"*4\r\n$4\r\nXADD\r\n$4\r\nk\xc3\xa9y\r\n$3\r\n\xff\r\n\r\n$2\r\n12\r\n")
         self.assertEqual(resp.encode(["\udcff"]), b"*1\r\n$1\r\n\xff\r\n")
+
+    def test_replies_are_encoded(self):
+        for value, in_resp3, in_resp2 in ENCODED:
+            with self.subTest(value):
+                self.assertEqual((resp.encode_reply(value), resp.encode_reply(value, protocol=2)), (in_resp3, in_resp2))
 
     def test_whole(self):
         for text, value in REPLIES:
@@ -93,6 +116,13 @@ class Replies(unittest.TestCase):
                 self.assertEqual(resp.ask(ours, "PING"), value)
                 self.assertEqual(ours.recv(100), b"+next\r\n")
                 self.assertEqual(theirs.recv(100), b"*1\r\n$4\r\nPING\r\n")
+
+    def test_ask_all(self):
+        ours, theirs = socket.socketpair()
+        with ours, theirs:
+            theirs.sendall(b":1\r\n:2\r\n:3\r\n")
+            self.assertEqual(resp.ask_all(ours, [["A"], ["B"], ["C"]], at_once=2), [1, 2, 3])
+            self.assertEqual(theirs.recv(100), b"*1\r\n$1\r\nA\r\n*1\r\n$1\r\nB\r\n*1\r\n$1\r\nC\r\n")
 
     def test_ask_in_pieces(self):
         ours, theirs = socket.socketpair()
