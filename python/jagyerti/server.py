@@ -3,7 +3,6 @@ from __future__ import annotations
 
 import contextlib
 import ctypes
-import dataclasses
 import os
 import shutil
 import signal
@@ -11,22 +10,50 @@ import socket
 import subprocess
 import sys
 import tempfile
+import threading
 import time
-from typing import Iterator, List
+from typing import Iterator, List, Optional
 
 from . import connect, process, resp
 from .url import Address
 
-WAIT = 20.0  # seconds
+WAIT = 60.0  # seconds
 
 
-@dataclasses.dataclass(frozen=True)
 class Server:
-    """A server that runs: its port, its process, and the folder that it keeps its files in."""
+    """A server that runs: its port, its process, and the folder that it keeps its files in.
 
-    port: int
-    process: subprocess.Popen[bytes]
-    folder: str
+    It may be ended, and started again with the same words.
+    """
+
+    def __init__(self, words: List[str], port: int, folder: str) -> None:
+        self.words, self.port, self.folder = words, port, folder
+        self.start()
+
+    def start(self) -> None:
+        """Starts it, and waits until it has loaded its files. Raises connect.Failed if it ends or does not reply.
+
+        It is killed when the process ends that started it. A thread may end before: what it starts is not killed then.
+        """
+        is_main = threading.current_thread() is threading.main_thread()
+        self.process = subprocess.Popen(self.words, stdin=subprocess.DEVNULL, stdout=subprocess.DEVNULL,
+                                        preexec_fn=end_with_parent if is_main else None)
+        end = time.monotonic() + WAIT
+        while time.monotonic() < end and self.process.poll() is None:
+            if self._is_ready():
+                return
+            time.sleep(0.02)
+        self.end(signal.SIGKILL)
+        raise connect.Failed(f"the server on port {self.port} did not start")
+
+    def end(self, how: signal.Signals = signal.SIGTERM) -> None:
+        """Ends it by this signal, and by SIGKILL if it is still there after a minute."""
+        self.process.send_signal(how)
+        try:
+            self.process.wait(WAIT)
+        except subprocess.TimeoutExpired:
+            self.process.kill()
+            self.process.wait()
 
     @property
     def url(self) -> str:
@@ -42,6 +69,27 @@ class Server:
         with self.open() as connection:
             return resp.ask(connection, *words)
 
+    def _is_ready(self) -> bool:
+        try:
+            self.ask("PING")
+        except resp.ReplyError as error:
+            return error.code != "LOADING"
+        except (connect.Failed, resp.ProtocolError, OSError):
+            return False
+        return True
+
+
+class Redis(Server):
+    """A redis-server that keeps nothing on disk but its log, unless more words of its command line say so."""
+
+    def __init__(self, folder: str, *extra_words: str, port: Optional[int] = None) -> None:
+        program = shutil.which("redis-server")
+        if program is None:
+            raise connect.Failed("redis-server is not installed: apt-get install redis-server", connect.USAGE)
+        port = free_port() if port is None else port
+        super().__init__([program, "--port", str(port), "--bind", "127.0.0.1", "--dir", folder, "--save", "", "--appendonly", "no",
+                          "--logfile", os.path.join(folder, "log"), *extra_words], port, folder)
+
 
 def free_port() -> int:
     """Returns a port of the loopback at which nothing listens now."""
@@ -51,17 +99,14 @@ def free_port() -> int:
 
 
 @contextlib.contextmanager
-def start_redis(*extra_words: str) -> Iterator[Server]:
-    """Starts a redis-server that keeps nothing on disk, with these words of its command line more."""
-    program = shutil.which("redis-server")
-    if program is None:
-        raise connect.Failed("redis-server is not installed: apt-get install redis-server", connect.USAGE)
+def start_redis(*extra_words: str, port: Optional[int] = None) -> Iterator[Server]:
+    """Starts a redis-server in a folder of its own, at a free port or at this one."""
     with tempfile.TemporaryDirectory(prefix="redis-") as folder:
-        port = free_port()
-        words = [program, "--port", str(port), "--bind", "127.0.0.1", "--dir", folder, "--save", "", "--appendonly", "no",
-                 "--logfile", os.path.join(folder, "log"), *extra_words]
-        with _started(words, port, folder) as server:
+        server = Redis(folder, *extra_words, port=port)
+        try:
             yield server
+        finally:
+            server.end()
 
 
 @contextlib.contextmanager
@@ -71,34 +116,13 @@ def start_serve(*extra_words: str) -> Iterator[Server]:
         port = free_port()
         launch = f"import sys; sys.path.insert(0, {process.PACKAGES!r}); from jagyerti.cli import main; sys.exit(main(sys.argv[1:]))"
         words = [sys.executable, "-I", "-c", launch, "serve", "--port", str(port), *extra_words]
-        with _started(words, port, folder) as server:
-            yield server
-
-
-@contextlib.contextmanager
-def _started(words: List[str], port: int, folder: str) -> Iterator[Server]:
-    running = subprocess.Popen(words, stdin=subprocess.DEVNULL, stdout=subprocess.DEVNULL, preexec_fn=_end_with_parent)
-    try:
-        _wait_for(running, port)
-        yield Server(port, running, folder)
-    finally:
-        running.terminate()
+        server = Server(words, port, folder)
         try:
-            running.wait(WAIT)
-        except subprocess.TimeoutExpired:
-            running.kill()
-            running.wait()
+            yield server
+        finally:
+            server.end()
 
 
-def _end_with_parent() -> None:
+def end_with_parent() -> None:
+    """Has this process killed when the thread ends that started it: for subprocess's preexec_fn."""
     ctypes.CDLL(None).prctl(1, signal.SIGKILL, 0, 0, 0)
-
-
-def _wait_for(running: subprocess.Popen[bytes], port: int) -> None:
-    end = time.monotonic() + WAIT
-    while time.monotonic() < end and running.poll() is None:
-        with contextlib.suppress(OSError):
-            socket.create_connection(("127.0.0.1", port), timeout=1).close()
-            return
-        time.sleep(0.02)
-    raise connect.Failed(f"the server on port {port} did not start")

@@ -14,7 +14,6 @@ import unittest
 import jagyerti
 from jagyerti import Connection, Consumer, Entry, NotConnected, ServerError, commands, server
 
-from .servers import redis_at
 
 PACKAGES = os.path.dirname(os.path.dirname(jagyerti.__file__))
 README = os.path.join(os.path.dirname(os.path.dirname(os.path.abspath(__file__))), "README.md")
@@ -120,7 +119,7 @@ class PageTest(unittest.TestCase):
             assert worker.stdout is not None
             try:
                 for number in ("1-0", "2-0"):
-                    with redis_at(port):
+                    with server.start_redis(port=port):
                         with Connection.open(f"redis://127.0.0.1:{port}") as connection:
                             connection.value_of(commands.xadd("orders", {"item": "tea"}, number))
                         self.assertEqual(worker.stdout.readline(), f"{number}\n")

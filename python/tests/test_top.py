@@ -23,7 +23,6 @@ from typing import Callable, Optional, Tuple
 from jagyerti import connect, monitor, process, screen, server
 
 from .scripted import scripted
-from .servers import redis_at
 from .test_dead_letters import called
 
 PACKAGES = process.PACKAGES
@@ -158,7 +157,7 @@ class TopTest(unittest.TestCase):
         self.server.process.kill()
         self.server.process.wait()
         self.assertTrue(one.read_until(lambda text: "not current: " in text), one.text[-2000:])
-        with redis_at(port) as again:
+        with server.start_redis(port=port) as again:
             again.ask("XGROUP", "CREATE", "orders", "billing", "0", "MKSTREAM")
             self.assertTrue(one.read_until(lambda text: "billing" in text), one.text[-2000:])
         os.write(one.main, b"q")
