@@ -24,7 +24,10 @@ class Failed(Exception):
 
 @dataclasses.dataclass(frozen=True)
 class Options:
-    """How to connect. A protocol is 2 or 3; without one no HELLO is sent. The files are those of TLS."""
+    """How to connect. The files are those of TLS.
+
+    A protocol is 2 or 3. Without one, here and in the address, no HELLO is sent. Protocol and name go before the address's.
+    """
 
     timeout: float = 10.0
     protocol: Optional[int] = None
@@ -115,14 +118,15 @@ def _log_in(connection: socket.socket, address: Address, options: Options) -> No
 def _greeting(address: Address, options: Options) -> List[List[Union[str, int]]]:
     """Returns the commands of a new connection, in order."""
     user, password = address.user, address.password
+    protocol, name = options.protocol or address.protocol, options.client_name or address.client_name
     commands: List[List[Union[str, int]]] = []
-    if options.protocol:
+    if protocol:
         login = ["AUTH", user or "default", password] if password is not None else []
-        commands.append(["HELLO", options.protocol, *login])
+        commands.append(["HELLO", protocol, *login])
     elif password is not None:
         commands.append(["AUTH", *([user] if user else []), password])
     if address.database:
         commands.append(["SELECT", address.database])
-    if options.client_name:
-        commands.append(["CLIENT", "SETNAME", options.client_name])
+    if name:
+        commands.append(["CLIENT", "SETNAME", name])
     return commands

@@ -55,8 +55,8 @@ def words_of_partition(words: Sequence[str], place: int, at: int) -> List[str]:
 
 def open_node(plan: Plan) -> Callable[[str, int], Any]:
     """Returns what connects to a node, to ask it something."""
-    options = dataclasses.replace(plan.options, client_name=None)
-    return lambda host, port: connect.open(plan.servers[0].at(host, port), options)
+    options, server = dataclasses.replace(plan.options, client_name=None), dataclasses.replace(plan.servers[0], client_name=None)
+    return lambda host, port: connect.open(server.at(host, port), options)
 
 
 class Partition(Tries):

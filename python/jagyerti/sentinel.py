@@ -16,7 +16,7 @@ def find_master(sentinels: Sequence[Address], name: str, options: connect.Option
     plain = dataclasses.replace(options, protocol=None, client_name=None)
     failed = connect.Failed("no sentinel is named")
     for sentinel in sentinels:
-        bare = dataclasses.replace(sentinel, user=None, password=None, database=0)
+        bare = dataclasses.replace(sentinel, user=None, password=None, database=0, protocol=None, client_name=None)
         try:
             with connect.open(bare, plain) as connection:
                 reply = resp.ask(connection, "SENTINEL", "GET-MASTER-ADDR-BY-NAME", name)

@@ -4,15 +4,17 @@
     rediss://[user[:password]@]host[:port][/database]      TLS
     unix://[user:password@]/path[?db=database]             a Unix socket
 
-User, password and path are percent-decoded. An IPv6 address is in brackets. A host that is left out is 127.0.0.1.
+User, password and path are percent-decoded. An IPv6 address is in brackets. A host that is left out is 127.0.0.1. Each of
+them may have settings at its end, with & between them: ?protocol=3&name=NAME. protocol is 2 or 3, the version that HELLO
+says, and name is what CLIENT SETNAME says. No other settings are known.
 """
 from __future__ import annotations
 
 import dataclasses
 import os
 import re
-from typing import List, Optional
-from urllib.parse import unquote_to_bytes
+from typing import Dict, List, Optional
+from urllib.parse import quote, unquote_to_bytes
 
 PORT = 6379
 SENTINEL_PORT = 26379
@@ -35,6 +37,8 @@ class Address:
     user: Optional[str] = None
     password: Optional[str] = dataclasses.field(default=None, repr=False)
     database: int = 0
+    protocol: Optional[int] = None
+    client_name: Optional[str] = None
 
     @classmethod
     def parse(cls, text: str) -> Address:
@@ -67,8 +71,10 @@ class Address:
 
     def __str__(self) -> str:
         login = f"{self.user or ''}{':***' if self.password is not None else ''}"
-        tail = (f"?db={self.database}" if self.is_unix else f"/{self.database}") if self.database else ""
-        return f"{self.scheme}://{login}{'@' if login else ''}{self.place}{tail}"
+        database = f"/{self.database}" if self.database and not self.is_unix else ""
+        settings = {"db": self.database if self.is_unix else 0, "protocol": self.protocol, "name": self.client_name}
+        query = "&".join(f"{name}={quote(os.fsencode(str(value)))}" for name, value in settings.items() if value)
+        return f"{self.scheme}://{login}{'@' if login else ''}{self.place}{database}{'?' if query else ''}{query}"
 
 
 def parse_all(text: str, port: int = PORT) -> List[Address]:
@@ -79,16 +85,18 @@ def parse_all(text: str, port: int = PORT) -> List[Address]:
     found = FORM.fullmatch(text)
     if not found or found["scheme"] not in ("redis", "rediss", "unix"):
         raise UrlError("wanted redis://HOST:PORT, rediss://HOST:PORT or unix:///PATH")
-    scheme, place = found["scheme"], found["place"]
+    scheme, (place, _, query) = found["scheme"], found["place"].partition("?")
     user, password = _login(found["login"])
+    settings = _settings(scheme, query)
+    protocol, name = int(settings.get("protocol", 0)) or None, settings.get("name")
     if scheme == "unix":
-        path, _, query = place.partition("?")
-        if not path.startswith("/"):
+        if not place.startswith("/"):
             raise UrlError("unix://: wanted an absolute path, as in unix:///run/redis/redis.sock")
-        return [Address(scheme, "", 0, _decoded(path), user, password, _database_of_query(query))]
-    hosts, _, database = place.partition("/")
-    places = [_host_and_port(scheme, one, port) for one in hosts.split(",")]
-    return [Address(scheme, host, number, "", user, password, _database(scheme, database)) for host, number in places]
+        database = _database(scheme, settings.get("db", ""))
+        return [Address(scheme, "", 0, _decoded(place), user, password, database, protocol, name)]
+    hosts, _, after = place.partition("/")
+    places, database = [_host_and_port(scheme, one, port) for one in hosts.split(",")], _database(scheme, after)
+    return [Address(scheme, host, number, "", user, password, database, protocol, name) for host, number in places]
 
 
 def from_words(text: Optional[str]) -> Address:
@@ -147,11 +155,19 @@ def _host_and_port(scheme: str, text: str, port: int) -> tuple[str, int]:
     return found[1] or _decoded(found[2]) or "127.0.0.1", port
 
 
-def _database_of_query(query: str) -> int:
-    name, _, value = query.partition("=")
-    if query and name != "db":
-        raise UrlError(f"unix://: ?{query} is unknown: wanted ?db=N")
-    return _database("unix", value)
+def _settings(scheme: str, query: str) -> Dict[str, str]:
+    """Returns what the URL says after the question mark. Each setting may be there once."""
+    known, found = (*(["db"] if scheme == "unix" else []), "protocol", "name"), {}
+    for setting in query.split("&") if query else []:
+        name, _, value = setting.partition("=")
+        if name not in known:
+            raise UrlError(f"{scheme}://: the setting {name!r} is unknown: wanted {', '.join(known)}")
+        if name in found or not value:
+            raise UrlError(f"{scheme}://: the setting {name} is there more than once, or without a value")
+        found[name] = _decoded(value)
+    if found.get("protocol", "2") not in ("2", "3"):
+        raise UrlError(f"{scheme}://: the protocol {found['protocol']!r} is not 2 or 3")
+    return found
 
 
 def _database(scheme: str, text: str) -> int:

@@ -20,6 +20,9 @@ SEQUENCES = (
     (":secret@", {"protocol": 3}, [HELLO], ["HELLO 3 AUTH default secret"]),
     ("ann:secret@", {"protocol": 2}, [HELLO], ["HELLO 2 AUTH ann secret"]),
     ("ann:secret@/4", {"client_name": "me"}, [OK, OK, OK], ["AUTH ann secret", "SELECT 4", "CLIENT SETNAME me"]),
+    ("?protocol=3&name=you", {}, [HELLO, OK], ["HELLO 3", "CLIENT SETNAME you"]),
+    (":secret@/4?protocol=3&name=you", {"protocol": 2, "client_name": "me"}, [HELLO, OK, OK],
+     ["HELLO 2 AUTH default secret", "SELECT 4", "CLIENT SETNAME me"]),
     ("/4", {"protocol": 3, "client_name": "me"}, [HELLO, OK, OK], ["HELLO 3", "SELECT 4", "CLIENT SETNAME me"]),
 )
 

@@ -20,13 +20,20 @@ TAKEN = {
     "redis://[::1]": ("redis", "::1", 6379, "", None, None, 0),
     "rediss://ann:x@[fe80::1]:7001/15": ("rediss", "fe80::1", 7001, "", "ann", "x", 15),
     "redis://:65535": ("redis", "127.0.0.1", 65535, "", None, None, 0),
+    "redis://h?protocol=3&name=me": ("redis", "h", 6379, "", None, None, 0, 3, "me"),
+    "redis://:secret@h:1/2?name=a%26b%20%C3%A9": ("redis", "h", 1, "", None, "secret", 2, None, "a&b \u00e9"),
+    "redis://ann:a?protocol=3@h?protocol=2": ("redis", "h", 6379, "", "ann", "a?protocol=3", 0, 2, None),
+    "redis://h?": ("redis", "h", 6379, "", None, None, 0),
+    "unix:///run/redis.sock?name=me&db=2&protocol=3": ("unix", "", 0, "/run/redis.sock", None, None, 2, 3, "me"),
     "unix:///run/redis.sock": ("unix", "", 0, "/run/redis.sock", None, None, 0),
     "unix://ann:x@/run/a%20b.sock?db=2": ("unix", "", 0, "/run/a b.sock", "ann", "x", 2),
 }
 REFUSED = ("", "db.example:6379", "http://db.example", "redis:/db.example", "redis://h:0", "redis://h:65536", "redis://h:x",
            "redis://h:-1", "redis://::1", "redis://[::1", "redis://h/one", "redis://h/-1", "redis://h?db=1", "redis://h/1?x=2",
            "redis://ann:%zz@h", "redis://ann:secret%@h", "unix://run/redis.sock", "unix:///run/redis.sock?database=1",
-           "unix:///run/redis.sock?db=x", "REDIS://h")
+           "unix:///run/redis.sock?db=x", "REDIS://h", "redis://h?protocol=4", "redis://h?protocol=", "redis://h?protocol=03",
+           "redis://h?protocol=2&protocol=3", "redis://h?name=", "redis://h?name=a&", "redis://h?name", "redis://h?name=%zz",
+           "redis://:secret@h?timeout=3", "rediss://h?db=1")
 
 
 def cleared(**variables):
@@ -55,9 +62,19 @@ class Urls(unittest.TestCase):
         self.assertEqual(str(url.Address.parse("unix://:secret@/run/s?db=4")), "unix://:***@/run/s?db=4")
         self.assertEqual(str(url.Address.parse("rediss://h")), "rediss://h:6379")
 
+    def test_text_has_the_settings(self):
+        for text in ("redis://h:1/2?protocol=3&name=a%26b", "unix:///run/s?db=4&protocol=2&name=me", "redis://h:1?name=me"):
+            self.assertEqual(str(url.Address.parse(text)), text)
+
+    def test_unknown_settings_are_named(self):
+        for text in ("redis://h?timeout=3", "redis://h?protocol=3&timeout=3", "unix:///s?timeout=3"):
+            with self.subTest(text), self.assertRaisesRegex(url.UrlError, "'timeout' is unknown: wanted .*protocol, name"):
+                url.Address.parse(text)
+
     def test_several_hosts(self):
         places = [(one.host, one.port, one.password) for one in url.parse_all("redis://:x@a:1,[::1]:2,c")]
         self.assertEqual(places, [("a", 1, "x"), ("::1", 2, "x"), ("c", 6379, "x")])
+        self.assertEqual([(one.port, one.protocol) for one in url.parse_all("redis://a,b:2?protocol=3")], [(6379, 3), (2, 3)])
         self.assertEqual([one.port for one in url.parse_all("redis://a,b:7", url.SENTINEL_PORT)], [26379, 7])
         with self.assertRaises(url.UrlError):
             url.Address.parse("redis://a,b")

@@ -20,7 +20,7 @@ def take_words(arguments: argparse.Namespace) -> Tuple[List[url.Address], List[s
         if word.startswith("-") and word != "-":
             raise connect.Failed(f"{word} is unknown: jagyerti {arguments.subcommand} --help", connect.USAGE)
     given, words = take_url(arguments.words + arguments.rest)
-    servers = url.all_from_words(given)
+    servers = url.all_from_words(given, url.PORT if arguments.sentinel is None else url.SENTINEL_PORT)
     if len(servers) > 1 and arguments.sentinel is None:
         raise connect.Failed("several hosts are for --sentinel", connect.USAGE)
     return servers, words + arguments.after
