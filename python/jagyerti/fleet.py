@@ -68,6 +68,7 @@ class Partition(Tries):
         self.state: State = {"at": at, "node": None, "state": "begins", "entries": None, "to_come": None, "pending": None,
                              "starts": 0, "moved": 0, "ask": 0, "waits": 0, "figures": {}}
         self.before, self.tries, self.redirections = 0, 0, 0
+        self.remedy = ""
         self.pauses = Pauses(plan.pause, FIRST_PAUSE)
         self.target: Optional[cluster.Place] = None
         self.server: Optional[Address] = None
@@ -83,8 +84,10 @@ class Partition(Tries):
         self.tell(self.state)
 
     def hear(self, line: str) -> bool:
-        """Takes the counts and the error. Nothing is shown but the table."""
+        """Takes the counts, the error, and the lines after it. Nothing is shown but the table."""
+        before = self.error
         super().hear(line)
+        self.remedy = self.remedy + f"\n{line}" if self.error and self.error is before else ""
         self.held_counts = self.held_error = ""
         return False
 
@@ -112,7 +115,7 @@ class Partition(Tries):
     def try_all(self) -> int:
         """Runs it until it is done, or no try helps."""
         while True:
-            self.error, self.entries, self.started = "", 0, None
+            self.error, self.remedy, self.entries, self.started = "", "", 0, None
             try:
                 status, may_help = self.run_once(self._found_and_counted)
                 text = self.error[7:].strip()
@@ -145,7 +148,7 @@ class Partition(Tries):
         code = answered.partition(" ")[0]
         passes = code in PASSING if answered else bool(BROKE.search(text)) or not self.error
         if not passes and (not may_help or self.tries >= self.plan.retry):
-            self.say(text or f"ended with {status}")
+            self.say((text or f"ended with {status}") + self.remedy)
             return False
         self.tries += not passes
         if (not text or code in SAME_SERVER) and self.server is not None:

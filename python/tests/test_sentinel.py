@@ -11,11 +11,11 @@ MASTER = b"*2\r\n$9\r\n127.0.0.2\r\n$4\r\n7001\r\n"
 class Sentinels(unittest.TestCase):
     def find(self, *ports):
         places = ",".join(f"127.0.0.1:{port}" for port in ports)
-        return sentinel.find_master(url.parse_all(f"redis://ann:secret@{places}/3"), "orders", connect.Options(protocol=3))
+        return sentinel.find_master(url.parse_all(f"redis://ann:secret@{places}/3?protocol=3&name=me"), "orders", connect.Options(protocol=3))
 
     def test_master_has_the_login(self):
         with scripted([MASTER]) as (port, noted):
-            self.assertEqual(self.find(port), url.Address("redis", "127.0.0.2", 7001, "", "ann", "secret", 3))
+            self.assertEqual(self.find(port), url.Address("redis", "127.0.0.2", 7001, "", "ann", "secret", 3, 3, "me"))
         self.assertEqual(noted, [[b"SENTINEL", b"GET-MASTER-ADDR-BY-NAME", b"orders"]])
 
     def test_next_sentinel_is_asked(self):
