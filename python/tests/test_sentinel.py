@@ -1,7 +1,9 @@
 """The master that sentinels report, and the nodes that a cluster reports."""
+import argparse
 import unittest
 
 from jagyerti import cluster, connect, sentinel, server, url
+from jagyerti.cli import reach
 
 from .scripted import scripted
 
@@ -27,6 +29,17 @@ class Sentinels(unittest.TestCase):
             self.find(port)
         with scripted([b"-ERR unknown command\r\n"]) as (port, _), self.assertRaisesRegex(connect.Failed, "ERR unknown command"):
             self.find(port)
+
+
+class Words(unittest.TestCase):
+    def ports(self, master):
+        words = argparse.Namespace(words=["redis://a,b:7" if master else "redis://a", "orders"], rest=[], after=[], sentinel=master)
+        servers, left = reach.take_words(words)
+        self.assertEqual(left, ["orders"])
+        return [one.port for one in servers]
+
+    def test_sentinels_have_their_port(self):
+        self.assertEqual((self.ports("orders"), self.ports(None)), ([26379, 7], [6379]))
 
 
 class Nodes(unittest.TestCase):

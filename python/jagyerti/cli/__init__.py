@@ -19,8 +19,9 @@ NAMES = ("drain", "fill", "sqlite", "top", "serve", "connect", "dead", "doctor",
 
 EPILOG = """\
 URL is redis://[user[:password]@]host[:port][/database], rediss:// for TLS, or unix://[user:password@]/path[?db=N], as
-redis-cli's -u has it. If it is left out, REDIS_URL is the server. REDISCLI_AUTH is the password and REDISCLI_USER the
-user's name, if the URL has none. A password of the command line is taken out of what 'ps' shows at once.
+redis-cli's -u has it. It may end with ?protocol=3&name=NAME, as --protocol and --name say it. If it is left out,
+REDIS_URL is the server. REDISCLI_AUTH is the password and REDISCLI_USER the user's name, if the URL has none. A password
+of the command line is taken out of what 'ps' shows at once.
 
 example: jagyerti drain redis://127.0.0.1:6379 orders packers ann orders.txt --until-empty
 """
