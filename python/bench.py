@@ -18,24 +18,20 @@ from typing import Any, Callable
 
 sys.path.insert(0, os.path.dirname(os.path.abspath(__file__)))
 import jagyerti  # noqa: E402
+from jagyerti import resp  # noqa: E402
 
 RUNS = 3
 SECONDS = 0.3  # so long each run takes at least
 PIECE = 65536
 
 
-def bulk(text: str) -> bytes:
-    return f"${len(text)}\r\n{text}\r\n".encode()
-
-
 def reply_of(entries: int) -> bytes:
     """A reply in RESP2: entries of four fields."""
-    rows = []
+    rows: list[Any] = []
     for at in range(entries):
-        words = ["customer", f"c{at % 977:05}", "item", f"tea-{at % 13:03}", "cups", str(at % 9), "paid", f"{at % 4000 / 100:.2f}"]
-        fields = "".join(bulk(word).decode() for word in words).encode()
-        rows.append(b"*2\r\n" + bulk(f"{1526919030474 + at}-0") + b"*8\r\n" + fields)
-    return b"*1\r\n*2\r\n" + bulk("orders") + b"*%d\r\n" % entries + b"".join(rows)
+        fields = ["customer", f"c{at % 977:05}", "item", f"tea-{at % 13:03}", "cups", str(at % 9), "paid", f"{at % 4000 / 100:.2f}"]
+        rows.append([f"{1526919030474 + at}-0", fields])
+    return resp.encode_reply([["orders", rows]])
 
 
 class Pieces:
