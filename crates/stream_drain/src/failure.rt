@@ -1,8 +1,6 @@
 //! Why the program ends before it is asked to.
 use anyhow::Error;
-use command_lines::remedy_of;
 use redis_connection::AskError;
-use std::alloc::{AllocError, Global};
 use stream_feed::ConfirmError;
 use stream_letters::SearchError;
 use stream_worker::RunError;
@@ -32,42 +30,4 @@ impl From<Error> for Failure {
     fn from(error: Error) -> Failure {
         Failure::Other(error)
     }
-}
-
-impl Failure {
-    /// What is shown of it: an error of the server whole, and what to do about it. A control character, which could steer
-    /// a terminal, is shown as `?`.
-    pub(crate) fn text(&self, alloc: Global) -> Result<String, AllocError> {
-        if let Failure::Other(error) = self {
-            let text = format!(in alloc; "{error:?}")?;
-            return masked(alloc, &text, true);
-        }
-        let text = format!(in alloc; "{self}")?;
-        let mut text = masked(alloc, &text, false)?;
-        let remedy = match code_in(&text) {
-            Some(code) => remedy_of(code),
-            None => None,
-        };
-        if let Some(remedy) = remedy {
-            text.push_str("\n")?;
-            text.push_str(remedy)?;
-        }
-        Ok(text)
-    }
-}
-
-/// The code of the server's error that a text names.
-fn code_in(text: &str) -> Option<&str> {
-    let (_, error) = text.split_once("the server answers ")?;
-    error.split(' ').next()
-}
-
-/// The text with `?` for each control character. Line feeds may stay.
-fn masked(alloc: Global, text: &str, keeps_lines: bool) -> Result<String, AllocError> {
-    let mut shown = String::new(alloc);
-    for letter in text.chars() {
-        let is_shown = !letter.is_control() || keeps_lines && letter == '\n';
-        shown.push(if is_shown { letter } else { '?' })?;
-    }
-    Ok(shown)
 }

@@ -39,7 +39,7 @@ use crate::options::{Options, options_of};
 use crate::report::Report;
 use crate::resume::{Start, begun};
 use anyhow::{Context, Error, Result, anyhow};
-use command_lines::tell;
+use command_lines::{remedy_of, tell};
 use line_log::{LogError, SystemFile};
 use redis_connection::Connection;
 use redis_wire::Limits;
@@ -67,9 +67,45 @@ fn main(rt: HostRuntime) -> Result<ExitCode> {
 
 /// Shows on standard error why the program ends.
 fn show_failure(rt: &HostRuntime, failure: &Failure) -> Result<()> {
-    let text = failure.text(rt.alloc())?;
+    let text = text_of(rt.alloc(), failure)?;
     eprintln!(rt; "Error: {text}")?;
     Ok(())
+}
+
+/// What is shown of a failure: an error of the server whole, and what to do about it. A control character, which could
+/// steer a terminal, is shown as `?`.
+fn text_of(alloc: Global, failure: &Failure) -> Result<String, AllocError> {
+    if let Failure::Other(error) = failure {
+        let text = format!(in alloc; "{error:?}")?;
+        return masked(alloc, &text, true);
+    }
+    let text = format!(in alloc; "{failure}")?;
+    let mut text = masked(alloc, &text, false)?;
+    let remedy = match code_in(&text) {
+        Some(code) => remedy_of(code),
+        None => None,
+    };
+    if let Some(remedy) = remedy {
+        text.push_str("\n")?;
+        text.push_str(remedy)?;
+    }
+    Ok(text)
+}
+
+/// The code of the server's error that a text names.
+fn code_in(text: &str) -> Option<&str> {
+    let (_, error) = text.split_once("the server answers ")?;
+    error.split(' ').next()
+}
+
+/// The text with `?` for each control character. Line feeds may stay.
+fn masked(alloc: Global, text: &str, keeps_lines: bool) -> Result<String, AllocError> {
+    let mut shown = String::new(alloc);
+    for letter in text.chars() {
+        let is_shown = !letter.is_control() || keeps_lines && letter == '\n';
+        shown.push(if is_shown { letter } else { '?' })?;
+    }
+    Ok(shown)
 }
 
 /// The words that the program is called with.
