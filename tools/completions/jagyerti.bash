@@ -13,7 +13,7 @@ _jagyerti_options() {
     case $1 in
         stream_drain) echo --from --count --block --idle --every --dead --json --look-up --quiet --until-empty --wait --help --version ;;
         stream_fill) echo --field --json --batch --base --wait --help --version ;;
-        stream_sqlite) echo --from --count --block --idle --every --table --columns --forward --until-empty --help --version ;;
+        stream_sqlite) echo --from --count --block --idle --every --dead --table --columns --forward --until-empty --help --version ;;
         stream_top) echo --json --openmetrics --once --help --version ;;
         stream_serve) ;;
         *) "$_jagyerti_tools/$1" --help 2>/dev/null </dev/null | grep -oE -- '--[a-z][a-z-]*' | sort -u ;;

@@ -1,5 +1,5 @@
 //! What the program says of its progress.
-ghost use Rattle.std.specs.Prelude.{◌≡◌, Some};
+ghost use Rattle.std.specs.Prelude.{◌≡◌, None, Some};
 ghost use Rattle.stream_sqlite.specs.Report.{report_text};
 
 use std::fmt;
@@ -9,16 +9,19 @@ use std::fmt;
 pub struct Report {
     pub entries: u64,
     pub batches: u64,
+    /// So many dead letters were sent, if any may be.
+    pub letters: Option<u64>,
 }
 
 impl Report {
     /// Nothing was done yet.
     pub fn new() -> Report
-        ensures { (result.entries ≡ 0) × (result.batches ≡ 0) }
+        ensures { (result.entries ≡ 0) × (result.batches ≡ 0) × (result.letters ≡ None) }
     {
         Report {
             entries: 0,
             batches: 0,
+            letters: None,
         }
     }
 
@@ -32,11 +35,19 @@ impl Report {
 }
 
 impl fmt::Display for Report {
-    ghost output = { λ r. Some (report_text r.entries r.batches) };
+    ghost output = { λ r. Some (report_text r.entries r.batches r.letters) };
 
     fn fmt<W: fmt::Write>(&self, f: &mut fmt::Formatter<W>) -> fmt::Result {
         let entries = self.entries;
         let batches = self.batches;
-        write!(f, "{entries} entries in {batches} batches")
+        match self.letters {
+            Some(letters) => {
+                write!(
+                    f,
+                    "{entries} entries in {batches} batches, {letters} dead letters"
+                )
+            }
+            None => write!(f, "{entries} entries in {batches} batches"),
+        }
     }
 }
