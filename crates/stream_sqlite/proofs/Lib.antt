@@ -1,3 +1,4 @@
 -- Lemmas.
 mod ForwardLemmas
 mod LookLemmas
+mod ProgramLemmas

@@ -1,5 +1,5 @@
 //! The loop of the program: it asks, and takes the answers.
-ghost use Rattle.std.specs.Prelude.{◌≡◌, IfOk, IsTrue, OnErr, OnOk, false};
+ghost use Rattle.std.specs.Prelude.{◌≡◌, [], IfOk, IsTrue, OnErr, OnOk, false};
 ghost use Rattle.stream_letters.specs.Besides.{Besides, BreaksBesides};
 ghost use Rattle.stream_loop.specs.Loop.{Loops, Stops};
 ghost use Rattle.stream_table.specs.Lived.{Leads};
@@ -33,6 +33,7 @@ pub fn drain<R: Read + Drop, W: Write + Drop, T: Table + Drop, P: Eprint + Alloc
     until_empty: bool,
 ) -> Result<()>
     ensures ended { IfOk result (λ _. IsTrue until_empty) }
+    ensures committed { IfOk result (λ _. (⟦<Rows<T> as Handler>⟧.history rows.new).loose ≡ []) }
     ensures ok { OnOk result (Leads (Loops worker.old.settings) connection.old connection.new
         (standing_of worker.old (⟦<Rows<T> as Handler>⟧.history rows.old))
         (standing_of worker.new (⟦<Rows<T> as Handler>⟧.history rows.new))) }
@@ -44,7 +45,7 @@ pub fn drain<R: Read + Drop, W: Write + Drop, T: Table + Drop, P: Eprint + Alloc
     for _ in 0..u64::MAX {
         let seen = rows.seen;
         asked = turn(rt, connection, worker, rows, report, dead, asked)?;
-        if until_empty && asked == Asked::New && rows.seen == seen {
+        if until_empty && asked == Asked::New && rows.seen == seen && rows.is_committed() {
             return Ok(());
         }
     }

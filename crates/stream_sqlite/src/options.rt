@@ -1,5 +1,7 @@
 //! The words that the program is called with.
 ghost use Rattle.std.specs.Prelude.{◌≤◌, length, IfOk};
+ghost use Rattle.clap.specs.Words.{found_of};
+ghost use Rattle.stream_sqlite.specs.Program.{HasSameNames, IsNamedBy};
 
 use clap::builder::ValueParser;
 use clap::{Arg, ArgMatches, Command, Error};
@@ -110,7 +112,9 @@ fn settings_of(
     alloc: Global,
     command: &mut Command<'_>,
     matches: &ArgMatches<'_>,
-) -> Result<Settings, Error> {
+) -> Result<Settings, Error>
+    ensures { IfOk result (IsNamedBy (found_of matches.now)) }
+{
     let mut settings = named(alloc, command, matches)?;
     if let Some(count) = COUNT.of(matches)
         && let Err(error) = settings.set_count(count as usize)
@@ -131,7 +135,9 @@ fn named(
     alloc: Global,
     command: &mut Command<'_>,
     matches: &ArgMatches<'_>,
-) -> Result<Settings, Error> {
+) -> Result<Settings, Error>
+    ensures { IfOk result (IsNamedBy (found_of matches.now)) }
+{
     let key = String::from_str(alloc, word_of(matches, "KEY"))?;
     let group = String::from_str(alloc, word_of(matches, "GROUP"))?;
     let consumer = String::from_str(alloc, word_of(matches, "CONSUMER"))?;
@@ -141,7 +147,9 @@ fn named(
     }
 }
 
-fn set_times(settings: &mut Settings, matches: &ArgMatches<'_>) {
+fn set_times(settings: &mut Settings, matches: &ArgMatches<'_>)
+    ensures { HasSameNames settings.old settings.new }
+{
     if let Some(block) = BLOCK.of(matches) {
         settings.set_block(block as usize);
     }

@@ -1,5 +1,5 @@
 //! The loop of the program where the entries go on to another stream.
-ghost use Rattle.std.specs.Prelude.{◌≡◌, IfOk, IsTrue, OnErr, OnOk};
+ghost use Rattle.std.specs.Prelude.{◌≡◌, [], IfOk, IsTrue, OnErr, OnOk};
 ghost use Rattle.stream_loop.specs.Loop.{Loops, Stops};
 ghost use Rattle.stream_sqlite.specs.Forwards.{AllWent, Ends, Forwards};
 ghost use Rattle.stream_table.specs.Lived.{Leads};
@@ -28,6 +28,7 @@ pub fn forward<R: Read + Drop, W: Write + Drop, T: WithOutbox + Drop, P: Eprint 
     until_empty: bool,
 ) -> Result<()>
     ensures ended { IfOk result (λ _. IsTrue until_empty) }
+    ensures committed { IfOk result (λ _. (⟦<Forwarding<T> as Handler>⟧.history rows.new).loose ≡ []) }
     ensures ok { OnOk result (Forwards worker.old.settings connection.old (T.committed rows.old.table)
         (standing_of worker.old (⟦<Forwarding<T> as Handler>⟧.history rows.old)) connection.new
         (T.committed rows.new.table)
@@ -41,7 +42,7 @@ pub fn forward<R: Read + Drop, W: Write + Drop, T: WithOutbox + Drop, P: Eprint 
     for _ in 0..u64::MAX {
         let seen = rows.seen;
         asked = pass(rt, connection, worker, rows, report, dead, asked)?;
-        if until_empty && asked == Asked::New && rows.seen == seen {
+        if until_empty && asked == Asked::New && rows.seen == seen && rows.is_committed() {
             return Ok(());
         }
     }
