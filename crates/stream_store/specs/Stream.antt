@@ -1,5 +1,5 @@
 -- What a stream and a group show, and how they change.
-use Rattle.std.specs.Prelude.{◌≡◌, ◌≢◌, ◌<◌, ℕ, ℤ, pos, ◌+ℤ◌, List, [], ◌∷◌, ◌++◌, length, remove}
+use Rattle.std.specs.Prelude.{◌≡◌, ◌≢◌, ◌≤◌, ◌<◌, ◌+◌, ◌-◌, ℕ, ℤ, pos, ◌+ℤ◌, List, [], ◌∷◌, ◌++◌, length, remove, slice_set as set, sum_by, take}
 use Rattle.std.specs.Int.{w64, saturate_signed}
 use Rattle.std.specs.declared.cmp.Ordering.TheVariants.{Greater}
 use Rattle.std.specs.List.{HoldsAt}
@@ -63,3 +63,27 @@ pub record IsTombstoneFrom (id : EntryId) (s : Stream) : Type 0 where
   pub deleted : s.max_deleted_id ≢ record { milliseconds = 0; sequence = 0 }
   pub first : id_order (first_id_of s.entries.items) s.max_deleted_id ≢ Greater
   pub behind : id_order id s.max_deleted_id ≢ Greater
+
+-- the entry at this index is one of those of the node at this place
+abbrev pub IsWithin : ℕ → List Node → ℕ → Type 0
+IsWithin index nodes place = (sum_by (λ node. node.live) (take place nodes) ≤ index)
+    × (index < sum_by (λ node. node.live) (take (place + 1) nodes))
+
+-- the node at this place has one entry less, and one that had no other is gone
+pub record IsOneLess (place : ℕ) (old new : List Node) : Type 0 where
+  pub node : Node
+  pub named : HoldsAt (λ n. n ≡ node) old place
+  pub less : 1 < node.live → new ≡ set old place (record node { live = node.live - 1 })
+  pub last : node.live ≤ 1 → new ≡ remove old place
+
+-- so it is of the node of the entry at this index
+pub record IsLessAt (index : ℕ) (old new : List Node) : Type 0 where
+  pub place : ℕ
+  pub within : IsWithin index old place
+  pub less : IsOneLess place old new
+
+-- The node of the entry with this id has one entry less, if the nodes count the entries.
+pub record IsLessInOne (id : EntryId) (old new : Stream) : Type 0 where
+  pub index : ℕ
+  pub named : HoldsAt (λ entry. entry.id ≡ id) old.entries.items index
+  pub nodes : index < sum_by (λ node. node.live) old.nodes.items → IsLessAt index old.nodes.items new.nodes.items

@@ -1,12 +1,13 @@
 //! A stream.
-ghost use Rattle.std.specs.Prelude.{◌≡◌, ◌≤◌, ◌+◌, ◌++◌, ◌∷◌, [], false, true, Some, drop, length};
+ghost use Rattle.std.specs.Prelude.{◌≡◌, ◌≤◌, ◌<◌, ◌+◌, ◌++◌, ◌∷◌, [], false, true, Some, drop, length, sum_by};
+ghost use Rattle.std.specs.VecDeque.{deque_capacity};
 ghost use Rattle.std.specs.Prelude.{IfErr, IfNone, IfOk, IfSome, OnOk, OnErr};
 ghost use Rattle.std.specs.Bool.{OnTrue, OnFalse};
 ghost use Rattle.std.specs.List.{Contains, HoldsAt};
 ghost use Rattle.std.specs.List.Sorted.{IsSearchInRange};
 ghost use Rattle.stream_store.specs.Order.{IsAscending, IsGapFor, IsNowhere, IsSplitBefore};
 ghost use Rattle.stream_store.specs.Trim.{IsExactCount, IsTrimmed, goes, lets_go, whole_from};
-ghost use Rattle.stream_store.specs.Stream.{seen_stream, first_id_of, IsLonger, IsWithoutOne, IsTombstoneFrom};
+ghost use Rattle.stream_store.specs.Stream.{seen_stream, first_id_of, IsLessAt, IsLessInOne, IsLonger, IsOneLess, IsTombstoneFrom, IsWithin, IsWithoutOne};
 
 use crate::entry_id::EntryId;
 use crate::group::Group;
@@ -86,6 +87,7 @@ impl Stream {
     pub fn append(&mut self, id: EntryId, fields: Vec<Vec<u8>>) -> Result<(), AllocError>
         ensures ok { OnOk result (IsLonger (record { id = id; fields = fields }) self.old self.new) }
         ensures err { OnErr result (seen_stream self.new ≡ seen_stream self.old) }
+        ensures gone { self.new.gone.items ≡ drop 16 self.old.gone.items }
     {
         self.give_back();
         let is_open = match self.nodes.back() {
@@ -151,6 +153,8 @@ impl Stream {
     pub fn remove(&mut self, id: EntryId) -> bool
         ensures gone { OnTrue result (IsWithoutOne id self.old.entries.items
             self.new.entries.items) }
+        ensures nodes { OnTrue result (IsLessInOne id self.old self.new) }
+        ensures given_back { OnTrue result (self.new.gone.items ≡ drop 16 self.old.gone.items) }
         ensures same { OnFalse result (self.new ≡ self.old) }
         ensures none { OnFalse result (IsAscending (λ entry. entry.id) self.old.entries.items
             → IsNowhere (λ entry. entry.id) id self.old.entries.items) }
@@ -210,9 +214,12 @@ impl Stream {
         }
     }
 
-    /// Gives back the memory of a few entries that are gone.
+    /// Gives back the memory of a few entries that are gone, and of their list with the last of them.
     fn give_back(&mut self)
-        ensures { self.new ≡ record self.old { gone = self.new.gone } }
+        ensures same { self.new ≡ record self.old { gone = self.new.gone } }
+        ensures few { self.new.gone.items ≡ drop 16 self.old.gone.items }
+        ensures list { 0 < length self.old.gone.items → length self.new.gone.items ≡ 0
+            → deque_capacity self.new.gone ≡ 0 }
     {
         if self.gone.is_empty() {
             return;
@@ -330,20 +337,42 @@ fn lets_go(bound: Bound, len: usize, taken: usize, behind: usize, node: Node) ->
 }
 
 /// One entry less in the node in which the entry at this index stood.
-fn forget(nodes: &mut VecDeque<Node>, index: usize) {
-    let mut before = u64::try_from(index).unwrap_or(u64::MAX);
+fn forget(nodes: &mut VecDeque<Node>, index: usize)
+    ensures { index < sum_by (λ node. node.live) nodes.old.items
+        → IsLessAt index nodes.old.items nodes.new.items }
+{
+    if let Some(place) = node_of(nodes, index) {
+        take_one(nodes, place);
+    }
+}
+
+/// The place of the node in which the entry at this index stands.
+fn node_of(nodes: &VecDeque<Node>, index: usize) -> Option<usize>
+    ensures some { IfSome result (λ place. place < length nodes.now.items) }
+    ensures within { IfSome result (IsWithin index nodes.now.items) }
+    ensures none { IfNone result (sum_by (λ node. node.live) nodes.now.items ≤ index) }
+{
+    let mut before = index as u64;
     for place in 0..nodes.len() {
-        let Some(node) = nodes.get_mut(place) else {
-            return;
-        };
-        if before < node.live {
-            node.live -= 1;
-            if node.live == 0 {
-                let _node = nodes.remove(place);
-            }
-            return;
+        let live = nodes[place].live;
+        if before < live {
+            return Some(place);
         }
-        before -= node.live;
+        before -= live;
+    }
+    None
+}
+
+/// One entry less in the node at this place; one that had no other goes.
+fn take_one(nodes: &mut VecDeque<Node>, place: usize)
+    requires { place < length nodes.old.items }
+    ensures { IsOneLess place nodes.old.items nodes.new.items }
+{
+    let node = nodes[place];
+    if node.live > 1 {
+        nodes[place].live = node.live - 1;
+    } else {
+        let _node = nodes.remove(place);
     }
 }
 
