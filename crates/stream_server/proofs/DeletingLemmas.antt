@@ -127,3 +127,19 @@ deleted_in arguments key ids count streams index was is keyed read within at sta
   };
   answered = refl;
 })
+
+removed_more : (keys : List (List ℕ)) (key : List ℕ) (old between new : List Stream) → AreRemoved keys old between
+    → IsRemoved key between new → AreRemoved (keys ++ key ∷ []) old new
+removed_more [] key old between new same is = (new, subst (λ (s : List Stream). IsRemoved key s new) same is, refl)
+removed_more (k ∷ keys) key old between new (next, first, others) is =
+    (next, first, removed_more keys key next between new others is)
+
+-- the streams of one key more are gone
+pub removed_so : (keys : List (Vec ℕ)) (i : ℕ) (key : Vec ℕ) (old between new : List Stream) → i < length keys
+    → key ≡ get_or keys i key → AreRemoved (texts_of (take i keys)) old between → IsRemoved key.items between new
+    → AreRemoved (texts_of (take (i + 1) keys)) old new
+removed_so keys i key old between new lt at so_far is =
+    let more : take (i + 1) keys ≡ take i keys ++ key ∷ [] = take_more keys i key lt ∙ ap (λ (k : Vec ℕ). take i keys ++ k ∷ []) (sym at) in
+    let texts : texts_of (take (i + 1) keys) ≡ texts_of (take i keys) ++ key.items ∷ [] =
+    ap texts_of more ∙ map-append (λ (w : Vec ℕ). w.items) (take i keys) (key ∷ []) in
+    rw texts (removed_more (texts_of (take i keys)) key.items old between new so_far is)

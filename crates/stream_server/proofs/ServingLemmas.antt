@@ -1,38 +1,56 @@
 -- Commands that are answered one after the other.
-use Rattle.std.proofs.Common.{◌≡◌, ℕ, List, [], ◌∷◌, ◌++◌, Ok, Some, length, map, refl, sym, subst, append-nil, ◌∙◌}
-use Rattle.redis_wire.specs.declared.written.Protocol.{Protocol}
-use Rattle.std.specs.List.{flat_map}
-use Rattle.std.proofs.lemmas.List.{flat_map_more}
-use Rattle.stream_server.specs.declared.answer.Reply.{Reply}
+use Rattle.std.proofs.Common.{◌≡◌, ℕ, List, [], ◌∷◌, ◌++◌, Ok, Option, Some, None, length, map, refl, sym, subst}
+use Rattle.std.specs.Global.{Vec}
 use Rattle.stream_server.specs.Incoming.{command_at}
-use Rattle.stream_server.specs.Serving.{Turn, IsAnswered, turn_bytes, AreAnswered, Does}
+use Rattle.stream_server.specs.Serving.{Point, IsReplied, IsAnswered, AreAnswered, Does, Refuses, Serves, GivesUp}
 
 -- nothing was done yet
-pub no_turns : (bytes before : List ℕ) → Does bytes bytes before before
-no_turns bytes before = record { turns = []; answered = refl; wrote = sym (append-nil before) }
+pub no_points : (bytes : List ℕ) (point : Point) → Does bytes bytes point point
+no_points bytes point = record { points = []; answered = (refl, refl) }
 
 -- a list that is not empty has words
-pub some_words : {A : Type 0} (f : A → List ℕ) (xs : List A) (turn : Protocol × Reply) → (length xs ≡ 0 → ⊥)
-    → IsAnswered (map f xs) (Some turn)
-some_words f [] turn some = absurd (some refl)
-some_words f (x ∷ xs) turn some = tt
+pub some_words : {A : Type 0} (f : A → List ℕ) (xs : List A) (old new : Point) → (length xs ≡ 0 → ⊥)
+    → IsReplied (map f xs) old new → IsAnswered (map f xs) old new
+some_words f [] old new some is = absurd (some refl)
+some_words f (x ∷ xs) old new some is = is
 
-turn_more : (turns : List Turn) (turn : Turn) (bytes rest behind : List ℕ) (words : List (List ℕ))
-    → AreAnswered turns bytes rest → command_at rest ≡ Ok (words, behind) → IsAnswered words turn
-    → AreAnswered (turns ++ turn ∷ []) bytes behind
-turn_more [] turn bytes rest behind words is h a =
-    (words, behind, subst (λ (b : List ℕ). command_at b ≡ Ok (words, behind)) (sym is) h, a, refl)
-turn_more (t ∷ turns) turn bytes rest behind words (first, next, read, answered, others) h a =
-    (first, next, read, answered, turn_more turns turn next rest behind words others h a)
+point_more : (points : List Point) (bytes rest behind : List ℕ) (words : List (List ℕ)) (old between new : Point)
+    → AreAnswered points bytes rest old between → command_at rest ≡ Ok (words, behind) → IsAnswered words between new
+    → AreAnswered (points ++ new ∷ []) bytes behind old new
+point_more [] bytes rest behind words old between new (is, same) h a = (
+  words,
+  behind,
+  subst (λ (b : List ℕ). command_at b ≡ Ok (words, behind)) (sym is) h,
+  subst (λ (p : Point). IsAnswered words p new) same a,
+  refl,
+  refl,
+)
+point_more (p ∷ points) bytes rest behind words old between new (first, next, read, answered, others) h a =
+    (first, next, read, answered, point_more points next rest behind words p between new others h a)
 
 -- one command more
-pub one_more_turn : (bytes rest behind : List ℕ) (words : List (List ℕ)) (before between after : List ℕ)
-    → Does bytes rest before between → command_at rest ≡ Ok (words, behind)
-    → ((turn : Turn) × IsAnswered words turn × (after ≡ between ++ turn_bytes turn)) → Does bytes behind before after
-one_more_turn bytes rest behind words before between after d h (turn, answered, wrote) = record {
-  turns = d.turns ++ turn ∷ [];
-  answered = turn_more d.turns turn bytes rest behind words d.answered h answered;
-  wrote =
-      wrote ∙ subst (λ (b : List ℕ). b ++ turn_bytes turn ≡ before ++ flat_map turn_bytes (d.turns ++ turn ∷ [])) (sym d.wrote)
-      (flat_map_more turn_bytes before d.turns turn);
-}
+pub one_more_point : (bytes rest behind : List ℕ) (words : List (List ℕ)) (old between new : Point)
+    → Does bytes rest old between → command_at rest ≡ Ok (words, behind) → IsAnswered words between new
+    → Does bytes behind old new
+one_more_point bytes rest behind words old between new d h a =
+    record { points = d.points ++ new ∷ []; answered = point_more d.points bytes rest behind words old between new d.answered h a }
+
+-- one command, and those behind it
+module _ (bytes behind : List ℕ) (words : List (List ℕ)) (old between : Point) (read : command_at bytes ≡ Ok (words, behind))
+    (first : IsAnswered words old between) where
+  does_first : (rest : List ℕ) (new : Point) → Does behind rest between new → Does bytes rest old new
+  does_first rest new d = record { points = between ∷ d.points; answered = (words, behind, read, first, d.answered) }
+
+  pub serves_first : (new : Point) (left : Option (List ℕ)) → Serves behind between new left → Serves bytes old new left
+  serves_first new (Some rest) (does, short) = (does_first rest new does, short)
+  serves_first new None r = record {
+    rest = r.rest;
+    between = r.between;
+    error = r.error;
+    does = does_first r.rest r.between r.does;
+    fault = r.fault;
+    wrote = r.wrote;
+  }
+
+  pub gives_up_behind : (answers : List ℕ) → GivesUp behind between answers → GivesUp bytes old answers
+  gives_up_behind answers (rest, last, does, wrote) = (rest, last, does_first rest last does, wrote)

@@ -1,5 +1,5 @@
--- What XDEL does.
-use Rattle.std.specs.Prelude.{◌≡◌, ◌+◌, ◌⊎◌, ℕ, List, [], ◌∷◌, drop, filter, length, not}
+-- What XDEL and DEL do.
+use Rattle.std.specs.Prelude.{◌≡◌, ◌<◌, ◌+◌, ◌⊎◌, ℕ, List, [], ◌∷◌, drop, filter, length, not, remove}
 use Rattle.std.specs.Global.{Vec}
 use Rattle.std.specs.List.{HoldsAt}
 use Rattle.std.specs.Ordering.{is_eq}
@@ -51,3 +51,14 @@ pub record IsXdelOfNone (arguments : List (Vec ℕ)) (answer : Answer) (old new 
 -- so it is done, or there is no such stream
 abbrev pub DeletesIn : List (Vec ℕ) → Answer → List Stream → List Stream → Type 0
 DeletesIn arguments answer old new = IsXdel arguments answer old new ⊎ IsXdelOfNone arguments answer old new
+
+-- The stream of this key is gone, and the others stay. Or there is none, if the keys are in order.
+abbrev pub IsRemoved : List ℕ → List Stream → List Stream → Type 0
+IsRemoved key old new =
+    ((k : ℕ) × (k < length old) × HoldsAt (λ stream. stream.key.items ≡ key) old k × (new ≡ remove old k))
+    ⊎ ((new ≡ old) × (AreInOrder (keys_of old) → IsMissing key (keys_of old)))
+
+-- so it is of one key after the other
+abbrev pub AreRemoved : List (List ℕ) → List Stream → List Stream → Type 0
+AreRemoved [] old new = new ≡ old
+AreRemoved (key ∷ keys) old new = (between : List Stream) × IsRemoved key old between × AreRemoved keys between new

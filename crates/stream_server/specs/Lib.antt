@@ -17,6 +17,7 @@ pub mod ModelClaiming
 pub mod ModelReading
 pub mod ModelRereading
 pub mod Places
+pub mod Queueing
 pub mod Quoted
 pub mod ReadBack
 pub mod ReadGroup

@@ -16,10 +16,14 @@ use Rattle.stream_server.specs.ModelClaiming.{PendingIsSeen, XautoclaimClaims}
 use Rattle.stream_server.specs.ModelReading.{XreadgroupReads}
 use Rattle.stream_server.specs.ModelRereading.{SeenAscends, XreadgroupRereads}
 use Rattle.stream_server.specs.Places.{AreInOrder, consumer_names}
+use Rattle.stream_server.specs.Queueing.{Queues}
 use Rattle.stream_server.specs.Rereading.{IsWordOf, largest}
+use Rattle.stream_server.specs.Server.{IsRefused}
+use Rattle.stream_server.specs.Session.{SeenSession}
 use Rattle.stream_server.specs.declared.answer.Answer.{Answer}
 use Rattle.stream_server.specs.declared.answer.Reply.{Reply}
 use Rattle.stream_server.specs.declared.answer.Reply.TheVariants.{Done}
+use Rattle.stream_server.specs.declared.session.Mode.TheVariants.{AtOnce, Queued}
 
 -- the streams of other keys are as they were
 pub record OthersStay (key : List ℕ) (old new : List Seen) : Type 0 where
@@ -90,3 +94,13 @@ XreadgroupSteps words reply old new = (command first name consumer second key te
     → (model : IsModelIn key name old w) → AreNumbered model.group → model.group.next_number < 18446744073709551615
     → reply ≡ Done answer
     → (most : ℕ) × IsMost asked most × ReadsSo key name consumer text most answer model.group old new w
+
+-- What `Server::step` ensures of a command of these words, whether it is done, queued or refused.
+pub record Steps (words : Vec (Vec ℕ)) (reply : Reply) (before after : SeenSession) (old new : List Seen) : Type 0 where
+  pub refused : IsRefused reply → new ≡ old
+  pub queued : before.mode ≡ Queued → Queues words reply before after × (new ≡ old)
+  pub xack : before.mode ≡ AtOnce → XackSteps words.items reply old new
+  pub xdel : before.mode ≡ AtOnce → XdelSteps words.items reply old new
+  pub xadd : before.mode ≡ AtOnce → XaddSteps words.items reply old new
+  pub xautoclaim : before.mode ≡ AtOnce → XautoclaimSteps words.items reply old new
+  pub xreadgroup : before.mode ≡ AtOnce → XreadgroupSteps words.items reply old new

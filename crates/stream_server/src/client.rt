@@ -1,10 +1,11 @@
 //! A client of a server: bytes that it sends come in, and bytes of answers go out.
-ghost use Rattle.std.specs.Prelude.{◌≡◌, ◌++◌, [], true, false, IsTrue, IfOk, OnOk, OnErr, map, option_map};
+ghost use Rattle.std.specs.Prelude.{◌≡◌, ◌++◌, ◌+◌, ◌*◌, ◌<◌, ◌≤◌, ◌⊎◌, [], true, false, IsTrue, IfOk, OnOk, OnErr, map, max, length, option_map, vec_capacity, vec_len};
 ghost use Rattle.redis_wire.specs.declared.written.Protocol.TheVariants.{Resp2};
-ghost use Rattle.stream_server.specs.Incoming.{protocol_error_bytes};
-ghost use Rattle.stream_server.specs.Serving.{Turn, IsAnswered, turn_bytes, Serves, GivesUp, Answers};
+ghost use Rattle.stream_server.specs.Incoming.{Gives, command_at};
+ghost use Rattle.stream_server.specs.Serving.{Answers, Does, GivesUp, IsAnswered, Leaves, Serves, point_of};
+ghost use Rattle.stream_server.specs.Session.{new_session};
 
-use crate::incoming::{Stop, command_at, push_protocol_error};
+use crate::incoming::{Scan, Stop, command_at, is_short, push_protocol_error};
 use crate::writing::append_reply;
 use crate::{Server, Session};
 use redis_wire::Protocol;
@@ -14,31 +15,38 @@ use std::mem;
 
 /// What a server knows of a client and its connection.
 ///
-/// A contract sees what the client sent that is no whole command yet, and whether the connection has
-/// ended.
+/// A contract sees the session, what the client sent that is no whole command yet, and whether the
+/// connection has ended. What was looked through is not looked through again, so small pieces cost no
+/// more than large ones.
 #[derive(Drop)]
 pub struct Client {
     session: Session,
     unread: Vec<u8>,
+    // how far the command in `unread` was looked through
+    scan: Scan,
     has_ended: bool,
 }
 
 impl Model for Client {
+    ghost use Rattle.stream_server.specs.Incoming.{IsScan};
     ghost use Rattle.stream_server.specs.Serving.{Standing};
 
     ghost Value = { Standing };
 
-    ghost view = { λ c. record { unread = c.unread.items; has_ended = c.has_ended } };
+    ghost view = { λ c. record { session = c.session; unread = c.unread.items; has_ended = c.has_ended } };
+
+    ghost invariant = { λ c. IsScan c.scan c.unread.items };
 }
 
 impl Client {
     /// A client that has sent nothing yet, and speaks RESP2.
     pub fn new(alloc: Global) -> Client
-        ensures { result ≡ record { unread = []; has_ended = false } }
+        ensures { result ≡ record { session = new_session Resp2; unread = []; has_ended = false } }
     {
         Client {
             session: Session::new(alloc, Protocol::Resp2),
             unread: Vec::new(alloc),
+            scan: Scan::NEW,
             has_ended: false,
         }
     }
@@ -58,21 +66,60 @@ impl Client {
         bytes: &[u8],
         answers: &mut Vec<u8>,
     ) -> Result<(), AllocError>
-        ensures ok { OnOk result
-            (Answers self.old self.new bytes.now answers.old.items answers.new.items) }
-        ensures err { OnErr result
-            (GivesUp (self.old.unread ++ bytes.now) answers.old.items answers.new.items) }
+        ensures ok { OnOk result (Answers self.old self.new bytes.now
+            (point_of self.old server.old answers.old.items) (point_of self.new server.new answers.new.items)) }
+        ensures err { OnErr result (GivesUp (self.old.unread ++ bytes.now)
+            (point_of self.old server.old answers.old.items) answers.new.items) }
         ensures ended { OnErr result (self.new.has_ended ≡ true) }
     {
         if self.has_ended {
             return Ok(());
         }
         self.has_ended = true;
-        let mut sent = mem::replace(&mut self.unread, Vec::new(alloc));
-        sent.extend_from_slice(bytes)?;
-        let rest = answer_all(alloc, server, &mut self.session, now, &sent, answers)?;
+        if self.unread.is_empty() {
+            return self.answer_new(alloc, server, now, bytes, answers);
+        }
+        hold(&mut self.unread, bytes, self.scan.wanted)?;
+        if is_short(&mut self.scan, &self.unread) {
+            self.has_ended = false;
+            return Ok(());
+        }
+        match first_of(alloc, &self.unread) {
+            Ok((words, behind)) => {
+                self.unread = Vec::new(alloc);
+                answer_one(alloc, server, &mut self.session, now, words, answers)?;
+                self.answer_new(alloc, server, now, &behind, answers)
+            }
+            Err(Stop::Short) => {
+                self.has_ended = false;
+                Ok(())
+            }
+            Err(Stop::Memory) => Err(AllocError),
+            Err(Stop::Fault(error)) => push_protocol_error(alloc, answers, error),
+        }
+    }
+
+    /// Does each whole command of bytes behind which nothing is unread, and keeps what is left.
+    fn answer_new(
+        &mut self,
+        alloc: Global,
+        server: &mut Server,
+        now: u64,
+        bytes: &[u8],
+        answers: &mut Vec<u8>,
+    ) -> Result<(), AllocError>
+        requires ended { self.old.has_ended ≡ true }
+        requires none { self.old.unread ≡ [] }
+        ensures ok { OnOk result (Leaves self.new bytes.now
+            (point_of self.old server.old answers.old.items) (point_of self.new server.new answers.new.items)) }
+        ensures err { OnErr result (GivesUp bytes.now
+            (point_of self.old server.old answers.old.items) answers.new.items) }
+        ensures ended { OnErr result (self.new.has_ended ≡ true) }
+    {
+        let rest = answer_all(alloc, server, &mut self.session, now, bytes, answers)?;
         if let Some(rest) = rest {
-            self.unread.extend_from_slice(rest)?;
+            self.scan = Scan::NEW;
+            hold(&mut self.unread, rest, 0)?;
             self.has_ended = false;
         }
         Ok(())
@@ -96,9 +143,12 @@ fn answer_all<'a>(
     bytes: &'a [u8],
     answers: &mut Vec<u8>,
 ) -> Result<Option<&'a [u8]>, AllocError>
-    ensures ok { IfOk result (λ rest. Serves bytes.now answers.old.items answers.new.items
+    ensures ok { IfOk result (λ rest. Serves bytes.now
+        (record { streams = server.old; session = session.old; answers = answers.old.items })
+        (record { streams = server.new; session = session.new; answers = answers.new.items })
         (option_map (λ r. r.now) rest)) }
-    ensures err { OnErr result (GivesUp bytes.now answers.old.items answers.new.items) }
+    ensures err { OnErr result (GivesUp bytes.now
+        (record { streams = server.old; session = session.old; answers = answers.old.items }) answers.new.items) }
 {
     let mut rest = bytes;
     'commands: loop {
@@ -117,6 +167,51 @@ fn answer_all<'a>(
     }
 }
 
+/// The command at the head of bytes, and a copy of the bytes behind it.
+fn first_of(alloc: Global, bytes: &[u8]) -> Result<(Vec<Vec<u8>>, Vec<u8>), Stop>
+    ensures { Gives (λ x. (map (λ w. w.items) x.0.items, x.1.items)) result (command_at bytes.now) }
+{
+    let (words, behind) = command_at(alloc, bytes)?;
+    Ok((words, Vec::from_slice(alloc, behind)?))
+}
+
+/// Appends bytes.
+fn hold(held: &mut Vec<u8>, bytes: &[u8], wanted: usize) -> Result<(), AllocError>
+    ensures ok { OnOk result (held.new.items ≡ held.old.items ++ bytes.now) }
+    ensures err { OnErr result (held.new.items ≡ held.old.items) }
+{
+    make_room(held, bytes.len(), wanted)?;
+    held.extend_from_slice(bytes)?;
+    Ok(())
+}
+
+/// Takes room for so many bytes more, and for no more than twice what is then held. If so many are
+/// wanted, it takes no more than these where they are enough.
+fn make_room(held: &mut Vec<u8>, more: usize, wanted: usize) -> Result<(), AllocError>
+    ensures same { held.new.items ≡ held.old.items }
+    ensures enough { OnOk result (vec_len held.old + more ≤ vec_capacity held.new) }
+    ensures bound { vec_capacity held.new ≤ max (vec_capacity held.old) (2 * (vec_len held.old + more)) }
+{
+    let room = held.capacity();
+    if more <= room - held.len() {
+        return Ok(());
+    }
+    let Some(needed) = held.len().checked_add(more) else {
+        return Err(AllocError);
+    };
+    held.reserve_exact(room_for(room, needed, wanted) - held.len())
+}
+
+/// The room in place of too little.
+fn room_for(room: usize, needed: usize, wanted: usize) -> usize
+    requires { room < needed }
+    ensures enough { needed ≤ result }
+    ensures bound { result ≤ 2 * needed }
+{
+    let least = needed.max(room.saturating_add(room / 8));
+    least.max(wanted.min(room.saturating_mul(2)))
+}
+
 /// Does a command, and appends its answer; one of no words has none.
 fn answer_one(
     alloc: Global,
@@ -126,8 +221,9 @@ fn answer_one(
     words: Vec<Vec<u8>>,
     answers: &mut Vec<u8>,
 ) -> Result<(), AllocError>
-    ensures ok { OnOk result ((turn : Turn) × IsAnswered (map (λ w. w.items) words.items) turn
-        × (answers.new.items ≡ answers.old.items ++ turn_bytes turn)) }
+    ensures ok { OnOk result (IsAnswered (map (λ w. w.items) words.items)
+        (record { streams = server.old; session = session.old; answers = answers.old.items })
+        (record { streams = server.new; session = session.new; answers = answers.new.items })) }
     ensures err { OnErr result (answers.new.items ≡ answers.old.items) }
 {
     if words.is_empty() {

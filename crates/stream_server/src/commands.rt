@@ -129,7 +129,7 @@ pub(crate) fn run(
         Plain::Change(change) => run_change(alloc, streams, now, change, words),
         Plain::LookUp(look_up) => run_reading(alloc, streams, now, look_up, &words),
         Plain::Report(report) => run_report(alloc, streams.len(), now, report, &words),
-        Plain::Connection(asked) => connection::answered(alloc, session, asked, &words),
+        Plain::Connection(asked) => connection::answered(alloc, session, asked, words),
     }
 }
 

@@ -1,8 +1,9 @@
 //! The server: its streams, and one command after the other.
 ghost use Rattle.std.specs.Prelude.{◌≡◌, [], IfOk, OnErr};
+ghost use Rattle.stream_server.specs.Queueing.{Queues};
 ghost use Rattle.stream_server.specs.Server.{IsRefused};
 ghost use Rattle.stream_server.specs.Stepping.{XackSteps, XaddSteps, XautoclaimSteps, XdelSteps, XreadgroupSteps};
-ghost use Rattle.stream_server.specs.declared.session.Mode.TheVariants.{AtOnce};
+ghost use Rattle.stream_server.specs.declared.session.Mode.TheVariants.{AtOnce, Queued};
 
 use crate::answer::Reply;
 use crate::session::Session;
@@ -56,6 +57,8 @@ impl Server {
         ensures err { OnErr result (self.new ≡ self.old) }
         ensures session { OnErr result (session.new ≡ session.old) }
         ensures refused { IfOk result (λ r. IsRefused r → self.new ≡ self.old) }
+        ensures queued { IfOk result (λ r. session.old.mode ≡ Queued
+            → Queues command r session.old session.new × (self.new ≡ self.old)) }
         ensures xack { IfOk result (λ r. session.old.mode ≡ AtOnce → XackSteps command.items r self.old self.new) }
         ensures xdel { IfOk result (λ r. session.old.mode ≡ AtOnce → XdelSteps command.items r self.old self.new) }
         ensures xadd { IfOk result (λ r. session.old.mode ≡ AtOnce → XaddSteps command.items r self.old self.new) }

@@ -1,13 +1,17 @@
 //! `MULTI`, `EXEC`, `DISCARD`, `WATCH`: when commands are done.
-ghost use Rattle.std.specs.Prelude.{◌≡◌, ◌≢◌, ◌<◌, ℕ, length, IfOk, OnErr};
+ghost use Rattle.std.specs.Prelude.{◌≡◌, ◌≢◌, ◌<◌, ℕ, length, IfOk, OnOk, OnErr};
 ghost use Rattle.std.specs.Global.{Vec};
 ghost use Rattle.stream_server.specs.Commands.{IsNamed, PlainReplies, Replies, least_of};
+ghost use Rattle.stream_server.specs.Queueing.{IsKept};
 ghost use Rattle.stream_server.specs.Server.{IsRefused};
 ghost use Rattle.stream_server.specs.Streams.{seen_streams};
 ghost use Rattle.stream_server.specs.declared.commands.Change.{Change};
-ghost use Rattle.stream_server.specs.declared.answer.Reply.TheVariants.{Refused};
+ghost use Rattle.stream_server.specs.declared.commands.Plain.TheVariants.{Change as plain_change};
+ghost use Rattle.stream_server.specs.declared.answer.Answer.TheVariants.{Status as answer_status};
+ghost use Rattle.stream_server.specs.declared.answer.Status.TheVariants.{Queued as status_queued};
+ghost use Rattle.stream_server.specs.declared.answer.Reply.TheVariants.{Done, Refused};
 ghost use Rattle.stream_server.specs.declared.refusal.Refusal.TheVariants.{Memory};
-ghost use Rattle.stream_server.specs.declared.session.Mode.TheVariants.{AtOnce};
+ghost use Rattle.stream_server.specs.declared.session.Mode.TheVariants.{AtOnce, Queued as InQueue};
 
 use crate::answer::{Answer, Reply, Status};
 use crate::commands::{self, Command, Plain, Step};
@@ -51,6 +55,9 @@ pub(crate) fn answered(
     ensures session { OnErr result (session.new ≡ session.old) }
     ensures refused { IfOk result (λ r. IsRefused r
         → seen_streams streams.new ≡ seen_streams streams.old) }
+    ensures queued { IfOk result (λ r. session.old.mode ≡ InQueue → (change : Change) → IsNamed change words.items
+        → least_of change < length words.items → IsKept (plain_change change) words session.old session.new
+        × (r ≡ Done (answer_status status_queued)) × (streams.new ≡ streams.old)) }
 {
     match commands::command_in(alloc, &words) {
         Ok(Command::Transaction(step)) => stepped(alloc, streams, now, session, step, words.len()),
@@ -85,7 +92,9 @@ fn at_once(
 
 /// Queues a command; one that would not be done is not kept.
 fn queued(session: &mut Session, command: Plain, words: Vec<Vec<u8>>) -> Result<Reply, AllocError>
-    ensures { OnErr result (session.new ≡ session.old) }
+    ensures kept { OnOk result (session.old.mode ≡ InQueue → IsKept command words session.old session.new) }
+    ensures said { IfOk result (λ r. r ≡ Done (answer_status status_queued)) }
+    ensures err { OnErr result (session.new ≡ session.old) }
 {
     if session.mode == Mode::Queued {
         session.queue.push(Queued { command, words })?;

@@ -41,15 +41,15 @@ pub(super) fn answered(
     alloc: Global,
     session: &mut Session,
     asked: Connection,
-    words: &[Vec<u8>],
+    words: Vec<Vec<u8>>,
 ) -> Result<Answer, Refusal>
     ensures { OnErr result (session.new ≡ session.old) }
 {
-    let [word, arguments @ ..] = words else {
+    let [word, arguments @ ..] = words.as_slice() else {
         return Err(SYNTAX);
     };
     match asked {
-        Connection::Ping => ping(alloc, word, arguments),
+        Connection::Ping => ping(alloc, words),
         Connection::Hello => hello::hello(alloc, session, arguments),
         Connection::Unwatch => Ok(Answer::Okay),
         Connection::Select => select(arguments),
@@ -57,12 +57,14 @@ pub(super) fn answered(
     }
 }
 
-/// `PING [text]`
-fn ping(alloc: Global, word: &[u8], arguments: &[Vec<u8>]) -> Result<Answer, Refusal> {
-    match arguments {
-        [] => Ok(Answer::Status(Status::Pong)),
-        [text] => Ok(Answer::Bytes(text.clone()?)),
-        _ => Err(wrong_count(alloc, word)),
+/// `PING [text]`; the text is not copied.
+fn ping(alloc: Global, mut words: Vec<Vec<u8>>) -> Result<Answer, Refusal> {
+    if let [word, _, _, ..] = words.as_slice() {
+        return Err(wrong_count(alloc, word));
+    }
+    match words.pop() {
+        Some(text) if !words.is_empty() => Ok(Answer::Bytes(text)),
+        _ => Ok(Answer::Status(Status::Pong)),
     }
 }
 

@@ -1,8 +1,8 @@
 //! `XDEL`, `XTRIM`, `XACK`, `XSETID`, `DEL`.
 ghost use Rattle.std.specs.Prelude.{◌≡◌, ◌≤◌, ◌-◌, drop, length, vec_len, IfErr, IfOk, OnErr};
 ghost use Rattle.stream_server.specs.Acknowledging.{AcknowledgesIn, AreAcknowledged};
-ghost use Rattle.stream_server.specs.Deleting.{AreDeleted, DeletesIn};
-ghost use Rattle.stream_server.specs.IdWords.{IsRefusedFor};
+ghost use Rattle.stream_server.specs.Deleting.{AreDeleted, AreRemoved, DeletesIn, IsRemoved};
+ghost use Rattle.stream_server.specs.IdWords.{IsRefusedFor, texts_of};
 
 use super::id_words::{id, ids};
 use super::places::{place_of, place_of_group};
@@ -16,15 +16,23 @@ use stream_store::{EntryId, Group, Stream};
 
 /// `DEL key ..`: how many of the streams were there.
 pub(super) fn remove_keys(streams: &mut Vec<Stream>, keys: &[Vec<u8>]) -> usize
-    ensures { result ≡ vec_len streams.old - vec_len streams.new }
+    ensures count { result ≡ vec_len streams.old - vec_len streams.new }
+    ensures gone { AreRemoved (texts_of keys.now) streams.old.items streams.new.items }
 {
     let before = streams.len();
     for key in keys {
-        if let Ok(index) = place_of(streams, key) {
-            let _stream = streams.remove(index);
-        }
+        remove_key(streams, key);
     }
     before.saturating_sub(streams.len())
+}
+
+/// Removes the stream of this key, if there is one.
+fn remove_key(streams: &mut Vec<Stream>, key: &[u8])
+    ensures { IsRemoved key.now streams.old.items streams.new.items }
+{
+    if let Ok(index) = place_of(streams, key) {
+        let _stream = streams.remove(index);
+    }
 }
 
 /// `XDEL key id ..`
