@@ -147,7 +147,7 @@ unheard_after : (base count : ℕ) (old mid new : Link) (w : Standing) (e : RunE
     → Unheard base count mid new w e → Unheard base count old new w e
 unheard_after base count old mid new w (causes.Request e) p u = absurd u
 unheard_after base count old mid new w (causes.Send e) p u = absurd u
-unheard_after base count old mid new w (causes.Receive e) p u = awaits_after old mid new p u
+unheard_after base count old mid new w (causes.Receive e) p u = (awaits_after old mid new p u.0, u.1)
 unheard_after base count old mid new w (causes.Answer e) p u =
     (u.0, u.1, receives_after old mid new u.1 p u.2, u.3)
 

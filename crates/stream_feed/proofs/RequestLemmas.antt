@@ -2,7 +2,8 @@
 use Rattle.std.proofs.Common.{◌≡◌, ◌≢◌, ℕ, zero, suc, ◌+◌, ◌<◌, ◌≤◌, ◌^◌, List, [], ◌∷◌, ◌++◌, length, map, take, drop}
 use Rattle.std.proofs.Common.{◌⊎◌, inl, inr, Option, Some, None, refl, ap, sym, ◌∙◌, arith, get_or, append_assoc, append-nil, add-one, subst}
 use Rattle.std.proofs.Math.Seq.{drop-cons}
-use Rattle.std.proofs.lemmas.List.{take_all}
+use Rattle.std.proofs.lemmas.Grind.{flat_map-append}
+use Rattle.std.proofs.lemmas.List.{length-append, take_all}
 use Rattle.std.specs.Prelude.{string_bytes, Result, Ok, Err, OnOk, IfOk, IfErr, IfSome}
 use Rattle.std.specs.Prelude.{Vec, ◌*◌, codes}
 use Rattle.std.specs.List.{flat_map}
@@ -13,7 +14,7 @@ use Rattle.stream_once.specs.Feed.{Numbered, numbered, asking, knows, waits}
 use Rattle.stream_feed.specs.Machine.{Asks, AsksNone, RequestedAt, Sends, Sent, Standing, Unrequested, Unsent, next_batch}
 use Rattle.stream_feed.specs.Machine.{stage_of, standing_of}
 use Rattle.stream_feed.specs.Records.{AreAll, Fields, arguments_of_field}
-use Rattle.stream_feed.specs.Sentences.{add_sentence, adds_bytes, ask_bytes, batch_bytes, own_id}
+use Rattle.stream_feed.specs.Sentences.{add_sentence, adds_bytes, ask_bytes, batch_bytes, head_of, own_id}
 use Rattle.stream_feed.specs.declared.error.RequestError.{RequestError}
 use Rattle.stream_feed.specs.declared.error.RequestError.TheVariants as causes
 use Rattle.stream_feed.specs.declared.producer.Producer.{Producer}
@@ -23,17 +24,31 @@ use Rattle.stream_feed.specs.declared.stage.Asked.TheVariants as asked
 use Rattle.stream_feed.proofs.TakenLemmas.{none_to_come}
 
 -- one more record is written
-pub written : {A : Type 0} (f : A → Fields) (key : List ℕ) (n i : ℕ) (xs : List A) (x : A) (out new all : List ℕ)
-    → i < length xs → x ≡ get_or xs i x → new ≡ out ++ command_bytes (add_sentence key ((n + 1, 0), f x))
-    → out ++ adds_bytes key (numbered n (map f (drop i xs))) ≡ all
-    → new ++ adds_bytes key (numbered (n + 1) (map f (drop (i + 1) xs))) ≡ all
-written f key n i xs x out new all h e b inv =
+pub written : {A : Type 0} (f : A → Fields) (head : List (List ℕ)) (n i : ℕ) (xs : List A) (x : A) (out new all : List ℕ)
+    → i < length xs → x ≡ get_or xs i x → new ≡ out ++ command_bytes (add_sentence head ((n + 1, 0), f x))
+    → out ++ adds_bytes head (numbered n (map f (drop i xs))) ≡ all
+    → new ++ adds_bytes head (numbered (n + 1) (map f (drop (i + 1) xs))) ≡ all
+written f head n i xs x out new all h e b inv =
     let d : drop i xs ≡ x ∷ drop (i + 1) xs =
     drop-cons xs i x h ∙ (ap (λ y. y ∷ drop (suc i) xs) (sym e) ∙ ap (λ (j : ℕ). x ∷ drop j xs) (sym (add-one i))) in
-    let r : List ℕ = adds_bytes key (numbered (n + 1) (map f (drop (i + 1) xs))) in
+    let r : List ℕ = adds_bytes head (numbered (n + 1) (map f (drop (i + 1) xs))) in
     ap (λ o. o ++ r) b
-    ∙ (append_assoc out (command_bytes (add_sentence key ((n + 1, 0), f x))) r
-    ∙ (ap (λ ys. out ++ adds_bytes key (numbered n (map f ys))) (sym d) ∙ inv))
+    ∙ (append_assoc out (command_bytes (add_sentence head ((n + 1, 0), f x))) r
+    ∙ (ap (λ ys. out ++ adds_bytes head (numbered n (map f ys))) (sym d) ∙ inv))
+
+-- one more argument is written
+pub argument_written : (i : ℕ) (words : List (Vec ℕ Global)) (word : Vec ℕ Global) (out new all : List ℕ)
+    → i < length words → word ≡ get_or words i word → new ≡ out ++ bulk_bytes word.items
+    → out ++ flat_map bulk_bytes (map (λ w. w.items) (drop i words)) ≡ all
+    → new ++ flat_map bulk_bytes (map (λ w. w.items) (drop (i + 1) words)) ≡ all
+argument_written i words word out new all h e b inv =
+    let d : drop i words ≡ word ∷ drop (i + 1) words =
+    drop-cons words i word h
+    ∙ (ap (λ y. y ∷ drop (suc i) words) (sym e) ∙ ap (λ (j : ℕ). word ∷ drop j words) (sym (add-one i))) in
+    let r : List ℕ = flat_map bulk_bytes (map (λ w. w.items) (drop (i + 1) words)) in
+    ap (λ o. o ++ r) b
+    ∙ (append_assoc out (bulk_bytes word.items) r
+    ∙ (ap (λ ws. out ++ flat_map bulk_bytes (map (λ w. w.items) ws)) (sym d) ∙ inv))
 
 -- the fields of a record are two arguments each
 pub arguments_counted : (fs : List (Vec ℕ Global × Vec ℕ Global))
@@ -58,17 +73,20 @@ field_written i fs f out new all h e b inv =
     ∙ (ap (λ bs. out ++ bs) (append_assoc (bulk_bytes f.0.items) (bulk_bytes f.1.items) r)
     ∙ (ap (λ ys. out ++ flat_map bulk_bytes (flat_map arguments_of_field ys)) (sym d) ∙ inv)))
 
--- a record is written in parts: how many arguments there are, the first two of them, its id, and its fields
-pub in_parts : (key front : List ℕ) (n : ℕ) (args : List (List ℕ)) → front ≡ bulk_bytes (codes "XADD") ++ bulk_bytes key
-    → head_bytes (3 + length args) ++ (front ++ (bulk_bytes (own_id n) ++ flat_map bulk_bytes args))
-    ≡ command_bytes (add_sentence key ((n, 0), args))
+-- a record is written in parts: how many arguments there are, those before the id, the id, and the fields
+pub in_parts : (head : List (List ℕ)) (count : ℕ) (front : List ℕ) (n : ℕ) (args : List (List ℕ))
+    → count ≡ length (codes "XADD" ∷ head) → front ≡ flat_map bulk_bytes (codes "XADD" ∷ head)
+    → head_bytes (count + 1 + length args) ++ (front ++ (bulk_bytes (own_id n) ++ flat_map bulk_bytes args))
+    ≡ command_bytes (add_sentence head ((n, 0), args))
 unfolding command_bytes
-in_parts key front n args e =
-    let rest : List ℕ = bulk_bytes (own_id n) ++ flat_map bulk_bytes args in
-    let count : 3 + length args ≡ suc (suc (suc (length args))) = omega arith in
-    ap (λ f. head_bytes (3 + length args) ++ (f ++ rest)) e
-    ∙ (ap (λ bs. head_bytes (3 + length args) ++ bs) (append_assoc (bulk_bytes (codes "XADD")) (bulk_bytes key) rest)
-    ∙ ap (λ (k : ℕ). head_bytes k ++ (bulk_bytes (codes "XADD") ++ (bulk_bytes key ++ rest))) count)
+in_parts head count front n args counted e =
+    let words : List (List ℕ) = codes "XADD" ∷ head in
+    let rest : List (List ℕ) = own_id n ∷ args in
+    let all : count + 1 + length args ≡ length (words ++ rest) =
+    omega (arith, counted, length-append words rest) in
+    ap (λ (k : ℕ). head_bytes k ++ (front ++ flat_map bulk_bytes rest)) all
+    ∙ ap (λ bs. head_bytes (length (words ++ rest)) ++ bs)
+    (ap (λ f. f ++ flat_map bulk_bytes rest) e ∙ sym (flat_map-append bulk_bytes words rest))
 
 -- four parts, one behind the other
 pub four_parts : (out a b c d p q r s : List ℕ) → a ≡ out ++ p → b ≡ a ++ q → c ≡ b ++ r → d ≡ c ++ s
@@ -128,7 +146,7 @@ none_sent s m (r ∷ rs) out new none stands = absurd (omega arith)
 
 -- some are
 pub some_sent : (s : Settings) (m k : ℕ) (b : List (Numbered Fields)) (out more : List ℕ) (new : Standing) (a : Asked)
-    → length b ≡ k → k ≢ 0 → more ≡ out ++ batch_bytes (string_bytes s.key) b
+    → length b ≡ k → k ≢ 0 → more ≡ out ++ batch_bytes (head_of s) b
     → new ≡ record { stage = waits m k; coming = k + 2 } → a ≡ asked.Records → s.base + m + k < 2 ^ 64
     → Sent s b out more (knows m) new a
 some_sent s m k [] out more new a len some e stands is fits = absurd (some (sym len))
@@ -142,11 +160,11 @@ some_sent s m k (r ∷ rs) out more new a len some e stands is fits = record {
 -- the same of what is returned
 pub sent_ok : (r : Result Asked RequestError) (s : Settings) (m k : ℕ) (b c : List (Numbered Fields))
     (out more : List ℕ) (new : Standing) → b ≡ c → length b ≡ k → k ≢ 0
-    → OnOk r (more ≡ out ++ batch_bytes (string_bytes s.key) c)
+    → OnOk r (more ≡ out ++ batch_bytes (head_of s) c)
     → OnOk r (new ≡ record { stage = waits m k; coming = k + 2 }) → IfOk r (λ a. a ≡ asked.Records)
     → OnOk r (s.base + m + k < 2 ^ 64) → IfOk r (Sent s b out more (knows m) new)
 sent_ok (Ok a) s m k b c out more new same len some e stands is fits =
-    some_sent s m k b out more new a len some (e ∙ ap (λ x. out ++ batch_bytes (string_bytes s.key) x) (sym same))
+    some_sent s m k b out more new a len some (e ∙ ap (λ x. out ++ batch_bytes (head_of s) x) (sym same))
     stands is fits
 sent_ok (Err e) s m k b c out more new same len some bytes stands is fits = tt
 

@@ -1,6 +1,6 @@
 -- The rounds, breaks and starts of a producer's code are events of `stream_once`.
 use Rattle.std.proofs.Common.{◌≡◌, ◌+◌, ◌<◌, ◌≤◌, refl, sym, ap, subst, ◌∙◌, arith, true, false, ℕ, zero, suc, List, [], ◌∷◌, ◌++◌}
-use Rattle.std.proofs.Common.{length, take, drop, append_assoc, append-nil, Option, Some, None, string_bytes}
+use Rattle.std.proofs.Common.{length, take, drop, append_assoc, append-nil, Option, Some, None}
 use Rattle.std.proofs.lemmas.List.{length-append, length-map}
 use Rattle.std.proofs.lemmas.Option.{none-some}
 use Rattle.std.specs.Prelude.{Bool, if◌then◌else◌}
@@ -238,21 +238,20 @@ rounds_are_events setting s known count old new v x a m w r i h =
     (subst (λ (k : ℕ). IsProducer x (hears k there.producer.answer there.producer)) (sym first.base)
     (heard_it s.base count setting r.standing.coming r.link new r.standing x r.hears refl o quiet there.producer q h.1))
 
-sent_are : (key : List ℕ) (st : feed.Stage) (b : List (Numbered Fields))
-    → bytes_of key st b ≡ sent_bytes key (on_the_way (asks_of st b) b)
-sent_are key asking b = refl
-sent_are key (knows m) [] = refl
-sent_are key (knows m) (r ∷ rs) = refl
-sent_are key (waits m n) b = refl
+sent_are : (s : Settings) (st : feed.Stage) (b : List (Numbered Fields))
+    → bytes_of s st b ≡ sent_bytes s (on_the_way (asks_of st b) b)
+sent_are s asking b = refl
+sent_are s (knows m) [] = refl
+sent_are s (knows m) (r ∷ rs) = refl
+sent_are s (waits m n) b = refl
 
 pub rounds_send_it : RoundsSendIt
 rounds_send_it setting s known bytes v y a w q i first =
-    let key : List ℕ = string_bytes s.key in
     let b : List (Numbered Fields) = next_batch s setting.records v.stage in
     let sent = sent_at v.coming s q.0 [] bytes v y a i.coming q.2 in
     let does = sends_it setting s first.base w v.stage (as_is v w.producer i) in
-    sent.bytes ∙ (ap (λ (c : List (Numbered Fields)). bytes_of key v.stage c) first.batch
-    ∙ (sent_are key v.stage b ∙ ap (λ (o : Option (Request Fields)). sent_bytes key o) (sym does.sent)))
+    sent.bytes ∙ (ap (λ (c : List (Numbered Fields)). bytes_of s v.stage c) first.batch
+    ∙ (sent_are s v.stage b ∙ ap (λ (o : Option (Request Fields)). sent_bytes s o) (sym does.sent)))
 
 pub told_records_are_sent : ToldRecordsAreSent
 told_records_are_sent setting s out more v y a q base =

@@ -1,5 +1,5 @@
 -- Settings that are made.
-use Rattle.std.specs.Prelude.{ℕ, ◌-◌, ◌^◌, nat_eq, nat_lt, length, Result, Ok, Err, String, string_bytes}
+use Rattle.std.specs.Prelude.{ℕ, ◌-◌, ◌^◌, nat_eq, nat_lt, length, Result, Ok, Err, None, String, string_bytes}
 use Rattle.std.specs.Prelude.{if◌then◌else◌}
 use Rattle.std.specs.declared.alloc.Global.{Global}
 use Rattle.stream_feed.specs.declared.settings.Settings.{Settings}
@@ -13,4 +13,8 @@ checked key base batch =
     else if nat_eq batch 0 then Err NoBatch
     else if nat_lt 10000 batch then Err LargeBatch
     else if nat_eq base (2 ^ 64 - 1) then Err LargeBase
-    else Ok (record { key = key; base = base; batch = batch })
+    else Ok (record { key = key; base = base; batch = batch; trim = None })
+
+-- the same settings with another base, or why it is refused
+abbrev pub based : Settings → ℕ → Result Settings SettingsError
+based s base = if nat_eq base (2 ^ 64 - 1) then Err LargeBase else Ok (record s { base = base })

@@ -10,15 +10,15 @@ use Rattle.stream_feed.specs.Unheard.{IsCause, IsNoError, IsUnasked, IsUnexecute
 use Rattle.stream_feed.specs.declared.error.FeedError.{FeedError}
 use Rattle.stream_feed.specs.declared.error.FeedError.TheVariants as causes
 
--- the last id is that of a record, or below the first one's
+-- the last id is that of a record, or at or below the base
 abbrev pub IsOwn : ℕ → ℕ → feed.Answer → Type 0
 IsOwn base count executed = Unit {0}
 IsOwn base count refused = Unit {0}
-IsOwn base count (last_is last) = (last.1 ≡ 0) × (last.0 ≤ base + count)
+IsOwn base count (last_is last) = (last.0 ≤ base) ⊎ ((last.1 ≡ 0) × (last.0 ≤ base + count))
 
 -- it is not, so somebody else added it
 abbrev pub IsForeign : ℕ → ℕ → Numbers → Type 0
-IsForeign base count last = (last.1 ≢ 0) ⊎ (base + count < last.0)
+IsForeign base count last = (base < last.0) × ((last.1 ≢ 0) ⊎ (base + count < last.0))
 
 -- what it knows by the last reply
 pub record Learns (base count : ℕ) (old new : feed.Stage) (a : wire.Answer) : Type 0 where

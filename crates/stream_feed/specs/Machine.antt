@@ -4,7 +4,7 @@ use Rattle.std.specs.Prelude.{Option, string_bytes}
 use Rattle.stream_once.specs.Feed as feed
 use Rattle.stream_once.specs.Feed.{Numbered, numbered, asking, knows, waits}
 use Rattle.stream_feed.specs.Records.{Fields, AreAll}
-use Rattle.stream_feed.specs.Sentences.{ask_bytes, batch_bytes}
+use Rattle.stream_feed.specs.Sentences.{ask_bytes, batch_bytes, head_of}
 use Rattle.stream_feed.specs.declared.error.RequestError.{RequestError}
 use Rattle.stream_feed.specs.declared.error.RequestError.TheVariants as causes
 use Rattle.stream_feed.specs.declared.producer.Producer.{Producer}
@@ -40,11 +40,11 @@ next_batch s all (knows m) = take s.batch (drop m (numbered s.base all))
 next_batch s all (waits m n) = []
 
 -- the bytes that it sends
-abbrev pub bytes_of : List ℕ → feed.Stage → List (Numbered Fields) → List ℕ
-bytes_of key asking b = ask_bytes key
-bytes_of key (knows m) [] = []
-bytes_of key (knows m) (r ∷ rs) = batch_bytes key (r ∷ rs)
-bytes_of key (waits m n) b = []
+abbrev pub bytes_of : Settings → feed.Stage → List (Numbered Fields) → List ℕ
+bytes_of s asking b = ask_bytes (string_bytes s.key)
+bytes_of s (knows m) [] = []
+bytes_of s (knows m) (r ∷ rs) = batch_bytes (head_of s) (r ∷ rs)
+bytes_of s (waits m n) b = []
 
 -- what it asks
 abbrev pub asks_of : feed.Stage → List (Numbered Fields) → Asked
@@ -70,7 +70,7 @@ Fits base (waits m n) b = Unit {0}
 -- it asked these records, where no reply was to come
 pub record Sent (s : Settings) (b : List (Numbered Fields)) (out more : List ℕ) (old : feed.Stage) (new : Standing)
     (a : Asked) : Type 0 where
-  pub bytes : more ≡ out ++ bytes_of (string_bytes s.key) old b
+  pub bytes : more ≡ out ++ bytes_of s old b
   pub asks : a ≡ asks_of old b
   pub stands : new ≡ stands_at old b
   pub fits : Fits s.base old b

@@ -12,7 +12,7 @@ use Rattle.stream_once.specs.World.{happens, run}
 use Rattle.stream_feed.specs.Machine.{Standing, Asks, idle, next_batch}
 use Rattle.stream_feed.specs.Records.{Fields}
 use Rattle.stream_feed.specs.Replies.{heard}
-use Rattle.stream_feed.specs.Sentences.{ask_bytes, batch_bytes}
+use Rattle.stream_feed.specs.Sentences.{ask_bytes, batch_bytes, head_of}
 use Rattle.stream_feed.specs.Session.{Hears, IsRound, Breaks, Rounds, Finished, Broke}
 use Rattle.stream_feed.specs.declared.error.RunError.{RunError}
 use Rattle.stream_feed.specs.declared.error.RunError.TheVariants as causes
@@ -108,17 +108,17 @@ RoundsAreEvents = (setting : Setting Fields) (s : Settings) (known : Option (Lis
     → IsProducer x (run setting (round_events s m) w).producer
 
 -- the bytes of what is on the way to the server
-abbrev pub sent_bytes : List ℕ → Option (Request Fields) → List ℕ
-sent_bytes key None = []
-sent_bytes key (Some ask_last) = ask_bytes key
-sent_bytes key (Some (batch b)) = batch_bytes key b
+abbrev pub sent_bytes : Settings → Option (Request Fields) → List ℕ
+sent_bytes s None = []
+sent_bytes s (Some ask_last) = ask_bytes (string_bytes s.key)
+sent_bytes s (Some (batch b)) = batch_bytes (head_of s) b
 
 -- the bytes of a round are those of what the model's producer sends
 abbrev pub RoundsSendIt : Type 0
 RoundsSendIt = (setting : Setting Fields) (s : Settings) (known : Option (List Fields)) (bytes : List ℕ) (v y : Standing)
     (a : Asked) (w : World Fields) (q : Asks s known [] bytes v y a) → IsProducer v w.producer
     → SendsTheRecords setting s v q.0
-    → bytes ≡ sent_bytes (string_bytes s.key) (happens setting w (Send s.batch)).producer.sent
+    → bytes ≡ sent_bytes s (happens setting w (Send s.batch)).producer.sent
 
 -- the first premise holds of a source whose records are told
 abbrev pub ToldRecordsAreSent : Type 0

@@ -1,9 +1,13 @@
 -- What a producer sends.
-use Rattle.std.specs.Prelude.{ℕ, List, [], ◌∷◌, ◌++◌, codes}
+use Rattle.std.specs.Prelude.{ℕ, List, [], ◌∷◌, ◌++◌, codes, option_map, string_bytes}
+use Rattle.redis_args.specs.Clause.{clause}
 use Rattle.redis_wire.specs.Packed.{command_bytes}
 use Rattle.stream_group.specs.Group.{id_text}
 use Rattle.stream_once.specs.Feed.{Numbered}
+use Rattle.stream_options.specs.Trim.{strategy_sentence}
+use Rattle.stream_options.specs.View.{strategy_of}
 use Rattle.stream_feed.specs.Records.{Fields}
+use Rattle.stream_feed.specs.declared.settings.Settings.{Settings}
 
 -- `XINFO STREAM key`, as bytes
 abbrev pub ask_bytes : List ℕ → List ℕ
@@ -13,16 +17,20 @@ ask_bytes key = command_bytes (codes "XINFO" ∷ codes "STREAM" ∷ key ∷ [])
 abbrev pub own_id : ℕ → List ℕ
 own_id number = id_text (number, 0)
 
--- `XADD key id field value ..`
-abbrev pub add_sentence : List ℕ → Numbered Fields → List (List ℕ)
-add_sentence key r = codes "XADD" ∷ key ∷ id_text r.0 ∷ r.1
+-- what XADD has before the id: the key, and `MAXLEN mode n` or `MINID mode id` if it trims
+abbrev pub head_of : Settings → List (List ℕ)
+head_of s = string_bytes s.key ∷ clause strategy_sentence (option_map strategy_of s.trim)
+
+-- `XADD key [trimming] id field value ..`
+abbrev pub add_sentence : List (List ℕ) → Numbered Fields → List (List ℕ)
+add_sentence head r = codes "XADD" ∷ (head ++ id_text r.0 ∷ r.1)
 
 -- XADD of each record, as bytes
-abbrev pub adds_bytes : List ℕ → List (Numbered Fields) → List ℕ
-adds_bytes key [] = []
-adds_bytes key (r ∷ rs) = command_bytes (add_sentence key r) ++ adds_bytes key rs
+abbrev pub adds_bytes : List (List ℕ) → List (Numbered Fields) → List ℕ
+adds_bytes head [] = []
+adds_bytes head (r ∷ rs) = command_bytes (add_sentence head r) ++ adds_bytes head rs
 
 -- a batch, as bytes
-abbrev pub batch_bytes : List ℕ → List (Numbered Fields) → List ℕ
-batch_bytes key b =
-    command_bytes (codes "MULTI" ∷ []) ++ (adds_bytes key b ++ command_bytes (codes "EXEC" ∷ []))
+abbrev pub batch_bytes : List (List ℕ) → List (Numbered Fields) → List ℕ
+batch_bytes head b =
+    command_bytes (codes "MULTI" ∷ []) ++ (adds_bytes head b ++ command_bytes (codes "EXEC" ∷ []))

@@ -1,7 +1,7 @@
 -- A session of a producer over a connection: rounds, in each of which it asks and takes all replies.
 use Rattle.std.specs.Prelude.{◌≡◌, Bool, true, false, ℕ, zero, suc, ◌<◌, ◌≤◌, List, [], ◌∷◌, length, Option}
 use Rattle.redis_wire.specs.Reply as wire
-use Rattle.redis_connection.specs.Link.{Link, Sends, SendsFront}
+use Rattle.redis_connection.specs.Link.{Link, Sends, SendsFront, IsEnded, IsFaulty}
 use Rattle.redis_connection.specs.Passing.{ReceivesAnswer, AwaitsAnswer}
 use Rattle.stream_once.specs.Feed.{knows}
 use Rattle.stream_feed.specs.Learnt.{Took, Untaken}
@@ -33,11 +33,11 @@ module _ (base count : ℕ) where
   abbrev pub HearsAll : Link → Link → Standing → Standing → Type 0
   HearsAll old new w x = Hears w.coming old new w x
 
-  -- a reply did not come, or came and was not taken
+  -- a reply did not come, and the error says why; or it came and was not taken
   abbrev pub Unheard : Link → Link → Standing → RunError → Type 0
   Unheard old new w (causes.Request e) = ⊥
   Unheard old new w (causes.Send e) = ⊥
-  Unheard old new w (causes.Receive e) = AwaitsAnswer old new
+  Unheard old new w (causes.Receive e) = AwaitsAnswer old new × (IsEnded new e × IsFaulty new.held e)
   Unheard old new w (causes.Answer e) = (x : Standing) × (a : wire.Answer) × ReceivesAnswer old new a
       × Untaken base count w x a e
 

@@ -1,11 +1,12 @@
 //! The bytes that a producer sends.
-ghost use Rattle.std.specs.Prelude.{◌≡◌, ◌≢◌, ◌+◌, ◌<◌, ◌^◌, ◌*◌, ◌++◌, [], IfOk, OnOk, OnErr, codes, length, map};
+ghost use Rattle.std.specs.Prelude.{◌≡◌, ◌≢◌, ◌+◌, ◌<◌, ◌^◌, ◌*◌, ◌++◌, ◌∷◌, [], IfOk, OnOk, OnErr, codes, length, map};
 ghost use Rattle.std.specs.List.{flat_map};
 ghost use Rattle.redis_wire.specs.Packed.{bulk_bytes, command_bytes, head_bytes};
 ghost use Rattle.stream_feed.specs.Records.{arguments_of, arguments_of_field};
-ghost use Rattle.stream_feed.specs.Sentences.{adds_bytes, ask_bytes, batch_bytes, own_id};
+ghost use Rattle.stream_feed.specs.Sentences.{adds_bytes, ask_bytes, batch_bytes, head_of, own_id};
 ghost use Rattle.stream_once.specs.Feed.{numbered};
 
+use crate::settings::Settings;
 use crate::source::{Field, Record};
 use itoa::Buffer;
 use redis_resp::{ToRedisArgs, WriteError};
@@ -20,23 +21,23 @@ pub fn append_question(alloc: Global, out: &mut Vec<u8>, key: &str) -> Result<()
     append_command(alloc, out, &("XINFO", "STREAM", key))
 }
 
-/// Appends `MULTI`, `XADD key (before + 1)-0 field value ..` and so on, and `EXEC`. An `Err`
-/// changes nothing.
+/// Appends `MULTI`, `XADD key [trimming] (before + 1)-0 field value ..` and so on, and `EXEC`. An
+/// `Err` changes nothing.
 pub fn append_batch(
     alloc: Global,
     out: &mut Vec<u8>,
-    key: &str,
+    settings: &Settings,
     before: u64,
     records: &[Record],
 ) -> Result<(), WriteError>
     requires { before + length records.now < 2 ^ 64 }
     ensures ok { OnOk result (out.new.items ≡ out.old.items
-        ++ batch_bytes key.now (numbered before (map arguments_of records.now))) }
+        ++ batch_bytes (head_of settings.now) (numbered before (map arguments_of records.now))) }
     ensures err { OnErr result (out.new.items ≡ out.old.items) }
 {
     let mut bytes = Vec::new(alloc);
     append_command(alloc, &mut bytes, &"MULTI")?;
-    append_records(alloc, &mut bytes, key, before, records)?;
+    append_records(alloc, &mut bytes, settings, before, records)?;
     append_command(alloc, &mut bytes, &"EXEC")?;
     out.extend_from_slice(&bytes)?;
     Ok(())
@@ -46,15 +47,15 @@ pub fn append_batch(
 fn append_records(
     alloc: Global,
     out: &mut Vec<u8>,
-    key: &str,
+    settings: &Settings,
     before: u64,
     records: &[Record],
 ) -> Result<(), WriteError>
     requires { before + length records.now < 2 ^ 64 }
     ensures { OnOk result (out.new.items ≡ out.old.items
-        ++ adds_bytes key.now (numbered before (map arguments_of records.now))) }
+        ++ adds_bytes (head_of settings.now) (numbered before (map arguments_of records.now))) }
 {
-    let front = front_of(alloc, key)?;
+    let front = front_of(alloc, settings)?;
     let mut id = Vec::new(alloc);
     let mut number = before;
     for fields in records {
@@ -64,48 +65,78 @@ fn append_records(
     Ok(())
 }
 
-/// What each `XADD` begins with after the count of its arguments: its name and the key, as bytes.
-fn front_of(alloc: Global, key: &str) -> Result<Vec<u8>, WriteError>
-    ensures { IfOk result (λ front. front.items ≡ bulk_bytes (codes "XADD") ++ bulk_bytes key.now) }
-{
-    let mut front = Vec::new(alloc);
-    append_argument(&mut front, b"XADD")?;
-    append_argument(&mut front, key.as_bytes())?;
-    Ok(front)
+/// What each `XADD` of a batch begins with, after the count of its arguments: its name, the key, and how
+/// it trims the stream.
+#[derive(Drop)]
+struct Front {
+    /// How many arguments these are.
+    count: usize,
+    bytes: Vec<u8>,
 }
 
-/// Appends `XADD key number-0 field value ..`. `front` is its name and the key, as bytes. `id` is room
-/// for the id.
+/// What each `XADD` begins with.
+fn front_of(alloc: Global, settings: &Settings) -> Result<Front, WriteError>
+    ensures count { IfOk result (λ front. front.count ≡ length (codes "XADD" ∷ head_of settings.now)) }
+    ensures bytes { IfOk result (λ front. front.bytes.items
+        ≡ flat_map bulk_bytes (codes "XADD" ∷ head_of settings.now)) }
+{
+    let words = ("XADD", &settings.key, &settings.trim).to_redis_args(alloc)?;
+    let mut bytes = Vec::new(alloc);
+    append_arguments(&mut bytes, &words)?;
+    Ok(Front {
+        count: words.len(),
+        bytes,
+    })
+}
+
+/// Appends arguments.
+fn append_arguments(out: &mut Vec<u8>, words: &[Vec<u8>]) -> Result<(), WriteError>
+    ensures { OnOk result (out.new.items ≡ out.old.items
+        ++ flat_map bulk_bytes (map (λ word. word.items) words.now)) }
+{
+    for word in words {
+        append_argument(out, word)?;
+    }
+    Ok(())
+}
+
+/// Appends the `XADD` of a record, `XADD key [trimming] number-0 field value ..`. `id` is room for the id.
 fn append_record(
     out: &mut Vec<u8>,
-    front: &[u8],
+    front: &Front,
     id: &mut Vec<u8>,
     number: u64,
     fields: &Record,
 ) -> Result<(), WriteError>
     ensures { OnOk result (out.new.items ≡ out.old.items
-        ++ (head_bytes (3 + length (arguments_of fields.now)) ++ (front.now
+        ++ (head_bytes (front.now.count + 1 + length (arguments_of fields.now))
+        ++ (front.now.bytes.items
         ++ (bulk_bytes (own_id number) ++ flat_map bulk_bytes (arguments_of fields.now))))) }
 {
     let fields = fields.as_slice();
-    append_head(out, fields.len())?;
-    out.extend_from_slice(front)?;
+    append_head(out, front.count, fields.len())?;
+    out.extend_from_slice(&front.bytes)?;
     write_id(id, number)?;
     push_bulk(out, id)?;
     append_fields(out, fields)?;
     Ok(())
 }
 
-/// Appends how many arguments the `XADD` of a record with so many fields has: less than 2^32.
+/// Appends how many arguments an `XADD` has: `count` before its id, the id, and two for each field. They
+/// are fewer than 2^32.
 #[tactic(auto, unfolding(redis_wire::specs::Packed::head_bytes))]
-fn append_head(out: &mut Vec<u8>, fields: usize) -> Result<(), WriteError>
-    ensures { OnOk result (out.new.items ≡ out.old.items ++ head_bytes (3 + 2 * fields)) }
+fn append_head(out: &mut Vec<u8>, count: usize, fields: usize) -> Result<(), WriteError>
+    ensures { OnOk result (out.new.items ≡ out.old.items ++ head_bytes (count + 1 + 2 * fields)) }
 {
-    if fields > 0x7fff_fffe {
+    if count > 0xffff_fffe || fields > (0xffff_fffe - count) / 2 {
         return Err(WriteError::Full);
     }
     out.push(b'*')?;
-    out.extend_from_slice(Buffer::new().format::<usize>(3 + 2 * fields).as_bytes())?;
+    out.extend_from_slice(
+        Buffer::new()
+            .format::<usize>(count + 1 + 2 * fields)
+            .as_bytes(),
+    )?;
     out.extend_from_slice(b"\r\n")?;
     Ok(())
 }

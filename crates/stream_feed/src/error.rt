@@ -61,7 +61,7 @@ pub enum FeedError {
     /// The reply is none to the question.
     #[error("no answer of a command")]
     NotAnAnswer,
-    /// The last id is none of the records: somebody else adds to the stream.
+    /// The last id is above the base, and none of the records: somebody else adds to the stream.
     #[error("another writer adds to the stream")]
     OtherWriter,
     /// Out of memory.

@@ -3,18 +3,45 @@ ghost use Rattle.std.specs.Prelude.{◌≡◌, IfErr, IfOk, None, Some, codes, m
 ghost use Rattle.redis_resp.specs.Number.{unsigned_of, within};
 ghost use Rattle.redis_resp.specs.Value.{tree};
 ghost use Rattle.redis_wire.specs.Reply.{answer, value};
+ghost use Rattle.stream_feed.specs.Last.{IsUntold, LastIs};
 ghost use Rattle.stream_feed.specs.Replies.{last_in, last_of, last_text, no_stream, numbers_in};
 ghost use Rattle.stream_feed.specs.Unheard.{IsUnasked};
 ghost use Rattle.stream_feed.specs.declared.error.FeedError.TheVariants as causes;
 
-use crate::error::FeedError;
+use crate::batch::append_question;
+use crate::error::{FeedError, RunError};
+use redis_connection::Connection;
 use redis_resp::{ParsingError, Value, field_of, from_redis_value};
 use redis_wire::{Reply, ServerError};
 use std::alloc::{AllocError, Global};
 use std::collections::HashMap;
+use std::io::{Read, Write};
 
 /// What a server answers where there is no stream.
 const NO_STREAM: &[u8] = b"ERR no such key";
+
+/// Asks for the last id of the stream `key`, as its two numbers. They are 0 and 0 if there is no stream.
+/// So a first run finds the base of records that are added after what is there.
+pub fn ask_last_id<R: Read + Drop, W: Write + Drop>(
+    alloc: Global,
+    connection: &mut Connection<R, W>,
+    key: &str,
+) -> Result<(u64, u64), RunError>
+    ensures ok { IfOk result (LastIs key.now connection.old connection.new) }
+    ensures err { IfErr result (IsUntold key.now connection.old connection.new) }
+{
+    let mut bytes = Vec::new(alloc);
+    if let Err(error) = append_question(alloc, &mut bytes, key) {
+        return Err(RunError::Request(error.into()));
+    }
+    if let Err(error) = connection.send_bytes(&bytes) {
+        return Err(RunError::Send(error));
+    }
+    match connection.receive(alloc) {
+        Ok(reply) => Ok(read_last_id(alloc, reply)?),
+        Err(error) => Err(RunError::Receive(error)),
+    }
+}
 
 /// The two numbers of the last id that the stream gave out; 0 and 0 where there is no stream.
 pub fn read_last_id(alloc: Global, reply: Reply) -> Result<(u64, u64), FeedError>

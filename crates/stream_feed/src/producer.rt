@@ -7,7 +7,7 @@ ghost use Rattle.stream_feed.specs.Machine.{Asks, AsksNone, Sends, Sent, Unsent,
 ghost use Rattle.stream_feed.specs.Machine.{stage_of, standing_of};
 ghost use Rattle.stream_feed.specs.Records.{arguments_of};
 ghost use Rattle.stream_feed.specs.Replies.{is_executed};
-ghost use Rattle.stream_feed.specs.Sentences.{ask_bytes, batch_bytes};
+ghost use Rattle.stream_feed.specs.Sentences.{ask_bytes, batch_bytes, head_of};
 ghost use Rattle.stream_feed.specs.Unheard.{IsCause, IsNoError, IsUnexecuted};
 ghost use Rattle.stream_feed.specs.declared.error.RequestError.TheVariants as causes;
 ghost use Rattle.stream_once.specs.Feed.{asking, knows, numbered, waits};
@@ -191,7 +191,7 @@ impl Producer {
         records: &[Record],
     ) -> Result<Asked, RequestError>
         ensures bytes { OnOk result (out.new.items
-            ≡ out.old.items ++ batch_bytes (string_bytes self.old.settings.key)
+            ≡ out.old.items ++ batch_bytes (head_of self.old.settings)
             (numbered (self.old.settings.base + known) (map arguments_of records.now))) }
         ensures standing { OnOk result (standing_of self.new ≡ record {
           stage = waits known (length records.now);
@@ -206,7 +206,7 @@ impl Producer {
     {
         let sent = records.len() as u64;
         let before = id_before(self.settings.base, known, sent)?;
-        append_batch(alloc, out, self.settings.key.as_str(), before, records)?;
+        append_batch(alloc, out, &self.settings, before, records)?;
         self.stage = Stage::Waits(OnTheWay { known, sent });
         self.coming = sent + 2;
         Ok(Asked::Records)
@@ -278,19 +278,19 @@ fn learn(
     }
 }
 
-/// How many records are in, by the last id.
+/// How many records are in, by the last id: none if it is at or below the base.
 fn learn_last(alloc: Global, base: u64, reply: Reply, count: u64) -> Result<Stage, FeedError>
     ensures ok { IfOk result (λ next. Learns base count asking (stage_of next) (answer reply)) }
     ensures err { IfErr result (Unlearnt base count asking (answer reply)) }
 {
     let (last, second) = read_last_id(alloc, reply)?;
-    if second != 0 {
+    if last <= base {
+        return Ok(Stage::Knows(0));
+    }
+    if second != 0 || last > base.saturating_add(count) {
         return Err(FeedError::OtherWriter);
     }
-    if last > base.saturating_add(count) {
-        return Err(FeedError::OtherWriter);
-    }
-    Ok(Stage::Knows(last.saturating_sub(base)))
+    Ok(Stage::Knows(last - base))
 }
 
 /// The reply to a command before EXEC is anything but an error.

@@ -1,7 +1,8 @@
 //! What a producer is asked to do.
-ghost use Rattle.std.specs.Prelude.{◌≡◌};
-ghost use Rattle.stream_feed.specs.Checked.{checked};
+ghost use Rattle.std.specs.Prelude.{◌≡◌, Some, string_bytes};
+ghost use Rattle.stream_feed.specs.Checked.{based, checked};
 
+use stream_options::StreamTrimStrategy;
 use thiserror::Error;
 
 /// Why settings are none.
@@ -30,12 +31,14 @@ pub struct Settings {
     pub(crate) base: u64,
     /// At most so many records are sent at once.
     pub(crate) batch: usize,
+    /// How each XADD trims the stream, if it does.
+    pub(crate) trim: Option<StreamTrimStrategy>,
 }
 
 impl Settings {
     /// To the stream `key`, with the ids `(base + 1)-0`, `(base + 2)-0` and so on, at most `batch`
     /// records at once, from 1 to 10,000. The base stays the same for all time that these records
-    /// are added to the stream. It is refused by the first cause that holds.
+    /// are added to the stream. Nothing is trimmed. It is refused by the first cause that holds.
     pub fn new(key: String, base: u64, batch: usize) -> Result<Settings, SettingsError>
         ensures { result ≡ checked key base batch }
     {
@@ -51,6 +54,38 @@ impl Settings {
         if base == u64::MAX {
             return Err(SettingsError::LargeBase);
         }
-        Ok(Settings { key, base, batch })
+        Ok(Settings {
+            key,
+            base,
+            batch,
+            trim: None,
+        })
+    }
+
+    /// The stream.
+    pub fn key(&self) -> &str
+        ensures { result.now ≡ string_bytes self.now.key }
+    {
+        self.key.as_str()
+    }
+
+    /// The same with another base. It is refused if no id of 64 bits is above it.
+    pub fn with_base(mut self, base: u64) -> Result<Settings, SettingsError>
+        ensures { result ≡ based self base }
+    {
+        if base == u64::MAX {
+            return Err(SettingsError::LargeBase);
+        }
+        self.base = base;
+        Ok(self)
+    }
+
+    /// Each `XADD` has this `MAXLEN` or `MINID`, in place of any before. So the stream keeps the newest
+    /// entries. Its last id is not changed by that, so no record is added again.
+    pub fn trim(mut self, strategy: StreamTrimStrategy) -> Settings
+        ensures { result ≡ record self { trim = Some strategy } }
+    {
+        self.trim = Some(strategy);
+        self
     }
 }

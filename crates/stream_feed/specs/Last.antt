@@ -1,0 +1,28 @@
+-- The question for the last id of a stream, and what its reply says.
+use Rattle.std.specs.Prelude.{◌≡◌, ℕ, List, Some}
+use Rattle.redis_connection.specs.Link.{Link, Sends, SendsFront, IsEnded, IsFaulty}
+use Rattle.redis_connection.specs.Passing.{ReceivesAnswer, AwaitsAnswer}
+use Rattle.redis_wire.specs.Reply as wire
+use Rattle.stream_group.specs.Group.{Numbers}
+use Rattle.stream_feed.specs.Replies.{last_of}
+use Rattle.stream_feed.specs.Sentences.{ask_bytes}
+use Rattle.stream_feed.specs.Unheard.{IsUnasked}
+use Rattle.stream_feed.specs.declared.error.RunError.{RunError}
+use Rattle.stream_feed.specs.declared.error.RunError.TheVariants as causes
+
+-- `XINFO STREAM key` went out, and the reply says that this is the last id
+pub record LastIs (key : List ℕ) (old new : Link) (last : Numbers) : Type 0 where
+  pub between : Link
+  pub reply : wire.Answer
+  pub sends : Sends old between (ask_bytes key)
+  pub receives : ReceivesAnswer between new reply
+  pub says : last_of reply ≡ Some last
+
+-- why the last id is not known: the question did not go out; or it did, and no reply came, or one that says no last id
+abbrev pub IsUntold : List ℕ → Link → Link → RunError → Type 0
+IsUntold key old new (causes.Request e) = new ≡ old
+IsUntold key old new (causes.Send e) = SendsFront old new (ask_bytes key)
+IsUntold key old new (causes.Receive e) =
+    (l : Link) × Sends old l (ask_bytes key) × AwaitsAnswer l new × IsEnded new e × IsFaulty new.held e
+IsUntold key old new (causes.Answer e) =
+    (l : Link) × (a : wire.Answer) × Sends old l (ask_bytes key) × ReceivesAnswer l new a × IsUnasked a e
