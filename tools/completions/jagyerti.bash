@@ -12,7 +12,7 @@ _jagyerti_tools=$(cd "$(dirname "${BASH_SOURCE[0]}")/.." && pwd)
 _jagyerti_options() {
     case $1 in
         stream_drain) echo --from --count --block --idle --every --dead --json --look-up --quiet --until-empty --wait --help --version ;;
-        stream_fill) echo --field --json --batch --base --wait --help --version ;;
+        stream_fill) echo --field --json --batch --base --onto --maxlen --minid --approximate --wait --help --version ;;
         stream_sqlite) echo --from --count --block --idle --every --table --columns --forward --until-empty --help --version ;;
         stream_top) echo --json --openmetrics --once --help --version ;;
         stream_serve) ;;

@@ -23,21 +23,25 @@ ghost use Rattle.std.specs.Prelude.{◌≡◌, IfSome};
 mod counts;
 mod fill;
 mod json_records;
+mod kept_base;
 mod lines;
 mod options;
 
 use crate::counts::Counts;
 use crate::fill::{FillError, fill};
+use crate::kept_base::{BaseError, find_base};
 use crate::lines::Lines;
 use crate::options::{Options, options_of};
-use anyhow::{Error, Result, bail};
+use anyhow::{Error, Result, anyhow, bail};
 use command_lines::tell;
+use line_log::{LogError, SystemFile};
 use redis_connection::Connection;
 use redis_wire::Limits;
 use std::alloc::{AllocError, Global};
+use std::io::{ErrorKind, Read, Write};
 use std::process::ExitCode;
 use std::{env, io};
-use stream_feed::{ConfirmedError, RequestError, RunError};
+use stream_feed::{ConfirmedError, RequestError, RunError, Settings};
 
 fn main(rt: HostRuntime) -> Result<ExitCode> {
     let words = words_of(&rt)?;
@@ -85,14 +89,22 @@ fn words_of(rt: &HostRuntime) -> Result<Vec<String>> {
 /// Fills as these options say, over standard input and output.
 fn fill_by(rt: &HostRuntime, options: Options) -> Result<()> {
     let Options {
-        settings,
+        mut settings,
         path,
         form,
+        is_onto,
         wait,
     } = options;
     let alloc = rt.alloc();
     let mut lines = Lines::open(rt, &path, form)?;
     let mut connection = Connection::new(alloc, rt.reader(), io::writer(rt), Limits::default())?;
+    let mut kept = None;
+    if is_onto {
+        let path = format!(in alloc; "{path}.onto")?;
+        let mut file = open_kept(rt, path.as_str())?;
+        settings = after_entries(alloc, settings, &mut file, &mut connection, path.as_str())?;
+        kept = Some(file);
+    }
     let mut counts = Counts::new();
     let count = lines.count;
     let ended = fill(
@@ -104,6 +116,8 @@ fn fill_by(rt: &HostRuntime, options: Options) -> Result<()> {
         wait,
         &mut counts,
     );
+    // Until here no other run has the file that keeps the base.
+    drop(kept);
     eprintln!(rt; "{counts}")?;
     if let Err(error) = ended {
         return Err(told(error, lines.fault));
@@ -112,6 +126,35 @@ fn fill_by(rt: &HostRuntime, options: Options) -> Result<()> {
         bail!("the last line has no end, and is not added");
     }
     Ok(())
+}
+
+/// The file that keeps the base of lines that are added after what the stream has.
+fn open_kept(rt: &HostRuntime, path: &str) -> Result<SystemFile> {
+    match SystemFile::open(rt, path) {
+        Ok(file) => Ok(file),
+        Err(LogError::File(reason)) if reason.kind() == ErrorKind::WouldBlock => {
+            Err(anyhow!("another process has the file {path}"))
+        }
+        Err(error) => Err(Error::from(error).context(format_args!("cannot open {path}"))),
+    }
+}
+
+/// The settings with the base that the file keeps.
+fn after_entries<R: Read + Drop, W: Write + Drop>(
+    alloc: Global,
+    settings: Settings,
+    file: &mut SystemFile,
+    connection: &mut Connection<R, W>,
+    path: &str,
+) -> Result<Settings> {
+    match find_base(alloc, file, connection, settings.key()) {
+        Ok(base) => Ok(settings.with_base(base)?),
+        Err(BaseError::OtherFile) => Err(anyhow!("{path} keeps no base of this stream")),
+        Err(BaseError::File(error)) => {
+            Err(Error::from(error).context(format_args!("cannot keep the base in {path}")))
+        }
+        Err(BaseError::Ask(error)) => Err(error.into()),
+    }
 }
 
 /// Why not all lines are in. If records were not read, it is the fault of the file.

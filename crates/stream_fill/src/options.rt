@@ -4,10 +4,11 @@ ghost use Rattle.std.specs.Prelude.{◌≤◌, length, IfOk};
 use crate::lines::Form;
 use clap::{ArgMatches, Command, Error};
 use command_lines::{
-    Number, command, flag, matches_of, name, refused, text, wait, wait_of, word_of,
+    Number, command, flag, matches_of, name, refused, refused_value, text, wait, wait_of, word_of,
 };
 use std::alloc::{AllocError, Global};
 use stream_feed::{Settings, Wait};
+use stream_options::{StreamTrimStrategy, StreamTrimmingMode};
 
 /// What the program is to do.
 #[derive(Drop)]
@@ -15,6 +16,8 @@ pub struct Options {
     pub settings: Settings,
     pub path: String,
     pub form: Form,
+    /// The lines are added after what the stream has.
+    pub is_onto: bool,
     /// So many replicas are to confirm each batch.
     pub wait: Option<Wait>,
 }
@@ -37,6 +40,13 @@ const BASE: Number = Number {
     usual: "0",
 };
 
+const MAXLEN: &str = "Each XADD keeps the newest N entries of the stream, as its MAXLEN";
+
+const MINID: &str = "Each XADD keeps the entries from this id on, as its MINID";
+
+const APPROXIMATE: &str =
+    "With --maxlen or --minid: as XADD's ~, it may keep somewhat more, which is faster";
+
 /// The options of these words.
 pub fn options_of(alloc: Global, words: &[String]) -> Result<Options, Error>
     ensures { IfOk result (λ _. 2 ≤ length words.now) }
@@ -49,6 +59,7 @@ pub fn options_of(alloc: Global, words: &[String]) -> Result<Options, Error>
         settings,
         path: String::from_str(alloc, word_of(&matches, "FILE"))?,
         form: form_of(alloc, &matches)?,
+        is_onto: matches.get_flag("onto"),
         wait,
     })
 }
@@ -57,6 +68,8 @@ fn command_of<'a>(alloc: Global) -> Result<Command<'a>, AllocError> {
     let about = "Fills a stream with the lines of a file, each once and in order.";
     let field = "The name of the one field of each record, whose value is the line";
     let json = "Each line is an object of texts, or a line of stream_drain --json";
+    let onto =
+        "The lines are added after what the stream has, and FILE.onto keeps from which id on";
     let help =
         "So many replicas are to confirm each batch within so many milliseconds, each number 1 at least";
     command(alloc, "stream_fill", about)
@@ -66,6 +79,10 @@ fn command_of<'a>(alloc: Global) -> Result<Command<'a>, AllocError> {
         .arg(flag(alloc, "json", json))?
         .arg(BATCH.arg(alloc))?
         .arg(BASE.arg(alloc))?
+        .arg(flag(alloc, "onto", onto).conflicts_with("base")?)?
+        .arg(text(alloc, "maxlen", "N", MAXLEN))?
+        .arg(text(alloc, "minid", "ID", MINID).conflicts_with("maxlen")?)?
+        .arg(flag(alloc, "approximate", APPROXIMATE))?
         .arg(wait(alloc, help))
 }
 
@@ -87,9 +104,65 @@ fn settings_of(
     let base = BASE.of(matches).unwrap_or(0);
     let batch = BATCH.of(matches).unwrap_or(0) as usize;
     match Settings::new(key, base, batch) {
-        Ok(settings) => Ok(settings),
+        Ok(settings) => trimmed(alloc, command, matches, settings),
         Err(error) => Err(refused(alloc, command, &error)),
     }
+}
+
+/// The settings with how each XADD trims the stream, if it does.
+fn trimmed(
+    alloc: Global,
+    command: &mut Command<'_>,
+    matches: &ArgMatches<'_>,
+    settings: Settings,
+) -> Result<Settings, Error> {
+    let mode = if matches.get_flag("approximate") {
+        StreamTrimmingMode::Approx
+    } else {
+        StreamTrimmingMode::Exact
+    };
+    if let Some(word) = matches.get_str("maxlen") {
+        let Some(len) = length_of(word) else {
+            let reason = "wanted is a number of entries";
+            return Err(refused_value(alloc, command, word, "--maxlen <N>", reason));
+        };
+        return Ok(settings.trim(StreamTrimStrategy::maxlen(mode, len)));
+    }
+    if let Some(word) = matches.get_str("minid") {
+        if !is_id(word) {
+            let reason = "wanted is an id, as 1526919030474-0";
+            return Err(refused_value(alloc, command, word, "--minid <ID>", reason));
+        }
+        let id = String::from_str(alloc, word)?;
+        return Ok(settings.trim(StreamTrimStrategy::minid(mode, id)));
+    }
+    if matches.get_flag("approximate") {
+        let reason = "--approximate goes with --maxlen or --minid";
+        return Err(refused(alloc, command, &reason));
+    }
+    Ok(settings)
+}
+
+/// A length that MAXLEN takes: below 2^63.
+fn length_of(word: &str) -> Option<usize> {
+    let len = word.parse::<usize>().ok()?;
+    if len > i64::MAX as usize {
+        return None;
+    }
+    Some(len)
+}
+
+/// Whether a word is an id: a number, or two with a hyphen between.
+fn is_id(word: &str) -> bool {
+    match word.split_once('-') {
+        Some((first, second)) => is_number(first) && is_number(second),
+        None => is_number(word),
+    }
+}
+
+/// Whether a word is a number of 64 bits, in digits alone.
+fn is_number(word: &str) -> bool {
+    word.parse::<u64>().is_ok() && !word.starts_with('+')
 }
 
 /// How many replicas are to confirm each batch, and how long it waits for them.
