@@ -1,1 +1,2 @@
+pub mod BaseLemmas
 pub mod TakenLemmas

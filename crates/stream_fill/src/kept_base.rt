@@ -2,6 +2,8 @@
 //!
 //! A first run takes the last id of the stream as the base. It writes the base to the file, and has the disk
 //! take it in, before it adds anything. So a later run finds the same base, and goes on.
+ghost use Rattle.std.specs.Prelude.{◌≡◌, Some, IfOk, IfSome, OnOk};
+ghost use Rattle.stream_fill.specs.Base.{base_line};
 
 use itoa::Buffer;
 use line_log::{LogError, LogFile};
@@ -47,12 +49,16 @@ impl From<RunError> for BaseError {
 
 /// The base that the file keeps for the stream `key`. If it keeps none, the base is the first number of
 /// the last id that the stream has, and the file keeps that from now on.
+#[tactic(auto, using(crate::proofs::BaseLemmas::kept_same))]
 pub fn find_base<D: LogFile, R: Read + Drop, W: Write + Drop>(
     alloc: Global,
     file: &mut D,
     connection: &mut Connection<R, W>,
     key: &str,
-) -> Result<u64, BaseError> {
+) -> Result<u64, BaseError>
+    ensures { IfOk result (λ base. IfSome (D.seen file.old)
+        (λ _. D.seen file.new ≡ Some (base_line key.now base))) }
+{
     if let Some(base) = read_base(alloc, &*file, key)? {
         return Ok(base);
     }
@@ -63,14 +69,20 @@ pub fn find_base<D: LogFile, R: Read + Drop, W: Write + Drop>(
 
 /// The base that a file keeps for the stream `key`, if it keeps one. A run that was killed while it wrote the
 /// base may have left a part of it. That is no base, and nothing was added yet.
-fn read_base<D: LogFile>(alloc: Global, file: &D, key: &str) -> Result<Option<u64>, BaseError> {
+#[tactic(auto, using(crate::proofs::BaseLemmas::whole_read))]
+fn read_base<D: LogFile>(alloc: Global, file: &D, key: &str) -> Result<Option<u64>, BaseError>
+    ensures { IfOk result (λ found. IfSome found (λ base. IfSome (D.seen file.now)
+        (λ bytes. bytes ≡ base_line key.now base))) }
+{
     let len = file.len()?;
     let bytes = file.read_at(alloc, 0, len)?;
     base_in(alloc, &bytes, key)
 }
 
 /// The base that these bytes of a file keep, if they are not a part of such a line.
-fn base_in(alloc: Global, bytes: &[u8], key: &str) -> Result<Option<u64>, BaseError> {
+fn base_in(alloc: Global, bytes: &[u8], key: &str) -> Result<Option<u64>, BaseError>
+    ensures { IfOk result (λ found. IfSome found (λ base. bytes.now ≡ base_line key.now base)) }
+{
     let Some(base) = number_at_front(bytes) else {
         return Err(BaseError::OtherFile);
     };
@@ -102,12 +114,11 @@ fn number_of(digits: &[u8]) -> Option<u64> {
 }
 
 /// Has the file keep this base, in place of a part of one.
-fn keep_base<D: LogFile>(
-    alloc: Global,
-    file: &mut D,
-    key: &str,
-    base: u64,
-) -> Result<(), BaseError> {
+#[tactic(auto, using(crate::proofs::BaseLemmas::line_kept))]
+fn keep_base<D: LogFile>(alloc: Global, file: &mut D, key: &str, base: u64) -> Result<(), BaseError>
+    ensures { OnOk result (IfSome (D.seen file.old)
+        (λ _. D.seen file.new ≡ Some (base_line key.now base))) }
+{
     let line = line_of(alloc, key, base)?;
     file.cut(0)?;
     file.append(&line)?;
@@ -116,7 +127,9 @@ fn keep_base<D: LogFile>(
 }
 
 /// The line that keeps a base: its digits, a space, the key and a line feed.
-fn line_of(alloc: Global, key: &str, base: u64) -> Result<Vec<u8>, AllocError> {
+fn line_of(alloc: Global, key: &str, base: u64) -> Result<Vec<u8>, AllocError>
+    ensures { IfOk result (λ line. line.items ≡ base_line key.now base) }
+{
     let mut line = Vec::new(alloc);
     line.extend_from_slice(Buffer::new().format::<u64>(base).as_bytes())?;
     line.push(b' ')?;
