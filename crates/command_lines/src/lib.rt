@@ -21,8 +21,15 @@ use std::fmt::Display;
 use std::io;
 use std::process::ExitCode;
 
-/// The version of the programs, which `--version` tells.
-pub const VERSION: &str = "0.1.0";
+/// The version of the programs, which `--version` shows.
+pub const VERSION: &str = "0.9.0";
+
+/// What the program was built from, after a mark. A release replaces the text after the mark in the built program, by one of
+/// the same length; spaces at its end are not shown.
+static BUILD: &str = "@jagyerti-build@unproved, built from a checkout             ";
+
+/// The length of the mark.
+const MARK: usize = 16;
 
 /// The command of a program. Its words come without the program's name. An option that comes again undoes the one before.
 pub fn command<'a>(alloc: Global, program: &'a str, about: &'a str) -> Command<'a>
@@ -127,14 +134,46 @@ fn status_of(error: &Error) -> u8
     }
 }
 
+/// What to do about an error of the server that this text names, if a user can do something.
+pub fn remedy_of(text: &str) -> Option<&'static str> {
+    let (_, error) = text.split_once("the server answers ")?;
+    match error.split(' ').next()? {
+        "NOGROUP" => Some(NO_GROUP),
+        "MOVED" | "ASK" => Some(MOVED),
+        _ => None,
+    }
+}
+
+const NO_GROUP: &str =
+    "With --from 0 a group that is missing is made, with all entries; with --from $, from then on.";
+
+const MOVED: &str =
+    "This is a node of a cluster, and another node has the key: start 'jagyerti' with --cluster.";
+
 /// The text of an error as it may be shown: a control character of a word, which could steer a terminal, is `?`.
 fn shown(alloc: Global, error: &Error) -> Result<String, AllocError> {
     let text = format!(in alloc; "{error}")?;
+    if error.kind() == ErrorKind::DisplayVersion {
+        return with_build(alloc, text.trim_end());
+    }
     let mut shown = String::new(alloc);
     for letter in text.chars() {
         let is_shown = letter == '\n' || !letter.is_control();
         shown.push(if is_shown { letter } else { '?' })?;
     }
+    Ok(shown)
+}
+
+/// The name and the version of a program, and what it was built from. The spaces are looked for in a copy that begins with
+/// `version`: so a compiler cannot compute the text of `BUILD` in advance.
+fn with_build(alloc: Global, version: &str) -> Result<String, AllocError> {
+    let mut text = String::from_str(alloc, version)?;
+    text.push_str(" (")?;
+    for letter in BUILD.chars().skip(MARK) {
+        text.push(letter)?;
+    }
+    let mut shown = String::from_str(alloc, text.trim_end())?;
+    shown.push_str(")\n")?;
     Ok(shown)
 }
 

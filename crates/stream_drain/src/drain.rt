@@ -9,9 +9,10 @@ ghost use Rattle.stream_loop.specs.Loop.{Loops, Stops};
 ghost use Rattle.stream_worker.specs.Session.{standing_of};
 
 use crate::backlog::{Backlog, Watched, backlog_in};
+use crate::failure::Failure;
 use crate::lines::{Fault, Lines};
 use crate::report::Report;
-use anyhow::{Error, Result, anyhow, bail};
+use anyhow::{Error, Result as AnyResult, anyhow};
 use line_log::LogFile;
 use redis_connection::{AskError, Connection, ConnectionError};
 use redis_streams::StreamInfoGroupsReply;
@@ -39,7 +40,7 @@ pub fn drain<R: Read + Drop, W: Write + Drop, D: LogFile + Drop, T: Clock + Epri
     dead: &mut Option<DeadLetterSearch>,
     wait: Option<Wait>,
     until_empty: bool,
-) -> Result<()>
+) -> Result<(), Failure>
     ensures ended { IfOk result (λ _. IsTrue until_empty) }
     ensures ok { OnOk result (Leads (Loops worker.old.settings) connection.old connection.new
         (standing_of worker.old (⟦<Lines<D> as Handler>⟧.history lines.old))
@@ -60,7 +61,7 @@ pub fn drain<R: Read + Drop, W: Write + Drop, D: LogFile + Drop, T: Clock + Epri
             return Ok(());
         }
     }
-    bail!("the last turn came")
+    Err(anyhow!("the last turn came").into())
 }
 
 /// Looks for entries to give up, makes a round, or two with one write, and counts: what was asked last.
@@ -73,7 +74,7 @@ fn turn<R: Read + Drop, W: Write + Drop, D: LogFile + Drop, T: Clock + Eprint + 
     dead: &mut Option<DeadLetterSearch>,
     wait: Option<Wait>,
     asked: Asked,
-) -> Result<Asked>
+) -> Result<Asked, Failure>
     ensures settings { worker.new.settings ≡ worker.old.settings }
     ensures ok { OnOk result (Leads (Loops worker.old.settings) connection.old connection.new
         (standing_of worker.old (⟦<Lines<D> as Handler>⟧.history lines.old))
@@ -83,7 +84,7 @@ fn turn<R: Read + Drop, W: Write + Drop, D: LogFile + Drop, T: Clock + Eprint + 
         (standing_of worker.new (⟦<Lines<D> as Handler>⟧.history lines.new))) }
 {
     look(rt.alloc(), connection, lines, dead, asked)?;
-    let alone = dead.is_some();
+    let alone = dead.is_some() || report.is_due(rt);
     let made = any_round(rt.alloc(), connection, worker, lines, wait, alone)?;
     let due = made.acknowledged || made.round.asked == Asked::Acknowledgement;
     count(rt, connection, report, lines.committed, due)?;
@@ -97,7 +98,7 @@ fn look<R: Read + Drop, W: Write + Drop, D: LogFile + Drop>(
     lines: &Lines<D>,
     dead: &mut Option<DeadLetterSearch>,
     asked: Asked,
-) -> Result<()>
+) -> Result<(), Failure>
     ensures ok { OnOk result (Besides connection.old connection.new) }
     ensures err { OnErr result (BreaksBesides connection.old connection.new) }
 {
@@ -106,7 +107,7 @@ fn look<R: Read + Drop, W: Write + Drop, D: LogFile + Drop>(
     };
     match dead.turn(alloc, connection, asked, lines.done > lines.committed) {
         Ok(()) => Ok(()),
-        Err(error) => Err(error.into()),
+        Err(error) => Err(Failure::Search(error)),
     }
 }
 
@@ -118,7 +119,7 @@ fn any_round<R: Read + Drop, W: Write + Drop, D: LogFile + Drop>(
     lines: &mut Lines<D>,
     wait: Option<Wait>,
     alone: bool,
-) -> Result<Pipelined>
+) -> Result<Pipelined, Failure>
     ensures settings { worker.new.settings ≡ worker.old.settings }
     ensures ok { OnOk result (Leads (Loops worker.old.settings) connection.old connection.new
         (standing_of worker.old (⟦<Lines<D> as Handler>⟧.history lines.old))
@@ -146,7 +147,7 @@ fn confirmed<R: Read + Drop, W: Write + Drop, D: LogFile + Drop>(
     worker: &mut Worker,
     lines: &mut Lines<D>,
     wait: &Wait,
-) -> Result<Pipelined>
+) -> Result<Pipelined, Failure>
     ensures settings { worker.new.settings ≡ worker.old.settings }
     ensures ok { OnOk result (Leads (Loops worker.old.settings) connection.old connection.new
         (standing_of worker.old (⟦<Lines<D> as Handler>⟧.history lines.old))
@@ -170,10 +171,10 @@ fn confirmed<R: Read + Drop, W: Write + Drop, D: LogFile + Drop>(
 }
 
 /// Why a round that was to be confirmed failed.
-fn unconfirmed(error: RoundError, fault: &Option<Fault>) -> Error {
+fn unconfirmed(error: RoundError, fault: &Option<Fault>) -> Failure {
     match error {
         RoundError::Run(error) => broken_off(error, fault),
-        RoundError::Unconfirmed(error) => error.into(),
+        RoundError::Unconfirmed(error) => Failure::Unconfirmed(error),
     }
 }
 
@@ -186,7 +187,7 @@ fn round<R: Read + Drop, W: Write + Drop, D: LogFile + Drop>(
     worker: &mut Worker,
     lines: &mut Lines<D>,
     together: bool,
-) -> Result<Pipelined>
+) -> Result<Pipelined, Failure>
     ensures settings { worker.new.settings ≡ worker.old.settings }
     ensures ok { OnOk result (Leads (Loops worker.old.settings) connection.old connection.new
         (standing_of worker.old (⟦<Lines<D> as Handler>⟧.history lines.old))
@@ -225,13 +226,17 @@ fn alone(round: Round) -> Pipelined
 }
 
 /// An error if the handler said to stop.
-fn goes_on(progress: Progress, fault: &Option<Fault>, undone: &Option<String>) -> Result<()>
+fn goes_on(
+    progress: Progress,
+    fault: &Option<Fault>,
+    undone: &Option<String>,
+) -> Result<(), Failure>
     ensures ok { OnOk result (progress ≡ Progress.GoesOn) }
     ensures err { OnErr result (progress ≡ Progress.Stopped) }
 {
     match progress {
         Progress::GoesOn => Ok(()),
-        Progress::Stopped => Err(stopped(fault, undone)),
+        Progress::Stopped => Err(stopped(fault, undone).into()),
     }
 }
 
@@ -242,7 +247,7 @@ fn count<R: Read + Drop, W: Write + Drop, T: Clock + Eprint + AllocGlobal>(
     report: &mut Report,
     entries: u64,
     due: bool,
-) -> Result<()>
+) -> Result<(), Failure>
     ensures ok { OnOk result (Besides connection.old connection.new) }
     ensures err { OnErr result (BreaksBesides connection.old connection.new) }
 {
@@ -262,7 +267,7 @@ fn show<R: Read + Drop, W: Write + Drop, T: Eprint + AllocGlobal>(
     rt: &T,
     connection: &mut Connection<R, W>,
     report: &mut Report,
-) -> Result<()>
+) -> Result<(), Failure>
     ensures ok { OnOk result (Besides connection.old connection.new) }
     ensures err { OnErr result (BreaksBesides connection.old connection.new) }
 {
@@ -281,12 +286,16 @@ fn show<R: Read + Drop, W: Write + Drop, T: Eprint + AllocGlobal>(
             report.watched = None;
             say(rt, report, &format_args!(", XINFO GROUPS: {error}"))
         }
-        Err(error) => Err(error.into()),
+        Err(error) => Err(Failure::Ask(error)),
     }
 }
 
 /// Shows the counts, and this behind them.
-fn say<T: Eprint, M: fmt::Display>(rt: &T, report: &Report, more: &M) -> Result<()> {
+fn say<T: Eprint, M: fmt::Display>(rt: &T, report: &Report, more: &M) -> Result<(), Failure> {
+    Ok(written(rt, report, more)?)
+}
+
+fn written<T: Eprint, M: fmt::Display>(rt: &T, report: &Report, more: &M) -> AnyResult<()> {
     eprintln!(rt; "{report}{more}")?;
     Ok(())
 }
@@ -297,7 +306,7 @@ fn backlog_told<R: Read + Drop, W: Write + Drop>(
     alloc: Global,
     connection: &mut Connection<R, W>,
     watched: &Option<Watched>,
-) -> std::result::Result<Option<Backlog>, AskError>
+) -> Result<Option<Backlog>, AskError>
     ensures ok { OnOk result (Besides connection.old connection.new) }
     ensures err { IfErr result (LooksNot connection.old connection.new) }
     ensures heard { Hears watched.now connection.old connection.new result }
@@ -313,18 +322,18 @@ fn backlog_told<R: Read + Drop, W: Write + Drop>(
 }
 
 /// Why a round failed.
-fn broken_off(error: RunError, fault: &Option<Fault>) -> Error {
+fn broken_off(error: RunError, fault: &Option<Fault>) -> Failure {
     match error {
-        RunError::Request(RequestError::NotCommitted) => not_committed(fault),
+        RunError::Request(RequestError::NotCommitted) => not_committed(fault).into(),
         RunError::Receive {
             error: ConnectionError::Fault(WireFault::Overfull),
             ..
-        } => { anyhow!("an answer is larger than {LARGEST}: take a smaller --count") }
+        } => { anyhow!("an answer is larger than {LARGEST}: take a smaller --count").into() }
         RunError::Receive {
             error: ConnectionError::Memory,
             ..
-        } => { anyhow!("out of memory for an answer: take a smaller --count") }
-        error => error.into(),
+        } => { anyhow!("out of memory for an answer: take a smaller --count").into() }
+        error => Failure::Round(error),
     }
 }
 

@@ -15,13 +15,14 @@
 //! A program that is started again first acknowledges the entries of the last lines of its file. So no
 //! entry is a line twice, if the file is this consumer's alone.
 //!
-//! Once a second it writes to standard error what it did and what the group has still to do, and at the
-//! end what it did; with `--quiet` only at the end. It ends with 0 if `--until-empty` is there and
+//! With the first batch, and then once a second, it writes to standard error what it did and what the group has still to do,
+//! and at the end what it did; with `--quiet` only at the end. It ends with 0 if `--until-empty` is there and
 //! nothing new came, with 2 if a word is wrong, and else with 1 and the reason. `--help` tells its words.
 #![tactic(auto)]
 
 mod backlog;
 mod drain;
+mod failure;
 mod json_lines;
 mod laws;
 mod lines;
@@ -32,6 +33,7 @@ mod there;
 
 use crate::backlog::Watched;
 use crate::drain::drain;
+use crate::failure::Failure;
 use crate::lines::Lines;
 use crate::options::{Options, options_of};
 use crate::report::Report;
@@ -56,30 +58,18 @@ fn main(rt: HostRuntime) -> Result<ExitCode> {
     };
     match drain_by(&rt, options) {
         Ok(()) => Ok(ExitCode::SUCCESS),
-        Err(error) => Err(masked(rt.alloc(), error)),
+        Err(failure) => {
+            show_failure(&rt, &failure)?;
+            Ok(ExitCode::FAILURE)
+        }
     }
 }
 
-/// An error as it may be shown: a control character, which could steer a terminal, stands in its text
-/// as `?`.
-fn masked(alloc: Global, error: Error) -> Error {
-    match masked_text(alloc, &error) {
-        Ok(Some(text)) => Error::msg(text),
-        Ok(None) | Err(_) => error,
-    }
-}
-
-/// The text of an error that has a control character in it, masked.
-fn masked_text(alloc: Global, error: &Error) -> Result<Option<String>, AllocError> {
-    let text = format!(in alloc; "{error}")?;
-    if !text.chars().any(char::is_control) {
-        return Ok(None);
-    }
-    let mut shown = String::new(alloc);
-    for letter in text.chars() {
-        shown.push(if letter.is_control() { '?' } else { letter })?;
-    }
-    Ok(Some(shown))
+/// Shows on standard error why the program ends.
+fn show_failure(rt: &HostRuntime, failure: &Failure) -> Result<()> {
+    let text = failure.text(rt.alloc())?;
+    eprintln!(rt; "Error: {text}")?;
+    Ok(())
 }
 
 /// The words that the program is called with.
@@ -92,7 +82,7 @@ fn words_of(rt: &HostRuntime) -> Result<Vec<String>> {
 }
 
 /// Drains as these options say, over standard input and output.
-fn drain_by(rt: &HostRuntime, options: Options) -> Result<()> {
+fn drain_by(rt: &HostRuntime, options: Options) -> Result<(), Failure> {
     let Options {
         mut settings,
         path,
@@ -105,8 +95,13 @@ fn drain_by(rt: &HostRuntime, options: Options) -> Result<()> {
     } = options;
     let alloc = rt.alloc();
     let mut lines = lines_at(rt, &path, json, look_up)?;
-    let mut connection = Connection::new(alloc, rt.reader(), io::writer(rt), Limits::default())?;
-    let mut report = report_of(rt, &settings, quiet)?;
+    let mut connection = Connection::new(
+        alloc,
+        rt.reader(),
+        io::writer(rt),
+        Limits::default(),
+    ).map_err(Error::from)?;
+    let mut report = report_of(alloc, &settings, quiet)?;
     let mut dead = dead_of(alloc, &mut settings, dead)?;
     let Start {
         mut worker,
@@ -127,8 +122,14 @@ fn drain_by(rt: &HostRuntime, options: Options) -> Result<()> {
         until_empty,
     );
     report.letters = dead.map(|dead| dead.letters());
-    eprintln!(rt; "{report}")?;
+    show_report(rt, &report)?;
     ended
+}
+
+/// Shows the counts at the end.
+fn show_report(rt: &HostRuntime, report: &Report) -> Result<()> {
+    eprintln!(rt; "{report}")?;
+    Ok(())
 }
 
 /// The lines in the file of this path.
@@ -168,10 +169,10 @@ fn dead_of(
 }
 
 /// What is shown, with the backlog of the group where it is not quiet.
-fn report_of(rt: &HostRuntime, settings: &Settings, quiet: bool) -> Result<Report> {
-    let mut report = Report::new(rt, quiet)?;
+fn report_of(alloc: Global, settings: &Settings, quiet: bool) -> Result<Report> {
+    let mut report = Report::new(quiet);
     if !quiet {
-        report.watched = Some(watched(rt.alloc(), settings)?);
+        report.watched = Some(watched(alloc, settings)?);
     }
     Ok(report)
 }

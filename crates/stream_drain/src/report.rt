@@ -1,6 +1,6 @@
 //! What the program says of its progress, on standard error.
-ghost use Rattle.std.specs.Prelude.{◌≡◌, false, IfOk, IsTrue, None, Ok, OnOk, Some};
-ghost use Rattle.stream_drain.specs.Report.{report_text};
+ghost use Rattle.std.specs.Prelude.{◌≡◌, false, true, IsTrue, None, Ok, OnOk, Some};
+ghost use Rattle.stream_drain.specs.Report.{counted, report_text};
 
 use crate::backlog::Watched;
 use anyhow::Result;
@@ -8,10 +8,12 @@ use std::rt::Clock;
 use std::time::{Duration, Instant};
 use std::{fmt, mem};
 
-/// Counts, which are shown at the end, and also once a second where it is not quiet.
+/// Counts, which are shown at the end. Where it is not quiet they are also shown with the first batch, and then once a
+/// second.
 #[derive(Drop)]
 pub struct Report {
-    shown: Instant,
+    /// When the counts were shown last.
+    shown: Option<Instant>,
     entries: u64,
     batches: u64,
     /// The first acknowledgement is of what was in the file at the beginning, which is no batch.
@@ -27,23 +29,37 @@ pub struct Report {
 
 impl Report {
     /// Nothing was done yet.
-    pub fn new<R: Clock>(rt: &R, quiet: bool) -> Result<Report>
-        ensures counts { IfOk result (λ r. (r.entries ≡ 0) × (r.batches ≡ 0) × (r.letters ≡ None)
-            × (r.resumes ≡ false)) }
-        ensures quiet { IfOk result (λ r. r.quiet ≡ quiet) }
+    pub fn new(quiet: bool) -> Report
+        ensures counts { (result.entries ≡ 0) × (result.batches ≡ 0) × (result.letters ≡ None)
+            × (result.resumes ≡ false) }
+        ensures quiet { result.quiet ≡ quiet }
     {
-        Ok(Report {
-            shown: Instant::now(rt)?,
+        Report {
+            shown: None,
             entries: 0,
             batches: 0,
             resumes: false,
             letters: None,
             quiet,
             watched: None,
-        })
+        }
     }
 
-    /// So many entries are in the file; an acknowledgement was answered. Whether it is time to show
+    /// Whether it is time to show the counts, which it never is where it is quiet.
+    pub fn is_due<R: Clock>(&self, rt: &R) -> bool
+        ensures quiet { IsTrue self.now.quiet → result ≡ false }
+        ensures first { self.now.quiet ≡ false → self.now.shown ≡ None → result ≡ true }
+    {
+        if self.quiet {
+            return false;
+        }
+        match &self.shown {
+            Some(shown) => is_second_ago(rt, shown),
+            None => true,
+        }
+    }
+
+    /// Takes the number of entries in the file once an acknowledgement has its reply. Returns whether it is time to show
     /// the counts, which it never is where it is quiet.
     pub fn count<R: Clock>(&mut self, rt: &R, entries: u64) -> Result<bool>
         ensures counts { OnOk result (self.new.entries ≡ entries) }
@@ -54,11 +70,19 @@ impl Report {
             return Ok(false);
         }
         self.batches = self.batches.saturating_add(1);
-        if self.quiet || self.shown.elapsed(rt)? < Duration::from_secs(1) {
+        if !self.is_due(rt) {
             return Ok(false);
         }
-        self.shown = Instant::now(rt)?;
+        self.shown = Some(Instant::now(rt)?);
         Ok(true)
+    }
+}
+
+/// Whether this moment is a second ago. If the clock cannot be read, it is not.
+fn is_second_ago<R: Clock>(rt: &R, moment: &Instant) -> bool {
+    match moment.elapsed(rt) {
+        Ok(elapsed) => Duration::from_secs(1) <= elapsed,
+        Err(_) => false,
     }
 }
 
@@ -66,16 +90,40 @@ impl fmt::Display for Report {
     ghost output = { λ r. Some (report_text r.entries r.batches r.letters) };
 
     fn fmt<W: fmt::Write>(&self, f: &mut fmt::Formatter<W>) -> fmt::Result {
-        let entries = self.entries;
-        let batches = self.batches;
+        let entries = Counted::new(self.entries, " entry", " entries");
+        let batches = Counted::new(self.batches, " batch", " batches");
         match self.letters {
             Some(letters) => {
-                write!(
-                    f,
-                    "{entries} entries in {batches} batches, {letters} dead letters"
-                )
+                let letters = Counted::new(letters, " dead letter", " dead letters");
+                write!(f, "{entries} in {batches}, {letters}")
             }
-            None => write!(f, "{entries} entries in {batches} batches"),
+            None => write!(f, "{entries} in {batches}"),
         }
+    }
+}
+
+/// A number and what it counts, in the singular or the plural.
+#[derive(Clone, Copy)]
+struct Counted {
+    number: u64,
+    one: &'static str,
+    many: &'static str,
+}
+
+impl Counted {
+    fn new(number: u64, one: &'static str, many: &'static str) -> Counted
+        ensures { result ≡ record { number = number; one = one; many = many } }
+    {
+        Counted { number, one, many }
+    }
+}
+
+impl fmt::Display for Counted {
+    ghost output = { λ c. Some (counted c.number c.one.now c.many.now) };
+
+    fn fmt<W: fmt::Write>(&self, f: &mut fmt::Formatter<W>) -> fmt::Result {
+        let number = self.number;
+        let what = if number == 1 { self.one } else { self.many };
+        write!(f, "{number}{what}")
     }
 }
