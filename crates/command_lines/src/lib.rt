@@ -6,12 +6,13 @@
 #![tactic(auto)]
 
 ghost use Rattle.std.specs.Prelude.{◌≡◌, ◌≢◌, ◌≤◌, ◌<◌, ◌∷◌, ◌⊎◌, [], ℕ, List, IfErr, IfOk, IfSome, None, Some};
-ghost use Rattle.std.specs.Prelude.{codes, false, true, length, option_map};
+ghost use Rattle.std.specs.Prelude.{codes, false, true, length, option_map, unwrap_or};
 ghost use Rattle.std.specs.Process.{exit_status};
-ghost use Rattle.clap.specs.Words.{BuildsTo, first_value, found_of, kind_of, new_rule, one_text, rule_of};
+ghost use Rattle.clap.specs.Words.{BuildsTo, first_value, found_of, kind_of, matched_of, new_rule, one_text, raw_values, rule_of};
 ghost use Rattle.clap.specs.declared.builder.command.Command.TheViews.{out-Command as fields_of};
 ghost use Rattle.clap.specs.declared.builder.ArgAction.TheVariants.{Set, SetTrue};
 ghost use Rattle.clap.specs.declared.builder.value_parser.ValueParser.TheVariants as vp;
+ghost use Rattle.command_lines.specs.Numbers.{IsNumberIn, number_of};
 
 use clap::builder::ValueParser;
 use clap::error::ErrorKind;
@@ -182,6 +183,7 @@ pub fn word_of<'a>(matches: &ArgMatches<'a>, id: &str) -> &'a str
     ensures some { (text : List ℕ) → first_value (found_of matches.now) id.now ≡ Some text
         → result.now ≡ text }
     ensures none { first_value (found_of matches.now) id.now ≡ None → result.now ≡ [] }
+    ensures value { result.now ≡ unwrap_or (first_value (found_of matches.now) id.now) [] }
 {
     match matches.get_str(id) {
         Some(text) => text,
@@ -232,6 +234,8 @@ impl Number {
     pub fn of(&self, matches: &ArgMatches<'_>) -> Option<u64>
         ensures none { one_text (found_of matches.now) self.now.name.now ≡ None → result ≡ None }
         ensures range { IfSome result (λ n. (self.now.least ≤ n) × (n ≤ self.now.most)) }
+        ensures value { (text : List ℕ) → one_text (found_of matches.now) self.now.name.now ≡ Some text
+            → IsNumberIn self.now.least self.now.most text → result ≡ Some (number_of text) }
     {
         let number = matches.get_one::<u64>(self.name)?;
         if number < self.least || self.most < number {
@@ -377,6 +381,9 @@ pub fn wait_of(
     matches: &ArgMatches<'_>,
 ) -> Result<Option<(u64, u64)>, Error>
     ensures range { IfOk result (λ found. IfSome found (λ wait. (0 < wait.0) × (0 < wait.1))) }
+    ensures value { IfOk result (λ found. (replicas milliseconds : List ℕ)
+        → option_map raw_values (matched_of (found_of matches.now) (codes "wait"))
+        ≡ Some (replicas ∷ milliseconds ∷ []) → found ≡ Some (number_of replicas, number_of milliseconds)) }
     ensures err { IfErr result (λ e. (kind_of e ≡ ErrorKind.ValueValidation)
         ⊎ (kind_of e ≡ ErrorKind.OutOfMemory)) }
 {
@@ -391,6 +398,7 @@ pub fn wait_of(
 /// A number of `--wait`, 1 at least.
 fn positive(alloc: Global, command: &mut Command<'_>, word: &str) -> Result<u64, Error>
     ensures range { IfOk result (λ number. 0 < number) }
+    ensures value { IfOk result (λ number. number ≡ number_of word.now) }
     ensures err { IfErr result (λ e. (kind_of e ≡ ErrorKind.ValueValidation)
         ⊎ (kind_of e ≡ ErrorKind.OutOfMemory)) }
 {

@@ -1,0 +1,2 @@
+-- What the clauses of this crate cite.
+pub mod Numbers
