@@ -122,8 +122,11 @@ impl fmt::Display for Counted {
     ghost output = { λ c. Some (counted c.number c.one.now c.many.now) };
 
     fn fmt<W: fmt::Write>(&self, f: &mut fmt::Formatter<W>) -> fmt::Result {
-        let number = self.number;
-        let what = if number == 1 { self.one } else { self.many };
-        write!(f, "{number}{what}")
+        let Counted { number, one, many } = *self;
+        if number == 1 {
+            write!(f, "{number}{one}")
+        } else {
+            write!(f, "{number}{many}")
+        }
     }
 }
