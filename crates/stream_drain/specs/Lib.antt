@@ -12,3 +12,5 @@ pub mod Tell
 pub mod Resumed
 pub mod Once
 pub mod Failover
+pub mod Program
+pub mod Turn

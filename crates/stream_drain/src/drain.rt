@@ -1,11 +1,13 @@
 //! The loop of the program: it asks, and takes the answers.
-ghost use Rattle.std.specs.Prelude.{◌≡◌, IfErr, IfOk, IfSome, IsTrue, OnErr, OnOk, false};
+ghost use Rattle.std.specs.Prelude.{◌≡◌, IfErr, IfOk, IfSome, IsTrue, OnErr, OnOk, false, is_some, true};
 ghost use Rattle.stream_confirm.specs.Confirmed.{IsConfirmedRound};
 ghost use Rattle.stream_letters.specs.Besides.{Besides, BreaksBesides, LooksNot};
 ghost use Rattle.stream_drain.specs.Backlog.{Hears};
 ghost use Rattle.stream_drain.specs.Filed.{FiledFrom};
 ghost use Rattle.stream_drain.specs.Lived.{Leads};
+ghost use Rattle.stream_drain.specs.Turn.{EndsWithNew, IsTurn, MakesRound};
 ghost use Rattle.stream_loop.specs.Loop.{Loops, Stops};
+ghost use Rattle.stream_worker.specs.Pipelined.{WentPipelined};
 ghost use Rattle.stream_worker.specs.Session.{standing_of};
 
 use crate::backlog::{Backlog, Watched, backlog_in};
@@ -30,8 +32,13 @@ use stream_worker::{Asked, Handler, Pipelined, Progress, RequestError, Round, Ru
 /// The limit on what a connection holds, as `Limits::default` has it.
 const LARGEST: &str = "1 GiB";
 
-/// Drains until something fails, or until a read finds nothing new where that is asked for.
-pub fn drain<R: Read + Drop, W: Write + Drop, D: LogFile + Drop, T: Clock + Eprint + AllocGlobal>(
+/// Drains, and shows the counts at the end.
+pub fn drain_and_report<
+    R: Read + Drop,
+    W: Write + Drop,
+    D: LogFile + Drop,
+    T: Clock + Eprint + AllocGlobal,
+>(
     rt: &T,
     connection: &mut Connection<R, W>,
     worker: &mut Worker,
@@ -42,6 +49,55 @@ pub fn drain<R: Read + Drop, W: Write + Drop, D: LogFile + Drop, T: Clock + Epri
     until_empty: bool,
 ) -> Result<(), Failure>
     ensures ended { IfOk result (λ _. IsTrue until_empty) }
+    ensures last { IfOk result (λ _. EndsWithNew worker.old.settings wait connection.old connection.new
+        (standing_of worker.old (⟦<Lines<D> as Handler>⟧.history lines.old))
+        (standing_of worker.new (⟦<Lines<D> as Handler>⟧.history lines.new))) }
+    ensures ok { OnOk result (Leads (Loops worker.old.settings) connection.old connection.new
+        (standing_of worker.old (⟦<Lines<D> as Handler>⟧.history lines.old))
+        (standing_of worker.new (⟦<Lines<D> as Handler>⟧.history lines.new))) }
+    ensures err { OnErr result (Leads (Stops worker.old.settings) connection.old connection.new
+        (standing_of worker.old (⟦<Lines<D> as Handler>⟧.history lines.old))
+        (standing_of worker.new (⟦<Lines<D> as Handler>⟧.history lines.new))) }
+    ensures filed { FiledFrom worker.old.settings connection.old connection.new
+        (standing_of worker.old (⟦<Lines<D> as Handler>⟧.history lines.old))
+        (standing_of worker.new (⟦<Lines<D> as Handler>⟧.history lines.new))
+        (D.may_leave lines.new.log.file) }
+{
+    let ended = drain(
+        rt,
+        connection,
+        worker,
+        lines,
+        report,
+        dead,
+        wait,
+        until_empty,
+    );
+    if let Some(dead) = dead {
+        report.letters = Some(dead.letters());
+    }
+    let shown = say(rt, report, &"");
+    match ended {
+        Ok(()) => shown,
+        Err(failure) => Err(failure),
+    }
+}
+
+/// Drains until something fails, or until a read finds nothing new where that is asked for.
+fn drain<R: Read + Drop, W: Write + Drop, D: LogFile + Drop, T: Clock + Eprint + AllocGlobal>(
+    rt: &T,
+    connection: &mut Connection<R, W>,
+    worker: &mut Worker,
+    lines: &mut Lines<D>,
+    report: &mut Report,
+    dead: &mut Option<DeadLetterSearch>,
+    wait: Option<Wait>,
+    until_empty: bool,
+) -> Result<(), Failure>
+    ensures ended { IfOk result (λ _. IsTrue until_empty) }
+    ensures last { IfOk result (λ _. EndsWithNew worker.old.settings wait connection.old connection.new
+        (standing_of worker.old (⟦<Lines<D> as Handler>⟧.history lines.old))
+        (standing_of worker.new (⟦<Lines<D> as Handler>⟧.history lines.new))) }
     ensures ok { OnOk result (Leads (Loops worker.old.settings) connection.old connection.new
         (standing_of worker.old (⟦<Lines<D> as Handler>⟧.history lines.old))
         (standing_of worker.new (⟦<Lines<D> as Handler>⟧.history lines.new))) }
@@ -76,6 +132,9 @@ fn turn<R: Read + Drop, W: Write + Drop, D: LogFile + Drop, T: Clock + Eprint + 
     asked: Asked,
 ) -> Result<Asked, Failure>
     ensures settings { worker.new.settings ≡ worker.old.settings }
+    ensures turn { IfOk result (λ asked. IsTurn worker.old.settings wait (is_some dead.old) connection.old connection.new
+        (standing_of worker.old (⟦<Lines<D> as Handler>⟧.history lines.old))
+        (standing_of worker.new (⟦<Lines<D> as Handler>⟧.history lines.new)) asked) }
     ensures ok { OnOk result (Leads (Loops worker.old.settings) connection.old connection.new
         (standing_of worker.old (⟦<Lines<D> as Handler>⟧.history lines.old))
         (standing_of worker.new (⟦<Lines<D> as Handler>⟧.history lines.new))) }
@@ -83,12 +142,20 @@ fn turn<R: Read + Drop, W: Write + Drop, D: LogFile + Drop, T: Clock + Eprint + 
         (standing_of worker.old (⟦<Lines<D> as Handler>⟧.history lines.old))
         (standing_of worker.new (⟦<Lines<D> as Handler>⟧.history lines.new))) }
 {
+    let alone = goes_alone(rt, report, dead);
     look(rt.alloc(), connection, lines, dead, asked)?;
-    let alone = dead.is_some() || report.is_due(rt);
     let made = any_round(rt.alloc(), connection, worker, lines, wait, alone)?;
     let due = made.acknowledged || made.round.asked == Asked::Acknowledgement;
     count(rt, connection, report, lines.committed, due)?;
     Ok(made.round.asked)
+}
+
+/// Whether an acknowledgement goes out without the next question: entries that are given up are looked for between the two,
+/// and counts that are due are shown between them, before a read that may wait.
+fn goes_alone<T: Clock>(rt: &T, report: &Report, dead: &Option<DeadLetterSearch>) -> bool
+    ensures { is_some dead.now ≡ true → result ≡ true }
+{
+    dead.is_some() || report.is_due(rt)
 }
 
 /// Looks for entries that were delivered too often, where they are given up.
@@ -121,6 +188,10 @@ fn any_round<R: Read + Drop, W: Write + Drop, D: LogFile + Drop>(
     alone: bool,
 ) -> Result<Pipelined, Failure>
     ensures settings { worker.new.settings ≡ worker.old.settings }
+    ensures made { IfOk result (λ made. MakesRound worker.old.settings wait alone connection.old connection.new
+        (standing_of worker.old (⟦<Lines<D> as Handler>⟧.history lines.old))
+        (standing_of worker.new (⟦<Lines<D> as Handler>⟧.history lines.new))
+        made.acknowledged made.round.asked made.round.progress) }
     ensures ok { OnOk result (Leads (Loops worker.old.settings) connection.old connection.new
         (standing_of worker.old (⟦<Lines<D> as Handler>⟧.history lines.old))
         (standing_of worker.new (⟦<Lines<D> as Handler>⟧.history lines.new))) }
@@ -189,6 +260,12 @@ fn round<R: Read + Drop, W: Write + Drop, D: LogFile + Drop>(
     together: bool,
 ) -> Result<Pipelined, Failure>
     ensures settings { worker.new.settings ≡ worker.old.settings }
+    ensures made { IfOk result (λ made. WentPipelined ⟦<Lines<D> as Handler>⟧.with_verdict
+        ⟦<Lines<D> as Handler>⟧.with_commit worker.old.settings connection.old connection.new
+        (standing_of worker.old (⟦<Lines<D> as Handler>⟧.history lines.old))
+        (standing_of worker.new (⟦<Lines<D> as Handler>⟧.history lines.new))
+        made.acknowledged made.round.asked made.round.progress) }
+    ensures alone { IfOk result (λ made. together ≡ false → made.acknowledged ≡ false) }
     ensures ok { OnOk result (Leads (Loops worker.old.settings) connection.old connection.new
         (standing_of worker.old (⟦<Lines<D> as Handler>⟧.history lines.old))
         (standing_of worker.new (⟦<Lines<D> as Handler>⟧.history lines.new))) }

@@ -1,5 +1,5 @@
 //! Entries as lines of a file.
-ghost use Rattle.std.specs.Prelude.{◌≡◌, ◌+◌, ◌++◌, ◌∷◌, [], List, ℕ, IfErr, IfOk, IfSome, OnErr, OnOk, false, flat_map, is_some, length, true};
+ghost use Rattle.std.specs.Prelude.{◌≡◌, ◌+◌, ◌-◌, ◌^◌, ◌<◌, ◌++◌, ◌∷◌, [], List, ℕ, IfErr, IfOk, IfSome, OnErr, OnOk, false, flat_map, is_some, length, true};
 ghost use Rattle.stream_group.specs.Worker.{done, stop};
 ghost use Rattle.known_ids.specs.Known.{HasPlaceToo, knows, places_in};
 ghost use Rattle.known_ids.specs.Number.{number_of};
@@ -120,6 +120,8 @@ impl<D: LogFile + Drop> Lines<D> {
             (committed_in (D.seen self.new.log.file) self.new.log.len) self.new.log.batch.items) }
         ensures file { (self.new.log.file ≡ self.old.log.file) × (self.new.log.len ≡ self.old.log.len)
             × (self.new.log.is_broken ≡ self.old.log.is_broken) }
+        ensures counts { (self.new.seen ≡ self.old.seen) × (self.new.done ≡ self.old.done)
+            × (self.new.committed ≡ self.old.committed) }
     {
         match &mut self.known {
             Some(known) => add_new(
@@ -157,6 +159,10 @@ impl<D: LogFile + Drop> Handler for Lines<D> {
             self.new.log.batch.items) }
         ensures file { (self.new.log.file ≡ self.old.log.file) × (self.new.log.len ≡ self.old.log.len)
             × (self.new.log.is_broken ≡ self.old.log.is_broken) }
+        ensures seen { self.old.seen < 2 ^ 64 - 1 → self.new.seen ≡ self.old.seen + 1 }
+        ensures done { verdict_of result ≡ done → self.old.done < 2 ^ 64 - 1 → self.new.done ≡ self.old.done + 1 }
+        ensures undone { verdict_of result ≡ stop → self.new.done ≡ self.old.done }
+        ensures committed { self.new.committed ≡ self.old.committed }
     {
         self.seen = self.seen.saturating_add(1);
         match self.take(alloc, entry) {
@@ -188,6 +194,9 @@ impl<D: LogFile + Drop> Handler for Lines<D> {
             ≡ committed_with (⟦<Lines<D> as Handler>⟧.history self.old)) }
         ensures history_kept { OnErr result (⟦<Lines<D> as Handler>⟧.history self.new
             ≡ ⟦<Lines<D> as Handler>⟧.history self.old) }
+        ensures committed { OnOk result (self.new.committed ≡ self.old.done) }
+        ensures uncommitted { OnErr result (self.new.committed ≡ self.old.committed) }
+        ensures counts { (self.new.seen ≡ self.old.seen) × (self.new.done ≡ self.old.done) }
     {
         match self.log.commit() {
             Ok(()) => {

@@ -20,6 +20,9 @@
 //! nothing new came, with 2 if a word is wrong, and else with 1 and the reason. `--help` tells its words.
 #![tactic(auto)]
 
+ghost use Rattle.std.specs.Prelude.{◌≡◌, IfOk, OnErr, OnOk, is_some};
+ghost use Rattle.std.specs.Process.{exit_status};
+
 mod backlog;
 mod drain;
 mod failure;
@@ -32,7 +35,7 @@ mod resume;
 mod there;
 
 use crate::backlog::Watched;
-use crate::drain::drain;
+use crate::drain::drain_and_report;
 use crate::failure::Failure;
 use crate::lines::Lines;
 use crate::options::{Options, options_of};
@@ -56,12 +59,21 @@ fn main(rt: HostRuntime) -> Result<ExitCode> {
         Ok(options) => options,
         Err(error) => return Ok(tell(rt.alloc(), &rt, &error)?),
     };
-    match drain_by(&rt, options) {
-        Ok(()) => Ok(ExitCode::SUCCESS),
-        Err(failure) => {
-            show_failure(&rt, &failure)?;
-            Ok(ExitCode::FAILURE)
-        }
+    let outcome = drain_by(&rt, options);
+    if let Err(failure) = &outcome {
+        show_failure(&rt, failure)?;
+    }
+    Ok(status_of(&outcome))
+}
+
+/// The status: 0 only if the program ended as it was asked to.
+fn status_of(outcome: &Result<(), Failure>) -> ExitCode
+    ensures ended { OnOk outcome.now (exit_status result ≡ 0) }
+    ensures failed { OnErr outcome.now (exit_status result ≡ 1) }
+{
+    match outcome {
+        Ok(()) => ExitCode::SUCCESS,
+        Err(_) => ExitCode::FAILURE,
     }
 }
 
@@ -111,7 +123,7 @@ fn drain_by(rt: &HostRuntime, options: Options) -> Result<(), Failure> {
     if acknowledges && let Some(dead) = &mut dead {
         dead.wait_once();
     }
-    let ended = drain(
+    drain_and_report(
         rt,
         &mut connection,
         &mut worker,
@@ -120,20 +132,14 @@ fn drain_by(rt: &HostRuntime, options: Options) -> Result<(), Failure> {
         &mut dead,
         wait,
         until_empty,
-    );
-    report.letters = dead.map(|dead| dead.letters());
-    show_report(rt, &report)?;
-    ended
-}
-
-/// Shows the counts at the end.
-fn show_report(rt: &HostRuntime, report: &Report) -> Result<()> {
-    eprintln!(rt; "{report}")?;
-    Ok(())
+    )
 }
 
 /// The lines in the file of this path.
-fn lines_at(rt: &HostRuntime, path: &str, json: bool, look_up: bool) -> Result<Lines<SystemFile>> {
+fn lines_at(rt: &HostRuntime, path: &str, json: bool, look_up: bool) -> Result<Lines<SystemFile>>
+    ensures form { IfOk result (λ lines. lines.json ≡ json) }
+    ensures looks { IfOk result (λ lines. is_some lines.known ≡ look_up) }
+{
     let file = match SystemFile::open(rt, path) {
         Ok(file) => file,
         Err(error) => return Err(not_opened(path, error)),

@@ -1,5 +1,8 @@
 //! The words that the program is called with.
-ghost use Rattle.std.specs.Prelude.{◌≤◌, length, IfOk, IfSome};
+ghost use Rattle.std.specs.Prelude.{◌≡◌, ◌≤◌, [], ℕ, List, IfOk, IfSome, IsTrue, None, OnOk, Some, codes, false, length};
+ghost use Rattle.clap.specs.Words.{found_of, one_text};
+ghost use Rattle.command_lines.specs.Numbers.{IsNumberIn, number_of};
+ghost use Rattle.stream_drain.specs.Program.{IsGivenUp, IsNamed, IsNumberOf, IsOptions, IsSettings, IsWait, largest};
 
 use crate::resume::LARGEST_COUNT;
 use clap::{ArgMatches, Command, Error};
@@ -58,12 +61,24 @@ pub fn options_of(alloc: Global, words: &[String]) -> Result<Options, Error>
 {
     let mut command = command_of(alloc)?;
     let matches = matches_of(alloc, &mut command, words, 4)?;
-    let settings = settings_of(alloc, &mut command, &matches)?;
-    let dead = dead_of(alloc, &mut command, &matches)?;
-    let wait = waiting(alloc, &mut command, &matches, dead.is_some())?;
+    options_in(alloc, &mut command, &matches)
+}
+
+/// The options that `clap` found.
+fn options_in(
+    alloc: Global,
+    command: &mut Command<'_>,
+    matches: &ArgMatches<'_>,
+) -> Result<Options, Error>
+    ensures { IfOk result (λ options. IsOptions (found_of matches.now) options) }
+{
+    let settings = settings_of(alloc, command, matches)?;
+    let dead = dead_of(alloc, command, matches)?;
+    let wait = waiting(alloc, command, matches, dead.is_some())?;
+    let path = String::from_str(alloc, word_of(matches, "FILE"))?;
     Ok(Options {
         settings,
-        path: String::from_str(alloc, word_of(&matches, "FILE"))?,
+        path,
         until_empty: matches.get_flag("until-empty"),
         json: matches.get_flag("json"),
         look_up: matches.get_flag("look-up"),
@@ -117,19 +132,15 @@ fn settings_of(
     alloc: Global,
     command: &mut Command<'_>,
     matches: &ArgMatches<'_>,
-) -> Result<Settings, Error> {
+) -> Result<Settings, Error>
+    ensures { IfOk result (λ settings. IsSettings (found_of matches.now) settings) }
+{
     let mut settings = named(alloc, command, matches)?;
-    if let Some(count) = count_of(matches)
-        && let Err(error) = settings.set_count(count)
-    {
-        return Err(refused(alloc, command, &error));
-    }
-    set_times(&mut settings, matches);
-    match word_of(matches, "from") {
-        "0" => settings.set_make_group(MakeGroup::FromTheFirst),
-        "$" => settings.set_make_group(MakeGroup::FromNow),
-        _ => {}
-    }
+    set_count(alloc, command, matches, &mut settings)?;
+    set_block(&mut settings, matches);
+    set_min_idle(&mut settings, matches);
+    set_every(&mut settings, matches);
+    set_make_group(&mut settings, word_of(matches, "from"));
     Ok(settings)
 }
 
@@ -138,7 +149,10 @@ fn named(
     alloc: Global,
     command: &mut Command<'_>,
     matches: &ArgMatches<'_>,
-) -> Result<Settings, Error> {
+) -> Result<Settings, Error>
+    ensures { IfOk result (λ settings. IsNamed (found_of matches.now) settings
+        × (settings.one_at_a_time ≡ false) × (settings.make_group ≡ MakeGroup.Never)) }
+{
     let key = String::from_str(alloc, word_of(matches, "KEY"))?;
     let group = String::from_str(alloc, word_of(matches, "GROUP"))?;
     let consumer = String::from_str(alloc, word_of(matches, "CONSUMER"))?;
@@ -150,20 +164,68 @@ fn named(
 
 /// How many entries at most are asked for at once: not more than what is acknowledged at the beginning.
 fn count_of(matches: &ArgMatches<'_>) -> Option<usize>
-    ensures { IfSome result (λ n. n ≤ LARGEST_COUNT) }
+    ensures most { IfSome result (λ n. n ≤ LARGEST_COUNT) }
+    ensures value { (text : List ℕ) → one_text (found_of matches.now) (codes "count") ≡ Some text
+        → IsNumberIn 1 LARGEST_COUNT text → result ≡ Some (number_of text) }
 {
     Some(COUNT.of(matches)? as usize)
 }
 
-fn set_times(settings: &mut Settings, matches: &ArgMatches<'_>) {
+fn set_count(
+    alloc: Global,
+    command: &mut Command<'_>,
+    matches: &ArgMatches<'_>,
+    settings: &mut Settings,
+) -> Result<(), Error>
+    ensures value { OnOk result (IsNumberOf (found_of matches.now) (codes "count") 1 LARGEST_COUNT settings.new.count) }
+    ensures others { settings.new ≡ record settings.old { count = settings.new.count } }
+{
+    if let Some(count) = count_of(matches)
+        && let Err(error) = settings.set_count(count)
+    {
+        return Err(refused(alloc, command, &error));
+    }
+    Ok(())
+}
+
+fn set_block(settings: &mut Settings, matches: &ArgMatches<'_>)
+    ensures value { IsNumberOf (found_of matches.now) (codes "block") 0 largest settings.new.block }
+    ensures others { settings.new ≡ record settings.old { block = settings.new.block } }
+{
     if let Some(block) = BLOCK.of(matches) {
         settings.set_block(block as usize);
     }
+}
+
+fn set_min_idle(settings: &mut Settings, matches: &ArgMatches<'_>)
+    ensures value { IsNumberOf (found_of matches.now) (codes "idle") 0 largest settings.new.min_idle }
+    ensures others { settings.new ≡ record settings.old { min_idle = settings.new.min_idle } }
+{
     if let Some(idle) = IDLE.of(matches) {
         settings.set_min_idle(idle as usize);
     }
+}
+
+fn set_every(settings: &mut Settings, matches: &ArgMatches<'_>)
+    ensures value { IsNumberOf (found_of matches.now) (codes "every") 0 largest settings.new.every }
+    ensures others { settings.new ≡ record settings.old { every = settings.new.every } }
+{
     if let Some(every) = EVERY.of(matches) {
         settings.set_every(every as usize);
+    }
+}
+
+/// Where a group begins that is made; none is made without this word.
+fn set_make_group(settings: &mut Settings, from: &str)
+    ensures first { from.now ≡ codes "0" → settings.new.make_group ≡ MakeGroup.FromTheFirst }
+    ensures from_now { from.now ≡ codes "$" → settings.new.make_group ≡ MakeGroup.FromNow }
+    ensures never { from.now ≡ [] → settings.new ≡ settings.old }
+    ensures others { settings.new ≡ record settings.old { make_group = settings.new.make_group } }
+{
+    match from {
+        "0" => settings.set_make_group(MakeGroup::FromTheFirst),
+        "$" => settings.set_make_group(MakeGroup::FromNow),
+        _ => {}
     }
 }
 
@@ -172,7 +234,9 @@ fn dead_of(
     alloc: Global,
     command: &mut Command<'_>,
     matches: &ArgMatches<'_>,
-) -> Result<Option<GiveUp>, Error> {
+) -> Result<Option<GiveUp>, Error>
+    ensures { IfOk result (IsGivenUp (found_of matches.now)) }
+{
     let Some([times, stream]) = matches.get_strs("dead") else {
         return Ok(None);
     };
@@ -198,7 +262,10 @@ fn waiting(
     command: &mut Command<'_>,
     matches: &ArgMatches<'_>,
     gives_up: bool,
-) -> Result<Option<Wait>, Error> {
+) -> Result<Option<Wait>, Error>
+    ensures value { IfOk result (IsWait (found_of matches.now)) }
+    ensures alone { IfOk result (λ wait. IsTrue gives_up → wait ≡ None) }
+{
     let Some((replicas, milliseconds)) = wait_of(alloc, command, matches)? else {
         return Ok(None);
     };

@@ -34,6 +34,8 @@ pub fn begun<D: LogFile + Drop>(
     lines: &Lines<D>,
 ) -> Result<Start>
     ensures settings { IfOk result (λ b. b.worker.settings ≡ settings) }
+    ensures acknowledges { IfOk result (λ b. b.acknowledges ≡ not (is_empty (standing_of b.worker
+        (⟦<Lines<D> as Handler>⟧.history lines.now)).machine.to_acknowledge)) }
     ensures lives { IfOk result (λ b. lines.now.log.batch.items ≡ []
         → IfSome (committed_in (D.seen lines.now.log.file) lines.now.log.len)
         (λ bytes. BeginsSo LARGEST_COUNT settings lines.now.json (known_by lines.now.known) bytes

@@ -5,6 +5,7 @@ use Rattle.stream_drain.specs.Known.{Known, known_by}
 use Rattle.stream_drain.specs.Written.{Written, written_by}
 use Rattle.stream_letters.proofs.DeadLemmas.{on_err}
 use Rattle.stream_drain.proofs.LivedLemmas.{leads_besides, leads_both, leads_breaks, leads_stop}
+use Rattle.stream_drain.proofs.TurnLemmas.{makes_for_dead}
 use Rattle.stream_drain.proofs.drain.turn.Goals as goal
 
 -- where a worker stands, with what its handler has written
@@ -56,3 +57,21 @@ returns-clause-ok g c =
     (leads_besides settings c.args.connection.now c.look.new.connection w c.in_ok-look.ensures.ok)
     c.in_ok-made.ensures.ok)
     (leads_besides settings c.any_round.new.connection c.count.new.connection y c.in_ok-count.ensures.ok)
+
+pub returns-clause-turn : goal.returns-clause-turn
+returns-clause-turn g c =
+    let w = stands c.args.worker.now c.args.lines.now.json (known_by c.args.lines.now.known) c.args.lines.now.log.batch.items
+    (g.D.LogFile.seen c.args.lines.now.log.file) c.args.lines.now.log.len in
+    let y = stands c.any_round.new.worker c.any_round.new.lines.json (known_by c.any_round.new.lines.known) c.any_round.new.lines.log.batch.items
+    (g.D.LogFile.seen c.any_round.new.lines.log.file) c.any_round.new.lines.log.len in
+    record {
+      before = c.look.new.connection;
+      after = c.any_round.new.connection;
+      together = c.in_ok-made.made.acknowledged;
+      progress = c.in_ok-made.made.round.progress;
+      looks = c.in_ok-look.ensures.ok;
+      round = makes_for_dead c.args.worker.now.settings c.args.wait c.goes_alone-alone.result _ c.look.new.connection
+          c.any_round.new.connection w y c.in_ok-made.made.acknowledged c.in_ok-made.made.round.asked
+          c.in_ok-made.made.round.progress c.goes_alone-alone.ensures c.in_ok-made.ensures.made;
+      counts = c.in_ok-count.ensures.ok;
+    }
