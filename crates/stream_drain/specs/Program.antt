@@ -9,6 +9,7 @@ use Rattle.stream_worker.specs.declared.state.MakeGroup.{MakeGroup}
 use Rattle.stream_worker.specs.declared.state.MakeGroup.TheVariants.{Never, FromTheFirst, FromNow}
 use Rattle.stream_worker.specs.declared.state.Settings.{Settings}
 use Rattle.stream_drain.specs.declared.options.Options.{Options}
+use Rattle.stream_drain.specs.declared.resume.TheConstants.{LARGEST_COUNT}
 
 -- the largest number of 64 bits
 abbrev pub largest : ℕ
@@ -44,7 +45,7 @@ BeginsAt from made = (from ≡ codes "0" → made ≡ FromTheFirst) × (from ≡
 
 -- the settings of the worker
 abbrev pub IsSettings : Found → Settings → Type 0
-IsSettings found s = IsNamed found s × IsNumberOf found (codes "count") 1 10000 s.count
+IsSettings found s = IsNamed found s × IsNumberOf found (codes "count") 1 LARGEST_COUNT s.count
     × IsNumberOf found (codes "block") 0 largest s.block × IsNumberOf found (codes "idle") 0 largest s.min_idle
     × IsNumberOf found (codes "every") 0 largest s.every × BeginsAt (value_of found (codes "from")) s.make_group
     × (s.one_at_a_time ≡ false)
