@@ -6,7 +6,6 @@
 //! other; those of `memory` alone go on.
 #![tactic(auto)]
 
-mod call_sequences;
 mod fixed_args;
 #[cfg(test)]
 mod tests;

@@ -10,6 +10,7 @@ mod laws;
 mod memory;
 mod options;
 mod sentences;
+mod vectors;
 
 use redis_args::{FixedArgs, ToRedisArgs, WriteError};
 use std::alloc::{AllocError, Global};

@@ -1,4 +1,5 @@
 pub mod Answer
+pub mod CallsMeaning
 pub mod ConfigText
 pub mod Entry
 pub mod Form

@@ -1,8 +1,8 @@
 //! Redis values, stream options and replies as lines of text: a notation that values are read from
 //! (`notation`), the printed forms of options and replies (`form`, `options`, `replies`), the
-//! printed answer of both readings (`answer`), and vectors with their rows (`vectors`) and the lines
-//! of these (`row_lines`), for tests and for programs that compare answers. `laws` says what `==` of
-//! its errors tells.
+//! printed answer of both readings (`answer`), options that a list of calls makes (`call_sequences`),
+//! and vectors with their rows (`vectors`) and the lines of these (`row_lines`), for tests and for
+//! programs that compare answers. `laws` says what `==` of its errors tells.
 //!
 //! ```text
 //! let reply = read_value(alloc, "Array[Array[1-0, Array[f, v]]]")?;
@@ -12,6 +12,7 @@
 #![tactic(auto)]
 
 pub mod answer;
+pub mod call_sequences;
 pub mod form;
 pub mod laws;
 pub mod notation;

@@ -7,6 +7,7 @@ ghost use Rattle.stream_text.specs.ReplyText.{IsReplyText};
 ghost use Rattle.stream_text.specs.Vectors.{AddsRow, AddsRows, options_texts, row_texts};
 
 pub mod config;
+pub mod options;
 
 use crate::answer::both_answers;
 use crate::form::PrintedForm;

@@ -1,16 +1,11 @@
 //! The vectors: texts that the layer has to compute, beside how it computes them.
 ghost use Rattle.std.specs.Prelude.{◌≡◌, ◌+◌, IfOk, OnOk, vec_len};
 
-pub mod add;
 pub mod autoclaim;
-pub mod claim;
-pub mod config;
 pub mod info;
 pub mod pending;
-pub mod read;
 pub mod rows;
 pub mod status;
-pub mod trim;
 
 use redis_streams::{
     StreamAutoClaimReply, StreamClaimReply, StreamInfoConsumersReply, StreamInfoGroupsReply,
@@ -19,6 +14,7 @@ use redis_streams::{
 };
 use std::alloc::{AllocError, Global};
 use stream_text::vectors::config::push_config_rows;
+use stream_text::vectors::options::{add, claim, config, read, trim};
 use stream_text::vectors::{Row, push_options_rows, push_reply_rows};
 
 /// A row for each vector, in ascending order. It fails only where memory runs out.

@@ -1,10 +1,10 @@
-use crate::call_sequences::{AddCall, ReadCall, play_add, play_read};
 use crate::fixed_args::fixed_args_of;
 use crate::tests::{holds, is_listed, words_of};
 use redis_resp::{RawBytes, ToRedisArgs};
 use std::alloc::{AllocError, Global};
 use std::process::Abort;
 use stream_options::{StreamReadOptions, StreamTrimStrategy, StreamTrimmingMode};
+use stream_text::call_sequences::{AddCall, ReadCall, play_add, play_read};
 
 /// A name of one argument, or of none where the text is empty.
 fn name(alloc: Global, text: &str) -> Result<Vec<RawBytes>, AllocError> {

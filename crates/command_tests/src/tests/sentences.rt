@@ -1,4 +1,5 @@
 //! Argument lists, and the options that are read of them.
+use crate::tests::sentences::rows::ROWS;
 use crate::tests::words_of;
 use redis_args::ToRedisArgs;
 use std::process::Abort;
@@ -11,7 +12,7 @@ mod laws;
 mod lines;
 mod rows;
 
-/// The reader answered so many arguments, and options that write these first arguments.
+/// The reader returned this count, and options that write so many of the first arguments.
 fn check_read<T: ToRedisArgs + Drop>(
     rt: &(impl AllocGlobal + Abort),
     args: &[Vec<u8>],
@@ -27,27 +28,30 @@ fn check_read<T: ToRedisArgs + Drop>(
     );
 }
 
-#[test]
-fn additions_and_trims(rt: HostRuntime) {
-    let line = "NOMKSTREAM DELREF IDMP p i MAXLEN ~ 100 LIMIT 5 *";
-    let args = words_of(&rt, line);
-    check_read(&rt, &args, read_add(rt.alloc(), &args), 10);
-    let args = words_of(&rt, "MINID = LIMIT ACKED");
-    check_read(&rt, &args, read_trim(rt.alloc(), &args), 4);
-    let args = words_of(&rt, "IDMP-DURATION 86400 IDMP-MAXSIZE 1");
-    check_read(&rt, &args, read_config(&args), 4);
+/// If the outcome of the line is `ok k`, the options that are read of it write its first k words
+/// again.
+fn check_row(rt: &(impl AllocGlobal + Abort), line: &str, outcome: &str) {
+    let Some(count) = outcome.strip_prefix("ok ") else {
+        return;
+    };
+    let count = count.parse::<usize>().expect(rt, "a number");
+    let (kind, rest) = line.split_once(' ').unwrap_or((line, ""));
+    let args = words_of(rt, rest);
+    match kind {
+        "trim" => check_read(rt, &args, read_trim(rt.alloc(), &args), count),
+        "add" => check_read(rt, &args, read_add(rt.alloc(), &args), count),
+        "config" => check_read(rt, &args, read_config(&args), count),
+        "autoclaim" => check_read(rt, &args, read_autoclaim(&args), count),
+        "claim" => check_read(rt, &args, read_claim(rt.alloc(), &args), count),
+        "read" => check_read(rt, &args, read_read(rt.alloc(), &args), count),
+        "nack" => check_read(rt, &args, read_nack(&args), count),
+        _ => assert!(rt; false, "{line}"),
+    }
 }
 
 #[test]
-fn claims_and_reads(rt: HostRuntime) {
-    let args = words_of(&rt, "COUNT 3 JUSTID");
-    check_read(&rt, &args, read_autoclaim(&args), 3);
-    let line = "IDLE 1 TIME 2 RETRYCOUNT 3 FORCE JUSTID LASTID 1-0";
-    let args = words_of(&rt, line);
-    check_read(&rt, &args, read_claim(rt.alloc(), &args), 10);
-    let line = "GROUP g c BLOCK 5 COUNT 2 NOACK CLAIM 100 STREAMS";
-    let args = words_of(&rt, line);
-    check_read(&rt, &args, read_read(rt.alloc(), &args), 10);
-    let args = words_of(&rt, "FATAL x");
-    check_read(&rt, &args, read_nack(&args), 1);
+fn each_sentence_is_written_again(rt: HostRuntime) {
+    for (line, outcome) in &ROWS {
+        check_row(&rt, line, outcome);
+    }
 }

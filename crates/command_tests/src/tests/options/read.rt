@@ -1,5 +1,4 @@
 //! Read options, with names of several types.
-use crate::tests::options::user::Flag;
 use crate::tests::{check, check_place};
 use redis_args::{FixedArgs, RawBytes, ToRedisArgs, WriteError};
 use std::process::Abort;
@@ -34,7 +33,7 @@ fn names(rt: HostRuntime) {
     let options = StreamReadOptions::default().count(2);
     check_grouped(&rt, options, "c", "BLOCK", "GROUP c BLOCK COUNT 2");
     let options = StreamReadOptions::default();
-    check_grouped(&rt, options, 7u64, Flag(true), "GROUP 7 yes");
+    check_grouped(&rt, options, 7u64, true, "GROUP 7 1");
 }
 
 #[test]

@@ -1,28 +1,12 @@
-//! A value and a writer of a user's own, and a writer with little room.
-ghost use Rattle.std.specs.Prelude.{◌≡◌, ◌⊎◌, [], ◌∷◌, codes, if◌then◌else◌};
+//! A writer of a user's own, and a writer with little room. `reply_tests` has a value of a user's own.
+ghost use Rattle.std.specs.Prelude.{◌≡◌, ◌⊎◌, codes};
 ghost use Rattle.redis_args.specs.Room.{MayRefuse};
 ghost use Rattle.redis_args.specs.declared.writer.WriteError.TheVariants.{Full};
 
-use crate::tests::{check, check_place, holds, text, words_of};
+use crate::tests::{check_place, holds, text, words_of};
 use redis_args::{FixedArgs, RedisWrite, ToRedisArgs, WriteError};
 use std::process::Abort;
 use stream_options::{StreamDeletionPolicy, StreamTrimOptions, StreamTrimmingMode};
-
-/// `yes` or `no`.
-#[derive(Drop)]
-pub(crate) struct Flag(pub bool);
-
-impl ToRedisArgs for Flag {
-    ghost args = { λ flag. (if flag.0 then codes "yes" else codes "no") ∷ [] };
-
-    fn write_redis_args<W: RedisWrite>(&self, out: &mut W) -> Result<(), WriteError> {
-        if self.0 {
-            out.write_arg(b"yes")
-        } else {
-            out.write_arg(b"no")
-        }
-    }
-}
 
 /// Room for eight arguments of 64 bytes in all, and none for the word `LIMIT`.
 #[derive(Drop)]
@@ -42,13 +26,6 @@ impl RedisWrite for WithoutLimit {
         }
         self.store.write_arg(arg)
     }
-}
-
-#[test]
-fn values_of_a_users_own(rt: HostRuntime) {
-    check(&rt, &[Flag(true), Flag(false)], "yes no");
-    check(&rt, &Some(Flag(false)), "no");
-    check(&rt, &&Flag(true), "yes");
 }
 
 /// The answer of writing these options without room for the word `LIMIT`, and what is then held.

@@ -1,4 +1,4 @@
-use Rattle.command_tests.proofs.call_sequences.play_read_call.Goals as goal
+use Rattle.stream_text.proofs.call_sequences.play_read_call.Goals as goal
 
 pub returns-in-Noack : goal.returns-in-Noack
 returns-in-Noack c = rw c.in-Noack.is c.noack.ensures

@@ -1,4 +1,4 @@
-use Rattle.command_tests.proofs.call_sequences.play_add_call.Goals as goal
+use Rattle.stream_text.proofs.call_sequences.play_add_call.Goals as goal
 
 pub returns-in-Nomkstream : goal.returns-in-Nomkstream
 returns-in-Nomkstream c = rw c.in-Nomkstream.is c.nomkstream.ensures

@@ -1,9 +1,9 @@
 //! Vectors of `XREAD`, `XREADGROUP` and `XNACK`.
 ghost use Rattle.std.specs.Prelude.{◌≡◌, [], ◌∷◌, IfOk, codes, map};
 
+use crate::vectors::OptionsVector;
 use std::alloc::{AllocError, Global};
 use stream_options::{StreamNackMode, StreamNackOptions, StreamReadOptions};
-use stream_text::vectors::OptionsVector;
 
 /// Read options, v32 to v34.
 pub fn read_vectors(alloc: Global) -> Result<[OptionsVector<StreamReadOptions>; 3], AllocError>

@@ -1,9 +1,9 @@
 //! Vectors of `XTRIM`.
 ghost use Rattle.std.specs.Prelude.{◌≡◌, [], ◌∷◌, IfOk, codes, map};
 
+use crate::vectors::OptionsVector;
 use std::alloc::{AllocError, Global};
 use stream_options::{StreamDeletionPolicy, StreamMaxlen, StreamTrimOptions, StreamTrimmingMode};
-use stream_text::vectors::OptionsVector;
 
 /// Trim options, v01 to v06.
 pub fn trim_vectors(alloc: Global) -> Result<[OptionsVector<StreamTrimOptions>; 6], AllocError>

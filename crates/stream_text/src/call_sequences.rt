@@ -4,7 +4,7 @@ ghost use Rattle.stream_options.specs.Add.{default_add};
 ghost use Rattle.stream_options.specs.AddCalls.{final_add, after_add};
 ghost use Rattle.stream_options.specs.Read.{default_read};
 ghost use Rattle.stream_options.specs.ReadCalls.{final_read, after_read};
-ghost use Rattle.command_tests.specs.CallsMeaning.{add_call_of, read_call_of};
+ghost use Rattle.stream_text.specs.CallsMeaning.{add_call_of, read_call_of};
 
 use redis_resp::RawBytes;
 use std::alloc::{AllocError, Global};

@@ -7,10 +7,10 @@ use Rattle.stream_options.specs.Idempotency.{manual, automatic}
 use Rattle.stream_options.specs.View.{strategy_of, policy_of}
 use Rattle.stream_options.specs.AddCalls as add
 use Rattle.stream_options.specs.ReadCalls as read
-use Rattle.command_tests.specs.declared.call_sequences.AddCall.{AddCall}
-use Rattle.command_tests.specs.declared.call_sequences.AddCall.TheVariants as add_call
-use Rattle.command_tests.specs.declared.call_sequences.ReadCall.{ReadCall}
-use Rattle.command_tests.specs.declared.call_sequences.ReadCall.TheVariants as read_call
+use Rattle.stream_text.specs.declared.call_sequences.AddCall.{AddCall}
+use Rattle.stream_text.specs.declared.call_sequences.AddCall.TheVariants as add_call
+use Rattle.stream_text.specs.declared.call_sequences.ReadCall.{ReadCall}
+use Rattle.stream_text.specs.declared.call_sequences.ReadCall.TheVariants as read_call
 
 -- what a call on the options of an addition names
 abbrev pub add_call_of : AddCall → add.AddCall

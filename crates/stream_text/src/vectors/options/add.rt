@@ -1,11 +1,11 @@
 //! Vectors of `XADD`.
 ghost use Rattle.std.specs.Prelude.{◌≡◌, [], ◌∷◌, IfOk, codes, map};
 
+use crate::vectors::OptionsVector;
 use std::alloc::{AllocError, Global};
 use stream_options::{
     StreamAddOptions, StreamDeletionPolicy, StreamTrimStrategy, StreamTrimmingMode,
 };
-use stream_text::vectors::OptionsVector;
 
 /// Add options without idempotency, v09 to v12.
 pub fn trimmed_vectors() -> [OptionsVector<StreamAddOptions>; 4]

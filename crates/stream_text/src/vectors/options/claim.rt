@@ -1,9 +1,9 @@
 //! Vectors of `XAUTOCLAIM` and `XCLAIM`.
 ghost use Rattle.std.specs.Prelude.{◌≡◌, [], ◌∷◌, IfOk, codes, map};
 
+use crate::vectors::OptionsVector;
 use std::alloc::{AllocError, Global};
 use stream_options::{StreamAutoClaimOptions, StreamClaimOptions};
-use stream_text::vectors::OptionsVector;
 
 /// Automatic claim options, v29.
 pub fn autoclaim_vectors() -> [OptionsVector<StreamAutoClaimOptions>; 1]

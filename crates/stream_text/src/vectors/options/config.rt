@@ -1,9 +1,9 @@
 //! Vectors of the idempotency configuration, `XCFGSET`.
 ghost use Rattle.std.specs.Prelude.{◌≡◌, [], ◌∷◌, codes, map};
 
+use crate::vectors::OptionsVector;
+use crate::vectors::config::ConfigAnswer;
 use stream_options::StreamConfigOptions;
-use stream_text::vectors::OptionsVector;
-use stream_text::vectors::config::ConfigAnswer;
 
 /// Accepted config calls, v20 to v24.
 pub fn accepted_vectors() -> [OptionsVector<ConfigAnswer>; 5]
