@@ -72,6 +72,7 @@ is_tuple_of_four kind =
 abbrev pub is_tuple : List ℕ → Bool
 is_tuple kind =
     if bytes_eq kind (codes "(String, u32)") then true
+    else if bytes_eq kind (codes "(String, String)") then true
     else if bytes_eq kind (codes "(u16, i64)") then true
     else if bytes_eq kind (codes "(u64, bool, u8)") then true
     else if bytes_eq kind (codes "(u16, u16, u16)") then true
@@ -94,6 +95,7 @@ is_collection kind =
     if bytes_eq kind (codes "Vec<String>") then true
     else if bytes_eq kind (codes "Vec<Value>") then true
     else if bytes_eq kind (codes "Option<u32>") then true
+    else if bytes_eq kind (codes "Option<String>") then true
     else if is_table kind then true
     else false
 

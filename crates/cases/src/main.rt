@@ -6,7 +6,7 @@
 //!
 //! ```text
 //! range    Array[Array[1-0, Array[f, v]]]      1-0(f=v)
-//! u8       256                                 refused NotNumber: not a number of this type
+//! u8       256                                 refused 2 NotNumber: not a number of this type
 //! ```
 //!
 //! The kinds are those of the modules `replies`, `readings`, `notation`, `wire` and `refs`.
@@ -32,7 +32,7 @@ use std::alloc::{AllocError, Global};
 use std::io;
 use std::io::{BufRead, BufReader, BufWriter, Write};
 use std::process::ExitCode;
-use stream_text::{NotationError, read_value};
+use stream_text::{NotationError, PrintedForm, read_value};
 
 /// Memory ran out, or standard input or output failed.
 const FAILED: u8 = 2;
@@ -111,11 +111,16 @@ fn value_of(alloc: Global, input: &str) -> Result<Result<Value, String>, AllocEr
     }
 }
 
-/// A refusal as `Debug` and as `Display` print it. That memory ran out is no outcome, and is passed on.
+/// A refusal: its number, and as `Debug` and as `Display` print it. That memory ran out is no outcome,
+/// and is passed on.
 fn refusal_text(alloc: Global, error: &ParsingError) -> Result<String, AllocError> {
     match error {
         ParsingError::Memory => Err(AllocError),
-        _ => format!(in alloc; "refused {error:?}: {error}"),
+        _ => {
+            let mut text = error.printed(alloc)?;
+            write!(text, " {error:?}: {error}")?;
+            Ok(text)
+        }
     }
 }
 

@@ -69,6 +69,7 @@ fn tuple(alloc: Global, kind: &str, input: &str) -> Result<Option<String>, Alloc
 {
     match kind {
         "(String, u32)" => read_both::<(String, u32)>(alloc, input),
+        "(String, String)" => read_both::<(String, String)>(alloc, input),
         "(u16, i64)" => read_both::<(u16, i64)>(alloc, input),
         "(u64, bool, u8)" => read_both::<(u64, bool, u8)>(alloc, input),
         "(u16, u16, u16)" => read_both::<(u16, u16, u16)>(alloc, input),
@@ -100,6 +101,7 @@ fn collection(alloc: Global, kind: &str, input: &str) -> Result<Option<String>, 
         "Vec<String>" => read_both::<Vec<String>>(alloc, input),
         "Vec<Value>" => read_both::<Vec<Value>>(alloc, input),
         "Option<u32>" => read_both::<Option<u32>>(alloc, input),
+        "Option<String>" => read_both::<Option<String>>(alloc, input),
         _ => table(alloc, kind, input),
     }
 }
