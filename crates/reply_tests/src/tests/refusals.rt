@@ -2,14 +2,14 @@
 //! caller can prove of it.
 use redis_resp::{ParsingError, equal_parsing_errors};
 use std::test::Fail;
+use stream_text::PrintedForm;
 
 #[test]
 fn that_memory_ran_out_is_printed(rt: HostRuntime) -> Result<(), Fail> {
     let error = ParsingError::Memory;
-    assert_eq!(rt;
-        format!(in rt.alloc(); "{error}")?.as_str(),
-        "out of memory"
-    );
+    let number = error.printed(rt.alloc())?;
+    let text = format!(in rt.alloc(); "{number} {error:?}: {error}")?;
+    assert_eq!(rt; text.as_str(), "refused 18 Memory: out of memory");
     Ok(())
 }
 

@@ -1,21 +1,24 @@
-//! A type of a user's own, with a grammar of its own, inside lists, options and the fields of entries.
+//! A type of a user's own, with a grammar of its own: as arguments, and inside lists, options, tables and
+//! the fields of entries.
 ghost use Rattle.std.specs.Prelude.{◌≡◌, Bool, [], ◌∷◌, refl};
 ghost use Rattle.redis_resp.specs.Value.{tree};
 ghost use Rattle.redis_resp.specs.declared.value.error.ParsingError.TheVariants.{NotText};
 ghost use Rattle.reply_tests.specs.Flag.{flag_in, flag_reading, flag_word};
 
 use crate::tests::readings::check_value;
+use indexmap::IndexMap;
 use redis_resp::{
-    FromRedisValue, ParsingError, RedisWrite, ToRedisArgs, ToSingleRedisArg, Value, WriteError,
-    from_redis_value,
+    FixedArgs, FromRedisValue, ParsingError, RedisWrite, ToRedisArgs, ToSingleRedisArg, Value,
+    WriteError, from_redis_value,
 };
-use redis_streams::StreamRangeReply;
+use redis_streams::{StreamId, StreamRangeReply};
 use std::alloc::Global;
 use std::process::Abort;
 use std::test::Fail;
+use stream_options::StreamReadOptions;
 use stream_text::read_value;
 
-/// `on` or `off`.
+/// `yes` or `no`.
 #[derive(Debug, Drop)]
 struct Flag(bool);
 
@@ -24,9 +27,9 @@ impl ToRedisArgs for Flag {
 
     fn write_redis_args<W: RedisWrite>(&self, out: &mut W) -> Result<(), WriteError> {
         if self.0 {
-            out.write_arg(b"on")
+            out.write_arg(b"yes")
         } else {
-            out.write_arg(b"off")
+            out.write_arg(b"no")
         }
     }
 }
@@ -39,9 +42,9 @@ impl ToSingleRedisArg for Flag {
 fn flag_of_word(word: &[u8]) -> Option<bool>
     ensures { result ≡ flag_in word.now }
 {
-    if word == b"on".as_slice() {
+    if word == b"yes".as_slice() {
         Some(true)
-    } else if word == b"off".as_slice() {
+    } else if word == b"no".as_slice() {
         Some(false)
     } else {
         None
@@ -55,11 +58,12 @@ fn flag_of(v: &Value) -> Option<bool>
     match v.as_plain() {
         Value::BulkString(bytes) => flag_of_word(bytes),
         Value::SimpleString(text) => flag_of_word(text.as_bytes()),
+        Value::VerbatimString { text, .. } => flag_of_word(text.as_bytes()),
         _ => None,
     }
 }
 
-/// A bulk string or a simple string that is `on` or `off`; `NotText` for each other value.
+/// A text that is `yes` or `no`; `NotText` for each other value.
 impl FromRedisValue for Flag {
     ghost Meaning = { Bool };
 
@@ -84,58 +88,125 @@ impl FromRedisValue for Flag {
     }
 }
 
-#[test]
-fn lists_of_flags_are_read(rt: HostRuntime) -> Result<(), Fail> {
-    let shown = "Ok([Flag(true), Flag(false), Flag(true)])";
-    check_value::<Vec<Flag>>(&rt, "Array[on, Attr(off), Simple(on)]", shown)?;
-    check_value::<Vec<Flag>>(&rt, "Nil", "Ok([])")?;
-    check_value::<Vec<Flag>>(&rt, "Array[on, yes]", "Err(NotText)")?;
-    check_value::<Vec<Flag>>(&rt, "Array[on, Int 1]", "Err(NotText)")?;
-    check_value::<Vec<Flag>>(&rt, "on", "Err(NotList)")
-}
+/// Values, and what each is as a flag: texts of each kind, with attributes, and other values.
+const FLAGS: [(&str, &str); 10] = [
+    ("yes", "Ok(Flag(true))"),
+    ("Simple(no)", "Ok(Flag(false))"),
+    ("Verbatim(txt, yes)", "Ok(Flag(true))"),
+    ("Okay", "Err(NotText)"),
+    ("Int 1", "Err(NotText)"),
+    ("Attr(no)", "Ok(Flag(false))"),
+    ("Yes", "Err(NotText)"),
+    ("Bytes(255)", "Err(NotText)"),
+    ("Nil", "Err(NotText)"),
+    ("Array[yes]", "Err(NotText)"),
+];
 
 #[test]
-fn flags_that_may_be_missing_are_read(rt: HostRuntime) -> Result<(), Fail> {
-    check_value::<Option<Flag>>(&rt, "Nil", "Ok(None)")?;
-    check_value::<Option<Flag>>(&rt, "off", "Ok(Some(Flag(false)))")?;
-    check_value::<Option<Flag>>(&rt, "On", "Err(NotText)")
-}
-
-/// The entry of the fields `f`, `on`, and `g`, `yes`.
-fn check_fields(rt: &(impl AllocGlobal + Abort), range: &StreamRangeReply) -> Result<(), Fail> {
-    for entry in &range.ids {
-        let flag = entry.get::<Flag>(rt.alloc(), "f")?;
-        assert!(rt; matches!(flag, Some(Flag(true))));
-        assert!(rt; entry.get::<Flag>(rt.alloc(), "g")?.is_none());
-        assert!(rt; entry.get::<Flag>(rt.alloc(), "h")?.is_none());
-        assert!(rt; entry.get::<Vec<Value>>(rt.alloc(), "f")?.is_none());
+fn texts_of_each_kind_are_read_as_flags(rt: HostRuntime) -> Result<(), Fail> {
+    for (notation, shown) in &FLAGS {
+        check_value::<Flag>(&rt, notation, shown)?;
     }
     Ok(())
 }
 
 #[test]
-fn fields_are_read_as_flags(rt: HostRuntime) -> Result<(), Fail> {
-    let value = read_value(rt.alloc(), "Array[Array[1-0, Array[f, on, g, yes]]]")?;
-    let range = from_redis_value::<StreamRangeReply>(rt.alloc(), value)?;
-    assert_eq!(rt; range.ids.len(), 1);
-    check_fields(&rt, &range)
+fn lists_of_flags_are_read(rt: HostRuntime) -> Result<(), Fail> {
+    for (notation, shown) in &[
+        (
+            "Array[yes, Attr(no), Simple(yes)]",
+            "Ok([Flag(true), Flag(false), Flag(true)])",
+        ),
+        ("Nil", "Ok([])"),
+        ("Array[yes, on]", "Err(NotText)"),
+        ("Array[yes, Int 1]", "Err(NotText)"),
+        ("yes", "Err(NotList)"),
+    ] {
+        check_value::<Vec<Flag>>(&rt, notation, shown)?;
+    }
+    Ok(())
 }
 
-/// The arguments, as `Debug` shows them.
+#[test]
+fn flags_that_may_be_missing_are_read(rt: HostRuntime) -> Result<(), Fail> {
+    for (notation, shown) in &[
+        ("Nil", "Ok(None)"),
+        ("no", "Ok(Some(Flag(false)))"),
+        ("No", "Err(NotText)"),
+    ] {
+        check_value::<Option<Flag>>(&rt, notation, shown)?;
+    }
+    Ok(())
+}
+
+#[test]
+fn tables_of_flags_are_read(rt: HostRuntime) -> Result<(), Fail> {
+    let shown = "Ok({\"a\": Flag(true), \"b\": Flag(false)})";
+    check_value::<IndexMap<String, Flag>>(&rt, "Map[a: yes, b: no]", shown)
+}
+
+/// The entry of the fields `f`, `yes`; `g`, `on`; `n`, `7`; and `e`, which is nil.
+fn check_flags(rt: &(impl AllocGlobal + Abort), entry: &StreamId) -> Result<(), Fail> {
+    let flag = entry.get::<Flag>(rt.alloc(), "f")?;
+    assert!(rt; matches!(flag, Some(Flag(true))));
+    for key in &["g", "n", "e", "h"] {
+        assert!(rt; entry.get::<Flag>(rt.alloc(), key)?.is_none(), "{key}");
+    }
+    Ok(())
+}
+
+/// The fields of the same entry, as other types.
+fn check_others(rt: &(impl AllocGlobal + Abort), entry: &StreamId) -> Result<(), Fail> {
+    assert!(rt; entry.get::<u16>(rt.alloc(), "n")? == Some(7));
+    assert!(rt; entry.get::<u16>(rt.alloc(), "h")?.is_none());
+    assert!(rt; entry.get::<Vec<Value>>(rt.alloc(), "n")?.is_none());
+    assert!(rt; matches!(entry.get::<Option<String>>(rt.alloc(), "e")?, Some(None)));
+    Ok(())
+}
+
+#[test]
+fn fields_are_read_as_flags(rt: HostRuntime) -> Result<(), Fail> {
+    let notation = "Array[Array[1-0, Array[f, yes, g, on, n, 7, e, Nil]]]";
+    let value = read_value(rt.alloc(), notation)?;
+    let range = from_redis_value::<StreamRangeReply>(rt.alloc(), value)?;
+    assert_eq!(rt; range.ids.len(), 1);
+    for entry in &range.ids {
+        check_flags(&rt, entry)?;
+        check_others(&rt, entry)?;
+    }
+    Ok(())
+}
+
+/// The value writes these words as a list, and into a place of a fixed size.
 fn check_written<T: ToRedisArgs>(
     rt: &(impl AllocGlobal + Abort),
     value: &T,
-    shown: &str,
+    words: &[&str],
 ) -> Result<(), Fail> {
     let args = value.to_redis_args(rt.alloc())?;
-    let told = format!(in rt.alloc(); "{args:?}")?;
-    assert_eq!(rt; told.as_str(), shown);
+    let mut place: FixedArgs<4, 16> = FixedArgs::new();
+    assert_eq!(rt; value.write_redis_args(&mut place), Ok(()));
+    assert_eq!(rt; (args.len(), place.len()), (words.len(), words.len()));
+    for (index, word) in words.iter().enumerate() {
+        assert!(rt; place.get(index) == Some(word.as_bytes()), "{word}");
+        assert!(rt;
+            matches!(args.get(index), Some(arg) if arg.as_slice() == word.as_bytes()),
+            "{word}"
+        );
+    }
     Ok(())
 }
 
 #[test]
 fn flags_are_written(rt: HostRuntime) -> Result<(), Fail> {
     let flags = vec![in rt.alloc(); Flag(true), Flag(false)]?;
-    check_written(&rt, &flags, "[[111, 110], [111, 102, 102]]")?;
-    check_written(&rt, &Some(Flag(false)), "[[111, 102, 102]]")
+    check_written(&rt, &flags, &["yes", "no"])?;
+    check_written(&rt, &Some(Flag(false)), &["no"])?;
+    check_written(&rt, &&Flag(true), &["yes"])
+}
+
+#[test]
+fn a_flag_names_a_consumer(rt: HostRuntime) -> Result<(), Fail> {
+    let options = StreamReadOptions::default().group(rt.alloc(), 7u64, Flag(true))?;
+    check_written(&rt, &options, &["GROUP", "7", "yes"])
 }
