@@ -41,7 +41,7 @@ def read(path):
 
 def edited(crate, edit, texts=None):
     """Returns the function that an edit names, if it names one, the texts of the files that it changes, and for each change
-    the file and the place of it. `texts` are files that other edits changed before, which it is applied to."""
+    the file and the place of it. A line 'more:' adds a further line to the text that is replaced. `texts` are files that other edits changed before, which it is applied to."""
     function, path, old, texts, sites = None, None, None, dict(texts or {}), []
     for line in read(edit).split("\n"):
         word, _, rest = line.partition(":")
@@ -55,6 +55,8 @@ def edited(crate, edit, texts=None):
             texts.setdefault(path, read(f"{ROOT}/crates/{crate}/{path}"))
         elif word == "old":
             old = rest
+        elif word == "more" and old:
+            old += "\n" + rest
         elif word == "new" and path and old:
             if texts[path].count(old) != 1:
                 raise Unfit(f"'{old}' is in {path} {texts[path].count(old)} times, and not once")
