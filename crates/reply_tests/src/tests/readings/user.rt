@@ -110,18 +110,21 @@ fn texts_of_each_kind_are_read_as_flags(rt: HostRuntime) -> Result<(), Fail> {
     Ok(())
 }
 
+/// Values, and what each is as a list of flags.
+const LISTS: [(&str, &str); 5] = [
+    (
+        "Array[yes, Attr(no), Simple(yes)]",
+        "Ok([Flag(true), Flag(false), Flag(true)])",
+    ),
+    ("Nil", "Ok([])"),
+    ("Array[yes, on]", "Err(NotText)"),
+    ("Array[yes, Int 1]", "Err(NotText)"),
+    ("yes", "Err(NotList)"),
+];
+
 #[test]
 fn lists_of_flags_are_read(rt: HostRuntime) -> Result<(), Fail> {
-    for (notation, shown) in &[
-        (
-            "Array[yes, Attr(no), Simple(yes)]",
-            "Ok([Flag(true), Flag(false), Flag(true)])",
-        ),
-        ("Nil", "Ok([])"),
-        ("Array[yes, on]", "Err(NotText)"),
-        ("Array[yes, Int 1]", "Err(NotText)"),
-        ("yes", "Err(NotList)"),
-    ] {
+    for (notation, shown) in &LISTS {
         check_value::<Vec<Flag>>(&rt, notation, shown)?;
     }
     Ok(())
@@ -129,14 +132,9 @@ fn lists_of_flags_are_read(rt: HostRuntime) -> Result<(), Fail> {
 
 #[test]
 fn flags_that_may_be_missing_are_read(rt: HostRuntime) -> Result<(), Fail> {
-    for (notation, shown) in &[
-        ("Nil", "Ok(None)"),
-        ("no", "Ok(Some(Flag(false)))"),
-        ("No", "Err(NotText)"),
-    ] {
-        check_value::<Option<Flag>>(&rt, notation, shown)?;
-    }
-    Ok(())
+    check_value::<Option<Flag>>(&rt, "Nil", "Ok(None)")?;
+    check_value::<Option<Flag>>(&rt, "no", "Ok(Some(Flag(false)))")?;
+    check_value::<Option<Flag>>(&rt, "No", "Err(NotText)")
 }
 
 #[test]
@@ -149,18 +147,19 @@ fn tables_of_flags_are_read(rt: HostRuntime) -> Result<(), Fail> {
 fn check_flags(rt: &(impl AllocGlobal + Abort), entry: &StreamId) -> Result<(), Fail> {
     let flag = entry.get::<Flag>(rt.alloc(), "f")?;
     assert!(rt; matches!(flag, Some(Flag(true))));
-    for key in &["g", "n", "e", "h"] {
-        assert!(rt; entry.get::<Flag>(rt.alloc(), key)?.is_none(), "{key}");
-    }
+    assert!(rt; entry.get::<Flag>(rt.alloc(), "g")?.is_none());
+    assert!(rt; entry.get::<Flag>(rt.alloc(), "n")?.is_none());
+    assert!(rt; entry.get::<Flag>(rt.alloc(), "h")?.is_none());
     Ok(())
 }
 
 /// The fields of the same entry, as other types.
 fn check_others(rt: &(impl AllocGlobal + Abort), entry: &StreamId) -> Result<(), Fail> {
-    assert!(rt; entry.get::<u16>(rt.alloc(), "n")? == Some(7));
-    assert!(rt; entry.get::<u16>(rt.alloc(), "h")?.is_none());
+    assert_eq!(rt; entry.get::<u16>(rt.alloc(), "n")?, Some(7));
+    assert_eq!(rt; entry.get::<u16>(rt.alloc(), "h")?, None);
     assert!(rt; entry.get::<Vec<Value>>(rt.alloc(), "n")?.is_none());
-    assert!(rt; matches!(entry.get::<Option<String>>(rt.alloc(), "e")?, Some(None)));
+    let none = entry.get::<Option<String>>(rt.alloc(), "e")?;
+    assert!(rt; matches!(none, Some(None)));
     Ok(())
 }
 
