@@ -90,11 +90,23 @@ impl fmt::Display for Report {
     ghost output = { λ r. Some (report_text r.entries r.batches r.letters) };
 
     fn fmt<W: fmt::Write>(&self, f: &mut fmt::Formatter<W>) -> fmt::Result {
-        let entries = Counted::new(self.entries, " entry", " entries");
-        let batches = Counted::new(self.batches, " batch", " batches");
+        let entries = Counted {
+            number: self.entries,
+            one: " entry",
+            many: " entries",
+        };
+        let batches = Counted {
+            number: self.batches,
+            one: " batch",
+            many: " batches",
+        };
         match self.letters {
             Some(letters) => {
-                let letters = Counted::new(letters, " dead letter", " dead letters");
+                let letters = Counted {
+                    number: letters,
+                    one: " dead letter",
+                    many: " dead letters",
+                };
                 write!(f, "{entries} in {batches}, {letters}")
             }
             None => write!(f, "{entries} in {batches}"),
@@ -108,14 +120,6 @@ struct Counted {
     number: u64,
     one: &'static str,
     many: &'static str,
-}
-
-impl Counted {
-    fn new(number: u64, one: &'static str, many: &'static str) -> Counted
-        ensures { result ≡ record { number = number; one = one; many = many } }
-    {
-        Counted { number, one, many }
-    }
 }
 
 impl fmt::Display for Counted {
