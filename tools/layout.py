@@ -183,7 +183,7 @@ def build_library(is_proved: bool) -> Dict[str, bytes]:
 def compile_library(is_proved: bool) -> None:
     """Compiles the crate of the library; if it is proved, over the libraries that the gate left, or else over new ones."""
     if not is_proved:
-        run([f"{ROOT}/tools/build-c", "--unproved"])
+        run(["nice", "-n", "5", f"{ROOT}/tools/build-c", "--unproved"])  # (the programs take longer)
         return
     try:
         run([f"{ROOT}/tools/build-c"])
