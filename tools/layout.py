@@ -4,6 +4,7 @@ from __future__ import annotations
 import glob
 import hashlib
 import os
+import shutil
 import subprocess
 import sys
 import tempfile
@@ -183,7 +184,7 @@ def build_library(is_proved: bool) -> Dict[str, bytes]:
 def compile_library(is_proved: bool) -> None:
     """Compiles the crate of the library; if it is proved, over the libraries that the gate left, or else over new ones."""
     if not is_proved:
-        run([f"{ROOT}/tools/build-c", "--unproved"])
+        run(["nice", "-n", "5", f"{ROOT}/tools/build-c", "--unproved"])  # (the programs take longer)
         return
     try:
         run([f"{ROOT}/tools/build-c"])
@@ -232,6 +233,9 @@ def package_files(build: Build) -> Tree:
 
 def make_tree(build: Build) -> Tree:
     """Builds what is missing, and returns all files of an installation."""
+    for name, package in (("cc", "gcc"), ("strip", "binutils")):
+        if shutil.which(name) is None:
+            raise NotMade(f"{name} is not installed: Debian's package {package} has it")
     with ThreadPoolExecutor(1 if build.is_proved else 2) as pool:
         building = pool.submit(build_programs, build.is_proved)
         library = pool.submit(build_library, build.is_proved).result()

@@ -9,6 +9,7 @@ import ctypes
 from typing import Any, Callable, Iterable, Mapping, Union
 
 from . import library as c
+from . import resp
 from .errors import OK, ROOM, BadSettings, error_of
 
 Text = Union[bytes, str]
@@ -36,8 +37,7 @@ class Command(bytes):
 
 def pack(*words: Text | int) -> Command:
     """A command of any words, for what no call here writes."""
-    packed = [str(word).encode() if isinstance(word, int) else _bytes(word) for word in words]
-    return Command(b"*%d\r\n" % len(packed) + b"".join(b"$%d\r\n%b\r\n" % (len(word), word) for word in packed))
+    return Command(resp.encode(word if isinstance(word, int) else _bytes(word) for word in words))
 
 
 def xadd(key: Text, fields: Fields, id: Text = b"*", *, nomkstream: bool = False, maxlen: int | None = None,

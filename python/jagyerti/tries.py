@@ -18,6 +18,7 @@ from .retry import Pauses
 from .url import Address
 
 GOOD_RUN = 60.0  # seconds after which the count of tries begins anew
+TOGETHER = 0.3  # seconds in which two signals are one: timeout(1) sends its to a process, and then to the group of it
 CLOSED = re.compile(r"error: (.*: )?the server closed the connection\.?", re.I)
 COUNTS = re.compile(r"([0-9]+) (entry|entries|records?) in ")
 
@@ -65,7 +66,7 @@ class Tries:
     def __init__(self, plan: Plan) -> None:
         self.plan, self.figures = plan, Figures()
         self.run: Optional[Run] = None
-        self.signals, self.is_idle = 0, False
+        self.signals, self.signalled, self.is_idle = 0, -TOGETHER, False
         self.error, self.entries, self.held_counts, self.held_error = "", 0, "", ""
         self.metrics = MetricsFile(plan.metrics, plan.metrics_prefix, plan.say) if plan.metrics else None
 
@@ -80,6 +81,9 @@ class Tries:
 
     def take_signal(self, _number: int, _frame: Optional[FrameType]) -> None:
         """Handles SIGTERM and SIGINT: the first ends the run that is there cleanly, the second at once."""
+        last, self.signalled = self.signalled, time.monotonic()
+        if self.signals and self.signalled - last < TOGETHER:
+            return
         self.signals += 1
         if self.run is not None:
             self.run.stop()

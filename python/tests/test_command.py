@@ -10,6 +10,7 @@ import time
 import unittest
 
 from jagyerti.process import PACKAGES
+from jagyerti.tries import TOGETHER
 
 LAUNCH = f"import sys; sys.path.insert(0, {PACKAGES!r}); from jagyerti.cli import main; sys.exit(main(sys.argv[1:]))"
 # A program that is ready, reads to the end, and then prints this and ends with this status.
@@ -22,6 +23,7 @@ while os.read(0, 100):
 """
 CLOSED = 'print("3 entries in 1 batch\\nError: the server closed the connection", file=sys.stderr); sys.exit(1)'
 FULL = 'print("Error: cannot write the file: no space left on device", file=sys.stderr); sys.exit(1)'
+SLOW = "time.sleep(0.5); " + CLOSED
 STAYS = 'print("stays", file=sys.stderr, flush=True); time.sleep(60)'
 
 
@@ -78,10 +80,18 @@ class Command(unittest.TestCase):
         running.terminate()
         self.ends(running, 1, "Error: cannot write the file: no space left on device\n")
 
+    def test_two_signals_together_are_one(self):
+        running = self.started(SLOW)
+        running.terminate()
+        time.sleep(TOGETHER / 20)
+        running.terminate()
+        self.ends(running, 0, "3 entries in 1 batch\n")
+
     def test_second_signal_ends_it_at_once(self):
         running = self.started(STAYS)
         running.terminate()
         self.assertEqual(running.stderr.readline(), b"stays\n")
+        time.sleep(TOGETHER)
         running.terminate()
         self.ends(running, 137, "jagyerti drain: the program was ended by SIGKILL\n")
 

@@ -65,7 +65,7 @@ class WordsTest(unittest.TestCase):
 
     def test_a_redirection(self) -> None:
         with scripted([b":1\r\n", b"*0\r\n"]) as (other, noted), scripted([f"-MOVED 5 127.0.0.1:{other}\r\n".encode()]) as (port, _):
-            self.assertEqual(called("dead", "list", f"redis://127.0.0.1:{port}", "d"), (0, "", ""))
+            self.assertEqual(called("dead", "list", f"redis://127.0.0.1:{port}", "d"), (0, "", "jagyerti dead: d has no letters\n"))
         self.assertEqual(noted[1][:2], [b"XRANGE", b"d"])
 
 
@@ -101,6 +101,10 @@ class DeadLettersTest(unittest.TestCase):
         status, shown, error = self.dead("show", "d", "1-0", "9-0", "--json")
         self.assertEqual((status, [json.loads(line)["id"] for line in shown.splitlines()]), (1, ["1-0"]))
         self.assertIn("9-0: no such letter in d", error)
+
+    def test_a_stream_without_letters(self) -> None:
+        for words in (("list", "d"), ("list", "--json", "d"), ("show", "d"), ("drop", "d", "--all"), ("replay", "d", "--to", "k", "--all")):
+            self.assertEqual(self.dead(*words), (0, "", "jagyerti dead: d has no letters\n"), words)
 
     def test_many_letters(self) -> None:
         for at in range(250):
@@ -181,7 +185,7 @@ class DeadLettersTest(unittest.TestCase):
         self.assertEqual((status, shown), (1, "2-0: dropped\n"))
         self.assertIn("7-0: no such letter", error)
         self.assertEqual(self.dead("drop", "d", "--all"), (0, "1-0: dropped\n3-0: dropped\n", ""))
-        self.assertEqual(self.dead("list", "d"), (0, "", ""))
+        self.assertEqual(self.dead("list", "d"), (0, "", "jagyerti dead: d has no letters\n"))
 
     def test_letters_of_stream_drain(self) -> None:
         try:

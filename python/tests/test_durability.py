@@ -8,7 +8,7 @@ import time
 import unittest
 from typing import Dict, List, Tuple
 
-from jagyerti import durability, server
+from jagyerti import durability, resp, server
 from jagyerti.durability import LOSES, OK, UNKNOWN, Facts
 
 from .scripted import scripted
@@ -80,7 +80,7 @@ class CommandTest(unittest.TestCase):
     def test_a_map_of_resp3_and_no_config(self) -> None:
         info = b"redis_version:7.2.4\r\nrole:slave\r\nmaster_host:a\r\nmaster_port:6379\r\naof_enabled:0\r\n" \
                b"maxmemory:0\r\nmaxmemory_policy:noeviction\r\n"
-        replies = [b"$%d\r\n%s\r\n" % (len(info), info), b"%1\r\n$10\r\nappendonly\r\n$2\r\nno\r\n", b"-ERR unknown command\r\n"]
+        replies = [resp.encode_reply(info), resp.encode_reply({"appendonly": "no"}), b"-ERR unknown command\r\n"]
         with scripted(replies) as (port, noted):
             status, shown, error = called("doctor", f"redis://127.0.0.1:{port}", "--json")
         found = json.loads(shown)

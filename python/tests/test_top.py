@@ -20,7 +20,7 @@ import time
 import unittest
 from typing import Callable, Optional, Tuple
 
-from jagyerti import connect, monitor, process, screen, server
+from jagyerti import connect, monitor, process, resp, screen, server
 
 from .scripted import scripted
 from .test_dead_letters import called
@@ -207,8 +207,7 @@ class TopTest(unittest.TestCase):
         self.assertEqual(called("top", self.server.url, "--json", "--", "--once")[0], 0)
 
     def test_sentinel(self) -> None:
-        port = str(self.server.port).encode()
-        reply = b"*2\r\n$9\r\n127.0.0.1\r\n$%d\r\n%s\r\n" % (len(port), port)
+        reply = resp.encode_reply(["127.0.0.1", str(self.server.port)])
         for words in (("top", "--json", "orders"), ("dead", "list", "orders")):
             with scripted([reply]) as (sentinel, noted):
                 status, shown, _ = called(*words, f"redis://127.0.0.1:{sentinel}", "--sentinel", "main")

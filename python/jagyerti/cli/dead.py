@@ -82,7 +82,7 @@ def refuse_words(arguments: argparse.Namespace, stream: str, ids: List[str]) -> 
 
 def list_letters(connection: socket.socket, stream: str, ids: List[str], arguments: argparse.Namespace) -> int:
     """Prints a line for each letter."""
-    for letter in dead_letters.read_letters(connection, stream):
+    for letter in all_letters(connection, stream):
         if arguments.json:
             print(json.dumps(as_json(letter), ensure_ascii=False))
         elif letter.entry is None:
@@ -132,7 +132,7 @@ def drop_letters(connection: socket.socket, stream: str, ids: List[str], argumen
 def change(connection: socket.socket, stream: str, ids: List[str], one: Callable[[str], str]) -> int:
     """Changes these letters, or all of them. `one` returns the line to print, an empty one if the letter is not there."""
     status = 0
-    for id in ids or [letter.id for letter in dead_letters.read_letters(connection, stream)]:
+    for id in ids or [letter.id for letter in all_letters(connection, stream)]:
         line = one(id)
         if line:
             print(line, flush=True)
@@ -144,9 +144,19 @@ def change(connection: socket.socket, stream: str, ids: List[str], one: Callable
 def chosen(connection: socket.socket, stream: str, ids: List[str]) -> Iterator[Any]:
     """Yields these letters, or all; for one that is not there, its id."""
     if not ids:
-        yield from dead_letters.read_letters(connection, stream)
+        yield from all_letters(connection, stream)
     for id in ids:
         yield dead_letters.find_letter(connection, stream, id) or id
+
+
+def all_letters(connection: socket.socket, stream: str) -> Iterator[Letter]:
+    """Yields all letters, and says if there is none: the stream may have another name."""
+    is_empty = True
+    for letter in dead_letters.read_letters(connection, stream):
+        is_empty = False
+        yield letter
+    if is_empty:
+        say("dead", f"{stream} has no letters")
 
 
 def say_missing(id: str, stream: str) -> int:
