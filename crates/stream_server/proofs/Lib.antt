@@ -32,6 +32,7 @@ mod NameLemmas
 mod RereadLemmas
 mod RereadLawLemmas
 mod RereadModelLemmas
+mod ScanLemmas
 mod ServingLemmas
 mod StalledLemmas
 mod StartLemmas

@@ -1,6 +1,6 @@
 -- Commands as redis-server reads them: the command at the front of bytes and the bytes behind it, or why
 -- there is none.
-use Rattle.std.specs.Prelude.{◌≡◌, ℕ, zero, suc, ◌+◌, ◌==◌, ◌&&◌, Bool, not, ℤ, pos, negsuc, List, [], ◌∷◌, ◌++◌, codes, length}
+use Rattle.std.specs.Prelude.{◌≡◌, ◌≤◌, ℕ, zero, suc, ◌+◌, ◌==◌, ◌&&◌, Bool, not, ℤ, pos, negsuc, List, [], ◌∷◌, ◌++◌, codes, length}
 use Rattle.std.specs.Prelude.{take, drop, Option, Some, None, Result, Ok, Err, nat_lt, if◌then◌else◌}
 use Rattle.std.specs.List.{prefix_len}
 use Rattle.std.specs.Str.{bytes_eq}
@@ -11,6 +11,7 @@ use Rattle.redis_wire.specs.WrittenReply.{blank_end}
 use Rattle.stream_server.specs.Quoted.{Turn, fails, split_words}
 use Rattle.stream_server.specs.declared.incoming.ProtocolError.{ProtocolError}
 use Rattle.stream_server.specs.declared.incoming.ProtocolError.TheVariants as errors
+use Rattle.stream_server.specs.declared.incoming.Scan.{Scan}
 use Rattle.stream_server.specs.declared.incoming.Stop.{Stop}
 use Rattle.stream_server.specs.declared.incoming.Stop.TheVariants as stops
 
@@ -126,9 +127,13 @@ unfoldable pub words_at : ℕ → List ℕ → Read (List (List ℕ))
 words_at zero bytes = Ok ([], bytes)
 words_at (suc n) bytes = word_at bytes >>= λ x. words_at n x.1 >>= λ y. Ok (x.0 ∷ y.0, y.1)
 
+-- how many words an array has
+unfoldable pub count_at : List ℕ → Read ℕ
+count_at bytes = head_at errors.LongCount bytes >>= λ x. word_count x.0 >>= λ n. Ok (n, x.1)
+
 -- a count, and so many words
 unfoldable pub array_at : List ℕ → Read (List (List ℕ))
-array_at bytes = head_at errors.LongCount bytes >>= λ x. word_count x.0 >>= λ n. words_at n x.1
+array_at bytes = count_at bytes >>= λ x. words_at x.0 x.1
 
 -- the words of a line
 abbrev pub balanced : Option (List (List ℕ)) → Result (List (List ℕ)) Halt
@@ -149,6 +154,13 @@ line_at bytes = before 10 errors.LongLine bytes >>= λ x. balanced (split_words 
 unfoldable pub command_at : List ℕ → Read (List (List ℕ))
 command_at [] = Err short
 command_at (b ∷ bytes) = if b == 42 then array_at (b ∷ bytes) else line_at (b ∷ bytes)
+
+-- After the first `at` bytes `left` words are to come. While these are not whole, the command is not either, however
+-- the bytes go on.
+pub record IsScan (scan : Scan) (bytes : List ℕ) : Type 0 where
+  pub within : scan.at ≤ length bytes
+  pub goes_on : (more : List ℕ) → words_at scan.left (drop scan.at bytes ++ more) ≡ Err short
+      → command_at (bytes ++ more) ≡ Err short
 
 -- ---- what is said of an error
 

@@ -58,12 +58,20 @@ pub record Standing : Type 0 where
   pub unread : List ℕ
   pub has_ended : Bool
 
+-- the bytes that are left, unless the connection has ended
+abbrev pub left_of : Bool → List ℕ → Option (List ℕ)
+left_of true unread = None
+left_of false unread = Some unread
+
+-- what is left of bytes is unread; or the connection has ended, after an error of the protocol
+abbrev pub Leaves : Standing → List ℕ → List ℕ → List ℕ → Type 0
+Leaves new bytes before after = Serves bytes before after (left_of new.has_ended new.unread)
+
 -- Behind the bytes that were sent, what is left is unread; or the connection has ended. Nothing is answered
 -- after the end.
 abbrev pub Answers : Standing → Standing → List ℕ → List ℕ → List ℕ → Type 0
-Answers old new bytes before after = by old.has_ended new.has_ended
+Answers old new bytes before after = by old.has_ended
   where
-    by : Bool → Bool → Type 0
-    by true ended = (new ≡ old) × (after ≡ before)
-    by false false = Serves (old.unread ++ bytes) before after (Some new.unread)
-    by false true = Serves (old.unread ++ bytes) before after None
+    by : Bool → Type 0
+    by true = (new ≡ old) × (after ≡ before)
+    by false = Leaves new (old.unread ++ bytes) before after

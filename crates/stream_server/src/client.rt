@@ -1,34 +1,39 @@
 //! A client of a server: bytes that it sends come in, and bytes of answers go out.
-ghost use Rattle.std.specs.Prelude.{◌≡◌, ◌++◌, [], true, false, IsTrue, IfOk, OnOk, OnErr, map, option_map};
+ghost use Rattle.std.specs.Prelude.{◌≡◌, ◌++◌, ◌+◌, ◌*◌, ◌<◌, ◌≤◌, [], true, false, IsTrue, IfOk, OnOk, OnErr, map, max, option_map, vec_capacity, vec_len};
 ghost use Rattle.redis_wire.specs.declared.written.Protocol.TheVariants.{Resp2};
-ghost use Rattle.stream_server.specs.Incoming.{protocol_error_bytes};
-ghost use Rattle.stream_server.specs.Serving.{Turn, IsAnswered, turn_bytes, Serves, GivesUp, Answers};
+ghost use Rattle.stream_server.specs.Incoming.{Gives, command_at, protocol_error_bytes};
+ghost use Rattle.stream_server.specs.Serving.{Turn, IsAnswered, turn_bytes, Serves, GivesUp, Leaves, Answers};
 
-use crate::incoming::{Stop, command_at, push_protocol_error};
+use crate::incoming::{Scan, Stop, command_at, is_short, push_protocol_error};
 use crate::writing::append_reply;
 use crate::{Server, Session};
 use redis_wire::Protocol;
 use std::alloc::{AllocError, Global};
 use std::marker::Model;
-use std::mem;
 
 /// What a server knows of a client and its connection.
 ///
 /// A contract sees what the client sent that is no whole command yet, and whether the connection has
-/// ended.
+/// ended. What was looked through is not looked through again, so small pieces cost no more than large
+/// ones.
 #[derive(Drop)]
 pub struct Client {
     session: Session,
     unread: Vec<u8>,
+    // how far the command in `unread` was looked through
+    scan: Scan,
     has_ended: bool,
 }
 
 impl Model for Client {
+    ghost use Rattle.stream_server.specs.Incoming.{IsScan};
     ghost use Rattle.stream_server.specs.Serving.{Standing};
 
     ghost Value = { Standing };
 
     ghost view = { λ c. record { unread = c.unread.items; has_ended = c.has_ended } };
+
+    ghost invariant = { λ c. IsScan c.scan c.unread.items };
 }
 
 impl Client {
@@ -39,6 +44,7 @@ impl Client {
         Client {
             session: Session::new(alloc, Protocol::Resp2),
             unread: Vec::new(alloc),
+            scan: Scan::NEW,
             has_ended: false,
         }
     }
@@ -68,11 +74,67 @@ impl Client {
             return Ok(());
         }
         self.has_ended = true;
-        let mut sent = mem::replace(&mut self.unread, Vec::new(alloc));
-        sent.extend_from_slice(bytes)?;
-        let rest = answer_all(alloc, server, &mut self.session, now, &sent, answers)?;
+        if self.unread.is_empty() {
+            return self.answer_new(alloc, server, now, bytes, answers);
+        }
+        hold(&mut self.unread, bytes, self.scan.wanted)?;
+        if is_short(&mut self.scan, &self.unread) {
+            self.has_ended = false;
+            return Ok(());
+        }
+        self.answer_held(alloc, server, now, answers)
+    }
+
+    /// Does each whole command of what is unread. The memory of these bytes is given back before the
+    /// first one is done.
+    fn answer_held(
+        &mut self,
+        alloc: Global,
+        server: &mut Server,
+        now: u64,
+        answers: &mut Vec<u8>,
+    ) -> Result<(), AllocError>
+        requires { self.old.has_ended ≡ true }
+        ensures ok { OnOk result
+            (Leaves self.new self.old.unread answers.old.items answers.new.items) }
+        ensures err { OnErr result (GivesUp self.old.unread answers.old.items answers.new.items) }
+        ensures ended { OnErr result (self.new.has_ended ≡ true) }
+    {
+        match first_of(alloc, &self.unread) {
+            Ok((words, behind)) => {
+                self.scan = Scan::NEW;
+                self.unread = Vec::new(alloc);
+                answer_one(alloc, server, &mut self.session, now, words, answers)?;
+                self.answer_new(alloc, server, now, &behind, answers)
+            }
+            Err(Stop::Short) => {
+                self.has_ended = false;
+                Ok(())
+            }
+            Err(Stop::Memory) => Err(AllocError),
+            Err(Stop::Fault(error)) => push_protocol_error(alloc, answers, error),
+        }
+    }
+
+    /// Does each whole command of bytes, where nothing is unread, and keeps what is left.
+    fn answer_new(
+        &mut self,
+        alloc: Global,
+        server: &mut Server,
+        now: u64,
+        bytes: &[u8],
+        answers: &mut Vec<u8>,
+    ) -> Result<(), AllocError>
+        requires ended { self.old.has_ended ≡ true }
+        requires none { self.old.unread ≡ [] }
+        ensures ok { OnOk result (Leaves self.new bytes.now answers.old.items answers.new.items) }
+        ensures err { OnErr result (GivesUp bytes.now answers.old.items answers.new.items) }
+        ensures ended { OnErr result (self.new.has_ended ≡ true) }
+    {
+        let rest = answer_all(alloc, server, &mut self.session, now, bytes, answers)?;
         if let Some(rest) = rest {
-            self.unread.extend_from_slice(rest)?;
+            self.scan = Scan::NEW;
+            hold(&mut self.unread, rest, 0)?;
             self.has_ended = false;
         }
         Ok(())
@@ -115,6 +177,51 @@ fn answer_all<'a>(
             }
         }
     }
+}
+
+/// The command at the head of bytes, and a copy of the bytes after it.
+fn first_of(alloc: Global, bytes: &[u8]) -> Result<(Vec<Vec<u8>>, Vec<u8>), Stop>
+    ensures { Gives (λ x. (map (λ w. w.items) x.0.items, x.1.items)) result (command_at bytes.now) }
+{
+    let (words, behind) = command_at(alloc, bytes)?;
+    Ok((words, Vec::from_slice(alloc, behind)?))
+}
+
+/// Appends bytes.
+fn hold(held: &mut Vec<u8>, bytes: &[u8], wanted: usize) -> Result<(), AllocError>
+    ensures ok { OnOk result (held.new.items ≡ held.old.items ++ bytes.now) }
+    ensures err { OnErr result (held.new.items ≡ held.old.items) }
+{
+    make_room(held, bytes.len(), wanted)?;
+    held.extend_from_slice(bytes)?;
+    Ok(())
+}
+
+/// Takes room for `more` bytes more, and at most for twice the bytes that are then held. It grows by
+/// an eighth, and up to `wanted` bytes it doubles.
+fn make_room(held: &mut Vec<u8>, more: usize, wanted: usize) -> Result<(), AllocError>
+    ensures same { held.new.items ≡ held.old.items }
+    ensures enough { OnOk result (vec_len held.old + more ≤ vec_capacity held.new) }
+    ensures bound { vec_capacity held.new ≤ max (vec_capacity held.old) (2 * (vec_len held.old + more)) }
+{
+    let room = held.capacity();
+    if more <= room - held.len() {
+        return Ok(());
+    }
+    let Some(needed) = held.len().checked_add(more) else {
+        return Err(AllocError);
+    };
+    held.reserve_exact(room_for(room, needed, wanted) - held.len())
+}
+
+/// The room in place of one that is too small.
+fn room_for(room: usize, needed: usize, wanted: usize) -> usize
+    requires { room < needed }
+    ensures enough { needed ≤ result }
+    ensures bound { result ≤ 2 * needed }
+{
+    let least = needed.max(room.saturating_add(room / 8));
+    least.max(wanted.min(room.saturating_mul(2)))
 }
 
 /// Does a command, and appends its answer; one of no words has none.

@@ -1,5 +1,6 @@
 //! Commands out of bytes, as redis-server reads them: arrays of bulk strings, and lines of words.
-ghost use Rattle.std.specs.Prelude.{◌≡◌, ◌++◌, ◌<◌, ◌≤◌, IfOk, OnOk, OnErr, map, length};
+ghost use Rattle.std.specs.Prelude.{◌≡◌, ◌++◌, ◌<◌, ◌≤◌, Err, IfOk, OnOk, OnErr, map, length};
+ghost use Rattle.std.specs.Bool.{OnTrue};
 ghost use Rattle.std.specs.List.{prefix_len};
 ghost use Rattle.std.specs.Str.{bytes_eq};
 ghost use Rattle.std.specs.Fmt.{signed_decimal};
@@ -7,7 +8,7 @@ ghost use Rattle.redis_wire.specs.Scalar.{number_of};
 ghost use Rattle.redis_wire.specs.WrittenReply.{blank_end};
 ghost use Rattle.stream_server.specs.Incoming.{Gives, is_before, ended, before, head_at, strict_number};
 ghost use Rattle.stream_server.specs.Incoming.{word_count, count_of, word_len, length_of, body_at, word_at, words_at};
-ghost use Rattle.stream_server.specs.Incoming.{array_at, line_at, command_at};
+ghost use Rattle.stream_server.specs.Incoming.{IsScan, array_at, count_at, line_at, command_at, short};
 ghost use Rattle.stream_server.specs.Incoming.{fault_text, error_text, protocol_error_bytes};
 ghost use Rattle.stream_server.specs.declared.incoming.Stop.TheVariants.{Memory};
 
@@ -90,14 +91,102 @@ pub(crate) fn command_at(alloc: Global, bytes: &[u8]) -> Result<(Vec<Vec<u8>>, &
     }
 }
 
+/// How far a command was looked through that is not whole yet.
+#[derive(Clone, Copy, Debug, PartialEq, Eq)]
+pub(crate) struct Scan {
+    /// The bytes before this place are the count of its words, and words that are whole.
+    at: usize,
+    /// How many words are to come after them; 0 if the count is not known.
+    left: u32,
+    /// How many bytes there have to be for the next word to be whole; 0 if its length is not known.
+    pub(crate) wanted: usize,
+}
+
+impl Scan {
+    /// Nothing was looked through.
+    pub(crate) const NEW: Scan = Scan {
+        at: 0,
+        left: 0,
+        wanted: 0,
+    };
+}
+
+/// Looks on through a command, and returns whether it is an array that the bytes end too early for.
+/// No byte of a word is read, and no word is looked at again.
+pub(crate) fn is_short(scan: &mut Scan, bytes: &[u8]) -> bool
+    requires { IsScan scan.old bytes.now }
+    ensures scan { IsScan scan.new bytes.now }
+    ensures short { OnTrue result (command_at bytes.now ≡ Err short) }
+{
+    if scan.left == 0 {
+        *scan = begun(bytes);
+    }
+    'words: while scan.left > 0 {
+        let (_, rest) = bytes.split_at(scan.at);
+        match word_at(rest) {
+            Ok((_, behind)) => {
+                *scan = Scan {
+                    at: bytes.len() - behind.len(),
+                    left: scan.left - 1,
+                    wanted: 0,
+                };
+            }
+            Err(Stop::Short) => {
+                scan.wanted = scan.at.saturating_add(room_of_word(rest));
+                return true;
+            }
+            Err(_) => return false,
+        }
+    }
+    false
+}
+
+/// The scan after the count of an array.
+fn begun(bytes: &[u8]) -> Scan
+    ensures { IsScan result bytes.now }
+{
+    match bytes {
+        [first, ..] if *first == b'*' => match count_at(bytes) {
+            Ok((count, rest)) => Scan {
+                at: bytes.len() - rest.len(),
+                left: count,
+                wanted: 0,
+            },
+            Err(_) => Scan::NEW,
+        },
+        _ => Scan::NEW,
+    }
+}
+
+/// How many bytes a word that is not whole will have, with its length; 0 if that is not known.
+fn room_of_word(bytes: &[u8]) -> usize {
+    let Ok((line, rest)) = head_at(ProtocolError::LongLength, bytes) else {
+        return 0;
+    };
+    match word_len(line) {
+        Ok(len) => (bytes.len() - rest.len()).saturating_add(len as usize + 2),
+        Err(_) => 0,
+    }
+}
+
 /// A command as an array of bulk strings.
 #[tactic(auto, unfolding(crate::specs::Incoming::array_at))]
 fn array_at(alloc: Global, bytes: &[u8]) -> Result<(Vec<Vec<u8>>, &[u8]), Stop>
     ensures gives { Gives (λ x. (map (λ w. w.items) x.0.items, x.1.now)) result (array_at bytes.now) }
     ensures less { IfOk result (λ x. length x.1.now < length bytes.now) }
 {
+    let (count, rest) = count_at(bytes)?;
+    words_at(alloc, count, rest)
+}
+
+/// How many words an array has, and the bytes after that.
+#[tactic(auto, unfolding(crate::specs::Incoming::count_at))]
+fn count_at(bytes: &[u8]) -> Result<(u32, &[u8]), Stop>
+    ensures gives { Gives (λ x. (x.0, x.1.now)) result (count_at bytes.now) }
+    ensures less { IfOk result (λ x. length x.1.now < length bytes.now) }
+{
     let (line, rest) = head_at(ProtocolError::LongCount, bytes)?;
-    words_at(alloc, word_count(line)?, rest)
+    Ok((word_count(line)?, rest))
 }
 
 /// A command as a line of words.
