@@ -1,2 +1,3 @@
 -- Lemmas on what is asked.
 pub mod AskedLemmas
+pub mod PortLemmas

@@ -3,6 +3,7 @@ pub mod Cut
 pub mod Parts
 pub mod AddressMeaning
 pub mod Asked
+pub mod Said
 pub mod Greeting
 pub mod Backoff
 pub mod Next

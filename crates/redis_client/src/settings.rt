@@ -1,5 +1,7 @@
 //! The settings of an address.
-ghost use Rattle.std.specs.Prelude.{◌≡◌, None, IfOk};
+ghost use Rattle.std.specs.Prelude.{◌≡◌, ◌⊎◌, None, Some, IfErr, IfOk, MatchResult, option_map};
+ghost use Rattle.redis_client.specs.Said.{chosen, name_of, protocol_of, settings_of, with_setting};
+ghost use Rattle.redis_client.specs.Cut.{behind, front};
 
 use crate::address::{AddressError, Protocol, decoded};
 use crate::cut::cut;
@@ -14,8 +16,9 @@ pub(crate) struct Settings {
 
 /// The settings of a text: `protocol` and `name`, in either order.
 pub(crate) fn settings_of(alloc: Global, text: Option<&[u8]>) -> Result<Settings, AddressError>
-    ensures none { text.entry ≡ None
-        → IfOk result (λ s. (s.protocol ≡ Protocol.Resp2) × (s.name ≡ None)) }
+    ensures ok { IfOk result (λ s. settings_of (option_map (λ t. t.now) text.entry) ≡ Some (chosen s)) }
+    ensures err { IfErr result (λ e. (e ≡ AddressError.Memory)
+        ⊎ ((e ≡ AddressError.Setting) × (settings_of (option_map (λ t. t.now) text.entry) ≡ None))) }
 {
     let none = Settings {
         protocol: Protocol::Resp2,
@@ -38,7 +41,11 @@ fn with_setting(
     alloc: Global,
     mut settings: Settings,
     text: &[u8],
-) -> Result<Settings, AddressError> {
+) -> Result<Settings, AddressError>
+    ensures ok { IfOk result (λ s. with_setting (chosen settings) (front 61 text.now) (behind 61 text.now) ≡ Some (chosen s)) }
+    ensures err { IfErr result (λ e. (e ≡ AddressError.Memory)
+        ⊎ ((e ≡ AddressError.Setting) × (with_setting (chosen settings) (front 61 text.now) (behind 61 text.now) ≡ None))) }
+{
     let (key, Some(value)) = cut(text, b'=') else {
         return Err(AddressError::Setting);
     };
@@ -53,7 +60,10 @@ fn with_setting(
 }
 
 /// The protocol of this version.
-fn protocol_of(value: &[u8]) -> Result<Protocol, AddressError> {
+fn protocol_of(value: &[u8]) -> Result<Protocol, AddressError>
+    ensures { MatchResult result (λ p. protocol_of value.now ≡ Some p)
+        (λ e. (e ≡ AddressError.Setting) × (protocol_of value.now ≡ None)) }
+{
     match value {
         [b'2'] => Ok(Protocol::Resp2),
         [b'3'] => Ok(Protocol::Resp3),
@@ -62,7 +72,11 @@ fn protocol_of(value: &[u8]) -> Result<Protocol, AddressError> {
 }
 
 /// The name of the connection. A setting after it is one too many.
-fn name_of(alloc: Global, value: &[u8]) -> Result<Vec<u8>, AddressError> {
+fn name_of(alloc: Global, value: &[u8]) -> Result<Vec<u8>, AddressError>
+    ensures ok { IfOk result (λ name. name_of value.now (behind 38 value.now) ≡ Some name.items) }
+    ensures err { IfErr result (λ e. (e ≡ AddressError.Memory)
+        ⊎ ((e ≡ AddressError.Setting) × (name_of value.now (behind 38 value.now) ≡ None))) }
+{
     if let (_, Some(_)) = cut(value, b'&') {
         return Err(AddressError::Setting);
     }
