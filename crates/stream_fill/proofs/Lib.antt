@@ -1,1 +1,3 @@
+pub mod BaseLemmas
+pub mod KeepLemmas
 pub mod TakenLemmas

@@ -1,5 +1,5 @@
 //! Lines of JSON as records.
-ghost use Rattle.std.specs.Prelude.{◌≢◌, [], IfOk};
+ghost use Rattle.std.specs.Prelude.{◌≡◌, ◌≢◌, [], IfOk, length};
 
 use base64::DecodeAllocError;
 use base64::engine::general_purpose::STANDARD;
@@ -76,7 +76,9 @@ fn is_id(member: &(&str, Value<'_>)) -> bool {
 }
 
 /// Each pair is a field.
-fn record_of_pairs(alloc: Global, pairs: &[Value<'_>]) -> Result<Record, NoRecord> {
+fn record_of_pairs(alloc: Global, pairs: &[Value<'_>]) -> Result<Record, NoRecord>
+    ensures { IfOk result (λ r. length r.items ≡ length pairs.now) }
+{
     let mut record = Vec::new(alloc);
     for pair in pairs {
         record.push(field_of_pair(alloc, pair)?)?;
@@ -96,13 +98,20 @@ fn field_of_pair(alloc: Global, pair: &Value<'_>) -> Result<Field, NoRecord> {
 }
 
 /// Each member is a field.
-fn record_of_members(alloc: Global, members: &[(&str, Value<'_>)]) -> Result<Record, NoRecord> {
+fn record_of_members(alloc: Global, members: &[(&str, Value<'_>)]) -> Result<Record, NoRecord>
+    ensures { IfOk result (λ r. length r.items ≡ length members.now) }
+{
     let mut record = Vec::new(alloc);
-    for (name, value) in members {
-        let name = Vec::from_slice(alloc, name.as_bytes())?;
-        record.push((name, text_of(alloc, value)?))?;
+    for member in members {
+        record.push(field_of_member(alloc, member)?)?;
     }
     Ok(record)
+}
+
+/// A member is a field: its name and its text.
+fn field_of_member(alloc: Global, member: &(&str, Value<'_>)) -> Result<Field, NoRecord> {
+    let name = Vec::from_slice(alloc, member.0.as_bytes())?;
+    Ok((name, text_of(alloc, &member.1)?))
 }
 
 /// A text: a string, or an object of its Base64.

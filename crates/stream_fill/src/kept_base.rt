@@ -2,10 +2,13 @@
 //!
 //! A first run takes the last id of the stream as the base. It writes the base to the file, and has the disk
 //! take it in, before it adds anything. So a later run finds the same base, and goes on.
+ghost use Rattle.std.specs.Prelude.{◌≡◌, ◌<◌, ◌^◌, ℕ, Some, decimal, IfErr, IfOk, IfSome, OnOk};
+ghost use Rattle.line_log.specs.Device.{Only};
+ghost use Rattle.stream_fill.specs.Base.{BeginsWithNumber, FindsBase, HasNoBase, IsOfFile, IsUnkept, IsUnread, Keeps, base_line};
 
+use crate::split::split_at_byte;
 use itoa::Buffer;
 use line_log::{LogError, LogFile};
-use memchr::memchr;
 use redis_connection::Connection;
 use std::alloc::{AllocError, Global};
 use std::io::{Read, Write};
@@ -28,18 +31,34 @@ pub enum BaseError {
 }
 
 impl From<LogError> for BaseError {
+    ghost use Rattle.std.specs.Prelude.{◌≡◌};
+    ghost use Rattle.stream_fill.specs.declared.kept_base.BaseError.TheVariants as causes;
+
+    ghost from_gives = { λ r e. e ≡ causes.File r };
+
     fn from(error: LogError) -> BaseError {
         BaseError::File(error)
     }
 }
 
 impl From<AllocError> for BaseError {
+    ghost use Rattle.std.specs.Prelude.{◌≡◌};
+    ghost use Rattle.line_log.specs.declared.error.LogError.TheVariants as logs;
+    ghost use Rattle.stream_fill.specs.declared.kept_base.BaseError.TheVariants as causes;
+
+    ghost from_gives = { λ _ e. e ≡ causes.File logs.Memory };
+
     fn from(_error: AllocError) -> BaseError {
         BaseError::File(LogError::Memory)
     }
 }
 
 impl From<RunError> for BaseError {
+    ghost use Rattle.std.specs.Prelude.{◌≡◌};
+    ghost use Rattle.stream_fill.specs.declared.kept_base.BaseError.TheVariants as causes;
+
+    ghost from_gives = { λ r e. e ≡ causes.Ask r };
+
     fn from(error: RunError) -> BaseError {
         BaseError::Ask(error)
     }
@@ -52,7 +71,10 @@ pub fn find_base<D: LogFile, R: Read + Drop, W: Write + Drop>(
     file: &mut D,
     connection: &mut Connection<R, W>,
     key: &str,
-) -> Result<u64, BaseError> {
+) -> Result<u64, BaseError>
+    ensures ok { IfOk result (FindsBase D.seen D.may_leave key.now file.old file.new connection.old connection.new) }
+    ensures err { IfErr result (HasNoBase D.seen key.now file.old file.new connection.old connection.new) }
+{
     if let Some(base) = read_base(alloc, &*file, key)? {
         return Ok(base);
     }
@@ -63,14 +85,21 @@ pub fn find_base<D: LogFile, R: Read + Drop, W: Write + Drop>(
 
 /// The base that a file keeps for the stream `key`, if it keeps one. A run that was killed while it wrote the
 /// base may have left a part of it. That is no base, and nothing was added yet.
-fn read_base<D: LogFile>(alloc: Global, file: &D, key: &str) -> Result<Option<u64>, BaseError> {
+#[tactic(auto, using(crate::proofs::KeepLemmas::whole_kept))]
+fn read_base<D: LogFile>(alloc: Global, file: &D, key: &str) -> Result<Option<u64>, BaseError>
+    ensures ok { IfOk result (λ found. IfSome (D.seen file.now) (λ bytes. Keeps key.now bytes found)) }
+    ensures err { IfErr result (IsUnread (D.seen file.now) key.now) }
+{
     let len = file.len()?;
     let bytes = file.read_at(alloc, 0, len)?;
     base_in(alloc, &bytes, key)
 }
 
 /// The base that these bytes of a file keep, if they are not a part of such a line.
-fn base_in(alloc: Global, bytes: &[u8], key: &str) -> Result<Option<u64>, BaseError> {
+fn base_in(alloc: Global, bytes: &[u8], key: &str) -> Result<Option<u64>, BaseError>
+    ensures ok { IfOk result (Keeps key.now bytes.now) }
+    ensures err { IfErr result (IsUnkept key.now bytes.now) }
+{
     let Some(base) = number_at_front(bytes) else {
         return Err(BaseError::OtherFile);
     };
@@ -85,29 +114,39 @@ fn base_in(alloc: Global, bytes: &[u8], key: &str) -> Result<Option<u64>, BaseEr
 }
 
 /// The number that bytes begin with, up to a space or their end; 0 if there are no bytes.
-fn number_at_front(bytes: &[u8]) -> Option<u64> {
-    let digits = match memchr(b' ', bytes) {
-        Some(end) => bytes.get(..end)?,
-        None => bytes,
-    };
-    if digits.is_empty() {
+#[tactic(auto, using(crate::proofs::BaseLemmas::of_nothing, crate::proofs::BaseLemmas::before_space, crate::proofs::BaseLemmas::without_space))]
+fn number_at_front(bytes: &[u8]) -> Option<u64>
+    ensures { (n : ℕ) → n < 2 ^ 64 → BeginsWithNumber bytes.now n → result ≡ Some n }
+{
+    if bytes.is_empty() {
         return Some(0);
     }
-    number_of(digits)
+    match split_at_byte(bytes, b' ') {
+        Some((digits, _rest)) => number_of(digits),
+        None => number_of(bytes),
+    }
 }
 
 /// The number that these digits are.
-fn number_of(digits: &[u8]) -> Option<u64> {
-    str::from_utf8(digits).ok()?.parse::<u64>().ok()
+#[tactic(auto, using(crate::proofs::BaseLemmas::not_text, crate::proofs::BaseLemmas::read_back))]
+fn number_of(digits: &[u8]) -> Option<u64>
+    ensures { (n : ℕ) → n < 2 ^ 64 → digits.now ≡ decimal n → result ≡ Some n }
+{
+    let Ok(text) = str::from_utf8(digits) else {
+        return None;
+    };
+    text.parse::<u64>().ok()
 }
 
 /// Has the file keep this base, in place of a part of one.
-fn keep_base<D: LogFile>(
-    alloc: Global,
-    file: &mut D,
-    key: &str,
-    base: u64,
-) -> Result<(), BaseError> {
+#[tactic(auto, using(crate::proofs::KeepLemmas::line_kept))]
+fn keep_base<D: LogFile>(alloc: Global, file: &mut D, key: &str, base: u64) -> Result<(), BaseError>
+    ensures kept { OnOk result (IfSome (D.seen file.old)
+        (λ _. D.seen file.new ≡ Some (base_line key.now base))) }
+    ensures durable { OnOk result (IfSome (D.seen file.old)
+        (λ _. Only (base_line key.now base) (D.may_leave file.new))) }
+    ensures err { IfErr result IsOfFile }
+{
     let line = line_of(alloc, key, base)?;
     file.cut(0)?;
     file.append(&line)?;
@@ -116,7 +155,9 @@ fn keep_base<D: LogFile>(
 }
 
 /// The line that keeps a base: its digits, a space, the key and a line feed.
-fn line_of(alloc: Global, key: &str, base: u64) -> Result<Vec<u8>, AllocError> {
+fn line_of(alloc: Global, key: &str, base: u64) -> Result<Vec<u8>, AllocError>
+    ensures { IfOk result (λ line. line.items ≡ base_line key.now base) }
+{
     let mut line = Vec::new(alloc);
     line.extend_from_slice(Buffer::new().format::<u64>(base).as_bytes())?;
     line.push(b' ')?;

@@ -1,12 +1,13 @@
 //! A file of lines as a source of records.
-ghost use Rattle.std.specs.Prelude.{◌≡◌, [], ◌∷◌, ◌++◌, None, Contains, IfOk, IfSome, IsNone};
+ghost use Rattle.std.specs.Prelude.{◌≡◌, [], ◌∷◌, None, IfOk};
 ghost use Rattle.stream_feed.specs.Records.{arguments_of};
 ghost use Rattle.stream_fill.specs.Taken.{IsRecordOf, TakesLines};
 
 use crate::json_records::record_of_json;
+use crate::split::split_at_byte;
 use anyhow::{Context, Error, Result, anyhow, bail};
 use json::Scratch;
-use memchr::{memchr, memchr_iter};
+use memchr::memchr_iter;
 use std::alloc::{AllocError, Global};
 use std::fs::File;
 use std::io::{BufRead, BufReader, Seek, SeekFrom};
@@ -254,7 +255,7 @@ fn take_lines<'a>(
 {
     let mut rest = piece;
     for _line in records.len() as u64..most {
-        let Some((line, after)) = split_line(rest) else {
+        let Some((line, after)) = split_at_byte(rest, b'\n') else {
             break;
         };
         let number = number_of_next(records, behind);
@@ -278,17 +279,6 @@ fn number_of_next(records: &Vec<Record>, behind: u64) -> u64 {
     behind
         .saturating_add(records.len() as u64)
         .saturating_add(1)
-}
-
-/// The first line without its end, and what is after it. None if it has no end.
-fn split_line(bytes: &[u8]) -> Option<(&[u8], &[u8])>
-    ensures some { IfSome result (λ s. bytes.now ≡ s.0.now ++ 10 ∷ s.1.now) }
-    ensures first { IfSome result (λ s. Contains s.0.now 10 → ⊥) }
-    ensures none { IsNone result → Contains bytes.now 10 → ⊥ }
-{
-    let (line, rest) = bytes.split_at_checked(memchr(b'\n', bytes)?)?;
-    let (_end, rest) = rest.split_first()?;
-    Some((line, rest))
 }
 
 /// The record of a line, which has this number.

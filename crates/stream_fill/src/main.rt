@@ -18,7 +18,8 @@
 //! reason. `--help` tells its words.
 #![tactic(auto)]
 
-ghost use Rattle.std.specs.Prelude.{◌≡◌, IfSome};
+ghost use Rattle.std.specs.Prelude.{◌≡◌, IfOk, IfSome, IsErr, IsOk, OnErr, OnOk};
+ghost use Rattle.std.specs.Process.{exit_status};
 
 mod counts;
 mod fill;
@@ -26,6 +27,7 @@ mod json_records;
 mod kept_base;
 mod lines;
 mod options;
+mod split;
 
 use crate::counts::Counts;
 use crate::fill::{FillError, fill};
@@ -45,13 +47,21 @@ use stream_feed::{ConfirmedError, RequestError, RunError, Settings};
 
 fn main(rt: HostRuntime) -> Result<ExitCode> {
     let words = words_of(&rt)?;
-    let options = match options_of(rt.alloc(), &words) {
-        Ok(options) => options,
-        Err(error) => return Ok(tell(rt.alloc(), &rt, &error)?),
-    };
-    match fill_by(&rt, options) {
+    match options_of(rt.alloc(), &words) {
+        Ok(options) => ended(rt.alloc(), fill_by(&rt, options)),
+        Err(error) => Ok(tell(rt.alloc(), &rt, &error)?),
+    }
+}
+
+/// How the program ends: with status 0 exactly if all lines are in, and else with the reason.
+fn ended(alloc: Global, outcome: Result<()>) -> Result<ExitCode>
+    ensures all { OnOk outcome (IfOk result (λ code. exit_status code ≡ 0)) }
+    ensures given { OnOk outcome (IsOk result) }
+    ensures failed { OnErr outcome (IsErr result) }
+{
+    match outcome {
         Ok(()) => Ok(ExitCode::SUCCESS),
-        Err(error) => Err(masked(rt.alloc(), error)),
+        Err(error) => Err(masked(alloc, error)),
     }
 }
 

@@ -1,0 +1,15 @@
+//! Bytes that a byte parts.
+ghost use Rattle.std.specs.Prelude.{◌≡◌, ◌∷◌, ◌++◌, Contains, IfSome, IsNone};
+
+use memchr::memchr;
+
+/// What is before the first such byte, and what is after it. None if there is none.
+pub fn split_at_byte(bytes: &[u8], byte: u8) -> Option<(&[u8], &[u8])>
+    ensures some { IfSome result (λ s. bytes.now ≡ s.0.now ++ byte ∷ s.1.now) }
+    ensures first { IfSome result (λ s. Contains s.0.now byte → ⊥) }
+    ensures none { IsNone result → Contains bytes.now byte → ⊥ }
+{
+    let (front, rest) = bytes.split_at_checked(memchr(byte, bytes)?)?;
+    let (_byte, rest) = rest.split_first()?;
+    Some((front, rest))
+}
