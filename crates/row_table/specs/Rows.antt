@@ -78,6 +78,10 @@ LeavesAll known may_leave = (left : List Row) → may_leave left → IfSome know
 abbrev pub LeavesNoOther : {A : Type 0} → (A → Type 0) → (A → Type 0) → Type 0
 LeavesNoOther {A} old new = (left : A) → new left → old left
 
+-- no transaction is open, where it is known whether one is
+abbrev pub IsClosed : Option Bool → Type 0
+IsClosed known = IfSome known (λ is_open. is_open ≡ false)
+
 -- or it is this, where it is known
 abbrev pub LeavesOldOr : {A : Type 0} → Option A → (A → Type 0) → (A → Type 0) → Type 0
 LeavesOldOr {A} known old new = (left : A) → new left → old left ⊎ IfSome known (λ is. left ≡ is)

@@ -3,7 +3,7 @@ ghost use Rattle.std.specs.Prelude.{◌≡◌, ◌⊎◌, Bool, true, false, Lis
 ghost use Rattle.std.specs.Prelude.{option_map, is_some, if◌then◌else◌};
 ghost use Rattle.row_table.specs.Posts as posts;
 ghost use Rattle.row_table.specs.Posts.{IsFirst, with_post, with_stored, without_post};
-ghost use Rattle.row_table.specs.Rows.{IsRow, LeavesJust, LeavesNoOther, LeavesOldOr, find};
+ghost use Rattle.row_table.specs.Rows.{IsClosed, IsRow, LeavesJust, LeavesNoOther, LeavesOldOr, find};
 ghost use Rattle.row_table.specs.OfPost.{post_of, posted_of};
 ghost use Rattle.row_table.specs.OfRow.{key_of, row_of};
 
@@ -25,6 +25,9 @@ pub trait WithOutbox {
 
     /// What a crash at this moment may leave.
     ghost may_leave: { Self → posts.Stored → Type 0 };
+
+    /// Whether a transaction is open, where it is known.
+    ghost is_open: { Self → Option Bool };
 
     /// Begins a transaction.
     fn begin(&mut self) -> Result<(), TableError>
@@ -76,10 +79,12 @@ pub trait WithOutbox {
         ensures ok { OnOk result (committed self.new ≡ seen self.old) }
         ensures err { OnErr result (committed self.new ≡ committed self.old) }
         ensures durable { OnOk result (LeavesJust (seen self.old) (may_leave self.new)) }
-        ensures crash { LeavesOldOr (seen self.old) (may_leave self.old) (may_leave self.new) };
+        ensures crash { LeavesOldOr (seen self.old) (may_leave self.old) (may_leave self.new) }
+        ensures closed { OnOk result (IsClosed (is_open self.new)) };
 
     /// Takes the transaction back, if one is open.
     fn roll_back(&mut self)
         ensures committed { committed self.new ≡ committed self.old }
-        ensures crash { LeavesNoOther (may_leave self.old) (may_leave self.new) };
+        ensures crash { LeavesNoOther (may_leave self.old) (may_leave self.new) }
+        ensures closed { IsClosed (is_open self.new) };
 }

@@ -1,6 +1,6 @@
 //! Rows that are put in as one transaction.
 ghost use Rattle.std.specs.Prelude.{◌≡◌, ◌∷◌, [], OnErr, OnOk};
-ghost use Rattle.row_table.specs.Rows.{AreKnown, LeavesJust, LeavesNoOther, LeavesOldOr, with_known};
+ghost use Rattle.row_table.specs.Rows.{AreKnown, IsClosed, LeavesJust, LeavesNoOther, LeavesOldOr, with_known};
 ghost use Rattle.row_table.specs.OfRow.{row_of, rows_of};
 
 use crate::error::TableError;
@@ -20,6 +20,7 @@ pub fn put_all<T: Table>(alloc: Global, table: &mut T, rows: &[Row]) -> Result<(
     ensures durable { OnOk result (LeavesJust (T.committed table.new) (T.may_leave table.new)) }
     ensures crash { LeavesOldOr (with_known (rows_of rows.now) (T.committed table.old))
         (T.may_leave table.old) (T.may_leave table.new) }
+    ensures closed { IsClosed (T.is_open table.new) }
 {
     match put_and_commit(alloc, table, rows) {
         Ok(()) => Ok(()),
@@ -38,6 +39,7 @@ fn put_and_commit<T: Table>(alloc: Global, table: &mut T, rows: &[Row]) -> Resul
     ensures durable { OnOk result (LeavesJust (T.committed table.new) (T.may_leave table.new)) }
     ensures crash { LeavesOldOr (with_known (rows_of rows.now) (T.committed table.old))
         (T.may_leave table.old) (T.may_leave table.new) }
+    ensures closed { OnOk result (IsClosed (T.is_open table.new)) }
 {
     table.begin()?;
     put_each(alloc, table, rows)?;

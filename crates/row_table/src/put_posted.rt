@@ -1,7 +1,7 @@
 //! Rows that are put in with their posts, as one transaction.
 ghost use Rattle.std.specs.Prelude.{◌≡◌, ◌∷◌, [], OnErr, OnOk};
 ghost use Rattle.row_table.specs.Posts.{rows_in, rows_known, with_known_posted};
-ghost use Rattle.row_table.specs.Rows.{AreKnown, LeavesJust, LeavesNoOther, LeavesOldOr};
+ghost use Rattle.row_table.specs.Rows.{AreKnown, IsClosed, LeavesJust, LeavesNoOther, LeavesOldOr};
 ghost use Rattle.row_table.specs.OfPost.{all_posted, posted_of};
 
 use crate::error::TableError;
@@ -23,6 +23,7 @@ pub fn put_all_posted<T: WithOutbox>(
     ensures durable { OnOk result (LeavesJust (T.committed table.new) (T.may_leave table.new)) }
     ensures crash { LeavesOldOr (with_known_posted (all_posted rows.now) (T.committed table.old))
         (T.may_leave table.old) (T.may_leave table.new) }
+    ensures closed { IsClosed (T.is_open table.new) }
 {
     match put_posted_and_commit(alloc, table, rows) {
         Ok(()) => Ok(()),
@@ -46,6 +47,7 @@ fn put_posted_and_commit<T: WithOutbox>(
     ensures durable { OnOk result (LeavesJust (T.committed table.new) (T.may_leave table.new)) }
     ensures crash { LeavesOldOr (with_known_posted (all_posted rows.now) (T.committed table.old))
         (T.may_leave table.old) (T.may_leave table.new) }
+    ensures closed { OnOk result (IsClosed (T.is_open table.new)) }
 {
     table.begin()?;
     put_each_posted(alloc, table, rows)?;

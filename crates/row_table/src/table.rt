@@ -2,7 +2,7 @@
 ghost use Rattle.std.specs.Prelude.{◌≡◌, ◌++◌, ◌∷◌, [], ℕ, List, Bool, true, false, Option, Some, None, OnErr, OnOk, IfOk, IfSome, IsTrue, ◌↔◌};
 ghost use Rattle.std.specs.Prelude.{option_map, is_some, if◌then◌else◌};
 ghost use Rattle.row_table.specs.Rows as rows;
-ghost use Rattle.row_table.specs.Rows.{IsRow, LeavesAll, LeavesJust, LeavesNoOther, LeavesOldOr, PutsIn, find, with_row};
+ghost use Rattle.row_table.specs.Rows.{IsClosed, IsRow, LeavesAll, LeavesJust, LeavesNoOther, LeavesOldOr, PutsIn, find, with_row};
 ghost use Rattle.row_table.specs.OfRow.{key_of, row_of, rows_of};
 
 use crate::error::TableError;
@@ -25,6 +25,9 @@ pub trait Table {
 
     /// Whatever a crash leaves begins with the rows of the last commit, where they are known.
     ghost begins: { (table : Self) → LeavesAll (committed table) (may_leave table) };
+
+    /// Whether a transaction is open, where it is known.
+    ghost is_open: { Self → Option Bool };
 
     /// Begins a transaction.
     fn begin(&mut self) -> Result<(), TableError>
@@ -61,10 +64,12 @@ pub trait Table {
         ensures ok { OnOk result (committed self.new ≡ seen self.old) }
         ensures err { OnErr result (committed self.new ≡ committed self.old) }
         ensures durable { OnOk result (LeavesJust (seen self.old) (may_leave self.new)) }
-        ensures crash { LeavesOldOr (seen self.old) (may_leave self.old) (may_leave self.new) };
+        ensures crash { LeavesOldOr (seen self.old) (may_leave self.old) (may_leave self.new) }
+        ensures closed { OnOk result (IsClosed (is_open self.new)) };
 
     /// Takes the transaction back, if one is open.
     fn roll_back(&mut self)
         ensures committed { committed self.new ≡ committed self.old }
-        ensures crash { LeavesNoOther (may_leave self.old) (may_leave self.new) };
+        ensures crash { LeavesNoOther (may_leave self.old) (may_leave self.new) }
+        ensures closed { IsClosed (is_open self.new) };
 }

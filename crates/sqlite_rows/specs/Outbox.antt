@@ -1,14 +1,14 @@
 -- The statements of an outbox, and what a database makes of them.
-use Rattle.std.specs.Prelude.{ℕ, ◌≡◌, List, [], ◌∷◌, ◌++◌, Ok, Err, Option, Some, None, codes, pos}
+use Rattle.std.specs.Prelude.{ℕ, ◌≡◌, ◌≢◌, ◌⊎◌, Bool, true, false, List, [], ◌∷◌, ◌++◌, Ok, Err, Option, Some, None, codes, pos}
 use Rattle.sqlite.specs.Order.{Row as SqlRow, column}
 use Rattle.sqlite.specs.Store.{Ghosts}
 use Rattle.sqlite.specs.Held.{Held, state}
 use Rattle.sqlite.specs.State.{HasCleanDisk, QueriesRow}
 use Rattle.sqlite.specs.declared.error.Error.TheVariants.{QueryReturnedNoRows}
 use Rattle.sqlite.specs.declared.types.Value.{Value}
-use Rattle.sqlite.specs.declared.types.Value.TheVariants.{Int, Blob}
+use Rattle.sqlite.specs.declared.types.Value.TheVariants.{Int, Blob, Text}
 use Rattle.row_table.specs.Posts.{Post}
-use Rattle.sqlite_rows.specs.Statements.{key_values}
+use Rattle.sqlite_rows.specs.Statements.{Found, key_values, known_text}
 
 -- the statement that makes it: its key is the key of a row
 abbrev pub outbox_create : List ℕ
@@ -21,6 +21,10 @@ enqueue_text = codes "INSERT INTO outbox (milliseconds, sequence, command, quest
 -- the query that shows the post of the first key
 abbrev pub first_text : List ℕ
 first_text = codes "SELECT milliseconds, sequence, command, question FROM outbox ORDER BY milliseconds, sequence LIMIT 1"
+
+-- the query that counts the posts
+abbrev pub count_text : List ℕ
+count_text = codes "SELECT count(*) FROM outbox"
 
 -- the statement that removes the post of a key
 abbrev pub remove_text : List ℕ
@@ -51,3 +55,19 @@ module _ {S : Type 0} (g : Ghosts S) (old new : Held S) where
   FoundPost sql None = HasCleanDisk (state g new) → QueriesRow sql [] (state g old) (state g new) (Err QueryReturnedNoRows)
   FoundPost sql (Some p) = HasCleanDisk (state g new)
       → (row : SqlRow) × QueriesRow sql [] (state g old) (state g new) (Ok row) × AreValues row p
+
+  -- where the disk is honest, this query counted so many posts
+  abbrev pub Counts : ℕ → Type 0
+  Counts count = HasCleanDisk (state g new)
+      → (row : SqlRow) × QueriesRow count_text [] (state g old) (state g new) (Ok row) × (column row 0 ≡ number_value count)
+
+  -- where the disk is honest, the query showed that this very statement made the outbox; or it showed another one, or none
+  abbrev pub ShowsOutbox : Bool → Type 0
+  ShowsOutbox true = Found g old new known_text (Text (codes "outbox") ∷ []) (Some outbox_create)
+  ShowsOutbox false = (known : Option (List ℕ)) × (known ≢ Some outbox_create) × Found g old new known_text (Text (codes "outbox") ∷ []) known
+
+module _ {S : Type 0} (g : Ghosts S) (old new : Held S) where
+  -- the queries of a database showed no outbox, or no post in it; or so many posts, and that of the first key
+  abbrev pub WaitsIn : Option (ℕ × Post) → Type 0
+  WaitsIn None = ShowsOutbox g old new false ⊎ ((m : Held S) × ShowsOutbox g old m true × FoundPost g m new first_text None)
+  WaitsIn (Some w) = (m : Held S) × (n : Held S) × ShowsOutbox g old m true × FoundPost g m n first_text (Some w.1) × Counts g n new w.0

@@ -1,5 +1,5 @@
 -- The statements that a table runs, and what a database makes of them.
-use Rattle.std.specs.Prelude.{ℕ, ◌==◌, ◌≡◌, ◌⊎◌, List, [], ◌∷◌, ◌++◌, Bool, true, false, map, Ok, Err, Option, Some, None, pos}
+use Rattle.std.specs.Prelude.{ℕ, ◌==◌, ◌≡◌, ◌⊎◌, List, [], ◌∷◌, ◌++◌, Bool, true, false, map, Ok, Err, Option, Some, None, Result, codes, pos}
 use Rattle.sqlite.specs.Order.{Row as SqlRow, column}
 use Rattle.sqlite.specs.Store.{Ghosts}
 use Rattle.sqlite.specs.Held.{Held, state}
@@ -23,6 +23,10 @@ IsNamed e = (e ≡ Memory) ⊎ ((why : _) × (e ≡ Refused why))
 abbrev pub IsNamedAtOpening : OpenError → Type 0
 IsNamedAtOpening (opening.Table e) = IsNamed e
 IsNamedAtOpening (opening.Another there) = Unit {0}
+
+-- the query for the text by which the table of a name was made
+abbrev pub known_text : List ℕ
+known_text = codes "SELECT sql FROM sqlite_schema WHERE lower(name) = lower(?1)"
 
 -- a value as a value of SQL
 abbrev pub value_of : Cell → Value
@@ -71,6 +75,17 @@ module _ {S : Type 0} (g : Ghosts S) (old new : Held S) where
   Found sql values (Some text) = HasCleanDisk (state g new)
       → (row : SqlRow) × QueriesRow sql values (state g old) (state g new) (Ok row) × (column row 0 ≡ Text text)
 
+  -- no transaction was open, and nothing was run; or the database was to run ROLLBACK
+  abbrev pub TakesBack : Type 0
+  TakesBack = (((state g old).in_transaction ≡ false) × (new ≡ old))
+      ⊎ (HasCleanDisk (state g new) → (ended : Result ℕ _) × Executes (codes "ROLLBACK") [] (state g old) (state g new) ended)
+
   -- a crash leaves what it could leave before, or what this statement commits
   abbrev pub LeavesBy : List ℕ → SqlRow → Type 0
   LeavesBy sql values = Survives (state g old) (state g new) (CommitsBy sql values (state g old))
+
+-- one query was run, and it showed that this very statement made the table of this name; or the query showed no such table,
+-- and then this statement was run; and nothing else was
+abbrev pub IsMade : {S : Type 0} → Ghosts S → Held S → Held S → List ℕ → List ℕ → Type 0
+IsMade {S} g old new name create = Found g old new known_text (Text name ∷ []) (Some create)
+    ⊎ ((between : Held S) × Found g old between known_text (Text name ∷ []) None × ((count : ℕ) × Ran g between new create [] count))

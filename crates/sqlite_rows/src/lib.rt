@@ -13,4 +13,4 @@ mod values;
 
 pub use error::OpenError;
 pub use form::Form;
-pub use table::{OUTBOX, OUTBOX_CREATE, SqliteOutbox, SqliteTable};
+pub use table::{OUTBOX, OUTBOX_CREATE, SqliteOutbox, SqliteTable, Waiting};

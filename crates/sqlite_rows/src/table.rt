@@ -1,8 +1,12 @@
 //! The table, over a connection to a database.
-ghost use Rattle.std.specs.Prelude.{[], option_map, ◌≡◌, ℕ, None, IfErr, IfOk, OnOk, codes, flat_map, string_bytes};
+ghost use Rattle.std.specs.Prelude.{[], ◌∷◌, option_map, ◌≡◌, ℕ, None, IfErr, IfOk, OnOk, codes, flat_map, string_bytes};
+ghost use Rattle.sqlite.specs.Files.{IsOpened, file_state, over_files};
+ghost use Rattle.sqlite.specs.Held.{Held, IsNew};
+ghost use Rattle.sqlite.specs.State.{HasCleanDisk};
 ghost use Rattle.sqlite.specs.Values.{bound};
+ghost use Rattle.sqlite.specs.declared.types.Value.TheVariants.{Text};
 ghost use Rattle.row_table.specs.OfRow.{row_of};
-ghost use Rattle.sqlite_rows.specs.Statements.{Found, IsNamed, IsNamedAtOpening, LeavesBy, Ran, RanAll, RanOne, Shows, row_values};
+ghost use Rattle.sqlite_rows.specs.Statements.{Found, IsMade, IsNamed, IsNamedAtOpening, LeavesBy, Ran, RanAll, RanOne, Shows, TakesBack, known_text, row_values};
 
 use crate::error::OpenError;
 use crate::form::Form;
@@ -10,11 +14,12 @@ use crate::values::{values_of, values_of_all};
 use row_table::{ROWS_AT_ONCE, Row, Table, TableError};
 use sqlite::types::ValueRef;
 use sqlite::{Alter, Connection, Error, ErrorCode, File, FileStore};
+use sqlite_resolve::CompileError;
 use std::alloc::Global;
 
 mod outbox;
 
-pub use outbox::{OUTBOX, OUTBOX_CREATE, SqliteOutbox};
+pub use outbox::{OUTBOX, OUTBOX_CREATE, SqliteOutbox, Waiting};
 
 const KNOWN: &str = "SELECT sql FROM sqlite_schema WHERE lower(name) = lower(?1)";
 
@@ -34,6 +39,9 @@ impl SqliteTable<FileStore<File>> {
     ) -> Result<SqliteTable<FileStore<File>>, OpenError>
         ensures named { IfErr result IsNamedAtOpening }
         ensures form { IfOk result (λ table. table.form ≡ form) }
+        ensures made { IfOk result (λ table. (conn : Held _) × IsNew conn
+            × (HasCleanDisk (file_state conn) → IsOpened conn)
+            × IsMade over_files conn table.conn (string_bytes form.name) (string_bytes form.create)) }
     {
         match Connection::open(rt, path) {
             Ok(conn) => SqliteTable::over(rt.alloc(), conn, form),
@@ -57,6 +65,8 @@ impl<S: Alter + Drop> SqliteTable<S> {
     pub fn over(alloc: Global, conn: Connection<S>, form: Form) -> Result<SqliteTable<S>, OpenError>
         ensures named { IfErr result IsNamedAtOpening }
         ensures form { IfOk result (λ table. table.form ≡ form) }
+        ensures made { IfOk result (λ table. IsMade S.Store conn table.conn (string_bytes form.name)
+            (string_bytes form.create)) }
     {
         let mut conn = conn;
         make(alloc, &mut conn, &form.name, &form.create)?;
@@ -72,6 +82,8 @@ impl<S: Alter + Drop> Table for SqliteTable<S> {
     ghost may_leave = { λ _ _. Unit {0} };
 
     ghost begins = { λ _ _ _. tt };
+
+    ghost is_open = { λ _. None };
 
     /// Runs BEGIN.
     fn begin(&mut self) -> Result<(), TableError>
@@ -125,9 +137,13 @@ impl<S: Alter + Drop> Table for SqliteTable<S> {
         run(&mut self.conn, "COMMIT")
     }
 
-    fn roll_back(&mut self) {
+    /// Runs ROLLBACK, if a transaction is open.
+    fn roll_back(&mut self)
+        ensures taken_back { TakesBack S.Store self.old.conn self.new.conn }
+        ensures form { self.new.form ≡ self.old.form }
+    {
         if !self.conn.is_autocommit() {
-            let _ended = run(&mut self.conn, "ROLLBACK");
+            let _ended = self.conn.execute("ROLLBACK", &[]);
         }
     }
 }
@@ -203,6 +219,7 @@ fn make<S: Alter + Drop>(
     create: &str,
 ) -> Result<(), OpenError>
     ensures named { IfErr result IsNamedAtOpening }
+    ensures made { OnOk result (IsMade S.Store conn.old conn.new name.now create.now) }
 {
     match definition(alloc, conn, name)? {
         None => Ok(run(conn, create)?),
@@ -235,6 +252,8 @@ fn definition<S: Alter + Drop>(
     name: &str,
 ) -> Result<Option<Vec<u8>>, TableError>
     ensures named { IfErr result IsNamed }
+    ensures found { IfOk result (λ found. Found S.Store conn.old conn.new known_text (Text name.now ∷ [])
+        (option_map (λ text. text.items) found)) }
 {
     text_of(alloc, conn, KNOWN, &[ValueRef::Text(name.as_bytes())])
 }
@@ -265,6 +284,9 @@ fn text_of<S: Alter + Drop>(
 fn reason(error: Error) -> &'static str {
     match error {
         Error::SqliteFailure(code) => code_reason(code),
+        Error::SqlInputError(CompileError::NoSuchTable) => {
+            "its table has a trigger or an index that this program does not run, or is gone"
+        }
         Error::SqlInputError(_) => "the database does not understand the statement",
         _ => "the database refuses the statement",
     }

@@ -5,10 +5,10 @@ ghost use Rattle.sqlite.specs.Values.{bound};
 ghost use Rattle.row_table.specs.OfPost.{post_of, posted_of};
 ghost use Rattle.row_table.specs.OfRow.{row_of};
 ghost use Rattle.row_table.specs.Posts.{post_for};
-ghost use Rattle.sqlite_rows.specs.Outbox.{AreValues, FoundPost, bytes_value, enqueue_text, first_text, number_value, post_values, remove_text};
-ghost use Rattle.sqlite_rows.specs.Statements.{IsNamedAtOpening, LeavesBy, Ran, RanOne, Shows, key_values, row_values};
+ghost use Rattle.sqlite_rows.specs.Outbox.{AreValues, Counts, FoundPost, ShowsOutbox, WaitsIn, bytes_value, enqueue_text, first_text, number_value, outbox_create, post_values, remove_text};
+ghost use Rattle.sqlite_rows.specs.Statements.{IsMade, IsNamedAtOpening, LeavesBy, Ran, RanOne, Shows, TakesBack, key_values, row_values};
 
-use super::{SqliteTable, make, malformed, refused};
+use super::{SqliteTable, definition, make, malformed, refused};
 use crate::error::OpenError;
 use crate::values::{values_of_key, values_of_post};
 use row_table::{Post, PostedRow, Row, Table, TableError, WithOutbox};
@@ -29,6 +29,8 @@ const ENQUEUE: &str =
 const FIRST: &str =
     "SELECT milliseconds, sequence, command, question FROM outbox ORDER BY milliseconds, sequence LIMIT 1";
 
+const COUNT: &str = "SELECT count(*) FROM outbox";
+
 const REMOVE: &str = "DELETE FROM outbox WHERE milliseconds = ?1 AND sequence = ?2";
 
 /// A table of a database with an outbox beside it, the table `outbox`.
@@ -42,6 +44,7 @@ impl<S: Alter + Drop> SqliteOutbox<S> {
     pub fn beside(alloc: Global, table: SqliteTable<S>) -> Result<SqliteOutbox<S>, OpenError>
         ensures named { IfErr result IsNamedAtOpening }
         ensures form { IfOk result (λ outbox. outbox.table.form ≡ table.form) }
+        ensures made { IfOk result (λ outbox. IsMade S.Store table.conn outbox.table.conn (codes "outbox") outbox_create) }
     {
         let mut table = table;
         make(alloc, &mut table.conn, OUTBOX, OUTBOX_CREATE)?;
@@ -62,6 +65,8 @@ impl<S: Alter + Drop> WithOutbox for SqliteOutbox<S> {
     ghost committed = { λ _. None };
 
     ghost may_leave = { λ _ _. Unit {0} };
+
+    ghost is_open = { λ _. None };
 
     /// Runs BEGIN.
     fn begin(&mut self) -> Result<(), TableError>
@@ -130,8 +135,60 @@ impl<S: Alter + Drop> WithOutbox for SqliteOutbox<S> {
         self.table.commit()
     }
 
-    fn roll_back(&mut self) {
+    /// Runs ROLLBACK, if a transaction is open.
+    fn roll_back(&mut self)
+        ensures taken_back { TakesBack S.Store self.old.table.conn self.new.table.conn }
+        ensures form { self.new.table.form ≡ self.old.table.form }
+    {
         self.table.roll_back();
+    }
+}
+
+/// What waits in an outbox.
+#[derive(Drop)]
+pub struct Waiting {
+    /// How many posts.
+    pub count: u64,
+    /// The post of the first key.
+    pub first: Post,
+}
+
+impl<S: Alter + Drop> SqliteTable<S> {
+    /// What waits in the outbox of its database; none if there is no outbox, or nothing is in it.
+    pub fn waiting(&mut self, alloc: Global) -> Result<Option<Waiting>, TableError>
+        ensures shown { IfOk result (λ found. WaitsIn S.Store self.old.conn self.new.conn
+            (option_map (λ w. (w.count, post_of w.first)) found)) }
+        ensures form { self.new.form ≡ self.old.form }
+    {
+        if !has_outbox(alloc, &mut self.conn)? {
+            return Ok(None);
+        }
+        let Some(first) = first_post(alloc, &mut self.conn)? else {
+            return Ok(None);
+        };
+        let count = count_posts(&mut self.conn)?;
+        Ok(Some(Waiting { count, first }))
+    }
+}
+
+/// Whether the query shows the outbox.
+fn has_outbox<S: Alter + Drop>(alloc: Global, conn: &mut Connection<S>) -> Result<bool, TableError>
+    ensures { IfOk result (ShowsOutbox S.Store conn.old conn.new) }
+{
+    match definition(alloc, conn, OUTBOX)? {
+        None => Ok(false),
+        Some(text) if text.as_slice() == OUTBOX_CREATE.as_bytes() => Ok(true),
+        Some(_) => Ok(false),
+    }
+}
+
+/// How many posts the query shows.
+fn count_posts<S: Alter + Drop>(conn: &mut Connection<S>) -> Result<u64, TableError>
+    ensures { IfOk result (Counts S.Store conn.old conn.new) }
+{
+    match conn.query_row(COUNT, &[]) {
+        Ok(row) => number_at(&row, 0),
+        Err(error) => Err(refused(error)),
     }
 }
 
