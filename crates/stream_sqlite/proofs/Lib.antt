@@ -1,2 +1,3 @@
 -- Lemmas.
 mod ForwardLemmas
+mod LookLemmas

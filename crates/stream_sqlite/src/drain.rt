@@ -1,11 +1,13 @@
 //! The loop of the program: it asks, and takes the answers.
-ghost use Rattle.std.specs.Prelude.{◌≡◌, IfOk, IsTrue, OnErr, OnOk};
+ghost use Rattle.std.specs.Prelude.{◌≡◌, IfOk, IsTrue, OnErr, OnOk, false};
+ghost use Rattle.stream_letters.specs.Besides.{Besides, BreaksBesides};
 ghost use Rattle.stream_loop.specs.Loop.{Loops, Stops};
 ghost use Rattle.stream_table.specs.Lived.{Leads};
 ghost use Rattle.stream_worker.specs.Session.{standing_of};
 
 pub mod forward;
 
+use crate::masked::Masked;
 use crate::report::Report;
 use anyhow::{Error, Result, anyhow, bail};
 use redis_connection::{Connection, ConnectionError};
@@ -14,19 +16,21 @@ use row_table::{Table, TableError};
 use std::alloc::Global;
 use std::io::{Read, Write};
 use stream_in_place::FieldError;
+use stream_letters::DeadLetterSearch;
 use stream_table::{Fault, Rows};
-use stream_worker::{Asked, Handler, Pipelined, Progress, RequestError, RunError, Worker};
+use stream_worker::{Asked, Handler, Pipelined, Progress, RequestError, Round, RunError, Worker};
 
 /// The limit on what a connection holds, as `Limits::default` has it.
 const LARGEST: &str = "1 GiB";
 
 /// Drains until something fails, or until a read finds nothing new if that is asked for.
-pub fn drain<R: Read + Drop, W: Write + Drop, T: Table + Drop>(
-    alloc: Global,
+pub fn drain<R: Read + Drop, W: Write + Drop, T: Table + Drop, P: Eprint + AllocGlobal>(
+    rt: &P,
     connection: &mut Connection<R, W>,
     worker: &mut Worker,
     rows: &mut Rows<T>,
     report: &mut Report,
+    dead: &mut Option<DeadLetterSearch>,
     until_empty: bool,
 ) -> Result<()>
     ensures ended { IfOk result (λ _. IsTrue until_empty) }
@@ -37,9 +41,10 @@ pub fn drain<R: Read + Drop, W: Write + Drop, T: Table + Drop>(
         (standing_of worker.old (⟦<Rows<T> as Handler>⟧.history rows.old))
         (standing_of worker.new (⟦<Rows<T> as Handler>⟧.history rows.new))) }
 {
+    let mut asked = Asked::Nothing;
     for _ in 0..u64::MAX {
         let seen = rows.seen;
-        let asked = turn(alloc, connection, worker, rows, report)?;
+        asked = turn(rt, connection, worker, rows, report, dead, asked)?;
         if until_empty && asked == Asked::New && rows.seen == seen {
             return Ok(());
         }
@@ -47,13 +52,15 @@ pub fn drain<R: Read + Drop, W: Write + Drop, T: Table + Drop>(
     bail!("the last turn came")
 }
 
-/// Makes a round, or two with one write, and counts: what was asked last.
-fn turn<R: Read + Drop, W: Write + Drop, T: Table + Drop>(
-    alloc: Global,
+/// Looks for entries to give up, makes a round, or two with one write, and counts: what was asked last.
+fn turn<R: Read + Drop, W: Write + Drop, T: Table + Drop, P: Eprint + AllocGlobal>(
+    rt: &P,
     connection: &mut Connection<R, W>,
     worker: &mut Worker,
     rows: &mut Rows<T>,
     report: &mut Report,
+    dead: &mut Option<DeadLetterSearch>,
+    asked: Asked,
 ) -> Result<Asked>
     ensures settings { worker.new.settings ≡ worker.old.settings }
     ensures ok { OnOk result (Leads (Loops worker.old.settings) connection.old connection.new
@@ -63,19 +70,67 @@ fn turn<R: Read + Drop, W: Write + Drop, T: Table + Drop>(
         (standing_of worker.old (⟦<Rows<T> as Handler>⟧.history rows.old))
         (standing_of worker.new (⟦<Rows<T> as Handler>⟧.history rows.new))) }
 {
-    let made = round(alloc, connection, worker, rows)?;
+    let left = rows.left;
+    look(
+        rt.alloc(),
+        connection,
+        dead,
+        asked,
+        rows.done > rows.committed,
+    )?;
+    let made = round(rt.alloc(), connection, worker, rows, dead.is_none())?;
     if made.acknowledged || made.round.asked == Asked::Acknowledgement {
         report.count(rows.committed);
     }
+    say_left(rt, left, rows.left, &rows.fault, &rows.undone)?;
     Ok(made.round.asked)
 }
 
-/// Makes a round, or two with one write, after which the worker goes on.
+/// Looks for entries that were delivered too often, if they are given up.
+fn look<R: Read + Drop, W: Write + Drop>(
+    alloc: Global,
+    connection: &mut Connection<R, W>,
+    dead: &mut Option<DeadLetterSearch>,
+    asked: Asked,
+    in_hand: bool,
+) -> Result<()>
+    ensures ok { OnOk result (Besides connection.old connection.new) }
+    ensures err { OnErr result (BreaksBesides connection.old connection.new) }
+{
+    let Some(dead) = dead else {
+        return Ok(());
+    };
+    match dead.turn(alloc, connection, asked, in_hand) {
+        Ok(()) => Ok(()),
+        Err(error) => Err(error.into()),
+    }
+}
+
+/// Says why entries were left pending, if there are more of them than before. The reason is that of the last one.
+fn say_left<P: Eprint + AllocGlobal>(
+    rt: &P,
+    before: u64,
+    left: u64,
+    fault: &Option<Fault>,
+    undone: &Option<String>,
+) -> Result<()> {
+    let more = left.saturating_sub(before);
+    if 0 < more {
+        let reason = format!(in rt.alloc(); "{}", stopped(fault, undone))?;
+        eprintln!(rt; "{more} left pending, the last one: {}", Masked(&reason))?;
+    }
+    Ok(())
+}
+
+/// Makes a round, or two with one write if they may go together, after which the worker goes on.
+///
+/// They may not if entries are given up: these are looked for between an acknowledgement and a claim.
 fn round<R: Read + Drop, W: Write + Drop, T: Table + Drop>(
     alloc: Global,
     connection: &mut Connection<R, W>,
     worker: &mut Worker,
     rows: &mut Rows<T>,
+    together: bool,
 ) -> Result<Pipelined>
     ensures settings { worker.new.settings ≡ worker.old.settings }
     ensures ok { OnOk result (Leads (Loops worker.old.settings) connection.old connection.new
@@ -85,12 +140,32 @@ fn round<R: Read + Drop, W: Write + Drop, T: Table + Drop>(
         (standing_of worker.old (⟦<Rows<T> as Handler>⟧.history rows.old))
         (standing_of worker.new (⟦<Rows<T> as Handler>⟧.history rows.new))) }
 {
-    match worker.round_pipelined(alloc, connection, rows) {
-        Ok(made) => {
-            goes_on(made.round.progress, &rows.fault, &rows.undone)?;
-            Ok(made)
+    if together {
+        match worker.round_pipelined(alloc, connection, rows) {
+            Ok(made) => {
+                goes_on(made.round.progress, &rows.fault, &rows.undone)?;
+                Ok(made)
+            }
+            Err(error) => Err(broken_off(error, &rows.fault)),
         }
-        Err(error) => Err(broken_off(error, &rows.fault)),
+    } else {
+        match worker.round(alloc, connection, rows) {
+            Ok(round) => {
+                goes_on(round.progress, &rows.fault, &rows.undone)?;
+                Ok(alone(round))
+            }
+            Err(error) => Err(broken_off(error, &rows.fault)),
+        }
+    }
+}
+
+/// A round that had a write of its own.
+fn alone(round: Round) -> Pipelined
+    ensures { result ≡ record { acknowledged = false; round = round } }
+{
+    Pipelined {
+        acknowledged: false,
+        round,
     }
 }
 

@@ -14,16 +14,21 @@
 //! With `--forward TARGET` each new row is sent on to the stream TARGET of the same server, under its own id. What is to
 //! be sent is in the table `outbox` of the same file, from the transaction of the row until the server has answered.
 //!
+//! With `--dead N STREAM` an entry that is no row is left pending, and after N deliveries it goes to a stream of dead
+//! letters.
+//!
 //! At the end it says on standard error what it did. It ends with 0 if `--until-empty` is there and nothing new
 //! came, with 2 if a word is wrong, and else with 1 and the reason. `--help` tells its words.
 #![tactic(auto)]
 
 mod drain;
+mod masked;
 mod options;
 mod report;
 
 use crate::drain::drain;
 use crate::drain::forward::forward;
+use crate::masked::Masked;
 use crate::options::{Options, TABLE, options_of};
 use crate::report::Report;
 use anyhow::{Context, Error, Result, anyhow};
@@ -31,13 +36,16 @@ use command_lines::tell;
 use redis_connection::Connection;
 use redis_wire::Limits;
 use row_table::{Column, Kind, Table, TableError, WithOutbox};
-use sqlite::{Alter, File, FileStore};
+use sqlite::{Alter, File as DatabaseFile, FileStore};
 use sqlite_rows::{Form, OUTBOX, OUTBOX_CREATE, OpenError, SqliteOutbox, SqliteTable};
 use std::alloc::{AllocError, Global};
+use std::fs::File;
 use std::io::{Read, Write};
+use std::os::unix::fs::FileExt;
 use std::process::ExitCode;
 use std::{env, io};
-use stream_table::{Forwarding, Rows};
+use stream_letters::{DeadLetterSearch, GiveUp};
+use stream_table::{Forwarding, Rows, target_of};
 use stream_worker::{Settings, Worker};
 
 fn main(rt: HostRuntime) -> Result<ExitCode> {
@@ -52,31 +60,17 @@ fn main(rt: HostRuntime) -> Result<ExitCode> {
     }
 }
 
-/// An error as it may be shown: a control character, which could steer a terminal, stands in its text
-/// as `?`.
+/// The error with its text as it may be shown; the error itself if memory ran out.
 fn masked(alloc: Global, error: Error) -> Error {
     match masked_text(alloc, &error) {
-        Ok(Some(text)) => Error::msg(text),
-        Ok(None) | Err(_) => error,
+        Ok(text) => Error::msg(text),
+        Err(_) => error,
     }
 }
 
-/// The text of an error that has a control character in it, masked.
-fn masked_text(alloc: Global, error: &Error) -> Result<Option<String>, AllocError> {
+fn masked_text(alloc: Global, error: &Error) -> Result<String, AllocError> {
     let text = format!(in alloc; "{error}")?;
-    if !text.chars().any(char::is_control) {
-        return Ok(None);
-    }
-    Ok(Some(shown(alloc, &text)?))
-}
-
-/// A text, in which each control character is `?`.
-fn shown(alloc: Global, text: &str) -> Result<String, AllocError> {
-    let mut shown = String::new(alloc);
-    for letter in text.chars() {
-        shown.push(if letter.is_control() { '?' } else { letter })?;
-    }
-    Ok(shown)
+    format!(in alloc; "{}", Masked(&text))
 }
 
 /// The words that the program is called with.
@@ -97,17 +91,26 @@ fn drain_by(rt: &HostRuntime, options: Options) -> Result<()> {
         columns,
         until_empty,
         forward,
+        dead,
     } = options;
+    say_of_log(rt, &path)?;
     let opened = table_at(rt, &path, form_of(rt.alloc(), &table, &columns)?)?;
-    let (table, ended) = match forward {
+    let forwards = forward.is_some();
+    let (mut table, ended) = match forward {
         Some(target) => {
             let outbox = outbox_beside(rt, &path, opened)?;
-            forward_into(rt, settings, outbox, columns, target, until_empty)
+            forward_into(rt, settings, outbox, columns, target, dead, until_empty)
         }
-        None => drain_into(rt, settings, opened, columns, until_empty),
+        None => drain_into(rt, settings, opened, columns, dead, until_empty),
+    };
+    let said = if forwards {
+        Ok(())
+    } else {
+        say_what_waits(rt, &mut table)
     };
     let closed = table.close();
     ended?;
+    said?;
     closed.context(format_args!("cannot close {path}"))
 }
 
@@ -117,6 +120,7 @@ fn drain_into<S: Alter + Drop>(
     settings: Settings,
     table: SqliteTable<S>,
     columns: Vec<Column>,
+    dead: Option<GiveUp>,
     until_empty: bool,
 ) -> (SqliteTable<S>, Result<()>) {
     let mut rows = Rows::with_columns(rt.alloc(), table, columns);
@@ -126,6 +130,7 @@ fn drain_into<S: Alter + Drop>(
         io::writer(rt),
         settings,
         &mut rows,
+        dead,
         until_empty,
     );
     (rows.into_table(), ended)
@@ -138,6 +143,7 @@ fn forward_into<S: Alter + Drop>(
     outbox: SqliteOutbox<S>,
     columns: Vec<Column>,
     target: String,
+    dead: Option<GiveUp>,
     until_empty: bool,
 ) -> (SqliteTable<S>, Result<()>) {
     let mut rows = Forwarding::new(rt.alloc(), outbox, columns, target);
@@ -147,57 +153,83 @@ fn forward_into<S: Alter + Drop>(
         io::writer(rt),
         settings,
         &mut rows,
+        dead,
         until_empty,
     );
     (rows.into_table().into_table(), ended)
 }
 
 /// Drains over these ends, and says what was done.
-fn drain_over<R: Read + Drop, W: Write + Drop, T: Table + Drop>(
-    rt: &HostRuntime,
+fn drain_over<R: Read + Drop, W: Write + Drop, T: Table + Drop, P: Eprint + AllocGlobal>(
+    rt: &P,
     reader: R,
     writer: W,
     settings: Settings,
     rows: &mut Rows<T>,
+    dead: Option<GiveUp>,
     until_empty: bool,
 ) -> Result<()> {
     let alloc = rt.alloc();
+    let mut settings = settings;
     let mut connection = Connection::new(alloc, reader, writer, Limits::default())?;
+    let mut dead = dead_of(alloc, &mut settings, dead)?;
+    rows.leave_unfit(dead.is_some());
     let mut worker = Worker::new(alloc, settings);
     let mut report = Report::new();
     let ended = drain(
-        alloc,
+        rt,
         &mut connection,
         &mut worker,
         rows,
         &mut report,
+        &mut dead,
         until_empty,
     );
+    report.letters = dead.map(|dead| dead.letters());
     eprintln!(rt; "{report}")?;
     ended
 }
 
+/// What looks for entries that were delivered too often, if they are given up. Then those that come again are asked
+/// for one at a time.
+fn dead_of(
+    alloc: Global,
+    settings: &mut Settings,
+    to: Option<GiveUp>,
+) -> Result<Option<DeadLetterSearch>> {
+    match to {
+        Some(to) => Ok(Some(DeadLetterSearch::new(alloc, settings, to)?)),
+        None => Ok(None),
+    }
+}
+
 /// Drains over these ends and sends on, and says what was done.
-fn forward_over<R: Read + Drop, W: Write + Drop, T: WithOutbox + Drop>(
-    rt: &HostRuntime,
+fn forward_over<R: Read + Drop, W: Write + Drop, T: WithOutbox + Drop, P: Eprint + AllocGlobal>(
+    rt: &P,
     reader: R,
     writer: W,
     settings: Settings,
     rows: &mut Forwarding<T>,
+    dead: Option<GiveUp>,
     until_empty: bool,
 ) -> Result<()> {
     let alloc = rt.alloc();
+    let mut settings = settings;
     let mut connection = Connection::new(alloc, reader, writer, Limits::default())?;
+    let mut dead = dead_of(alloc, &mut settings, dead)?;
+    rows.leave_unfit(dead.is_some());
     let mut worker = Worker::new(alloc, settings);
     let mut report = Report::new();
     let ended = forward(
-        alloc,
+        rt,
         &mut connection,
         &mut worker,
         rows,
         &mut report,
+        &mut dead,
         until_empty,
     );
+    report.letters = dead.map(|dead| dead.letters());
     let sent = rows.sent;
     eprintln!(rt; "{report}, {sent} sent on")?;
     ended
@@ -220,8 +252,58 @@ fn form_of(alloc: Global, table: &str, columns: &[Column]) -> Result<Form> {
     Ok(Form::of(alloc, table, &fields)?)
 }
 
+/// Says that the file beside that of this path which should be its log is none, if it is so. The database takes nothing
+/// of it in.
+fn say_of_log(rt: &HostRuntime, path: &str) -> Result<()> {
+    let path = format!(in rt.alloc(); "{path}-wal")?;
+    let Ok(file) = File::open(rt, path.as_str()) else {
+        return Ok(());
+    };
+    let mut head = [0; 8];
+    let is_log = match file.read_at(&mut head, 0) {
+        Ok(0) => true,
+        Ok(8) => is_head_of_log(&head),
+        _ => false,
+    };
+    if !is_log {
+        eprintln!(rt; "{path} is no log of a database: nothing of it is taken in")?;
+    }
+    Ok(())
+}
+
+/// Whether a file that begins so is a write-ahead log of SQLite.
+fn is_head_of_log(head: &[u8]) -> bool {
+    matches!(
+        head,
+        [0x37, 0x7f, 0x06, 0x82 | 0x83, 0x00, 0x2d, 0xe2, 0x18]
+    )
+}
+
+/// Says how many commands wait in the outbox of this table, and for which stream. It says nothing of an empty one.
+fn say_what_waits<S: Alter + Drop>(rt: &HostRuntime, table: &mut SqliteTable<S>) -> Result<()> {
+    let Ok(Some(waiting)) = table.waiting(rt.alloc()) else {
+        return Ok(());
+    };
+    let count = waiting.count;
+    let Some(target) = target_of(rt.alloc(), &waiting.first) else {
+        eprintln!(rt; "commands wait in the outbox: {count}")?;
+        return Ok(());
+    };
+    let target = Masked(&target);
+    if count == 1 {
+        eprintln!(rt; "1 command waits in the outbox, for {target}")?;
+    } else {
+        eprintln!(rt; "{count} commands wait in the outbox, the first one for {target}")?;
+    }
+    Ok(())
+}
+
 /// The table in the file of this path.
-fn table_at(rt: &HostRuntime, path: &str, form: Form) -> Result<SqliteTable<FileStore<File>>> {
+fn table_at(
+    rt: &HostRuntime,
+    path: &str,
+    form: Form,
+) -> Result<SqliteTable<FileStore<DatabaseFile>>> {
     let name = form.name.clone()?;
     let wanted = form.create.clone()?;
     let opened = SqliteTable::open(rt, path, form);
@@ -253,8 +335,8 @@ fn opened_in<T: Drop>(
             failed.context(format_args!("cannot open {path}"))
         }
         Err(OpenError::Another(there)) => {
-            eprintln!(rt; "there: {}", shown(rt.alloc(), &there)?)?;
-            eprintln!(rt; "wanted: {}", shown(rt.alloc(), wanted)?)?;
+            eprintln!(rt; "there: {}", Masked(&there))?;
+            eprintln!(rt; "wanted: {}", Masked(wanted))?;
             Err(anyhow!("its table `{name}` is another one")).context(format_args!(
                 "cannot open {path}"
             ))

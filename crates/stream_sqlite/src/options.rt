@@ -4,12 +4,13 @@ ghost use Rattle.std.specs.Prelude.{◌≤◌, length, IfOk};
 use clap::builder::ValueParser;
 use clap::{Arg, ArgMatches, Command, Error};
 use command_lines::{
-    BLOCK, EVERY, IDLE, Number, command, flag, from, matches_of, name, refused, refused_value,
-    text, word_of,
+    BLOCK, EVERY, IDLE, Number, command, flag, from, matches_of, name, pair, refused,
+    refused_value, text, word_of,
 };
 use row_table::{Column, Kind};
 use sqlite_rows::OUTBOX;
 use std::alloc::{AllocError, Global};
+use stream_letters::GiveUp;
 use stream_worker::{MakeGroup, Settings};
 
 /// The table, if none is named.
@@ -28,6 +29,8 @@ pub struct Options {
     pub until_empty: bool,
     /// The stream that the entries go on to.
     pub forward: Option<String>,
+    /// Entries that were delivered too often go to a stream of dead letters, and those that are no row are left pending.
+    pub dead: Option<GiveUp>,
 }
 
 const COUNT: Number = Number {
@@ -46,15 +49,18 @@ pub fn options_of(alloc: Global, words: &[String]) -> Result<Options, Error>
     let mut command = command_of(alloc)?;
     let matches = matches_of(alloc, &mut command, words, 4)?;
     let settings = settings_of(alloc, &mut command, &matches)?;
+    let table = table_of(alloc, &mut command, &matches)?;
     let columns = columns_of(alloc, &mut command, &matches)?;
     let forward = forward_of(alloc, &mut command, &matches)?;
+    let dead = dead_of(alloc, &mut command, &matches)?;
     Ok(Options {
         settings,
         path: String::from_str(alloc, word_of(&matches, "FILE"))?,
-        table: String::from_str(alloc, word_of(&matches, "table"))?,
+        table,
         columns,
         until_empty: matches.get_flag("until-empty"),
         forward,
+        dead,
     })
 }
 
@@ -81,6 +87,7 @@ fn with_rest<'a>(alloc: Global, command: Command<'a>) -> Result<Command<'a>, All
         .arg(BLOCK.arg(alloc))?
         .arg(IDLE.arg(alloc))?
         .arg(EVERY.arg(alloc))?
+        .arg(pair(alloc, "dead", DEAD_VALUES.as_slice(), DEAD_HELP))?
         .arg(text(alloc, "table", "NAME", "The name of the table").default_value(TABLE))?
         .arg(text(alloc, "columns", "LIST", columns))?
         .arg(forward(alloc))?
@@ -174,6 +181,32 @@ const FORWARD: &str = "--forward <TARGET>";
 
 const NAME: &str = "--table <NAME>";
 
+const DEAD: &str = "--dead <TIMES> <STREAM>";
+
+static DEAD_VALUES: [&str; 2] = ["TIMES", "STREAM"];
+
+const DEAD_HELP: &str =
+    "Entries that are no row are left pending; those delivered so many times, 1 at least, go to this stream";
+
+/// The name of the table. Names that begin so are the database's own.
+fn table_of(
+    alloc: Global,
+    command: &mut Command<'_>,
+    matches: &ArgMatches<'_>,
+) -> Result<String, Error> {
+    let table = word_of(matches, "table");
+    if let Some(front) = table.get(..OWN.len())
+        && front.eq_ignore_ascii_case(OWN)
+    {
+        let reason = "names that begin with 'sqlite_' are the database's own";
+        return Err(refused_value(alloc, command, table, NAME, reason));
+    }
+    Ok(String::from_str(alloc, table)?)
+}
+
+/// The database keeps names that begin so for itself.
+const OWN: &str = "sqlite_";
+
 /// A column: its name, and what its values are. With a question mark a row may have none.
 fn column_of(alloc: Global, command: &mut Command<'_>, part: &str) -> Result<Column, Error> {
     let Some((name, kind)) = part.rsplit_once(':') else {
@@ -223,6 +256,34 @@ fn forward_of(
         return Err(refused_value(alloc, command, table, NAME, reason));
     }
     Ok(Some(String::from_str(alloc, target)?))
+}
+
+/// After how many deliveries entries are given up, and to which stream: another one than KEY and TARGET.
+fn dead_of(
+    alloc: Global,
+    command: &mut Command<'_>,
+    matches: &ArgMatches<'_>,
+) -> Result<Option<GiveUp>, Error> {
+    let Some([times, stream]) = matches.get_strs("dead") else {
+        return Ok(None);
+    };
+    let deliveries = match times.parse::<usize>() {
+        Ok(deliveries) if 0 < deliveries => deliveries,
+        _ => {
+            let reason = "TIMES is a number, 1 at least";
+            return Err(refused_value(alloc, command, times, DEAD, reason));
+        }
+    };
+    if *stream == word_of(matches, "KEY") {
+        let reason = "STREAM is another one than KEY";
+        return Err(refused_value(alloc, command, stream, DEAD, reason));
+    }
+    if *stream == word_of(matches, "forward") {
+        let reason = "STREAM is another one than TARGET";
+        return Err(refused_value(alloc, command, stream, DEAD, reason));
+    }
+    let stream = String::from_str(alloc, stream)?;
+    Ok(Some(GiveUp { deliveries, stream }))
 }
 
 /// Whether there is a column of this name, to which the case of ASCII letters is all one.

@@ -22,7 +22,7 @@ use Rattle.stream_table.specs.Lived.{Leads, RoundsAreLived}
 use Rattle.stream_table.proofs.KeptLemmas.{each_commit, each_verdict, with_none}
 
 -- the rows are a picture of the doings
-rows_picture : IsPicture kept_of kept_too committed_with
+pub rows_picture : IsPicture kept_of kept_too committed_with
 rows_picture = record { verdict = each_verdict; commit = each_commit }
 
 -- what is kept as a worker asks

@@ -1,5 +1,5 @@
 -- Why an entry is no row.
-use Rattle.std.specs.Prelude.{◌≡◌, ◌<◌, ◌≤◌, ◌^◌, ◌⊎◌, ℕ, List, length, get_or, None, Result, Err, string_bytes}
+use Rattle.std.specs.Prelude.{◌≡◌, ◌<◌, ◌≤◌, ◌^◌, ◌⊎◌, ℕ, Bool, true, false, List, length, get_or, None, Result, Err, string_bytes}
 use Rattle.row_table.specs.Rows.{Cell}
 use Rattle.row_table.specs.declared.cell.Column.{Column}
 use Rattle.row_table.specs.declared.error.TableError.TheVariants.{Memory, KeyTooLarge, OtherText, Refused}
@@ -43,3 +43,16 @@ IsFaultOf columns e (faults.Table (OtherText first second)) = ⊥
 IsFaultOf columns e (faults.Table (Refused why)) = ⊥
 IsFaultOf columns e (faults.Field first second name why) =
     (key_in e.0 ≡ (first, second)) × IsWhyOfOne columns e.1 (cells.Field name why)
+
+-- the entry itself is no row: its id or a field does not fit the table
+abbrev pub is_unfit : Fault → Bool
+is_unfit faults.NotAnId = true
+is_unfit (faults.Table Memory) = false
+is_unfit (faults.Table (KeyTooLarge first second)) = true
+is_unfit (faults.Table (OtherText first second)) = false
+is_unfit (faults.Table (Refused why)) = false
+is_unfit (faults.Field first second name why) = true
+
+-- the entry itself is no row in these columns, for this reason
+abbrev pub IsUnfitFor : List Column → Entry Pairs → Fault → Type 0
+IsUnfitFor columns e fault = (is_unfit fault ≡ true) × IsFaultOf columns e fault

@@ -1,10 +1,11 @@
 //! Entries as rows of a table, which are sent to another stream too.
-ghost use Rattle.std.specs.Prelude.{◌≡◌, ◌++◌, ◌∷◌, ◌⊎◌, [], IfSome, OnErr, OnOk, string_bytes};
+ghost use Rattle.std.specs.Prelude.{◌≡◌, ◌↔◌, IsTrue, ◌++◌, ◌∷◌, ◌⊎◌, [], ◌+◌, ◌-◌, ◌^◌, false, min, true, IfErr, IfSome, IsSomeAnd, OnErr, OnOk, string_bytes};
 ghost use Rattle.row_table.specs.OfPost.{all_posted};
 ghost use Rattle.row_table.specs.Posts.{rows_in, rows_known, with_known_posted};
 ghost use Rattle.row_table.specs.Rows.{AreKnown, LeavesJust, LeavesOldOr};
 ghost use Rattle.stream_table.specs.Forwarded.{HasSent, LeavesSent, forwarding_kept, posted_in};
 ghost use Rattle.stream_table.specs.Kept.{Kept, committed_with, kept_too};
+ghost use Rattle.stream_table.specs.Reasons.{IsFaultOf, IsUnfitFor, is_unfit};
 ghost use Rattle.stream_worker.specs.Handling.{pair_of, verdict_of};
 
 use crate::handler::{Fault, row_of_entry};
@@ -28,15 +29,19 @@ pub struct Forwarding<T: WithOutbox + Drop> {
     target: String,
     /// The rows of what was done and is not committed.
     loose: Vec<PostedRow>,
+    /// An entry that is no row is left pending, and the worker goes on.
+    leaves_unfit: bool,
     /// How many entries were handed out, how many were done, and how many of them are committed.
     pub seen: u64,
     pub done: u64,
     pub committed: u64,
+    /// How many were left pending.
+    pub left: u64,
     /// How many were sent on and answered.
     pub sent: u64,
-    /// Why it stopped, or did not commit.
+    /// Why it stopped, left an entry pending last, or did not commit.
     pub fault: Option<Fault>,
-    /// The id of the entry at which it stopped, if there was memory to keep it.
+    /// The id of the entry at which it stopped, or that it left pending last, if there was memory to keep it.
     pub undone: Option<String>,
 }
 
@@ -46,6 +51,7 @@ impl<T: WithOutbox + Drop> Forwarding<T> {
     pub fn new(alloc: Global, table: T, columns: Vec<Column>, target: String) -> Forwarding<T>
         ensures { (result.table ≡ table) × (result.columns ≡ columns) × (result.target ≡ target)
             × (result.loose.items ≡ []) × (result.seen ≡ 0) × (result.done ≡ 0) × (result.committed ≡ 0)
+            × (result.left ≡ 0) × (result.leaves_unfit ≡ false)
             × (result.sent ≡ 0) }
     {
         Forwarding {
@@ -53,9 +59,11 @@ impl<T: WithOutbox + Drop> Forwarding<T> {
             columns,
             target,
             loose: Vec::new(alloc),
+            leaves_unfit: false,
             seen: 0,
             done: 0,
             committed: 0,
+            left: 0,
             sent: 0,
             fault: None,
             undone: None,
@@ -67,6 +75,20 @@ impl<T: WithOutbox + Drop> Forwarding<T> {
         ensures { result.now ≡ string_bytes self.now.target }
     {
         self.target.as_str()
+    }
+
+    /// Whether an entry that is no row is left pending from now on, so that the worker goes on with the next one.
+    pub fn leave_unfit(&mut self, leaves_unfit: bool)
+        ensures { self.new ≡ record self.old { leaves_unfit = leaves_unfit } }
+    {
+        self.leaves_unfit = leaves_unfit;
+    }
+
+    /// Whether all that was done is committed.
+    pub fn is_committed(&self) -> bool
+        ensures { IsTrue result ↔ self.now.loose.items ≡ [] }
+    {
+        self.loose.is_empty()
     }
 
     /// The table.
@@ -101,6 +123,9 @@ impl<T: WithOutbox + Drop> Forwarding<T> {
         ensures ok { OnOk result (all_posted self.new.loose.items ≡ all_posted self.old.loose.items
             ++ posted_in (string_bytes self.old.target) self.old.columns.items (pair_of entry.now) ∷ []) }
         ensures err { OnErr result (self.new.loose.items ≡ self.old.loose.items) }
+        ensures why { IfErr result (λ fault. is_unfit fault ≡ true
+            → IsFaultOf self.old.columns.items (pair_of entry.now) fault) }
+        ensures counts { (self.new.leaves_unfit ≡ self.old.leaves_unfit) × (self.new.seen ≡ self.old.seen) }
         ensures table { self.new.table ≡ self.old.table }
         ensures columns { self.new.columns ≡ self.old.columns }
         ensures target { self.new.target ≡ self.old.target }
@@ -118,7 +143,9 @@ impl<T: WithOutbox + Drop> Forwarding<T> {
 }
 
 /// The fault of an entry whose command is not made.
-fn unpacked(error: PackError) -> Fault {
+fn unpacked(error: PackError) -> Fault
+    ensures { is_unfit result ≡ false }
+{
     match error {
         PackError::Memory => Fault::Table(TableError::Memory),
         _ => Fault::Table(TableError::Refused("the command is too long")),
@@ -144,6 +171,12 @@ impl<T: WithOutbox + Drop> Handler for Forwarding<T> {
         ensures columns { self.new.columns ≡ self.old.columns }
         ensures target { self.new.target ≡ self.old.target }
         ensures undone { result ≡ Verdict.Stop → IfSome self.new.undone (λ id. string_bytes id ≡ (pair_of entry.now).0) }
+        ensures seen { self.new.seen ≡ min (self.old.seen + 1) (2 ^ 64 - 1) }
+        ensures left { result ≡ Verdict.LeavePending → (self.old.leaves_unfit ≡ true)
+            × IsSomeAnd self.new.fault (IsUnfitFor self.old.columns.items (pair_of entry.now)) }
+        ensures stops { result ≡ Verdict.Stop → self.old.leaves_unfit ≡ true
+            → IsSomeAnd self.new.fault (λ fault. is_unfit fault ≡ false) }
+        ensures goes_on { self.new.leaves_unfit ≡ self.old.leaves_unfit }
     {
         self.seen = self.seen.saturating_add(1);
         match self.gather(alloc, entry) {
@@ -152,8 +185,13 @@ impl<T: WithOutbox + Drop> Handler for Forwarding<T> {
                 Verdict::Done
             }
             Err(fault) => {
+                let is_left = self.leaves_unfit && fault.is_unfit();
                 self.fault = Some(fault);
                 self.undone = String::from_str(alloc, entry.id()).ok();
+                if is_left {
+                    self.left = self.left.saturating_add(1);
+                    return Verdict::LeavePending;
+                }
                 Verdict::Stop
             }
         }

@@ -1,9 +1,9 @@
 //! Entries as rows of a table.
-ghost use Rattle.std.specs.Prelude.{◌≡◌, ◌++◌, ◌∷◌, [], ◌^◌, ◌<◌, ℕ, List, IfErr, IfOk, IfSome, OnErr, OnOk, string_bytes};
+ghost use Rattle.std.specs.Prelude.{◌≡◌, ◌↔◌, IsTrue, ◌++◌, ◌∷◌, [], ◌+◌, ◌-◌, ◌^◌, ◌<◌, false, min, true, ℕ, List, IfErr, IfOk, IfSome, IsSomeAnd, OnErr, OnOk, string_bytes};
 ghost use Rattle.row_table.specs.OfRow.{row_of, rows_of};
 ghost use Rattle.row_table.specs.Rows.{AreKnown, LeavesJust, LeavesOldOr, with_known};
 ghost use Rattle.stream_table.specs.Kept.{Kept, committed_with, kept_by, kept_too, row_in};
-ghost use Rattle.stream_table.specs.Reasons.{IsFaultOf};
+ghost use Rattle.stream_table.specs.Reasons.{IsFaultOf, IsUnfitFor, is_unfit};
 ghost use Rattle.stream_worker.specs.Handling.{pair_of, verdict_of};
 
 use crate::columns::{CellsError, entry_cells};
@@ -35,6 +35,18 @@ pub enum Fault {
     },
 }
 
+impl Fault {
+    /// Whether the entry itself is no row, whatever else comes: its id or a field does not fit the table.
+    pub fn is_unfit(&self) -> bool
+        ensures { result ≡ is_unfit self.now }
+    {
+        match self {
+            Fault::NotAnId | Fault::Field { .. } => true,
+            Fault::Table(error) => matches!(error, TableError::KeyTooLarge { .. }),
+        }
+    }
+}
+
 /// A handler whose entries are rows of a table.
 #[derive(Drop)]
 pub struct Rows<T: Table + Drop> {
@@ -43,13 +55,17 @@ pub struct Rows<T: Table + Drop> {
     columns: Vec<Column>,
     /// The rows of what was done and is not committed.
     loose: Vec<Row>,
+    /// An entry that is no row is left pending, and the worker goes on.
+    leaves_unfit: bool,
     /// How many entries were handed out, how many were done, and how many of them are committed.
     pub seen: u64,
     pub done: u64,
     pub committed: u64,
-    /// Why it stopped, or did not commit.
+    /// How many were left pending.
+    pub left: u64,
+    /// Why it stopped, left an entry pending last, or did not commit.
     pub fault: Option<Fault>,
-    /// The id of the entry at which it stopped, if there was memory to keep it.
+    /// The id of the entry at which it stopped, or that it left pending last, if there was memory to keep it.
     pub undone: Option<String>,
 }
 
@@ -57,7 +73,8 @@ impl<T: Table + Drop> Rows<T> {
     /// A handler over this table, which has gathered nothing. A row has one text of all fields.
     pub fn new(alloc: Global, table: T) -> Rows<T>
         ensures { (result.table ≡ table) × (result.columns.items ≡ []) × (result.loose.items ≡ [])
-            × (result.seen ≡ 0) × (result.done ≡ 0) × (result.committed ≡ 0) }
+            × (result.seen ≡ 0) × (result.done ≡ 0) × (result.committed ≡ 0)
+            × (result.left ≡ 0) × (result.leaves_unfit ≡ false) }
     {
         Rows::with_columns(alloc, table, Vec::new(alloc))
     }
@@ -66,18 +83,35 @@ impl<T: Table + Drop> Rows<T> {
     /// has one text of all fields.
     pub fn with_columns(alloc: Global, table: T, columns: Vec<Column>) -> Rows<T>
         ensures { (result.table ≡ table) × (result.columns ≡ columns) × (result.loose.items ≡ [])
-            × (result.seen ≡ 0) × (result.done ≡ 0) × (result.committed ≡ 0) }
+            × (result.seen ≡ 0) × (result.done ≡ 0) × (result.committed ≡ 0)
+            × (result.left ≡ 0) × (result.leaves_unfit ≡ false) }
     {
         Rows {
             table,
             columns,
             loose: Vec::new(alloc),
+            leaves_unfit: false,
             seen: 0,
             done: 0,
             committed: 0,
+            left: 0,
             fault: None,
             undone: None,
         }
+    }
+
+    /// Whether an entry that is no row is left pending from now on, so that the worker goes on with the next one.
+    pub fn leave_unfit(&mut self, leaves_unfit: bool)
+        ensures { self.new ≡ record self.old { leaves_unfit = leaves_unfit } }
+    {
+        self.leaves_unfit = leaves_unfit;
+    }
+
+    /// Whether all that was done is committed.
+    pub fn is_committed(&self) -> bool
+        ensures { IsTrue result ↔ self.now.loose.items ≡ [] }
+    {
+        self.loose.is_empty()
     }
 
     /// The table.
@@ -92,6 +126,8 @@ impl<T: Table + Drop> Rows<T> {
         ensures ok { OnOk result (rows_of self.new.loose.items
             ≡ rows_of self.old.loose.items ++ row_in self.old.columns.items (pair_of entry.now) ∷ []) }
         ensures err { OnErr result (self.new.loose.items ≡ self.old.loose.items) }
+        ensures why { IfErr result (IsFaultOf self.old.columns.items (pair_of entry.now)) }
+        ensures counts { (self.new.leaves_unfit ≡ self.old.leaves_unfit) × (self.new.seen ≡ self.old.seen) }
         ensures table { self.new.table ≡ self.old.table }
         ensures columns { self.new.columns ≡ self.old.columns }
     {
@@ -119,6 +155,12 @@ impl<T: Table + Drop> Handler for Rows<T> {
         ensures table { self.new.table ≡ self.old.table }
         ensures columns { self.new.columns ≡ self.old.columns }
         ensures undone { result ≡ Verdict.Stop → IfSome self.new.undone (λ id. string_bytes id ≡ (pair_of entry.now).0) }
+        ensures seen { self.new.seen ≡ min (self.old.seen + 1) (2 ^ 64 - 1) }
+        ensures left { result ≡ Verdict.LeavePending → (self.old.leaves_unfit ≡ true)
+            × IsSomeAnd self.new.fault (IsUnfitFor self.old.columns.items (pair_of entry.now)) }
+        ensures stops { result ≡ Verdict.Stop → self.old.leaves_unfit ≡ true
+            → IsSomeAnd self.new.fault (λ fault. is_unfit fault ≡ false) }
+        ensures goes_on { self.new.leaves_unfit ≡ self.old.leaves_unfit }
     {
         self.seen = self.seen.saturating_add(1);
         match self.gather(alloc, entry) {
@@ -127,8 +169,13 @@ impl<T: Table + Drop> Handler for Rows<T> {
                 Verdict::Done
             }
             Err(fault) => {
+                let is_left = self.leaves_unfit && fault.is_unfit();
                 self.fault = Some(fault);
                 self.undone = String::from_str(alloc, entry.id()).ok();
+                if is_left {
+                    self.left = self.left.saturating_add(1);
+                    return Verdict::LeavePending;
+                }
                 Verdict::Stop
             }
         }

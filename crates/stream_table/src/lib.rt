@@ -22,4 +22,4 @@ mod sending;
 pub use fields::fields_text;
 pub use forwarding::Forwarding;
 pub use handler::{Fault, Rows};
-pub use sending::{PostError, SendError, send_posts};
+pub use sending::{PostError, SendError, send_posts, target_of};

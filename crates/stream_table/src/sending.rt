@@ -1,14 +1,15 @@
 //! What is queued for another stream, on its way there.
-ghost use Rattle.std.specs.Prelude.{◌≡◌, ◌⊎◌, false, true, IfOk, OnErr, OnOk};
+ghost use Rattle.std.specs.Prelude.{◌≡◌, ◌⊎◌, ℕ, List, false, true, IfOk, IfSome, OnErr, OnOk, string_bytes};
 ghost use Rattle.redis_resp.specs.Value.{tree};
+ghost use Rattle.redis_wire.specs.Packed.{command_bytes};
 ghost use Rattle.redis_wire.specs.Reply.{answer};
 ghost use Rattle.row_table.specs.OfPost.{post_of};
 ghost use Rattle.row_table.specs.Rows.{LeavesNoOther};
-ghost use Rattle.stream_table.specs.Forwarded.{AsksBy, HasSent, IsAdded, LeavesSent, has_entry, is_taken, is_too_small, shows_one};
+ghost use Rattle.stream_table.specs.Forwarded.{AsksBy, HasSent, IsAdded, LeavesSent, has_entry, is_taken, is_too_small, look_words, shows_one};
 
 use redis_connection::{Connection, ConnectionError};
 use redis_resp::Value;
-use redis_wire::{Reply, ServerError};
+use redis_wire::{Reply, ServerError, pack_command};
 use row_table::{Post, TableError, WithOutbox};
 use std::alloc::Global;
 use std::io::{Read, Write};
@@ -29,6 +30,8 @@ pub enum SendError {
     Post {
         first: u64,
         second: u64,
+        /// The stream to which its command goes, if there was memory to read it.
+        target: Option<String>,
         error: PostError,
     },
 }
@@ -124,6 +127,7 @@ fn send_each<T: WithOutbox, R: Read + Drop, W: Write + Drop>(
             return Ok(Err(SendError::Post {
                 first: post.first,
                 second: post.second,
+                target: target_of(alloc, &post),
                 error,
             }));
         }
@@ -131,6 +135,25 @@ fn send_each<T: WithOutbox, R: Read + Drop, W: Write + Drop>(
         *sent = sent.saturating_add(1);
     }
     Err(TableError::Refused("too many posts"))
+}
+
+/// The stream to which the command of a post goes: that of its question, if this is `XRANGE target id id`, made of the
+/// id of the post. None also if memory runs out.
+pub fn target_of(alloc: Global, post: &Post) -> Option<String>
+    ensures { IfSome result (λ target. (id : List ℕ) × ((post_of post.now).question
+        ≡ command_bytes (look_words (string_bytes target) id))) }
+{
+    let text = str::from_utf8(&post.question).ok()?;
+    let (length, rest) = text
+        .strip_prefix("*4\r\n$6\r\nXRANGE\r\n$")?
+        .split_once("\r\n")?;
+    let target = rest.get(..length.parse::<usize>().ok()?)?;
+    let id = format!(in alloc; "{}-{}", post.first, post.second).ok()?;
+    let question = pack_command(alloc, &("XRANGE", target, id.as_str(), id.as_str())).ok()?;
+    if question.as_slice() != post.question.as_slice() {
+        return None;
+    }
+    String::from_str(alloc, target).ok()
 }
 
 /// Sends a post: the server takes its command, or an entry of its id is there.

@@ -15,6 +15,9 @@ All other options are those of stream_sqlite, which 'jagyerti sqlite -- --help' 
 SIGTERM and SIGINT end it cleanly: the batch in hand is committed and acknowledged, and the status is 0. A second signal
 ends it at once. Nothing is lost by that: the batch in hand comes again, and no row is there twice.
 
+--dead N STREAM leaves entries that fit no row pending, and the others of their batch go on. Those that were delivered N
+times or more go to STREAM, where 'jagyerti dead' lists them.
+
 A stream with partitions over a Redis Cluster is for 'jagyerti drain' and 'jagyerti fill': there is no --cluster here.
 
 exit status: as that of 'jagyerti drain'.

@@ -5,24 +5,26 @@ ghost use Rattle.stream_sqlite.specs.Forwards.{AllWent, Ends, Forwards};
 ghost use Rattle.stream_table.specs.Lived.{Leads};
 ghost use Rattle.stream_worker.specs.Session.{standing_of};
 
-use super::{broken_off, goes_on};
+use super::{broken_off, goes_on, look, say_left};
 use crate::report::Report;
 use anyhow::{Error, Result, anyhow, bail};
 use redis_connection::Connection;
 use row_table::WithOutbox;
 use std::alloc::Global;
 use std::io::{Read, Write};
+use stream_letters::DeadLetterSearch;
 use stream_table::{Forwarding, SendError};
 use stream_worker::{Asked, Handler, Worker};
 
 /// Drains until something fails, or until a read finds nothing new if that is asked for. Before each round it sends on
 /// what is committed, so nothing is left to send as it ends without an error.
-pub fn forward<R: Read + Drop, W: Write + Drop, T: WithOutbox + Drop>(
-    alloc: Global,
+pub fn forward<R: Read + Drop, W: Write + Drop, T: WithOutbox + Drop, P: Eprint + AllocGlobal>(
+    rt: &P,
     connection: &mut Connection<R, W>,
     worker: &mut Worker,
     rows: &mut Forwarding<T>,
     report: &mut Report,
+    dead: &mut Option<DeadLetterSearch>,
     until_empty: bool,
 ) -> Result<()>
     ensures ended { IfOk result (λ _. IsTrue until_empty) }
@@ -35,9 +37,10 @@ pub fn forward<R: Read + Drop, W: Write + Drop, T: WithOutbox + Drop>(
         (standing_of worker.old (⟦<Forwarding<T> as Handler>⟧.history rows.old))
         (standing_of worker.new (⟦<Forwarding<T> as Handler>⟧.history rows.new))) }
 {
+    let mut asked = Asked::Nothing;
     for _ in 0..u64::MAX {
         let seen = rows.seen;
-        let asked = pass(alloc, connection, worker, rows, report)?;
+        asked = pass(rt, connection, worker, rows, report, dead, asked)?;
         if until_empty && asked == Asked::New && rows.seen == seen {
             return Ok(());
         }
@@ -46,12 +49,14 @@ pub fn forward<R: Read + Drop, W: Write + Drop, T: WithOutbox + Drop>(
 }
 
 /// Sends on what is committed, and makes a round: what was asked.
-fn pass<R: Read + Drop, W: Write + Drop, T: WithOutbox + Drop>(
-    alloc: Global,
+fn pass<R: Read + Drop, W: Write + Drop, T: WithOutbox + Drop, P: Eprint + AllocGlobal>(
+    rt: &P,
     connection: &mut Connection<R, W>,
     worker: &mut Worker,
     rows: &mut Forwarding<T>,
     report: &mut Report,
+    dead: &mut Option<DeadLetterSearch>,
+    asked: Asked,
 ) -> Result<Asked>
     ensures settings { worker.new.settings ≡ worker.old.settings }
     ensures ok { OnOk result (Forwards worker.old.settings connection.old (T.committed rows.old.table)
@@ -63,8 +68,8 @@ fn pass<R: Read + Drop, W: Write + Drop, T: WithOutbox + Drop>(
         (standing_of worker.old (⟦<Forwarding<T> as Handler>⟧.history rows.old))
         (standing_of worker.new (⟦<Forwarding<T> as Handler>⟧.history rows.new))) }
 {
-    send(alloc, connection, rows)?;
-    turn(alloc, connection, worker, rows, report)
+    send(rt.alloc(), connection, rows)?;
+    turn(rt, connection, worker, rows, report, dead, asked)
 }
 
 /// Sends on what is committed.
@@ -84,25 +89,31 @@ fn send<R: Read + Drop, W: Write + Drop, T: WithOutbox + Drop>(
     }
 }
 
-/// Why not all was sent on to this stream.
+/// Why not all was sent on. Its own stream is named, if that of the command is not known.
 fn unsent(error: SendError, target: &str) -> Error {
     match error {
         SendError::Table(reason) => anyhow!("cannot send on to {target}: {reason}"),
         SendError::Post {
             first,
             second,
+            target: to,
             error: reason,
-        } => anyhow!("cannot send {first}-{second} on to {target}: {reason}"),
+        } => {
+            let target = to.as_ref().map_or(target, String::as_str);
+            anyhow!("cannot send {first}-{second} on to {target}: {reason}")
+        }
     }
 }
 
-/// Makes a round, and counts: what was asked.
-fn turn<R: Read + Drop, W: Write + Drop, T: WithOutbox + Drop>(
-    alloc: Global,
+/// Looks for entries to give up, makes a round, and counts: what was asked.
+fn turn<R: Read + Drop, W: Write + Drop, T: WithOutbox + Drop, P: Eprint + AllocGlobal>(
+    rt: &P,
     connection: &mut Connection<R, W>,
     worker: &mut Worker,
     rows: &mut Forwarding<T>,
     report: &mut Report,
+    dead: &mut Option<DeadLetterSearch>,
+    asked: Asked,
 ) -> Result<Asked>
     ensures settings { worker.new.settings ≡ worker.old.settings }
     ensures ok { OnOk result (Leads (Loops worker.old.settings) connection.old connection.new
@@ -112,10 +123,19 @@ fn turn<R: Read + Drop, W: Write + Drop, T: WithOutbox + Drop>(
         (standing_of worker.old (⟦<Forwarding<T> as Handler>⟧.history rows.old))
         (standing_of worker.new (⟦<Forwarding<T> as Handler>⟧.history rows.new))) }
 {
-    let asked = round(alloc, connection, worker, rows)?;
+    let left = rows.left;
+    look(
+        rt.alloc(),
+        connection,
+        dead,
+        asked,
+        rows.done > rows.committed,
+    )?;
+    let asked = round(rt.alloc(), connection, worker, rows)?;
     if asked == Asked::Acknowledgement {
         report.count(rows.committed);
     }
+    say_left(rt, left, rows.left, &rows.fault, &rows.undone)?;
     Ok(asked)
 }
 

@@ -1,0 +1,30 @@
+-- Commands between the rounds, by which entries are given up.
+use Rattle.redis_connection.specs.Link.{Link}
+use Rattle.stream_letters.specs.Besides.{Besides, BreaksBesides}
+use Rattle.stream_loop.proofs.ShownLemmas as shown
+use Rattle.stream_loop.specs.Loop.{Loops, Stops}
+use Rattle.stream_table.proofs.LivedLemmas.{leads_both, leads_stop, rows_picture}
+use Rattle.stream_table.specs.Kept.{Kept, committed_with, kept_of, kept_too}
+use Rattle.stream_table.specs.Lived.{Leads}
+use Rattle.stream_worker.specs.Session.{Standing}
+use Rattle.stream_worker.specs.declared.state.Settings.{Settings}
+
+leads_besides : (settings : Settings) (old new : Link) (w : Standing Kept) → Besides old new
+    → Leads (Loops settings) old new w w
+leads_besides settings old new w a =
+    shown.leads_besides kept_too committed_with kept_of rows_picture settings old new w a
+
+pub leads_breaks : (settings : Settings) (old new : Link) (w : Standing Kept) → BreaksBesides old new
+    → Leads (Stops settings) old new w w
+leads_breaks settings old new w a =
+    shown.leads_breaks kept_too committed_with kept_of rows_picture settings old new w a
+
+-- it looked, and then a round went on
+pub looked_on : (settings : Settings) (old m new : Link) (w x : Standing Kept) → Besides old m
+    → Leads (Loops settings) m new w x → Leads (Loops settings) old new w x
+looked_on settings old m new w x a b = leads_both settings old m new w w x (leads_besides settings old m w a) b
+
+-- it looked, and then a round stopped
+pub looked_stops : (settings : Settings) (old m new : Link) (w x : Standing Kept) → Besides old m
+    → Leads (Stops settings) m new w x → Leads (Stops settings) old new w x
+looked_stops settings old m new w x a b = leads_stop settings old m new w w x (leads_besides settings old m w a) b
