@@ -20,7 +20,7 @@ import man_pages
 from jagyerti.cli import completions, make_parser
 
 # The one that takes longest to build is the first.
-PROGRAMS = ("stream_sqlite", "stream_drain", "stream_top", "stream_fill", "stream_serve")
+PROGRAMS = ("stream_sqlite", "stream_drain", "stream_run", "stream_top", "stream_fill", "stream_serve")
 LIBRARY, SONAME = "redis_c", "libredis_c.so.0"
 # Those that take options, and have --help and --version.
 OPTIONED = PROGRAMS[:-1]
@@ -43,17 +43,16 @@ Cflags: -I${{includedir}}
 Libs: -L${{libdir}} -Wl,-rpath,${{libdir}} -lredis_c
 """
 UNIT = """\
-# /etc/jagyerti/NAME.env has the settings of jagyerti-drain@NAME.service: REDIS_URL, KEY, GROUP, CONSUMER and FILE, and
-# in OPTIONS others of 'jagyerti drain'. A FILE that is no absolute path is in /var/lib/jagyerti.
+# /etc/jagyerti/NAME.env has the settings of jagyerti-{name}@NAME.service: {settings}
 [Unit]
-Description=Drain of a Redis stream into a file (%i)
-Documentation=man:jagyerti-drain(1)
+Description={about} (%i)
+Documentation=man:jagyerti-{name}(1)
 Wants=network-online.target
 After=network-online.target
 
 [Service]
 EnvironmentFile=/etc/jagyerti/%i.env
-ExecStart={prefix}/bin/jagyerti drain ${{KEY}} ${{GROUP}} ${{CONSUMER}} ${{FILE}} $OPTIONS
+ExecStart={prefix}/bin/jagyerti {name} {words}
 Restart=on-failure
 RestartSec=5
 DynamicUser=yes
@@ -61,10 +60,20 @@ StateDirectory=jagyerti
 WorkingDirectory=%S/jagyerti
 ProtectSystem=strict
 ProtectHome=yes
-
+{more}
 [Install]
 WantedBy=multi-user.target
 """
+# Of each unit: what it is, its settings, the words of its command, and what else systemd has to know.
+UNITS = {
+    "drain": ("Drain of a Redis stream into a file", "REDIS_URL, KEY, GROUP, CONSUMER and FILE, and\n"
+              "# in OPTIONS others of 'jagyerti drain'. A FILE that is no absolute path is in /var/lib/jagyerti.",
+              "${KEY} ${GROUP} ${CONSUMER} ${FILE} $OPTIONS", ""),
+    # Only the command itself is to get the signal: it lets the job in hand end.
+    "run": ("Jobs of a Redis stream", "REDIS_URL, KEY, GROUP, CONSUMER and COMMAND, and\n"
+            "# in OPTIONS others of 'jagyerti run'.",
+            "${KEY} ${GROUP} ${CONSUMER} $OPTIONS -- $COMMAND", "KillMode=mixed\nTimeoutStopSec=60\n"),
+}
 
 
 class Entry(NamedTuple):
@@ -273,9 +282,11 @@ def shell_files(build: Build, programs: Dict[str, str]) -> Iterator[tuple[str, s
         yield f"share/man/man1/{name}.1", man_pages.write_of_help(name, said, build.version, build.time)
 
 
-def unit(prefix: str) -> Entry:
-    """Returns the unit of systemd for `jagyerti drain`."""
-    return Entry(UNIT.format(prefix=prefix).encode())
+def units(prefix: str) -> Tree:
+    """Returns the units of systemd by their paths, for commands below this prefix."""
+    return {f"lib/systemd/system/jagyerti-{name}@.service":
+            Entry(UNIT.format(name=name, about=about, settings=settings, words=words, more=more, prefix=prefix).encode())
+            for name, (about, settings, words, more) in UNITS.items()}
 
 
 def describe_proofs(build: Build, tree: Tree) -> str:

@@ -1,15 +1,10 @@
 """The partitions of a stream over a Redis Cluster: a process and a program for each, and a table of them."""
 from __future__ import annotations
 
-import contextlib
 import dataclasses
-import json
 import os
-import random
 import re
-import select
 import signal
-import sys
 import time
 from types import FrameType
 from typing import Any, Callable, Dict, List, Optional, Sequence
@@ -17,8 +12,9 @@ from typing import Any, Callable, Dict, List, Optional, Sequence
 from . import cluster, connect, partitions, resp
 from .connect import FAILED, Failed
 from .metrics import MetricsFile, Row
-from .process import HELD, die_with_parent
+from .process import HELD
 from .retry import PASSING, SAME_SERVER, Pauses
+from .team import State, Team, Tell
 from .tries import Plan, Stopped, Tries
 from .url import Address
 
@@ -27,8 +23,6 @@ ANSWERED = "the server answers "
 BROKE = re.compile("the server closed the connection|cannot (read from|write to) the server")
 HEAD = ("PARTITION", "NODE", "STATE", "ENTRIES", "TO COME", "PENDING", "STARTS", "MOVED", "ASK", "WAITS")
 COLUMNS = ("entries", "to_come", "pending", "starts", "moved", "ask", "waits")
-
-State = Dict[str, Any]
 
 
 @dataclasses.dataclass(frozen=True)
@@ -193,10 +187,8 @@ class Fleet:
     def __init__(self, plan: Plan, share: Share) -> None:
         self.plan, self.share, self.signals = plan, share, 0
         self.nodes = cluster.Nodes(open_node(plan), [(one.host, one.port) for one in plan.servers])
-        self.rows: Dict[int, State] = {}
-        self.children: Dict[int, int] = {}
-        self.ended: Dict[int, int] = {}
-        self.left, self.shown, self.pipe, self.is_torn = b"", "", -1, False
+        self.team = Team(share.mine, self._serve)
+        self.shown, self.is_torn = "", False
         self.metrics = MetricsFile(plan.metrics, plan.metrics_prefix, plan.say) if plan.metrics else None
 
     def run_to_the_end(self) -> int:
@@ -206,35 +198,32 @@ class Fleet:
         try:
             self._prepare()
             self._refuse_more()
-            self._start()
+            self.team.start()
         except Stopped:
             return 0
         due = time.monotonic() + 1
-        while self.children:
-            self._take_rows(0.2)
-            self._reap()
+        while self.team.children:
+            self.team.take_rows(0.2)
+            self.team.reap()
             if time.monotonic() >= due:
                 self._write_metrics()
                 if not self.plan.is_quiet:
                     self._show()
                 due = time.monotonic() + 1
-        while self._take_rows(0):
+        while self.team.take_rows(0):
             pass
         self._show()
         self._write_metrics()
         if self.is_torn:
             self.plan.say("the last line has no end, and is not added")
-        wrong = [self.ended[at] for at in self.share.mine if self.ended[at]]
-        return wrong[0] if wrong else FAILED if self.is_torn and not self.signals else 0
+        return self.team.worst() or (FAILED if self.is_torn and not self.signals else 0)
 
     def take_signal(self, _number: int, _frame: Optional[FrameType]) -> None:
         """Passes SIGTERM and SIGINT on to all partitions."""
         self.signals += 1
-        if not self.children:
+        if not self.team.children:
             raise Stopped
-        for child in list(self.children):
-            with contextlib.suppress(ProcessLookupError):
-                os.kill(child, signal.SIGTERM)
+        self.team.pass_on()
 
     def _prepare(self) -> None:
         """Splits the file that is to be brought in. Refuses another number of partitions than there was."""
@@ -270,68 +259,22 @@ class Fleet:
         if is_there:
             raise Failed(f"there are more than {self.share.number} partitions: the cluster has {key}")
 
-    def _start(self) -> None:
-        """Starts a process for each partition, which is killed if this one ends."""
-        self.pipe, given = os.pipe()
-        mine = os.getpid()
-        signal.pthread_sigmask(signal.SIG_BLOCK, HELD)
-        for at in self.share.mine:
-            child = os.fork()
-            if child == 0:
-                status = FAILED
-                try:
-                    die_with_parent(mine)
-                    os.setpgid(0, 0)
-                    os.close(self.pipe)
-                    status = self._serve(at, given)
-                except BaseException:
-                    sys.excepthook(*sys.exc_info())
-                os._exit(status)
-            self.children[child] = at
-        os.close(given)
-        signal.pthread_sigmask(signal.SIG_UNBLOCK, HELD)
-
-    def _serve(self, at: int, given: int) -> int:
+    def _serve(self, at: int, tell: Tell) -> int:
         """Runs a partition, in the process of its own."""
-        random.seed()
         words = words_of_partition(self.plan.program_words()[1:], self.share.place, at)
         plan = dataclasses.replace(self.plan, words=words, metrics=None)
-
-        def tell(state: State) -> None:
-            os.write(given, json.dumps(state).encode() + b"\n")
-
         one = Partition(plan, at, self.nodes, tell, self.share.by is not None)
         for held in HELD:
             signal.signal(held, one.take_signal)
         signal.pthread_sigmask(signal.SIG_UNBLOCK, HELD)
         return one.run_to_the_end()
 
-    def _take_rows(self, seconds: float) -> bool:
-        """Takes what partitions report within these seconds. Returns whether anything came."""
-        if not select.select([self.pipe], [], [], seconds)[0]:
-            return False
-        piece = os.read(self.pipe, 65536)
-        *lines, self.left = (self.left + piece).split(b"\n")
-        for line in lines:
-            row = json.loads(line)
-            self.rows[row["at"]] = row
-        return bool(piece)
-
-    def _reap(self) -> None:
-        """Takes the status of each process that ended."""
-        while self.children:
-            child, status = os.waitpid(-1, os.WNOHANG)
-            if child == 0:
-                return
-            if child in self.children:
-                self.ended[self.children.pop(child)] = _exit_code(status)
-
     def _show(self) -> None:
         """Shows the table, if it changed."""
         rows = []
         for at in self.share.mine:
-            row = self.rows.get(at) or {}
-            state = f"ended with {self.ended[at]}" if at in self.ended else row.get("state", "begins")
+            row = self.team.rows.get(at) or {}
+            state = f"ended with {self.team.ended[at]}" if at in self.team.ended else row.get("state", "begins")
             name = cluster.partition_name(self.plan.words[0], at)
             rows.append([name, row.get("node") or "", state, *(row.get(column) for column in COLUMNS)])
         shown = table(rows)
@@ -343,12 +286,8 @@ class Fleet:
         """Writes the figures of all partitions, if they are wanted."""
         if self.metrics is not None:
             rows: List[Row] = [([cluster.partition_name(self.plan.words[0], at), *self.plan.words[1:]],
-                                (self.rows.get(at) or {}).get("figures") or {}) for at in self.share.mine]
+                                (self.team.rows.get(at) or {}).get("figures") or {}) for at in self.share.mine]
             self.metrics.write(rows)
-
-
-def _exit_code(status: int) -> int:
-    return os.WEXITSTATUS(status) if os.WIFEXITED(status) else 128 + os.WTERMSIG(status)
 
 
 def table(rows: Sequence[Sequence[Any]]) -> str:

@@ -19,6 +19,9 @@ FIGURES = (
     ("to_come", "gauge", "Entries that the group has not read yet."),
     ("pending", "gauge", "Entries that were delivered and not acknowledged."),
 )
+# Those of 'jagyerti run' alone.
+MORE_FIGURES = (("later", "counter", "Replies that left a job pending."),
+                ("timeouts", "counter", "Jobs that took longer than --job-timeout."),)
 COUNTS = {"entries": "entr(?:y|ies)", "batches": "batch(?:es)?", "dead_letters": "dead letters?"}
 BACKLOG = {"to_come": "to come", "pending": "pending"}
 LABELS = ("stream", "group", "consumer")
@@ -44,11 +47,14 @@ class Figures:
 
     def take(self, line: str) -> None:
         """Takes a line of counts, as in '7 entries in 2 batches, 3 to come, 1 pending'."""
-        counts = {name: found_number(line, text) for name, text in COUNTS.items()}
+        self.set({name: found_number(line, text) for name, text in COUNTS.items()})
+        self.backlog = {name: found_number(line, text) for name, text in BACKLOG.items()}
+
+    def set(self, counts: Dict[str, Optional[int]]) -> None:
+        """Takes the counts of the run. Those that are not known stay as they are."""
         if (counts["entries"] or 0) > self.now["entries"]:
             self.last_entry = f"{time.time():.3f}"
         self.now.update((name, count) for name, count in counts.items() if count is not None)
-        self.backlog = {name: found_number(line, text) for name, text in BACKLOG.items()}
 
     def all(self) -> Dict[str, Value]:
         """Returns each figure; one that is not known is None or missing."""
@@ -64,7 +70,8 @@ def found_number(line: str, text: str) -> Optional[int]:
 def render(prefix: str, rows: Sequence[Row]) -> str:
     """Returns the figures of streams as OpenMetrics. A row is KEY, GROUP and CONSUMER, and the figures."""
     text = ""
-    for name, kind, meaning in FIGURES:
+    more = [figure for figure in MORE_FIGURES if any(figure[0] in figures for _, figures in rows)]
+    for name, kind, meaning in (*FIGURES, *more):
         whole = f"{prefix}_{name}"
         unit = f"# UNIT {whole} seconds\n" if name.endswith("_seconds") else ""
         text += f"# TYPE {whole} {kind}\n{unit}# HELP {whole} {meaning}\n"

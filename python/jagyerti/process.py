@@ -109,10 +109,12 @@ class Run:
     It ignores SIGTERM and SIGINT, which come to the whole foreground group of a terminal, and is killed if this process
     ends. A read or a write of it fails after `silence` seconds, 0 for never. It is killed `grace` seconds after a stop,
     if that is a number. `restore_signals` is as that of Popen: without it SIGPIPE and SIGXFSZ are ignored, and errors.
+    `pipes` are file descriptors that it gets by their numbers, and that are closed here once it has started.
     """
 
-    def __init__(self, words: Sequence[str], connection: socket.socket, silence: float, timeout: float) -> None:
-        self.words, self.connection, self.stops = list(words), connection, 0
+    def __init__(self, words: Sequence[str], connection: socket.socket, silence: float, timeout: float,
+                 pipes: Sequence[int] = ()) -> None:
+        self.words, self.connection, self.stops, self.pipes = list(words), connection, 0, tuple(pipes)
         self.grace: Optional[float] = None
         self.restore_signals = False
         self.process: Optional[subprocess.Popen[bytes]] = None
@@ -137,9 +139,12 @@ class Run:
         try:
             self.process = subprocess.Popen(self.words, stdin=given.fileno(), stdout=given.fileno(),
                                             stderr=subprocess.PIPE, env=program_environment(), preexec_fn=prepare,
-                                            restore_signals=self.restore_signals)
+                                            pass_fds=self.pipes, restore_signals=self.restore_signals)
         except OSError as error:
             raise Failed(f"cannot run {self.words[0]}: {error}") from None
+        finally:
+            for pipe in self.pipes:
+                os.close(pipe)
         if self.bridge is not None:
             self.bridge.outer.close()
         assert self.process.stderr is not None

@@ -6,6 +6,7 @@ import dataclasses
 import os
 import re
 import signal
+import socket
 import time
 from types import FrameType
 from typing import Callable, Iterator, List, Optional, Sequence, Tuple
@@ -139,12 +140,12 @@ class Tries:
         signal.pthread_sigmask(signal.SIG_BLOCK, HELD)
         self.figures.begin()
         self.error, self.entries, self.held_counts, self.held_error = "", 0, "", ""
-        run = Run(self.plan.program_words(), connection, self.plan.silence, self.plan.options.timeout)
-        run.grace, run.restore_signals = self.plan.grace, self.plan.is_foreign
+        run = self.make_run(connection)
         sent_before = run.counts()[2]
         try:
             run.start(self.hear, self.write_metrics)
             self.run = run
+            self.begun(run)
             signal.pthread_sigmask(signal.SIG_UNBLOCK, HELD)
             if self.signals and not run.stops:
                 run.stop()
@@ -155,6 +156,15 @@ class Tries:
             run.close()
             signal.pthread_sigmask(signal.SIG_UNBLOCK, HELD)
         return self._outcome(status, silent, sent > sent_before)
+
+    def make_run(self, connection: socket.socket) -> Run:
+        """Returns a run of the program on this connection, which is not started yet."""
+        run = Run(self.plan.program_words(), connection, self.plan.silence, self.plan.options.timeout)
+        run.grace, run.restore_signals = self.plan.grace, self.plan.is_foreign
+        return run
+
+    def begun(self, run: Run) -> None:
+        """Is called when the program of a run has started."""
 
     def hear(self, line: str) -> bool:
         """Takes a line that the program printed. Returns whether it is to be shown now."""

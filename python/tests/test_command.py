@@ -27,7 +27,9 @@ SLOW = "time.sleep(0.5); " + CLOSED
 STAYS = 'print("stays", file=sys.stderr, flush=True); time.sleep(60)'
 
 
-class Command(unittest.TestCase):
+class Running(unittest.TestCase):
+    """A command that runs, a folder, and a port to which it connects."""
+
     def setUp(self):
         stack = contextlib.ExitStack()
         self.addCleanup(stack.close)
@@ -53,6 +55,8 @@ class Command(unittest.TestCase):
         self.addCleanup(running.kill)
         return running
 
+
+class Command(Running):
     def started(self, then, *words):
         """Starts a drain by this program. It is ready when this returns."""
         running = self.start("drain", "--program", self.fake(then), self.url, "k", "g", "c", "f", *words)

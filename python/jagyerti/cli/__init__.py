@@ -15,7 +15,7 @@ from .. import hide, version
 from ..connect import USAGE, Failed
 from ..url import UrlError
 
-NAMES = ("drain", "fill", "sqlite", "top", "serve", "connect", "dead", "doctor", "demo", "completions")
+NAMES = ("run", "drain", "fill", "sqlite", "top", "serve", "connect", "dead", "doctor", "demo", "completions")
 
 EPILOG = """\
 URL is redis://[user[:password]@]host[:port][/database], rediss:// for TLS, or unix://[user:password@]/path[?db=N], as

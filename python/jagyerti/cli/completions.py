@@ -14,7 +14,7 @@ EXAMPLE = """\
 example: jagyerti completions bash > ~/.local/share/bash-completion/completions/jagyerti
 """
 # The subcommands that take the options of a program too.
-PROGRAMS = {"drain": "stream_drain", "fill": "stream_fill", "sqlite": "stream_sqlite"}
+PROGRAMS = {"run": "stream_run", "drain": "stream_drain", "fill": "stream_fill", "sqlite": "stream_sqlite"}
 # An option as a program prints it at --help.
 SHOWN = re.compile(r"^ +(?:(-\w), )?(--[\w-]+)((?: <\w+>)*) +(.*?)(?: \[possible values: (.*)\])?$", re.M)
 

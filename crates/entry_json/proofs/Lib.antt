@@ -1,0 +1,3 @@
+-- Lemmas.
+pub mod TokensLemmas
+pub mod SameLemmas

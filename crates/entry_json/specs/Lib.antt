@@ -1,0 +1,2 @@
+-- The fields of an entry as JSON.
+pub mod Fields

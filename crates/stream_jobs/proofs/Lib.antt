@@ -1,0 +1,5 @@
+-- Lemmas.
+mod TellLemmas
+mod PipesLemmas
+pub mod TalkLemmas
+mod AcknowledgedLemmas

@@ -1,0 +1,8 @@
+-- What the contracts speak of.
+pub mod LineOf
+pub mod VerdictOf
+pub mod Lines
+pub mod Steady
+pub mod Talk
+pub mod Tell
+pub mod Acknowledged

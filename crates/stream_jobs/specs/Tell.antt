@@ -1,0 +1,15 @@
+-- That a line tells its entry.
+use Rattle.std.specs.Prelude.{◌≡◌, ◌≢◌, List, ℕ}
+use Rattle.std.specs.List.{AllByRecursion}
+use Rattle.entry_json.specs.Fields.{AreOfBytes}
+use Rattle.stream_group.specs.Worker.{Entry}
+use Rattle.stream_in_place.specs.Sent.{Pairs}
+use Rattle.stream_jobs.specs.LineOf.{line_of}
+use Rattle.stream_jobs.specs.Lines.{HasNoEnd}
+
+-- the law: two entries with the same line, whose names and values are bytes, are the same, and of the same stream; and no
+-- line ends within a line
+pub record LinesTellEntries : Type 0 where
+  pub entry : (s t : List ℕ) (a b : Entry Pairs) → AreOfBytes a.1 → AreOfBytes b.1 → line_of s a ≡ line_of t b
+      → (s ≡ t) × (a ≡ b)
+  pub one_line : (s : List ℕ) (a : Entry Pairs) → HasNoEnd (line_of s a)

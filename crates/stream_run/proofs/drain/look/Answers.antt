@@ -1,0 +1,5 @@
+use Rattle.stream_letters.specs.Besides.{nothing}
+use Rattle.stream_run.proofs.drain.look.Goals as goal
+
+pub returns-in_default-clause-ok : goal.returns-in_default-clause-ok
+returns-in_default-clause-ok g c = nothing c.args.connection.now

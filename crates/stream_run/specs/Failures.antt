@@ -1,0 +1,11 @@
+-- Whose failure it is.
+use Rattle.stream_run.specs.declared.failure.Failure.{Failure}
+use Rattle.stream_run.specs.declared.failure.Failure.TheVariants.{Child, Unopened, Round, Search, Other}
+
+-- the child's
+abbrev pub IsOfChild : Failure → Type 0
+IsOfChild (Child e) = Unit {0}
+IsOfChild (Unopened e) = Unit {0}
+IsOfChild (Round e) = ⊥
+IsOfChild (Search e) = ⊥
+IsOfChild (Other e) = ⊥

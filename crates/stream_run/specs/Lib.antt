@@ -1,0 +1,4 @@
+-- What the program's contracts speak of.
+pub mod Report
+pub mod Failures
+pub mod Rounds

@@ -1,0 +1,39 @@
+-- The rounds of a worker whose handler talks with a child.
+use Rattle.std.specs.Prelude.{◌≡◌, ◌⊎◌, ℕ, List}
+use Rattle.redis_connection.specs.Link.{Link}
+use Rattle.stream_group.specs.Worker.{Id}
+use Rattle.stream_jobs.specs.Acknowledged.{Reaches}
+use Rattle.stream_jobs.specs.Talk.{Talk, committed, talked}
+use Rattle.stream_letters.specs.Besides.{Besides, BreaksBesides}
+use Rattle.stream_worker.specs.Pipelined.{FailsPipelined}
+use Rattle.stream_worker.specs.Session.{Standing, Turned}
+use Rattle.stream_worker.specs.declared.error.RunError.{RunError}
+use Rattle.stream_worker.specs.declared.state.Asked.{Asked}
+use Rattle.stream_worker.specs.declared.state.Settings.{Settings}
+use Rattle.stream_worker.specs.declared.worker.Progress.{Progress}
+
+module _ (settings : Settings) where
+  -- rounds over a connection, one after the other, and other commands between them
+  pub data Rounds : Link → Standing Talk → Link → Standing Talk → Type 0 where
+    ends : (l : Link) (w : Standing Talk) → Rounds l w l w
+    besides : (l m n : Link) (w x : Standing Talk) → Rounds l w m x → Besides m n → Rounds l w n x
+    turns : (l m n : Link) (w x y : Standing Talk) (q : Asked) (p : Progress) → Rounds l w m x
+        → Turned talked committed settings m n x y q p → Rounds l w n y
+
+  -- nothing more went out, or another command broke off, or a round did
+  abbrev pub Breaks : Link → Link → Standing Talk → Standing Talk → Type 0
+  Breaks old new w x = ((old ≡ new) × (w ≡ x)) ⊎ (((w ≡ x) × BreaksBesides old new)
+      ⊎ ((e : RunError) × FailsPipelined talked committed settings old new w x e))
+
+  -- such rounds, and then an end
+  pub record Stops (old new : Link) (w x : Standing Talk) : Type 0 where
+    pub between : Link
+    pub before : Standing Talk
+    pub rounds : Rounds old w between before
+    pub breaks : Breaks between new before x
+
+-- the law: where a worker stands after such rounds is a place that the law of `stream_jobs` speaks of
+abbrev pub RoundsAreReached : Type 0
+RoundsAreReached = (settings : Settings) (stream sent coming : List ℕ) (old new : Link) (w x : Standing Talk)
+    (deleted : List Id) → Reaches settings stream sent coming w deleted → Rounds settings old w new x
+    → (more : List Id) × Reaches settings stream sent coming x more

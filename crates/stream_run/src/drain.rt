@@ -1,0 +1,264 @@
+//! The loop of the program: it asks, and takes the answers.
+ghost use Rattle.std.specs.Prelude.{◌≡◌, ◌⊎◌, IfOk, IsTrue, None, OnErr, OnOk, false};
+ghost use Rattle.stream_letters.specs.Besides.{Besides, BreaksBesides};
+ghost use Rattle.stream_run.specs.Rounds.{Rounds, Stops};
+ghost use Rattle.stream_worker.specs.Session.{standing_of};
+
+use crate::failure::Failure;
+use crate::report::Report;
+use anyhow::{Error, anyhow};
+use redis_connection::{Connection, ConnectionError};
+use redis_wire::Fault as WireFault;
+use std::alloc::{AllocError, Global};
+use std::io::{Read, Write};
+use stream_jobs::{Fault, Jobs, Note, SteadyRead, SteadyWrite};
+use stream_letters::DeadLetterSearch;
+use stream_worker::{Asked, Handler, Pipelined, Round, RunError, Worker};
+
+/// The limit on what a connection holds, as `Limits::default` has it.
+const LARGEST: &str = "1 GiB";
+
+/// Drains until something fails, until the child replies `stop`, or until a read finds nothing new where that is asked
+/// for.
+pub fn drain<
+    R: Read + Drop,
+    W: Write + Drop,
+    C: SteadyRead + Drop,
+    D: SteadyWrite + Drop,
+    T: Eprint + AllocGlobal,
+>(
+    rt: &T,
+    connection: &mut Connection<R, W>,
+    worker: &mut Worker,
+    jobs: &mut Jobs<C, D>,
+    report: &mut Report,
+    dead: &mut Option<DeadLetterSearch>,
+    until_empty: bool,
+) -> Result<(), Failure>
+    ensures ended { IfOk result (λ _. IsTrue until_empty ⊎ IsTrue jobs.new.over) }
+    ensures ok { OnOk result (Rounds worker.old.settings connection.old
+        (standing_of worker.old (⟦<Jobs<C, D> as Handler>⟧.history jobs.old)) connection.new
+        (standing_of worker.new (⟦<Jobs<C, D> as Handler>⟧.history jobs.new))) }
+    ensures err { OnErr result (Stops worker.old.settings connection.old connection.new
+        (standing_of worker.old (⟦<Jobs<C, D> as Handler>⟧.history jobs.old))
+        (standing_of worker.new (⟦<Jobs<C, D> as Handler>⟧.history jobs.new))) }
+{
+    let mut asked = Asked::Nothing;
+    for _ in 0..u64::MAX {
+        let seen = jobs.seen;
+        asked = turn(rt, connection, worker, jobs, report, dead, asked)?;
+        if jobs.is_over() {
+            settle(rt.alloc(), connection, worker, jobs, report)?;
+            return ended(rt.alloc(), jobs);
+        }
+        if until_empty && asked == Asked::New && jobs.seen == seen {
+            return Ok(());
+        }
+    }
+    Err(anyhow!("the last turn came").into())
+}
+
+/// Looks for entries to give up, makes a round, or two with one write, shows the texts of the child and counts: what was
+/// asked last.
+fn turn<
+    R: Read + Drop,
+    W: Write + Drop,
+    C: SteadyRead + Drop,
+    D: SteadyWrite + Drop,
+    T: Eprint + AllocGlobal,
+>(
+    rt: &T,
+    connection: &mut Connection<R, W>,
+    worker: &mut Worker,
+    jobs: &mut Jobs<C, D>,
+    report: &mut Report,
+    dead: &mut Option<DeadLetterSearch>,
+    asked: Asked,
+) -> Result<Asked, Failure>
+    ensures settings { worker.new.settings ≡ worker.old.settings }
+    ensures ok { OnOk result (Rounds worker.old.settings connection.old
+        (standing_of worker.old (⟦<Jobs<C, D> as Handler>⟧.history jobs.old)) connection.new
+        (standing_of worker.new (⟦<Jobs<C, D> as Handler>⟧.history jobs.new))) }
+    ensures err { OnErr result (Stops worker.old.settings connection.old connection.new
+        (standing_of worker.old (⟦<Jobs<C, D> as Handler>⟧.history jobs.old))
+        (standing_of worker.new (⟦<Jobs<C, D> as Handler>⟧.history jobs.new))) }
+{
+    look(
+        rt.alloc(),
+        connection,
+        jobs.done > jobs.committed,
+        dead,
+        asked,
+    )?;
+    let made = round(rt.alloc(), connection, worker, jobs, dead.is_none())?;
+    let notes = jobs.take_notes(rt.alloc());
+    show_notes(rt, &notes)?;
+    if made.acknowledged || made.round.asked == Asked::Acknowledgement {
+        report.count(jobs.committed);
+    }
+    Ok(made.round.asked)
+}
+
+/// Looks for entries that were delivered too often, if they are given up.
+fn look<R: Read + Drop, W: Write + Drop>(
+    alloc: Global,
+    connection: &mut Connection<R, W>,
+    in_hand: bool,
+    dead: &mut Option<DeadLetterSearch>,
+    asked: Asked,
+) -> Result<(), Failure>
+    ensures ok { OnOk result (Besides connection.old connection.new) }
+    ensures err { OnErr result (BreaksBesides connection.old connection.new) }
+{
+    let Some(dead) = dead else {
+        return Ok(());
+    };
+    match dead.turn(alloc, connection, asked, in_hand) {
+        Ok(()) => Ok(()),
+        Err(error) => Err(Failure::Search(error)),
+    }
+}
+
+/// Makes a round, or two with one write if they may go together.
+///
+/// They may not if entries are given up: these are looked for between an acknowledgement and a claim.
+fn round<R: Read + Drop, W: Write + Drop, C: SteadyRead + Drop, D: SteadyWrite + Drop>(
+    alloc: Global,
+    connection: &mut Connection<R, W>,
+    worker: &mut Worker,
+    jobs: &mut Jobs<C, D>,
+    together: bool,
+) -> Result<Pipelined, Failure>
+    ensures settings { worker.new.settings ≡ worker.old.settings }
+    ensures ok { OnOk result (Rounds worker.old.settings connection.old
+        (standing_of worker.old (⟦<Jobs<C, D> as Handler>⟧.history jobs.old)) connection.new
+        (standing_of worker.new (⟦<Jobs<C, D> as Handler>⟧.history jobs.new))) }
+    ensures err { OnErr result (Stops worker.old.settings connection.old connection.new
+        (standing_of worker.old (⟦<Jobs<C, D> as Handler>⟧.history jobs.old))
+        (standing_of worker.new (⟦<Jobs<C, D> as Handler>⟧.history jobs.new))) }
+{
+    if together {
+        match worker.round_pipelined(alloc, connection, jobs) {
+            Ok(made) => Ok(made),
+            Err(error) => Err(broken_off(error)),
+        }
+    } else {
+        match worker.round(alloc, connection, jobs) {
+            Ok(round) => Ok(alone(round)),
+            Err(error) => Err(broken_off(error)),
+        }
+    }
+}
+
+/// A round that had a write of its own.
+fn alone(round: Round) -> Pipelined
+    ensures { result ≡ record { acknowledged = false; round = round } }
+{
+    Pipelined {
+        acknowledged: false,
+        round,
+    }
+}
+
+/// After the last entry: one more round if something is done and not acknowledged, which acknowledges it.
+fn settle<R: Read + Drop, W: Write + Drop, C: SteadyRead + Drop, D: SteadyWrite + Drop>(
+    alloc: Global,
+    connection: &mut Connection<R, W>,
+    worker: &mut Worker,
+    jobs: &mut Jobs<C, D>,
+    report: &mut Report,
+) -> Result<(), Failure>
+    ensures settings { worker.new.settings ≡ worker.old.settings }
+    ensures ok { OnOk result (Rounds worker.old.settings connection.old
+        (standing_of worker.old (⟦<Jobs<C, D> as Handler>⟧.history jobs.old)) connection.new
+        (standing_of worker.new (⟦<Jobs<C, D> as Handler>⟧.history jobs.new))) }
+    ensures err { OnErr result (Stops worker.old.settings connection.old connection.new
+        (standing_of worker.old (⟦<Jobs<C, D> as Handler>⟧.history jobs.old))
+        (standing_of worker.new (⟦<Jobs<C, D> as Handler>⟧.history jobs.new))) }
+{
+    if jobs.done <= jobs.committed {
+        return Ok(());
+    }
+    match worker.round(alloc, connection, jobs) {
+        Ok(_) => {
+            report.count(jobs.committed);
+            Ok(())
+        }
+        Err(error) => Err(broken_off(error)),
+    }
+}
+
+/// Why the handler said to stop; Ok if the child replied so.
+fn ended<C: SteadyRead + Drop, D: SteadyWrite + Drop>(
+    alloc: Global,
+    jobs: &Jobs<C, D>,
+) -> Result<(), Failure>
+    ensures replied { OnOk result ((jobs.now.fault ≡ None) × IsTrue jobs.now.over) }
+{
+    let id = match &jobs.undone {
+        Some(id) => id.as_str(),
+        None => "",
+    };
+    match &jobs.fault {
+        None if jobs.is_over() => Ok(()),
+        None => Err(anyhow!("the entry {id} was asked of after a stop").into()),
+        Some(Fault::Memory) => Err(anyhow!("out of memory for the entry {id}").into()),
+        Some(Fault::Unknown) => {
+            let line = shown(alloc, jobs.reply())?;
+            Err(Failure::Child(anyhow!(
+                "the child's reply to the entry {id} is not done, later, dead or stop: {line}"
+            )))
+        }
+        Some(fault) => Err(Failure::Child(anyhow!(
+            "the child has no reply to the entry {id}: {fault}"
+        ))),
+    }
+}
+
+/// Why a round failed.
+fn broken_off(error: RunError) -> Failure {
+    match error {
+        RunError::Receive {
+            error: ConnectionError::Fault(WireFault::Overfull),
+            ..
+        } => { anyhow!("an answer is larger than {LARGEST}: take a smaller --count").into() }
+        RunError::Receive {
+            error: ConnectionError::Memory,
+            ..
+        } => { anyhow!("out of memory for an answer: take a smaller --count").into() }
+        error => Failure::Round(error),
+    }
+}
+
+/// Shows each text, with its entry.
+fn show_notes<T: Eprint + AllocGlobal>(rt: &T, notes: &[Note]) -> Result<(), Error> {
+    for note in notes {
+        let text = shown(rt.alloc(), &note.text)?;
+        let id = shown(rt.alloc(), note.id.as_bytes())?;
+        let word = if note.dead { "dead" } else { "later" };
+        eprintln!(rt; "{id} {word}: {text}")?;
+    }
+    Ok(())
+}
+
+/// Bytes as a text, with `?` for each control character, and for what is not UTF-8.
+fn shown(alloc: Global, bytes: &[u8]) -> Result<String, AllocError> {
+    let Ok(text) = str::from_utf8(bytes) else {
+        return ascii_of(alloc, bytes);
+    };
+    let mut shown = String::new(alloc);
+    for letter in text.chars() {
+        shown.push(if letter.is_control() { '?' } else { letter })?;
+    }
+    Ok(shown)
+}
+
+/// Bytes as a text, with `?` for each byte that is no letter of ASCII.
+fn ascii_of(alloc: Global, bytes: &[u8]) -> Result<String, AllocError> {
+    let mut shown = String::new(alloc);
+    for byte in bytes {
+        let is_shown = (b' '..=b'~').contains(byte);
+        shown.push(if is_shown { char::from(*byte) } else { '?' })?;
+    }
+    Ok(shown)
+}

@@ -1,0 +1,39 @@
+//! Why the program ends before it is asked to.
+use anyhow::Error;
+use std::alloc::AllocError;
+use std::io;
+use stream_letters::SearchError;
+use stream_worker::RunError;
+use thiserror::Error as AnError;
+
+/// Why the program ends before it is asked to.
+#[derive(Debug, Drop, AnError)]
+pub enum Failure {
+    /// The child has no reply, for this reason.
+    #[error("{0}")]
+    Child(Error),
+    /// The pipes of the child cannot be opened.
+    #[error("cannot open the pipes of the other program: {0}")]
+    Unopened(io::Error),
+    /// A round broke off.
+    #[error("{0}")]
+    Round(RunError),
+    /// The search for dead letters broke off.
+    #[error("{0}")]
+    Search(SearchError),
+    /// Standard error failed, memory ran out, or the program could not begin.
+    #[error("{0}")]
+    Other(Error),
+}
+
+impl From<Error> for Failure {
+    fn from(error: Error) -> Failure {
+        Failure::Other(error)
+    }
+}
+
+impl From<AllocError> for Failure {
+    fn from(error: AllocError) -> Failure {
+        Failure::Other(Error::from(error))
+    }
+}

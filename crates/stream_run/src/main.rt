@@ -1,0 +1,173 @@
+//! Hands each entry of a stream to another program, in any language, for one consumer of a group, over a connection that
+//! is at its standard input and output. The other program, the child, reads lines from what is opened as `/dev/fd/4`
+//! here, and writes lines to what is opened as `/dev/fd/3`, if `--lines` and `--replies` name no other paths.
+//!
+//! For each entry the child reads one line, `{"id":"1-0","fields":[["name","value"],..],"stream":"orders"}`, and writes
+//! one:
+//!
+//! - `done`: the entry is acknowledged, with the others of its batch;
+//! - `later` or `later TEXT`: it stays pending, and is claimed again after the idle time;
+//! - `dead TEXT`: the same, and the text is shown on standard error;
+//! - `stop`: it stays pending, and the program ends with status 0.
+//!
+//! What was not replied `done` is not acknowledged. At the end it says on standard error what it did. It ends with 0 if
+//! `--until-empty` is there and nothing new came, with 2 if a word is wrong, with 4 if the child has no such reply, and
+//! else with 1 and the reason. `--help` tells its words.
+#![tactic(auto)]
+
+ghost use Rattle.std.specs.Prelude.{◌≡◌};
+ghost use Rattle.stream_run.specs.Failures.{IsOfChild};
+
+mod drain;
+mod failure;
+mod laws;
+mod options;
+mod report;
+
+use crate::drain::drain;
+use crate::failure::Failure;
+use crate::options::{Options, options_of};
+use crate::report::Report;
+use anyhow::{Error, Result};
+use command_lines::tell;
+use redis_connection::Connection;
+use redis_wire::Limits;
+use std::alloc::{AllocError, Global};
+use std::env;
+use std::fs::{File, OpenOptions};
+use std::io::{self, BufReader};
+use std::process::ExitCode;
+use stream_jobs::Jobs;
+use stream_letters::{DeadLetterSearch, GiveUp};
+use stream_worker::{Settings, Worker};
+
+/// The status if the child has no reply.
+const CHILD_FAILED: u8 = 4;
+
+fn main(rt: HostRuntime) -> Result<ExitCode> {
+    let words = words_of(&rt)?;
+    let options = match options_of(rt.alloc(), &words) {
+        Ok(options) => options,
+        Err(error) => return Ok(tell(rt.alloc(), &rt, &error)?),
+    };
+    match drain_by(&rt, options) {
+        Ok(()) => Ok(ExitCode::SUCCESS),
+        Err(failure) => {
+            show_failure(&rt, &failure)?;
+            Ok(ExitCode::from(status_of(&failure)))
+        }
+    }
+}
+
+/// The status of a failure: 4 if it is the child's, and else 1.
+fn status_of(failure: &Failure) -> u8
+    ensures child { IsOfChild failure.now → result ≡ 4 }
+    ensures other { (IsOfChild failure.now → ⊥) → result ≡ 1 }
+{
+    match failure {
+        Failure::Child(_) | Failure::Unopened(_) => CHILD_FAILED,
+        _ => 1,
+    }
+}
+
+/// Shows on standard error why the program ends, with `?` for each control character.
+fn show_failure(rt: &HostRuntime, failure: &Failure) -> Result<()> {
+    let text = format!(in rt.alloc(); "{failure}")?;
+    let text = masked(rt.alloc(), &text)?;
+    eprintln!(rt; "Error: {text}")?;
+    Ok(())
+}
+
+/// The text with `?` for each control character.
+fn masked(alloc: Global, text: &str) -> Result<String, AllocError> {
+    let mut shown = String::new(alloc);
+    for letter in text.chars() {
+        shown.push(if letter.is_control() { '?' } else { letter })?;
+    }
+    Ok(shown)
+}
+
+/// The words that the program is called with.
+fn words_of(rt: &HostRuntime) -> Result<Vec<String>> {
+    let mut words = Vec::new(rt.alloc());
+    for word in env::args(rt)?.skip(1) {
+        words.push(word)?;
+    }
+    Ok(words)
+}
+
+/// Drains as these options say, over standard input and output.
+fn drain_by(rt: &HostRuntime, options: Options) -> Result<(), Failure> {
+    let Options {
+        mut settings,
+        until_empty,
+        dead,
+        lines,
+        replies,
+    } = options;
+    let alloc = rt.alloc();
+    let stream = String::from_str(alloc, settings.key())?;
+    let mut jobs = Jobs::new(
+        alloc,
+        stream,
+        open_replies(rt, &replies)?,
+        open_lines(rt, &lines)?,
+    );
+    let mut connection = Connection::new(alloc, rt.reader(), io::writer(rt), Limits::default())?;
+    let mut dead = dead_of(alloc, &mut settings, dead)?;
+    let mut worker = Worker::new(alloc, settings);
+    let mut report = Report::new();
+    let ended = drain(
+        rt,
+        &mut connection,
+        &mut worker,
+        &mut jobs,
+        &mut report,
+        &mut dead,
+        until_empty,
+    );
+    report.left = jobs.left;
+    report.letters = dead.map(|dead| dead.letters());
+    show_report(rt, &report)?;
+    ended
+}
+
+/// Shows the counts at the end.
+fn show_report(rt: &HostRuntime, report: &Report) -> Result<()> {
+    eprintln!(rt; "{report}")?;
+    Ok(())
+}
+
+/// The lines that the child writes.
+fn open_replies(rt: &HostRuntime, path: &str) -> Result<BufReader<File>, Failure> {
+    match File::open(rt, path) {
+        Ok(file) => match BufReader::new(rt.alloc(), file) {
+            Ok(replies) => Ok(replies),
+            Err(error) => Err(Error::from(error).into()),
+        },
+        Err(error) => Err(Failure::Unopened(error)),
+    }
+}
+
+/// The lines that the child reads.
+fn open_lines(rt: &HostRuntime, path: &str) -> Result<File, Failure> {
+    let mut options = OpenOptions::new();
+    options.write(true);
+    match options.open(rt, path) {
+        Ok(file) => Ok(file),
+        Err(error) => Err(Failure::Unopened(error)),
+    }
+}
+
+/// What looks for entries that were delivered too often, where they are given up. Then those that come again are asked
+/// for one at a time.
+fn dead_of(
+    alloc: Global,
+    settings: &mut Settings,
+    to: Option<GiveUp>,
+) -> Result<Option<DeadLetterSearch>> {
+    match to {
+        Some(to) => Ok(Some(DeadLetterSearch::new(alloc, settings, to)?)),
+        None => Ok(None),
+    }
+}

@@ -1,0 +1,84 @@
+"""jagyerti run: any program handles the entries of a stream, by stream_run."""
+from __future__ import annotations
+
+import argparse
+import math
+import socket
+from typing import Any, List
+
+from ..connect import USAGE, Failed
+from ..handling import Crew, Handling
+from ..process import find_program
+from .drain import leading_words
+from .options import add_command, add_connection_options, add_run_options, make_plan, program_words, seconds, take_url
+
+TAKES_REST = True
+USAGE_LINE = "jagyerti run [URL] KEY GROUP [CONSUMER] [options] [options of stream_run] -- COMMAND WORDS .."
+TEXT = """\
+COMMAND reads a line for each entry on its standard input: {"id":"1-0","fields":[["name","value"]],"stream":"KEY"}. It
+replies with a line on its standard output: 'done', 'later TEXT', 'dead TEXT' or 'stop'. An entry is acknowledged after
+'done', and never before. One line is on the way at a time. What COMMAND prints on standard error is shown with the name
+of its consumer.
+
+All other options are those of stream_run, which 'jagyerti run -- --help' shows. CONSUMER is the host's name, if it is
+left out. With --processes N there are N commands, each with a stream_run, as CONSUMER.1 to CONSUMER.N.
+
+A command that ends is started again, after a growing pause if it replied to nothing. After five such ends in a row, each
+within ten seconds, this ends. So a job that ends each command needs --dead with a number up to 4.
+After a connection that broke it connects again, without end unless --retry says how often.
+
+The first SIGTERM or SIGINT lets the job in hand end, and the jobs of its batch, for at most --grace seconds. COMMAND gets
+SIGWINCH: one that takes it may reply 'stop' to the next line. Then all ends with status 0. A second signal ends it at
+once; jobs that were in hand come again.
+
+exit status: 0 after --until-empty, 'stop' or a signal; 1 if the server is not there or takes no login; 2 if words are
+wrong; 4 if COMMAND cannot be started, ends again and again, or gives a reply that is none.
+
+example: jagyerti run redis://127.0.0.1:6379 orders packers -- python3 pack.py
+"""
+
+
+def count(text: str) -> int:
+    """Reads a number of processes."""
+    if not text.isascii() or not text.isdecimal() or not 1 <= int(text) <= 1000:
+        raise argparse.ArgumentTypeError(f"{text}: wanted a number from 1 to 1000")
+    return int(text)
+
+
+def add_parser(subparsers: Any) -> None:
+    """Adds the subcommand."""
+    parser = add_command(subparsers, "run", "Runs a program of any language for each entry of a stream.", USAGE_LINE, TEXT)
+    add_connection_options(parser)
+    add_run_options(parser)
+    parser.set_defaults(retry=math.inf)
+    group = parser.add_argument_group("jobs")
+    group.add_argument("--processes", metavar="N", type=count, default=1, help="how many commands run side by side (1)")
+    group.add_argument("--job-timeout", metavar="SECONDS", type=seconds,
+                       help="a command that takes longer for a job is killed; the job stays pending")
+    group.add_argument("--grace", metavar="SECONDS", type=seconds, default=25.0,
+                       help="how long jobs in hand have after a signal (25)")
+    group.add_argument("--metrics", metavar="FILE", help="writes what it did into this file once a second, as OpenMetrics")
+    parser.add_argument("--program", metavar="FILE", help="the program, in place of the stream_run that is installed")
+
+
+def run(arguments: argparse.Namespace) -> int:
+    """Runs it. Returns the exit status."""
+    command, words = arguments.after, list(arguments.rest)
+    if not words:
+        # '-- --help' is the program's.
+        program_words(arguments, find_program("stream_run", arguments.program))
+    if not words or not command:
+        raise Failed("wanted: jagyerti run URL KEY GROUP [CONSUMER] -- COMMAND WORDS ..", USAGE)
+    url, words = take_url(words)
+    words = with_consumer(words)
+    plan = make_plan(arguments, find_program("stream_run", arguments.program), [*([url] if url else []), *words],
+                     metrics=arguments.metrics, metrics_prefix="stream_run")
+    return Crew(plan, Handling(command, arguments.job_timeout, arguments.grace), arguments.processes).run_to_the_end()
+
+
+def with_consumer(words: List[str]) -> List[str]:
+    """Returns the words of stream_run: the consumer is the host's name, if there is none."""
+    leading = leading_words(words)
+    if not 2 <= len(leading) <= 3:
+        raise Failed("wanted KEY GROUP, and CONSUMER if it is another than the host's name, before all options", USAGE)
+    return words if len(leading) == 3 else [*leading, socket.gethostname(), *words[2:]]

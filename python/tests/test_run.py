@@ -1,0 +1,180 @@
+"""jagyerti run: handlers that work, end, hang and are stopped, beside a program in place of stream_run."""
+import os
+import shutil
+import signal
+import subprocess
+import sys
+import time
+import unittest
+
+from jagyerti.process import PACKAGES
+
+from .test_command import Running
+
+HANDLERS = os.path.join(os.path.dirname(PACKAGES), "examples", "handlers")
+
+# Passes this many jobs to the handler, says its words and what it was replied, and waits for the end of its connection.
+FAKE = """#!{python} -I
+import os, sys
+words = sys.argv[1:]
+lines = open(words[words.index("--lines") + 1], "wb", buffering=0)
+replies = open(words[words.index("--replies") + 1], "rb")
+print("words", *words[:words.index("--lines")], file=sys.stderr, flush=True)
+for k in range(1, {jobs} + 1):
+    lines.write(b'{{"id":"%d-0","fields":[["k","%d"]],"stream":"k"}}\\n' % (k, k))
+    reply = replies.readline()
+    print("reply", k, reply, file=sys.stderr, flush=True)
+    if not reply:
+        print(f"done {{k - 1}}, batches 1, left pending 0\\nError: the handler's output ended", file=sys.stderr)
+        sys.exit(4)
+    if reply == b"stop\\n":
+        break
+while {waits} and os.read(0, 100):
+    pass
+print("done {jobs}, batches 1, left pending 0", file=sys.stderr)
+"""
+DONE = "import sys\nfor line in sys.stdin:\n    print('done', flush=True)\n"
+PYTHON = f"import sys\nsys.path.insert(0, {PACKAGES!r})\nfrom jagyerti import handler\n@handler\ndef handle(job):\n"
+
+
+class Run(Running):
+    def begin(self, handler, *words, jobs=2, waits=False):
+        """Starts 'jagyerti run' with this handler. Returns it; its connections are accepted by themselves."""
+        path = os.path.join(self.folder, "fake_run")
+        with open(path, "w", encoding="ascii") as file:
+            file.write(FAKE.format(python=sys.executable, jobs=jobs, waits=waits))
+        os.chmod(path, 0o755)
+        script = os.path.join(self.folder, "handler.py")
+        with open(script, "w", encoding="ascii") as file:
+            file.write(handler)
+        self.listener.listen(16)
+        return self.start("run", self.url, "k", "g", "--program", path, *words, "--", sys.executable, "-u", script)
+
+    def of_command(self, *command):
+        """Starts 'jagyerti run' with this command as the handler."""
+        path = os.path.join(self.folder, "fake_run")
+        with open(path, "w", encoding="ascii") as file:
+            file.write(FAKE.format(python=sys.executable, jobs=2, waits=False).replace('["k","%d"]', '["item","cup %d"]'))
+        os.chmod(path, 0o755)
+        self.listener.listen(16)
+        return self.start("run", self.url, "k", "g", "--program", path, "--", *command, PYTHONPATH=PACKAGES)
+
+    def said(self, running, status):
+        """Waits for its end, and returns what it said."""
+        _, said = running.communicate(timeout=60)
+        self.assertEqual(running.returncode, status, said)
+        return said.decode()
+
+    def test_each_line_is_replied_to(self):
+        said = self.said(self.begin(DONE), 0)
+        self.assertIn("reply 1 b'done\\n'\nreply 2 b'done\\n'\ndone 2, batches 1, left pending 0\n", said)
+
+    def test_consumers(self):
+        host = os.uname().nodename
+        self.assertIn(f"words k g {host}\n", self.said(self.begin(DONE), 0))
+        said = self.said(self.begin(DONE, "--count", "3", "--processes", "2"), 0)
+        self.assertIn(f"words k g {host}.1 --count 3\n", said)
+        self.assertIn(f"words k g {host}.2 --count 3\n", said)
+        self.assertIn("KEY GROUP", self.said(self.start("run", self.url, "k", "--", "true"), 2))
+        self.assertIn("wanted: jagyerti run", self.said(self.start("run", self.url, "k", "g"), 2))
+
+    def test_what_it_prints_has_the_name_of_its_consumer(self):
+        said = self.said(self.begin(DONE + "print('ends', file=sys.stderr)\n"), 0)
+        self.assertIn(f"{os.uname().nodename}: ends\n", said)
+
+    def test_a_handler_that_ends_at_once_is_started_five_times(self):
+        said = self.said(self.begin("import sys\nsys.stdin.readline()\nsys.exit(3)\n", "--pause", "0.02"), 4)
+        self.assertEqual(said.count("the handler ended with 3"), 5)
+        self.assertIn("it ended 5 times in a row before any reply", said)
+
+    def test_a_handler_that_cannot_be_started(self):
+        running = self.start("run", self.url, "k", "g", "--program", self.fake(""), "--retry", "0", "--", "/no/such")
+        self.assertIn("cannot run /no/such", self.said(running, 1))
+
+    def test_a_handler_that_worked_is_started_again_at_once(self):
+        handler = ("import os, sys, time\nmark = sys.argv[0] + '.mark'\nsys.stdin.readline()\n"
+                   "if not os.path.exists(mark):\n    open(mark, 'w')\n    time.sleep(1.2)\n    os.kill(os.getpid(), 9)\n"
+                   "print('done', flush=True)\n" + DONE)
+        begun = time.monotonic()
+        said = self.said(self.begin(handler), 0)
+        self.assertIn("the handler was ended by SIGKILL", said)
+        self.assertLess(time.monotonic() - begun, 20)
+        self.assertEqual(said.count("words k g"), 2)
+
+    def test_a_job_that_takes_too_long(self):
+        handler = ("import os, sys, time\nmark = sys.argv[0] + '.mark'\nsys.stdin.readline()\n"
+                   "if not os.path.exists(mark):\n    open(mark, 'w')\n    time.sleep(50)\n"
+                   "print('done', flush=True)\n" + DONE)
+        said = self.said(self.begin(handler, "--job-timeout", "0.4", "--pause", "0.02"), 0)
+        self.assertIn("the job took more than 0.4 seconds", said)
+
+    def test_time_between_jobs_is_no_job(self):
+        running = self.begin(DONE, "--job-timeout", "3", waits=True)
+        connection, _ = self.listener.accept()
+        time.sleep(6)
+        connection.close()
+        self.assertNotIn("took more than", self.said(running, 0))
+
+    def test_the_examples(self):
+        built = os.path.join(self.folder, "pack")
+        commands = {"pack.py": [sys.executable], "pack.sh": ["sh"], "pack.js": ["node"]}
+        if shutil.which("cc"):
+            subprocess.run(["cc", "-o", built, os.path.join(HANDLERS, "pack.c")], check=True)
+            commands["pack.c"] = [built]
+        for name, command in commands.items():
+            if shutil.which(command[0]) is None:
+                continue
+            with self.subTest(name), open(os.path.join(HANDLERS, name), encoding="utf-8") as file:
+                self.assertLessEqual(len(file.readlines()), 15)
+                path = os.path.join(self.folder, name + ".txt")
+                script = [] if name == "pack.c" else [os.path.join(HANDLERS, name)]
+                said = self.said(self.of_command(*command, *script, path), 0)
+                self.assertIn("done 2, batches 1, left pending 0", said)
+                with open(path, encoding="utf-8") as packed:
+                    text = packed.read()
+                self.assertEqual([line for line in ("1-0", "2-0", "cup 1", "cup 2") if line not in text], [])
+
+    def test_metrics(self):
+        path = os.path.join(self.folder, "metrics")
+        self.said(self.begin(DONE, "--metrics", path), 0)
+        with open(path, encoding="utf-8") as file:
+            text = file.read()
+        self.assertIn("stream_run_entries_total{stream=\"k\",", text)
+        self.assertIn("} 2\n", text)
+        self.assertIn("stream_run_timeouts_total{", text)
+
+    def test_first_signal_lets_the_job_in_hand_end(self):
+        handler = PYTHON + "    import time\n    print('begins', job.id)\n    time.sleep(0.7)\nhandle.serve()\n"
+        running = self.begin(handler, jobs=50)
+        while b"begins 1-0" not in running.stderr.readline():
+            pass
+        running.send_signal(signal.SIGTERM)
+        said = self.said(running, 0)
+        self.assertIn("reply 1 b'done\\n'", said)
+        self.assertIn("reply 2 b'stop\\n'", said)
+        self.assertNotIn("begins 2-0", said)
+
+    def test_after_the_grace_the_handler_is_killed(self):
+        running = self.begin("import sys, time\nsys.stdin.readline()\nprint('begins', file=sys.stderr, flush=True)\ntime.sleep(60)\n",
+                             "--grace", "0.3")
+        while b"begins" not in running.stderr.readline():
+            pass
+        begun = time.monotonic()
+        running.send_signal(signal.SIGTERM)
+        self.said(running, 0)
+        self.assertLess(time.monotonic() - begun, 10)
+
+    def test_second_signal_ends_it_at_once(self):
+        running = self.begin("import sys, time\nsys.stdin.readline()\nprint('begins', file=sys.stderr, flush=True)\ntime.sleep(60)\n")
+        while b"begins" not in running.stderr.readline():
+            pass
+        running.send_signal(signal.SIGTERM)
+        time.sleep(0.3)
+        running.send_signal(signal.SIGTERM)
+        begun = time.monotonic()
+        running.communicate(timeout=60)
+        self.assertLess(time.monotonic() - begun, 10)
+
+
+if __name__ == "__main__":
+    unittest.main()
