@@ -56,21 +56,25 @@ fn main(rt: HostRuntime) -> Result<ExitCode> {
     };
     match drain_by(&rt, options) {
         Ok(()) => Ok(ExitCode::SUCCESS),
-        Err(error) => Err(masked(rt.alloc(), error)),
+        Err(error) => Err(mask_error(rt.alloc(), error)),
     }
 }
 
-/// The error with its text as it may be shown; the error itself if memory ran out.
-fn masked(alloc: Global, error: Error) -> Error {
-    match masked_text(alloc, &error) {
-        Ok(text) => Error::msg(text),
-        Err(_) => error,
+/// The error as it may be shown: one whose text has a control character is its masked text.
+fn mask_error(alloc: Global, error: Error) -> Error {
+    match mask_text(alloc, &error) {
+        Ok(Some(text)) => Error::msg(text),
+        Ok(None) | Err(_) => error,
     }
 }
 
-fn masked_text(alloc: Global, error: &Error) -> Result<String, AllocError> {
+/// The masked text of an error, if it differs from its text.
+fn mask_text(alloc: Global, error: &Error) -> Result<Option<String>, AllocError> {
     let text = format!(in alloc; "{error}")?;
-    format!(in alloc; "{}", Masked(&text))
+    if !text.chars().any(char::is_control) {
+        return Ok(None);
+    }
+    Ok(Some(format!(in alloc; "{}", Masked(&text))?))
 }
 
 /// The words that the program is called with.

@@ -2,6 +2,7 @@
 use std::fmt;
 
 /// A text, in which a control character, which could steer a terminal, is shown as `?`.
+#[derive(Clone, Copy)]
 pub struct Masked<'a>(pub &'a str);
 
 impl fmt::Display for Masked<'_> {
