@@ -1,2 +1,3 @@
 -- What the clauses of this crate cite.
 pub mod Numbers
+pub mod Worker

@@ -14,6 +14,10 @@ ghost use Rattle.clap.specs.declared.builder.ArgAction.TheVariants.{Set, SetTrue
 ghost use Rattle.clap.specs.declared.builder.value_parser.ValueParser.TheVariants as vp;
 ghost use Rattle.command_lines.specs.Numbers.{IsNumberIn, number_of};
 
+mod worker;
+
+pub use worker::{dead, give_up_of, settings_of};
+
 use clap::builder::ValueParser;
 use clap::error::ErrorKind;
 use clap::{Arg, ArgAction, ArgMatches, Command, Error};
@@ -389,6 +393,7 @@ pub fn wait_of(
     ensures value { IfOk result (λ found. (replicas milliseconds : List ℕ)
         → option_map raw_values (matched_of (found_of matches.now) (codes "wait"))
         ≡ Some (replicas ∷ milliseconds ∷ []) → found ≡ Some (number_of replicas, number_of milliseconds)) }
+    ensures none { IfOk result (λ found. matched_of (found_of matches.now) (codes "wait") ≡ None → found ≡ None) }
     ensures err { IfErr result (λ e. (kind_of e ≡ ErrorKind.ValueValidation)
         ⊎ (kind_of e ≡ ErrorKind.OutOfMemory)) }
 {

@@ -1,16 +1,20 @@
 //! The words that the program is called with.
-ghost use Rattle.std.specs.Prelude.{◌≤◌, length, IfOk, IfSome};
+ghost use Rattle.std.specs.Prelude.{◌≡◌, ◌≤◌, ◌∷◌, ◌⊎◌, [], ℕ, IfErr, IfOk, IsTrue, List, None, Some, codes, length, option_map};
+ghost use Rattle.clap.specs.Words.{found_of, kind_of, matched_of, raw_values};
+ghost use Rattle.command_lines.specs.Numbers.{number_of};
+ghost use Rattle.stream_drain.specs.Options.{AreOptions, wait_parts};
 
 use crate::resume::LARGEST_COUNT;
+use clap::error::ErrorKind;
 use clap::{ArgMatches, Command, Error};
 use command_lines::{
-    BLOCK, EVERY, IDLE, Number, command, flag, from, matches_of, name, pair, refused,
-    refused_value, wait, wait_of, word_of,
+    BLOCK, EVERY, IDLE, Number, command, dead, flag, from, give_up_of, matches_of, name, refused,
+    settings_of, wait, wait_of, word_of,
 };
 use std::alloc::{AllocError, Global};
 use stream_feed::Wait;
 use stream_letters::GiveUp;
-use stream_worker::{MakeGroup, Settings};
+use stream_worker::Settings;
 
 /// What the program is to do.
 #[derive(Drop)]
@@ -41,11 +45,6 @@ const COUNT: Number = Number {
     usual: "1000",
 };
 
-// The values of `--dead`, and how an error names it.
-static DEAD_VALUES: [&str; 2] = ["TIMES", "STREAM"];
-
-const DEAD: &str = "--dead <TIMES> <STREAM>";
-
 const LOOK_UP: &str =
     "Reads the whole file first, and writes no entry of it again, whatever the server hands out";
 
@@ -58,12 +57,24 @@ pub fn options_of(alloc: Global, words: &[String]) -> Result<Options, Error>
 {
     let mut command = command_of(alloc)?;
     let matches = matches_of(alloc, &mut command, words, 4)?;
-    let settings = settings_of(alloc, &mut command, &matches)?;
-    let dead = dead_of(alloc, &mut command, &matches)?;
-    let wait = waiting(alloc, &mut command, &matches, dead.is_some())?;
+    options_in(alloc, &mut command, &matches)
+}
+
+/// The options that a line asks for, by what was found in it.
+fn options_in(
+    alloc: Global,
+    command: &mut Command<'_>,
+    matches: &ArgMatches<'_>,
+) -> Result<Options, Error>
+    ensures ok { IfOk result (λ options. AreOptions (found_of matches.now) options) }
+    ensures err { IfErr result (λ e. (kind_of e ≡ ErrorKind.ValueValidation) ⊎ (kind_of e ≡ ErrorKind.OutOfMemory)) }
+{
+    let settings = settings_of(alloc, command, matches, &COUNT)?;
+    let dead = give_up_of(alloc, command, matches)?;
+    let wait = waiting(alloc, command, matches, dead.is_some())?;
     Ok(Options {
         settings,
-        path: String::from_str(alloc, word_of(&matches, "FILE"))?,
+        path: String::from_str(alloc, word_of(matches, "FILE"))?,
         until_empty: matches.get_flag("until-empty"),
         json: matches.get_flag("json"),
         look_up: matches.get_flag("look-up"),
@@ -97,10 +108,10 @@ fn with_numbers<'a>(alloc: Global, command: Command<'a>) -> Result<Command<'a>, 
 }
 
 fn with_flags<'a>(alloc: Global, command: Command<'a>) -> Result<Command<'a>, AllocError> {
-    let dead =
+    let help =
         "Entries that were delivered so many times, 1 at least, go to this stream of dead letters";
     command
-        .arg(pair(alloc, "dead", DEAD_VALUES.as_slice(), dead))?
+        .arg(dead(alloc, help))?
         .arg(flag(alloc, "json", "Each line is an object of JSON"))?
         .arg(flag(alloc, "look-up", LOOK_UP))?
         .arg(flag(alloc, "quiet", "Nothing is shown but the counts at the end"))?
@@ -112,85 +123,6 @@ fn with_flags<'a>(alloc: Global, command: Command<'a>) -> Result<Command<'a>, Al
         .arg(wait(alloc, WAIT))
 }
 
-/// The settings of a worker. Those that a line leaves out are the usual ones.
-fn settings_of(
-    alloc: Global,
-    command: &mut Command<'_>,
-    matches: &ArgMatches<'_>,
-) -> Result<Settings, Error> {
-    let mut settings = named(alloc, command, matches)?;
-    if let Some(count) = count_of(matches)
-        && let Err(error) = settings.set_count(count)
-    {
-        return Err(refused(alloc, command, &error));
-    }
-    set_times(&mut settings, matches);
-    match word_of(matches, "from") {
-        "0" => settings.set_make_group(MakeGroup::FromTheFirst),
-        "$" => settings.set_make_group(MakeGroup::FromNow),
-        _ => {}
-    }
-    Ok(settings)
-}
-
-/// The settings of a worker for these names.
-fn named(
-    alloc: Global,
-    command: &mut Command<'_>,
-    matches: &ArgMatches<'_>,
-) -> Result<Settings, Error> {
-    let key = String::from_str(alloc, word_of(matches, "KEY"))?;
-    let group = String::from_str(alloc, word_of(matches, "GROUP"))?;
-    let consumer = String::from_str(alloc, word_of(matches, "CONSUMER"))?;
-    match Settings::new(key, group, consumer) {
-        Ok(settings) => Ok(settings),
-        Err(error) => Err(refused(alloc, command, &error)),
-    }
-}
-
-/// How many entries at most are asked for at once: not more than what is acknowledged at the beginning.
-fn count_of(matches: &ArgMatches<'_>) -> Option<usize>
-    ensures { IfSome result (λ n. n ≤ LARGEST_COUNT) }
-{
-    Some(COUNT.of(matches)? as usize)
-}
-
-fn set_times(settings: &mut Settings, matches: &ArgMatches<'_>) {
-    if let Some(block) = BLOCK.of(matches) {
-        settings.set_block(block as usize);
-    }
-    if let Some(idle) = IDLE.of(matches) {
-        settings.set_min_idle(idle as usize);
-    }
-    if let Some(every) = EVERY.of(matches) {
-        settings.set_every(every as usize);
-    }
-}
-
-/// After how many deliveries entries are given up, and to which stream.
-fn dead_of(
-    alloc: Global,
-    command: &mut Command<'_>,
-    matches: &ArgMatches<'_>,
-) -> Result<Option<GiveUp>, Error> {
-    let Some([times, stream]) = matches.get_strs("dead") else {
-        return Ok(None);
-    };
-    let deliveries = match times.parse::<usize>() {
-        Ok(deliveries) if 0 < deliveries => deliveries,
-        _ => {
-            let reason = "TIMES is a number, 1 at least";
-            return Err(refused_value(alloc, command, times, DEAD, reason));
-        }
-    };
-    if *stream == word_of(matches, "KEY") {
-        let reason = "STREAM is another one than KEY";
-        return Err(refused_value(alloc, command, stream, DEAD, reason));
-    }
-    let stream = String::from_str(alloc, stream)?;
-    Ok(Some(GiveUp { deliveries, stream }))
-}
-
 /// How many replicas are to confirm what is asked, and how long it waits for them. Letters are not confirmed, so none
 /// are sent then.
 fn waiting(
@@ -198,7 +130,14 @@ fn waiting(
     command: &mut Command<'_>,
     matches: &ArgMatches<'_>,
     gives_up: bool,
-) -> Result<Option<Wait>, Error> {
+) -> Result<Option<Wait>, Error>
+    ensures given { IfOk result (λ wait. (replicas milliseconds : List ℕ)
+        → option_map raw_values (matched_of (found_of matches.now) (codes "wait")) ≡ Some (replicas ∷ milliseconds ∷ [])
+        → option_map wait_parts wait ≡ Some (number_of replicas, number_of milliseconds)) }
+    ensures left_out { IfOk result (λ wait. matched_of (found_of matches.now) (codes "wait") ≡ None → wait ≡ None) }
+    ensures alone { IsTrue gives_up → IfOk result (λ wait. wait ≡ None) }
+    ensures err { IfErr result (λ e. (kind_of e ≡ ErrorKind.ValueValidation) ⊎ (kind_of e ≡ ErrorKind.OutOfMemory)) }
+{
     let Some((replicas, milliseconds)) = wait_of(alloc, command, matches)? else {
         return Ok(None);
     };

@@ -1,4 +1,5 @@
 -- What the program's contracts speak of.
 pub mod Report
+pub mod Options
 pub mod Failures
 pub mod Rounds

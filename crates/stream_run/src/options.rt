@@ -1,14 +1,17 @@
 //! The words that the program is called with.
-ghost use Rattle.std.specs.Prelude.{◌≤◌, length, IfOk};
+ghost use Rattle.std.specs.Prelude.{◌≡◌, ◌≤◌, ◌⊎◌, length, IfErr, IfOk};
+ghost use Rattle.clap.specs.Words.{found_of, kind_of};
+ghost use Rattle.stream_run.specs.Options.{AreOptions};
 
+use clap::error::ErrorKind;
 use clap::{ArgMatches, Command, Error};
 use command_lines::{
-    BLOCK, EVERY, IDLE, Number, command, flag, from, matches_of, name, pair, refused,
-    refused_value, text, word_of,
+    BLOCK, EVERY, IDLE, Number, command, dead, flag, from, give_up_of, matches_of, name,
+    settings_of, text, word_of,
 };
 use std::alloc::{AllocError, Global};
 use stream_letters::GiveUp;
-use stream_worker::{MakeGroup, Settings};
+use stream_worker::Settings;
 
 /// What the program is to do.
 #[derive(Drop)]
@@ -37,23 +40,30 @@ const COUNT: Number = Number {
     usual: "10",
 };
 
-// The values of `--dead`, and how an error names it.
-static DEAD_VALUES: [&str; 2] = ["TIMES", "STREAM"];
-
-const DEAD: &str = "--dead <TIMES> <STREAM>";
-
 /// The options of these words.
 pub fn options_of(alloc: Global, words: &[String]) -> Result<Options, Error>
     ensures { IfOk result (λ _. 3 ≤ length words.now) }
 {
     let mut command = command_of(alloc)?;
     let matches = matches_of(alloc, &mut command, words, 3)?;
+    options_in(alloc, &mut command, &matches)
+}
+
+/// The options that a line asks for, by what was found in it.
+fn options_in(
+    alloc: Global,
+    command: &mut Command<'_>,
+    matches: &ArgMatches<'_>,
+) -> Result<Options, Error>
+    ensures ok { IfOk result (λ options. AreOptions (found_of matches.now) options) }
+    ensures err { IfErr result (λ e. (kind_of e ≡ ErrorKind.ValueValidation) ⊎ (kind_of e ≡ ErrorKind.OutOfMemory)) }
+{
     Ok(Options {
-        settings: settings_of(alloc, &mut command, &matches)?,
+        settings: settings_of(alloc, command, matches, &COUNT)?,
         until_empty: matches.get_flag("until-empty"),
-        dead: dead_of(alloc, &mut command, &matches)?,
-        lines: String::from_str(alloc, word_of(&matches, "lines"))?,
-        replies: String::from_str(alloc, word_of(&matches, "replies"))?,
+        dead: give_up_of(alloc, command, matches)?,
+        lines: String::from_str(alloc, word_of(matches, "lines"))?,
+        replies: String::from_str(alloc, word_of(matches, "replies"))?,
     })
 }
 
@@ -84,85 +94,13 @@ fn with_numbers<'a>(alloc: Global, command: Command<'a>) -> Result<Command<'a>, 
 }
 
 fn with_flags<'a>(alloc: Global, command: Command<'a>) -> Result<Command<'a>, AllocError> {
-    let dead =
+    let help =
         "Entries that were delivered so many times, 1 at least, go to this stream of dead letters";
     command
-        .arg(pair(alloc, "dead", DEAD_VALUES.as_slice(), dead))?
+        .arg(dead(alloc, help))?
         .arg(flag(
             alloc,
             "until-empty",
             "It ends with status 0 once a read finds nothing new",
         ))
-}
-
-/// The settings of a worker. Those that a line leaves out are the usual ones.
-fn settings_of(
-    alloc: Global,
-    command: &mut Command<'_>,
-    matches: &ArgMatches<'_>,
-) -> Result<Settings, Error> {
-    let mut settings = named(alloc, command, matches)?;
-    if let Some(count) = COUNT.of(matches)
-        && let Err(error) = settings.set_count(count as usize)
-    {
-        return Err(refused(alloc, command, &error));
-    }
-    set_times(&mut settings, matches);
-    match word_of(matches, "from") {
-        "0" => settings.set_make_group(MakeGroup::FromTheFirst),
-        "$" => settings.set_make_group(MakeGroup::FromNow),
-        _ => {}
-    }
-    Ok(settings)
-}
-
-/// The settings of a worker for these names.
-fn named(
-    alloc: Global,
-    command: &mut Command<'_>,
-    matches: &ArgMatches<'_>,
-) -> Result<Settings, Error> {
-    let key = String::from_str(alloc, word_of(matches, "KEY"))?;
-    let group = String::from_str(alloc, word_of(matches, "GROUP"))?;
-    let consumer = String::from_str(alloc, word_of(matches, "CONSUMER"))?;
-    match Settings::new(key, group, consumer) {
-        Ok(settings) => Ok(settings),
-        Err(error) => Err(refused(alloc, command, &error)),
-    }
-}
-
-fn set_times(settings: &mut Settings, matches: &ArgMatches<'_>) {
-    if let Some(block) = BLOCK.of(matches) {
-        settings.set_block(block as usize);
-    }
-    if let Some(idle) = IDLE.of(matches) {
-        settings.set_min_idle(idle as usize);
-    }
-    if let Some(every) = EVERY.of(matches) {
-        settings.set_every(every as usize);
-    }
-}
-
-/// After how many deliveries entries are given up, and to which stream.
-fn dead_of(
-    alloc: Global,
-    command: &mut Command<'_>,
-    matches: &ArgMatches<'_>,
-) -> Result<Option<GiveUp>, Error> {
-    let Some([times, stream]) = matches.get_strs("dead") else {
-        return Ok(None);
-    };
-    let deliveries = match times.parse::<usize>() {
-        Ok(deliveries) if 0 < deliveries => deliveries,
-        _ => {
-            let reason = "TIMES is a number, 1 at least";
-            return Err(refused_value(alloc, command, times, DEAD, reason));
-        }
-    };
-    if *stream == word_of(matches, "KEY") {
-        let reason = "STREAM is another one than KEY";
-        return Err(refused_value(alloc, command, stream, DEAD, reason));
-    }
-    let stream = String::from_str(alloc, stream)?;
-    Ok(Some(GiveUp { deliveries, stream }))
 }

@@ -1,3 +1,4 @@
 -- What the program's contracts speak of.
+pub mod Options
 pub mod Report
 pub mod Forwards

@@ -1,17 +1,20 @@
 //! The words that the program is called with.
-ghost use Rattle.std.specs.Prelude.{◌≤◌, length, IfOk};
+ghost use Rattle.std.specs.Prelude.{◌≡◌, ◌≤◌, [], length, IfOk, None, codes};
+ghost use Rattle.clap.specs.Words.{first_value, found_of};
+ghost use Rattle.command_lines.specs.Worker.{GivesUp, IsWord};
+ghost use Rattle.stream_sqlite.specs.Options.{AreOptions, Forwards, IsOtherThan};
 
 use clap::builder::ValueParser;
 use clap::{Arg, ArgMatches, Command, Error};
 use command_lines::{
-    BLOCK, EVERY, IDLE, Number, command, flag, from, matches_of, name, pair, refused,
-    refused_value, text, word_of,
+    BLOCK, EVERY, IDLE, Number, command, dead, flag, from, give_up_of, matches_of, name,
+    refused_value, settings_of, text, word_of,
 };
 use row_table::{Column, Kind};
 use sqlite_rows::OUTBOX;
 use std::alloc::{AllocError, Global};
 use stream_letters::GiveUp;
-use stream_worker::{MakeGroup, Settings};
+use stream_worker::Settings;
 
 /// The table, if none is named.
 pub const TABLE: &str = "entries";
@@ -48,14 +51,25 @@ pub fn options_of(alloc: Global, words: &[String]) -> Result<Options, Error>
 {
     let mut command = command_of(alloc)?;
     let matches = matches_of(alloc, &mut command, words, 4)?;
-    let settings = settings_of(alloc, &mut command, &matches)?;
-    let table = table_of(alloc, &mut command, &matches)?;
-    let columns = columns_of(alloc, &mut command, &matches)?;
-    let forward = forward_of(alloc, &mut command, &matches)?;
-    let dead = dead_of(alloc, &mut command, &matches)?;
+    options_in(alloc, &mut command, &matches)
+}
+
+/// The options that a line asks for, by what was found in it.
+fn options_in(
+    alloc: Global,
+    command: &mut Command<'_>,
+    matches: &ArgMatches<'_>,
+) -> Result<Options, Error>
+    ensures ok { IfOk result (λ options. AreOptions (found_of matches.now) options) }
+{
+    let settings = settings_of(alloc, command, matches, &COUNT)?;
+    let table = table_of(alloc, command, matches)?;
+    let columns = columns_of(alloc, command, matches)?;
+    let forward = forward_of(alloc, command, matches)?;
+    let dead = dead_of(alloc, command, matches)?;
     Ok(Options {
         settings,
-        path: String::from_str(alloc, word_of(&matches, "FILE"))?,
+        path: String::from_str(alloc, word_of(matches, "FILE"))?,
         table,
         columns,
         until_empty: matches.get_flag("until-empty"),
@@ -87,7 +101,7 @@ fn with_rest<'a>(alloc: Global, command: Command<'a>) -> Result<Command<'a>, All
         .arg(BLOCK.arg(alloc))?
         .arg(IDLE.arg(alloc))?
         .arg(EVERY.arg(alloc))?
-        .arg(pair(alloc, "dead", DEAD_VALUES.as_slice(), DEAD_HELP))?
+        .arg(dead(alloc, DEAD_HELP))?
         .arg(text(alloc, "table", "NAME", "The name of the table").default_value(TABLE))?
         .arg(text(alloc, "columns", "LIST", columns))?
         .arg(forward(alloc))?
@@ -105,60 +119,14 @@ fn forward<'a>(alloc: Global) -> Arg<'a> {
     text(alloc, "forward", "TARGET", help).value_parser(ValueParser::NonEmptyString)
 }
 
-/// The settings of a worker. Those that a line leaves out are the usual ones.
-fn settings_of(
-    alloc: Global,
-    command: &mut Command<'_>,
-    matches: &ArgMatches<'_>,
-) -> Result<Settings, Error> {
-    let mut settings = named(alloc, command, matches)?;
-    if let Some(count) = COUNT.of(matches)
-        && let Err(error) = settings.set_count(count as usize)
-    {
-        return Err(refused(alloc, command, &error));
-    }
-    set_times(&mut settings, matches);
-    match word_of(matches, "from") {
-        "0" => settings.set_make_group(MakeGroup::FromTheFirst),
-        "$" => settings.set_make_group(MakeGroup::FromNow),
-        _ => {}
-    }
-    Ok(settings)
-}
-
-/// The settings of a worker for these names.
-fn named(
-    alloc: Global,
-    command: &mut Command<'_>,
-    matches: &ArgMatches<'_>,
-) -> Result<Settings, Error> {
-    let key = String::from_str(alloc, word_of(matches, "KEY"))?;
-    let group = String::from_str(alloc, word_of(matches, "GROUP"))?;
-    let consumer = String::from_str(alloc, word_of(matches, "CONSUMER"))?;
-    match Settings::new(key, group, consumer) {
-        Ok(settings) => Ok(settings),
-        Err(error) => Err(refused(alloc, command, &error)),
-    }
-}
-
-fn set_times(settings: &mut Settings, matches: &ArgMatches<'_>) {
-    if let Some(block) = BLOCK.of(matches) {
-        settings.set_block(block as usize);
-    }
-    if let Some(idle) = IDLE.of(matches) {
-        settings.set_min_idle(idle as usize);
-    }
-    if let Some(every) = EVERY.of(matches) {
-        settings.set_every(every as usize);
-    }
-}
-
 /// The columns of a list as `item:text,pieces:integer,photo:blob?`, or none.
 fn columns_of(
     alloc: Global,
     command: &mut Command<'_>,
     matches: &ArgMatches<'_>,
-) -> Result<Vec<Column>, Error> {
+) -> Result<Vec<Column>, Error>
+    ensures left_out { IfOk result (λ columns. first_value (found_of matches.now) (codes "columns") ≡ None → columns.items ≡ []) }
+{
     let mut columns = Vec::new(alloc);
     let Some(list) = matches.get_str("columns") else {
         return Ok(columns);
@@ -183,8 +151,6 @@ const NAME: &str = "--table <NAME>";
 
 const DEAD: &str = "--dead <TIMES> <STREAM>";
 
-static DEAD_VALUES: [&str; 2] = ["TIMES", "STREAM"];
-
 const DEAD_HELP: &str =
     "Entries that are no row are left pending; those delivered so many times, 1 at least, go to this stream";
 
@@ -193,7 +159,9 @@ fn table_of(
     alloc: Global,
     command: &mut Command<'_>,
     matches: &ArgMatches<'_>,
-) -> Result<String, Error> {
+) -> Result<String, Error>
+    ensures { IfOk result (λ table. IsWord (found_of matches.now) (codes "table") table) }
+{
     let table = word_of(matches, "table");
     if let Some(front) = table.get(..OWN.len())
         && front.eq_ignore_ascii_case(OWN)
@@ -242,7 +210,9 @@ fn forward_of(
     alloc: Global,
     command: &mut Command<'_>,
     matches: &ArgMatches<'_>,
-) -> Result<Option<String>, Error> {
+) -> Result<Option<String>, Error>
+    ensures { IfOk result (λ target. Forwards (found_of matches.now) target) }
+{
     let Some(target) = matches.get_str("forward") else {
         return Ok(None);
     };
@@ -263,27 +233,18 @@ fn dead_of(
     alloc: Global,
     command: &mut Command<'_>,
     matches: &ArgMatches<'_>,
-) -> Result<Option<GiveUp>, Error> {
-    let Some([times, stream]) = matches.get_strs("dead") else {
-        return Ok(None);
-    };
-    let deliveries = match times.parse::<usize>() {
-        Ok(deliveries) if 0 < deliveries => deliveries,
-        _ => {
-            let reason = "TIMES is a number, 1 at least";
-            return Err(refused_value(alloc, command, times, DEAD, reason));
-        }
-    };
-    if *stream == word_of(matches, "KEY") {
-        let reason = "STREAM is another one than KEY";
-        return Err(refused_value(alloc, command, stream, DEAD, reason));
-    }
-    if *stream == word_of(matches, "forward") {
+) -> Result<Option<GiveUp>, Error>
+    ensures ok { IfOk result (λ to. GivesUp (found_of matches.now) to) }
+    ensures other { IfOk result (λ to. IsOtherThan (found_of matches.now) to) }
+{
+    let to = give_up_of(alloc, command, matches)?;
+    if let Some(some) = &to
+        && some.stream.as_str() == word_of(matches, "forward")
+    {
         let reason = "STREAM is another one than TARGET";
-        return Err(refused_value(alloc, command, stream, DEAD, reason));
+        return Err(refused_value(alloc, command, &some.stream, DEAD, reason));
     }
-    let stream = String::from_str(alloc, stream)?;
-    Ok(Some(GiveUp { deliveries, stream }))
+    Ok(to)
 }
 
 /// Whether there is a column of this name, to which the case of ASCII letters is all one.

@@ -1,0 +1,121 @@
+//! The options that the programs with a worker have in common.
+ghost use Rattle.std.specs.Prelude.{◌≡◌, ◌<◌, ◌∷◌, ◌⊎◌, [], ℕ, List, IfErr, IfOk, IfSome, None, Some, codes, false, option_map, string_bytes};
+ghost use Rattle.clap.specs.Words.{found_of, kind_of, matched_of, new_rule, raw_values, rule_of};
+ghost use Rattle.clap.specs.declared.builder.ArgAction.TheVariants.{Set};
+ghost use Rattle.command_lines.specs.Worker.{AreSettings, GivesUp, IsNumber, MakesGroup, word_in};
+
+use crate::{BLOCK, EVERY, IDLE, Number, pair, refused, refused_value, word_of};
+use clap::error::ErrorKind;
+use clap::{Arg, ArgMatches, Command, Error};
+use std::alloc::Global;
+use stream_letters::GiveUp;
+use stream_worker::{MakeGroup, Settings};
+
+/// The settings of a worker that a line asks for: those of KEY, GROUP and CONSUMER, `--count`, `--block`, `--idle`,
+/// `--every` and `--from`.
+///
+/// A name that is empty and a count that a worker does not take are refused.
+pub fn settings_of(
+    alloc: Global,
+    command: &mut Command<'_>,
+    matches: &ArgMatches<'_>,
+    count: &Number,
+) -> Result<Settings, Error>
+    ensures ok { IfOk result (λ settings. AreSettings count.now.name.now count.now.least count.now.most
+        (found_of matches.now) settings) }
+    ensures err { IfErr result (λ e. (kind_of e ≡ ErrorKind.ValueValidation) ⊎ (kind_of e ≡ ErrorKind.OutOfMemory)) }
+{
+    let mut settings = named_settings(alloc, command, matches)?;
+    if let Err(error) = settings.set_count(number_of(matches, count)) {
+        return Err(refused(alloc, command, &error));
+    }
+    settings.set_block(number_of(matches, &BLOCK));
+    settings.set_min_idle(number_of(matches, &IDLE));
+    settings.set_every(number_of(matches, &EVERY));
+    settings.set_make_group(make_group(word_of(matches, "from")));
+    Ok(settings)
+}
+
+/// The settings of a worker for these names, and the usual ones else.
+fn named_settings(
+    alloc: Global,
+    command: &mut Command<'_>,
+    matches: &ArgMatches<'_>,
+) -> Result<Settings, Error>
+    ensures ok { IfOk result (λ settings. (string_bytes settings.key ≡ word_in (found_of matches.now) (codes "KEY"))
+        × (string_bytes settings.group ≡ word_in (found_of matches.now) (codes "GROUP"))
+        × (string_bytes settings.consumer ≡ word_in (found_of matches.now) (codes "CONSUMER"))) }
+    ensures err { IfErr result (λ e. (kind_of e ≡ ErrorKind.ValueValidation) ⊎ (kind_of e ≡ ErrorKind.OutOfMemory)) }
+{
+    let key = String::from_str(alloc, word_of(matches, "KEY"))?;
+    let group = String::from_str(alloc, word_of(matches, "GROUP"))?;
+    let consumer = String::from_str(alloc, word_of(matches, "CONSUMER"))?;
+    match Settings::new(key, group, consumer) {
+        Ok(settings) => Ok(settings),
+        Err(error) => Err(refused(alloc, command, &error)),
+    }
+}
+
+/// The number that a line has for an option, or its usual one.
+fn number_of(matches: &ArgMatches<'_>, number: &Number) -> usize
+    ensures { IsNumber (found_of matches.now) number.now.name.now number.now.least number.now.most result }
+{
+    number.of(matches).unwrap_or(number.least) as usize
+}
+
+/// Which group the word of `--from` makes.
+fn make_group(word: &str) -> MakeGroup
+    ensures { MakesGroup word.now result }
+{
+    match word {
+        "0" => MakeGroup::FromTheFirst,
+        "$" => MakeGroup::FromNow,
+        _ => MakeGroup::Never,
+    }
+}
+
+// The values of `--dead`, and how an error names it.
+static DEAD_VALUES: [&str; 2] = ["TIMES", "STREAM"];
+
+const DEAD: &str = "--dead <TIMES> <STREAM>";
+
+/// The option `--dead TIMES STREAM`.
+pub fn dead<'a>(alloc: Global, help: &'a str) -> Arg<'a>
+    ensures { rule_of result ≡ record (new_rule (codes "dead")) {
+      long = Some (codes "dead");
+      action = Some Set;
+      range = Some (record { start_inclusive = 2; end_inclusive = 2 });
+      value_names = 2;
+      is_simple = false;
+    } }
+{
+    pair(alloc, "dead", DEAD_VALUES.as_slice(), help)
+}
+
+/// After how many deliveries entries are given up, and to which stream, if a line has `--dead`. TIMES is 1 at least, and
+/// STREAM is another one than KEY: any other is refused.
+pub fn give_up_of(
+    alloc: Global,
+    command: &mut Command<'_>,
+    matches: &ArgMatches<'_>,
+) -> Result<Option<GiveUp>, Error>
+    ensures ok { IfOk result (λ to. GivesUp (found_of matches.now) to) }
+    ensures err { IfErr result (λ e. (kind_of e ≡ ErrorKind.ValueValidation) ⊎ (kind_of e ≡ ErrorKind.OutOfMemory)) }
+{
+    let Some([times, stream]) = matches.get_strs("dead") else {
+        return Ok(None);
+    };
+    let deliveries = match times.parse::<usize>() {
+        Ok(deliveries) if 0 < deliveries => deliveries,
+        _ => {
+            let reason = "TIMES is a number, 1 at least";
+            return Err(refused_value(alloc, command, times, DEAD, reason));
+        }
+    };
+    if *stream == word_of(matches, "KEY") {
+        let reason = "STREAM is another one than KEY";
+        return Err(refused_value(alloc, command, stream, DEAD, reason));
+    }
+    let stream = String::from_str(alloc, stream)?;
+    Ok(Some(GiveUp { deliveries, stream }))
+}
