@@ -5,6 +5,7 @@ use Rattle.std.specs.declared.alloc.Global.{Global}
 use Rattle.clap.specs.Words.{first_value, matched_of, one_text, raw_values}
 use Rattle.clap.specs.declared.parser.matches.Found.{Found}
 use Rattle.command_lines.specs.Numbers.{IsNumberIn, number_of}
+use Rattle.stream_feed.specs.declared.wait.Wait.{Wait}
 use Rattle.stream_letters.specs.declared.search.GiveUp.{GiveUp}
 use Rattle.stream_worker.specs.declared.state.MakeGroup.{MakeGroup}
 use Rattle.stream_worker.specs.declared.state.MakeGroup.TheVariants.{FromNow, FromTheFirst, Never}
@@ -56,6 +57,17 @@ pub record GivesUp (found : Found) (to : Option GiveUp) : Type 0 where
       → option_map parts_of to ≡ Some (number_of times, stream)
   pub left_out : matched_of found (codes "dead") ≡ None → to ≡ None
   pub some : IfSome to (λ g. (0 < g.deliveries) × (string_bytes g.stream ≢ word_in found (codes "KEY")))
+
+-- how many replicas are asked, and for how many milliseconds
+abbrev pub wait_parts : Wait → ℕ × ℕ
+wait_parts wait = (wait.replicas, wait.milliseconds)
+
+-- `--wait REPLICAS MS` asks so many replicas for so many milliseconds
+pub record Waits (found : Found) (wait : Option Wait) : Type 0 where
+  pub given : (replicas milliseconds : List ℕ)
+      → option_map raw_values (matched_of found (codes "wait")) ≡ Some (replicas ∷ milliseconds ∷ [])
+      → option_map wait_parts wait ≡ Some (number_of replicas, number_of milliseconds)
+  pub left_out : matched_of found (codes "wait") ≡ None → wait ≡ None
 
 -- an option without a value is there, or it is not
 pub record IsFlag (found : Found) (id : List ℕ) (is_there : Bool) : Type 0 where

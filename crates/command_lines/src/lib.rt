@@ -16,7 +16,7 @@ ghost use Rattle.command_lines.specs.Numbers.{IsNumberIn, number_of};
 
 mod worker;
 
-pub use worker::{dead, give_up_of, settings_of};
+pub use worker::{confirmation_of, dead, give_up_of, settings_of};
 
 use clap::builder::ValueParser;
 use clap::error::ErrorKind;
@@ -384,7 +384,7 @@ pub fn wait<'a>(alloc: Global, help: &'a str) -> Arg<'a>
 
 /// The numbers of `--wait`, each 1 at least, where a line has it: of replicas, and of milliseconds. Any other word is
 /// refused.
-pub fn wait_of(
+pub(crate) fn wait_of(
     alloc: Global,
     command: &mut Command<'_>,
     matches: &ArgMatches<'_>,

@@ -2,12 +2,13 @@
 ghost use Rattle.std.specs.Prelude.{◌≡◌, ◌<◌, ◌∷◌, ◌⊎◌, [], ℕ, List, IfErr, IfOk, IfSome, None, Some, codes, false, option_map, string_bytes};
 ghost use Rattle.clap.specs.Words.{found_of, kind_of, matched_of, new_rule, raw_values, rule_of};
 ghost use Rattle.clap.specs.declared.builder.ArgAction.TheVariants.{Set};
-ghost use Rattle.command_lines.specs.Worker.{AreSettings, GivesUp, IsNumber, MakesGroup, word_in};
+ghost use Rattle.command_lines.specs.Worker.{AreSettings, GivesUp, IsNumber, MakesGroup, Waits, word_in};
 
-use crate::{BLOCK, EVERY, IDLE, Number, pair, refused, refused_value, word_of};
+use crate::{BLOCK, EVERY, IDLE, Number, pair, refused, refused_value, wait_of, word_of};
 use clap::error::ErrorKind;
 use clap::{Arg, ArgMatches, Command, Error};
 use std::alloc::Global;
+use stream_feed::Wait;
 use stream_letters::GiveUp;
 use stream_worker::{MakeGroup, Settings};
 
@@ -118,4 +119,22 @@ pub fn give_up_of(
     }
     let stream = String::from_str(alloc, stream)?;
     Ok(Some(GiveUp { deliveries, stream }))
+}
+
+/// What `--wait REPLICAS MS` asks of replicas, if a line has it: each number is 1 at least.
+pub fn confirmation_of(
+    alloc: Global,
+    command: &mut Command<'_>,
+    matches: &ArgMatches<'_>,
+) -> Result<Option<Wait>, Error>
+    ensures ok { IfOk result (λ wait. Waits (found_of matches.now) wait) }
+    ensures err { IfErr result (λ e. (kind_of e ≡ ErrorKind.ValueValidation) ⊎ (kind_of e ≡ ErrorKind.OutOfMemory)) }
+{
+    let Some((replicas, milliseconds)) = wait_of(alloc, command, matches)? else {
+        return Ok(None);
+    };
+    match Wait::new(replicas, milliseconds) {
+        Ok(wait) => Ok(Some(wait)),
+        Err(error) => Err(refused(alloc, command, &error)),
+    }
 }

@@ -17,3 +17,4 @@ pub mod ModelLemmas
 pub mod OnceLemmas
 pub mod ReachLemmas
 pub mod FailoverLemmas
+pub mod TurnLemmas

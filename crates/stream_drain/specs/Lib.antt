@@ -1,5 +1,7 @@
 -- What the program's contracts speak of.
 pub mod Options
+pub mod Counts
+pub mod Turn
 pub mod Json
 pub mod Line
 pub mod Report

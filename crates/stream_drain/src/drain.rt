@@ -5,6 +5,7 @@ ghost use Rattle.stream_letters.specs.Besides.{Besides, BreaksBesides, LooksNot}
 ghost use Rattle.stream_drain.specs.Backlog.{Hears};
 ghost use Rattle.stream_drain.specs.Filed.{FiledFrom};
 ghost use Rattle.stream_drain.specs.Lived.{Leads};
+ghost use Rattle.stream_drain.specs.Turn.{IsConfirmedTurn};
 ghost use Rattle.stream_loop.specs.Loop.{Loops, Stops};
 ghost use Rattle.stream_worker.specs.Session.{standing_of};
 
@@ -82,6 +83,11 @@ fn turn<R: Read + Drop, W: Write + Drop, D: LogFile + Drop, T: Clock + Eprint + 
     ensures err { OnErr result (Leads (Stops worker.old.settings) connection.old connection.new
         (standing_of worker.old (⟦<Lines<D> as Handler>⟧.history lines.old))
         (standing_of worker.new (⟦<Lines<D> as Handler>⟧.history lines.new))) }
+    ensures confirmed { IfOk result (λ asked. IfSome wait (λ w. IsConfirmedTurn
+        ⟦<Lines<D> as Handler>⟧.with_verdict ⟦<Lines<D> as Handler>⟧.with_commit worker.old.settings w
+        connection.old connection.new
+        (standing_of worker.old (⟦<Lines<D> as Handler>⟧.history lines.old))
+        (standing_of worker.new (⟦<Lines<D> as Handler>⟧.history lines.new)) asked)) }
 {
     look(rt.alloc(), connection, lines, dead, asked)?;
     let alone = dead.is_some() || report.is_due(rt);
@@ -133,6 +139,7 @@ fn any_round<R: Read + Drop, W: Write + Drop, D: LogFile + Drop>(
         (standing_of worker.old (⟦<Lines<D> as Handler>⟧.history lines.old))
         (standing_of worker.new (⟦<Lines<D> as Handler>⟧.history lines.new))
         made.round.asked made.round.progress)) }
+    ensures alone { IsTrue alone → IfOk result (λ made. made.acknowledged ≡ false) }
 {
     match wait {
         Some(wait) => confirmed(alloc, connection, worker, lines, &wait),
@@ -160,6 +167,7 @@ fn confirmed<R: Read + Drop, W: Write + Drop, D: LogFile + Drop>(
         (standing_of worker.old (⟦<Lines<D> as Handler>⟧.history lines.old))
         (standing_of worker.new (⟦<Lines<D> as Handler>⟧.history lines.new))
         made.round.asked made.round.progress) }
+    ensures alone { IfOk result (λ made. made.acknowledged ≡ false) }
 {
     match round_confirmed(alloc, connection, worker, lines, wait) {
         Ok(round) => {
@@ -195,6 +203,7 @@ fn round<R: Read + Drop, W: Write + Drop, D: LogFile + Drop>(
     ensures err { OnErr result (Leads (Stops worker.old.settings) connection.old connection.new
         (standing_of worker.old (⟦<Lines<D> as Handler>⟧.history lines.old))
         (standing_of worker.new (⟦<Lines<D> as Handler>⟧.history lines.new))) }
+    ensures alone { together ≡ false → IfOk result (λ made. made.acknowledged ≡ false) }
 {
     if together {
         match worker.round_pipelined(alloc, connection, lines) {

@@ -7,6 +7,7 @@ ghost use Rattle.line_log.specs.EntryLine.{field_text, line_of};
 ghost use Rattle.line_log.specs.Holds.{Holds, IsHeld, committed_in};
 ghost use Rattle.line_log.specs.LastLines.{last_of, lines_of};
 ghost use Rattle.line_log.specs.Lines.{AreLines, IsRepaired};
+ghost use Rattle.stream_drain.specs.Counts.{one_more};
 ghost use Rattle.stream_drain.specs.Line.{line_in};
 ghost use Rattle.stream_drain.specs.Resumed.{KnowsItsFile, TellEach};
 ghost use Rattle.stream_drain.specs.Known.{is_known, known_by, numbers_known};
@@ -157,6 +158,10 @@ impl<D: LogFile + Drop> Handler for Lines<D> {
             self.new.log.batch.items) }
         ensures file { (self.new.log.file ≡ self.old.log.file) × (self.new.log.len ≡ self.old.log.len)
             × (self.new.log.is_broken ≡ self.old.log.is_broken) }
+        ensures seen { self.new.seen ≡ one_more self.old.seen }
+        ensures is_done { verdict_of result ≡ done → self.new.done ≡ one_more self.old.done }
+        ensures is_left { verdict_of result ≡ stop → self.new.done ≡ self.old.done }
+        ensures committed { self.new.committed ≡ self.old.committed }
     {
         self.seen = self.seen.saturating_add(1);
         match self.take(alloc, entry) {
@@ -188,6 +193,9 @@ impl<D: LogFile + Drop> Handler for Lines<D> {
             ≡ committed_with (⟦<Lines<D> as Handler>⟧.history self.old)) }
         ensures history_kept { OnErr result (⟦<Lines<D> as Handler>⟧.history self.new
             ≡ ⟦<Lines<D> as Handler>⟧.history self.old) }
+        ensures counts { (self.new.seen ≡ self.old.seen) × (self.new.done ≡ self.old.done) }
+        ensures committed { OnOk result (self.new.committed ≡ self.old.done) }
+        ensures uncommitted { OnErr result (self.new.committed ≡ self.old.committed) }
     {
         match self.log.commit() {
             Ok(()) => {

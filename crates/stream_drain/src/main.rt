@@ -20,6 +20,9 @@
 //! nothing new came, with 2 if a word is wrong, and else with 1 and the reason. `--help` tells its words.
 #![tactic(auto)]
 
+ghost use Rattle.std.specs.Prelude.{◌≡◌, IfOk, OnErr, OnOk, is_some};
+ghost use Rattle.std.specs.Process.{exit_status};
+
 mod backlog;
 mod drain;
 mod failure;
@@ -52,24 +55,23 @@ use stream_worker::Settings;
 
 fn main(rt: HostRuntime) -> Result<ExitCode> {
     let words = words_of(&rt)?;
-    let options = match options_of(rt.alloc(), &words) {
-        Ok(options) => options,
-        Err(error) => return Ok(tell(rt.alloc(), &rt, &error)?),
-    };
-    match drain_by(&rt, options) {
-        Ok(()) => Ok(ExitCode::SUCCESS),
-        Err(failure) => {
-            show_failure(&rt, &failure)?;
-            Ok(ExitCode::FAILURE)
-        }
+    match options_of(rt.alloc(), &words) {
+        Ok(options) => end_with(&rt, drain_by(&rt, options)),
+        Err(error) => Ok(tell(rt.alloc(), &rt, &error)?),
     }
 }
 
-/// Shows on standard error why the program ends.
-fn show_failure(rt: &HostRuntime, failure: &Failure) -> Result<()> {
-    let text = text_of(rt.alloc(), failure)?;
+/// The exit status: 0, or 1 after a failure, which is shown on standard error.
+fn end_with<T: Eprint + AllocGlobal>(rt: &T, ended: Result<(), Failure>) -> Result<ExitCode>
+    ensures ok { OnOk ended (IfOk result (λ code. exit_status code ≡ 0)) }
+    ensures err { OnErr ended (IfOk result (λ code. exit_status code ≡ 1)) }
+{
+    let Err(failure) = ended else {
+        return Ok(ExitCode::SUCCESS);
+    };
+    let text = text_of(rt.alloc(), &failure)?;
     eprintln!(rt; "Error: {text}")?;
-    Ok(())
+    Ok(ExitCode::FAILURE)
 }
 
 /// What is shown of a failure: an error of the server whole, and what to do about it. A control character, which could
@@ -169,7 +171,10 @@ fn show_report(rt: &HostRuntime, report: &Report) -> Result<()> {
 }
 
 /// The lines in the file of this path.
-fn lines_at(rt: &HostRuntime, path: &str, json: bool, look_up: bool) -> Result<Lines<SystemFile>> {
+fn lines_at(rt: &HostRuntime, path: &str, json: bool, look_up: bool) -> Result<Lines<SystemFile>>
+    ensures json { IfOk result (λ lines. lines.json ≡ json) }
+    ensures looks { IfOk result (λ lines. is_some lines.known ≡ look_up) }
+{
     let file = match SystemFile::open(rt, path) {
         Ok(file) => file,
         Err(error) => return Err(not_opened(path, error)),

@@ -1,15 +1,15 @@
 //! The words that the program is called with.
-ghost use Rattle.std.specs.Prelude.{◌≡◌, ◌≤◌, ◌∷◌, ◌⊎◌, [], ℕ, IfErr, IfOk, IsTrue, List, None, Some, codes, length, option_map};
-ghost use Rattle.clap.specs.Words.{found_of, kind_of, matched_of, raw_values};
-ghost use Rattle.command_lines.specs.Numbers.{number_of};
-ghost use Rattle.stream_drain.specs.Options.{AreOptions, wait_parts};
+ghost use Rattle.std.specs.Prelude.{◌≡◌, ◌≤◌, ◌⊎◌, length, IfErr, IfOk, IsTrue, None};
+ghost use Rattle.clap.specs.Words.{found_of, kind_of};
+ghost use Rattle.command_lines.specs.Worker.{Waits};
+ghost use Rattle.stream_drain.specs.Options.{AreOptions};
 
 use crate::resume::LARGEST_COUNT;
 use clap::error::ErrorKind;
 use clap::{ArgMatches, Command, Error};
 use command_lines::{
-    BLOCK, EVERY, IDLE, Number, command, dead, flag, from, give_up_of, matches_of, name, refused,
-    settings_of, wait, wait_of, word_of,
+    BLOCK, EVERY, IDLE, Number, command, confirmation_of, dead, flag, from, give_up_of, matches_of,
+    name, refused, settings_of, wait, word_of,
 };
 use std::alloc::{AllocError, Global};
 use stream_feed::Wait;
@@ -71,7 +71,7 @@ fn options_in(
 {
     let settings = settings_of(alloc, command, matches, &COUNT)?;
     let dead = give_up_of(alloc, command, matches)?;
-    let wait = waiting(alloc, command, matches, dead.is_some())?;
+    let wait = wait_beside(alloc, command, matches, dead.is_some())?;
     Ok(Options {
         settings,
         path: String::from_str(alloc, word_of(matches, "FILE"))?,
@@ -125,27 +125,19 @@ fn with_flags<'a>(alloc: Global, command: Command<'a>) -> Result<Command<'a>, Al
 
 /// How many replicas are to confirm what is asked, and how long it waits for them. Letters are not confirmed, so none
 /// are sent then.
-fn waiting(
+fn wait_beside(
     alloc: Global,
     command: &mut Command<'_>,
     matches: &ArgMatches<'_>,
     gives_up: bool,
 ) -> Result<Option<Wait>, Error>
-    ensures given { IfOk result (λ wait. (replicas milliseconds : List ℕ)
-        → option_map raw_values (matched_of (found_of matches.now) (codes "wait")) ≡ Some (replicas ∷ milliseconds ∷ [])
-        → option_map wait_parts wait ≡ Some (number_of replicas, number_of milliseconds)) }
-    ensures left_out { IfOk result (λ wait. matched_of (found_of matches.now) (codes "wait") ≡ None → wait ≡ None) }
+    ensures ok { IfOk result (λ wait. Waits (found_of matches.now) wait) }
     ensures alone { IsTrue gives_up → IfOk result (λ wait. wait ≡ None) }
     ensures err { IfErr result (λ e. (kind_of e ≡ ErrorKind.ValueValidation) ⊎ (kind_of e ≡ ErrorKind.OutOfMemory)) }
 {
-    let Some((replicas, milliseconds)) = wait_of(alloc, command, matches)? else {
-        return Ok(None);
-    };
-    if gives_up {
+    let wait = confirmation_of(alloc, command, matches)?;
+    if gives_up && wait.is_some() {
         return Err(refused(alloc, command, &"--wait does not go with --dead"));
     }
-    match Wait::new(replicas, milliseconds) {
-        Ok(wait) => Ok(Some(wait)),
-        Err(error) => Err(refused(alloc, command, &error)),
-    }
+    Ok(wait)
 }

@@ -1,7 +1,8 @@
 //! How the program begins: with the ids that the last lines of its file tell.
-ghost use Rattle.std.specs.Prelude.{◌≡◌, ◌≤◌, ◌++◌, ◌∷◌, [], ℕ, List, IfOk, IfSome, IsTrue, codes, length, string_bytes, take};
+ghost use Rattle.std.specs.Prelude.{◌≡◌, ◌≢◌, ◌≤◌, ◌++◌, ◌∷◌, [], ℕ, List, IfOk, IfSome, IsTrue, codes, false, length, string_bytes, take, true};
 ghost use Rattle.std.specs.List.{list_all};
 ghost use Rattle.line_log.specs.Holds.{committed_in};
+ghost use Rattle.line_log.specs.LastLines.{last_of, lines_of};
 ghost use Rattle.line_log.specs.LineTexts.{bytes_of};
 ghost use Rattle.stream_drain.specs.Resumed.{BeginsSo, BeginsWithLast, Tells, TellEach, is_of_id};
 ghost use Rattle.stream_drain.specs.Known.{known_by};
@@ -34,6 +35,9 @@ pub fn begun<D: LogFile + Drop>(
     lines: &Lines<D>,
 ) -> Result<Start>
     ensures settings { IfOk result (λ b. b.worker.settings ≡ settings) }
+    ensures acknowledges { IfOk result (λ b. IfSome (committed_in (D.seen lines.now.log.file) lines.now.log.len)
+        (λ bytes. (b.acknowledges ≡ true → last_of LARGEST_COUNT (lines_of bytes) ≢ [])
+        × (b.acknowledges ≡ false → last_of LARGEST_COUNT (lines_of bytes) ≡ []))) }
     ensures lives { IfOk result (λ b. lines.now.log.batch.items ≡ []
         → IfSome (committed_in (D.seen lines.now.log.file) lines.now.log.len)
         (λ bytes. BeginsSo LARGEST_COUNT settings lines.now.json (known_by lines.now.known) bytes

@@ -1,4 +1,5 @@
 -- What the program's contracts speak of.
+pub mod Options
 pub mod Base
 pub mod Filled
 pub mod Taken

@@ -1,10 +1,14 @@
 //! The words that the program is called with.
-ghost use Rattle.std.specs.Prelude.{◌≤◌, length, IfOk};
+ghost use Rattle.std.specs.Prelude.{◌≡◌, ◌≤◌, IfOk, IfSome, None, length};
+ghost use Rattle.clap.specs.Words.{found_of};
+ghost use Rattle.command_lines.specs.Numbers.{number_of};
+ghost use Rattle.stream_fill.specs.Options.{AreOptions, AreSettings, HasForm, HasMode, TrimsBy};
 
 use crate::lines::Form;
 use clap::{ArgMatches, Command, Error};
 use command_lines::{
-    Number, command, flag, matches_of, name, refused, refused_value, text, wait, wait_of, word_of,
+    Number, command, confirmation_of, flag, matches_of, name, refused, refused_value, text, wait,
+    word_of,
 };
 use std::alloc::{AllocError, Global};
 use stream_feed::{Settings, Wait};
@@ -53,12 +57,23 @@ pub fn options_of(alloc: Global, words: &[String]) -> Result<Options, Error>
 {
     let mut command = command_of(alloc)?;
     let matches = matches_of(alloc, &mut command, words, 2)?;
-    let settings = settings_of(alloc, &mut command, &matches)?;
-    let wait = waiting(alloc, &mut command, &matches)?;
+    options_in(alloc, &mut command, &matches)
+}
+
+/// The options that a line asks for, by what was found in it.
+fn options_in(
+    alloc: Global,
+    command: &mut Command<'_>,
+    matches: &ArgMatches<'_>,
+) -> Result<Options, Error>
+    ensures { IfOk result (λ options. AreOptions (found_of matches.now) options) }
+{
+    let settings = settings_of(alloc, command, matches)?;
+    let wait = confirmation_of(alloc, command, matches)?;
     Ok(Options {
         settings,
-        path: String::from_str(alloc, word_of(&matches, "FILE"))?,
-        form: form_of(alloc, &matches)?,
+        path: String::from_str(alloc, word_of(matches, "FILE"))?,
+        form: form_of(alloc, matches)?,
         is_onto: matches.get_flag("onto"),
         wait,
     })
@@ -87,7 +102,9 @@ fn command_of<'a>(alloc: Global) -> Result<Command<'a>, AllocError> {
 }
 
 /// What a line is.
-fn form_of(alloc: Global, matches: &ArgMatches<'_>) -> Result<Form, AllocError> {
+fn form_of(alloc: Global, matches: &ArgMatches<'_>) -> Result<Form, AllocError>
+    ensures { IfOk result (λ form. HasForm (found_of matches.now) form) }
+{
     if matches.get_flag("json") {
         return Ok(Form::Json);
     }
@@ -99,34 +116,56 @@ fn settings_of(
     alloc: Global,
     command: &mut Command<'_>,
     matches: &ArgMatches<'_>,
-) -> Result<Settings, Error> {
+) -> Result<Settings, Error>
+    ensures { IfOk result (λ settings. AreSettings (found_of matches.now) settings) }
+{
     let key = String::from_str(alloc, word_of(matches, "KEY"))?;
     let base = BASE.of(matches).unwrap_or(0);
     let batch = BATCH.of(matches).unwrap_or(0) as usize;
+    let mode = mode_of(matches);
+    let trim = trim_of(alloc, command, matches, mode)?;
     match Settings::new(key, base, batch) {
-        Ok(settings) => trimmed(alloc, command, matches, settings),
+        Ok(settings) => Ok(trimmed(settings, trim)),
         Err(error) => Err(refused(alloc, command, &error)),
     }
 }
 
 /// The settings with how each XADD trims the stream, if it does.
-fn trimmed(
-    alloc: Global,
-    command: &mut Command<'_>,
-    matches: &ArgMatches<'_>,
-    settings: Settings,
-) -> Result<Settings, Error> {
-    let mode = if matches.get_flag("approximate") {
+fn trimmed(settings: Settings, trim: Option<StreamTrimStrategy>) -> Settings
+    ensures { settings.trim ≡ None → result ≡ record settings { trim = trim } }
+{
+    match trim {
+        Some(strategy) => settings.trim(strategy),
+        None => settings,
+    }
+}
+
+/// How exactly `--maxlen` and `--minid` are meant.
+fn mode_of(matches: &ArgMatches<'_>) -> StreamTrimmingMode
+    ensures { HasMode (found_of matches.now) result }
+{
+    if matches.get_flag("approximate") {
         StreamTrimmingMode::Approx
     } else {
         StreamTrimmingMode::Exact
-    };
+    }
+}
+
+/// How each XADD trims the stream, if it does: so exactly, by `--maxlen` or `--minid`.
+fn trim_of(
+    alloc: Global,
+    command: &mut Command<'_>,
+    matches: &ArgMatches<'_>,
+    mode: StreamTrimmingMode,
+) -> Result<Option<StreamTrimStrategy>, Error>
+    ensures { IfOk result (λ trim. TrimsBy (found_of matches.now) mode trim) }
+{
     if let Some(word) = matches.get_str("maxlen") {
         let Some(len) = length_of(word) else {
             let reason = "wanted is a number of entries";
             return Err(refused_value(alloc, command, word, "--maxlen <N>", reason));
         };
-        return Ok(settings.trim(StreamTrimStrategy::maxlen(mode, len)));
+        return Ok(Some(StreamTrimStrategy::maxlen(mode, len)));
     }
     if let Some(word) = matches.get_str("minid") {
         if !is_id(word) {
@@ -134,17 +173,19 @@ fn trimmed(
             return Err(refused_value(alloc, command, word, "--minid <ID>", reason));
         }
         let id = String::from_str(alloc, word)?;
-        return Ok(settings.trim(StreamTrimStrategy::minid(mode, id)));
+        return Ok(Some(StreamTrimStrategy::minid(mode, id)));
     }
     if matches.get_flag("approximate") {
         let reason = "--approximate goes with --maxlen or --minid";
         return Err(refused(alloc, command, &reason));
     }
-    Ok(settings)
+    Ok(None)
 }
 
 /// A length that MAXLEN takes: below 2^63.
-fn length_of(word: &str) -> Option<usize> {
+fn length_of(word: &str) -> Option<usize>
+    ensures { IfSome result (λ len. len ≡ number_of word.now) }
+{
     let len = word.parse::<usize>().ok()?;
     if len > i64::MAX as usize {
         return None;
@@ -163,19 +204,4 @@ fn is_id(word: &str) -> bool {
 /// Whether a word is a number of 64 bits, in digits alone.
 fn is_number(word: &str) -> bool {
     word.parse::<u64>().is_ok() && !word.starts_with('+')
-}
-
-/// How many replicas are to confirm each batch, and how long it waits for them.
-fn waiting(
-    alloc: Global,
-    command: &mut Command<'_>,
-    matches: &ArgMatches<'_>,
-) -> Result<Option<Wait>, Error> {
-    let Some((replicas, milliseconds)) = wait_of(alloc, command, matches)? else {
-        return Ok(None);
-    };
-    match Wait::new(replicas, milliseconds) {
-        Ok(wait) => Ok(Some(wait)),
-        Err(error) => Err(refused(alloc, command, &error)),
-    }
 }

@@ -15,7 +15,8 @@
 //! else with 1 and the reason. `--help` tells its words.
 #![tactic(auto)]
 
-ghost use Rattle.std.specs.Prelude.{◌≡◌};
+ghost use Rattle.std.specs.Prelude.{◌≡◌, IfErr, IfOk, OnOk};
+ghost use Rattle.std.specs.Process.{exit_status};
 ghost use Rattle.stream_run.specs.Failures.{IsOfChild};
 
 mod drain;
@@ -46,17 +47,26 @@ const CHILD_FAILED: u8 = 4;
 
 fn main(rt: HostRuntime) -> Result<ExitCode> {
     let words = words_of(&rt)?;
-    let options = match options_of(rt.alloc(), &words) {
-        Ok(options) => options,
-        Err(error) => return Ok(tell(rt.alloc(), &rt, &error)?),
-    };
-    match drain_by(&rt, options) {
-        Ok(()) => Ok(ExitCode::SUCCESS),
-        Err(failure) => {
-            show_failure(&rt, &failure)?;
-            Ok(ExitCode::from(status_of(&failure)))
-        }
+    match options_of(rt.alloc(), &words) {
+        Ok(options) => end_with(&rt, drain_by(&rt, options)),
+        Err(error) => Ok(tell(rt.alloc(), &rt, &error)?),
     }
+}
+
+/// The exit status: 0, or that of a failure, which is shown on standard error with `?` for each control character.
+fn end_with<T: Eprint + AllocGlobal>(rt: &T, ended: Result<(), Failure>) -> Result<ExitCode>
+    ensures ok { OnOk ended (IfOk result (λ code. exit_status code ≡ 0)) }
+    ensures child { IfErr ended (λ failure. IsOfChild failure → IfOk result (λ code. exit_status code ≡ 4)) }
+    ensures other { IfErr ended (λ failure. (IsOfChild failure → ⊥) → IfOk result (λ code. exit_status code ≡ 1)) }
+{
+    let Err(failure) = ended else {
+        return Ok(ExitCode::SUCCESS);
+    };
+    let status = status_of(&failure);
+    let text = format!(in rt.alloc(); "{failure}")?;
+    let text = masked(rt.alloc(), &text)?;
+    eprintln!(rt; "Error: {text}")?;
+    Ok(ExitCode::from(status))
 }
 
 /// The status of a failure: 4 if it is the child's, and else 1.
@@ -68,14 +78,6 @@ fn status_of(failure: &Failure) -> u8
         Failure::Child(_) | Failure::Unopened(_) => CHILD_FAILED,
         _ => 1,
     }
-}
-
-/// Shows on standard error why the program ends, with `?` for each control character.
-fn show_failure(rt: &HostRuntime, failure: &Failure) -> Result<()> {
-    let text = format!(in rt.alloc(); "{failure}")?;
-    let text = masked(rt.alloc(), &text)?;
-    eprintln!(rt; "Error: {text}")?;
-    Ok(())
 }
 
 /// The text with `?` for each control character.

@@ -8,7 +8,7 @@ use Rattle.stream_letters.specs.declared.search.GiveUp.{GiveUp}
 use Rattle.stream_sqlite.specs.declared.options.Options.{Options}
 
 -- `--forward TARGET` sends entries on to a stream other than KEY
-pub record Forwards (found : Found) (target : Option (String Global)) : Type 0 where
+pub record ForwardsTo (found : Found) (target : Option (String Global)) : Type 0 where
   pub given : option_map string_bytes target ≡ first_value found (codes "forward")
   pub other : IfSome target (λ t. string_bytes t ≢ word_in found (codes "KEY"))
 
@@ -24,6 +24,6 @@ pub record AreOptions (found : Found) (o : Options) : Type 0 where
   pub table : IsWord found (codes "table") o.table
   pub columns : first_value found (codes "columns") ≡ None → o.columns.items ≡ []
   pub until_empty : IsFlag found (codes "until-empty") o.until_empty
-  pub forward : Forwards found o.forward
+  pub forward : ForwardsTo found o.forward
   pub dead : GivesUp found o.dead
   pub other : IsOtherThan found o.dead

@@ -21,6 +21,9 @@
 //! came, with 2 if a word is wrong, and else with 1 and the reason. `--help` tells its words.
 #![tactic(auto)]
 
+ghost use Rattle.std.specs.Prelude.{◌≡◌, IfOk, IsErr, IsOk, OnErr, OnOk};
+ghost use Rattle.std.specs.Process.{exit_status};
+
 mod drain;
 mod masked;
 mod options;
@@ -50,13 +53,21 @@ use stream_worker::{Settings, Worker};
 
 fn main(rt: HostRuntime) -> Result<ExitCode> {
     let words = words_of(&rt)?;
-    let options = match options_of(rt.alloc(), &words) {
-        Ok(options) => options,
-        Err(error) => return Ok(tell(rt.alloc(), &rt, &error)?),
-    };
-    match drain_by(&rt, options) {
+    match options_of(rt.alloc(), &words) {
+        Ok(options) => end_with(rt.alloc(), drain_by(&rt, options)),
+        Err(error) => Ok(tell(rt.alloc(), &rt, &error)?),
+    }
+}
+
+/// The exit status 0, or the failure, after which it is 1.
+fn end_with(alloc: Global, ended: Result<()>) -> Result<ExitCode>
+    ensures ok { OnOk ended (IfOk result (λ code. exit_status code ≡ 0)) }
+    ensures given { OnOk ended (IsOk result) }
+    ensures failed { OnErr ended (IsErr result) }
+{
+    match ended {
         Ok(()) => Ok(ExitCode::SUCCESS),
-        Err(error) => Err(mask_error(rt.alloc(), error)),
+        Err(error) => Err(mask_error(alloc, error)),
     }
 }
 

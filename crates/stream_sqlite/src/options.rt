@@ -2,7 +2,7 @@
 ghost use Rattle.std.specs.Prelude.{◌≡◌, ◌≤◌, [], length, IfOk, None, codes};
 ghost use Rattle.clap.specs.Words.{first_value, found_of};
 ghost use Rattle.command_lines.specs.Worker.{GivesUp, IsWord};
-ghost use Rattle.stream_sqlite.specs.Options.{AreOptions, Forwards, IsOtherThan};
+ghost use Rattle.stream_sqlite.specs.Options.{AreOptions, ForwardsTo, IsOtherThan};
 
 use clap::builder::ValueParser;
 use clap::{Arg, ArgMatches, Command, Error};
@@ -211,7 +211,7 @@ fn forward_of(
     command: &mut Command<'_>,
     matches: &ArgMatches<'_>,
 ) -> Result<Option<String>, Error>
-    ensures { IfOk result (λ target. Forwards (found_of matches.now) target) }
+    ensures { IfOk result (λ target. ForwardsTo (found_of matches.now) target) }
 {
     let Some(target) = matches.get_str("forward") else {
         return Ok(None);

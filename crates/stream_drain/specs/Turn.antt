@@ -1,0 +1,24 @@
+-- A turn of the program: a round, and commands that only look or send letters before it and after it.
+use Rattle.redis_connection.specs.Link.{Link}
+use Rattle.stream_confirm.specs.Confirmed.{IsConfirmedRound}
+use Rattle.stream_feed.specs.declared.wait.Wait.{Wait}
+use Rattle.stream_drain.specs.Written.{Written}
+use Rattle.stream_group.specs.Worker.{Verdict}
+use Rattle.stream_in_place.specs.Sent.{Pairs}
+use Rattle.std.specs.Prelude.{ℕ, List}
+use Rattle.stream_letters.specs.Besides.{Besides}
+use Rattle.stream_worker.specs.Session.{Standing}
+use Rattle.stream_worker.specs.declared.state.Asked.{Asked}
+use Rattle.stream_worker.specs.declared.state.Settings.{Settings}
+use Rattle.stream_worker.specs.declared.worker.Progress.{Progress}
+
+-- the round of a turn was confirmed, as `--wait` asks
+pub record IsConfirmedTurn (with_verdict : Written → List ℕ × Pairs → Verdict → Written)
+    (with_commit : Written → Written) (settings : Settings) (wait : Wait) (old new : Link) (w x : Standing Written)
+    (asked : Asked) : Type 0 where
+  pub before : Link
+  pub after : Link
+  pub progress : Progress
+  pub looked : Besides old before
+  pub round : IsConfirmedRound with_verdict with_commit settings wait before after w x asked progress
+  pub shown : Besides after new
