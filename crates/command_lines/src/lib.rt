@@ -16,8 +16,6 @@ ghost use Rattle.command_lines.specs.Numbers.{IsNumberIn, number_of};
 
 mod worker;
 
-pub use worker::{confirmation_of, dead, give_up_of, settings_of};
-
 use clap::builder::ValueParser;
 use clap::error::ErrorKind;
 use clap::{Arg, ArgAction, ArgMatches, Command, Error};
@@ -25,6 +23,7 @@ use std::alloc::{AllocError, Global};
 use std::fmt::Display;
 use std::io;
 use std::process::ExitCode;
+pub use worker::{confirmation_of, dead, give_up_of, settings_of};
 
 /// The version of the programs, which `--version` shows.
 pub const VERSION: &str = "0.9.0";

@@ -1,7 +1,7 @@
 -- The steps of a program that begins with what its file tells.
 use Rattle.std.proofs.Common.{◌≡◌, ◌+◌, ◌<◌, ◌∙◌, sym, ap, subst, ℕ, Bool, List, [], ◌∷◌, ◌++◌, drop}
 use Rattle.std.proofs.Common.{length, map, take, take-suc, add-one, get_or, string_bytes, Option, Some, None, IfSome, IfOk, Result, Ok, Err, Vec}
-use Rattle.std.proofs.Common.{◌≤◌, append-nil}
+use Rattle.std.proofs.Common.{◌≤◌, append-nil, refl}
 use Rattle.std.proofs.Math.Seq.{drop-length}
 use Rattle.std.proofs.lemmas.List.Folds.{drop_split}
 use Rattle.std.specs.List.{slice_range}
@@ -19,6 +19,7 @@ use Rattle.stream_worker.specs.declared.state.GroupState.{GroupState}
 use Rattle.stream_worker.specs.declared.state.GroupState.TheVariants.{Unknown}
 use Rattle.stream_worker.specs.declared.state.Settings.{Settings}
 use Rattle.stream_drain.specs.Resumed.{BeginsSo, BeginsWithLast, TellEach, Tells}
+use Rattle.stream_drain.specs.Counts.{has_any}
 use Rattle.stream_drain.specs.Known.{Known}
 use Rattle.stream_drain.specs.Written.{Written}
 use Rattle.stream_drain.proofs.ResumedLemmas.{begins_so, begins_with_last}
@@ -39,6 +40,23 @@ told_one_more json lines i line ids more id lt is pushed each tells =
     subst (λ (ls : List (List ℕ)). TellEach json ls (map string_bytes more)) (sym bytes)
     (subst (λ (is : List Id). TellEach json (bytes_of (take i lines) ++ line.items ∷ []) is) (sym texts)
     (tell_more json (bytes_of (take i lines)) (map string_bytes ids) line.items (string_bytes id) each tells))
+
+-- there are ids if there are lines that tell them
+each_told : (json : Bool) (lines : List (List ℕ)) (items : List (String Global))
+    → TellEach json lines (map string_bytes items) → has_any items ≡ has_any lines
+each_told json [] [] tell = refl
+each_told json [] (id ∷ ids) tell = absurd tell
+each_told json (line ∷ lines) [] tell = absurd tell
+each_told json (line ∷ lines) (id ∷ ids) tell = refl
+
+-- so it is where the file is known
+pub ids_are_there : (json : Bool) (n : ℕ) (committed : Option (List ℕ)) (items : List (String Global)) (b : Bool)
+    → b ≡ has_any items
+    → IfSome committed (λ bytes. TellEach json (last_of n (lines_of bytes)) (map string_bytes items))
+    → IfSome committed (λ bytes. b ≡ has_any (last_of n (lines_of bytes)))
+ids_are_there json n None items b is tell = tell
+ids_are_there json n (Some bytes) items b is tell =
+    is ∙ (each_told json (last_of n (lines_of bytes)) items tell)
 
 -- where a worker stands at its beginning, with so much in its file
 abbrev begun_with : Settings → Bool → Known → List Id → List ℕ → Option (List ℕ) → Standing Written

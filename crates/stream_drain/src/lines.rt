@@ -121,6 +121,8 @@ impl<D: LogFile + Drop> Lines<D> {
             (committed_in (D.seen self.new.log.file) self.new.log.len) self.new.log.batch.items) }
         ensures file { (self.new.log.file ≡ self.old.log.file) × (self.new.log.len ≡ self.old.log.len)
             × (self.new.log.is_broken ≡ self.old.log.is_broken) }
+        ensures counts { (self.new.seen ≡ self.old.seen) × (self.new.done ≡ self.old.done)
+            × (self.new.committed ≡ self.old.committed) }
     {
         match &mut self.known {
             Some(known) => add_new(

@@ -1,10 +1,11 @@
 //! How the program begins: with the ids that the last lines of its file tell.
-ghost use Rattle.std.specs.Prelude.{◌≡◌, ◌≢◌, ◌≤◌, ◌++◌, ◌∷◌, [], ℕ, List, IfOk, IfSome, IsTrue, codes, false, length, string_bytes, take, true};
+ghost use Rattle.std.specs.Prelude.{◌≡◌, ◌≤◌, ◌++◌, ◌∷◌, [], ℕ, List, IfOk, IfSome, IsTrue, codes, length, string_bytes, take};
 ghost use Rattle.std.specs.List.{list_all};
 ghost use Rattle.line_log.specs.Holds.{committed_in};
 ghost use Rattle.line_log.specs.LastLines.{last_of, lines_of};
 ghost use Rattle.line_log.specs.LineTexts.{bytes_of};
 ghost use Rattle.stream_drain.specs.Resumed.{BeginsSo, BeginsWithLast, Tells, TellEach, is_of_id};
+ghost use Rattle.stream_drain.specs.Counts.{has_any};
 ghost use Rattle.stream_drain.specs.Known.{known_by};
 ghost use Rattle.stream_worker.specs.Machine.{ids_of};
 ghost use Rattle.stream_worker.specs.Session.{standing_of};
@@ -36,8 +37,7 @@ pub fn begun<D: LogFile + Drop>(
 ) -> Result<Start>
     ensures settings { IfOk result (λ b. b.worker.settings ≡ settings) }
     ensures acknowledges { IfOk result (λ b. IfSome (committed_in (D.seen lines.now.log.file) lines.now.log.len)
-        (λ bytes. (b.acknowledges ≡ true → last_of LARGEST_COUNT (lines_of bytes) ≢ [])
-        × (b.acknowledges ≡ false → last_of LARGEST_COUNT (lines_of bytes) ≡ []))) }
+        (λ bytes. b.acknowledges ≡ has_any (last_of LARGEST_COUNT (lines_of bytes)))) }
     ensures lives { IfOk result (λ b. lines.now.log.batch.items ≡ []
         → IfSome (committed_in (D.seen lines.now.log.file) lines.now.log.len)
         (λ bytes. BeginsSo LARGEST_COUNT settings lines.now.json (known_by lines.now.known) bytes
@@ -48,12 +48,22 @@ pub fn begun<D: LogFile + Drop>(
         (standing_of b.worker (⟦<Lines<D> as Handler>⟧.history lines.now)))) }
 {
     let ids = lines.last_ids(alloc, LARGEST_COUNT)?;
-    let acknowledges = !ids.is_empty();
+    let acknowledges = has_ids(&ids);
     let worker = Worker::resumed(alloc, settings, ids);
     Ok(Start {
         worker,
         acknowledges,
     })
+}
+
+/// Whether there is an id to acknowledge.
+fn has_ids(ids: &[String]) -> bool
+    ensures { result ≡ has_any ids.now }
+{
+    match ids {
+        [] => false,
+        _ => true,
+    }
 }
 
 /// The ids of the entries of these lines, in order. It fails where a line tells none.

@@ -44,11 +44,14 @@ impl Counts {
 
 impl fmt::Display for Counts {
     fn fmt<W: fmt::Write>(&self, f: &mut fmt::Formatter<W>) -> fmt::Result {
-        let added = self.known.saturating_sub(self.there);
+        let (batches, there) = (self.batches, self.there);
+        let added = self.known.saturating_sub(there);
+        let records = if added == 1 { "record" } else { "records" };
+        let batch = if batches == 1 { "batch" } else { "batches" };
+        let were = if there == 1 { "was" } else { "were" };
         write!(
             f,
-            "{added} records in {} batches, {} were there",
-            self.batches, self.there
+            "{added} {records} in {batches} {batch}, {there} {were} there"
         )
     }
 }

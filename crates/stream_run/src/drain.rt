@@ -18,6 +18,9 @@ use stream_worker::{Asked, Handler, Pipelined, Round, RunError, Worker};
 /// The limit on what a connection holds, as `Limits::default` has it.
 const LARGEST: &str = "1 GiB";
 
+/// The limit on the values of a reply, as `Limits::default` has it.
+const MOST: &str = "16,777,216";
+
 /// Drains until something fails, until the child replies `stop`, or until a read finds nothing new where that is asked
 /// for.
 pub fn drain<
@@ -222,6 +225,10 @@ fn broken_off(error: RunError) -> Failure {
             error: ConnectionError::Fault(WireFault::Overfull),
             ..
         } => { anyhow!("an answer is larger than {LARGEST}: take a smaller --count").into() }
+        RunError::Receive {
+            error: ConnectionError::Fault(WireFault::TooMany),
+            ..
+        } => { anyhow!("an answer has more than {MOST} values: take a smaller --count").into() }
         RunError::Receive {
             error: ConnectionError::Memory,
             ..

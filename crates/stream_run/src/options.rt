@@ -96,11 +96,9 @@ fn with_numbers<'a>(alloc: Global, command: Command<'a>) -> Result<Command<'a>, 
 fn with_flags<'a>(alloc: Global, command: Command<'a>) -> Result<Command<'a>, AllocError> {
     let help =
         "Entries that were delivered so many times, 1 at least, go to this stream of dead letters";
-    command
-        .arg(dead(alloc, help))?
-        .arg(flag(
-            alloc,
-            "until-empty",
-            "It ends with status 0 once a read finds nothing new",
-        ))
+    command.arg(dead(alloc, help))?.arg(flag(
+        alloc,
+        "until-empty",
+        "It ends with status 0 once a read finds nothing new",
+    ))
 }

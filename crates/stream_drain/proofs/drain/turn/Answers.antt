@@ -5,6 +5,7 @@ use Rattle.stream_drain.specs.Known.{Known, known_by}
 use Rattle.stream_drain.specs.Written.{Written, written_by}
 use Rattle.stream_letters.proofs.DeadLemmas.{on_err}
 use Rattle.stream_drain.proofs.LivedLemmas.{leads_besides, leads_both, leads_breaks, leads_stop}
+use Rattle.stream_drain.proofs.TurnLemmas.{confirmed_turn}
 use Rattle.stream_drain.proofs.drain.turn.Goals as goal
 
 -- where a worker stands, with what its handler has written
@@ -56,3 +57,9 @@ returns-clause-ok g c =
     (leads_besides settings c.args.connection.now c.look.new.connection w c.in_ok-look.ensures.ok)
     c.in_ok-made.ensures.ok)
     (leads_besides settings c.any_round.new.connection c.count.new.connection y c.in_ok-count.ensures.ok)
+
+pub returns-clause-confirmed : goal.returns-clause-confirmed
+returns-clause-confirmed g c =
+    confirmed_turn _ _ c.args.worker.now.settings c.args.wait c.args.connection.now c.look.new.connection
+    c.any_round.new.connection c.count.new.connection _ _ c.in_ok-made.made.round.asked c.in_ok-made.made.round.progress
+    c.in_ok-look.ensures.ok c.in_ok-made.ensures.confirmed c.in_ok-count.ensures.ok

@@ -1,8 +1,10 @@
+use Rattle.std.proofs.Common.{◌∙◌, ap}
 use Rattle.line_log.specs.Holds.{committed_in}
 use Rattle.stream_worker.specs.Machine.{ids_of, machine_of}
 use Rattle.stream_drain.specs.declared.resume.TheConstants.{LARGEST_COUNT}
+use Rattle.stream_drain.specs.Counts.{has_any}
 use Rattle.stream_drain.specs.Known.{known_by}
-use Rattle.stream_drain.proofs.ResumeLemmas.{it_begins_so, it_begins_with_last}
+use Rattle.stream_drain.proofs.ResumeLemmas.{ids_are_there, it_begins_so, it_begins_with_last}
 use Rattle.stream_drain.proofs.resume.begun.Goals as goal
 
 pub returns-clause-lives : goal.returns-clause-lives
@@ -22,3 +24,10 @@ returns-clause-last g c empty =
     (committed_in (g.D.LogFile.seen c.args.lines.now.log.file) c.args.lines.now.log.len)
     (machine_of w) w.group w.asked c.resumed-worker.ensures.machine c.resumed-worker.ensures.group
     c.resumed-worker.ensures.asked empty c.in_ok-ids.ensures
+
+pub returns-clause-acknowledges : goal.returns-clause-acknowledges
+returns-clause-acknowledges g c =
+    ids_are_there c.args.lines.now.json LARGEST_COUNT
+    (committed_in (g.D.LogFile.seen c.args.lines.now.log.file) c.args.lines.now.log.len)
+    c.in_ok-ids.ids.items c.has_ids-acknowledges.result
+    (c.has_ids-acknowledges.ensures ∙ ap has_any c.deref.ensures.value) c.in_ok-ids.ensures
