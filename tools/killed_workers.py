@@ -69,7 +69,10 @@ BY_CELERY = '''
 import os, sys, celery
 from work import work
 app = celery.Celery("by_celery", broker=os.environ["REDIS_URL"])
-app.conf.task_acks_late = bool(os.environ.get("LATE"))
+app.conf.task_acks_late = "LATE" in os.environ
+if "TIMEOUT" in os.environ:
+    app.conf.task_reject_on_worker_lost = True
+    app.conf.broker_transport_options = {"visibility_timeout": int(os.environ["TIMEOUT"])}
 do = app.task(name="do")(work)
 if __name__ == "__main__":
     for n in range(1, int(sys.argv[1]) + 1):
@@ -93,7 +96,10 @@ SCRIPTS = {"work.py": WORK, "by_redis_py.py": BY_REDIS_PY, "handle.py": IN_HANDL
 
 
 class Peer(NamedTuple):
-    """A kind of worker: its package, its command, how jobs are added, where the broker has jobs, and its other processes."""
+    """A kind of worker: its package, its command, how jobs are added, where the broker has jobs, and its other processes.
+
+    It is waited for at least so many seconds.
+    """
 
     title: str
     package: str
@@ -102,6 +108,7 @@ class Peer(NamedTuple):
     places: Callable
     others: tuple = ()
     is_redis: bool = True
+    wait: float = 0.0
 
 
 def add_entries(broker, jobs):
@@ -177,6 +184,8 @@ PEERS = {
                lambda it, jobs: it.run(PYTHON, "add_rq.py", str(jobs)), of_rq, ("",)),
     "celery": celery("Celery"),
     "celery-late": celery("Celery, `acks_late`", "LATE=1"),
+    # (it looks for messages whose timeout is over each hundred seconds)
+    "celery-short": celery("Celery, the same with `reject_on_worker_lost` and a timeout of 5 s", "LATE=1", "TIMEOUT=5")._replace(wait=130),
     "sidekiq": Peer("Sidekiq", "ruby-sidekiq", lambda it: ["sidekiq", "-r", "./by_sidekiq.rb", "-c", "1"],
                     lambda it, jobs: it.run("ruby", "by_sidekiq.rb", str(jobs)), of_sidekiq),
 }
