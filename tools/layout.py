@@ -1,6 +1,7 @@
 """The files of an installation, and their paths below a prefix: what tools/install and tools/release have in common."""
 from __future__ import annotations
 
+import contextlib
 import glob
 import hashlib
 import os
@@ -9,8 +10,9 @@ import subprocess
 import sys
 import tempfile
 import textwrap
+import time as clock
 from concurrent.futures import ThreadPoolExecutor
-from typing import Dict, Iterator, List, NamedTuple, Sequence
+from typing import Callable, Dict, Iterator, List, NamedTuple, Sequence, TypeVar
 
 sys.dont_write_bytecode = True
 from unproved import KIT, ROOT, words_of_sources
@@ -85,6 +87,7 @@ class Entry(NamedTuple):
 
 
 Tree = Dict[str, Entry]
+Made = TypeVar("Made")
 
 
 class Build(NamedTuple):
@@ -117,6 +120,32 @@ def run(words: Sequence[str], given: str = "") -> str:
     if ran.returncode:
         raise NotMade(f"{' '.join(words[:3])}: {ran.stdout[-1500:]}")
     return ran.stdout
+
+
+def run_shown(words: Sequence[str]) -> None:
+    """Runs a command that takes minutes, and shows each line of its output as it comes."""
+    with tempfile.TemporaryFile("w+", errors="replace") as errors:
+        with subprocess.Popen(words, stdin=subprocess.DEVNULL, stdout=subprocess.PIPE, stderr=errors, cwd=ROOT, text=True,
+                              errors="replace") as ran:
+            assert ran.stdout is not None
+            for line in ran.stdout:
+                print(line, end="", flush=True)
+        errors.seek(0)
+        if ran.returncode:
+            raise NotMade(f"{' '.join(words[:3])}: {errors.read()[-1500:]}")
+
+
+def say(text: str) -> None:
+    """Prints a line with the name of the tool."""
+    print(f"{os.path.basename(sys.argv[0])}: {text}", flush=True)
+
+
+@contextlib.contextmanager
+def step(done: str) -> Iterator[None]:
+    """Says that something is done, and the seconds that it took, once it is."""
+    begun = clock.monotonic()
+    yield
+    say(f"{done} ({clock.monotonic() - begun:.0f} s)")
 
 
 def read(path: str) -> bytes:
@@ -163,12 +192,13 @@ def build_programs(is_proved: bool) -> Dict[str, str]:
     paths = {name: f"{ROOT}/crates/{name}/out/{name}" if is_proved else f"{KEPT}/{name}" for name in PROGRAMS}
     lacking = [name for name in PROGRAMS if not is_current(paths[name], name)]
     if lacking:
-        how = "proved and built, which takes up to two hours" if is_proved else "built, which takes minutes"
-        print(f"{', '.join(lacking)}: to be {how}", file=sys.stderr, flush=True)
+        how = "proves and builds these, which takes up to two hours" if is_proved else "compiles these, which takes minutes"
+        say(f"{how}: {', '.join(lacking)}")
     if lacking and not is_proved:
-        run([f"{ROOT}/tools/build-program", *lacking, KEPT])
+        run_shown([f"{ROOT}/tools/build-program", *lacking, KEPT])
     for name in lacking if is_proved else ():
-        run(["bash", "-c", f"cd crates/{name} && rt run -- --help < /dev/null"])
+        with step(f"{name} is proved and built"):
+            run(["bash", "-c", f"cd crates/{name} && rt run -- --help < /dev/null"])
     return paths
 
 
@@ -246,9 +276,21 @@ def make_tree(build: Build) -> Tree:
         if shutil.which(name) is None:
             raise NotMade(f"{name} is not installed: Debian's package {package} has it")
     with ThreadPoolExecutor(1 if build.is_proved else 2) as pool:
-        building = pool.submit(build_programs, build.is_proved)
-        library = pool.submit(build_library, build.is_proved).result()
+        building = pool.submit(lambda: timed("the programs are there", build_programs, build.is_proved))
+        library = pool.submit(lambda: timed("the C library is there", build_library, build.is_proved)).result()
         programs = building.result()
+    with step("the man pages, completions and licences are made"):
+        return tree_of(build, programs, library)
+
+
+def timed(done: str, make: Callable[[bool], Dict[str, Made]], is_proved: bool) -> Dict[str, Made]:
+    """Builds something, and says when it is done."""
+    with step(done):
+        return make(is_proved)
+
+
+def tree_of(build: Build, programs: Dict[str, str], library: Dict[str, bytes]) -> Tree:
+    """Returns all files of an installation."""
     tree = {f"bin/{name}": Entry(stamp(name, path, build), 0o755) for name, path in programs.items()}
     tree["bin/jagyerti"] = Entry(read("bin/jagyerti").replace(b'"python"', b'"lib"').replace(b" from a checkout", b""), 0o755)
     tree.update({f"lib/{name}": Entry(data) for name, data in library.items()})

@@ -136,8 +136,9 @@ def library_paths() -> list[str]:
         return [named]
     above = os.path.dirname(HERE)
     root = os.path.dirname(above)
-    return [os.path.join(folder, NAME)
-            for folder in (os.path.join(HERE, "lib"), above, os.path.join(root, "lib"), os.path.join(root, "build"))]
+    folders = (os.path.join(HERE, "lib"), above, os.path.join(root, "lib"), os.path.join(root, "build"))
+    # (in an installation two of them are the same)
+    return [os.path.join(folder, NAME) for folder in dict.fromkeys(folders)]
 
 
 @functools.lru_cache(maxsize=None)
@@ -152,5 +153,6 @@ def library() -> ctypes.CDLL:
         loaded = ctypes.CDLL(path)
         _declare(loaded)
     except (OSError, AttributeError) as error:
-        raise LibraryNotFound(f"{path}: {error}") from None
+        text = str(error)  # (which begins with the path, for most errors)
+        raise LibraryNotFound(text if text.startswith(path) else f"{path}: {text}") from None
     return loaded

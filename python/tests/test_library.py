@@ -32,7 +32,17 @@ class LibraryTest(unittest.TestCase):
         self.assertIn("/nowhere/libredis_c.so", self.shown_by("/nowhere/libredis_c.so"))
 
     def test_what_is_no_library(self) -> None:
-        self.assertIn(__file__, self.shown_by(__file__))
+        self.assertEqual(self.shown_by(__file__).count(__file__), 1)
+
+    def test_a_place_is_named_once(self) -> None:
+        with tempfile.TemporaryDirectory() as root:
+            home = os.path.join(root, "lib", "jagyerti")
+            shutil.copytree(PACKAGE, home, ignore=shutil.ignore_patterns("__pycache__", "lib"))
+            env = {name: value for name, value in os.environ.items() if name != library.VARIABLE}
+            env["PYTHONPATH"] = os.path.dirname(home)
+            said = subprocess.run([sys.executable, "-c", TRIED], cwd=root, env=env, capture_output=True, text=True, check=True).stdout
+            self.assertEqual(said.count(f" {root}/lib/{library.NAME}"), 1, said)
+            self.assertEqual(said.count(f" {home}/lib/{library.NAME}"), 1, said)
 
     def test_the_path_in_the_variable(self) -> None:
         path = library.library()._name
@@ -53,7 +63,8 @@ class LibraryTest(unittest.TestCase):
                 os.symlink(library.library()._name, os.path.join(root, place, library.NAME))
                 env = {"PYTHONPATH": os.path.dirname(os.path.join(root, home))}
                 code = TRIED + "from jagyerti import library\nprint(library.library()._name)"
-                ran = subprocess.run([sys.executable, "-c", code], env=env, capture_output=True, text=True, check=True)
+                # (in another folder than this one, whose package would be taken)
+                ran = subprocess.run([sys.executable, "-c", code], cwd=root, env=env, capture_output=True, text=True, check=True)
                 self.assertTrue(os.path.samefile(ran.stdout.strip(), library.library()._name), ran.stdout)
 
 
