@@ -22,6 +22,8 @@ FIGURES = (
 # Those of 'jagyerti run' alone.
 MORE_FIGURES = (("later", "counter", "Replies that left a job pending."),
                 ("timeouts", "counter", "Jobs that took longer than --job-timeout."),)
+# The seconds of jobs are counted up to each of these.
+BUCKETS = (0.001, 0.003, 0.01, 0.03, 0.1, 0.3, 1.0, 3.0, 10.0, 30.0, 60.0, 300.0, 900.0, 3600.0)
 COUNTS = {"entries": "entr(?:y|ies)", "batches": "batch(?:es)?", "dead_letters": "dead letters?"}
 BACKLOG = {"to_come": "to come", "pending": "pending"}
 LABELS = ("stream", "group", "consumer")

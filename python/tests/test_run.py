@@ -88,8 +88,10 @@ class Run(Running):
         self.assertIn("it ended 5 times in a row before any reply", said)
 
     def test_a_handler_that_cannot_be_started(self):
-        running = self.start("run", self.url, "k", "g", "--program", self.fake(""), "--retry", "0", "--", "/no/such")
-        self.assertIn("cannot run /no/such", self.said(running, 1))
+        for command, why in (("/no/such", "there is no such program"), ("no-such-word", "there is no such program"),
+                             (self.folder, "it is no program")):
+            running = self.start("run", self.url, "k", "g", "--program", self.fake(""), "--", command)
+            self.assertEqual(f"jagyerti run: cannot run {command}: {why}\n", self.said(running, 4))
 
     def test_a_handler_that_worked_is_started_again_at_once(self):
         handler = ("import os, sys, time\nmark = sys.argv[0] + '.mark'\nsys.stdin.readline()\n"

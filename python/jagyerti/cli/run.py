@@ -4,13 +4,14 @@ from __future__ import annotations
 import argparse
 import math
 import socket
-from typing import Any, List
+from typing import Any, List, Optional
 
+from ..child import Handling, arguments_of
 from ..connect import USAGE, Failed
-from ..handling import Crew, Handling
+from ..handling import Crew
 from ..process import find_program
 from .drain import leading_words
-from .options import add_command, add_connection_options, add_run_options, make_plan, program_words, seconds, take_url
+from .options import BLOCK, add_command, add_connection_options, add_run_options, make_plan, program_words, seconds, take_url
 
 TAKES_REST = True
 USAGE_LINE = "jagyerti run [URL] KEY GROUP [CONSUMER] [options] [options of stream_run] -- COMMAND WORDS .."
@@ -55,6 +56,11 @@ def add_parser(subparsers: Any) -> None:
     group.add_argument("--processes", metavar="N", type=count, default=1, help="how many commands run side by side (1)")
     group.add_argument("--job-timeout", metavar="SECONDS", type=seconds,
                        help="a command that takes longer for a job is killed; the job stays pending")
+    group.add_argument("--retry-after", metavar="SECONDS", type=seconds,
+                       help="a job that failed or was replied 'later' comes again after so long, twice as long for each "
+                       "delivery, and up to a quarter more by chance; else after --idle, or at once if the command ended")
+    group.add_argument("--retry-most", metavar="SECONDS", type=seconds, default=None,
+                       help="--retry-after grows up to so long (3600)")
     group.add_argument("--grace", metavar="SECONDS", type=seconds, default=25.0,
                        help="how long jobs in hand have after a signal (25)")
     group.add_argument("--metrics", metavar="FILE", help="writes what it did into this file once a second, as OpenMetrics")
@@ -70,10 +76,28 @@ def run(arguments: argparse.Namespace) -> int:
     if not words or not command:
         raise Failed("wanted: jagyerti run URL KEY GROUP [CONSUMER] -- COMMAND WORDS ..", USAGE)
     url, words = take_url(words)
-    words = with_consumer(words)
+    words = with_claims(with_consumer(words), arguments.retry_after)
     plan = make_plan(arguments, find_program("stream_run", arguments.program), [*([url] if url else []), *words],
                      metrics=arguments.metrics, metrics_prefix="stream_run")
-    return Crew(plan, Handling(command, arguments.job_timeout, arguments.grace), arguments.processes).run_to_the_end()
+    return Crew(plan, handling_of(arguments), arguments.processes).run_to_the_end()
+
+
+def handling_of(arguments: argparse.Namespace) -> Handling:
+    """Returns how jobs are handled."""
+    after, most = arguments.retry_after, arguments.retry_most
+    if most is not None and (after is None or most < after):
+        raise Failed("--retry-most is for --retry-after, and not below it", USAGE)
+    return Handling(arguments.after, arguments.job_timeout, arguments.grace, after, max(3600.0, after or 0) if most is None else most)
+
+
+def with_claims(words: List[str], after: Optional[float]) -> List[str]:
+    """Returns the words of stream_run. With --retry-after it claims after each read, and does not wait long for one."""
+    more: List[str] = []
+    if after is not None and arguments_of(words, "--every") is None:
+        more += ["--every", "1"]
+    if after is not None and arguments_of(words, "--block") is None:
+        more += ["--block", str(round(max(100, min(BLOCK, after * 500))))]
+    return [*words, *more]
 
 
 def with_consumer(words: List[str]) -> List[str]:
