@@ -1,11 +1,12 @@
 """The jobs of one handler after the other: the one in hand, counts of replies, seconds of each job, and why jobs failed."""
 from __future__ import annotations
 
+import itertools
 import re
 import time
 from typing import Dict, List, Optional
 
-from .metrics import BUCKETS
+from .metrics import BUCKETS, Value
 
 MOST_REASONS = 10_000  # jobs of which it is kept why they failed
 ID = re.compile(rb'\{"id":"([0-9]+-[0-9]+)"')
@@ -27,11 +28,7 @@ class Spread:
 
     def figure(self) -> List[float]:
         """Returns the sum, and after it how many jobs are in each bucket or in one before it."""
-        total, figure = 0, [round(self.sum, 6)]
-        for count in self.counts:
-            total += count
-            figure.append(total)
-        return figure
+        return [round(self.sum, 6), *itertools.accumulate(self.counts)]
 
 
 class Desk:
@@ -49,6 +46,13 @@ class Desk:
     def replies(self) -> int:
         """How many replies came."""
         return sum(self.counts.values())
+
+    def figures(self) -> Dict[str, Value]:
+        """Returns what the metrics say of jobs."""
+        last = {"last_entry_timestamp_seconds": f"{self.last_done:.3f}"} if self.last_done else {}
+        return {"done": self.counts[DONE], "later": self.counts[LATER], "dead": self.counts[DEAD], "timeouts": self.timeouts,
+                "restarts": max(0, self.handlers - 1), "in_hand": int(self.in_hand is not None),
+                "job_seconds": self.spread.figure(), **last}
 
     def begin(self, line: bytes) -> None:
         """Takes a line, or the beginning of a long one: its job is in hand."""

@@ -49,6 +49,11 @@ class Pair(Tries):
     place: Optional[Address]
     beat: Optional[Beat]
 
+    @property
+    def name(self) -> str:
+        """The name that is shown before what the handler prints."""
+        return self.plan.words[2]
+
     def _make_keeper(self) -> Optional[Keeper]:
         """Returns what holds back jobs that failed, if that is wanted."""
         words, handling = self.plan.words, self.handling
@@ -74,7 +79,7 @@ class Pair(Tries):
     def make_run(self, connection: socket.socket) -> Run:
         """Starts a handler, and returns a run of stream_run that has it at the other end of two pipes."""
         later = self.keeper.hold if self.keeper is not None else lambda _: None
-        self.child = child = Child(self.handling, f"{self.plan.words[2]}: ", self.desk, later)
+        self.child = child = Child(self.handling, f"{self.name}: ", self.desk, later)
         self.desk.handlers += 1
         words = [*self.plan.program_words(), "--lines", f"/dev/fd/{child.lines}", "--replies", f"/dev/fd/{child.replies}"]
         run = Run(words, connection, self.plan.silence, self.plan.options.timeout, (child.lines, child.replies))
@@ -184,8 +189,12 @@ class Pair(Tries):
 
     def figures_of_jobs(self) -> Dict[str, Value]:
         """Returns what all runs together did."""
-        return {**self.figures.all(), "later": self.desk.counts["later"] + self.desk.counts["dead"],
-                "timeouts": self.desk.timeouts}
+        return {**self.figures.all(), **self.desk.figures()}
+
+    def write_metrics(self) -> None:
+        """Tells the figures once a second, and writes the metrics file, if one is wanted."""
+        self.tell_figures(self.figures_of_jobs())
+        super().write_metrics()
 
     def metric_rows(self) -> List[Row]:
         """Returns what the metrics file says."""

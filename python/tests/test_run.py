@@ -1,5 +1,6 @@
 """jagyerti run: handlers that work, end, hang and are stopped, beside a program in place of stream_run."""
 import os
+import re
 import shutil
 import signal
 import subprocess
@@ -136,14 +137,52 @@ class Run(Running):
                     text = packed.read()
                 self.assertEqual([line for line in ("1-0", "2-0", "cup 1", "cup 2") if line not in text], [])
 
-    def test_metrics(self):
-        path = os.path.join(self.folder, "metrics")
-        self.said(self.begin(DONE, "--metrics", path), 0)
+    def metrics(self, path):
+        """Returns the samples of the file, without their labels. promtool has to find nothing in it, if it is there."""
         with open(path, encoding="utf-8") as file:
             text = file.read()
-        self.assertIn("stream_run_entries_total{stream=\"k\",", text)
-        self.assertIn("} 2\n", text)
-        self.assertIn("stream_run_timeouts_total{", text)
+        self.assertTrue(text.endswith("# EOF\n"))
+        if shutil.which("promtool"):
+            ran = subprocess.run(["promtool", "check", "metrics"], input=text.encode(), capture_output=True, timeout=60, check=False)
+            self.assertEqual((ran.stdout + ran.stderr, ran.returncode), (b"", 0))
+        samples = {}
+        for line in text.splitlines():
+            found = re.fullmatch(r'stream_run_(\w+){stream="k",group="g",consumer="[^"]*"(?:,le="(.*)")?} (.*)', line)
+            self.assertTrue(found or line.startswith("# "), line)
+            if found:
+                samples.setdefault(found[1] if found[2] is None else f"{found[1]} {found[2]}", []).append(float(found[3]))
+        return samples
+
+    def test_metrics(self):
+        path = os.path.join(self.folder, "metrics")
+        handler = ("import sys, time\nfor at, line in enumerate(sys.stdin):\n    time.sleep(0.02)\n"
+                   "    print(('done', 'later', 'later no', 'dead it')[at % 4], flush=True)\n")
+        self.said(self.begin(handler, "--metrics", path, jobs=8), 0)
+        samples = self.metrics(path)
+        wanted = {"entries_total": [8], "starts_total": [1], "done_total": [2], "later_total": [4], "dead_total": [2],
+                  "timeouts_total": [0], "restarts_total": [0], "in_hand": [0], "job_seconds_count": [8], "job_seconds_bucket 0.01": [0],
+                  "job_seconds_bucket 3600.0": [8], "job_seconds_bucket +Inf": [8]}
+        self.assertEqual({name: samples[name] for name in wanted}, wanted)
+        self.assertGreaterEqual(samples["job_seconds_sum"][0], 0.16)
+
+    def test_metrics_while_jobs_are_in_hand(self):
+        path = os.path.join(self.folder, "metrics")
+        handler = "import sys, time\nsys.stdin.readline()\nprint('done', flush=True)\nsys.stdin.readline()\ntime.sleep(60)\n"
+        running = self.begin(handler, "--metrics", path, "--processes", "2")
+        end, samples = time.monotonic() + 60, {}
+        while time.monotonic() < end and samples.get("in_hand") != [1, 1]:
+            time.sleep(0.2)
+            samples = self.metrics(path) if os.path.exists(path) else {}
+        self.assertEqual((samples["in_hand"], samples["done_total"], samples["job_seconds_count"]), ([1, 1],) * 3)
+        running.kill()
+
+    def test_metrics_of_jobs_that_take_too_long(self):
+        path = os.path.join(self.folder, "metrics")
+        handler = ("import os, sys, time\nmark = sys.argv[0] + '.mark'\nsys.stdin.readline()\n"
+                   "if not os.path.exists(mark):\n    open(mark, 'w')\n    time.sleep(50)\nprint('done', flush=True)\n" + DONE)
+        self.said(self.begin(handler, "--metrics", path, "--job-timeout", "0.4", "--pause", "0.02"), 0)
+        samples = self.metrics(path)
+        self.assertEqual((samples["timeouts_total"], samples["restarts_total"], samples["starts_total"]), ([1], [1], [2]))
 
     def test_first_signal_lets_the_job_in_hand_end(self):
         handler = PYTHON + "    import time\n    print('begins', job.id)\n    time.sleep(0.7)\nhandle.serve()\n"
