@@ -118,7 +118,7 @@ class Pair(Tries):
                 self.say(str(failed))
                 return HANDLER_FAILED, False
             if status != HANDLER_FAILED:
-                return status, may_help and not self._lacks_group()
+                return status, not self._lacks_group() and may_help
             if self.signals:
                 return 0, False
             if not self._may_go_on():

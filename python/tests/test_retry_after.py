@@ -57,11 +57,10 @@ class Live(unittest.TestCase):
         for at, (how, times) in enumerate(jobs, 1):
             self.server.ask("XADD", "k", f"{at}-0", "how", how, "times", times)
 
-    def begin(self, *words, command=None, url=None):
+    def begin(self, consumer, *words, url=None):
         """Starts 'jagyerti run'."""
-        command = command or [sys.executable, self.handler, self.noted]
-        words = [sys.executable, "-I", "-c", LAUNCH, "run", url or self.server.url, "k", "g", "--program", program(self.folder), "--from",
-                 "0", *words, "--", *command]
+        words = [sys.executable, "-I", "-c", LAUNCH, "run", url or self.server.url, "k", "g", consumer, "--program",
+                 program(self.folder), "--from", "0", *words, "--", sys.executable, self.handler, self.noted]
         running = subprocess.Popen(words, stdin=subprocess.DEVNULL, stderr=subprocess.PIPE)
         self.addCleanup(running.stderr.close)
         self.addCleanup(running.wait)
@@ -106,7 +105,7 @@ class RetryAfter(Live):
 
     def test_a_job_comes_again_after_a_pause_that_grows(self):
         self.add(("later", 2), ("done", 0), ("done", 0))
-        running = self.begin("--retry-after", "0.5")
+        running = self.begin("c", "--retry-after", "0.5")
         self.until(lambda: len(self.times("1-0")) == 3 and self.pending() == 0)
         first, second = self.gaps("1-0")
         self.assertGreaterEqual(first, 0.5)
@@ -116,7 +115,7 @@ class RetryAfter(Live):
 
     def test_a_job_that_ends_its_handler_comes_after_the_others(self):
         self.add(("exit", 1), ("hang", 1), ("done", 0))
-        running = self.begin("--retry-after", "4", "--job-timeout", "0.4", "--pause", "0.02")
+        running = self.begin("c", "--retry-after", "4", "--job-timeout", "0.4", "--pause", "0.02")
         self.until(lambda: len(self.times("1-0")) == 2 and len(self.times("2-0")) == 2 and self.pending() == 0)
         self.assertLess(self.times("3-0")[0], self.times("1-0")[1])
         self.assertGreaterEqual(self.gaps("1-0")[0], 4)
@@ -127,9 +126,10 @@ class RetryAfter(Live):
 
     def test_a_pause_that_is_longer_than_idle(self):
         self.add(("later", 1))
-        running = self.begin("--retry-after", "5", "--idle", "2000")
+        running = self.begin("c", "--retry-after", "5", "--idle", "2000")
         self.until(lambda: self.times("1-0"))
         other = self.begin("other", "--idle", "2000", "--every", "1", "--block", "100")
+        self.until(lambda: b"other" in [consumer[1] for consumer in self.server.ask("XINFO", "CONSUMERS", "k", "g")])
         self.until(lambda: len(self.times("1-0")) == 2 and self.pending() == 0)
         self.assertGreaterEqual(self.gaps("1-0")[0], 5)
         self.stop(running)
@@ -137,8 +137,8 @@ class RetryAfter(Live):
 
     def test_after_a_crash_others_have_the_job(self):
         self.add(("later", 1))
-        running = self.begin("--retry-after", "1000", "--idle", "1000")
-        self.until(lambda: self.server.ask("XPENDING", "k", "g", "-", "+", 9, f"{os.uname().nodename}.later"))
+        running = self.begin("c", "--retry-after", "1000", "--idle", "1000")
+        self.until(lambda: self.server.ask("XPENDING", "k", "g", "-", "+", 9, "c.later"))
         running.kill()
         running.wait()
         other = self.begin("other", "--idle", "1000", "--every", "1", "--block", "100")
@@ -151,18 +151,18 @@ class RetryAfter(Live):
         self.server.ask("XREADGROUP", "GROUP", "g", "c.later", "STREAMS", "k", ">")
         link = keeper.Link(lambda: Address.parse(self.server.url), connect.Options(), self.fail)
         self.addCleanup(link.close)
-        held = keeper.Keeper(link, ["k", "g", "c"], 0.2, 1000, 3600)
+        held = keeper.Keeper(link, ["k", "g", "c"], 3, 1000, 3600)
         held.adopt()
         self.assertEqual(sorted(held.due), ["1-0", "2-0"])
         before = dict(held.due)
         held.adopt()
         self.assertEqual(held.due, before)
-        time.sleep(0.3)
+        time.sleep(1.5)
         held.due["1-0"] = time.monotonic()
         held.tick()
         idles = {row[0]: row[2] for row in self.server.ask("XPENDING", "k", "g", "-", "+", 9)}
-        self.assertGreaterEqual(idles[b"1-0"], 200)
-        self.assertLess(idles[b"2-0"], 200)
+        self.assertGreaterEqual(idles[b"1-0"], 3000)
+        self.assertLess(idles[b"2-0"], 1500)
         self.assertEqual(sorted(held.due), ["2-0"])
         self.server.ask("XACK", "k", "g", "2-0")
         self.server.ask("XCLAIM", "k", "g", "another", 0, "1-0")
@@ -174,7 +174,7 @@ class RetryAfter(Live):
 
     def test_wrong_words(self):
         for words in (["--retry-most", "5"], ["--retry-after", "5", "--retry-most", "4"]):
-            running = self.begin(*words)
+            running = self.begin("c", *words)
             self.assertIn("--retry-most is for --retry-after", running.communicate(timeout=60)[1].decode())
             self.assertEqual(running.returncode, 2)
 
