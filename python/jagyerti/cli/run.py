@@ -26,6 +26,9 @@ of its consumer.
 All other options are those of stream_run, which 'jagyerti run -- --help' shows. CONSUMER is the host's name, if it is
 left out. With --processes N there are N commands, each with a stream_run, as CONSUMER.1 to CONSUMER.N.
 
+With --retry-after a job that failed is pending for CONSUMER.later during its pause. Any consumer claims it after that, also
+if this is gone. When a job is given up by --dead, it is told why it failed last.
+
 A command that ends is started again, after a growing pause if it replied to nothing. After five such ends in a row, each
 within ten seconds, this ends. So a job that ends each command needs --dead with a number up to 4.
 After a connection that broke it connects again, without end unless --retry says how often.
@@ -37,8 +40,8 @@ The first SIGTERM or SIGINT lets the job in hand end, and the jobs of its batch,
 SIGWINCH: one that takes it may reply 'stop' to the next line. Then all ends with status 0. A second signal ends it at
 once; jobs that were in hand come again.
 
-exit status: 0 after --until-empty, 'stop' or a signal; 1 if the server is not there or takes no login; 2 if words are
-wrong; 4 if COMMAND cannot be started, ends again and again, or gives a reply that is none.
+exit status: 0 after --until-empty, 'stop' or a signal; 1 if the server is not there, takes no login or, without --from, has
+no such group; 2 if words are wrong; 4 if COMMAND cannot be started, ends again and again, or gives a reply that is none.
 
 example: jagyerti run redis://127.0.0.1:6379 orders packers -- python3 pack.py
 """
