@@ -1,12 +1,22 @@
 """jagyerti run says why a job failed last, once it is given up."""
 import unittest
 
+from jagyerti import connect, process
 from jagyerti.desk import MOST_REASONS, Desk, Spread
 from jagyerti.metrics import BUCKETS
 
 from .test_retry_after import Live
 
 
+def has_program():
+    """Whether stream_run is built: a program in Python that plays it starts too slowly for a job that ends its handler."""
+    try:
+        return bool(process.find_program("stream_run"))
+    except connect.Failed:
+        return False
+
+
+@unittest.skipUnless(has_program(), "no stream_run is built")
 class Reasons(Live):
     def test_why_a_job_failed_is_said_when_it_is_given_up(self):
         self.add(("later no item", 99), ("hang", 99), ("exit", 99), ("dead no order", 99), ("later", 99), ("done", 0))
