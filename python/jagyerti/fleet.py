@@ -27,21 +27,22 @@ COLUMNS = ("entries", "to_come", "pending", "starts", "moved", "ask", "waits")
 
 @dataclasses.dataclass(frozen=True)
 class Share:
-    """The partitions: their number, those of this process, and the place of FILE among the words. Lines of a file that
-    are brought in are spread `by` their key."""
+    """The partitions: their number, those of this process, and the place of FILE among the words, None if there is none.
+    Lines of a file that are brought in are spread `by` their key."""
 
     number: int
     mine: Sequence[int]
-    place: int
+    place: Optional[int]
     by: Optional[str] = None
 
 
-def words_of_partition(words: Sequence[str], place: int, at: int) -> List[str]:
-    """Returns the words of a partition's program: its key, its file, and its stream of dead letters."""
+def words_of_partition(words: Sequence[str], place: Optional[int], at: int) -> List[str]:
+    """Returns the words of a partition's program: its key, its file if it has one, and its stream of dead letters."""
     own = list(words)
     own[0] = cluster.partition_name(own[0], at)
-    own[place] += f".{at}"
-    for index in range(place + 1, len(own) - 2):
+    if place is not None:
+        own[place] += f".{at}"
+    for index in range(1 if place is None else place + 1, len(own) - 2):
         if own[index] == "--dead":
             own[index + 2] = cluster.partition_name(own[index + 2], at)
     return own
@@ -227,6 +228,8 @@ class Fleet:
 
     def _prepare(self) -> None:
         """Splits the file that is to be brought in. Refuses another number of partitions than there was."""
+        if self.share.place is None:
+            return
         path, number = self.plan.words[self.share.place], self.share.number
         try:
             if self.share.by is None:
@@ -263,11 +266,15 @@ class Fleet:
         """Runs a partition, in the process of its own."""
         words = words_of_partition(self.plan.program_words()[1:], self.share.place, at)
         plan = dataclasses.replace(self.plan, words=words, metrics=None)
-        one = Partition(plan, at, self.nodes, tell, self.share.by is not None)
+        one = self.make_partition(plan, at, tell)
         for held in HELD:
             signal.signal(held, one.take_signal)
         signal.pthread_sigmask(signal.SIG_UNBLOCK, HELD)
         return one.run_to_the_end()
+
+    def make_partition(self, plan: Plan, at: int, tell: Tell) -> Partition:
+        """Returns the runs of a partition."""
+        return Partition(plan, at, self.nodes, tell, self.share.by is not None)
 
     def _show(self) -> None:
         """Shows the table, if it changed."""

@@ -1,12 +1,13 @@
-"""What a drain did, as a text of OpenMetrics in a file."""
+"""What a drain did, or a worker, as a text in a file: OpenMetrics, or what promtool calls the text format."""
 from __future__ import annotations
 
 import os
 import re
 import time
-from typing import Callable, Dict, Optional, Sequence, Tuple, Union
+from typing import Callable, Dict, List, Optional, Sequence, Tuple, Union
 
-Value = Union[int, str, None]
+# A histogram is its sum, and after it the count up to each bucket.
+Value = Union[int, str, None, List[float]]
 Row = Tuple[Sequence[str], Dict[str, Value]]
 
 # The name of each figure, its type, and what it is.
@@ -20,8 +21,17 @@ FIGURES = (
     ("pending", "gauge", "Entries that were delivered and not acknowledged."),
 )
 # Those of 'jagyerti run' alone.
-MORE_FIGURES = (("later", "counter", "Replies that left a job pending."),
-                ("timeouts", "counter", "Jobs that took longer than --job-timeout."),)
+MORE_FIGURES = (
+    ("done", "counter", "Replies 'done'."),
+    ("later", "counter", "Replies 'later'."),
+    ("dead", "counter", "Replies 'dead'."),
+    ("timeouts", "counter", "Jobs that took longer than --job-timeout."),
+    ("restarts", "counter", "Starts of the command after the first one."),
+    ("in_hand", "gauge", "Jobs that the command has now."),
+    ("job_seconds", "histogram", "Seconds from the line of a job to its reply."),
+)
+# The seconds of jobs are counted up to each of these.
+BUCKETS = (0.001, 0.003, 0.01, 0.03, 0.1, 0.3, 1.0, 3.0, 10.0, 30.0, 60.0, 300.0, 900.0, 3600.0)
 COUNTS = {"entries": "entr(?:y|ies)", "batches": "batch(?:es)?", "dead_letters": "dead letters?"}
 BACKLOG = {"to_come": "to come", "pending": "pending"}
 LABELS = ("stream", "group", "consumer")
@@ -68,18 +78,33 @@ def found_number(line: str, text: str) -> Optional[int]:
 
 
 def render(prefix: str, rows: Sequence[Row]) -> str:
-    """Returns the figures of streams as OpenMetrics. A row is KEY, GROUP and CONSUMER, and the figures."""
+    """Returns the figures of streams as a text. A row is KEY, GROUP and CONSUMER, and the figures.
+
+    It is OpenMetrics for a drain. For jobs the type of a counter is that of the name with _total, as promtool wants it.
+    """
     text = ""
     more = [figure for figure in MORE_FIGURES if any(figure[0] in figures for _, figures in rows)]
     for name, kind, meaning in (*FIGURES, *more):
         whole = f"{prefix}_{name}"
-        unit = f"# UNIT {whole} seconds\n" if name.endswith("_seconds") else ""
-        text += f"# TYPE {whole} {kind}\n{unit}# HELP {whole} {meaning}\n"
+        unit = f"# UNIT {whole} seconds\n" if name.endswith("_seconds") and not more else ""
+        typed = f"{whole}_total" if kind == "counter" and more else whole
+        text += f"# TYPE {typed} {kind}\n{unit}# HELP {typed} {meaning}\n"
         for words, figures in rows:
             labels = ",".join(f'{label}="{escaped(word)}"' for label, word in zip(LABELS, words))
-            if figures.get(name) is not None:
-                text += f"{whole}{'_total' if kind == 'counter' else ''}{{{labels}}} {figures[name]}\n"
+            value = figures.get(name)
+            if isinstance(value, list):
+                text += histogram(whole, labels, value)
+            elif value is not None:
+                text += f"{whole}{'_total' if kind == 'counter' else ''}{{{labels}}} {value}\n"
     return text + "# EOF\n"
+
+
+def histogram(name: str, labels: str, figure: Sequence[float]) -> str:
+    """Returns the samples of a histogram: its sum, and the count up to each bucket."""
+    total, *counts = figure
+    places = [*(str(most) for most in BUCKETS), "+Inf"]
+    buckets = "".join(f'{name}_bucket{{{labels},le="{place}"}} {count}\n' for place, count in zip(places, counts))
+    return f"{buckets}{name}_sum{{{labels}}} {total}\n{name}_count{{{labels}}} {counts[-1]}\n"
 
 
 def escaped(word: str) -> str:

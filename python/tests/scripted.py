@@ -27,14 +27,14 @@ def scripted(replies: Sequence[bytes], family: int = socket.AF_INET, path: str =
     listener = socket.socket(family, socket.SOCK_STREAM)
     listener.bind(path if family == socket.AF_UNIX else ("127.0.0.1", 0))
     listener.listen()
-    listener.settimeout(10)
+    listener.settimeout(60)
     noted: List[List[bytes]] = []
 
     def play() -> None:
         with contextlib.suppress(OSError):
             connection, _ = listener.accept()
             with connection, connection.makefile("rb") as file:
-                connection.settimeout(10)
+                connection.settimeout(60)
                 for reply in replies:
                     noted.append(read_command(file))
                     if not reply:

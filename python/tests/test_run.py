@@ -1,5 +1,6 @@
 """jagyerti run: handlers that work, end, hang and are stopped, beside a program in place of stream_run."""
 import os
+import re
 import shutil
 import signal
 import subprocess
@@ -34,7 +35,7 @@ while {waits} and os.read(0, 100):
 print("done {jobs}, batches 1, left pending 0", file=sys.stderr)
 """
 DONE = "import sys\nfor line in sys.stdin:\n    print('done', flush=True)\n"
-PYTHON = f"import sys\nsys.path.insert(0, {PACKAGES!r})\nfrom jagyerti import handler\n@handler\ndef handle(job):\n"
+PYTHON = "from jagyerti import handler\n@handler\ndef handle(job):\n"
 
 
 class Run(Running):
@@ -50,14 +51,14 @@ class Run(Running):
         self.listener.listen(16)
         return self.start("run", self.url, "k", "g", "--program", path, *words, "--", sys.executable, "-u", script)
 
-    def of_command(self, *command):
+    def of_command(self, *command, options=(), **variables):
         """Starts 'jagyerti run' with this command as the handler."""
         path = os.path.join(self.folder, "fake_run")
         with open(path, "w", encoding="ascii") as file:
             file.write(FAKE.format(python=sys.executable, jobs=2, waits=False).replace('["k","%d"]', '["item","cup %d"]'))
         os.chmod(path, 0o755)
         self.listener.listen(16)
-        return self.start("run", self.url, "k", "g", "--program", path, "--", *command, PYTHONPATH=PACKAGES)
+        return self.start("run", self.url, "k", "g", "--program", path, *options, "--", *command, **variables)
 
     def said(self, running, status):
         """Waits for its end, and returns what it said."""
@@ -87,19 +88,64 @@ class Run(Running):
         self.assertEqual(said.count("the handler ended with 3"), 5)
         self.assertIn("it ended 5 times in a row before any reply", said)
 
+    def test_a_handler_that_ends_before_any_job(self):
+        running = self.begin("import no_such_module\n", "--pause", "0.02", waits=True, jobs=0)
+        said = self.said(running, 4)
+        why = "ModuleNotFoundError: No module named 'no_such_module'"
+        self.assertEqual(said.count(f"the handler ended with 1: {why}\n"), 5)
+        self.assertTrue(said.endswith(f"jagyerti run: it ended 5 times in a row before any reply: {why}\n"), said)
+
+    def test_a_line_that_nobody_asked_for(self):
+        handler = "import time\nprint('hello', flush=True)\ntime.sleep(60)\n"
+        said = self.said(self.begin(handler, "--pause", "0.02", waits=True, jobs=0), 4)
+        self.assertEqual(said.count("the handler wrote a line before it was asked"), 5)
+
+    def test_a_group_that_is_missing(self):
+        text = "Error: XREADGROUP of pending entries: the server answers NOGROUP No such key"
+        program = self.fake(f"print('done 0, batches 0, left pending 0\\n{text}', file=sys.stderr); sys.exit(1)")
+        self.listener.listen(16)
+        running = self.start("run", self.url, "k", "g", "--program", program, "--", sys.executable, "-c", "input()")
+        connection, _ = self.listener.accept()
+        connection.sendall(b"x")
+        connection.close()
+        said = self.said(running, 1)
+        self.assertIn(f"{text}\n", said)
+        self.assertIn("\njagyerti run: k has no group g: --from 0 makes it, for all entries of the stream", said)
+        self.assertNotIn("tries again", said)
+
+    def test_a_handler_in_python_finds_the_package(self):
+        handler = PYTHON + "    print('has', job.id)\nhandle.serve()\n"
+        self.assertIn(": has 2-0\n", self.said(self.begin(handler), 0))
+
+    @unittest.skipUnless(shutil.which("cc") and shutil.which("stdbuf"), "no cc or no stdbuf is installed")
+    def test_line_buffered(self):
+        source, built = os.path.join(self.folder, "it.c"), os.path.join(self.folder, "it")
+        with open(source, "w", encoding="ascii") as file:
+            file.write('#include <stdio.h>\nint main(void) { char line[999]; while (fgets(line, 999, stdin)) puts("done"); return 0; }\n')
+        subprocess.run(["cc", "-o", built, source], check=True)
+        self.assertIn("done 2, batches 1", self.said(self.of_command(built, options=["--line-buffered", "--job-timeout", "30"]), 0))
+
+    def test_line_buffered_wants_stdbuf(self):
+        running = self.of_command(sys.executable, "-c", "", options=["--line-buffered"], PATH=self.folder)
+        self.assertIn("--line-buffered wants the program stdbuf", self.said(running, 2))
+
     def test_a_handler_that_cannot_be_started(self):
-        running = self.start("run", self.url, "k", "g", "--program", self.fake(""), "--retry", "0", "--", "/no/such")
-        self.assertIn("cannot run /no/such", self.said(running, 1))
+        for command, why in (("/no/such", "there is no such program"), ("no-such-word", "there is no such program"),
+                             (self.folder, "it is no program")):
+            running = self.start("run", self.url, "k", "g", "--program", self.fake(""), "--", command)
+            self.assertEqual(f"jagyerti run: cannot run {command}: {why}\n", self.said(running, 4))
 
     def test_a_handler_that_worked_is_started_again_at_once(self):
         handler = ("import os, sys, time\nmark = sys.argv[0] + '.mark'\nsys.stdin.readline()\n"
                    "if not os.path.exists(mark):\n    open(mark, 'w')\n    time.sleep(1.2)\n    os.kill(os.getpid(), 9)\n"
                    "print('done', flush=True)\n" + DONE)
+        running = self.begin(handler)
+        while b"the handler was ended by SIGKILL" not in running.stderr.readline():
+            pass
         begun = time.monotonic()
-        said = self.said(self.begin(handler), 0)
-        self.assertIn("the handler was ended by SIGKILL", said)
+        said = self.said(running, 0)
         self.assertLess(time.monotonic() - begun, 20)
-        self.assertEqual(said.count("words k g"), 2)
+        self.assertEqual(said.count("words k g"), 1)
 
     def test_a_job_that_takes_too_long(self):
         handler = ("import os, sys, time\nmark = sys.argv[0] + '.mark'\nsys.stdin.readline()\n"
@@ -134,14 +180,57 @@ class Run(Running):
                     text = packed.read()
                 self.assertEqual([line for line in ("1-0", "2-0", "cup 1", "cup 2") if line not in text], [])
 
-    def test_metrics(self):
-        path = os.path.join(self.folder, "metrics")
-        self.said(self.begin(DONE, "--metrics", path), 0)
+    def metrics(self, path):
+        """Returns the samples of the file, without their labels. promtool has to find nothing in it, if it is there."""
         with open(path, encoding="utf-8") as file:
             text = file.read()
-        self.assertIn("stream_run_entries_total{stream=\"k\",", text)
-        self.assertIn("} 2\n", text)
-        self.assertIn("stream_run_timeouts_total{", text)
+        self.assertTrue(text.endswith("# EOF\n"))
+        if shutil.which("promtool"):
+            ran = subprocess.run(["promtool", "check", "metrics"], input=text.encode(), capture_output=True, timeout=60, check=False)
+            self.assertEqual((ran.stdout + ran.stderr, ran.returncode), (b"", 0))
+        samples = {}
+        for line in text.splitlines():
+            found = re.fullmatch(r'(stream_run_\w+){stream="k",group="g",consumer="[^"]*"(?:,le="(.*)")?} (.*)', line)
+            self.assertTrue(found or line.startswith("# "), line)
+            if found:
+                samples.setdefault(found[1] if found[2] is None else f"{found[1]} {found[2]}", []).append(float(found[3]))
+        return samples
+
+    def test_metrics(self):
+        path = os.path.join(self.folder, "metrics")
+        handler = ("import sys, time\nfor at, line in enumerate(sys.stdin):\n    time.sleep(0.02)\n"
+                   "    print(('done', 'later', 'later no', 'dead it')[at % 4], flush=True)\n")
+        self.said(self.begin(handler, "--metrics", path, jobs=8), 0)
+        samples = self.metrics(path)
+        wanted = {"stream_run_entries_total": [8], "stream_run_batches_total": [1], "stream_run_dead_letters_total": [0],
+                  "stream_run_starts_total": [1], "stream_run_done_total": [2], "stream_run_later_total": [4],
+                  "stream_run_dead_total": [2], "stream_run_timeouts_total": [0], "stream_run_restarts_total": [0],
+                  "stream_run_in_hand": [0], "stream_run_job_seconds_count": [8], "stream_run_job_seconds_bucket 0.01": [0],
+                  "stream_run_job_seconds_bucket 3600.0": [8], "stream_run_job_seconds_bucket +Inf": [8]}
+        self.assertEqual({name: samples[name] for name in wanted}, wanted)
+        self.assertGreaterEqual(samples["stream_run_job_seconds_sum"][0], 0.16)
+        self.assertLess(abs(samples["stream_run_last_entry_timestamp_seconds"][0] - time.time()), 600)
+
+    def test_metrics_while_jobs_are_in_hand(self):
+        path = os.path.join(self.folder, "metrics")
+        handler = "import sys, time\nsys.stdin.readline()\nprint('done', flush=True)\nsys.stdin.readline()\ntime.sleep(60)\n"
+        running = self.begin(handler, "--metrics", path, "--processes", "2")
+        end, samples = time.monotonic() + 60, {}
+        while time.monotonic() < end and not samples.get("stream_run_in_hand") == samples.get("stream_run_done_total") == [1, 1]:
+            time.sleep(0.2)
+            samples = self.metrics(path) if os.path.exists(path) else {}
+        names = "stream_run_in_hand", "stream_run_done_total", "stream_run_job_seconds_count"
+        self.assertEqual([samples[name] for name in names], [[1, 1]] * 3)
+        running.kill()
+
+    def test_metrics_of_jobs_that_take_too_long(self):
+        path = os.path.join(self.folder, "metrics")
+        handler = ("import os, sys, time\nmark = sys.argv[0] + '.mark'\nsys.stdin.readline()\n"
+                   "if not os.path.exists(mark):\n    open(mark, 'w')\n    time.sleep(50)\nprint('done', flush=True)\n" + DONE)
+        self.said(self.begin(handler, "--metrics", path, "--job-timeout", "0.4", "--pause", "0.02"), 0)
+        samples = self.metrics(path)
+        names = "stream_run_timeouts_total", "stream_run_restarts_total", "stream_run_starts_total"
+        self.assertEqual([samples[name] for name in names], [[1], [1], [2]])
 
     def test_first_signal_lets_the_job_in_hand_end(self):
         handler = PYTHON + "    import time\n    print('begins', job.id)\n    time.sleep(0.7)\nhandle.serve()\n"

@@ -2,7 +2,7 @@
 from __future__ import annotations
 
 import argparse
-from typing import Any, List
+from typing import Any, List, Optional
 
 from .. import cluster
 from ..connect import USAGE, Failed
@@ -84,8 +84,8 @@ def refuse_partitions(arguments: argparse.Namespace) -> None:
         raise Failed("--partitions, --of, --mine and --by are for --cluster", USAGE)
 
 
-def share_of(arguments: argparse.Namespace, place: int) -> Share:
-    """Returns the partitions of this process; FILE is the word at this place."""
+def share_of(arguments: argparse.Namespace, place: Optional[int]) -> Share:
+    """Returns the partitions of this process; FILE is the word at this place, if there is one."""
     if arguments.sentinel is not None:
         raise Failed("--cluster and --sentinel exclude each other", USAGE)
     number, of, mine = arguments.partitions or 0, arguments.of or 1, arguments.mine or 0

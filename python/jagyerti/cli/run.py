@@ -3,14 +3,17 @@ from __future__ import annotations
 
 import argparse
 import math
+import shutil
 import socket
-from typing import Any, List
+from typing import Any, List, Optional
 
+from ..child import Handling, arguments_of, find_command
 from ..connect import USAGE, Failed
-from ..handling import Crew, Handling
+from ..handling import Crew
+from ..job_fleet import JobFleet
 from ..process import find_program
-from .drain import leading_words
-from .options import add_command, add_connection_options, add_run_options, make_plan, program_words, seconds, take_url
+from .drain import add_cluster_options, leading_words, refuse_partitions, share_of
+from .options import BLOCK, add_command, add_connection_options, add_run_options, make_plan, program_words, seconds, take_url
 
 TAKES_REST = True
 USAGE_LINE = "jagyerti run [URL] KEY GROUP [CONSUMER] [options] [options of stream_run] -- COMMAND WORDS .."
@@ -23,16 +26,22 @@ of its consumer.
 All other options are those of stream_run, which 'jagyerti run -- --help' shows. CONSUMER is the host's name, if it is
 left out. With --processes N there are N commands, each with a stream_run, as CONSUMER.1 to CONSUMER.N.
 
+With --retry-after a job that failed is pending for CONSUMER.later during its pause. Any consumer claims it after that, also
+if this is gone. When a job is given up by --dead, it is told why it failed last.
+
 A command that ends is started again, after a growing pause if it replied to nothing. After five such ends in a row, each
 within ten seconds, this ends. So a job that ends each command needs --dead with a number up to 4.
 After a connection that broke it connects again, without end unless --retry says how often.
+
+With --cluster there is a stream_run and a COMMAND for each partition k of N, on KEY:{k}. URL names one node or more, and
+redirections are followed as 'jagyerti drain' follows them. --dead N STREAM gives up to STREAM:{k}.
 
 The first SIGTERM or SIGINT lets the job in hand end, and the jobs of its batch, for at most --grace seconds. COMMAND gets
 SIGWINCH: one that takes it may reply 'stop' to the next line. Then all ends with status 0. A second signal ends it at
 once; jobs that were in hand come again.
 
-exit status: 0 after --until-empty, 'stop' or a signal; 1 if the server is not there or takes no login; 2 if words are
-wrong; 4 if COMMAND cannot be started, ends again and again, or gives a reply that is none.
+exit status: 0 after --until-empty, 'stop' or a signal; 1 if the server is not there, takes no login or, without --from, has
+no such group; 2 if words are wrong; 4 if COMMAND cannot be started, ends again and again, or gives a reply that is none.
 
 example: jagyerti run redis://127.0.0.1:6379 orders packers -- python3 pack.py
 """
@@ -55,10 +64,18 @@ def add_parser(subparsers: Any) -> None:
     group.add_argument("--processes", metavar="N", type=count, default=1, help="how many commands run side by side (1)")
     group.add_argument("--job-timeout", metavar="SECONDS", type=seconds,
                        help="a command that takes longer for a job is killed; the job stays pending")
+    group.add_argument("--retry-after", metavar="SECONDS", type=seconds,
+                       help="a job that failed or was replied 'later' comes again after so long, twice as long for each "
+                       "delivery, and up to a quarter more by chance; else after --idle, or at once if the command ended")
+    group.add_argument("--retry-most", metavar="SECONDS", type=seconds, default=None,
+                       help="--retry-after grows up to so long (3600)")
+    group.add_argument("--line-buffered", action="store_true",
+                       help="the command is started with 'stdbuf -oL', so that a program of C prints each line at once")
     group.add_argument("--grace", metavar="SECONDS", type=seconds, default=25.0,
                        help="how long jobs in hand have after a signal (25)")
-    group.add_argument("--metrics", metavar="FILE", help="writes what it did into this file once a second, as OpenMetrics")
+    group.add_argument("--metrics", metavar="FILE", help="writes what it did into this file once a second, for Prometheus")
     parser.add_argument("--program", metavar="FILE", help="the program, in place of the stream_run that is installed")
+    add_cluster_options(parser)
 
 
 def run(arguments: argparse.Namespace) -> int:
@@ -70,10 +87,43 @@ def run(arguments: argparse.Namespace) -> int:
     if not words or not command:
         raise Failed("wanted: jagyerti run URL KEY GROUP [CONSUMER] -- COMMAND WORDS ..", USAGE)
     url, words = take_url(words)
-    words = with_consumer(words)
+    words = with_claims(with_consumer(words), arguments.retry_after)
     plan = make_plan(arguments, find_program("stream_run", arguments.program), [*([url] if url else []), *words],
                      metrics=arguments.metrics, metrics_prefix="stream_run")
-    return Crew(plan, Handling(command, arguments.job_timeout, arguments.grace), arguments.processes).run_to_the_end()
+    handling = handling_of(arguments)
+    if arguments.cluster:
+        if arguments.processes != 1:
+            raise Failed("--cluster and --processes exclude each other: each partition has a command", USAGE)
+        return JobFleet(plan, share_of(arguments, None), handling).run_to_the_end()
+    refuse_partitions(arguments)
+    return Crew(plan, handling, arguments.processes).run_to_the_end()
+
+
+def handling_of(arguments: argparse.Namespace) -> Handling:
+    """Returns how jobs are handled."""
+    after, most = arguments.retry_after, arguments.retry_most
+    if most is not None and (after is None or most < after):
+        raise Failed("--retry-most is for --retry-after, and not below it", USAGE)
+    command = line_buffered(arguments.after) if arguments.line_buffered else arguments.after
+    return Handling(command, arguments.job_timeout, arguments.grace, after, max(3600.0, after or 0) if most is None else most)
+
+
+def line_buffered(command: List[str]) -> List[str]:
+    """Returns a command that has a C library print each line at once."""
+    find_command(command)
+    if shutil.which("stdbuf") is None:
+        raise Failed("--line-buffered wants the program stdbuf, of GNU coreutils, which is not installed", USAGE)
+    return ["stdbuf", "-oL", *command]
+
+
+def with_claims(words: List[str], after: Optional[float]) -> List[str]:
+    """Returns the words of stream_run. With --retry-after it claims after each read, and does not wait long for one."""
+    more: List[str] = []
+    if after is not None and arguments_of(words, "--every") is None:
+        more += ["--every", "1"]
+    if after is not None and arguments_of(words, "--block") is None:
+        more += ["--block", str(round(max(100, min(BLOCK, after * 500))))]
+    return [*words, *more]
 
 
 def with_consumer(words: List[str]) -> List[str]:

@@ -1,0 +1,234 @@
+"""A handler that runs, and the relay between it and stream_run."""
+from __future__ import annotations
+
+import contextlib
+import dataclasses
+import os
+import select
+import shutil
+import signal
+import subprocess
+import threading
+import time
+from typing import Callable, Dict, List, Optional, Sequence
+
+from .connect import Failed
+from .desk import LATER, Desk
+from .process import PACKAGES, Listener, Run, die_with_parent, do_nothing
+
+LOOK_EACH = 0.1  # seconds between two looks at a job's time
+CLOSING = 5.0  # seconds that a handler has to end after its lines have ended
+PIECE = 65536  # bytes that are passed on at once, and the longest reply
+HANDLER_FAILED = 4  # the status of stream_run if the handler ended or gave a wrong reply
+FINISH = signal.SIGWINCH  # 'finish the job in hand', as nginx and Apache take it; ignored by other programs
+SHARED = ("site-packages", "dist-packages")  # folders that Python finds by itself
+
+
+@dataclasses.dataclass(frozen=True)
+class Handling:
+    """How jobs are handled: by which command, how long a job may take, and how long the last one after a signal."""
+
+    command: Sequence[str]
+    job_timeout: Optional[float] = None
+    grace: float = 25.0
+    retry_after: Optional[float] = None
+    retry_most: float = 3600.0
+
+
+def handler_environment() -> Dict[str, str]:
+    """Returns the environment of a handler, in which Python finds this package after all that PYTHONPATH names."""
+    paths = [path for path in os.environ.get("PYTHONPATH", "").split(os.pathsep) if path]
+    if PACKAGES not in paths and os.path.basename(PACKAGES) not in SHARED:
+        paths.append(PACKAGES)
+    return {**os.environ, **({"PYTHONPATH": os.pathsep.join(paths)} if paths else {})}
+
+
+def find_command(command: Sequence[str]) -> str:
+    """Returns the path of a command. Raises Failed if it is no program."""
+    path = shutil.which(command[0])
+    if path is None:
+        why = "it is no program" if os.path.exists(command[0]) else "there is no such program"
+        raise Failed(f"cannot run {command[0]}: {why}", HANDLER_FAILED)
+    return path
+
+
+class Relay(threading.Thread):
+    """Passes each line on to the handler and its reply back, all bytes as they come, and tells the desk of both.
+
+    A handler that ends or writes while no job is in hand is told to `broken`. `later` is called with the id of a job
+    that was replied so, before the reply is passed on.
+    """
+
+    def __init__(self, pipes: Sequence[int], desk: Desk, later: Callable[[str], None], broken: Callable[[str], None]) -> None:
+        super().__init__(daemon=True)
+        self.lines, self.to_handler, self.from_handler, self.replies = self.pipes = tuple(pipes)
+        self.desk, self.later, self.broken = desk, later, broken
+        self.count = 0
+
+    def run(self) -> None:
+        """Passes on until one of both ends."""
+        try:
+            while self._pass_line() and self._pass_reply():
+                pass
+        except OSError:
+            pass  # one of both has closed its end
+        finally:
+            for pipe in self.pipes:
+                os.close(pipe)
+
+    def _pass_line(self) -> bool:
+        """Waits for a line and passes it on. Returns whether it came and the handler is there."""
+        ready, _, _ = select.select([self.lines, self.from_handler], [], [])
+        if self.lines not in ready:
+            is_end = not os.read(self.from_handler, PIECE)
+            self.broken("" if is_end else "the handler wrote a line before it was asked")
+            return False
+        piece = os.read(self.lines, PIECE)
+        if piece:
+            self.desk.begin(piece)
+        while piece:
+            _write_all(self.to_handler, piece)
+            if piece.endswith(b"\n"):
+                return True
+            piece = os.read(self.lines, PIECE)
+        return False
+
+    def _pass_reply(self) -> bool:
+        """Waits for a reply and passes it on. Returns whether it was one."""
+        reply, job = b"", self.desk.in_hand
+        while b"\n" not in reply and len(reply) <= PIECE:
+            piece = os.read(self.from_handler, PIECE)
+            if not piece:
+                return False
+            reply += piece
+        said = self.desk.end(reply)
+        self.count += said is not None
+        if said == LATER and job is not None:
+            self.later(job)
+        _write_all(self.replies, reply)
+        return said is not None
+
+
+def _write_all(pipe: int, piece: bytes) -> None:
+    left = memoryview(piece)
+    while left:
+        left = left[os.write(pipe, left):]
+
+
+class Child:
+    """A handler that runs: a process in a session of its own, with a relay between its pipes and those of stream_run.
+
+    `lines` and `replies` are the ends for stream_run. What the process prints on standard error is shown with a prefix.
+    """
+
+    def __init__(self, handling: Handling, prefix: str, desk: Desk, later: Callable[[str], None]) -> None:
+        self.handling, self.prefix, self.desk = handling, prefix, desk
+        self.begun, self.lasted, self.is_late, self.last_line = time.monotonic(), 0.0, False, ""
+        self.broken: Optional[str] = None
+        self.run: Optional[Run] = None
+        desk.in_hand = None
+        find_command(handling.command)
+        from_program, self.lines = os.pipe()
+        self.replies, to_program = os.pipe()
+        given, to_handler = os.pipe()
+        from_handler, taken = os.pipe()
+        try:
+            self.process = self._start(handling.command, given, taken)
+        except OSError as error:
+            for pipe in (from_program, self.lines, self.replies, to_program, to_handler, from_handler):
+                os.close(pipe)
+            raise Failed(f"cannot run {handling.command[0]}: {error}", HANDLER_FAILED) from None
+        finally:
+            os.close(given)
+            os.close(taken)
+        assert self.process.stderr is not None
+        self.listener = Listener(self.process.stderr, self._show, do_nothing)
+        self.listener.start()
+        self.relay = Relay((from_program, to_handler, from_handler, to_program), desk, later, self._break)
+        self.relay.start()
+
+    @staticmethod
+    def _start(command: Sequence[str], given: int, taken: int) -> subprocess.Popen[bytes]:
+        parent = os.getpid()
+        return subprocess.Popen(command, stdin=given, stdout=taken, stderr=subprocess.PIPE, env=handler_environment(),
+                                start_new_session=True, preexec_fn=lambda: die_with_parent(parent))
+
+    def _show(self, line: str) -> bool:
+        if line.strip():
+            self.last_line = line.strip()
+        os.write(2, f"{self.prefix}{line}\n".encode(errors="replace"))
+        return False
+
+    def _break(self, why: str) -> None:
+        """Ends the program, since the handler broke while no job was in hand. One that ends has a second for its status."""
+        self.broken = why
+        if not why:
+            with contextlib.suppress(subprocess.TimeoutExpired):
+                self.process.wait(1)
+        self.kill()
+        if self.run is not None:
+            self.run.stop()
+
+    def attach(self, run: Run) -> None:
+        """Takes the run that it works for, and watches how long each job takes."""
+        self.run = run
+        if self.broken is not None:
+            run.stop()
+        threading.Thread(target=self._watch, daemon=True).start()
+
+    def finish(self) -> None:
+        """Asks it to reply 'stop' to the next line. A handler that does not know FINISH goes on."""
+        if self.process.poll() is None:
+            self.process.send_signal(FINISH)
+
+    def kill(self) -> None:
+        """Ends it at once, and all that it started in its session."""
+        with contextlib.suppress(ProcessLookupError, PermissionError):
+            os.killpg(self.process.pid, signal.SIGKILL)
+
+    def end(self) -> int:
+        """Waits for its end, now that its lines have ended. Returns its status."""
+        try:
+            status = self.process.wait(CLOSING)
+        except subprocess.TimeoutExpired:
+            self.kill()
+            status = self.process.wait()
+        self.lasted = time.monotonic() - self.begun
+        self.kill()
+        self.relay.join(CLOSING)
+        self.listener.join()
+        assert self.process.stderr is not None
+        self.process.stderr.close()
+        return status
+
+    def _watch(self) -> None:
+        """Kills it if a job takes too long. If it ended, ends what it left, so that its replies end too."""
+        most, desk = self.handling.job_timeout, self.desk
+        while self.process.poll() is None:
+            time.sleep(LOOK_EACH)
+            since = desk.since
+            if most is not None and time.monotonic() - since > most and desk.in_hand is not None and desk.since == since:
+                self.is_late = True
+                break
+        self.kill()
+
+    def outcome(self, status: int) -> str:
+        """Returns how it ended, in words."""
+        if self.is_late:
+            return f"the job took more than {self.handling.job_timeout:g} seconds"
+        if self.broken:
+            return self.broken
+        last = f": {self.last_line}" if self.last_line else ""
+        if status < 0:
+            return f"the handler was ended by {signal.Signals(-status).name}{last}"
+        return f"the handler ended with {status}{last}"
+
+
+def arguments_of(words: Sequence[str], name: str, number: int = 1) -> Optional[List[str]]:
+    """Returns the values of an option among the words of a program, None if it is not there."""
+    for at, word in enumerate(words):
+        head, equals, value = word.partition("=")
+        if head == name:
+            values = [value, *words[at + 1:]] if equals else list(words[at + 1:])
+            return values[:number] if len(values) >= number else None
+    return None
