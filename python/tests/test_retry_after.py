@@ -115,14 +115,14 @@ class RetryAfter(Live):
 
     def test_a_job_that_ends_its_handler_comes_after_the_others(self):
         self.add(("exit", 1), ("hang", 1), ("done", 0))
-        running = self.begin("c", "--retry-after", "4", "--job-timeout", "0.4", "--pause", "0.02")
+        running = self.begin("c", "--retry-after", "8", "--job-timeout", "2.5", "--pause", "0.02")
         self.until(lambda: len(self.times("1-0")) == 2 and len(self.times("2-0")) == 2 and self.pending() == 0)
         self.assertLess(self.times("3-0")[0], self.times("1-0")[1])
-        self.assertGreaterEqual(self.gaps("1-0")[0], 4)
-        self.assertGreaterEqual(self.gaps("2-0")[0], 4)
+        self.assertGreaterEqual(self.gaps("1-0")[0], 8)
+        self.assertGreaterEqual(self.gaps("2-0")[0], 8)
         said = self.stop(running)
         self.assertIn("the handler ended with 3", said)
-        self.assertIn("the job took more than 0.4 seconds", said)
+        self.assertIn("the job took more than 2.5 seconds", said)
 
     def test_a_pause_that_is_longer_than_idle(self):
         self.add(("later", 1))
