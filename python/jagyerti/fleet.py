@@ -123,7 +123,9 @@ class Partition(Tries):
             if self.entries or self.started is not None and time.monotonic() - self.started > 5:
                 self.tries = self.redirections = 0
                 self.pauses.reset()
-            if not self._goes_on(status, may_help, text):
+            if self.is_fewer and self.server is not None:
+                self.target = self.server.host, self.server.port
+            elif not self._goes_on(status, may_help, text):
                 break
         self.report(state=f"ended with {status}")
         return status

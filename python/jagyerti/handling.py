@@ -81,7 +81,7 @@ class Pair(Tries):
         later = self.keeper.hold if self.keeper is not None else lambda _: None
         self.child = child = Child(self.handling, f"{self.name}: ", self.desk, later)
         self.desk.handlers += 1
-        words = [*self.plan.program_words(), "--lines", f"/dev/fd/{child.lines}", "--replies", f"/dev/fd/{child.replies}"]
+        words = [*self.program_words(), "--lines", f"/dev/fd/{child.lines}", "--replies", f"/dev/fd/{child.replies}"]
         run = Run(words, connection, self.plan.silence, self.plan.options.timeout, (child.lines, child.replies))
         run.grace = self.handling.grace + CLOSING
         return run

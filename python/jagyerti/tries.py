@@ -13,6 +13,7 @@ from typing import Callable, Iterator, List, Optional, Sequence, Tuple
 
 from . import connect, sentinel
 from .connect import FAILED, SILENT, USAGE, Failed
+from .counts import Counts
 from .metrics import Figures, MetricsFile, Row
 from .process import HELD, Run
 from .retry import Pauses
@@ -30,7 +31,10 @@ class Stopped(Exception):
 
 @dataclasses.dataclass(frozen=True)
 class Plan:
-    """What is run, and how. `say` prints what this process itself has to say. A foreign program is not of this package."""
+    """What is run, and how. `say` prints what this process itself has to say. A foreign program is not of this package.
+
+    `count` is what the program takes for --count if it is not given, and None if it has no such option.
+    """
 
     program: str
     words: Sequence[str]
@@ -45,6 +49,7 @@ class Plan:
     is_foreign: bool = False
     metrics: Optional[str] = None
     metrics_prefix: str = "stream_drain"
+    count: Optional[int] = None
 
     @property
     def silence(self) -> float:
@@ -66,6 +71,7 @@ class Tries:
 
     def __init__(self, plan: Plan) -> None:
         self.plan, self.figures = plan, Figures()
+        self.counts, self.is_fewer = Counts(plan.words, plan.count), False
         self.run: Optional[Run] = None
         self.signals, self.signalled, self.is_idle = 0, -TOGETHER, False
         self.error, self.entries, self.held_counts, self.held_error = "", 0, "", ""
@@ -117,10 +123,12 @@ class Tries:
             except Failed as failed:
                 self.plan.say(str(failed))
                 status, may_help = failed.status, True
-            if not may_help or self.signals:
-                return status
             if time.monotonic() - begun >= max(GOOD_RUN, 2 * self.plan.silence):
                 pauses.reset()
+            if self.is_fewer:
+                continue
+            if not may_help or self.signals:
+                return status
             if pauses.tries >= self.plan.retry:
                 return status
             pause = pauses.take()
@@ -134,14 +142,18 @@ class Tries:
         return self.plan.servers[0]
 
     def run_once(self, find_server: Callable[[], Address]) -> Tuple[int, bool]:
-        """Connects and runs the program. Returns its status, and whether another try may help."""
+        """Connects and runs the program. Returns its status, and whether another try may help.
+
+        `is_fewer` says then that the next run is to begin at once, with fewer entries at once.
+        """
+        self.is_fewer = False
         with self.idle():
             connection = connect.open(find_server(), self.plan.options)
         signal.pthread_sigmask(signal.SIG_BLOCK, HELD)
         self.figures.begin()
         self.error, self.entries, self.held_counts, self.held_error = "", 0, "", ""
         run = self.make_run(connection)
-        sent_before = run.counts()[2]
+        sent_before, begun = run.counts()[2], time.monotonic()
         try:
             run.start(self.hear, self.write_metrics)
             self.run = run
@@ -155,11 +167,24 @@ class Tries:
             self.run = None
             run.close()
             signal.pthread_sigmask(signal.SIG_UNBLOCK, HELD)
-        return self._outcome(status, silent, sent > sent_before)
+        outcome = self._outcome(status, silent, sent > sent_before)
+        if not self.signals:
+            self._take_end(self.entries > 0 or time.monotonic() - begun >= GOOD_RUN)
+        return outcome
+
+    def _take_end(self, is_good: bool) -> None:
+        """Sets how many entries the next run takes at once, and says so if these are fewer."""
+        self.is_fewer = self.counts.take_end(self.error, is_good)
+        if self.is_fewer:
+            self.say(f"takes --count {self.counts.now}, since a batch was past a limit")
+
+    def program_words(self) -> List[str]:
+        """Returns the words of the next run of the program."""
+        return self.counts.in_words(self.plan.program_words())
 
     def make_run(self, connection: socket.socket) -> Run:
         """Returns a run of the program on this connection, which is not started yet."""
-        run = Run(self.plan.program_words(), connection, self.plan.silence, self.plan.options.timeout)
+        run = Run(self.program_words(), connection, self.plan.silence, self.plan.options.timeout)
         run.grace, run.restore_signals = self.plan.grace, self.plan.is_foreign
         return run
 

@@ -10,6 +10,7 @@ from typing import Callable, List, Optional, Sequence
 
 from . import url as urls
 from .connect import Failed, Options
+from .counts import DEFAULTS
 from .jobs import Handle, serve
 from .process import Run, find_program
 from .tries import Plan, Stopped, Tries
@@ -32,7 +33,7 @@ class Worker:
         server = urls.all_from_words(url, urls.PORT)[0]
         program = find_program("stream_run", program)
         self.plan = Plan(program, [key, group, consumer or socket.gethostname(), *words], [server], Options(timeout), _say,
-                         retry=retry, pause=pause)
+                         retry=retry, pause=pause, count=DEFAULTS["stream_run"])
         self._runs: Optional[_Runs] = None
 
     def run(self, handle: Handle) -> None:
@@ -69,7 +70,7 @@ class _Runs(Tries):
         """Returns a run at whose pipes the jobs are handled."""
         given, lines = os.pipe()
         replies, taken = os.pipe()
-        words = [*self.plan.program_words(), "--lines", f"/dev/fd/{lines}", "--replies", f"/dev/fd/{replies}"]
+        words = [*self.program_words(), "--lines", f"/dev/fd/{lines}", "--replies", f"/dev/fd/{replies}"]
         return _HandledRun(words, connection, self.plan, (lines, replies), lambda: _serve(self.handle, given, taken))
 
 

@@ -6,6 +6,7 @@ from typing import Any, List, Optional
 
 from .. import cluster
 from ..connect import USAGE, Failed
+from ..counts import DEFAULTS
 from ..fleet import Fleet, Share
 from ..process import find_program
 from ..tries import Tries
@@ -63,7 +64,8 @@ def add_parser(subparsers: Any) -> None:
 def run(arguments: argparse.Namespace) -> int:
     """Runs it. Returns the exit status."""
     program = find_program("stream_drain", arguments.program)
-    plan = make_plan(arguments, program, program_words(arguments, program), metrics=arguments.metrics)
+    plan = make_plan(arguments, program, program_words(arguments, program), metrics=arguments.metrics,
+                     count=DEFAULTS["stream_drain"])
     if (arguments.metrics or arguments.cluster) and len(leading_words(list(plan.words))) < 4:
         raise Failed("--metrics and --cluster want KEY GROUP CONSUMER FILE before the options of stream_drain", USAGE)
     if not arguments.cluster:

@@ -9,6 +9,7 @@ from typing import Any, List, Optional, Tuple
 
 from .. import url
 from ..connect import USAGE, Failed, Options
+from ..counts import DEFAULTS
 from ..process import find_program
 from ..tries import Plan, Tries
 from . import say
@@ -119,7 +120,8 @@ def make_plan(arguments: argparse.Namespace, program: str, words: List[str], **m
 def run_program(arguments: argparse.Namespace, name: str, **more: Any) -> int:
     """Runs a program of this package on a connection. Its own words are those that the parser does not know."""
     program = find_program(name, arguments.program)
-    return Tries(make_plan(arguments, program, program_words(arguments, program), **more)).run_to_the_end()
+    plan = make_plan(arguments, program, program_words(arguments, program), count=DEFAULTS.get(name), **more)
+    return Tries(plan).run_to_the_end()
 
 
 def program_words(arguments: argparse.Namespace, program: str) -> List[str]:

@@ -9,6 +9,7 @@ from typing import Any, List, Optional
 
 from ..child import Handling, arguments_of, find_command
 from ..connect import USAGE, Failed
+from ..counts import DEFAULTS
 from ..handling import Crew
 from ..job_fleet import JobFleet
 from ..process import find_program
@@ -89,7 +90,7 @@ def run(arguments: argparse.Namespace) -> int:
     url, words = take_url(words)
     words = with_claims(with_consumer(words), arguments.retry_after)
     plan = make_plan(arguments, find_program("stream_run", arguments.program), [*([url] if url else []), *words],
-                     metrics=arguments.metrics, metrics_prefix="stream_run")
+                     metrics=arguments.metrics, metrics_prefix="stream_run", count=DEFAULTS["stream_run"])
     handling = handling_of(arguments)
     if arguments.cluster:
         if arguments.processes != 1:
