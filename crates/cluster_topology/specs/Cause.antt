@@ -1,4 +1,4 @@
--- Why a reply tells no topology.
+-- Why a reply was refused as a topology.
 use Rattle.std.specs.Prelude.{◌≡◌, List, Bool, true, false, Option, None, IsSomeAnd, ⊤}
 use Rattle.std.specs.List.{list_any}
 use Rattle.redis_resp.specs.declared.value.error.ParsingError.{ParsingError}

@@ -43,7 +43,7 @@ replica_of (host ∷ port ∷ more) =
     option_map (λ p. record { host = unwrap_or h []; port = p; role = Replica }) (unsigned_reading 16 port)
 replica_of _ = None
 
--- a node behind the first of its row
+-- a node after the first of its row
 abbrev pub slots_node : Tree → Option Node
 slots_node t = option_and_then replica_of (array_of_plain (plain t))
 

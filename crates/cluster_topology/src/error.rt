@@ -1,12 +1,12 @@
-//! Why a reply tells no topology.
+//! Why a reply was refused as a topology.
 use redis_resp::ParsingError;
 use std::alloc::AllocError;
 use thiserror::Error;
 
-/// Why a reply tells no topology, or that memory ran out.
+/// Why a reply was refused as a topology, or that memory ran out.
 #[derive(Debug, Drop, PartialEq, Eq, Error)]
 pub enum TopologyError {
-    /// The value is no such reply. A slot or port above 65,535 is no number of it.
+    /// The value is not such a reply. A slot or port above 65,535 is refused too.
     #[error("not a reply of slots")]
     NotSlots,
     /// A slot is above 16,383.
@@ -18,7 +18,7 @@ pub enum TopologyError {
     /// A slot is in two ranges.
     #[error("a slot is in two ranges")]
     Overlap,
-    /// A growth was refused. It says nothing of the value.
+    /// An allocation failed. It says nothing of the value.
     #[error("out of memory")]
     Memory,
 }

@@ -1,5 +1,5 @@
-//! Which node is the master of a slot, as a node of the cluster tells: the replies to CLUSTER SLOTS
-//! and CLUSTER SHARDS. Nothing here opens a connection.
+//! Which node is the master of a slot, by the replies to CLUSTER SLOTS and CLUSTER SHARDS. Nothing here opens a
+//! connection.
 #![tactic(auto)]
 
 mod check;

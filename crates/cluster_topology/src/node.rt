@@ -10,7 +10,7 @@ use redis_resp::{FromRedisValue, ParsingError, Source, Value, field_of};
 use std::alloc::{AllocError, Global};
 use std::collections::HashMap;
 
-/// What a node is to the slots of its shard.
+/// The role of a node for the slots of its shard.
 #[derive(Clone, Copy, Debug, PartialEq, Eq)]
 pub enum Role {
     /// It takes writes.
@@ -22,11 +22,11 @@ pub enum Role {
 /// A node of a cluster.
 #[derive(Debug, Drop)]
 pub struct Node {
-    /// A name or an address. Empty if it is the host that was asked; `?` if the server knows none.
+    /// A name or an address. Empty if it is the host of the connection; `?` if the server knows none.
     pub host: String,
     /// The port; 0 if the server knows none.
     pub port: u16,
-    /// What it is to the slots.
+    /// Its role for the slots.
     pub role: Role,
 }
 

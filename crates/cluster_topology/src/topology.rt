@@ -16,7 +16,7 @@ use crate::shard::Shard;
 use redis_resp::{Value, from_redis_value};
 use std::alloc::Global;
 
-/// Which nodes have which slots, as a node of the cluster tells.
+/// Which nodes serve which slots, by a reply of a node.
 #[derive(Debug, Drop)]
 pub struct Topology {
     /// The shards, in the order of the reply.

@@ -50,8 +50,8 @@ pub record AreSettings (count : List ℕ) (least most : ℕ) (found : Found) (s 
 abbrev pub parts_of : GiveUp → ℕ × List ℕ
 parts_of to = (to.deliveries, string_bytes to.stream)
 
--- `--dead TIMES STREAM` gives up what was delivered so many times or more, 1 at least, to a stream other than KEY; with
--- no such option nothing is given up
+-- `--dead TIMES STREAM`: entries delivered at least TIMES times, 1 or more, are moved to STREAM, which is not KEY; without
+-- it no entry is moved
 pub record GivesUp (found : Found) (to : Option GiveUp) : Type 0 where
   pub given : (times stream : List ℕ) → option_map raw_values (matched_of found (codes "dead")) ≡ Some (times ∷ stream ∷ [])
       → option_map parts_of to ≡ Some (number_of times, stream)
@@ -62,7 +62,7 @@ pub record GivesUp (found : Found) (to : Option GiveUp) : Type 0 where
 abbrev pub wait_parts : Wait → ℕ × ℕ
 wait_parts wait = (wait.replicas, wait.milliseconds)
 
--- `--wait REPLICAS MS` asks so many replicas for so many milliseconds
+-- `--wait REPLICAS MS`: waits for REPLICAS replicas, at most MS milliseconds
 pub record Waits (found : Found) (wait : Option Wait) : Type 0 where
   pub given : (replicas milliseconds : List ℕ)
       → option_map raw_values (matched_of found (codes "wait")) ≡ Some (replicas ∷ milliseconds ∷ [])

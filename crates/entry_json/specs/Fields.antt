@@ -1,4 +1,4 @@
--- The tokens of JSON that fields are.
+-- The JSON tokens of fields.
 use Rattle.std.specs.Prelude.{ℕ, List, [], ◌∷◌, ◌++◌, ◌<◌, flat_map, codes, Bool, true, false, if◌then◌else◌}
 use Rattle.std.specs.List.{AllByRecursion, list_all}
 use Rattle.std.specs.Str.{is_utf8}
@@ -7,12 +7,12 @@ use Rattle.base64.specs.GeneralPurpose.{encode_of}
 use Rattle.json.specs.Token.{Token, begin_object, end_object, begin_array, end_array}
 use Rattle.json.specs.Token.{key, string, number, boolean, null, bad}
 
--- an object of the Base64 of bytes
+-- an object with the Base64 of bytes
 abbrev pub base64_tokens : List ℕ → List Token
 base64_tokens bytes =
     begin_object ∷ key (codes "base64") ∷ string (encode_of named.standard bytes) ∷ end_object ∷ []
 
--- a text as a string; bytes that are no UTF-8 as an object of their Base64
+-- text as a string; bytes that are not UTF-8 as an object with their Base64
 abbrev pub bytes_tokens : List ℕ → List Token
 bytes_tokens bytes = if is_utf8 bytes then string bytes ∷ [] else base64_tokens bytes
 

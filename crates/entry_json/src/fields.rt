@@ -18,7 +18,7 @@ pub fn push_fields(alloc: Global, out: &mut Writer, fields: FieldsRef<'_>) -> Re
     out.end_array()
 }
 
-/// The fields, in order.
+/// Writes the fields, in order.
 fn push_each(alloc: Global, out: &mut Writer, fields: FieldsRef<'_>) -> Result<(), AllocError>
     ensures before { out.new.before ≡ out.old.before }
     ensures tokens { OnOk result (out.new.tokens ≡ out.old.tokens ++ flat_map field_tokens fields.entry) }
@@ -29,7 +29,7 @@ fn push_each(alloc: Global, out: &mut Writer, fields: FieldsRef<'_>) -> Result<(
     Ok(())
 }
 
-/// A name and its value, as an array of two.
+/// Writes a name and its value, as an array of two.
 fn push_field(alloc: Global, out: &mut Writer, name: &[u8], value: &[u8]) -> Result<(), AllocError>
     ensures before { out.new.before ≡ out.old.before }
     ensures tokens { OnOk result (out.new.tokens ≡ out.old.tokens ++ field_tokens (name.now, value.now)) }
@@ -40,7 +40,7 @@ fn push_field(alloc: Global, out: &mut Writer, name: &[u8], value: &[u8]) -> Res
     out.end_array()
 }
 
-/// A text as a string, or, if it is not UTF-8, as an object of its Base64.
+/// Writes bytes as a string, or, if they are not UTF-8, as an object with their Base64.
 fn push_text(alloc: Global, out: &mut Writer, bytes: &[u8]) -> Result<(), AllocError>
     ensures before { out.new.before ≡ out.old.before }
     ensures tokens { OnOk result (out.new.tokens ≡ out.old.tokens ++ bytes_tokens bytes.now) }
@@ -51,7 +51,7 @@ fn push_text(alloc: Global, out: &mut Writer, bytes: &[u8]) -> Result<(), AllocE
     }
 }
 
-/// Bytes as an object of their Base64.
+/// Writes bytes as an object with their Base64.
 fn push_base64(alloc: Global, out: &mut Writer, bytes: &[u8]) -> Result<(), AllocError>
     ensures before { out.new.before ≡ out.old.before }
     ensures tokens { OnOk result (out.new.tokens ≡ out.old.tokens ++ base64_tokens bytes.now) }
@@ -60,7 +60,7 @@ fn push_base64(alloc: Global, out: &mut Writer, bytes: &[u8]) -> Result<(), Allo
     push_object(out, "base64", &text)
 }
 
-/// An object of one name and its text.
+/// Writes an object of one name and its text.
 fn push_object(out: &mut Writer, name: &str, text: &str) -> Result<(), AllocError>
     ensures before { out.new.before ≡ out.old.before }
     ensures tokens { OnOk result (out.new.tokens

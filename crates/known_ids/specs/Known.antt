@@ -38,11 +38,11 @@ has_number places (Some n) = has places n
 abbrev pub knows : List Place → List ℕ → Bool
 knows places id = has_number places (number_of id)
 
--- these are as many more as one
+-- these are one more
 abbrev pub HasOneMore : List Place → List Place → ℕ → Type 0
 HasOneMore old new number = (n : ℕ) → has new n ≡ (number == n || has old n)
 
--- and its line begins there, each other one where it did
+-- and its line begins there; each other line where it did
 abbrev pub HasPlaceToo : List Place → List Place → ℕ → ℕ → Type 0
 HasPlaceToo old new number place =
     (n at : ℕ) → has_at new n at ≡ (((number == n) && (place == at)) || has_at old n at)
@@ -51,7 +51,7 @@ HasPlaceToo old new number place =
 abbrev pub HasRoom : Vec KnownId Global → Type 0
 HasRoom ids = vec_len ids < vec_capacity ids
 
--- no id, which stands where there is none
+-- no id, where there is none
 abbrev pub no_id : KnownId
 no_id = record { ms = 0; seq = 0; place = 0 }
 
@@ -59,7 +59,7 @@ no_id = record { ms = 0; seq = 0; place = 0 }
 abbrev pub number_at : List KnownId → ℕ → ℕ
 number_at ids i = number_in (get_or ids i no_id)
 
--- the number stands there; or it is none of these, and would be put there
+-- the number is at this index; or it is none of these, and would be inserted there
 abbrev pub IsFound : List KnownId → ℕ → Result ℕ ℕ → Type 0
 IsFound ids n r = MatchResult r (λ i. (i < length ids) × (number_at ids i ≡ n))
     (λ i. (i ≤ length ids) × ((k : ℕ) → k < i → number_at ids k < n)

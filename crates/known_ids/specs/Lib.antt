@@ -1,4 +1,4 @@
--- What is known of ids, and what lines tell.
+-- Which ids are known, and the ids of lines.
 pub mod Cut
 pub mod Number
 pub mod Known

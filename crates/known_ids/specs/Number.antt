@@ -13,7 +13,7 @@ if_written_so text (Some n) = if bytes_eq (decimal n) text then Some n else None
 abbrev pub part_of : List ℕ → Option ℕ
 part_of text = if_written_so text (option_and_then (within 64) (unsigned_of text))
 
--- the number behind the hyphen
+-- the number after the hyphen
 abbrev pub seq_of : List ℕ → Option ℕ
 seq_of [] = None
 seq_of (hyphen ∷ text) = part_of text

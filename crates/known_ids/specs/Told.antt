@@ -1,4 +1,4 @@
--- The ids that lines tell, and where the lines begin.
+-- The ids of lines, and where the lines begin.
 use Rattle.std.specs.Prelude.{◌≡◌, ◌+◌, ℕ, suc, List, [], ◌∷◌, ◌++◌, take, drop, length, codes, ◌&&◌, Bool, true, false, Option, Some, None}
 use Rattle.std.specs.Prelude.{if◌then◌else◌, option_and_then, option_map}
 use Rattle.std.specs.Str.{bytes_eq}
@@ -27,17 +27,18 @@ abbrev pub and_told : ℕ → Option ℕ → Option (List Place) → Option (Lis
 and_told at None places = None
 and_told at (Some n) places = option_map (λ rest. (n, at) ∷ rest) places
 
--- the numbers of the ids that these lines tell, in order, and where each line begins: the first one at this place, and
--- each other one behind the end of the line before it. None if a line tells no id
+-- the numbers of the ids of these lines, in order, and where each line begins: the first one at this offset, and each
+-- other one after the end of the line before it. None if a line has no id
 abbrev pub told : Bool → ℕ → List (List ℕ) → Option (List Place)
 told json at [] = Some []
 told json at (line ∷ lines) = and_told at (line_number json line) (told json (at + suc (length line)) lines)
 
--- what was told, and what the lines among these bytes tell, which begin at this place
+-- the ids that were read, and those of the lines among these bytes, which begin at this offset
 abbrev pub told_too : Bool → List Place → ℕ → List ℕ → Option (List Place)
 told_too json places at bytes = option_map (λ more. places ++ more) (told json at (lines_of bytes))
 
--- of a line that has begun and the bytes behind it, the ids of the lines that ended were taken, and these bytes are left
+-- of a line that has begun and the bytes after it, the ids of the lines that ended were taken, and these bytes are
+-- left
 pub record Took (json : Bool) (old : List Place) (start : ℕ) (line bytes : List ℕ) (new : List Place) (next : ℕ)
     (begun left : List ℕ) : Type 0 where
   pub no_end : HasNoEnd begun

@@ -16,19 +16,19 @@ use thiserror::Error;
 /// How many bytes are read at once.
 const PIECE: usize = 262_144;
 
-/// Why the ids of a file are not known.
+/// Why the ids of a file were not read.
 #[derive(Debug, Drop, Error)]
 pub enum FileError {
     /// The file was not read, or memory ran out.
     #[error("{0}")]
     Log(LogError),
-    /// The line of this number tells no id.
+    /// The line of this number has no id.
     #[error("line {0} is of no entry: correct the file, or take another one")]
     NoEntry(u64),
 }
 
-/// The numbers of the ids that the lines of a file tell, in order, and where each line begins. What stands behind the
-/// last end of a line is none. The file is read from its start, in pieces.
+/// The numbers of the ids of the lines of a file, in order, and the offset of each line. Bytes after the last
+/// line feed are no line. The file is read from its start, in pieces.
 pub fn numbers_of_file<D: LogFile>(
     alloc: Global,
     file: &D,
@@ -51,7 +51,7 @@ pub fn numbers_of_file<D: LogFile>(
     Ok(ids)
 }
 
-/// Takes more bytes of a file: the ids of the lines that they end. What begins a line stays behind.
+/// Takes more bytes of a file: the ids of the lines that they end. The start of the next line is kept.
 fn take_piece(
     ids: &mut Vec<KnownId>,
     start: &mut usize,
@@ -71,7 +71,7 @@ fn take_piece(
     Ok(())
 }
 
-/// Takes the end of a line: its id. The next line begins behind it, and has no bytes yet.
+/// Takes the id of a line that has ended. The next line begins after it, and has no bytes yet.
 fn take_line(
     ids: &mut Vec<KnownId>,
     start: &mut usize,
@@ -93,7 +93,7 @@ fn take_line(
     Ok(())
 }
 
-/// Takes the id of a line that begins at this place, behind which the next one begins.
+/// Takes the id of a line that begins at this offset.
 fn take_id(
     ids: &mut Vec<KnownId>,
     start: &mut usize,
@@ -113,7 +113,7 @@ fn take_id(
     Ok(())
 }
 
-/// The place behind a line of this length and its end.
+/// The offset after a line of this length and its line feed.
 fn behind(start: usize, len: usize) -> Result<usize, FileError>
     ensures { IfOk result (λ next. next ≡ start + suc len) }
 {
@@ -123,7 +123,7 @@ fn behind(start: usize, len: usize) -> Result<usize, FileError>
     }
 }
 
-/// The first line without its end, and what is after it. None if it has no end.
+/// The first line without its line feed, and what is after it. None if there is no line feed.
 fn split_line(bytes: &[u8]) -> Option<(&[u8], &[u8])>
     ensures some { IfSome result (λ s. bytes.now ≡ s.0.now ++ 10 ∷ s.1.now) }
     ensures first { IfSome result (λ s. Contains s.0.now 10 → ⊥) }

@@ -8,8 +8,8 @@ const JSON_HEAD: &[u8] = b"{\"id\":\"";
 
 const JSON_NEXT: &[u8] = b"\",\"fields\":[";
 
-/// The number of the id at the head of a line, without its end. The line is `{"id":"1-0","fields":[` and more, or
-/// texts that tabs separate, of which the first is the id. None if it is not so, or the id is none.
+/// The number of the id at the head of a line, without its end. The line is `{"id":"1-0","fields":[` and more,
+/// or texts that tabs separate, of which the first is the id. None for any other line, or if the id is invalid.
 pub fn line_number(line: &[u8], json: bool) -> Option<u128>
     ensures { result ≡ line_number json line.now }
 {

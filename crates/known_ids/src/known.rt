@@ -1,4 +1,4 @@
-//! Ids that are known.
+//! A sorted list of ids, each with the offset of its line.
 ghost use Rattle.std.specs.Prelude.{◌≡◌, ◌∷◌, ◌≤◌, OnErr, OnOk, IfOk, IfErr, IfSome, ℕ, is_some, length, true};
 ghost use Rattle.std.proofs.Props.{props};
 ghost use Rattle.std.specs.List.Sorted.{IsNonDecreasingBy};
@@ -6,7 +6,7 @@ ghost use Rattle.known_ids.specs.Known.{HasOneMore, HasPlaceToo, HasRoom, IsFoun
 
 use std::alloc::AllocError;
 
-/// The numbers of an id, and where its line begins.
+/// The number of an id, and the offset of its line.
 #[derive(Clone, Copy, Debug)]
 pub struct KnownId {
     ms: u64,
@@ -15,7 +15,7 @@ pub struct KnownId {
 }
 
 impl KnownId {
-    /// The id of this number, whose line begins at this place.
+    /// The id of this number, whose line begins at this offset.
     pub fn new(number: u128, place: usize) -> KnownId
         ensures number { number_in result ≡ number }
         ensures place { result.place ≡ place }
@@ -34,7 +34,7 @@ impl KnownId {
         self.ms as u128 * 18_446_744_073_709_551_616 + self.seq as u128
     }
 
-    /// Where its line begins.
+    /// The offset of its line.
     pub fn place(&self) -> usize
         ensures { result ≡ self.now.place }
     {
@@ -42,7 +42,7 @@ impl KnownId {
     }
 }
 
-/// Ids in the order of their numbers, and where the line of each begins.
+/// Ids in the order of their numbers, each with the offset of its line.
 #[derive(Debug, Drop)]
 pub struct KnownIds {
     ids: Vec<KnownId>,
@@ -74,7 +74,8 @@ impl KnownIds {
         self.search(number).is_ok()
     }
 
-    /// Where the line of this number begins, or one of them if it has several. None if the number is none of them.
+    /// The offset of the line of this number, or of one of its lines if it has several. None if the number is
+    /// not known.
     pub fn place_of(&self, number: u128) -> Option<usize>
         ensures some { is_some result ≡ has (places_in self.now.ids.items) number }
         ensures place { IfSome result (λ at. has_at (places_in self.now.ids.items) number at ≡ true) }
@@ -85,7 +86,7 @@ impl KnownIds {
         }
     }
 
-    /// Makes room for one more. An `Err` changes nothing.
+    /// Reserves memory for one more. An `Err` changes nothing.
     pub fn make_room(&mut self) -> Result<(), AllocError>
         ensures room { OnOk result (HasRoom self.new.ids) }
         ensures same { self.new.ids.items ≡ self.old.ids.items }
@@ -93,7 +94,7 @@ impl KnownIds {
         self.ids.reserve(1)
     }
 
-    /// Adds a number, whose line begins at this place. If there is room for one more, it does not fail; an `Err`
+    /// Adds a number, whose line begins at this offset. It cannot fail if there is room for one more. An `Err`
     /// changes nothing.
     pub fn add(&mut self, number: u128, place: usize) -> Result<(), AllocError>
         ensures more { OnOk result (HasOneMore (places_in self.old.ids.items) (places_in self.new.ids.items) number) }
@@ -107,7 +108,7 @@ impl KnownIds {
         Ok(())
     }
 
-    /// Where this number would be put.
+    /// The index at which this number would be inserted.
     fn gap(&self, number: u128) -> usize
         ensures { IsGap self.now.ids.items number result }
     {
@@ -117,7 +118,7 @@ impl KnownIds {
         }
     }
 
-    /// Where this number is, or where it would be put.
+    /// The index of this number, or as an `Err` the index at which it would be inserted.
     fn search(&self, number: u128) -> Result<usize, usize>
         ensures { IsFound self.now.ids.items number result }
     {

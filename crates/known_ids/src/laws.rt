@@ -7,7 +7,7 @@ pub fn numbers_tell()
     ensures { NumbersTell }
 {}
 
-/// With the number of an id more, this id is known, and each that was known, and no other.
+/// After the number of an id is added, this id is known, and each that was known before, and no other.
 pub fn knows_one_more()
     ensures { KnowsOneMore }
 {}

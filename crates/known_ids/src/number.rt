@@ -7,8 +7,8 @@ ghost use Rattle.known_ids.specs.Number.{number_of, part_of, seq_of};
 use itoa::Buffer;
 use redis_resp::unsigned_in;
 
-/// The number of an id: its milliseconds times 2^64, and its sequence number. None if the text is not as servers
-/// write an id: two numbers of 64 bits with a hyphen between them, with no sign and no leading zero.
+/// The number of an id: its milliseconds times 2^64, plus its sequence number. None if the text is not an id as
+/// servers write it: two numbers of 64 bits with a hyphen between them, with no sign and no leading zero.
 pub fn number_of(text: &[u8]) -> Option<u128>
     ensures { result ≡ number_of text.now }
 {
@@ -18,7 +18,7 @@ pub fn number_of(text: &[u8]) -> Option<u128>
     Some(ms as u128 * 18_446_744_073_709_551_616 + seq as u128)
 }
 
-/// The number behind a hyphen.
+/// The sequence number, from the text after the milliseconds: a hyphen and the number.
 fn seq_of(behind: &[u8]) -> Option<u64>
     ensures { result ≡ seq_of behind.now }
 {
@@ -40,7 +40,7 @@ fn part_of(text: &[u8]) -> Option<u64>
     }
 }
 
-/// How many bytes stand before the first of this one.
+/// How many bytes are before the first byte `end`.
 pub(crate) fn len_before(text: &[u8], end: u8) -> usize
     ensures count { result ≡ prefix_len (is_other end) text.now }
     ensures within { result ≤ length text.now }

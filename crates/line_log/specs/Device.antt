@@ -1,7 +1,7 @@
 -- What the calls of a device do to its file, and what a crash may do between two syncs.
 use Rattle.std.specs.Prelude.{◌≡◌, ◌⊎◌, ℕ, ◌≤◌, List, ◌++◌, length, take, Option, IfSome}
 
--- after an append of n bytes that a crash cuts short: any bytes behind what was there, at most n
+-- after an append of n bytes that a crash cuts short: any bytes after what was there, at most n
 abbrev pub IsTorn : ℕ → List ℕ → List ℕ → Type 0
 IsTorn n old new = (behind : List ℕ) × (new ≡ old ++ behind) × (length behind ≤ n)
 
@@ -31,6 +31,6 @@ pub record LeavesOnly {D : Type 0} (moment : D → ℕ) (left_since : D → ℕ 
   -- for a run that began earlier
   pub before : (t : ℕ) (c : List ℕ) → t ≤ moment old → left_since new t c → left_since old t c ⊎ P c
 
--- what is read is on the disk, where it is known
+-- what is read is on the disk, if it is known
 abbrev pub IsOnDisk : {D : Type 0} → (D → Option (List ℕ)) → (D → List ℕ → Type 0) → D → Type 0
 IsOnDisk seen may_leave file = IfSome (seen file) (λ bytes. Only bytes (may_leave file))

@@ -15,7 +15,7 @@ field_text p = 9 ∷ (escaped p.0 ++ (9 ∷ escaped p.1))
 abbrev pub line_of : Entry → List ℕ
 line_of e = escaped e.0 ++ flat_map field_text e.1
 
--- no line ends within the line of an entry
+-- the line of an entry has no line feed in it
 abbrev pub LinesAreWhole : Type 0
 LinesAreWhole = (e : Entry) → HasNoEnd (line_of e)
 

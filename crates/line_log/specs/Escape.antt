@@ -1,4 +1,4 @@
--- How a text stands in a line.
+-- How a text is escaped in a line.
 use Rattle.std.specs.Prelude.{◌≡◌, ◌≢◌, ℕ, List, [], ◌∷◌, if◌then◌else◌, ◌==◌}
 use Rattle.std.specs.List.{flat_map, AllByRecursion}
 
@@ -15,7 +15,7 @@ escaped_byte b =
 abbrev pub escaped : List ℕ → List ℕ
 escaped text = flat_map escaped_byte text
 
--- the byte that stands behind a backslash
+-- the byte that is written after a backslash
 abbrev pub byte_of : ℕ → ℕ
 byte_of c = if c == 116 then 9 else if c == 110 then 10 else if c == 114 then 13 else c
 

@@ -4,7 +4,7 @@ use Rattle.std.specs.Prelude.{take, if◌then◌else◌}
 use Rattle.line_log.specs.Device.{Only}
 use Rattle.line_log.specs.Lines.{EachStartsWith}
 
--- what is committed, where the file is known
+-- what is committed, if the file is known
 abbrev pub committed_in : Option (List ℕ) → ℕ → Option (List ℕ)
 committed_in known len = option_map (λ bytes. take len bytes) known
 
@@ -19,15 +19,15 @@ module _ {D : Type 0} (seen : D → Option (List ℕ)) (may_leave : D → List �
     pub disk : Only lines (may_leave file)
     pub sound : is_sound file
 
-  -- these lines are committed: whatever a crash leaves begins with them; and nothing stands behind them but where a
-  -- commit failed
+  -- these lines are committed: whatever a crash leaves begins with them; and nothing is after them unless a commit
+  -- failed
   pub record Holds (lines : List ℕ) (file : D) (len : ℕ) (is_broken : Bool) : Type 0 where
     pub committed : len ≡ length lines
     pub known : IsSome (seen file)
     pub left : EachStartsWith lines (may_leave file)
     pub whole : is_broken ≡ false → IsWhole file lines
 
-  -- where the file is known, it holds what is committed
+  -- if the file is known, it holds what is committed
   abbrev pub IsHeld : D → ℕ → Bool → Type 0
   IsHeld file len is_broken =
       IfSome (committed_in (seen file) len) (λ lines. Holds lines file len is_broken)

@@ -22,7 +22,7 @@ one_more t b =
     else if b == 9 then record { ended = t.ended ++ t.text ∷ []; text = []; escapes = false }
     else record { ended = t.ended; text = t.text ++ b ∷ []; escapes = false }
 
--- so many more
+-- more bytes
 abbrev pub all_more : Texts → List ℕ → Texts
 all_more t [] = t
 all_more t (b ∷ bs) = all_more (one_more t b) bs

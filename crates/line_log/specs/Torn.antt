@@ -1,4 +1,4 @@
--- A file that tears: what each crash leaves, and what waits behind it.
+-- A file that tears: what each crash leaves, and what waits to be synced.
 use Rattle.std.specs.Prelude.{◌≡◌, ◌≤◌, ◌+◌, ◌⊎◌, ℕ, List, [], ◌∷◌, ◌++◌, length, take, drop}
 use Rattle.std.proofs.Common.{inl, inr, zero, refl, arith}
 use Rattle.line_log.specs.declared.torn.Content.{Content}
@@ -11,7 +11,7 @@ all_of content = content.front.items ++ content.waits.items
 abbrev pub room_of : Content → ℕ
 room_of content = length content.waits.items + content.extra
 
--- a crash leaves the front, maybe some of what was cut off behind it, and any bytes for which there is room
+-- a crash leaves the front, perhaps some of what was cut off after it, and any bytes for which there is room
 abbrev pub Leaves : Content → List ℕ → Type 0
 Leaves content c = (uncut : ℕ) × (behind : List ℕ)
     × (c ≡ content.front.items ++ (take uncut content.cut_off.items ++ behind)) × (length behind ≤ room_of content)

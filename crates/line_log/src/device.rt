@@ -9,37 +9,36 @@ use std::alloc::Global;
 
 /// A file that lines are appended to.
 ///
-/// Its clauses are those of a disk: what was written before a sync stays, whatever crash comes;
-/// of what was appended behind that, a crash may leave any bytes, as many as were written or fewer.
+/// Its clauses are those of a disk. What was written before a sync stays after any crash. In place of what was
+/// appended after that, a crash may leave any bytes, at most as many as were written.
 pub trait LogFile {
-    /// What a read returns, where that is known.
+    /// What a read returns, if that is known.
     ghost seen: { Self → Option (List ℕ) };
 
     /// What a crash at this moment may leave.
     ghost may_leave: { Self → List ℕ → Type 0 };
 
-    /// The moment, as a number that does not fall.
+    /// The moment, as a number that never decreases.
     ghost moment: { Self → ℕ };
 
     /// What a crash at some moment from that one on might have left, during a call or between two.
     ghost left_since: { Self → ℕ → List ℕ → Type 0 };
 
-    /// What is written from now on can be had onto the disk: no sync failed since the file was opened or
-    /// cut back to what the disk has. A system drops what it could not write, and the next sync says
-    /// nothing of it.
+    /// What is written from now on can be synced to the disk: no sync failed since the file was opened or cut
+    /// back to what the disk has. A system drops what it could not write, and the next sync does not report it.
     ghost is_sound: { Self → Type 0 };
 
-    /// How many bytes it has.
+    /// The length of the file in bytes.
     fn len(&self) -> Result<usize, LogError>
         ensures { IfOk result (λ n. IfSome (seen self.now) (λ bytes. n ≡ length bytes)) };
 
-    /// So many bytes from there on, or what there is of them.
+    /// Reads `len` bytes from `at`, or fewer at the end of the file.
     fn read_at(&self, alloc: Global, at: usize, len: usize) -> Result<Vec<u8>, LogError>
         ensures within { IfOk result (λ read. length read.items ≤ len) }
         ensures bytes { IfOk result (λ read. IfSome (seen self.now)
             (λ bytes. read.items ≡ take len (drop at bytes))) };
 
-    /// Writes behind what is there. Until a sync, a crash may leave any bytes in their place.
+    /// Appends bytes to the file. Until a sync, a crash may leave any bytes in their place.
     fn append(&mut self, bytes: &[u8]) -> Result<(), LogError>
         ensures appended { OnOk result (Appends (seen self.old) (seen self.new) bytes.now) }
         ensures crash { Follows (IsTorn (length bytes.now)) (may_leave self.old) (may_leave self.new) }
@@ -62,7 +61,7 @@ pub trait LogFile {
         ensures time { Elapses (moment self.old) (moment self.new)
             (left_since self.old) (left_since self.new) (may_leave self.new) };
 
-    /// After it, a crash leaves what a read returns, if the file is sound.
+    /// Syncs the file: after it, a crash leaves what a read returns, if the file is sound.
     fn sync(&mut self) -> Result<(), LogError>
         ensures durable { OnOk result (is_sound self.old → IfSome (seen self.old)
             (λ bytes. Only bytes (may_leave self.new))) }

@@ -36,7 +36,7 @@ pub fn entry_in(alloc: Global, line: &[u8]) -> Result<Option<LineEntry>, AllocEr
     }
 }
 
-/// Appends the line of an entry. After an `Err` some front of it may stand behind what was there.
+/// Appends the line of an entry. After an `Err`, `out` may end with a part of it.
 fn push_entry(out: &mut Vec<u8>, entry: &LineEntry) -> Result<(), AllocError>
     ensures { OnOk result (out.new.items ≡ out.old.items ++ line_of (entry_of entry.now)) }
 {
@@ -61,8 +61,7 @@ fn split_line(alloc: Global, line: &[u8]) -> Result<Vec<Vec<u8>>, AllocError>
     Ok(texts)
 }
 
-/// Takes a byte of a line, behind a backslash or not, and returns whether it is one that escapes the
-/// next byte.
+/// Takes a byte of a line, and returns whether it escapes the next byte.
 fn take_byte(
     alloc: Global,
     texts: &mut Vec<Vec<u8>>,
@@ -85,7 +84,7 @@ fn take_byte(
     Ok(false)
 }
 
-/// The byte that a byte behind a backslash stands for.
+/// The byte that an escape means, by the byte after its backslash.
 fn plain_byte(byte: u8) -> u8
     ensures { result ≡ byte_of byte }
 {
@@ -115,18 +114,18 @@ fn entry_of_texts(alloc: Global, texts: Vec<Vec<u8>>) -> Result<Option<LineEntry
     Ok(Some(LineEntry { id, fields }))
 }
 
-/// Appends a field as it stands in the line of an entry, behind the id and the fields before it: a tab,
-/// the name, a tab and the value. After an `Err` some front of it may stand behind what was there.
+/// Appends a field of the line of an entry: a tab, the name, a tab and the value. After an `Err`, `out` may end
+/// with a part of it.
 pub fn push_field(out: &mut Vec<u8>, name: &[u8], value: &[u8]) -> Result<(), AllocError>
     ensures ok { OnOk result (out.new.items ≡ out.old.items ++ field_text (name.now, value.now)) }
     ensures err { OnErr result (take (length out.old.items) out.new.items ≡ out.old.items) }
 {
-    push_behind_tab(out, name)?;
-    push_behind_tab(out, value)
+    push_after_tab(out, name)?;
+    push_after_tab(out, value)
 }
 
-/// Appends a text behind a tab. After an `Err` some front of it may stand behind what was there.
-fn push_behind_tab(out: &mut Vec<u8>, text: &[u8]) -> Result<(), AllocError>
+/// Appends a text after a tab. After an `Err`, `out` may end with a part of it.
+fn push_after_tab(out: &mut Vec<u8>, text: &[u8]) -> Result<(), AllocError>
     ensures ok { OnOk result (out.new.items ≡ out.old.items ++ (9 ∷ escaped text.now)) }
     ensures err { OnErr result (take (length out.old.items) out.new.items ≡ out.old.items) }
 {

@@ -1,10 +1,10 @@
-//! How a text stands in a line.
+//! How a text is escaped in a line.
 ghost use Rattle.std.specs.Prelude.{◌≡◌, ◌++◌, OnOk, OnErr, length, take};
 ghost use Rattle.line_log.specs.Escape.{escaped, escaped_byte};
 
 use std::alloc::AllocError;
 
-/// Appends a byte as it stands in a line. An `Err` changes nothing.
+/// Appends a byte, escaped for a line. An `Err` changes nothing.
 fn push_byte(out: &mut Vec<u8>, byte: u8) -> Result<(), AllocError>
     ensures ok { OnOk result (out.new.items ≡ out.old.items ++ escaped_byte byte) }
     ensures err { OnErr result (out.new.items ≡ out.old.items) }
@@ -18,8 +18,7 @@ fn push_byte(out: &mut Vec<u8>, byte: u8) -> Result<(), AllocError>
     }
 }
 
-/// Appends a text as it stands in a line. After an `Err` some front of it may stand behind what was
-/// there.
+/// Appends a text, escaped for a line. After an `Err`, `out` may end with a part of it.
 pub fn push_escaped(out: &mut Vec<u8>, text: &[u8]) -> Result<(), AllocError>
     ensures ok { OnOk result (out.new.items ≡ out.old.items ++ escaped text.now) }
     ensures err { OnErr result (take (length out.old.items) out.new.items ≡ out.old.items) }

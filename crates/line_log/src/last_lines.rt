@@ -13,8 +13,8 @@ use std::mem;
 /// How many bytes are read at once.
 const PIECE: usize = 65_536;
 
-/// The last so many lines among the first `len` bytes of a file, in order, each without its end; all
-/// of them if there are fewer. What stands behind the last end is no line.
+/// The last `number` lines of the first `len` bytes of a file, in order, without line feeds; all lines if there
+/// are fewer. Bytes after the last line feed are no line.
 pub fn last_lines_in<D: LogFile>(
     alloc: Global,
     file: &D,
@@ -24,13 +24,13 @@ pub fn last_lines_in<D: LogFile>(
     ensures { IfOk result (λ lines. IfSome (committed_in (D.seen file.now) len)
         (λ bytes. bytes_of lines.items ≡ last_of number (lines_of bytes))) }
 {
-    let from = start_of_last(alloc, file, len, number)?;
+    let from = find_last_start(alloc, file, len, number)?;
     lines_from(alloc, file, from, len)
 }
 
-/// Where the last so many lines among the first `len` bytes of a file begin. It reads from the end,
-/// and no further than the end of the line before them.
-fn start_of_last<D: LogFile>(
+/// The offset of the last `number` lines of the first `len` bytes of a file. It reads from the end, and no
+/// further than the end of the line before them.
+fn find_last_start<D: LogFile>(
     alloc: Global,
     file: &D,
     len: usize,
@@ -52,8 +52,8 @@ fn start_of_last<D: LogFile>(
     Ok(0)
 }
 
-/// Where the last lines of these bytes begin, as many as are left, if the end of a line stands before
-/// them. If not, those that end among these bytes are left no more.
+/// Where the last `left` lines of these bytes begin, if the end of a line is before them. If not, the lines
+/// that end among these bytes are subtracted from `left`.
 fn start_within(bytes: &[u8], left: &mut usize) -> Option<usize>
     ensures within { IfSome result (λ at. (0 < at) × (at ≤ length bytes.now)) }
     ensures start { IfSome result (λ at. AreLines (take at bytes.now)
@@ -73,7 +73,7 @@ fn start_within(bytes: &[u8], left: &mut usize) -> Option<usize>
     None
 }
 
-/// The lines among the first `len` bytes of a file from this place on, each without its end.
+/// The lines from this offset on, among the first `len` bytes of a file, without line feeds.
 fn lines_from<D: LogFile>(
     alloc: Global,
     file: &D,
@@ -95,7 +95,7 @@ fn lines_from<D: LogFile>(
     Ok(lines)
 }
 
-/// Takes more bytes of a file: the lines that they end, and behind these what begins a line.
+/// Takes more bytes of a file: the lines that they end, and the start of the next one.
 fn take_bytes(
     alloc: Global,
     lines: &mut Vec<Vec<u8>>,

@@ -1,4 +1,4 @@
-//! Laws of lines, as clauses that are known behind a call.
+//! Laws of lines.
 ghost use Rattle.line_log.specs.EntryLine.{LinesAreWhole, LinesTellEntries};
 ghost use Rattle.line_log.specs.Escape.{TextsArePlain, TextsComeBack};
 
@@ -9,7 +9,7 @@ pub fn texts_come_back()
     ensures plain { TextsArePlain }
 {}
 
-/// The line of an entry has no end in it, and tells the entry: its id, and its fields in order, with
+/// The line of an entry has no line feed in it and determines the entry: its id, and its fields in order, with
 /// repeated ones.
 pub fn lines_tell_entries()
     ensures whole { LinesAreWhole }

@@ -4,9 +4,9 @@
 //! a crash at any moment leaves a file that begins with all lines that were committed. Opening the
 //! file finds a last line that has no end, and cuts it off.
 //!
-//! A line of an entry is its id and its fields, in order and with repeated ones, separated by tabs;
-//! in each of them a backslash, a tab, a line feed and a carriage return stand as `\\`, `\t`, `\n`
-//! and `\r`, so that a line is a line. Other bytes stand as they are.
+//! A line of an entry is its id and its fields, in order and with repeated ones, separated by tabs; in each of
+//! them a backslash, a tab, a line feed and a carriage return are written as `\\`, `\t`, `\n` and `\r`, so that
+//! an entry is one line. Other bytes are as they are.
 #![tactic(auto)]
 
 mod device;

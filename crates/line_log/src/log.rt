@@ -17,23 +17,23 @@ use std::io::{self, ErrorKind};
 
 /// A file of lines, and the lines that are not committed yet.
 ///
-/// After a commit that failed the next one first cuts the file back to what is committed: what a system
-/// could not write it drops, and a later sync says nothing of it.
+/// After a commit that failed the next one first cuts the file back to what is committed: a system drops what
+/// it could not write, and a later sync does not report it.
 #[derive(Drop)]
 pub struct LineLog<D: LogFile + Drop> {
     file: D,
     batch: Vec<u8>,
     /// How many bytes of the file are committed.
     len: usize,
-    /// Whether something of a commit that failed may stand behind them.
+    /// Whether bytes of a failed commit may be after them.
     is_broken: bool,
 }
 
 impl<D: LogFile + Drop> LineLog<D> {
-    /// Repairs the end of the file, behind which lines are appended then.
+    /// Opens a log over this file, whose last line is repaired first.
     ///
-    /// A crash at any moment of it leaves each whole line that is on the disk: so lines that were
-    /// committed stay, also where a process was killed and the end of its last batch is on no disk.
+    /// A crash at any moment of it leaves each whole line that is on the disk: so lines that were committed
+    /// stay, even if a process was killed before the end of its last batch was on the disk.
     pub fn open(alloc: Global, file: D) -> Result<LineLog<D>, LogError>
         ensures file { IfOk result (λ log. IsRepaired (D.seen file) (D.seen log.file)) }
         ensures on_disk { IfOk result (λ log. D.is_sound file → IsOnDisk D.seen D.may_leave log.file) }
@@ -61,8 +61,8 @@ impl<D: LogFile + Drop> LineLog<D> {
         })
     }
 
-    /// Gathers a line, which ends behind these bytes. It is in the file once it was committed. An
-    /// `Err` changes nothing.
+    /// Adds a line to the next commit, without its line feed. It is in the file after the commit. An `Err`
+    /// changes nothing.
     pub fn add_line(&mut self, line: &[u8]) -> Result<(), LogError>
         ensures ok { OnOk result
             (self.new.batch.items ≡ self.old.batch.items ++ (line.now ++ 10 ∷ [])) }
@@ -73,12 +73,11 @@ impl<D: LogFile + Drop> LineLog<D> {
         push_line(&mut self.batch, line)
     }
 
-    /// Writes the lines that were gathered, and has the disk take them in: one write and one sync.
+    /// Writes the lines that were added, and syncs them to the disk: one write and one sync.
     ///
-    /// After an Ok every crash leaves a file that begins with what it had before and these lines. A
-    /// crash at any moment of the call leaves what the file had before, and behind it as many bytes
-    /// as these lines have or fewer. After an `Err` what was committed before stays, and the next commit
-    /// writes these lines too.
+    /// After an Ok every crash leaves a file that begins with what it had before and these lines. A crash at
+    /// any moment of the call leaves what the file had before, and after it at most as many bytes as these
+    /// lines have. After an `Err` what was committed before stays, and the next commit writes these lines too.
     pub fn commit(&mut self) -> Result<(), LogError>
         ensures holds { OnOk result ((lines : List ℕ)
             → Holds D.seen D.may_leave D.is_sound lines self.old.file self.old.len self.old.is_broken
@@ -126,7 +125,7 @@ impl<D: LogFile + Drop> LineLog<D> {
         Ok(())
     }
 
-    /// Cuts off what a commit left that failed. A crash at any moment of it leaves what is committed.
+    /// Cuts off what a failed commit left. A crash at any moment of it leaves what is committed.
     fn cut_back(&mut self) -> Result<(), LogError>
         ensures rest { (self.new.batch ≡ self.old.batch) × (self.new.len ≡ self.old.len)
             × (self.new.is_broken ≡ self.old.is_broken) }
@@ -154,8 +153,8 @@ impl<D: LogFile + Drop> LineLog<D> {
         Ok(())
     }
 
-    /// The last so many lines of what is committed, in order, each without its end; all of them if there
-    /// are fewer. It changes nothing. Besides these lines it takes the room of one piece of the file.
+    /// The last `number` committed lines, in order, without line feeds; all lines if there are fewer. It
+    /// changes nothing. Besides these lines it uses the memory of one piece of the file.
     pub fn last_lines(&self, alloc: Global, number: usize) -> Result<Vec<Vec<u8>>, LogError>
         ensures { IfOk result (λ lines. IfSome (committed_in (D.seen self.now.file) self.now.len)
             (λ bytes. bytes_of lines.items ≡ last_of number (lines_of bytes))) }
@@ -163,7 +162,7 @@ impl<D: LogFile + Drop> LineLog<D> {
         last_lines_in(alloc, &self.file, self.len, number)
     }
 
-    /// Where the next line begins: so many bytes are committed and gathered.
+    /// The offset at which the next line begins: the bytes that are committed or added.
     pub fn end(&self) -> Result<usize, LogError>
         ensures { IfOk result (λ at. at ≡ self.now.len + length self.now.batch.items) }
     {
@@ -173,8 +172,8 @@ impl<D: LogFile + Drop> LineLog<D> {
         }
     }
 
-    /// So many bytes from this place on, of what is committed and of the lines that are gathered behind it,
-    /// or what there is of them. It changes nothing.
+    /// Reads `len` bytes from this offset on, or fewer at the end, of the committed lines and those that were
+    /// added after them. It changes nothing.
     pub fn bytes_at(&self, alloc: Global, at: usize, len: usize) -> Result<Vec<u8>, LogError>
         ensures { IfOk result (λ read. IfSome (committed_in (D.seen self.now.file) self.now.len)
             (λ bytes. self.now.len ≡ length bytes
@@ -195,7 +194,7 @@ impl<D: LogFile + Drop> LineLog<D> {
     }
 }
 
-/// So many of these bytes from a place on, or what there is of them.
+/// `len` of these bytes from an offset on, or fewer at the end.
 fn part(bytes: &[u8], at: usize, len: usize) -> &[u8]
     ensures { result.now ≡ take len (drop at bytes.now) }
 {
@@ -218,7 +217,7 @@ fn push_line(batch: &mut Vec<u8>, line: &[u8]) -> Result<(), LogError>
     Ok(())
 }
 
-/// Writes bytes behind what a file has, and has the disk take them in: one write and one sync.
+/// Appends bytes to a file, and syncs them to the disk: one write and one sync.
 fn write_through<D: LogFile>(file: &mut D, bytes: &[u8]) -> Result<(), LogError>
     ensures appended { OnOk result (Appends (D.seen file.old) (D.seen file.new) bytes.now) }
     ensures on_disk { OnOk result (D.is_sound file.old → IsOnDisk D.seen D.may_leave file.new) }

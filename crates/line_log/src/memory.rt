@@ -36,7 +36,7 @@ impl MemoryFile {
     }
 }
 
-/// Puts other bytes in the place of those that are there, which it keeps.
+/// Replaces the bytes, and keeps the old ones in `past`.
 fn replace(
     alloc: Global,
     bytes: &mut Vec<u8>,

@@ -7,10 +7,10 @@ use crate::device::LogFile;
 use crate::error::LogError;
 use std::alloc::Global;
 
-/// How many bytes are looked through at once.
+/// How many bytes are searched at once.
 const PIECE: usize = 65_536;
 
-/// The place behind the last line feed among these bytes; 0 where there is none.
+/// The index after the last line feed of these bytes; 0 if there is none.
 fn last_end(bytes: &[u8]) -> usize
     ensures within { result ≤ length bytes.now }
     ensures lines { AreLines (take result bytes.now) }
@@ -25,7 +25,7 @@ fn last_end(bytes: &[u8]) -> usize
 
 /// How many bytes of a file are whole lines. It reads from the end, and no further than the last
 /// line feed.
-fn len_of_lines<D: LogFile>(alloc: Global, file: &D) -> Result<usize, LogError>
+fn measure_lines<D: LogFile>(alloc: Global, file: &D) -> Result<usize, LogError>
     ensures { IfOk result (EndsAt (D.seen file.now)) }
 {
     let mut at = file.len()?;
@@ -41,8 +41,7 @@ fn len_of_lines<D: LogFile>(alloc: Global, file: &D) -> Result<usize, LogError>
     Ok(0)
 }
 
-/// Cuts off a last line that has no end, has the disk take in what is left, and returns how many bytes
-/// that are.
+/// Cuts off a last line without a line feed, syncs what is left, and returns the length of the file.
 pub fn repaired_len<D: LogFile>(alloc: Global, file: &mut D) -> Result<usize, LogError>
     ensures end { IfOk result (EndsAt (D.seen file.old)) }
     ensures cut { IfOk result (λ end. IfSome (D.seen file.old)
@@ -56,17 +55,17 @@ pub fn repaired_len<D: LogFile>(alloc: Global, file: &mut D) -> Result<usize, Lo
         → EachStartsWith front (D.may_leave file.old)
         → LeavesOnly D.moment D.left_since file.old file.new (StartsWith front) }
 {
-    let end = len_of_lines(alloc, &*file)?;
+    let end = measure_lines(alloc, &*file)?;
     file.cut(end)?;
     file.sync()?;
     Ok(end)
 }
 
-/// Cuts off a last line that has no end, and has the disk take in what is left.
+/// Cuts off a last line without a line feed, and syncs what is left to the disk.
 ///
-/// A crash at any moment of it leaves the whole lines that were there, if all of the file is on the
-/// disk. After a process that was killed only its front is: then every crash leaves that front, if it
-/// is whole lines.
+/// A crash at any moment of it leaves the whole lines that were there, if all of the file is on the disk. After
+/// a process was killed, only the front of the file may be: then every crash leaves that front, if it is whole
+/// lines.
 pub fn repair<D: LogFile>(alloc: Global, file: &mut D) -> Result<(), LogError>
     ensures repaired { OnOk result (IsRepaired (D.seen file.old) (D.seen file.new)) }
     ensures on_disk { OnOk result (D.is_sound file.old → IsOnDisk D.seen D.may_leave file.new) }

@@ -14,9 +14,9 @@ use std::rt::Files;
 
 /// A file of the system, which no other log has open.
 ///
-/// No contract can say what a file of the system takes or keeps, so its clauses claim nothing: that
-/// it is a file as `LogFile` says it is trusted. Each method makes one call of the system, but for
-/// reads and writes that come short, which go on.
+/// No contract can say what the system writes or keeps, so its clauses claim nothing. That it is a file as
+/// `LogFile` says is trusted. Each method makes one system call, except that short reads and writes are
+/// continued.
 #[derive(Drop)]
 pub struct SystemFile {
     file: File,
@@ -48,7 +48,7 @@ impl SystemFile {
     }
 }
 
-/// Has the disk take in the name of a file that was made.
+/// Syncs the folder of a new file, so that its name is on the disk.
 fn sync_folder_of<R: Files<File = File>>(rt: &R, path: &str) -> io::Result<()> {
     let folder = match Path::new(path).parent() {
         Some(folder) if !folder.as_str().is_empty() => folder,

@@ -12,15 +12,15 @@ use std::io::{self, ErrorKind};
 
 /// A file in memory that buffers what is appended until a sync, and tears in a crash.
 ///
-/// The caller says what a crash leaves of what was not synced: any bytes, as many as were written or
-/// fewer. A sync can be made to fail. Then what waits is never had onto the disk, and each later sync
-/// says Ok all the same, as some systems do, until the file is cut back to what is on the disk.
+/// The caller says what a crash leaves of what was not synced: any bytes, at most as many as were written. A
+/// sync can be made to fail. Then what waits is never written to the disk, and each later sync returns Ok all
+/// the same, as some systems do, until the file is cut back to what is on the disk.
 #[derive(Drop)]
 pub struct TornFile {
     alloc: Global,
     content: Content,
     is_sound: bool,
-    /// The sync of this number fails, counted from now on; 0 where none does.
+    /// The sync of this number fails, counted from now on; 0 if none does.
     failing: usize,
     past: Vec<Content>,
 }
@@ -30,7 +30,7 @@ pub struct TornFile {
 struct Content {
     /// What each crash leaves.
     front: Vec<u8>,
-    /// What was cut off behind it since the last sync.
+    /// What was cut off after it since the last sync.
     cut_off: Vec<u8>,
     /// What was appended since the last sync.
     waits: Vec<u8>,
@@ -38,14 +38,14 @@ struct Content {
     extra: usize,
 }
 
-/// The first so many of these bytes.
+/// A copy of the first `len` of these bytes.
 fn first(alloc: Global, bytes: &[u8], len: usize) -> Result<Vec<u8>, AllocError>
     ensures { IfOk result (λ first. first.items ≡ take len bytes.now) }
 {
     bytes.iter().take(len).copied().collect(alloc)
 }
 
-/// Those behind them.
+/// A copy of the bytes after the first `len`.
 fn rest(alloc: Global, bytes: &[u8], len: usize) -> Result<Vec<u8>, AllocError>
     ensures { IfOk result (λ rest. rest.items ≡ drop len bytes.now) }
 {
@@ -86,7 +86,7 @@ impl Content {
         Ok(all)
     }
 
-    /// It, with these bytes that wait.
+    /// A copy with these bytes appended, not synced.
     fn appended(&self, alloc: Global, bytes: &[u8]) -> Result<Content, AllocError>
         ensures seen { IfOk result (λ next. all_of next ≡ all_of self.now ++ bytes.now) }
         ensures crash { IfOk result (λ next.
@@ -97,7 +97,7 @@ impl Content {
         Ok(next)
     }
 
-    /// It, cut to a length. A cut into what is on the disk drops all that waits.
+    /// A copy cut to a length. A cut into what is on the disk drops all that waits.
     fn cut(&self, alloc: Global, len: usize) -> Result<Content, AllocError>
         ensures seen { IfOk result (λ next. all_of next ≡ take len (all_of self.now)) }
         ensures crash { IfOk result (λ next. Follows (IsCut len) (Leaves self.now) (Leaves next)) }
@@ -109,7 +109,7 @@ impl Content {
         }
     }
 
-    /// It, with a front of this length. What stood behind that may still be on the disk.
+    /// A copy whose bytes on the disk are cut to this length. What was after that may still be on the disk.
     fn cut_front(&self, alloc: Global, len: usize) -> Result<Content, AllocError>
         requires { len ≤ length self.now.front.items }
         ensures seen { IfOk result (λ next. all_of next ≡ take len (all_of self.now)) }
@@ -126,7 +126,7 @@ impl Content {
         })
     }
 
-    /// It, with so many bytes that wait. Those behind them may still come onto the disk.
+    /// A copy with the first `len` of the bytes that wait. Those after them may still be written to the disk.
     fn cut_waits(&self, alloc: Global, len: usize) -> Result<Content, AllocError>
         ensures seen { IfOk result (λ next. all_of next
             ≡ take (length self.now.front.items + len) (all_of self.now)) }
@@ -141,7 +141,7 @@ impl Content {
     }
 }
 
-/// Puts another content in the place of the one that is there, which it keeps.
+/// Replaces the content, and keeps the old one in `past`.
 fn replace(
     alloc: Global,
     now: &mut Content,
@@ -198,8 +198,8 @@ impl TornFile {
         self.is_sound || len <= self.content.front.len()
     }
 
-    /// A crash, after which the file is opened again. It leaves so many of the bytes that were cut off
-    /// since the last sync, and these bytes for those that were appended; of them no more than that were.
+    /// Crashes, after which the file is opened again. It leaves `uncut` of the bytes that were cut off since
+    /// the last sync, and these bytes in place of those that were appended, at most as many.
     pub fn crash(&mut self, uncut: usize, behind: &[u8]) -> Result<(), LogError>
         ensures left { OnOk result (Leaves self.old.content (all_of self.new.content)) }
         ensures synced { OnOk result (IsSynced self.new.content (self.old.content.front.items

@@ -1,4 +1,4 @@
--- Where what XAUTOCLAIM answers stands in the bytes.
+-- The places of an XAUTOCLAIM reply in the bytes.
 use Rattle.std.specs.Prelude.{◌≡◌, ◌≤◌, ◌+◌, ℕ, List, length}
 use Rattle.redis_wire.specs.Limits.{default_limits}
 use Rattle.stream_in_place.specs.declared.places.AutoClaimPlace.{AutoClaimPlace}
@@ -10,8 +10,8 @@ use Rattle.stream_in_place.specs.Shapes.{BeginsWithAutoClaim, BeginsWithJustId}
 use Rattle.stream_entries.specs.JustId.{JustId}
 use Rattle.stream_in_place.specs.ClaimPlaced.{autoclaim_in, justid_in, AreClaimPlaces, AreJustIdPlaces}
 
--- The first `len` bytes are a reply: its next id stands at that place, and so many of the entries are those that
--- were claimed; the others are the deleted ids.
+-- The first `len` bytes are a reply: its next id is at that place, and the first entries are those that were claimed;
+-- the others are the deleted ids.
 pub record AutoClaimIn (place : AutoClaimPlace) (bytes : List ℕ) (len : ℕ) (held : Held) : Type 0 where
   pub all : place.len ≡ len
   pub is : IsAutoClaim default_limits bytes (autoclaim_in bytes held.entries held.fields place) len
@@ -23,8 +23,8 @@ pub record JustIdIn (place : AutoClaimPlace) (bytes : List ℕ) (len : ℕ) (hel
   pub is : IsJustId default_limits bytes (justid_in bytes held.entries place) len
   pub within : AreJustIdPlaces bytes held.entries place
 
--- The bytes begin with an answer of XAUTOCLAIM in the form in which servers write it, and there is room for the
--- entries that were claimed, for the deleted ids behind them, and for the fields.
+-- The bytes begin with a reply of XAUTOCLAIM in the form in which servers write it, and there is room for the entries
+-- that were claimed, for the deleted ids after them, and for the fields.
 pub record AutoClaimFits (bytes : List ℕ) (entry_room field_room : ℕ) : Type 0 where
   pub sent : SentAutoClaim
   pub len : ℕ

@@ -1,11 +1,12 @@
--- What C is told of the partitions of a stream.
+-- What is returned to C about the partitions of a stream.
 use Rattle.std.specs.Prelude.{ℕ, List}
 use Rattle.redis_cluster.specs.Partition.{partition_name}
 use Rattle.redis_c.specs.Packing.{IsWritten}
 use Rattle.redis_c.specs.declared.packing.Packing.{Packing}
 use Rattle.redis_c.specs.declared.packing.Packing.TheVariants as packings
 
--- The buffer begins with the name of the partition, or so many bytes are wanted for it; or memory ran out.
+-- The buffer begins with the name of the partition, or more bytes are needed for it, whose number is returned; or
+-- memory ran out.
 abbrev pub IsNaming : List ℕ → ℕ → List ℕ → Packing → Type 0
 IsNaming name partition out packings.Memory = Unit {0}
 IsNaming name partition out p = IsWritten (partition_name name partition) out p

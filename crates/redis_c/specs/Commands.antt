@@ -1,4 +1,4 @@
--- The arguments of commands by the parts that C hands in.
+-- The arguments of commands, by the parts that C passes.
 use Rattle.std.specs.Prelude.{ℕ, Bool, List, [], ◌∷◌, ◌++◌, codes, decimal, Some, if◌then◌else◌}
 use Rattle.std.specs.List.{flat_map}
 use Rattle.redis_args.specs.Clause.{clause, word_number}
@@ -52,7 +52,7 @@ autoclaim_args key group consumer min_idle start count =
 abbrev pub pending_args : List ℕ → List ℕ → List ℕ → List ℕ → ℕ → List (List ℕ)
 pending_args key group start end count = codes "XPENDING" ∷ key ∷ group ∷ start ∷ end ∷ decimal count ∷ []
 
--- `XTRIM key MAXLEN = n`, and with `~` in place of `=` if some entries more may stay
+-- `XTRIM key MAXLEN = n`, or with `~` in place of `=`, if more entries may stay
 abbrev pub trim_args : List ℕ → Bool → ℕ → List (List ℕ)
 trim_args key approximate n =
     codes "XTRIM" ∷ key ∷ maxlen_sentence (record { mode = if approximate then approx else exact; count = n })
@@ -111,7 +111,7 @@ pending_options_args key group s start end count consumer =
     ∷ (clause (word_number (codes "IDLE")) (if_set s.has_idle s.idle)
     ++ start ∷ end ∷ decimal count ∷ (if s.has_consumer then consumer ∷ [] else []))
 
--- ---- of ranges, groups, and what is told of a stream
+-- ---- ranges, groups, and reports on a stream
 
 -- `XLEN key`
 abbrev pub len_args : List ℕ → List (List ℕ)
@@ -138,7 +138,7 @@ revrange_count_args key end start n =
 abbrev pub del_args : List ℕ → List (List ℕ) → List (List ℕ)
 del_args key ids = codes "XDEL" ∷ key ∷ ids
 
--- `XGROUP CREATE key group id`, and `MKSTREAM` after it if the stream is made too
+-- `XGROUP CREATE key group id`, with `MKSTREAM` if the stream is created
 abbrev pub create_args : List ℕ → List ℕ → List ℕ → Bool → List (List ℕ)
 create_args key group id mkstream =
     codes "XGROUP" ∷ codes "CREATE" ∷ key ∷ group ∷ id ∷ (if mkstream then codes "MKSTREAM" ∷ [] else [])

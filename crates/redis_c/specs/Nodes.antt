@@ -1,4 +1,4 @@
--- What C is told of the values of a reply.
+-- What is returned to C about the values of a reply.
 use Rattle.std.specs.Prelude.{◌≡◌, ◌≢◌, ◌<◌, ◌⊎◌, ◌++◌, ◌/◌, ℕ, List, [], length, Result, Ok, Err}
 use Rattle.redis_wire.specs.Decoded.{IsFirstFault}
 use Rattle.redis_wire.specs.Grammar.{IsReply}
@@ -14,7 +14,7 @@ use Rattle.redis_wire.specs.declared.nodes.Node.{Node}
 use Rattle.redis_c.specs.Outcome.{code_of_fault}
 use Rattle.redis_c.specs.Records.{IsOrMemory}
 
--- the number of the outcome
+-- the status code of the outcome
 abbrev pub nodes_code : Result Found WireError → ℕ
 nodes_code (Ok (Whole len count)) = 0
 nodes_code (Ok (NoRoom len)) = 1
@@ -36,14 +36,14 @@ nodes_count (Ok (NoRoom len)) = len / 3
 nodes_count (Ok Incomplete) = 0
 nodes_count (Err e) = 0
 
--- where a table is too small, it has room for fewer nodes than are told to be enough
+-- if a table is too small, it has room for fewer nodes than the returned number, which is enough
 abbrev pub HasTooFew : ℕ → Result Found WireError → Type 0
 HasTooFew room (Ok (NoRoom len)) = room < len / 3
 HasTooFew room (Ok (Whole len count)) = Unit {0}
 HasTooFew room (Ok Incomplete) = Unit {0}
 HasTooFew room (Err e) = Unit {0}
 
--- C is told what was found by its number, a length and a count.
+-- The outcome is returned to C as a status code, a length and a count.
 pub record AreNodesTold (bytes : List ℕ) (nodes : List Node) (code len count : ℕ) : Type 0 where
   pub found : Result Found WireError
   pub is : Finds default_limits bytes nodes found
@@ -52,9 +52,9 @@ pub record AreNodesTold (bytes : List ℕ) (nodes : List Node) (code len count :
   pub len_is : len ≡ nodes_len found
   pub count_is : count ≡ nodes_count found
 
--- What has to be told of bytes, unless memory runs out: that they end too early, if they are a proper beginning of a
--- reply; the length of the reply that they begin with, and that the table holds its values or is too small; and a fault,
--- if it is the first that reading them meets.
+-- What has to be returned for bytes, unless memory runs out: that they end too early, if they are a proper beginning
+-- of a reply; the length of the reply that they begin with, and that the table holds its values or is too small; and
+-- a fault, if it is the first one in the bytes.
 pub record TellsNodes (bytes : List ℕ) (n len : ℕ) : Type 0 where
   pub early : (more : List ℕ) (a : Answer) → more ≢ [] → IsReply default_limits (bytes ++ more) a → IsOrMemory 2 n
   pub whole : (text rest : List ℕ) (a : Answer) → IsReply default_limits text a → bytes ≡ text ++ rest

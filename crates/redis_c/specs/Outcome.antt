@@ -1,4 +1,4 @@
--- The numbers by which C is told what reading comes to.
+-- The status codes of parsing that are returned to C.
 use Rattle.std.specs.Prelude.{ℕ}
 use Rattle.redis_wire.specs.declared.place.Span.{Span}
 use Rattle.redis_wire.specs.declared.fault.Fault.{Fault}
@@ -8,7 +8,7 @@ use Rattle.redis_c.specs.declared.outcome.Found.{Found}
 use Rattle.redis_c.specs.declared.outcome.Outcome.{Outcome}
 use Rattle.redis_c.specs.declared.outcome.Outcome.TheVariants as outcomes
 
--- the number of a fault
+-- the status code of a fault
 abbrev pub code_of_fault : Fault → ℕ
 code_of_fault faults.UnknownType = 16
 code_of_fault faults.Streamed = 17
@@ -26,7 +26,7 @@ code_of_fault faults.BadPush = 28
 code_of_fault faults.Overfull = 29
 code_of_fault faults.TooMany = 30
 
--- the number of an outcome; no two kinds have one
+-- the status code of an outcome; no two kinds have the same
 abbrev pub code : Outcome → ℕ
 code (outcomes.InPlace len counts) = 0
 code (outcomes.Room len counts) = 1
@@ -40,16 +40,16 @@ code (outcomes.Fault fault) = code_of_fault fault
 abbrev pub nowhere : Span
 nowhere = record { start = 0; len = 0 }
 
--- so long a reply with so many places
+-- a reply of this length with this many places
 abbrev pub of_counts : ℕ → Counts → Found
 of_counts len counts =
     record { len = len; streams = counts.streams; entries = counts.entries; fields = counts.fields; error = nowhere }
 
--- so long a reply with no places but that of an error
+-- a reply of this length with no place but that of an error
 abbrev pub of_place : ℕ → Span → Found
 of_place len text = record { len = len; streams = 0; entries = 0; fields = 0; error = text }
 
--- what C is told beside the number
+-- what is returned to C beside the status code
 abbrev pub found : Outcome → Found
 found (outcomes.InPlace len counts) = of_counts len counts
 found (outcomes.Room len counts) = of_counts len counts

@@ -1,4 +1,4 @@
--- Settings that were read back, told by the places of the arguments.
+-- Parsed settings, by the places of the arguments.
 use Rattle.std.specs.Prelude.{◌≡◌, ℕ, Bool, List, [], ◌∷◌, ◌++◌, Option, Some, None, option_map}
 use Rattle.std.specs.Prelude.{if◌then◌else◌}
 use Rattle.redis_resp.specs.Reading.{both_read}
@@ -17,7 +17,7 @@ abbrev pub first_place : List Span → Span
 first_place [] = nowhere
 first_place (place ∷ places) = place
 
--- what a read asks for after the group: BLOCK, COUNT, NOACK and CLAIM
+-- the settings of a read after the group: BLOCK, COUNT, NOACK and CLAIM
 abbrev pub Asked : Type 0
 Asked = Option ℕ × (Option ℕ × (Bool × Option ℕ))
 
@@ -38,12 +38,12 @@ abbrev pub group_in : List ℕ → GroupPlace → Option (Option Group)
 group_in bytes place = if place.has_group
     then option_map group_by (both_read (text_at bytes place.group) (text_at bytes place.consumer)) else Some None
 
--- If the texts at the places begin with these, then the places that are left are those of the others.
+-- If the texts at the places begin with these, then the remaining places are those of the others.
 abbrev pub Skips : List (List ℕ) → List Span → List Span → Type 0
 Skips front places left = (bytes : List ℕ) (tail rest : List (List ℕ))
     → texts_at bytes places ≡ Some ((front ++ tail) ++ rest) → texts_at bytes left ≡ Some (tail ++ rest)
 
--- If the texts at the places begin with the sentence of settings that fit, then these are meant.
+-- If the texts at the places begin with the clauses of settings that fit, then these are the result.
 abbrev pub Tells : {T : Type 0} → (T → Type 0) → (T → List (List ℕ)) → (List ℕ → Option T) → T → List Span → Type 0
 Tells Fits sentence meant x places = (bytes : List ℕ) (rest : List (List ℕ))
     → texts_at bytes places ≡ Some (sentence x ++ rest) → Fits x → meant bytes ≡ Some x

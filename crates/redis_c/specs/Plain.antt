@@ -1,4 +1,4 @@
--- Settings in which all is 0 that is not asked for.
+-- Settings in which everything that is not requested is 0.
 use Rattle.std.specs.Prelude.{◌≡◌, ℕ, Bool, false}
 use Rattle.redis_wire.specs.declared.place.Span.{Span}
 use Rattle.redis_c.specs.declared.commands.ReadSettings.{ReadSettings}
@@ -25,7 +25,7 @@ pub record IsPlainTrim (s : TrimSettings) : Type 0 where
   pub limited : s.bound ≡ 0 → s.has_limit ≡ false
   pub limit : IsZeroUnless s.has_limit s.limit
 
--- only the texts are set that the way to find an entry again has
+-- only the texts of the way to detect duplicates are set
 pub record IsPlainAdd (s : AddSettings) : Type 0 where
   pub producer : s.idempotency ≡ 0 → s.producer ≡ nowhere
   pub idempotent_id : (s.idempotency ≡ 1 → ⊥) → s.idempotent_id ≡ nowhere

@@ -95,15 +95,15 @@ abbrev pub summary_consumers : Option PendingSummary → List Consumer
 summary_consumers None = []
 summary_consumers (Some s) = s.consumers
 
--- ---- what C is told
+-- ---- what is returned to C
 
--- the number of the outcome; no two kinds have one
+-- the status code of the outcome; no two kinds have the same
 abbrev pub records_code : Records → ℕ
 records_code (records.Copied len records text) = 0
 records_code (records.Room len records text) = 1
 records_code (records.Unread outcome) = code outcome
 
--- what C is told beside the number
+-- what is returned to C beside the status code
 abbrev pub records_found : Records → RecordsFound
 records_found (records.Copied len records text) =
     record { len = len; records = records; text = text; error = nowhere }
@@ -124,21 +124,21 @@ module _ {M : Type 0} (reading : Tree → Option M) (bytes : List ℕ) where
   HasNoRecord (value t) = reading t ≡ None
   HasNoRecord _ = Unit {0}
 
-  -- The first `len` bytes are an answer that is no error and has no record.
+  -- The first `len` bytes are a reply that is no error and has no record.
   pub record IsUnreadAt (len : ℕ) : Type 0 where
     pub a : Answer
     pub answered : IsAnswered bytes len a
     pub no_error : IsNoError a
     pub no_record : HasNoRecord a
 
-  -- Where there is no record: the bytes end too early, or have a fault; an error of the server, wherever its text
-  -- is; or a reply of another shape, which is no error and has no record.
+  -- If there is no record: the bytes end too early, or have a fault; an error of the server, wherever its text is; or
+  -- a reply of another shape, which is no error and has no record.
   abbrev pub IsUnread : Outcome → Type 0
   IsUnread (outcomes.OtherShape len) = IsUnreadAt len
   IsUnread o = IsOther bytes o
 
   module _ (Holds : ℕ → ℕ → M → Type 0) (records_of : M → ℕ) (text_of : M → List ℕ) (room text_room : ℕ) where
-    -- The tables hold the record of the reply, and it has so many parts and texts of so many bytes.
+    -- The tables hold the record of the reply, with `count` parts and `text` bytes of texts.
     pub record AreCopied (len count text : ℕ) : Type 0 where
       pub m : M
       pub at : IsRecordAt len m
@@ -148,7 +148,7 @@ module _ {M : Type 0} (reading : Tree → Option M) (bytes : List ℕ) where
       pub short : text ≤ text_room
       pub holds : Holds count text m
 
-    -- The record of the reply has so many parts and texts of so many bytes, for which the tables are too small.
+    -- The record of the reply has `count` parts and `text` bytes of texts, for which the tables are too small.
     pub record AreTooMuch (len count text : ℕ) : Type 0 where
       pub m : M
       pub at : IsRecordAt len m
@@ -156,13 +156,13 @@ module _ {M : Type 0} (reading : Tree → Option M) (bytes : List ℕ) where
       pub text_is : text ≡ length (text_of m)
       pub more : (room < count) ⊎ (text_room < text)
 
-    -- What reading comes to: the tables hold the record of the reply; or it wants more room; or there is none.
+    -- The outcome of parsing: the tables hold the record of the reply; or it needs more room; or there is none.
     abbrev pub AreRecords : Records → Type 0
     AreRecords (records.Copied len count text) = AreCopied len count text
     AreRecords (records.Room len count text) = AreTooMuch len count text
     AreRecords (records.Unread o) = IsUnread o
 
-    -- C is told the outcome by its number and what was found.
+    -- The status code of the outcome is returned to C, and what was found.
     pub record AreRecordsTold (n : ℕ) (f : RecordsFound) : Type 0 where
       pub told : Records
       pub number : n ≡ records_code told
@@ -185,7 +185,7 @@ module _ {T : Type 0} (rows : List T) (copies : List ℕ) (room text_room : ℕ)
     pub text_is : text ≡ length copies
     pub more : (room < count) ⊎ (text_room < text)
 
-  -- What copying them comes to, of a reply of so many bytes.
+  -- The outcome of copying them, for a reply of this length.
   abbrev pub IsCopying : List T → List ℕ → ℕ → Records → Type 0
   IsCopying table texts len (records.Copied l count text) = (l ≡ len) × AreInFront table texts count text
   IsCopying table texts len (records.Room l count text) = (l ≡ len) × WantMore count text
@@ -203,14 +203,14 @@ HoldEntries entries texts count text es = AreAt (IsPendingAt (take text texts)) 
 abbrev pub HoldSummary : SummaryRecord → List ConsumerRecord → List ℕ → ℕ → ℕ → Option PendingSummary → Type 0
 HoldSummary summary consumers texts count text s = IsSummaryAt (take text texts) summary (take count consumers) s
 
--- ---- what has to be told
+-- ---- what has to be returned
 
--- the number is this one, or says that memory ran out
+-- the status code is this one, or that of memory
 abbrev pub IsOrMemory : ℕ → ℕ → Type 0
 IsOrMemory n code = (code ≡ n) ⊎ (code ≡ 5)
 
--- What has to be told of bytes, unless memory runs out: that they end too early, if they are a proper beginning of a
--- reply; an error of the server, if they begin with one; and a fault, if it is the first that reading them meets.
+-- What has to be returned for bytes, unless memory runs out: that they end too early, if they are a proper beginning
+-- of a reply; an error of the server, if they begin with one; and a fault, if it is the first one in the bytes.
 pub record TellsReplies (bytes : List ℕ) (n : ℕ) : Type 0 where
   pub early : (more : List ℕ) (a : Answer) → more ≢ [] → IsReply default_limits (bytes ++ more) a → IsOrMemory 2 n
   pub error : (text rest e : List ℕ) → IsReply default_limits text (refused e) → bytes ≡ text ++ rest → IsOrMemory 3 n
@@ -230,8 +230,8 @@ module _ {M : Type 0} (reading : Tree → Option M) (records_of : M → ℕ) (te
       pub few : records_of m ≤ room
       pub short : length (text_of m) ≤ text_room
 
-    -- What has to be told of a reply with a record: that it was copied, if the tables have room; else, that it wants
-    -- more. And of a value without one: that it has another shape.
+    -- What has to be returned for a reply with a record: that it was copied, if the tables have room; else, that it
+    -- needs more. And for a value without one: that it has another shape.
     pub record TellsRecords (bytes : List ℕ) (n : ℕ) : Type 0 where
       pub replies : TellsReplies bytes n
       pub copied : (text rest : List ℕ) (t : Tree) (m : M) → IsReply default_limits text (value t)

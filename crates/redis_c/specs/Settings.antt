@@ -1,4 +1,4 @@
--- What the settings that C hands in mean: numbers, flags, and texts at places in bytes.
+-- The meaning of the settings that C passes: numbers, flags, and texts at places in bytes.
 use Rattle.std.specs.Prelude.{◌≡◌, ℕ, Bool, List, Option, Some, None, Result, Ok, Err, option_map, option_and_then}
 use Rattle.std.specs.Prelude.{nat_eq, if◌then◌else◌}
 use Rattle.std.specs.Str.{is_utf8}
@@ -18,30 +18,30 @@ use Rattle.redis_c.specs.declared.settings.Unset.{Unset}
 use Rattle.redis_c.specs.declared.settings.Unset.TheVariants.{Memory, Refused}
 use Rattle.redis_c.specs.Placed.{text_at}
 
--- the number, where it is set
+-- the number, if it is set
 abbrev pub if_set : Bool → ℕ → Option ℕ
 if_set is_set n = if is_set then Some n else None
 
--- the bytes, where they are UTF-8
+-- the bytes, if they are UTF-8
 abbrev pub if_utf8 : List ℕ → Option (List ℕ)
 if_utf8 bytes = if is_utf8 bytes then Some bytes else None
 
--- the text at a place, where it is within the bytes and UTF-8
+-- the text at a place, if it is within the bytes and UTF-8
 abbrev pub utf8_at : List ℕ → Span → Option (List ℕ)
 utf8_at bytes place = option_and_then if_utf8 (text_at bytes place)
 
 -- ---- trimming
 
--- what the number says to do with the entry in the pending lists of groups; None where it names nothing
+-- the policy of the number for deleted entries in the pending lists of groups; None if there is no such policy
 abbrev pub policy_by : ℕ → Option (Option Policy)
 policy_by n = if nat_eq n 0 then Some None else if nat_eq n 1 then Some (Some keep_ref)
     else if nat_eq n 2 then Some (Some del_ref) else if nat_eq n 3 then Some (Some acked) else None
 
--- `~` if some entries more may stay, and else `=`
+-- `~` if more entries may stay, and otherwise `=`
 abbrev pub mode_by : Bool → Mode
 mode_by approximate = if approximate then approx else exact
 
--- the bound; None where the number names none, or the id is no text within the bytes
+-- the bound; None if the number names none, or the id is not a text within the bytes
 abbrev pub bound_in : List ℕ → TrimSettings → Option Bound
 bound_in bytes s = if nat_eq s.bound 1 then Some (max_len (mode_by s.approximate) s.maxlen)
     else if nat_eq s.bound 2 then option_map (min_id (mode_by s.approximate)) (utf8_at bytes s.minid) else None
@@ -76,13 +76,13 @@ manual_by x = Some (manual x.0 x.1)
 abbrev pub automatic_by : List ℕ → Option Idempotency
 automatic_by producer = Some (automatic producer)
 
--- how the server finds out that an entry was added before, by the number and the texts at these places, if it does
+-- how the server detects duplicates, by the number and the texts at these places, if it does
 abbrev pub idempotency_by : List ℕ → ℕ → Span → Span → Option (Option Idempotency)
 idempotency_by bytes way producer item = if nat_eq way 0 then Some None
     else if nat_eq way 1 then option_map manual_by (both_read (utf8_at bytes producer) (utf8_at bytes item))
     else if nat_eq way 2 then option_map automatic_by (utf8_at bytes producer) else None
 
--- how the server finds out that an entry was added before, if it does
+-- how the server detects duplicates, if it does
 abbrev pub idempotency_in : List ℕ → AddSettings → Option (Option Idempotency)
 idempotency_in bytes s = idempotency_by bytes s.idempotency s.producer s.idempotent_id
 
@@ -98,11 +98,11 @@ add_in bytes s =
 
 -- ---- claiming
 
--- the id at a place, if one is noted
+-- the id at a place, if LASTID is set
 abbrev pub lastid_by : List ℕ → Bool → Span → Option (Option (List ℕ))
 lastid_by bytes is_noted place = if is_noted then option_map Some (utf8_at bytes place) else Some None
 
--- the id that is noted, if one is
+-- the id of LASTID, if it is set
 abbrev pub lastid_in : List ℕ → ClaimSettings → Option (Option (List ℕ))
 lastid_in bytes s = lastid_by bytes s.has_lastid s.lastid
 
@@ -127,12 +127,12 @@ autoclaim_of s = record { count = if_set s.has_count s.count; justid = s.justid 
 
 -- ---- for the functions within
 
--- an error says that nothing is meant, or that memory ran out
+-- an error says that the settings are invalid, or that memory ran out
 abbrev pub Fails : {Y : Type 0} → Unset → Option Y → Type 0
 Fails Memory meant = Unit {0}
 Fails Refused meant = meant ≡ None
 
--- what a function makes, seen by view, is what is meant, unless memory ran out
+-- what a function returns, seen by view, is what is meant, unless memory ran out
 abbrev pub Makes : {X Y : Type 0} → (X → Y) → Result X Unset → Option Y → Type 0
 Makes view (Ok x) meant = meant ≡ Some (view x)
 Makes view (Err e) meant = Fails e meant

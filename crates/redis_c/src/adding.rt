@@ -1,4 +1,4 @@
-//! How an entry is added, from what C asks.
+//! The settings of XADD, from those that C passes.
 ghost use Rattle.std.specs.Prelude.{option_map};
 ghost use Rattle.stream_options.specs.View.{idempotency_of};
 ghost use Rattle.redis_c.specs.Settings.{idempotency_in, add_in, Makes};
@@ -9,7 +9,7 @@ use std::alloc::Global;
 use stream_options::{StreamAddOptions, StreamIdempotencyMode};
 use stream_sentences::{AddParts, add_with};
 
-/// How the server finds out that an entry was added before, if it does.
+/// How the server detects duplicates, if it does.
 fn idempotency_in(
     alloc: Global,
     bytes: &[u8],

@@ -11,7 +11,7 @@ use std::alloc::Global;
 use stream_commands::{AtLeastOne, xack, xadd, xclaim};
 use stream_in_place::{EntryPlace, FieldPlace};
 
-/// What is told where there are no arguments.
+/// The outcome if there are no arguments.
 pub fn of_unplaced(unplaced: Unplaced) -> Packing
     ensures memory { unplaced ≡ Unplaced.Memory → result ≡ Packing.Memory }
     ensures outside { unplaced ≡ Unplaced.Outside → result ≡ Packing.Outside }
@@ -133,7 +133,7 @@ fn packed_add(
 }
 
 /// Packs `XADD key id name value ..` of the fields at these places of bytes, such as those of an entry that was
-/// read. With `*` as id the server makes one.
+/// read. With `*` as id the server generates one.
 #[unsafe(no_mangle)]
 pub extern "C" fn redis_xadd_fields(
     alloc: Global,

@@ -1,4 +1,4 @@
-//! How entries are claimed, from what C asks.
+//! The settings of claims, from those that C passes.
 ghost use Rattle.std.specs.Prelude.{◌≡◌, string_bytes, option_map};
 ghost use Rattle.redis_c.specs.Settings.{if_set, lastid_in, claim_in, autoclaim_of, Makes};
 
@@ -8,7 +8,7 @@ use std::alloc::Global;
 use stream_options::{StreamAutoClaimOptions, StreamClaimOptions};
 use stream_sentences::{AutoClaimParts, ClaimParts, autoclaim_with, claim_with};
 
-/// The number, where it is set.
+/// The number, if it is set.
 fn if_set(is_set: bool, n: usize) -> Option<usize>
     ensures { result ≡ if_set is_set n }
 {
@@ -25,7 +25,7 @@ pub fn autoclaim_of(settings: &AutoClaimSettings) -> StreamAutoClaimOptions
     })
 }
 
-/// The id that is noted, if one is.
+/// The id of LASTID, if it is set.
 fn lastid_in(alloc: Global, bytes: &[u8], settings: &ClaimSettings) -> Result<Option<String>, Unset>
     ensures { Makes (option_map string_bytes) result (lastid_in bytes.now settings.now) }
 {

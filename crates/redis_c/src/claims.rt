@@ -1,4 +1,4 @@
-//! Entries and ids that XAUTOCLAIM claimed, where they stand, in tables of the caller.
+//! Entries and ids that XAUTOCLAIM claimed, in place, in tables of the caller.
 ghost use Rattle.std.specs.Prelude.{◌≡◌, ◌+◌, [], ℕ, length};
 ghost use Rattle.redis_wire.specs.Limits.{default_limits};
 ghost use Rattle.stream_entries.specs.JustId.{JustId};
@@ -18,7 +18,7 @@ use stream_in_place::{
     AutoClaimPlace, EntryPlace, EntryTables, EntryTape, FieldPlace, find_autoclaim, find_justid,
 };
 
-/// How much room the entries of an automatic claim want.
+/// How much room the reply of XAUTOCLAIM needs.
 fn autoclaim_room(alloc: Global, bytes: &[u8], room: Counts, claim: &mut AutoClaimPlace) -> Outcome
     ensures is { IsRoom (AutoClaimIn claim.new) bytes.now room result }
     ensures rows { (most : ℕ) (r : SentAutoClaim) (len : ℕ) → BeginsWithAutoClaim default_limits bytes.now r len
@@ -39,7 +39,7 @@ fn autoclaim_room(alloc: Global, bytes: &[u8], room: Counts, claim: &mut AutoCla
     }
 }
 
-/// How much room the ids of an automatic claim want.
+/// How much room the reply of XAUTOCLAIM with JUSTID needs.
 fn justid_room(alloc: Global, bytes: &[u8], room: Counts, claim: &mut AutoClaimPlace) -> Outcome
     ensures is { IsRoom (JustIdIn claim.new) bytes.now room result }
     ensures rows { (most : ℕ) (r : JustId) (len : ℕ) → BeginsWithJustId default_limits bytes.now r len
@@ -59,7 +59,7 @@ fn justid_room(alloc: Global, bytes: &[u8], room: Counts, claim: &mut AutoClaimP
     }
 }
 
-/// Where the entries of an automatic claim stand, in tables that have this room.
+/// The places of the entries of an XAUTOCLAIM reply, in tables that have this room.
 fn autoclaim_outcome(
     alloc: Global,
     bytes: &[u8],
@@ -92,7 +92,7 @@ fn autoclaim_outcome(
     }
 }
 
-/// Where the ids of an automatic claim stand that was asked for ids alone.
+/// The places of the ids of an XAUTOCLAIM reply with JUSTID.
 fn justid_outcome(
     alloc: Global,
     bytes: &[u8],
@@ -123,8 +123,8 @@ fn justid_outcome(
     }
 }
 
-/// Finds where the entries stand of the reply of XAUTOCLAIM at the head of bytes, and behind them the
-/// deleted ids.
+/// Finds the places of the entries of the XAUTOCLAIM reply at the head of bytes, and after them the deleted
+/// ids.
 #[unsafe(no_mangle)]
 pub extern "C" fn redis_find_autoclaim(
     alloc: Global,
@@ -149,8 +149,8 @@ pub extern "C" fn redis_find_autoclaim(
     autoclaim_outcome(alloc, bytes, room, entries, fields, claim).tell(found)
 }
 
-/// Finds where the ids stand of the reply of XAUTOCLAIM with JUSTID at the head of bytes, and behind
-/// them the deleted ids.
+/// Finds the places of the ids of the XAUTOCLAIM reply with JUSTID at the head of bytes, and after them the
+/// deleted ids.
 #[unsafe(no_mangle)]
 pub extern "C" fn redis_find_justid(
     alloc: Global,

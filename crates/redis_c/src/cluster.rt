@@ -19,7 +19,7 @@ pub extern "C" fn redis_key_slot(key: &[u8]) -> u32
     u32::from(key_slot(key))
 }
 
-/// So many partitions, if there is one and 16 bits hold their number.
+/// The number of partitions, if it is not 0 and fits 16 bits.
 fn number_of(number: usize) -> Option<NonZeroU16>
     ensures some { 0 < number → number < 2 ^ 16 → option_map (λ n. n.value) result ≡ Some number }
     ensures none { (number ≡ 0) ⊎ (2 ^ 16 ≤ number) → result ≡ None }
@@ -27,7 +27,7 @@ fn number_of(number: usize) -> Option<NonZeroU16>
     NonZeroU16::new(u16::try_from(number).ok()?)
 }
 
-/// Tells the partition of a record among so many, from 1 to 65,535.
+/// Returns the partition of a record among `number`, from 1 to 65,535.
 #[unsafe(no_mangle)]
 pub extern "C" fn redis_partition_of(record_key: &[u8], number: usize, partition: &mut usize) -> u32
     ensures ok { 0 < number → number < 2 ^ 16

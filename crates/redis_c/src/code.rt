@@ -1,14 +1,14 @@
-//! The numbers by which C is told what a call comes to: those of the header.
+//! The status codes of the header that calls return to C.
 
-/// It is done.
+/// Success.
 pub const OK: u32 = 0;
-/// There is too little room, and so much is wanted.
+/// There is too little room; the needed sizes are returned.
 pub const ROOM: u32 = 1;
-/// The bytes end before the reply does.
+/// The reply is not complete.
 pub const INCOMPLETE: u32 = 2;
 /// The server sent an error.
 pub const SERVER_ERROR: u32 = 3;
-/// A reply of another shape than the call reads.
+/// A reply of another shape than the call expects.
 pub const OTHER: u32 = 4;
 /// Out of memory.
 pub const MEMORY: u32 = 5;
@@ -16,9 +16,9 @@ pub const MEMORY: u32 = 5;
 pub const TOO_LARGE: u32 = 6;
 /// A place is not within the bytes.
 pub const OUTSIDE: u32 = 7;
-/// No entry, field or stream was handed in, and the server wants one.
+/// No entry, field or stream was passed, and the server needs one.
 pub const NOTHING: u32 = 8;
-/// The settings name nothing.
+/// The settings are invalid.
 pub const SETTINGS: u32 = 9;
 /// The arguments do not begin with options.
 pub const NO_OPTIONS: u32 = 10;
@@ -27,11 +27,11 @@ pub const NO_PARTITION: u32 = 11;
 
 /// The first byte of a value names no type of the protocol.
 pub const FAULT_UNKNOWN_TYPE: u32 = 16;
-/// A value with no length in front of it.
+/// A streamed value, without a length.
 pub const FAULT_STREAMED: u32 = 17;
 /// A line or a bulk string does not end in CR LF.
 pub const FAULT_BAD_END: u32 = 18;
-/// Not a length.
+/// An invalid length.
 pub const FAULT_BAD_LENGTH: u32 = 19;
 /// A length over 512 MiB.
 pub const FAULT_TOO_LONG: u32 = 20;

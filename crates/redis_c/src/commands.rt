@@ -11,7 +11,7 @@ use std::alloc::{AllocError, Global};
 use stream_commands::{AtLeastOne, xack, xautoclaim_count, xpending_count, xread_options, xtrim};
 use stream_options::{StreamMaxlen, StreamReadOptions};
 
-/// What a read of a group asks for.
+/// The settings of a read of a group.
 #[repr(C)]
 #[derive(Clone, Copy, Debug, PartialEq, Eq)]
 pub struct ReadSettings {
@@ -23,15 +23,15 @@ pub struct ReadSettings {
     pub noack: bool,
     /// Whether entries that are idle for `claim` milliseconds are claimed and read first.
     pub has_claim: bool,
-    /// At most so many entries.
+    /// The limit on entries.
     pub count: usize,
-    /// It waits so many milliseconds, and 0 without end.
+    /// The milliseconds that it waits; 0 to wait without a limit.
     pub block: usize,
     /// In milliseconds.
     pub claim: usize,
 }
 
-/// The settings that say how long a read waits and how much it reads.
+/// The settings of BLOCK, COUNT, NOACK and CLAIM.
 pub fn reading_of(settings: &ReadSettings) -> StreamReadOptions
     ensures { result ≡ reading_of settings.now }
 {
@@ -174,7 +174,7 @@ pub extern "C" fn redis_xpending(
     packed(alloc, &command, out).tell(len)
 }
 
-/// Packs `XTRIM key MAXLEN = n`, and with `~` in place of `=` if some entries more may stay.
+/// Packs `XTRIM key MAXLEN = n`, or with `~` in place of `=`, if more entries may stay.
 #[unsafe(no_mangle)]
 pub extern "C" fn redis_xtrim(
     alloc: Global,

@@ -1,4 +1,4 @@
-//! Records of replies as plain ones: their texts are copied, one after the other, and each is a place.
+//! Records of replies as plain ones: their texts are copied, one after the other, and each becomes a place.
 ghost use Rattle.std.specs.Prelude.{◌≡◌, ◌++◌, flat_map, map, IfOk};
 ghost use Rattle.redis_streams.specs.InfoMeaning.{consumer_meaning, group_meaning};
 ghost use Rattle.redis_streams.specs.PendingMeaning.{pending_id_meaning, pending_meaning};
@@ -10,7 +10,7 @@ use redis_streams::{StreamInfoConsumer, StreamInfoGroup, StreamPendingId, Stream
 use redis_wire::place::Span;
 use std::alloc::{AllocError, Global};
 
-/// Puts a text behind the texts, and returns its place.
+/// Appends a text to the texts, and returns its place.
 fn put_text(texts: &mut Vec<u8>, text: &[u8]) -> Result<Span, AllocError>
     ensures more { IfOk result (λ _. texts.new.items ≡ texts.old.items ++ text.now) }
     ensures at { IfOk result (λ place. IsCopyAt texts.new.items place text.now) }
@@ -23,7 +23,7 @@ fn put_text(texts: &mut Vec<u8>, text: &[u8]) -> Result<Span, AllocError>
     })
 }
 
-/// Puts the texts of a group behind the texts.
+/// Appends the texts of a group to the texts.
 fn put_group(texts: &mut Vec<u8>, group: &StreamInfoGroup) -> Result<GroupRecord, AllocError>
     ensures more { IfOk result (λ _. texts.new.items ≡ texts.old.items ++ group_text (group_meaning group.now)) }
     ensures at { IfOk result (λ p. IsGroupAt texts.new.items p (group_meaning group.now)) }
@@ -42,7 +42,7 @@ fn put_group(texts: &mut Vec<u8>, group: &StreamInfoGroup) -> Result<GroupRecord
     })
 }
 
-/// Puts the texts of groups behind the texts.
+/// Appends the texts of groups to the texts.
 pub fn put_groups(
     alloc: Global,
     texts: &mut Vec<u8>,
@@ -60,7 +60,7 @@ pub fn put_groups(
     Ok(records)
 }
 
-/// Puts the texts of a pending entry behind the texts.
+/// Appends the texts of a pending entry to the texts.
 fn put_pending(texts: &mut Vec<u8>, entry: &StreamPendingId) -> Result<PendingRecord, AllocError>
     ensures more { IfOk result (λ _. texts.new.items
         ≡ texts.old.items ++ pending_text (pending_id_meaning entry.now)) }
@@ -76,7 +76,7 @@ fn put_pending(texts: &mut Vec<u8>, entry: &StreamPendingId) -> Result<PendingRe
     })
 }
 
-/// Puts the texts of pending entries behind the texts.
+/// Appends the texts of pending entries to the texts.
 pub fn put_entries(
     alloc: Global,
     texts: &mut Vec<u8>,
@@ -94,7 +94,7 @@ pub fn put_entries(
     Ok(records)
 }
 
-/// Puts the name of a consumer behind the texts.
+/// Appends the name of a consumer to the texts.
 fn put_consumer(
     texts: &mut Vec<u8>,
     consumer: &StreamInfoConsumer,
@@ -110,7 +110,7 @@ fn put_consumer(
     })
 }
 
-/// Puts the names of consumers behind the texts.
+/// Appends the names of consumers to the texts.
 fn put_consumers(
     alloc: Global,
     texts: &mut Vec<u8>,
@@ -128,7 +128,7 @@ fn put_consumers(
     Ok(records)
 }
 
-/// Puts the texts of a summary behind the texts, those of its consumers last.
+/// Appends the texts of a summary to the texts, those of its consumers last.
 pub fn put_summary(
     alloc: Global,
     texts: &mut Vec<u8>,
@@ -153,7 +153,7 @@ pub fn put_summary(
     }
 }
 
-/// The summary where nothing is pending.
+/// The summary if nothing is pending.
 fn nothing_pending() -> SummaryRecord
     ensures { result.count ≡ 0 }
 {

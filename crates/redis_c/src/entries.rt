@@ -1,4 +1,4 @@
-//! Entries where they stand, in tables of the caller.
+//! Entries in place, in tables of the caller.
 ghost use Rattle.std.specs.Prelude.{◌≡◌, [], ℕ, List, false, length};
 ghost use Rattle.redis_wire.specs.Limits.{default_limits};
 ghost use Rattle.stream_in_place.specs.Sent.{SentEntry, SentStream, all_fields, all_entries, all_stream_fields};
@@ -16,7 +16,7 @@ use stream_in_place::{
     EntryPlace, EntryTables, EntryTape, FieldPlace, Places, StreamPlace, find_range, find_streams,
 };
 
-/// How many places are held.
+/// How many places there are.
 pub fn counts_of<P: Places>(places: &P) -> Counts
     ensures { HasCounts result (P.held places.now) }
 {
@@ -38,7 +38,7 @@ pub fn room_of(streams: usize, entries: usize, fields: usize) -> Counts
     }
 }
 
-/// How much room the entries of a range want.
+/// How much room the entries of a range need.
 fn range_room(alloc: Global, bytes: &[u8], room: Counts) -> Outcome
     ensures is { IsRoom RangeIn bytes.now room result }
     ensures rows { (most : ℕ) (es : List SentEntry) (len : ℕ) → BeginsWithRange default_limits bytes.now es len
@@ -54,7 +54,7 @@ fn range_room(alloc: Global, bytes: &[u8], room: Counts) -> Outcome
     }
 }
 
-/// How much room the streams of a read want.
+/// How much room the streams of a read need.
 fn streams_room(alloc: Global, bytes: &[u8], room: Counts) -> Outcome
     ensures is { IsRoom StreamsIn bytes.now room result }
     ensures rows { (most : ℕ) (ss : List SentStream) (len : ℕ) → BeginsWithStreams default_limits false bytes.now ss len
@@ -73,7 +73,7 @@ fn streams_room(alloc: Global, bytes: &[u8], room: Counts) -> Outcome
     }
 }
 
-/// Where the entries of a range stand, in tables that have this room.
+/// The places of the entries of a range, in tables that have this room.
 fn range_outcome(
     alloc: Global,
     bytes: &[u8],
@@ -101,7 +101,7 @@ fn range_outcome(
     }
 }
 
-/// Where the streams of a read stand, in tables that have room for so many places.
+/// The places of the streams of a read, in tables that have this room.
 fn streams_outcome(
     alloc: Global,
     bytes: &[u8],
@@ -137,7 +137,7 @@ fn streams_outcome(
     }
 }
 
-/// Finds where the entries stand of the reply of XRANGE, XREVRANGE or XCLAIM at the head of bytes.
+/// Finds the places of the entries of the XRANGE, XREVRANGE or XCLAIM reply at the head of bytes.
 #[unsafe(no_mangle)]
 pub extern "C" fn redis_find_range(
     alloc: Global,
@@ -159,8 +159,7 @@ pub extern "C" fn redis_find_range(
     range_outcome(alloc, bytes, room, entries, fields).tell(found)
 }
 
-/// Finds where the streams and their entries stand of the reply of XREAD or XREADGROUP at the head of
-/// bytes.
+/// Finds the places of the streams and their entries of the XREAD or XREADGROUP reply at the head of bytes.
 #[unsafe(no_mangle)]
 pub extern "C" fn redis_find_streams(
     alloc: Global,

@@ -1,4 +1,4 @@
-//! Groups of consumers that are made, moved and removed, packed into a buffer of the caller.
+//! Commands that create, move and destroy groups, packed into a buffer of the caller.
 ghost use Rattle.std.specs.Prelude.{◌≡◌};
 ghost use Rattle.redis_c.specs.Packing.{IsPacking, IsPackedAs};
 ghost use Rattle.redis_c.specs.Commands.{create_args, setid_args, destroy_args};
@@ -27,7 +27,7 @@ fn packed_create(
     }
 }
 
-/// Packs `XGROUP CREATE key group id`, and `MKSTREAM` after it if a stream that does not exist is made too.
+/// Packs `XGROUP CREATE key group id`, with `MKSTREAM` if a stream that does not exist is created.
 #[unsafe(no_mangle)]
 pub extern "C" fn redis_xgroup_create(
     alloc: Global,

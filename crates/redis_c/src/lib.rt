@@ -1,8 +1,7 @@
-//! A static library for C and what speaks C: replies of streams where they stand in the bytes, commands
-//! written into buffers, and the partitions of a stream. All is over numbers and byte slices. Its header
-//! is `redis_streams.h`.
+//! A static library for C and other languages: stream replies parsed in place, commands written into buffers,
+//! and the partitions of a stream. All is over numbers and byte slices. Its header is `redis_streams.h`.
 //!
-//! Each export calls what the crates below have, and says again what they promise.
+//! Each export calls a function of the crates below, and repeats its contract.
 #![tactic(auto)]
 
 mod adding;

@@ -1,4 +1,4 @@
-//! Any reply where it stands, as a flat list of its values, in a table of the caller.
+//! Any reply in place, as a flat list of its values, in a table of the caller.
 ghost use Rattle.std.specs.Prelude.{◌≡◌, length};
 ghost use Rattle.redis_wire.specs.Limits.{default_limits};
 ghost use Rattle.redis_wire.specs.Nodes.{Finds};
@@ -9,7 +9,7 @@ use crate::outcome::code_of_fault;
 use redis_wire::{Found, Limits, Node, WireError, find_nodes};
 use std::alloc::Global;
 
-/// The number of the outcome.
+/// The status code of the outcome.
 fn nodes_code(found: &Result<Found, WireError>) -> u32
     ensures { result ≡ nodes_code found.now }
 {
@@ -22,7 +22,7 @@ fn nodes_code(found: &Result<Found, WireError>) -> u32
     }
 }
 
-/// How many bytes the reply has, and 0 where there is none.
+/// How many bytes the reply has, and 0 if there is none.
 fn nodes_len(found: &Result<Found, WireError>) -> usize
     ensures { result ≡ nodes_len found.now }
 {
@@ -32,7 +32,7 @@ fn nodes_len(found: &Result<Found, WireError>) -> usize
     }
 }
 
-/// How many nodes there are; or how many there are at most, where the table has no room for them.
+/// How many nodes there are; or an upper bound, if the table has no room for them.
 fn nodes_count(found: &Result<Found, WireError>) -> usize
     ensures { result ≡ nodes_count found.now }
 {
@@ -43,7 +43,7 @@ fn nodes_count(found: &Result<Found, WireError>) -> usize
     }
 }
 
-/// What the values at the head of bytes come to in this table.
+/// Parses the values at the head of bytes into this table.
 fn nodes_found(alloc: Global, bytes: &[u8], nodes: &mut [Node]) -> Result<Found, WireError>
     ensures is { Finds default_limits bytes.now nodes.new result }
     ensures few { HasTooFew (length nodes.new) result }
@@ -63,7 +63,7 @@ fn nodes_found(alloc: Global, bytes: &[u8], nodes: &mut [Node]) -> Result<Found,
     }
 }
 
-/// Finds where the values of the reply at the head of bytes stand, each in front of its members.
+/// Finds the places of the values of the reply at the head of bytes, each before its members.
 #[unsafe(no_mangle)]
 pub extern "C" fn redis_find_nodes(
     alloc: Global,

@@ -29,7 +29,7 @@ use stream_commands::{
 use stream_in_place::{EntryPlace, FieldPlace};
 use stream_options::{StreamAddOptions, StreamClaimOptions, StreamReadOptions};
 
-/// What is told where there are no options.
+/// The outcome if there are no options.
 fn of_unset(unset: Unset) -> Packing
     ensures memory { unset ≡ Unset.Memory → result ≡ Packing.Memory }
     ensures refused { unset ≡ Unset.Refused → result ≡ Packing.Refused }
@@ -86,8 +86,8 @@ fn packed_add(
     }
 }
 
-/// Packs `XADD key [NOMKSTREAM] [KEEPREF|DELREF|ACKED] [IDMP p i|IDMPAUTO p] [MAXLEN|MINID ..] id name value ..` of
-/// the fields at these places of bytes, where the texts of the settings stand too.
+/// Packs `XADD key [NOMKSTREAM] [KEEPREF|DELREF|ACKED] [IDMP p i|IDMPAUTO p] [MAXLEN|MINID ..] id name value
+/// ..` of the fields at these places of bytes, where the texts of the settings are too.
 #[unsafe(no_mangle)]
 pub extern "C" fn redis_xadd_options(
     alloc: Global,
@@ -121,7 +121,7 @@ fn packed_trim(
     }
 }
 
-/// Packs `XTRIM key MAXLEN|MINID =|~ bound [LIMIT n] [KEEPREF|DELREF|ACKED]`; the id of `MINID` stands in these
+/// Packs `XTRIM key MAXLEN|MINID =|~ bound [LIMIT n] [KEEPREF|DELREF|ACKED]`; the id of `MINID` is in these
 /// bytes.
 #[unsafe(no_mangle)]
 pub extern "C" fn redis_xtrim_options(
@@ -192,8 +192,8 @@ fn packed_claim(
     }
 }
 
-/// Packs `XCLAIM key group consumer min-idle id .. [IDLE n] [TIME n] [RETRYCOUNT n] [FORCE] [JUSTID] [LASTID id]` of
-/// the entries at these places of bytes, where the text of the settings stands too.
+/// Packs `XCLAIM key group consumer min-idle id .. [IDLE n] [TIME n] [RETRYCOUNT n] [FORCE] [JUSTID] [LASTID
+/// id]` of the entries at these places of bytes, where the text of the settings is too.
 #[unsafe(no_mangle)]
 pub extern "C" fn redis_xclaim_options(
     alloc: Global,

@@ -1,4 +1,4 @@
-//! What bytes are in which no entries stand in place.
+//! Replies that have no entries in place.
 ghost use Rattle.std.specs.Prelude.{◌≡◌, ◌≤◌, ◌++◌, ℕ, List, None, IfSome, length, take};
 ghost use Rattle.redis_wire.specs.Packed.{crlf};
 ghost use Rattle.redis_wire.specs.Place.{text_in, IsSpan};
@@ -10,8 +10,7 @@ use redis_wire::place::Span;
 use redis_wire::{Decoded, Limits, Reply, WireError, decode};
 use std::alloc::Global;
 
-/// Where a text of an error stands in the bytes of a reply of this length: two bytes, CR and LF, end
-/// the reply behind it.
+/// The place of the text of an error in the bytes of a reply of this length: two bytes, CR and LF, follow it.
 fn place_of(bytes: &[u8], len: usize, text: &[u8]) -> Option<Span>
     ensures is { IfSome result (λ span. text_in bytes.now span ≡ text.now) }
     ensures within { IfSome result (λ span. IsSpan bytes.now span) }
@@ -29,7 +28,7 @@ fn place_of(bytes: &[u8], len: usize, text: &[u8]) -> Option<Span>
     })
 }
 
-/// The error of the server with this text, which is the reply.
+/// The outcome for an error of the server with this text.
 pub fn error_at(bytes: &[u8], len: usize, text: &[u8]) -> Outcome
     requires { IsAnswered bytes.now len (refused text.now) }
     ensures { IsError bytes.now result }
@@ -40,7 +39,7 @@ pub fn error_at(bytes: &[u8], len: usize, text: &[u8]) -> Outcome
     }
 }
 
-/// What the reply is that was decoded.
+/// The outcome for a decoded reply.
 fn kind_of(bytes: &[u8], len: usize, reply: Reply) -> Outcome
     requires { IsAnswered bytes.now len (answer reply) }
     ensures { IsOther bytes.now result }
@@ -51,7 +50,7 @@ fn kind_of(bytes: &[u8], len: usize, reply: Reply) -> Outcome
     }
 }
 
-/// What the bytes are in which no entries stand in place.
+/// The outcome for bytes without entries in place.
 pub fn other(alloc: Global, bytes: &[u8]) -> Outcome
     ensures { IsOther bytes.now result }
 {

@@ -1,4 +1,4 @@
-//! What reading the bytes of a reply comes to, and the numbers by which C is told.
+//! The outcomes of parsing a reply, and their status codes.
 ghost use Rattle.std.specs.Prelude.{◌≡◌};
 ghost use Rattle.redis_c.specs.Outcome.{code_of_fault, code, found};
 ghost use Rattle.redis_c.specs.Told.{IsWanting};
@@ -18,28 +18,28 @@ pub struct Counts {
     pub fields: usize,
 }
 
-/// What reading a reply comes to.
+/// The outcome of parsing a reply.
 #[derive(Clone, Copy)]
 pub enum Outcome {
-    /// The tables hold where all stands.
+    /// The tables hold the places.
     InPlace {
         /// How many bytes the reply has.
         len: usize,
         counts: Counts,
     },
-    /// The tables have too little room: so much is wanted.
+    /// The tables have too little room; the needed sizes follow.
     Room {
         /// How many bytes the reply has.
         len: usize,
         counts: Counts,
     },
-    /// The bytes end before the reply does.
+    /// The reply is not complete.
     Incomplete,
-    /// The server answered an error.
+    /// The server returned an error.
     ServerError {
         /// How many bytes the reply has.
         len: usize,
-        /// Where the text of the error stands.
+        /// Where the text of the error is.
         text: Span,
     },
     /// A reply of another shape.
@@ -49,15 +49,15 @@ pub enum Outcome {
     },
     /// Out of memory.
     Memory,
-    /// The bytes are no reply, however they go on.
+    /// No further bytes could make these a reply.
     Fault(Fault),
 }
 
-/// What C is told beside the number of the outcome.
+/// What is returned to C beside the status code.
 #[repr(C)]
 #[derive(Clone, Copy, Debug, PartialEq, Eq)]
 pub struct Found {
-    /// How many bytes the reply has, and 0 where there is none.
+    /// How many bytes the reply has, and 0 if there is none.
     pub len: usize,
     /// How many streams there are.
     pub streams: usize,
@@ -65,12 +65,12 @@ pub struct Found {
     pub entries: usize,
     /// How many fields there are in all of these.
     pub fields: usize,
-    /// Where the text of the server's error stands.
+    /// Where the text of the server's error is.
     pub error: Span,
 }
 
 impl Outcome {
-    /// The number of the outcome.
+    /// The status code of the outcome.
     pub fn code(self) -> u32
         ensures { result ≡ code self }
     {
@@ -85,7 +85,7 @@ impl Outcome {
         }
     }
 
-    /// What C is told beside it.
+    /// What is returned to C beside the code.
     pub fn found(self) -> Found
         ensures { result ≡ found self }
     {
@@ -104,7 +104,7 @@ impl Outcome {
         }
     }
 
-    /// Tells C of it: sets what was found, and returns the number.
+    /// Sets what was found, and returns the status code.
     pub fn tell(self, beside: &mut Found) -> u32
         ensures number { result ≡ code self }
         ensures beside { beside.new ≡ found self }
@@ -114,7 +114,7 @@ impl Outcome {
     }
 }
 
-/// What is told of a reply of so many bytes with so many places, if tables with this room were not filled.
+/// The outcome for a reply of `len` bytes with this many places, if tables with this room were not filled.
 pub fn wanted(len: usize, counts: Counts, room: Counts) -> Outcome
     ensures { IsWanting len counts room result }
 {
@@ -150,7 +150,7 @@ fn found_of(len: usize, counts: Counts, error: Span) -> Found
     }
 }
 
-/// The number of a fault.
+/// The status code of a fault.
 pub fn code_of_fault(fault: Fault) -> u32
     ensures { result ≡ code_of_fault fault }
 {

@@ -7,7 +7,7 @@ use redis_resp::ToRedisArgs;
 use redis_wire::{PackError, pack_command};
 use std::alloc::Global;
 
-/// What packing a command comes to.
+/// The outcome of packing a command.
 #[derive(Clone, Copy)]
 pub enum Packing {
     /// The buffer begins with the command.
@@ -17,23 +17,23 @@ pub enum Packing {
     },
     /// The buffer has too little room.
     Room {
-        /// How many bytes are wanted.
+        /// How many bytes are needed.
         len: usize,
     },
     /// Out of memory.
     Memory,
-    /// An argument is of 2^32 bytes or more, or there are as many.
+    /// An argument has 2^32 bytes or more, or there are 2^32 arguments or more.
     TooLarge,
     /// A place is not within the bytes.
     Outside,
-    /// There is no entry or no field, and the server wants one.
+    /// There is no entry or no field, and the server needs one.
     Nothing,
-    /// The settings name nothing.
+    /// The settings are invalid.
     Refused,
 }
 
 impl Packing {
-    /// The number by which C is told.
+    /// The status code.
     fn number(self) -> u32
         ensures { result ≡ number self }
     {
@@ -48,7 +48,7 @@ impl Packing {
         }
     }
 
-    /// How many bytes were written or are wanted.
+    /// How many bytes were written or are needed.
     fn len(self) -> usize
         ensures { result ≡ len_of self }
     {
@@ -62,7 +62,7 @@ impl Packing {
         }
     }
 
-    /// Tells C of it: sets how many bytes were written or are wanted, and returns the number.
+    /// Sets how many bytes were written or are needed, and returns the status code.
     pub fn tell(self, len: &mut usize) -> u32
         ensures told { result ≡ number self }
         ensures counted { len.new ≡ len_of self }
@@ -72,7 +72,7 @@ impl Packing {
     }
 }
 
-/// Copies the bytes to the front of the buffer, where they have room.
+/// Copies the bytes to the front of the buffer, if they fit.
 pub fn copied(bytes: &[u8], out: &mut [u8]) -> Packing
     ensures { IsWritten bytes.now out.new result }
 {
@@ -91,7 +91,7 @@ pub fn packed<T: ToRedisArgs>(alloc: Global, command: &T, out: &mut [u8]) -> Pac
     match pack_command(alloc, command) {
         Ok(bytes) => copied(&bytes, out),
         Err(PackError::Full) => Packing::TooLarge,
-        // No command of this crate is without its name, so that there are arguments.
+        // Each command of this crate has its name, so there are arguments.
         Err(PackError::Memory | PackError::NoArguments) => Packing::Memory,
     }
 }

@@ -1,5 +1,4 @@
-//! Settings that were read back, as plain numbers, flags and places. The texts of a sentence stand
-//! at the places of its arguments.
+//! Parsed settings as plain numbers, flags and places. The texts are at the places of the arguments.
 ghost use Rattle.std.specs.Prelude.{◌≡◌, ◌≢◌, List, ℕ, Some, drop, codes, is_some, option_map, string_bytes, IfSome};
 ghost use Rattle.std.specs.Str.{IsUtf8};
 ghost use Rattle.redis_args.specs.Clause.{clause, flag, word_number, word_text};
@@ -28,14 +27,14 @@ use stream_options::{
 };
 use stream_sentences::{AddParts, AutoClaimParts, ClaimParts, GroupNames, ReadParts, TrimParts};
 
-/// No place.
+/// The empty place, for no text.
 fn nowhere() -> Span
     ensures { result ≡ nowhere }
 {
     Span { start: 0, len: 0 }
 }
 
-/// The place after so many.
+/// The place at index `n`.
 fn place_after(places: &[Span], n: usize) -> Span
     ensures { result ≡ first_place (drop n places.now) }
 {
@@ -45,7 +44,7 @@ fn place_after(places: &[Span], n: usize) -> Span
     }
 }
 
-/// The places after so many.
+/// The places from index `n` on.
 fn after(places: &[Span], n: usize) -> &[Span]
     ensures { result.now ≡ drop n places.now }
 {
@@ -72,7 +71,7 @@ fn after_number(places: &[Span], number: Option<usize>) -> &[Span]
     }
 }
 
-/// Whether there is a number, and the number; else 0.
+/// Whether there is a number, and the number, or 0.
 fn set_number(number: Option<usize>) -> (bool, usize)
     ensures plain { IsZeroUnless result.0 result.1 }
     ensures is { if_set result.0 result.1 ≡ number }
@@ -95,7 +94,7 @@ fn policy_number(policy: &Option<StreamDeletionPolicy>) -> u32
     }
 }
 
-/// Whether the trimming may keep some entries more.
+/// Whether the trimming may keep more entries.
 fn is_approximate(mode: &StreamTrimmingMode) -> bool
     ensures { mode_by result ≡ mode_of mode.now }
 {
@@ -105,7 +104,7 @@ fn is_approximate(mode: &StreamTrimmingMode) -> bool
     }
 }
 
-/// No bound, no limit and no policy.
+/// The settings without a bound, a limit and a policy.
 fn untrimmed() -> TrimSettings
     ensures bound { result.bound ≡ 0 }
     ensures plain { IsPlainTrim result }
@@ -121,7 +120,7 @@ fn untrimmed() -> TrimSettings
     }
 }
 
-/// How a stream is trimmed, but for the policy. The places are those of the strategy and what follows.
+/// How a stream is trimmed, without the policy. The places are those of the strategy and what follows.
 fn strategy_settings(strategy: &StreamTrimStrategy, places: &[Span]) -> TrimSettings
     ensures bound { result.bound ≢ 0 }
     ensures plain { IsPlainTrim result }
@@ -146,7 +145,7 @@ fn strategy_settings(strategy: &StreamTrimStrategy, places: &[Span]) -> TrimSett
     settings
 }
 
-/// How a stream is trimmed, but for the policy, if it is.
+/// How a stream is trimmed, without the policy, if it is.
 fn any_strategy_settings(strategy: &Option<StreamTrimStrategy>, places: &[Span]) -> TrimSettings
     ensures plain { IsPlainTrim result }
     ensures is { Tells (λ x. IfSome x StrategyFits) (clause strategy_sentence)
@@ -169,7 +168,7 @@ pub fn trim_settings(parts: &TrimParts, places: &[Span]) -> TrimSettings
     settings
 }
 
-/// How the server finds out that an entry was added before, and where its texts stand.
+/// How the server detects duplicates, and the places of the texts for it.
 fn way_settings(mode: &StreamIdempotencyMode, places: &[Span]) -> (u32, Span, Span)
     ensures producer { result.0 ≢ 0 }
     ensures idempotent_id { result.0 ≢ 1 → result.2 ≡ nowhere }
@@ -199,7 +198,7 @@ fn idempotency_settings(mode: &Option<StreamIdempotencyMode>, places: &[Span]) -
     }
 }
 
-/// The places after how the server finds out that an entry was added before.
+/// The places after the clause for duplicates, if there is one.
 fn after_idempotency<'a>(places: &'a [Span], mode: &Option<StreamIdempotencyMode>) -> &'a [Span]
     ensures { Skips (clause idempotency_sentence (option_map idempotency_of mode.now)) places.now result.now }
 {
@@ -240,7 +239,7 @@ pub fn add_settings(parts: &AddParts, places: &[Span]) -> AddSettings
     }
 }
 
-/// Whether an id is noted, and where it stands. The places are those of the clause and what follows.
+/// Whether LASTID is set, and where its id is. The places are those of the clause and what follows.
 fn lastid_settings(lastid: &Option<String>, places: &[Span]) -> (bool, Span)
     ensures plain { IsNowhereUnless result.0 result.1 }
     ensures is { Tells (λ x. IfSome x IsUtf8) (clause (word_text (codes "LASTID")))
@@ -292,7 +291,7 @@ pub fn autoclaim_settings(parts: AutoClaimParts) -> AutoClaimSettings
     }
 }
 
-/// What a read asks for after the group.
+/// The settings of a read after the group.
 pub fn read_settings(parts: ReadParts<'_>) -> ReadSettings
     ensures plain { IsPlainRead result }
     ensures is { asked_by result ≡ asked_of parts.entry }

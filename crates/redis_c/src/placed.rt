@@ -16,7 +16,7 @@ pub enum Unplaced {
     Outside,
 }
 
-/// The text at a place, where it is within the bytes.
+/// The text at a place, if it is within the bytes.
 pub fn text_at<'a>(bytes: &'a [u8], place: Span) -> Option<Argument<'a>>
     ensures { option_map (λ text. text.0.now) result ≡ text_at bytes.now place }
 {

@@ -1,4 +1,4 @@
-//! Entries between two ids, how many there are, and entries that are deleted, packed into a buffer of the caller.
+//! XRANGE, XREVRANGE, XLEN and XDEL, packed into a buffer of the caller.
 ghost use Rattle.std.specs.Prelude.{◌≡◌, ◌∷◌, [], map};
 ghost use Rattle.redis_c.specs.Packing.{IsPacking, IsPackingOf, IsPackedAs};
 ghost use Rattle.redis_c.specs.Placed.{ids_at};
@@ -21,7 +21,7 @@ pub extern "C" fn redis_xlen(alloc: Global, key: &[u8], out: &mut [u8], len: &mu
     packed(alloc, &xlen(Argument(key)), out).tell(len)
 }
 
-/// Packs `XRANGE key start end`: all entries from `start` to `end`, both included, the least id first.
+/// Packs `XRANGE key start end`: all entries from `start` to `end`, both included, the smallest id first.
 #[unsafe(no_mangle)]
 pub extern "C" fn redis_xrange(
     alloc: Global,
@@ -58,7 +58,8 @@ pub extern "C" fn redis_xrange_count(
     packed(alloc, &command, out).tell(len)
 }
 
-/// Packs `XREVRANGE key end start`: all entries from `end` back to `start`, both included, the greatest id first.
+/// Packs `XREVRANGE key end start`: all entries from `end` back to `start`, both included, the largest id
+/// first.
 #[unsafe(no_mangle)]
 pub extern "C" fn redis_xrevrange(
     alloc: Global,

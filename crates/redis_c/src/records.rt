@@ -1,4 +1,4 @@
-//! Records of replies as plain numbers, flags and places of texts, and what reading them comes to.
+//! Records of replies as plain numbers, flags and places of texts, and the outcomes of parsing them.
 ghost use Rattle.std.specs.Prelude.{◌≡◌};
 ghost use Rattle.redis_c.specs.Records.{records_code, records_found};
 
@@ -12,15 +12,15 @@ use redis_wire::place::Span;
 pub struct GroupRecord {
     /// Where its name is.
     pub name: Span,
-    /// Where the id is of the entry that was delivered last.
+    /// Where the id of the last delivered entry is.
     pub last_delivered_id: Span,
     /// How many consumers it has.
     pub consumers: usize,
     /// How many entries were delivered and not yet acknowledged.
     pub pending: usize,
-    /// Whether the server tells `entries_read`.
+    /// Whether the reply has `entries_read`.
     pub has_entries_read: bool,
-    /// Whether the server tells `lag`.
+    /// Whether the reply has `lag`.
     pub has_lag: bool,
     /// How many entries the group has read.
     pub entries_read: usize,
@@ -34,7 +34,7 @@ pub struct GroupRecord {
 pub struct PendingRecord {
     /// Where its id is.
     pub id: Span,
-    /// Where the name is of the consumer that it was delivered to.
+    /// Where the name of its consumer is.
     pub consumer: Span,
     /// How many milliseconds have passed since its last delivery.
     pub last_delivered_ms: usize,
@@ -52,23 +52,24 @@ pub struct ConsumerRecord {
     pub pending: usize,
 }
 
-/// What is pending for a group: nothing where `count` is 0. Its texts are in the bytes that the call writes beside it.
+/// What is pending for a group: nothing if `count` is 0. Its texts are in the bytes that the call writes beside
+/// it.
 #[repr(C)]
 #[derive(Clone, Copy, Debug, PartialEq, Eq)]
 pub struct SummaryRecord {
     /// How many entries are pending.
     pub count: usize,
-    /// Where the least id among them is.
+    /// Where the smallest id among them is.
     pub start_id: Span,
-    /// Where the greatest id among them is.
+    /// Where the largest id among them is.
     pub end_id: Span,
 }
 
-/// What C is told beside the number of the outcome.
+/// What is returned to C beside the status code.
 #[repr(C)]
 #[derive(Clone, Copy, Debug, PartialEq, Eq)]
 pub struct RecordsFound {
-    /// How many bytes the reply has, and 0 where there is none.
+    /// How many bytes the reply has, and 0 if there is none.
     pub len: usize,
     /// How many records there are.
     pub records: usize,
@@ -78,7 +79,7 @@ pub struct RecordsFound {
     pub error: Span,
 }
 
-/// What reading records comes to.
+/// The outcome of parsing records.
 #[derive(Clone, Copy)]
 pub enum Records {
     /// The tables hold the records.
@@ -90,7 +91,7 @@ pub enum Records {
         /// How many bytes their texts have.
         text: usize,
     },
-    /// The tables have too little room: so much is wanted.
+    /// The tables have too little room; the needed sizes follow.
     Room {
         /// How many bytes the reply has.
         len: usize,
@@ -104,7 +105,7 @@ pub enum Records {
 }
 
 impl Records {
-    /// The number of the outcome.
+    /// The status code of the outcome.
     fn code(self) -> u32
         ensures { result ≡ records_code self }
     {
@@ -115,7 +116,7 @@ impl Records {
         }
     }
 
-    /// What C is told beside it.
+    /// What is returned to C beside the code.
     fn found(self) -> RecordsFound
         ensures { result ≡ records_found self }
     {
@@ -140,7 +141,7 @@ impl Records {
         }
     }
 
-    /// Tells C of it: sets what was found, and returns the number.
+    /// Sets what was found, and returns the status code.
     pub fn tell(self, found: &mut RecordsFound) -> u32
         ensures number { result ≡ records_code self }
         ensures beside { found.new ≡ records_found self }

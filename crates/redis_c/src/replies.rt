@@ -22,7 +22,7 @@ use redis_streams::{StreamInfoGroupsReply, StreamPendingCountReply, StreamPendin
 use redis_wire::{Decoded, Limits, Reply, WireError, decode};
 use std::alloc::Global;
 
-/// The record of a value that is the reply of so many bytes.
+/// The record of a value, for a reply of `len` bytes.
 fn record_of<T: FromRedisValue>(
     alloc: Global,
     bytes: &[u8],
@@ -91,7 +91,7 @@ fn copy_rows<T: Copy>(
     Records::Copied { len, records, text }
 }
 
-/// The groups that a reply tells of, in tables of the caller.
+/// The groups of a reply, in tables of the caller.
 fn copied_groups(
     alloc: Global,
     bytes: &[u8],
@@ -112,7 +112,8 @@ fn copied_groups(
     copy_rows(len, &records, &copies, groups, texts)
 }
 
-/// Reads the reply of XINFO GROUPS at the head of bytes: a record for each group, and their texts one after the other.
+/// Parses the reply of XINFO GROUPS at the head of bytes: a record for each group, and their texts one after
+/// the other.
 #[unsafe(no_mangle)]
 pub extern "C" fn redis_xinfo_groups_reply(
     alloc: Global,
@@ -129,7 +130,7 @@ pub extern "C" fn redis_xinfo_groups_reply(
     copied_groups(alloc, bytes, groups, texts).tell(found)
 }
 
-/// The pending entries that a reply tells of, in tables of the caller.
+/// The pending entries of a reply, in tables of the caller.
 fn copied_entries(
     alloc: Global,
     bytes: &[u8],
@@ -150,8 +151,8 @@ fn copied_entries(
     copy_rows(len, &records, &copies, entries, texts)
 }
 
-/// Reads the reply of XPENDING with a range at the head of bytes: a record for each pending entry, and their texts one
-/// after the other.
+/// Parses the reply of XPENDING with a range at the head of bytes: a record for each pending entry, and their
+/// texts one after the other.
 #[unsafe(no_mangle)]
 pub extern "C" fn redis_xpending_reply(
     alloc: Global,
@@ -168,7 +169,7 @@ pub extern "C" fn redis_xpending_reply(
     copied_entries(alloc, bytes, entries, texts).tell(found)
 }
 
-/// What a reply tells is pending, in tables of the caller.
+/// The summary of a reply, in tables of the caller.
 fn copied_summary(
     alloc: Global,
     bytes: &[u8],
@@ -191,8 +192,8 @@ fn copied_summary(
     copy_rows(len, &records, &copies, consumers, texts)
 }
 
-/// Reads the reply of XPENDING without a range at the head of bytes: how much is pending, a record for each consumer, and
-/// the texts of both one after the other.
+/// Parses the reply of XPENDING without a range at the head of bytes: the number of pending entries, a record
+/// for each consumer, and the texts of both one after the other.
 #[unsafe(no_mangle)]
 pub extern "C" fn redis_xpending_summary_reply(
     alloc: Global,

@@ -1,6 +1,6 @@
-//! The options of commands, read back from arguments at places in bytes of the caller: for a server.
+//! The options of commands, parsed from arguments at places in bytes of the caller: for a server.
 //!
-//! The settings are those that `stream_sentences` reads, with the places of their texts.
+//! The settings are those that `stream_sentences` parses, with the places of their texts.
 ghost use Rattle.std.specs.Prelude.{◌≡◌, Some};
 ghost use Rattle.stream_options.specs.Add.{AddFits, add_sentence, add_words};
 ghost use Rattle.stream_options.specs.AutoClaim.{AutoClaimFits, autoclaim_sentence, autoclaim_words};
@@ -27,22 +27,22 @@ use stream_sentences::{
     read_trim_parts,
 };
 
-/// Where the names of a group and its consumer stand.
+/// Where the names of a group and its consumer are.
 #[repr(C)]
 #[derive(Clone, Copy, Debug, PartialEq, Eq)]
 pub struct GroupPlace {
     /// Whether they are named.
     pub has_group: bool,
-    /// Where the name of the group stands.
+    /// Where the name of the group is.
     pub group: Span,
-    /// Where the name of the consumer stands.
+    /// Where the name of the consumer is.
     pub consumer: Span,
 }
 
-/// What reading options comes to.
+/// The outcome of parsing options.
 #[derive(Clone, Copy)]
 pub enum Reading {
-    /// The options stand in front.
+    /// The arguments begin with the options.
     Options {
         /// How many arguments they are.
         count: usize,
@@ -51,12 +51,12 @@ pub enum Reading {
     Memory,
     /// A place is not within the bytes.
     Outside,
-    /// No options stand in front.
+    /// The arguments do not begin with options.
     NoOptions,
 }
 
 impl Reading {
-    /// The number by which C is told.
+    /// The status code.
     fn number(self) -> u32
         ensures { result ≡ reading_number self }
     {
@@ -78,7 +78,7 @@ impl Reading {
         }
     }
 
-    /// Tells C of it: sets how many arguments the options are, and returns the number.
+    /// Sets how many arguments the options are, and returns the status code.
     fn tell(self, count: &mut usize) -> u32
         ensures told { result ≡ reading_number self }
         ensures counted { count.new ≡ reading_count self }
@@ -88,7 +88,7 @@ impl Reading {
     }
 }
 
-/// What is told where there are no texts.
+/// The outcome if there are no texts.
 fn of_unplaced(unplaced: Unplaced) -> Reading
     ensures memory { unplaced ≡ Unplaced.Memory → result ≡ Reading.Memory }
     ensures outside { unplaced ≡ Unplaced.Outside → result ≡ Reading.Outside }
@@ -100,7 +100,7 @@ fn of_unplaced(unplaced: Unplaced) -> Reading
     }
 }
 
-/// What is told where nothing was read back.
+/// The outcome if nothing was parsed.
 fn of_error(error: SentenceError) -> Reading
     ensures memory { error ≡ SentenceError.Memory → result ≡ Reading.Memory }
     ensures none { error ≡ SentenceError.NotASentence → result ≡ Reading.NoOptions }
@@ -112,7 +112,7 @@ fn of_error(error: SentenceError) -> Reading
     }
 }
 
-/// The options of XADD in front of the arguments at these places.
+/// The options of XADD at the front of the arguments at these places.
 fn add_reading(alloc: Global, bytes: &[u8], places: &[Span], settings: &mut AddSettings) -> Reading
     ensures is { IsReading AddFits add_sentence add_words Equal (texts_at bytes.now places.now)
         (add_in bytes.now settings.new) result }
@@ -130,8 +130,8 @@ fn add_reading(alloc: Global, bytes: &[u8], places: &[Span], settings: &mut AddS
     Reading::Options { count }
 }
 
-/// Reads the options of XADD that the arguments at these places of bytes begin with, those behind the key: `count`
-/// of them, and behind them stands the id.
+/// Parses the options of XADD that the arguments at these places of bytes begin with, those after the key:
+/// `count` of them, and after them is the id.
 #[unsafe(no_mangle)]
 pub extern "C" fn redis_read_add(
     alloc: Global,
@@ -147,7 +147,7 @@ pub extern "C" fn redis_read_add(
     add_reading(alloc, bytes, places, settings).tell(count)
 }
 
-/// The options of XTRIM in front of the arguments at these places.
+/// The options of XTRIM at the front of the arguments at these places.
 fn trim_reading(
     alloc: Global,
     bytes: &[u8],
@@ -170,8 +170,8 @@ fn trim_reading(
     Reading::Options { count }
 }
 
-/// Reads the options of XTRIM that the arguments at these places of bytes begin with, those behind the key: `count`
-/// of them.
+/// Parses the options of XTRIM that the arguments at these places of bytes begin with, those after the key:
+/// `count` of them.
 #[unsafe(no_mangle)]
 pub extern "C" fn redis_read_trim(
     alloc: Global,
@@ -187,7 +187,7 @@ pub extern "C" fn redis_read_trim(
     trim_reading(alloc, bytes, places, settings).tell(count)
 }
 
-/// The options of XCLAIM in front of the arguments at these places.
+/// The options of XCLAIM at the front of the arguments at these places.
 fn claim_reading(
     alloc: Global,
     bytes: &[u8],
@@ -210,7 +210,7 @@ fn claim_reading(
     Reading::Options { count }
 }
 
-/// Reads the options of XCLAIM that the arguments at these places of bytes begin with, those behind the ids:
+/// Parses the options of XCLAIM that the arguments at these places of bytes begin with, those after the ids:
 /// `count` of them.
 #[unsafe(no_mangle)]
 pub extern "C" fn redis_read_claim(
@@ -227,7 +227,7 @@ pub extern "C" fn redis_read_claim(
     claim_reading(alloc, bytes, places, settings).tell(count)
 }
 
-/// The options of XAUTOCLAIM in front of the arguments at these places.
+/// The options of XAUTOCLAIM at the front of the arguments at these places.
 fn autoclaim_reading(
     alloc: Global,
     bytes: &[u8],
@@ -250,8 +250,8 @@ fn autoclaim_reading(
     Reading::Options { count }
 }
 
-/// Reads the options of XAUTOCLAIM that the arguments at these places of bytes begin with, those behind the start:
-/// `count` of them.
+/// Parses the options of XAUTOCLAIM that the arguments at these places of bytes begin with, those after the
+/// start: `count` of them.
 #[unsafe(no_mangle)]
 pub extern "C" fn redis_read_autoclaim(
     alloc: Global,
@@ -267,7 +267,7 @@ pub extern "C" fn redis_read_autoclaim(
     autoclaim_reading(alloc, bytes, places, settings).tell(count)
 }
 
-/// The options of XREAD or XREADGROUP in front of the arguments at these places.
+/// The options of XREAD or XREADGROUP at the front of the arguments at these places.
 fn read_reading(
     alloc: Global,
     bytes: &[u8],
@@ -293,8 +293,8 @@ fn read_reading(
     Reading::Options { count }
 }
 
-/// Reads the options of XREAD or XREADGROUP that the arguments at these places of bytes begin with: `count` of
-/// them, and behind them stands `STREAMS`.
+/// Parses the options of XREAD or XREADGROUP that the arguments at these places of bytes begin with: `count` of
+/// them, and after them is `STREAMS`.
 #[unsafe(no_mangle)]
 pub extern "C" fn redis_read_read(
     alloc: Global,

@@ -1,44 +1,44 @@
-//! What C asks of a command, as plain numbers, flags and places of texts.
+//! The settings that C passes for a command, as plain numbers, flags and places of texts.
 use redis_wire::place::Span;
 
-/// How a stream is trimmed. A text stands in the bytes that are handed in with the settings.
+/// How a stream is trimmed. Texts are in the bytes that are passed with the settings.
 #[repr(C)]
 #[derive(Clone, Copy, Debug, PartialEq, Eq)]
 pub struct TrimSettings {
-    /// 0 where nothing is trimmed, 1 for `MAXLEN` and 2 for `MINID`.
+    /// 0 for no trimming, 1 for `MAXLEN` and 2 for `MINID`.
     pub bound: u32,
-    /// What happens to deleted entries in the pending lists of groups: 0 to say nothing of it, 1 for `KEEPREF`, 2
-    /// for `DELREF` and 3 for `ACKED`.
+    /// What happens to deleted entries in the pending lists of groups: 0 for no policy, 1 for `KEEPREF`, 2 for
+    /// `DELREF` and 3 for `ACKED`.
     pub policy: u32,
-    /// Whether some entries more may stay: `~` in place of `=`.
+    /// Whether more entries may stay: `~` in place of `=`.
     pub approximate: bool,
     /// Whether one call removes at most `limit` entries.
     pub has_limit: bool,
     /// With `MAXLEN`, how many entries stay.
     pub maxlen: usize,
-    /// With `MINID`, where the id stands from which on entries stay.
+    /// With `MINID`, the place of the smallest id that stays.
     pub minid: Span,
-    /// At most so many entries.
+    /// The limit on entries.
     pub limit: usize,
 }
 
-/// How an entry is added. Texts stand in the bytes that are handed in with the settings.
+/// How an entry is added. Texts are in the bytes that are passed with the settings.
 #[repr(C)]
 #[derive(Clone, Copy, Debug, PartialEq, Eq)]
 pub struct AddSettings {
-    /// Whether a stream that does not exist is not made.
+    /// Whether a stream that does not exist is not created.
     pub nomkstream: bool,
-    /// How the server finds out that an entry was added before: 0 for not at all, 1 for `IDMP` and 2 for `IDMPAUTO`.
+    /// How the server detects duplicates: 0 for not at all, 1 for `IDMP` and 2 for `IDMPAUTO`.
     pub idempotency: u32,
-    /// Where the name of the producer stands.
+    /// Where the name of the producer is.
     pub producer: Span,
-    /// With `IDMP`, where the id stands that the producer gives the entry.
+    /// With `IDMP`, the place of the idempotent id.
     pub idempotent_id: Span,
     /// How the stream is trimmed.
     pub trim: TrimSettings,
 }
 
-/// How entries are claimed by their ids. A text stands in the bytes that are handed in with the settings.
+/// How entries are claimed by their ids. Texts are in the bytes that are passed with the settings.
 #[repr(C)]
 #[derive(Clone, Copy, Debug, PartialEq, Eq)]
 pub struct ClaimSettings {
@@ -52,7 +52,7 @@ pub struct ClaimSettings {
     pub force: bool,
     /// Whether the reply has the ids alone.
     pub justid: bool,
-    /// Whether `lastid` is noted as the id of the entry that the group was delivered last.
+    /// Whether `lastid` is set as the last delivered id of the group.
     pub has_lastid: bool,
     /// In milliseconds.
     pub idle: usize,
@@ -60,7 +60,7 @@ pub struct ClaimSettings {
     pub time: usize,
     /// How often they count as delivered.
     pub retry: usize,
-    /// Where the id stands.
+    /// Where the id is.
     pub lastid: Span,
 }
 
@@ -72,15 +72,15 @@ pub struct AutoClaimSettings {
     pub has_count: bool,
     /// Whether the reply has the ids alone.
     pub justid: bool,
-    /// At most so many entries.
+    /// The limit on entries.
     pub count: usize,
 }
 
-/// Which pending entries are asked for.
+/// Which pending entries are requested.
 #[repr(C)]
 #[derive(Clone, Copy, Debug, PartialEq, Eq)]
 pub struct PendingSettings {
-    /// Whether only those that are pending for `idle` milliseconds.
+    /// Whether only those that have been idle for `idle` milliseconds.
     pub has_idle: bool,
     /// Whether only those that are pending for the consumer.
     pub has_consumer: bool,
@@ -88,11 +88,11 @@ pub struct PendingSettings {
     pub idle: usize,
 }
 
-/// Why settings are no options.
+/// Why the settings were refused.
 #[derive(Clone, Copy)]
 pub enum Unset {
     /// Out of memory.
     Memory,
-    /// A number names none of its choices, or a text is not within the bytes or is not UTF-8.
+    /// A number is none of its choices, or a text is not within the bytes or is not UTF-8.
     Refused,
 }

@@ -1,4 +1,4 @@
-//! How a stream is trimmed, from what C asks.
+//! The settings of trimming, from those that C passes.
 ghost use Rattle.std.specs.Prelude.{◌≡◌, string_bytes, option_map};
 ghost use Rattle.stream_options.specs.Trim.{unlimited};
 ghost use Rattle.stream_options.specs.View.{mode_of, policy_of, strategy_of};
@@ -14,7 +14,7 @@ use stream_options::{
 };
 use stream_sentences::{TrimParts, trim_with};
 
-/// The text at a place, where it is within the bytes and UTF-8.
+/// The text at a place, if it is within the bytes and UTF-8.
 pub fn utf8_at(alloc: Global, bytes: &[u8], place: Span) -> Result<String, Unset>
     ensures { Makes string_bytes result (utf8_at bytes.now place) }
 {
@@ -30,7 +30,7 @@ pub fn utf8_at(alloc: Global, bytes: &[u8], place: Span) -> Result<String, Unset
     }
 }
 
-/// What the number says to do with the entry in the pending lists of groups, if it says anything.
+/// The policy of the number for deleted entries in the pending lists of groups, if it has one.
 pub fn policy_by(number: u32) -> Result<Option<StreamDeletionPolicy>, Unset>
     ensures { Makes (option_map policy_of) result (policy_by number) }
 {
@@ -47,7 +47,7 @@ pub fn policy_by(number: u32) -> Result<Option<StreamDeletionPolicy>, Unset>
     }
 }
 
-/// `~` if the trimming may keep some entries more, and else `=`.
+/// `~` if the trimming may keep more entries, and otherwise `=`.
 fn mode_by(approximate: bool) -> StreamTrimmingMode
     ensures { mode_of result ≡ mode_by approximate }
 {

@@ -10,6 +10,6 @@ limit_of b = min (b.first * 2 ^ b.pauses) b.most
 abbrev pub pause_of : ℕ → ℕ → ℕ
 pause_of limit random = limit - random % (limit / 2 + 1)
 
--- one pause more was made, as far as 32 bits count
+-- one more pause was made, counted in 32 bits
 abbrev pub IsAfterPause : Backoff → Backoff → Type 0
 IsAfterPause old new = new ≡ record old { pauses = min (old.pauses + 1) (2 ^ 32 - 1) }

@@ -1,8 +1,8 @@
--- Bytes that a byte parts.
+-- Splitting bytes at a byte.
 use Rattle.std.specs.Prelude.{ℕ, List, ◌+◌, ◌==◌, drop, Option, option_map, position}
 use Rattle.std.specs.List.{before_first}
 
--- the part before the first of these bytes, or all if there is none
+-- the part before the first such byte, or all if there is none
 abbrev pub front : ℕ → List ℕ → List ℕ
 front byte bytes = before_first (λ b. b == byte) bytes
 

@@ -1,4 +1,4 @@
--- What a program that connects speaks of.
+-- The definitions of a program that connects.
 pub mod Cut
 pub mod Parts
 pub mod AddressMeaning

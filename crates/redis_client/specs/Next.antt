@@ -1,4 +1,4 @@
--- What an error asks for.
+-- What to do after an error.
 use Rattle.std.specs.Prelude.{ℕ, List, Bool, codes, if◌then◌else◌, ◌||◌, ◌==◌}
 use Rattle.std.specs.List.{starts_with}
 use Rattle.std.specs.Str.{bytes_eq}
@@ -14,12 +14,12 @@ use Rattle.redis_client.specs.declared.next.Next.TheVariants.{Reconnect, Later, 
 abbrev pub is_moving : List ℕ → Bool
 is_moving code = bytes_eq code (codes "READONLY") || bytes_eq code (codes "UNBLOCKED")
 
--- it starts, or has lost those that it follows or serves with
+-- it is loading, or has lost its master or a part of the cluster
 abbrev pub is_starting : List ℕ → Bool
 is_starting code = (bytes_eq code (codes "LOADING") || bytes_eq code (codes "MASTERDOWN"))
     || bytes_eq code (codes "CLUSTERDOWN")
 
--- it is at work that ends
+-- it is busy for a while
 abbrev pub is_working : List ℕ → Bool
 is_working code = bytes_eq code (codes "TRYAGAIN") || bytes_eq code (codes "BUSY")
 
@@ -27,24 +27,24 @@ is_working code = bytes_eq code (codes "TRYAGAIN") || bytes_eq code (codes "BUSY
 abbrev pub is_lacking : List ℕ → Bool
 is_lacking code = (bytes_eq code (codes "OOM") || bytes_eq code (codes "MISCONF")) || bytes_eq code (codes "NOREPLICAS")
 
--- it says no for the moment
+-- the error is temporary
 abbrev pub is_passing : List ℕ → Bool
 is_passing code = (is_starting code || is_working code) || is_lacking code
 
--- what the code of a server's error asks for; whatever is not named asks to give up
+-- what to do after a server's error with this code; after any other one, give up
 abbrev pub after_code : List ℕ → Next
 after_code code = if is_moving code then Reconnect else if is_passing code then Later else GiveUp
 
--- the server has no room for one more connection, and closes this one
+-- the server has reached its limit of connections, and closes this one
 abbrev pub is_full : List ℕ → Bool
 is_full text = starts_with (λ a b. a == b) text (codes "ERR max number of clients")
 
--- what the error of a server asks for: its code decides, but for a server that is full
+-- what to do after the error of a server: its code decides, except for a server that is full
 abbrev pub after_server : List ℕ → Next
 after_server text = if is_full text then Reconnect else after_code (code_of text)
 
--- a connection that broke is made anew, and so is one after memory ran out; what has no reply is
--- given up, and so is a server that does not speak the protocol
+-- connect again after a connection broke or memory ran out; give up after a missing reply, or with a server that does
+-- not speak the protocol
 abbrev pub after_connection : ConnectionError → Next
 after_connection (errors.Write e) = Reconnect
 after_connection (errors.Read e) = Reconnect
@@ -54,7 +54,7 @@ after_connection errors.TooLong = GiveUp
 after_connection errors.NoArguments = GiveUp
 after_connection (errors.Fault fault) = GiveUp
 
--- a reply that does not fit its command is given up
+-- give up after a reply that does not fit its command
 abbrev pub after_answer : AskError → Next
 after_answer (ask_errors.Connection e) = after_connection e
 after_answer (ask_errors.Server e) = after_server e.text.items

@@ -1,4 +1,4 @@
--- What an address says, and why a text is none.
+-- What an address says, and why a text is not one.
 use Rattle.std.specs.Prelude.{⊤, ◌≡◌, ◌≢◌, ◌<◌, ◌++◌, ◌^◌, ℕ, List, [], ◌∷◌, Option, Some, None, option_map, option_and_then, codes, decimal, if◌then◌else◌}
 use Rattle.std.specs.Str.{IsUtf8, bytes_eq}
 use Rattle.percent_encoding.specs.Percent.{percent_decode}
@@ -58,7 +58,7 @@ chosen s = record { protocol = s.protocol; name = option_map (λ n. n.items) s.n
 abbrev pub no_settings : Chosen
 no_settings = record { protocol = Resp2; name = None }
 
--- the settings with the one of this key in place of what they had
+-- the settings with the one of this key replaced
 abbrev pub with_value : Chosen → List ℕ → List ℕ → Option Chosen
 with_value s key text =
     if bytes_eq key (codes "protocol") then option_map (λ p. record s { protocol = p }) (protocol_of text)
@@ -98,7 +98,7 @@ abbrev pub NoHost : Option (List ℕ × Option (List ℕ)) → Type 0
 NoHost None = ⊤
 NoHost (Some place) = IsUtf8 place.0 → IsHost place.0 → ⊥
 
--- no port: none is written that is one
+-- no port: what is written is not one
 abbrev pub NoPort : Option (List ℕ × Option (List ℕ)) → Type 0
 NoPort None = ⊥
 NoPort (Some place) = (port : ℕ) → IsPort place.1 port → ⊥
@@ -114,7 +114,7 @@ IsWrong rest errors.Scheme = ⊥
 IsWrong rest errors.Tls = ⊥
 IsWrong rest errors.Memory = ⊤
 
--- why a text is no address; memory may run out at any text
+-- why a text is not an address; memory may run out with any text
 abbrev pub IsRefused : List ℕ → AddressError → Type 0
 IsRefused text errors.Scheme = (rest : List ℕ) → text ≡ codes "redis://" ++ rest → ⊥
 IsRefused text errors.Tls = (rest : List ℕ) × (text ≡ codes "rediss://" ++ rest)

@@ -1,4 +1,4 @@
-//! Pauses between tries, which grow.
+//! Pauses between tries, with exponential backoff.
 ghost use Rattle.std.specs.Prelude.{◌≡◌, ◌≤◌, ◌*◌};
 ghost use Rattle.std.specs.Duration.{as_nanos};
 ghost use Rattle.redis_client.specs.Backoff.{IsAfterPause, limit_of, pause_of};
@@ -12,7 +12,7 @@ use std::time::Duration;
 pub struct Backoff {
     /// The longest first pause, in milliseconds.
     pub first: u64,
-    /// The longest pause of all, in milliseconds.
+    /// The longest pause, in milliseconds.
     pub most: u64,
     /// How many pauses were made since the last reset.
     pub pauses: u32,
@@ -26,7 +26,7 @@ impl Default for Backoff {
 }
 
 impl Backoff {
-    /// No pause was made yet. Both bounds are milliseconds.
+    /// A backoff with no pause yet. Both bounds are in milliseconds.
     pub fn new(first: u64, most: u64) -> Backoff
         ensures { result ≡ record { first = first; most = most; pauses = 0 } }
     {
@@ -37,8 +37,8 @@ impl Backoff {
         }
     }
 
-    /// The longest that the next pause may be, in milliseconds: `first` doubled for each pause that was
-    /// made, or `most` if that is more.
+    /// The longest that the next pause may be, in milliseconds: `first` doubled for each pause that was made,
+    /// but at most `most`.
     pub fn limit(&self) -> u64
         ensures { result ≡ limit_of self.now }
     {

@@ -1,15 +1,15 @@
-//! Bytes that a byte parts.
+//! Splitting bytes at a byte.
 ghost use Rattle.std.specs.Prelude.{◌≡◌, ◌==◌, option_map, position};
 ghost use Rattle.redis_client.specs.Cut.{behind, front};
 
-/// The place of the first of these bytes.
+/// The index of the first such byte.
 fn place_of(bytes: &[u8], byte: u8) -> Option<usize>
     ensures { result ≡ position (λ b. b == byte) bytes.now }
 {
     bytes.iter().position(|b| *b == byte)
 }
 
-/// The part before the first of these bytes, or all if there is none, and what is after it.
+/// The part before the first such byte, or all if there is none, and what is after it.
 pub(crate) fn cut(bytes: &[u8], byte: u8) -> (&[u8], Option<&[u8]>)
     ensures front { result.0.now ≡ front byte bytes.now }
     ensures behind { option_map (λ rest. rest.now) result.1 ≡ behind byte bytes.now }

@@ -1,4 +1,4 @@
-//! What is asked first on a new connection.
+//! The first commands on a new connection.
 ghost use Rattle.std.specs.Prelude.{◌∷◌, [], IfErr, OnOk};
 ghost use Rattle.redis_client.specs.AddressMeaning.{meaning_of};
 ghost use Rattle.redis_client.specs.Asked.{AsksEach, BreaksOff};
@@ -10,7 +10,7 @@ use redis_resp::{ToRedisArgs, Value};
 use std::alloc::Global;
 use std::io::{Read, Write};
 
-/// Asks what a new connection begins with: `HELLO 3` with the login and the name, or `AUTH` and
+/// Sends the first commands of a new connection: `HELLO 3` with the login and the name, or `AUTH` and
 /// `CLIENT SETNAME`; and then `SELECT`, if the database is not 0. An error of the server ends it.
 pub fn greet<R: Read + Drop, W: Write + Drop>(
     alloc: Global,
@@ -30,7 +30,7 @@ pub fn greet<R: Read + Drop, W: Write + Drop>(
     ask_database(alloc, connection, address)
 }
 
-/// Asks one command, whatever it is answered, but for an error.
+/// Sends one command, whose reply may be anything but an error.
 fn ask<R: Read + Drop, W: Write + Drop, T: ToRedisArgs>(
     alloc: Global,
     connection: &mut Connection<R, W>,

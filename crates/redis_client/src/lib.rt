@@ -1,5 +1,5 @@
-//! What a program does that connects to a server by itself: the address, the commands that begin a
-//! connection, the pauses between tries, and what an error asks for. Nothing here opens a socket.
+//! For a program that connects to a server: the address, the first commands of a connection, the pauses between
+//! tries, and what to do after an error. Nothing here opens a socket.
 #![tactic(auto)]
 
 mod address;

@@ -1,4 +1,4 @@
-//! What an error asks for.
+//! What to do after an error.
 ghost use Rattle.std.specs.Prelude.{◌≡◌};
 ghost use Rattle.std.specs.Str.{bytes_eq};
 ghost use Rattle.redis_client.specs.Next.{after_answer, after_connection, after_code, after_server, is_full, is_moving, is_passing};
@@ -11,9 +11,9 @@ use redis_wire::ServerError;
 pub enum Next {
     /// Close the connection, pause, and connect again.
     Reconnect,
-    /// Pause, and ask the same again: the server says no for the moment.
+    /// Pause, and send the same again: the error is temporary.
     Later,
-    /// End, and say why: to try again does not help.
+    /// End, and report the error: trying again does not help.
     GiveUp,
 }
 
@@ -31,7 +31,7 @@ fn is_moving(code: &[u8]) -> bool
     is(code, b"READONLY") | is(code, b"UNBLOCKED")
 }
 
-/// Whether the server says no for the moment.
+/// Whether the error is temporary.
 fn is_passing(code: &[u8]) -> bool
     ensures { result ≡ is_passing code.now }
 {
@@ -41,7 +41,7 @@ fn is_passing(code: &[u8]) -> bool
     starts | works | lacks
 }
 
-/// What the code of a server's error asks for, such as `LOADING`.
+/// What to do after a server's error with this code, such as `LOADING`.
 pub fn next_after_code(code: &[u8]) -> Next
     ensures { result ≡ after_code code.now }
 {
@@ -54,14 +54,14 @@ pub fn next_after_code(code: &[u8]) -> Next
     }
 }
 
-/// Whether the server has no room for one more connection. Redis replies so, and then closes the connection.
+/// Whether the server has reached its limit of connections. Redis replies so, and then closes the connection.
 fn is_full(text: &[u8]) -> bool
     ensures { result ≡ is_full text.now }
 {
     text.starts_with(b"ERR max number of clients")
 }
 
-/// What the error of a server asks for: its code decides, but for `ERR max number of clients reached`.
+/// What to do after the error of a server: its code decides, except for `ERR max number of clients reached`.
 pub fn next_after_server(error: &ServerError) -> Next
     ensures { result ≡ after_server error.now.text.items }
 {
@@ -71,7 +71,7 @@ pub fn next_after_server(error: &ServerError) -> Next
     next_after_code(error.code())
 }
 
-/// What the error of a connection asks for.
+/// What to do after the error of a connection.
 pub fn next_after_connection(error: &ConnectionError) -> Next
     ensures { result ≡ after_connection error.now }
 {
@@ -83,7 +83,7 @@ pub fn next_after_connection(error: &ConnectionError) -> Next
     }
 }
 
-/// What it asks for that a command has no reply.
+/// What to do after a command without a reply.
 pub fn next_after_answer(error: &AskError) -> Next
     ensures { result ≡ after_answer error.now }
 {

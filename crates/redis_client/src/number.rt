@@ -4,7 +4,7 @@ ghost use Rattle.std.specs.Prelude.{◌≡◌, ◌<◌, ◌≢◌, ◌^◌, ℕ,
 use itoa::Buffer;
 use std::str;
 
-/// The number that the bytes write in decimal, with no sign and no leading zero.
+/// The number of the decimal digits, with no sign and no leading zero.
 pub(crate) fn number_in(bytes: &[u8]) -> Option<u16>
     ensures { MatchOption result ((n : ℕ) → n < 2 ^ 16 → decimal n ≢ bytes.now) (λ n. decimal n ≡ bytes.now) }
 {

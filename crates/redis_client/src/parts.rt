@@ -4,7 +4,7 @@ ghost use Rattle.redis_client.specs.Parts.{database_in, host_and_port, login_in,
 
 use crate::cut::cut;
 
-/// What is after `redis://`, in its parts.
+/// The parts of the text after `redis://`.
 #[derive(Clone, Copy)]
 pub(crate) struct Parts<'a> {
     pub login: Option<&'a [u8]>,
@@ -13,7 +13,7 @@ pub(crate) struct Parts<'a> {
     pub settings: Option<&'a [u8]>,
 }
 
-/// The parts of what is after `redis://`.
+/// Splits the text after `redis://` into its parts.
 pub(crate) fn parts_of(rest: &[u8]) -> Parts<'_>
     ensures login { option_map (λ text. text.now) result.login ≡ login_in rest.now }
     ensures place { result.place.now ≡ place_in rest.now }

@@ -3,7 +3,7 @@ ghost use Rattle.std.specs.Prelude.{◌≡◌, ◌⊎◌, None, Some, IfErr, IfO
 ghost use Rattle.redis_client.specs.Said.{chosen, name_of, protocol_of, settings_of, with_setting};
 ghost use Rattle.redis_client.specs.Cut.{behind, front};
 
-use crate::address::{AddressError, Protocol, decoded};
+use crate::address::{AddressError, Protocol, decode_text};
 use crate::cut::cut;
 use std::alloc::Global;
 
@@ -36,7 +36,7 @@ pub(crate) fn settings_of(alloc: Global, text: Option<&[u8]>) -> Result<Settings
     }
 }
 
-/// The settings with this one in place of what they had.
+/// The settings with this one replaced.
 fn with_setting(
     alloc: Global,
     mut settings: Settings,
@@ -71,7 +71,7 @@ fn protocol_of(value: &[u8]) -> Result<Protocol, AddressError>
     }
 }
 
-/// The name of the connection. A setting after it is one too many.
+/// The name of the connection. No setting may follow it.
 fn name_of(alloc: Global, value: &[u8]) -> Result<Vec<u8>, AddressError>
     ensures ok { IfOk result (λ name. name_of value.now (behind 38 value.now) ≡ Some name.items) }
     ensures err { IfErr result (λ e. (e ≡ AddressError.Memory)
@@ -80,5 +80,5 @@ fn name_of(alloc: Global, value: &[u8]) -> Result<Vec<u8>, AddressError>
     if let (_, Some(_)) = cut(value, b'&') {
         return Err(AddressError::Setting);
     }
-    Ok(decoded(alloc, value)?)
+    Ok(decode_text(alloc, value)?)
 }

@@ -9,9 +9,9 @@ use std::io::{Read, Write};
 use std::net::OpenStream;
 use std::time::Duration;
 
-/// A connection over a stream that is open, such as a `TcpStream`. Small commands are not held back, and
-/// a read or a write that takes longer than `patience` fails. It has to be longer than `block` of a
-/// worker's settings, by as long as a busy server may take.
+/// A connection over a stream that is open, such as a `TcpStream`. It sets TCP_NODELAY, and a read or a write
+/// that takes longer than `patience` fails. It has to be longer than `block` of a worker's settings, by as long
+/// as a busy server may take.
 pub fn connection_over<S: Read + Write + OpenStream + Drop>(
     alloc: Global,
     stream: S,

@@ -1,5 +1,5 @@
--- CRC-16/XMODEM: what is left of a message as a polynomial over bits, with 16 zeros after it, where
--- x^16 + x^12 + x^5 + 1 is taken away from it as often as it can be.
+-- CRC-16/XMODEM: the remainder of a message as a polynomial over bits, with 16 zeros after it, divided by x^16 + x^12
+-- + x^5 + 1.
 use Rattle.std.specs.Prelude.{ℕ, zero, suc, ◌-◌, ◌*◌, ◌/◌, ◌%◌, ◌^◌, ◌==◌, if◌then◌else◌, List, bit_xor, fold}
 
 -- One bit more: what was left is shifted by a place. The term x^16 is there if the highest bit was there or

@@ -25,7 +25,7 @@ pub data Meaning : Type 0 where
   ask : Place → Meaning
   other : Other → Meaning
 
--- a slot of a cluster, a port that can be connected to, and a host with no blank in it, which may be empty
+-- a slot of a cluster, a port that can be connected to, and a host with no space in it, which may be empty
 abbrev pub IsPlace : Place → Type 0
 IsPlace p = (p.slot < 16384) × (0 < p.port) × (p.port < 2 ^ 16) × (split_first 32 p.host ≡ None)
 
@@ -33,11 +33,11 @@ IsPlace p = (p.slot < 16384) × (0 < p.port) × (p.port < 2 ^ 16) × (split_firs
 abbrev pub place_text : Place → List ℕ
 place_text p = decimal p.slot ++ 32 ∷ (p.host ++ 58 ∷ decimal p.port)
 
--- the part before the first blank, or all if there is none
+-- the part before the first space, or all if there is none
 abbrev pub code_of : List ℕ → List ℕ
 code_of text = unwrap_or (option_map (λ x. x.0) (split_first 32 text)) text
 
--- the errors that are told by their code alone, whatever is after it
+-- the errors that are known by their code alone, whatever is after it
 unfoldable pub other_of : List ℕ → Option Other
 other_of code = if bytes_eq code (codes "TRYAGAIN") then Some try_again
     else if bytes_eq code (codes "CLUSTERDOWN") then Some cluster_down
@@ -63,6 +63,6 @@ abbrev pub IsPlaceIn : List ℕ → Option Place → Type 0
 IsPlaceIn bytes (Some p) = IsPlace p × (bytes ≡ place_text p)
 IsPlaceIn bytes None = (p : Place) → IsPlace p → ¬ (bytes ≡ place_text p)
 
--- no text says two things
+-- no text has two meanings
 abbrev pub SentencesTell : Type 0
 SentencesTell = (a b : Meaning) (text : List ℕ) → Says a text → Says b text → a ≡ b

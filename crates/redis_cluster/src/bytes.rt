@@ -1,25 +1,25 @@
-//! Bytes that a byte parts, and numbers in bytes.
+//! Splitting bytes at a byte, and parsing numbers.
 ghost use Rattle.std.specs.Prelude.{◌≡◌, ◌++◌, ◌==◌, ◌^◌, ◌<◌, ◌≢◌, List, MatchOption, ℕ, decimal, option_map, position};
 ghost use Rattle.redis_cluster.specs.Split.{IsSplitAtLast, split_first};
 
 use itoa::Buffer;
 use std::str;
 
-/// What is after these bytes at the head.
+/// The bytes after this prefix.
 pub(crate) fn bytes_behind<'a>(head: &[u8], bytes: &'a [u8]) -> Option<&'a [u8]>
     ensures { MatchOption result ((rest : List ℕ) → bytes.now ≢ head.now ++ rest) (λ rest. bytes.now ≡ head.now ++ rest.now) }
 {
     bytes.strip_prefix(head)
 }
 
-/// The place of the first of these bytes.
+/// The index of the first such byte.
 fn place_of(bytes: &[u8], byte: u8) -> Option<usize>
     ensures { result ≡ position (λ b. b == byte) bytes.now }
 {
     bytes.iter().position(|b| *b == byte)
 }
 
-/// The part before the first of these bytes, and what is after it.
+/// The part before the first such byte, and what is after it.
 pub(crate) fn split_first(bytes: &[u8], byte: u8) -> Option<(&[u8], &[u8])>
     ensures { option_map (λ x. (x.0.now, x.1.now)) result ≡ split_first byte bytes.now }
 {
@@ -27,7 +27,7 @@ pub(crate) fn split_first(bytes: &[u8], byte: u8) -> Option<(&[u8], &[u8])>
     Some((&bytes[..place], &bytes[place + 1..]))
 }
 
-/// The part before the last of these bytes, and what is after it.
+/// The part before the last such byte, and what is after it.
 pub(crate) fn split_last(bytes: &[u8], byte: u8) -> Option<(&[u8], &[u8])>
     ensures { IsSplitAtLast byte bytes.now (option_map (λ x. (x.0.now, x.1.now)) result) }
 {
@@ -41,7 +41,7 @@ pub(crate) fn split_last(bytes: &[u8], byte: u8) -> Option<(&[u8], &[u8])>
     None
 }
 
-/// The number that the bytes write in decimal, with no sign and no leading zero.
+/// The number of the decimal digits, with no sign and no leading zero.
 pub(crate) fn number_in(bytes: &[u8]) -> Option<u16>
     ensures { MatchOption result ((n : ℕ) → n < 2 ^ 16 → decimal n ≢ bytes.now) (λ n. decimal n ≡ bytes.now) }
 {

@@ -1,4 +1,4 @@
-//! The checksum that slots are made of.
+//! The checksum that decides on the slot.
 ghost use Rattle.std.specs.Prelude.{◌≡◌};
 ghost use Rattle.redis_cluster.specs.Crc.{crc16, with_bit, with_byte};
 
@@ -9,7 +9,7 @@ pub fn crc16(bytes: &[u8]) -> u16
     bytes.iter().fold(0, |crc, byte| with_byte(crc, *byte))
 }
 
-/// The checksum with one byte more.
+/// The checksum after one more byte.
 #[tactic(auto, unfolding(crate::specs::Crc::with_bits))]
 fn with_byte(crc: u16, byte: u8) -> u16
     ensures { result ≡ with_byte crc byte }
@@ -21,7 +21,7 @@ fn with_byte(crc: u16, byte: u8) -> u16
     crc
 }
 
-/// The checksum with one bit more.
+/// The checksum after one more bit.
 #[tactic(auto, unfolding(crate::specs::Crc::with_bit))]
 fn with_bit(crc: u16, bit: u8) -> u16
     ensures { result ≡ with_bit crc bit }

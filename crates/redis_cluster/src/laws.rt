@@ -1,4 +1,4 @@
-//! Laws of slots and errors, as clauses that are known after a call.
+//! Laws of slots and errors.
 ghost use Rattle.redis_cluster.specs.Division.{ChecksumIsRemainder};
 ghost use Rattle.redis_cluster.specs.Sentence.{SentencesTell};
 ghost use Rattle.redis_cluster.specs.Partition.{SlotsOfPartitions};
@@ -10,13 +10,13 @@ pub fn checksum_is_remainder()
     ensures { ChecksumIsRemainder }
 {}
 
-/// No text of an error says two things.
+/// No text of an error has two meanings.
 pub fn sentences_tell()
     ensures { SentencesTell }
 {}
 
-/// The part between the first `{` and the first `}` after it decides on the slot, if it is not
-/// empty, whatever is around it; and else the whole key does.
+/// The part between the first `{` and the first `}` after it decides on the slot, if it is not empty, whatever
+/// is around it; otherwise the whole key does.
 pub fn tags_decide()
     ensures tag { TagsDecide }
     ensures whole { WholeKeysDecide }

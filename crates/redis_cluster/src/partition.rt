@@ -8,9 +8,8 @@ use itoa::Buffer;
 use std::alloc::{AllocError, Global};
 use std::num::NonZeroU16;
 
-/// The partition of a record, from 0 to one less than their number: CRC-16/XMODEM of the whole key of
-/// the record, modulo the number of partitions. A record stays where it is only as long as that number
-/// does.
+/// The partition of a record, from 0 to one less than their number: CRC-16/XMODEM of the whole key of the
+/// record, modulo the number of partitions. If that number changes, a record may belong to another partition.
 pub fn partition_of(record_key: &[u8], number: NonZeroU16) -> u16
     ensures { result ≡ crc16 record_key.now % number.value }
 {

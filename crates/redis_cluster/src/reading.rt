@@ -32,7 +32,7 @@ pub fn cluster_error(text: &[u8]) -> Option<ClusterError<'_>>
     error_of(code_in(text))
 }
 
-/// The part before the first blank, or all if there is none.
+/// The part before the first space, or all if there is none.
 fn code_in(text: &[u8]) -> &[u8]
     ensures { result.now ≡ code_of text.now }
 {
@@ -42,7 +42,7 @@ fn code_in(text: &[u8]) -> &[u8]
     }
 }
 
-/// The error of a code that names no place.
+/// The error of a code without an address.
 fn error_of(code: &[u8]) -> Option<ClusterError<'_>>
     ensures { option_map meaning_of result ≡ option_map other_meaning (other_of code.now) }
 {
@@ -63,7 +63,7 @@ fn error_of(code: &[u8]) -> Option<ClusterError<'_>>
     }
 }
 
-/// The place that the bytes name: the slot, a blank, the host, a colon and the port.
+/// The slot and the address in the bytes: the slot, a space, the host, a colon and the port.
 fn place_in(bytes: &[u8]) -> Option<Place<'_>>
     ensures { IsPlaceIn bytes.now (option_map place_of result) }
 {
@@ -75,7 +75,7 @@ fn place_in(bytes: &[u8]) -> Option<Place<'_>>
     if is_place(&place) { Some(place) } else { None }
 }
 
-/// Whether it has a slot of a cluster, a port, and a host with no blank in it.
+/// Whether it has a slot of a cluster, a port, and a host with no space in it.
 fn is_place(place: &Place<'_>) -> bool
     ensures { Decides result (IsPlace (place_of place.now)) }
 {

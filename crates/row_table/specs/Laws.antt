@@ -1,9 +1,9 @@
--- What holds of rows that are put in.
+-- What holds of inserted rows.
 use Rattle.std.specs.Prelude.{◌≡◌, ◌++◌, ◌∷◌, List, Some, IsSome}
 use Rattle.row_table.specs.Rows.{Cell, Key, Row, find, with_rows, KeysApart, BeginsWith}
 
--- the law: an id that is there keeps its values, whatever is put in; what was there comes first; rows whose keys are apart
--- stay so; each row that was put in has its key there; and rows may be put in at once or in turn
+-- the law: a key that is there keeps its values, whatever is inserted; what was there comes first; distinct keys stay
+-- distinct; the key of each inserted row is there; and rows may be inserted at once or in turn
 pub record RowsArePutIn : Type 0 where
   pub stays : (rows more : List Row) (k : Key) (cells : List Cell) → find k rows ≡ Some cells
       → find k (with_rows rows more) ≡ Some cells

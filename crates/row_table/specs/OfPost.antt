@@ -1,15 +1,15 @@
--- What is sent for a row in memory.
+-- The command that is sent for a row in memory.
 use Rattle.std.specs.Prelude.{List, map}
 use Rattle.row_table.specs.OfRow.{row_of}
 use Rattle.row_table.specs.Posts as posts
 use Rattle.row_table.specs.declared.post.Post.{Post}
 use Rattle.row_table.specs.declared.post.PostedRow.{PostedRow}
 
--- its key, its command and its question
+-- its key, its command and the query for it
 abbrev pub post_of : Post → posts.Post
 post_of p = record { key = (p.first, p.second); command = p.command.items; question = p.question.items }
 
--- the row, its command and its question
+-- the row, its command and the query for it
 abbrev pub posted_of : PostedRow → posts.Posted
 posted_of p = (row_of p.row, (p.command.items, p.question.items))
 

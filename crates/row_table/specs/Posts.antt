@@ -4,18 +4,18 @@ use Rattle.std.specs.Prelude.{if◌then◌else◌, map, nat_le, nat_lt, option_m
 use Rattle.std.specs.List.{AllByRecursion}
 use Rattle.row_table.specs.Rows.{Key, Row, find, same_key, with_row}
 
--- what is to be sent for the row of this key: a command, and the question whether it was done
+-- what is to be sent for the row of this key: a command, and the query whether it was executed
 pub record Post : Type 0 where
   pub key : Key
   pub command : List ℕ
   pub question : List ℕ
 
--- the rows that are there, and what is to be sent, each in the order in which it was put in
+-- the rows that are there, and what is to be sent, in the order of insertion
 pub record Stored : Type 0 where
   pub rows : List Row
   pub posts : List Post
 
--- a row that is put in, and what is sent for it: the command and the question
+-- a row that is inserted, and what is sent for it: the command and the query
 abbrev pub Posted : Type 0
 Posted = Row × (List ℕ × List ℕ)
 
@@ -23,11 +23,11 @@ Posted = Row × (List ℕ × List ℕ)
 abbrev pub post_for : Posted → Post
 post_for p = record { key = p.0.0; command = p.1.0; question = p.1.1 }
 
--- with one more row behind the others, unless its key is there
+-- with one more row after the others, unless its key is there
 abbrev pub with_stored : Stored → Row → Stored
 with_stored s r = record { rows = with_row s.rows r; posts = s.posts }
 
--- with one more post behind the others
+-- with one more post after the others
 abbrev pub with_post : Stored → Post → Stored
 with_post s p = record { rows = s.rows; posts = s.posts ++ p ∷ [] }
 
@@ -43,15 +43,15 @@ abbrev pub with_all_posted : Stored → List Posted → Stored
 with_all_posted s [] = s
 with_all_posted s (p ∷ ps) = with_all_posted (with_posted s p) ps
 
--- where it is known what is there, these are put in
+-- if it is known what is there, these are inserted
 abbrev pub with_known_posted : List Posted → Option Stored → Option Stored
 with_known_posted ps known = option_map (λ s. with_all_posted s ps) known
 
--- the rows that are put in
+-- the rows that are inserted
 abbrev pub rows_in : List Posted → List Row
 rows_in ps = map (λ p. p.0) ps
 
--- the rows that are there, where they are known
+-- the rows that are there, if they are known
 abbrev pub rows_known : Option Stored → Option (List Row)
 rows_known known = option_map (λ s. s.rows) known
 
@@ -69,7 +69,7 @@ abbrev pub IsAmong : Post → List Post → Type 0
 IsAmong p [] = ⊥
 IsAmong p (q ∷ qs) = (q ≡ p) ⊎ IsAmong p qs
 
--- a key is not behind another one: its first number is smaller, or it is the same and the second one is not larger
+-- a key is not after another one: its first number is smaller, or it is the same and the second one is not larger
 abbrev pub is_not_behind : Key → Key → Bool
 is_not_behind a b = nat_lt a.0 b.0 || ((a.0 == b.0) && nat_le a.1 b.1)
 

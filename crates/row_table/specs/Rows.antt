@@ -1,4 +1,4 @@
--- Rows by their keys: which is there, and what is there after more were put in.
+-- Rows by their keys: which are there, and which after more were inserted.
 use Rattle.std.specs.Prelude.{◌≡◌, ◌⊎◌, ◌&&◌, ◌==◌, ℕ, ℤ, Bool, true, false, List, [], ◌∷◌, ◌++◌, Option, Some, None, is_some}
 use Rattle.std.specs.Prelude.{option_map, if◌then◌else◌, IfSome}
 use Rattle.std.specs.List.{AllByRecursion}
@@ -27,7 +27,7 @@ abbrev pub find : Key → List Row → Option (List Cell)
 find k [] = None
 find k (r ∷ rs) = if same_key r.0 k then Some r.1 else find k rs
 
--- with one more row behind the others, unless its key is there
+-- with one more row after the others, unless its key is there
 abbrev pub with_row : List Row → Row → List Row
 with_row rows r = if is_some (find r.0 rows) then rows else rows ++ r ∷ []
 
@@ -49,19 +49,19 @@ abbrev pub KeysApart : List Row → Type 0
 KeysApart [] = Unit {0}
 KeysApart (r ∷ rs) = (find r.0 rs ≡ None) × KeysApart rs
 
--- these rows, and maybe more behind them
+-- these rows, and perhaps more after them
 abbrev pub BeginsWith : List Row → List Row → Type 0
 BeginsWith rows all = (behind : List Row) × (all ≡ rows ++ behind)
 
--- where the rows are known, these are put in
+-- if the rows are known, these are inserted
 abbrev pub with_known : List Row → Option (List Row) → Option (List Row)
 with_known more known = option_map (λ rows. with_rows rows more) known
 
--- where the rows are known, each of these is there with its own values
+-- if the rows are known, each of these is there with its own values
 abbrev pub AreKnown : List Row → Option (List Row) → Type 0
 AreKnown more known = IfSome known (λ rows. AreRows rows more)
 
--- all of these rows were put in, each with its own values; or none of them
+-- all of these rows were inserted, each with its own values; or none of them
 abbrev pub PutsIn : Bool → List Row → Option (List Row) → Option (List Row) → Type 0
 PutsIn true more old new = (new ≡ with_known more old) × AreKnown more new
 PutsIn false more old new = new ≡ old
@@ -78,10 +78,10 @@ LeavesAll known may_leave = (left : List Row) → may_leave left → IfSome know
 abbrev pub LeavesNoOther : {A : Type 0} → (A → Type 0) → (A → Type 0) → Type 0
 LeavesNoOther {A} old new = (left : A) → new left → old left
 
--- no transaction is open, where it is known whether one is
+-- no transaction is open, if it is known whether one is
 abbrev pub IsClosed : Option Bool → Type 0
 IsClosed known = IfSome known (λ is_open. is_open ≡ false)
 
--- or it is this, where it is known
+-- or it is this, if it is known
 abbrev pub LeavesOldOr : {A : Type 0} → Option A → (A → Type 0) → (A → Type 0) → Type 0
 LeavesOldOr {A} known old new = (left : A) → new left → old left ⊎ IfSome known (λ is. left ≡ is)

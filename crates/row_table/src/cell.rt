@@ -1,4 +1,4 @@
-//! A value in a row, and what a column of such values is.
+//! A value in a row, and the type of a column.
 ghost use Rattle.std.specs.Prelude.{◌≡◌};
 
 /// A value in a row.
@@ -12,7 +12,7 @@ pub enum Cell {
     Blob(Vec<u8>),
 }
 
-/// What the values of a column are.
+/// The type of the values of a column.
 #[derive(Clone, Copy, Debug, PartialEq, Eq)]
 pub enum Kind {
     Text,
@@ -20,11 +20,11 @@ pub enum Kind {
     Blob,
 }
 
-/// A column: the name of a field, and what its values are.
+/// A column: the name of a field, and the type of its values.
 #[derive(Debug, Drop)]
 pub struct Column {
     pub name: String,
     pub kind: Kind,
-    /// A row may have no value here.
+    /// Whether a row may have no value here.
     pub optional: bool,
 }

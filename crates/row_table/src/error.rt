@@ -1,17 +1,17 @@
-//! Why rows are not in a table.
+//! Why rows were not inserted.
 ghost use Rattle.std.specs.Prelude.{◌≡◌};
 ghost use Rattle.row_table.specs.declared.error.TableError.TheVariants.{Memory};
 
 use std::alloc::{AllocError, AllocFailed};
 use thiserror::Error;
 
-/// Why rows are not in a table.
+/// Why rows were not inserted.
 #[derive(Clone, Copy, Debug, PartialEq, Eq, Drop, Error)]
 pub enum TableError {
     /// Out of memory.
     #[error("out of memory")]
     Memory,
-    /// A row of this key is there, with other values.
+    /// A row of this key exists with other values.
     #[error("a row of the key {first}-{second} is there with other fields")]
     OtherText { first: u64, second: u64 },
     /// A number of this key is 2^63 or more.

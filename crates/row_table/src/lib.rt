@@ -1,11 +1,11 @@
 //! Rows in a table, by keys of two numbers.
 //!
-//! A `Table` is what a database offers of a transaction: it begins, rows are put in or looked up, and it is
-//! committed or taken back. `put_all` puts rows into a table as one transaction: a row whose key is there is
-//! left out if it has the same values, and is an error if it has others.
+//! A `Table` is a table of a database with transactions: begin, insert or find rows, and commit or roll back.
+//! `put_all` inserts rows in one transaction. A row whose key is there is skipped if it has the same values,
+//! and is an error if it has others.
 //!
-//! `WithOutbox` is a table that has an outbox too: posts, each a command that is sent for a row. `put_all_posted`
-//! puts rows in with their posts, as one transaction.
+//! `WithOutbox` is a table that has an outbox too: posts, each a command that is sent for a row.
+//! `put_all_posted` inserts rows with their posts, in one transaction.
 #![tactic(auto)]
 
 mod cell;

@@ -1,4 +1,4 @@
-//! What a table with an outbox is.
+//! The trait of a table with an outbox.
 ghost use Rattle.std.specs.Prelude.{◌≡◌, ◌⊎◌, Bool, true, false, List, Option, OnErr, OnOk, IfOk, IfSome, IsTrue, ◌↔◌};
 ghost use Rattle.std.specs.Prelude.{option_map, is_some, if◌then◌else◌};
 ghost use Rattle.row_table.specs.Posts as posts;
@@ -14,19 +14,19 @@ use std::alloc::Global;
 
 /// A table of rows with an outbox beside it, in a database whose transactions are over both.
 ///
-/// Its clauses are those of a database whose disk is honest: a transaction is there as a whole or not at
-/// all, whatever crash comes, and after an Ok of its commit it is there.
+/// Its clauses are those of a database whose disk is honest: after any crash a transaction is there as a whole
+/// or not at all, and after an Ok of its commit it is there.
 pub trait WithOutbox {
-    /// The rows and the posts as the transaction has them, where they are known.
+    /// The rows and the posts as the transaction has them, if they are known.
     ghost seen: { Self → Option posts.Stored };
 
-    /// The rows and the posts of the last commit, where they are known.
+    /// The rows and the posts of the last commit, if they are known.
     ghost committed: { Self → Option posts.Stored };
 
     /// What a crash at this moment may leave.
     ghost may_leave: { Self → posts.Stored → Type 0 };
 
-    /// Whether a transaction is open, where it is known.
+    /// Whether a transaction is open, if it is known.
     ghost is_open: { Self → Option Bool };
 
     /// Begins a transaction.
@@ -35,7 +35,7 @@ pub trait WithOutbox {
         ensures committed { committed self.new ≡ committed self.old }
         ensures crash { LeavesNoOther (may_leave self.old) (may_leave self.new) };
 
-    /// Puts in a row, unless its key is there. Whether it was put in.
+    /// Inserts a row, unless its key is there. Returns whether it was inserted.
     fn insert(&mut self, alloc: Global, row: &Row) -> Result<bool, TableError>
         ensures seen { OnOk result (seen self.new
             ≡ option_map (λ s. with_stored s (row_of row.now)) (seen self.old)) }
@@ -52,7 +52,7 @@ pub trait WithOutbox {
         ensures committed { committed self.new ≡ committed self.old }
         ensures crash { LeavesNoOther (may_leave self.old) (may_leave self.new) };
 
-    /// Puts in the post of this row. It is an error if a post of its key is there.
+    /// Inserts the post of this row. It is an error if a post of its key is there.
     fn enqueue(&mut self, alloc: Global, row: &PostedRow) -> Result<(), TableError>
         ensures seen { OnOk result (seen self.new
             ≡ option_map (λ s. with_post s (posts.post_for (posted_of row.now))) (seen self.old)) }
@@ -74,7 +74,7 @@ pub trait WithOutbox {
         ensures committed { committed self.new ≡ committed self.old }
         ensures crash { LeavesNoOther (may_leave self.old) (may_leave self.new) };
 
-    /// Commits the transaction. After an Ok it is there, whatever crash comes.
+    /// Commits the transaction. After an Ok it is there after any crash.
     fn commit(&mut self) -> Result<(), TableError>
         ensures ok { OnOk result (committed self.new ≡ seen self.old) }
         ensures err { OnErr result (committed self.new ≡ committed self.old) }
@@ -82,7 +82,7 @@ pub trait WithOutbox {
         ensures crash { LeavesOldOr (seen self.old) (may_leave self.old) (may_leave self.new) }
         ensures closed { OnOk result (IsClosed (is_open self.new)) };
 
-    /// Takes the transaction back, if one is open.
+    /// Rolls the transaction back, if one is open.
     fn roll_back(&mut self)
         ensures committed { committed self.new ≡ committed self.old }
         ensures crash { LeavesNoOther (may_leave self.old) (may_leave self.new) }

@@ -1,4 +1,4 @@
-//! Rows that are put in as one transaction.
+//! Rows that are inserted in one transaction.
 ghost use Rattle.std.specs.Prelude.{◌≡◌, ◌∷◌, [], OnErr, OnOk};
 ghost use Rattle.row_table.specs.Rows.{AreKnown, IsClosed, LeavesJust, LeavesNoOther, LeavesOldOr, with_known};
 ghost use Rattle.row_table.specs.OfRow.{row_of, rows_of};
@@ -8,11 +8,11 @@ use crate::row::Row;
 use crate::table::Table;
 use std::alloc::Global;
 
-/// So many rows are offered at once.
+/// How many rows are inserted by one statement.
 pub const ROWS_AT_ONCE: usize = 50;
 
-/// Puts rows in as one transaction, and commits it. A row whose key is there is left out if it has the same
-/// values, and else it is an error. After an `Err` the transaction is taken back.
+/// Inserts rows in one transaction, and commits it. A row whose key is there is skipped if it has the same
+/// values, and otherwise is an error. After an `Err` the transaction is rolled back.
 pub fn put_all<T: Table>(alloc: Global, table: &mut T, rows: &[Row]) -> Result<(), TableError>
     ensures ok { OnOk result (T.committed table.new ≡ with_known (rows_of rows.now) (T.committed table.old)) }
     ensures there { OnOk result (AreKnown (rows_of rows.now) (T.committed table.new)) }
@@ -31,7 +31,7 @@ pub fn put_all<T: Table>(alloc: Global, table: &mut T, rows: &[Row]) -> Result<(
     }
 }
 
-/// Puts the rows in and commits. An `Err` leaves the transaction as it is.
+/// Inserts the rows and commits. An `Err` leaves the transaction open.
 fn put_and_commit<T: Table>(alloc: Global, table: &mut T, rows: &[Row]) -> Result<(), TableError>
     ensures ok { OnOk result (T.committed table.new ≡ with_known (rows_of rows.now) (T.committed table.old)) }
     ensures there { OnOk result (AreKnown (rows_of rows.now) (T.committed table.new)) }
@@ -46,7 +46,7 @@ fn put_and_commit<T: Table>(alloc: Global, table: &mut T, rows: &[Row]) -> Resul
     table.commit()
 }
 
-/// Puts rows in, as many at once as one statement takes.
+/// Inserts rows, as many at once as one statement takes.
 fn put_each<T: Table>(alloc: Global, table: &mut T, rows: &[Row]) -> Result<(), TableError>
     ensures seen { OnOk result (T.seen table.new ≡ with_known (rows_of rows.now) (T.seen table.old)) }
     ensures there { OnOk result (AreKnown (rows_of rows.now) (T.seen table.new)) }
@@ -62,7 +62,7 @@ fn put_each<T: Table>(alloc: Global, table: &mut T, rows: &[Row]) -> Result<(), 
     Ok(())
 }
 
-/// Puts rows in at once, or one after the other if one of their keys is there.
+/// Inserts rows at once, or one after the other if one of their keys is there.
 fn put_some<T: Table>(alloc: Global, table: &mut T, rows: &[Row]) -> Result<(), TableError>
     ensures seen { OnOk result (T.seen table.new ≡ with_known (rows_of rows.now) (T.seen table.old)) }
     ensures there { OnOk result (AreKnown (rows_of rows.now) (T.seen table.new)) }
@@ -75,7 +75,7 @@ fn put_some<T: Table>(alloc: Global, table: &mut T, rows: &[Row]) -> Result<(), 
     put_in_turn(alloc, table, rows)
 }
 
-/// Puts rows in, one after the other.
+/// Inserts rows, one after the other.
 fn put_in_turn<T: Table>(alloc: Global, table: &mut T, rows: &[Row]) -> Result<(), TableError>
     ensures seen { OnOk result (T.seen table.new ≡ with_known (rows_of rows.now) (T.seen table.old)) }
     ensures there { OnOk result (AreKnown (rows_of rows.now) (T.seen table.new)) }
@@ -88,7 +88,7 @@ fn put_in_turn<T: Table>(alloc: Global, table: &mut T, rows: &[Row]) -> Result<(
     Ok(())
 }
 
-/// Puts a row in, unless it is there. It is an error if its key is there with other values.
+/// Inserts a row, unless it is there. It is an error if its key is there with other values.
 fn put<T: Table>(alloc: Global, table: &mut T, row: &Row) -> Result<(), TableError>
     ensures seen { OnOk result (T.seen table.new
         ≡ with_known (row_of row.now ∷ []) (T.seen table.old)) }

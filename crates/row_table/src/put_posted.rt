@@ -1,4 +1,4 @@
-//! Rows that are put in with their posts, as one transaction.
+//! Rows that are inserted with their posts, in one transaction.
 ghost use Rattle.std.specs.Prelude.{◌≡◌, ◌∷◌, [], OnErr, OnOk};
 ghost use Rattle.row_table.specs.Posts.{rows_in, rows_known, with_known_posted};
 ghost use Rattle.row_table.specs.Rows.{AreKnown, IsClosed, LeavesJust, LeavesNoOther, LeavesOldOr};
@@ -9,8 +9,9 @@ use crate::outbox::WithOutbox;
 use crate::post::PostedRow;
 use std::alloc::Global;
 
-/// Puts rows in with their posts as one transaction, and commits it. A row whose key is there is left out with
-/// its post if it has the same values, and else it is an error. After an `Err` the transaction is taken back.
+/// Inserts rows with their posts in one transaction, and commits it. A row whose key is there is skipped with
+/// its post if it has the same values, and otherwise is an error. After an `Err` the transaction is rolled
+/// back.
 pub fn put_all_posted<T: WithOutbox>(
     alloc: Global,
     table: &mut T,
@@ -34,7 +35,7 @@ pub fn put_all_posted<T: WithOutbox>(
     }
 }
 
-/// Puts the rows and their posts in and commits. An `Err` leaves the transaction as it is.
+/// Inserts the rows and their posts and commits. An `Err` leaves the transaction open.
 fn put_posted_and_commit<T: WithOutbox>(
     alloc: Global,
     table: &mut T,
@@ -54,7 +55,7 @@ fn put_posted_and_commit<T: WithOutbox>(
     table.commit()
 }
 
-/// Puts rows and their posts in, one after the other.
+/// Inserts rows and their posts, one after the other.
 fn put_each_posted<T: WithOutbox>(
     alloc: Global,
     table: &mut T,
@@ -71,7 +72,7 @@ fn put_each_posted<T: WithOutbox>(
     Ok(())
 }
 
-/// Puts a row and its post in, unless it is there. It is an error if its key is there with other values.
+/// Inserts a row and its post, unless it is there. It is an error if its key is there with other values.
 fn put_posted<T: WithOutbox>(
     alloc: Global,
     table: &mut T,

@@ -1,4 +1,4 @@
-//! What a table is.
+//! The trait of a table.
 ghost use Rattle.std.specs.Prelude.{◌≡◌, ◌++◌, ◌∷◌, [], ℕ, List, Bool, true, false, Option, Some, None, OnErr, OnOk, IfOk, IfSome, IsTrue, ◌↔◌};
 ghost use Rattle.std.specs.Prelude.{option_map, is_some, if◌then◌else◌};
 ghost use Rattle.row_table.specs.Rows as rows;
@@ -9,24 +9,24 @@ use crate::error::TableError;
 use crate::row::Row;
 use std::alloc::Global;
 
-/// A table of rows by their keys, in a database that makes transactions.
+/// A table of rows by their keys, in a database with transactions.
 ///
-/// Its clauses are those of a database whose disk is honest: a transaction is there as a whole or not at
-/// all, whatever crash comes, and after an Ok of its commit it is there.
+/// Its clauses are those of a database whose disk is honest: after any crash a transaction is there as a whole
+/// or not at all, and after an Ok of its commit it is there.
 pub trait Table {
-    /// The rows as the transaction has them, in the order in which they were put in, where they are known.
+    /// The rows as the transaction has them, in the order in which they were inserted, if they are known.
     ghost seen: { Self → Option (List rows.Row) };
 
-    /// The rows of the last commit, where they are known.
+    /// The rows of the last commit, if they are known.
     ghost committed: { Self → Option (List rows.Row) };
 
     /// The rows that a crash at this moment may leave.
     ghost may_leave: { Self → List rows.Row → Type 0 };
 
-    /// Whatever a crash leaves begins with the rows of the last commit, where they are known.
+    /// Whatever a crash leaves begins with the rows of the last commit, if they are known.
     ghost begins: { (table : Self) → LeavesAll (committed table) (may_leave table) };
 
-    /// Whether a transaction is open, where it is known.
+    /// Whether a transaction is open, if it is known.
     ghost is_open: { Self → Option Bool };
 
     /// Begins a transaction.
@@ -35,7 +35,7 @@ pub trait Table {
         ensures committed { committed self.new ≡ committed self.old }
         ensures crash { LeavesNoOther (may_leave self.old) (may_leave self.new) };
 
-    /// Puts in a row, unless its key is there. Whether it was put in.
+    /// Inserts a row, unless its key is there. Returns whether it was inserted.
     fn insert(&mut self, alloc: Global, row: &Row) -> Result<bool, TableError>
         ensures seen { OnOk result (seen self.new
             ≡ option_map (λ rs. with_row rs (row_of row.now)) (seen self.old)) }
@@ -44,8 +44,9 @@ pub trait Table {
         ensures committed { committed self.new ≡ committed self.old }
         ensures crash { LeavesNoOther (may_leave self.old) (may_leave self.new) };
 
-    /// Puts in these rows at once, if none of their keys is there and no two are the same. Whether they were put in; if
-    /// not, nothing is changed, and they may be put in one after the other. A table may always refuse so.
+    /// Inserts these rows at once, if none of their keys is there and no two are the same. Returns whether they
+    /// were inserted; if not, nothing is changed, and they may be inserted one after the other. A table may
+    /// always return false.
     fn insert_many(&mut self, alloc: Global, rows: &[Row]) -> Result<bool, TableError>
         ensures seen { IfOk result (λ is_in. PutsIn is_in (rows_of rows.now) (seen self.old) (seen self.new)) }
         ensures committed { committed self.new ≡ committed self.old }
@@ -59,7 +60,7 @@ pub trait Table {
         ensures committed { committed self.new ≡ committed self.old }
         ensures crash { LeavesNoOther (may_leave self.old) (may_leave self.new) };
 
-    /// Commits the transaction. After an Ok it is there, whatever crash comes.
+    /// Commits the transaction. After an Ok it is there after any crash.
     fn commit(&mut self) -> Result<(), TableError>
         ensures ok { OnOk result (committed self.new ≡ seen self.old) }
         ensures err { OnErr result (committed self.new ≡ committed self.old) }
@@ -67,7 +68,7 @@ pub trait Table {
         ensures crash { LeavesOldOr (seen self.old) (may_leave self.old) (may_leave self.new) }
         ensures closed { OnOk result (IsClosed (is_open self.new)) };
 
-    /// Takes the transaction back, if one is open.
+    /// Rolls the transaction back, if one is open.
     fn roll_back(&mut self)
         ensures committed { committed self.new ≡ committed self.old }
         ensures crash { LeavesNoOther (may_leave self.old) (may_leave self.new) }

@@ -13,13 +13,13 @@ quoted_byte b = if b == 34 then 34 ∷ 34 ∷ [] else b ∷ []
 abbrev pub quoted : List ℕ → List ℕ
 quoted name = 34 ∷ (flat_map quoted_byte name ++ 34 ∷ [])
 
--- what the database calls the values of a column
+-- the type name of a column in SQL
 abbrev pub kind_text : Kind → List ℕ
 kind_text Text = codes " TEXT"
 kind_text Integer = codes " INTEGER"
 kind_text Blob = codes " BLOB"
 
--- whether a row may have no value there
+-- the constraint of a column, by whether a row may have no value there
 abbrev pub null_text : Bool → List ℕ
 null_text optional = if optional then codes "" else codes " NOT NULL"
 
@@ -35,16 +35,16 @@ condition_text c = codes " AND " ++ (quoted (string_bytes c.name) ++ codes " IS 
 abbrev pub value_text : Column → List ℕ
 value_text c = codes ", ?"
 
--- a text so many times
+-- a text repeated n times
 abbrev pub repeated : ℕ → List ℕ → List ℕ
 repeated zero text = []
 repeated (suc n) text = repeated n text ++ text
 
--- the places of a row: two of its key, and those of so many values
+-- the placeholders of a row: two for its key, and n for its values
 abbrev pub places_text : ℕ → List ℕ
 places_text width = codes "(?, ?" ++ (repeated width (codes ", ?") ++ codes ")")
 
--- the same of so many more rows
+-- the same for n more rows
 abbrev pub more_places_text : ℕ → ℕ → List ℕ
 more_places_text width rows = repeated rows (codes ", " ++ places_text width)
 
@@ -52,15 +52,15 @@ more_places_text width rows = repeated rows (codes ", " ++ places_text width)
 abbrev pub create_text : List ℕ → List Column → List ℕ
 create_text table columns = codes "CREATE TABLE " ++ (quoted table ++ (codes " (milliseconds INTEGER NOT NULL, sequence INTEGER NOT NULL, " ++ (flat_map column_text columns ++ codes "PRIMARY KEY (milliseconds, sequence)) STRICT")))
 
--- the statement that puts in a row, unless its key is there
+-- the statement that inserts a row, unless its key is there
 abbrev pub insert_text : List ℕ → List Column → List ℕ
 insert_text table columns = codes "INSERT INTO " ++ (quoted table ++ (codes " VALUES (?, ?" ++ (flat_map value_text columns ++ codes ") ON CONFLICT DO NOTHING")))
 
--- the statement that puts in fifty rows of so many values, unless one of their keys is there
+-- the statement that inserts fifty rows of n values, unless one of their keys is there
 abbrev pub insert_many_text : List ℕ → ℕ → List ℕ
 insert_many_text table width = codes "INSERT INTO " ++ (quoted table ++ (codes " VALUES " ++ (places_text width ++ more_places_text width 49)))
 
--- the query that shows one row if a row of this key has these values, and else none
+-- the query that returns one row if a row of this key has these values, and otherwise none
 abbrev pub holds_text : List ℕ → List Column → List ℕ
 holds_text table columns = codes "SELECT 1 FROM " ++ (quoted table ++ (codes " WHERE milliseconds = ? AND sequence = ?" ++ flat_map condition_text columns))
 
@@ -75,11 +75,11 @@ pub record IsFormOf (table : List ℕ) (columns : List Column) (form : Form) : T
 abbrev pub usual_create : List ℕ
 usual_create = codes "CREATE TABLE entries (milliseconds INTEGER NOT NULL, sequence INTEGER NOT NULL, fields TEXT NOT NULL, PRIMARY KEY (milliseconds, sequence)) STRICT"
 
--- the statement that puts a row into it, unless its key is there
+-- the statement that inserts a row into it, unless its key is there
 abbrev pub usual_insert : List ℕ
 usual_insert = codes "INSERT INTO entries (milliseconds, sequence, fields) VALUES (?1, ?2, ?3) ON CONFLICT DO NOTHING"
 
--- the query that shows one row of it if a row of this key has this text, and else none
+-- the query that returns one row of it if a row of this key has this text, and otherwise none
 abbrev pub usual_holds : List ℕ
 usual_holds = codes "SELECT 1 FROM entries WHERE milliseconds = ?1 AND sequence = ?2 AND fields IS ?3"
 

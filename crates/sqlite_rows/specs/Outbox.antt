@@ -10,15 +10,15 @@ use Rattle.sqlite.specs.declared.types.Value.TheVariants.{Int, Blob, Text}
 use Rattle.row_table.specs.Posts.{Post}
 use Rattle.sqlite_rows.specs.Statements.{Found, key_values, known_text}
 
--- the statement that makes it: its key is the key of a row
+-- the statement that creates it: its key is the key of a row
 abbrev pub outbox_create : List ℕ
 outbox_create = codes "CREATE TABLE outbox (milliseconds INTEGER NOT NULL, sequence INTEGER NOT NULL, command BLOB NOT NULL, question BLOB NOT NULL, PRIMARY KEY (milliseconds, sequence)) STRICT"
 
--- the statement that puts in a post
+-- the statement that inserts a post
 abbrev pub enqueue_text : List ℕ
 enqueue_text = codes "INSERT INTO outbox (milliseconds, sequence, command, question) VALUES (?1, ?2, ?3, ?4)"
 
--- the query that shows the post of the first key
+-- the query that returns the post of the first key
 abbrev pub first_text : List ℕ
 first_text = codes "SELECT milliseconds, sequence, command, question FROM outbox ORDER BY milliseconds, sequence LIMIT 1"
 
@@ -50,24 +50,25 @@ pub record AreValues (row : SqlRow) (p : Post) : Type 0 where
   pub question : column row 3 ≡ bytes_value p.question
 
 module _ {S : Type 0} (g : Ghosts S) (old new : Held S) where
-  -- where the disk is honest, this query showed no row, or the first row that it showed has the values of this post
+  -- if the disk is honest, this query returned no row, or the first row that it returned has the values of this post
   abbrev pub FoundPost : List ℕ → Option Post → Type 0
   FoundPost sql None = HasCleanDisk (state g new) → QueriesRow sql [] (state g old) (state g new) (Err QueryReturnedNoRows)
   FoundPost sql (Some p) = HasCleanDisk (state g new)
       → (row : SqlRow) × QueriesRow sql [] (state g old) (state g new) (Ok row) × AreValues row p
 
-  -- where the disk is honest, this query counted so many posts
+  -- if the disk is honest, this query counted n posts
   abbrev pub Counts : ℕ → Type 0
   Counts count = HasCleanDisk (state g new)
       → (row : SqlRow) × QueriesRow count_text [] (state g old) (state g new) (Ok row) × (column row 0 ≡ number_value count)
 
-  -- where the disk is honest, the query showed that this very statement made the outbox; or it showed another one, or none
+  -- if the disk is honest, the query returned this very statement as the one that created the outbox; or another one,
+  -- or none
   abbrev pub ShowsOutbox : Bool → Type 0
   ShowsOutbox true = Found g old new known_text (Text (codes "outbox") ∷ []) (Some outbox_create)
   ShowsOutbox false = (known : Option (List ℕ)) × (known ≢ Some outbox_create) × Found g old new known_text (Text (codes "outbox") ∷ []) known
 
 module _ {S : Type 0} (g : Ghosts S) (old new : Held S) where
-  -- the queries of a database showed no outbox, or no post in it; or so many posts, and that of the first key
+  -- the queries of a database returned no outbox, or no post in it; or the number of posts, and the first one
   abbrev pub WaitsIn : Option (ℕ × Post) → Type 0
   WaitsIn None = ShowsOutbox g old new false ⊎ ((m : Held S) × ShowsOutbox g old m true × FoundPost g m new first_text None)
   WaitsIn (Some w) = (m : Held S) × (n : Held S) × ShowsOutbox g old m true × FoundPost g m n first_text (Some w.1) × Counts g n new w.0

@@ -48,7 +48,7 @@ abbrev pub row_values : Row → SqlRow
 row_values r = key_values r.0 ++ values_of r.1
 
 module _ {S : Type 0} (g : Ghosts S) (old new : Held S) where
-  -- where the disk is honest, the database ran this statement with these values, and changed so many rows
+  -- if the disk is honest, the database ran this statement with these values, and changed n rows
   abbrev pub Ran : List ℕ → SqlRow → ℕ → Type 0
   Ran sql values count = HasCleanDisk (state g new) → Executes sql values (state g old) (state g new) (Ok count)
 
@@ -56,20 +56,21 @@ module _ {S : Type 0} (g : Ghosts S) (old new : Held S) where
   abbrev pub RanOne : List ℕ → SqlRow → Bool → Type 0
   RanOne sql values one = (count : ℕ) × (one ≡ (count == 1)) × Ran sql values count
 
-  -- where the disk is honest, it ran this statement with these values; or it was not run; or a rule of the table was
-  -- against it, and the database was not changed
+  -- if the disk is honest, it ran this statement with these values; or it was not run; or it violated a constraint,
+  -- and the database was not changed
   abbrev pub RanAll : List ℕ → SqlRow → Bool → Type 0
   RanAll sql values true = (count : ℕ) × Ran sql values count
   RanAll sql values false = (new ≡ old) ⊎ (HasCleanDisk (state g new)
       → (rule : _) × Executes sql values (state g old) (state g new) (Err (SqliteFailure (ConstraintViolation rule))))
 
-  -- where the disk is honest, this query showed a row with these values, or none
+  -- if the disk is honest, this query returned a row with these values, or none
   abbrev pub Shows : List ℕ → SqlRow → Bool → Type 0
   Shows sql values false = HasCleanDisk (state g new) → QueriesRow sql values (state g old) (state g new) (Err QueryReturnedNoRows)
   Shows sql values true = HasCleanDisk (state g new)
       → (row : SqlRow) × QueriesRow sql values (state g old) (state g new) (Ok row)
 
-  -- where the disk is honest, this query showed no row, or the first value of the first row that it showed is this text
+  -- if the disk is honest, this query returned no row, or the first value of the first row that it returned is this
+  -- text
   abbrev pub Found : List ℕ → SqlRow → Option (List ℕ) → Type 0
   Found sql values None = HasCleanDisk (state g new) → QueriesRow sql values (state g old) (state g new) (Err QueryReturnedNoRows)
   Found sql values (Some text) = HasCleanDisk (state g new)
@@ -84,8 +85,8 @@ module _ {S : Type 0} (g : Ghosts S) (old new : Held S) where
   abbrev pub LeavesBy : List ℕ → SqlRow → Type 0
   LeavesBy sql values = Survives (state g old) (state g new) (CommitsBy sql values (state g old))
 
--- one query was run, and it showed that this very statement made the table of this name; or the query showed no such table,
--- and then this statement was run; and nothing else was
+-- one query was run, and it returned this very statement as the one that created the table of this name; or it
+-- returned no such table, and then this statement was run; and nothing else was
 abbrev pub IsMade : {S : Type 0} → Ghosts S → Held S → Held S → List ℕ → List ℕ → Type 0
 IsMade {S} g old new name create = Found g old new known_text (Text name ∷ []) (Some create)
     ⊎ ((between : Held S) × Found g old between known_text (Text name ∷ []) None × ((count : ℕ) × Ran g between new create [] count))

@@ -1,4 +1,4 @@
-//! Why a table is not opened.
+//! Why a table was not opened.
 ghost use Rattle.std.specs.Prelude.{◌≡◌};
 ghost use Rattle.row_table.specs.declared.error.TableError.TheVariants.{Memory};
 ghost use Rattle.sqlite_rows.specs.declared.error.OpenError.TheVariants.{Table};
@@ -7,13 +7,13 @@ use row_table::TableError;
 use std::alloc::AllocError;
 use thiserror::Error;
 
-/// Why a table is not opened.
+/// Why a table was not opened.
 #[derive(Debug, Drop, Error)]
 pub enum OpenError {
-    /// Memory ran out, or the database refuses.
+    /// Memory ran out, or an error of the database.
     #[error("{0}")]
     Table(TableError),
-    /// A table or a view of this name is there, which this SQL made.
+    /// Another table or view of this name is there: the SQL that made it.
     #[error("its table is another one: {0}")]
     Another(String),
 }

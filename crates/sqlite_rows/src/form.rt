@@ -20,13 +20,13 @@ const HOLDS: &str =
 pub struct Form {
     /// The table's name.
     pub name: String,
-    /// Makes the table.
+    /// Creates the table.
     pub create: String,
-    /// Puts in a row, unless its key is there.
+    /// Inserts a row, unless its key is there.
     pub insert: String,
-    /// Puts in `ROWS_AT_ONCE` rows, unless one of their keys is there.
+    /// Inserts `ROWS_AT_ONCE` rows, unless one of their keys is there.
     pub insert_many: String,
-    /// Shows one row if a row of this key has these values, and else none.
+    /// Returns one row if a row of this key has these values, and otherwise none.
     pub holds: String,
 }
 
@@ -79,7 +79,7 @@ fn push_create(out: &mut Vec<u8>, name: &str, columns: &[Column]) -> Result<(), 
     Ok(out.extend_from_slice(b"PRIMARY KEY (milliseconds, sequence)) STRICT")?)
 }
 
-/// The statement that puts in a row.
+/// The statement that inserts a row.
 fn insert(alloc: Global, name: &str, columns: &[Column]) -> Result<String, TableError>
     ensures { IfOk result (λ text. string_bytes text ≡ insert_text name.now columns.now) }
 {
@@ -99,7 +99,7 @@ fn push_insert(out: &mut Vec<u8>, name: &str, columns: &[Column]) -> Result<(), 
     Ok(out.extend_from_slice(b") ON CONFLICT DO NOTHING")?)
 }
 
-/// The statement that puts in many rows, each of so many values beside its key.
+/// The statement that inserts many rows, each of `width` values beside its key.
 fn insert_many(alloc: Global, name: &str, width: usize) -> Result<String, TableError>
     ensures { IfOk result (λ text. string_bytes text ≡ insert_many_text name.now width) }
 {
@@ -119,7 +119,7 @@ fn push_insert_many(out: &mut Vec<u8>, name: &str, width: usize) -> Result<(), T
     push_more_places(out, width)
 }
 
-/// The places of all rows but the first.
+/// Appends the placeholders of all rows but the first.
 fn push_more_places(out: &mut Vec<u8>, width: usize) -> Result<(), TableError>
     ensures { OnOk result (out.new.items ≡ out.old.items ++ more_places_text width (ROWS_AT_ONCE - 1)) }
 {
@@ -129,7 +129,7 @@ fn push_more_places(out: &mut Vec<u8>, width: usize) -> Result<(), TableError>
     Ok(())
 }
 
-/// A comma, and the places of a row.
+/// Appends a comma, and the placeholders of a row.
 fn push_next_places(out: &mut Vec<u8>, width: usize) -> Result<(), TableError>
     ensures { OnOk result (out.new.items ≡ out.old.items ++ (codes ", " ++ places_text width)) }
 {
@@ -137,7 +137,7 @@ fn push_next_places(out: &mut Vec<u8>, width: usize) -> Result<(), TableError>
     push_places(out, width)
 }
 
-/// The places of a row: two of its key, and those of so many values.
+/// Appends the placeholders of a row: two for its key, and `width` for its values.
 fn push_places(out: &mut Vec<u8>, width: usize) -> Result<(), TableError>
     ensures { OnOk result (out.new.items ≡ out.old.items ++ places_text width) }
 {
@@ -167,7 +167,7 @@ fn push_holds(out: &mut Vec<u8>, name: &str, columns: &[Column]) -> Result<(), T
     push_conditions(out, columns)
 }
 
-/// A name in double quotes.
+/// Appends a name in double quotes.
 fn push_name(out: &mut Vec<u8>, name: &[u8]) -> Result<(), TableError>
     ensures { OnOk result (out.new.items ≡ out.old.items ++ quoted name.now) }
 {
@@ -176,7 +176,7 @@ fn push_name(out: &mut Vec<u8>, name: &[u8]) -> Result<(), TableError>
     Ok(out.push(b'"')?)
 }
 
-/// The bytes of a name within double quotes.
+/// Appends the bytes of a name within double quotes.
 fn push_bytes(out: &mut Vec<u8>, name: &[u8]) -> Result<(), TableError>
     ensures { OnOk result (out.new.items ≡ out.old.items ++ flat_map quoted_byte name.now) }
 {
@@ -186,7 +186,7 @@ fn push_bytes(out: &mut Vec<u8>, name: &[u8]) -> Result<(), TableError>
     Ok(())
 }
 
-/// A byte of a name: a double quote is written twice, and a NUL is refused.
+/// Appends a byte of a name: a double quote is written twice, and a NUL is an error.
 fn push_byte(out: &mut Vec<u8>, byte: u8) -> Result<(), TableError>
     ensures { OnOk result (out.new.items ≡ out.old.items ++ quoted_byte byte) }
 {
@@ -197,7 +197,7 @@ fn push_byte(out: &mut Vec<u8>, byte: u8) -> Result<(), TableError>
     }
 }
 
-/// The columns in a CREATE TABLE.
+/// Appends the columns of a CREATE TABLE.
 fn push_columns(out: &mut Vec<u8>, columns: &[Column]) -> Result<(), TableError>
     ensures { OnOk result (out.new.items ≡ out.old.items ++ flat_map column_text columns.now) }
 {
@@ -207,7 +207,7 @@ fn push_columns(out: &mut Vec<u8>, columns: &[Column]) -> Result<(), TableError>
     Ok(())
 }
 
-/// A column in a CREATE TABLE, and a comma.
+/// Appends a column of a CREATE TABLE, and a comma.
 fn push_column(out: &mut Vec<u8>, column: &Column) -> Result<(), TableError>
     ensures { OnOk result (out.new.items ≡ out.old.items ++ column_text column.now) }
 {
@@ -217,7 +217,7 @@ fn push_column(out: &mut Vec<u8>, column: &Column) -> Result<(), TableError>
     Ok(out.extend_from_slice(b", ")?)
 }
 
-/// What the database calls the values of a column.
+/// The type name of a column in SQL.
 fn kind(kind: Kind) -> &'static str
     ensures { result.now ≡ kind_text kind }
 {
@@ -228,14 +228,14 @@ fn kind(kind: Kind) -> &'static str
     }
 }
 
-/// Whether a row may have no value there.
+/// The constraint of a column, by the constraint of a column, by whether a row may have no value there.
 fn null(optional: bool) -> &'static str
     ensures { result.now ≡ null_text optional }
 {
     if optional { "" } else { " NOT NULL" }
 }
 
-/// A place for each value.
+/// Appends a placeholder for each value.
 fn push_values(out: &mut Vec<u8>, columns: &[Column]) -> Result<(), TableError>
     ensures { OnOk result (out.new.items ≡ out.old.items ++ flat_map value_text columns.now) }
 {
@@ -245,7 +245,7 @@ fn push_values(out: &mut Vec<u8>, columns: &[Column]) -> Result<(), TableError>
     Ok(())
 }
 
-/// A condition for each column.
+/// Appends a condition for each column.
 fn push_conditions(out: &mut Vec<u8>, columns: &[Column]) -> Result<(), TableError>
     ensures { OnOk result (out.new.items ≡ out.old.items ++ flat_map condition_text columns.now) }
 {
@@ -255,7 +255,7 @@ fn push_conditions(out: &mut Vec<u8>, columns: &[Column]) -> Result<(), TableErr
     Ok(())
 }
 
-/// The condition of a column of this name.
+/// Appends the condition of a column of this name.
 fn push_condition(out: &mut Vec<u8>, name: &[u8]) -> Result<(), TableError>
     ensures { OnOk result (out.new.items ≡ out.old.items
         ++ (codes " AND " ++ (quoted name.now ++ codes " IS ?"))) }
@@ -265,7 +265,7 @@ fn push_condition(out: &mut Vec<u8>, name: &[u8]) -> Result<(), TableError>
     Ok(out.extend_from_slice(b" IS ?")?)
 }
 
-/// Bytes that are UTF-8, as a text.
+/// Converts bytes that are UTF-8 to a string.
 fn text(bytes: Vec<u8>) -> Result<String, TableError>
     ensures { IfOk result (λ text. string_bytes text ≡ bytes.items) }
 {

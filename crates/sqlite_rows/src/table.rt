@@ -31,7 +31,7 @@ pub struct SqliteTable<S: Alter + Drop> {
 }
 
 impl SqliteTable<FileStore<File>> {
-    /// Opens the table of this form in this file, and makes the file and the table if they are not there.
+    /// Opens the table of this form in this file, and creates the file and the table if they are not there.
     pub fn open(
         rt: &HostRuntime,
         path: &str,
@@ -49,7 +49,7 @@ impl SqliteTable<FileStore<File>> {
         }
     }
 
-    /// Copies what is committed into the file itself, so that it stands alone.
+    /// Copies what is committed into the file itself, so that no other file is needed.
     pub fn close(self) -> Result<(), TableError>
         ensures { IfErr result IsNamed }
     {
@@ -61,7 +61,7 @@ impl SqliteTable<FileStore<File>> {
 }
 
 impl<S: Alter + Drop> SqliteTable<S> {
-    /// The table of this form in this database, which is made if it is not there.
+    /// The table of this form in this database, created if it is not there.
     pub fn over(alloc: Global, conn: Connection<S>, form: Form) -> Result<SqliteTable<S>, OpenError>
         ensures named { IfErr result IsNamedAtOpening }
         ensures form { IfOk result (λ table. table.form ≡ form) }
@@ -104,8 +104,8 @@ impl<S: Alter + Drop> Table for SqliteTable<S> {
         insert(&mut self.conn, &self.form.insert, &values)
     }
 
-    /// Runs INSERT with the keys and the values, if they are as many rows as its statement takes. A row that is there
-    /// already breaks the rule that no key is there twice: then the database takes the statement back.
+    /// Runs INSERT with the keys and the values, if they are as many rows as its statement takes. A row that is
+    /// there already violates the primary key: then the database rolls the statement back.
     fn insert_many(&mut self, alloc: Global, rows: &[Row]) -> Result<bool, TableError>
         ensures ran { IfOk result (RanAll S.Store self.old.conn self.new.conn (string_bytes self.old.form.insert_many)
             (flat_map (λ row. row_values (row_of row)) rows.now)) }
@@ -148,7 +148,7 @@ impl<S: Alter + Drop> Table for SqliteTable<S> {
     }
 }
 
-/// The error of a table for one of the database.
+/// Converts an error of the database to one of a table.
 fn refused(error: Error) -> TableError
     ensures { IsNamed result }
 {
@@ -167,7 +167,7 @@ fn run<S: Alter + Drop>(conn: &mut Connection<S>, sql: &str) -> Result<(), Table
     }
 }
 
-/// Runs a statement with these values. Whether it changed one row.
+/// Runs a statement with these values, and returns whether it changed one row.
 fn insert<S: Alter + Drop>(
     conn: &mut Connection<S>,
     sql: &str,
@@ -181,7 +181,7 @@ fn insert<S: Alter + Drop>(
     }
 }
 
-/// Runs a statement with these values. Whether no rule of the table was against it.
+/// Runs a statement with these values, and returns whether it violated no constraint.
 fn insert_many<S: Alter + Drop>(
     conn: &mut Connection<S>,
     sql: &str,
@@ -196,7 +196,7 @@ fn insert_many<S: Alter + Drop>(
     }
 }
 
-/// Whether a query with these values shows a row.
+/// Whether a query with these values returns a row.
 fn shows<S: Alter + Drop>(
     conn: &mut Connection<S>,
     sql: &str,
@@ -211,7 +211,8 @@ fn shows<S: Alter + Drop>(
     }
 }
 
-/// Makes the table of this name by this statement, if it is not there. If it is, the same statement made it.
+/// Creates the table of this name by this statement, if it is not there. If it is, the same statement must have
+/// created it.
 fn make<S: Alter + Drop>(
     alloc: Global,
     conn: &mut Connection<S>,
@@ -228,20 +229,20 @@ fn make<S: Alter + Drop>(
     }
 }
 
-/// What is there is not as the table was made.
-fn malformed() -> TableError
+/// The error for a value that a table of this form cannot have.
+fn malformed_error() -> TableError
     ensures { IsNamed result }
 {
     TableError::Refused("the database is malformed")
 }
 
-/// The table that is there is another one, which this SQL made.
+/// The error for another table of this name: the SQL that made it.
 fn another(text: Vec<u8>) -> OpenError
     ensures { IsNamedAtOpening result }
 {
     match String::from_utf8(text) {
         Ok(text) => OpenError::Another(text),
-        Err(_) => OpenError::Table(malformed()),
+        Err(_) => OpenError::Table(malformed_error()),
     }
 }
 
@@ -258,7 +259,7 @@ fn definition<S: Alter + Drop>(
     text_of(alloc, conn, KNOWN, &[ValueRef::Text(name.as_bytes())])
 }
 
-/// The text that is the first value of the first row that a query shows; none if it shows no row.
+/// The text that is the first value of the first row of a query; none if it returns no row.
 fn text_of<S: Alter + Drop>(
     alloc: Global,
     conn: &mut Connection<S>,
@@ -276,11 +277,11 @@ fn text_of<S: Alter + Drop>(
     };
     match row.get_ref(0) {
         Ok(ValueRef::Text(text)) => Ok(Some(Vec::from_slice(alloc, text)?)),
-        _ => Err(malformed()),
+        _ => Err(malformed_error()),
     }
 }
 
-/// Why the database refuses, by the name of its error.
+/// The name of an error of the database.
 fn reason(error: Error) -> &'static str {
     match error {
         Error::SqliteFailure(code) => code_reason(code),

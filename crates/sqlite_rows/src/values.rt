@@ -40,7 +40,7 @@ fn push_row<'a>(values: &mut Vec<ValueRef<'a>>, row: &'a Row) -> Result<(), Tabl
     Ok(push_values(values, &row.cells)?)
 }
 
-/// The numbers of a key.
+/// Appends the numbers of a key.
 fn push_key(values: &mut Vec<ValueRef<'_>>, first: u64, second: u64) -> Result<(), TableError>
     ensures { OnOk result (bound values.new.items ≡ bound values.old.items ++ key_values (first, second)) }
 {
@@ -85,7 +85,7 @@ pub fn values_of_post<'a>(
     Ok(values)
 }
 
-/// Values, in order.
+/// Appends the values, in order.
 fn push_values<'a>(values: &mut Vec<ValueRef<'a>>, cells: &'a [Cell]) -> Result<(), AllocError>
     ensures { OnOk result (bound values.new.items ≡ bound values.old.items ++ values_of (cells_of cells.now)) }
 {

@@ -20,13 +20,13 @@ use Rattle.stream_confirm.specs.declared.error.RoundError.{RoundError}
 use Rattle.stream_confirm.specs.declared.error.RoundError.TheVariants as ends
 
 module _ {R : Type 0} (with_verdict : R → List ℕ × Pairs → Verdict → R) (settings : Settings) where
-  -- this answer to what was asked brought the worker on
+  -- the worker took this reply to its command
   abbrev pub TakesConfirmed : wire.Answer → Standing R → Standing R → Asked → Progress → Type 0
   TakesConfirmed a y x question p = (question ≡ y.asked)
       × Went with_verdict settings y.asked a y.machine x.machine y.history x.history p
       × (x.group ≡ group_after settings y.group y.asked a) × (x.asked ≡ Nothing)
 
-  -- it did not, for a reason that the error says, and the worker begins again
+  -- the reply is an error to it, which is returned, and the worker begins again
   abbrev pub TakesNot : wire.Answer → Standing R → Standing R → RunError → Type 0
   TakesNot a y x (causes.Answer e) = (z : Standing R)
       × Failed with_verdict settings y.asked a y.machine z.machine y.history z.history e.error
@@ -38,20 +38,20 @@ module _ {R : Type 0} (with_verdict : R → List ℕ × Pairs → Verdict → R)
 
 module _ {R : Type 0} (with_verdict : R → List ℕ × Pairs → Verdict → R) (with_commit : R → R) (settings : Settings)
     (wait : Wait) (old new : Link) (w x : Standing R) where
-  -- one round was made, and replicas have what it asked
+  -- one round was made, and replicas have its command
   pub record IsConfirmedRound (question : Asked) (p : Progress) : Type 0 where
     pub link : Link
     pub turned : Turned with_verdict with_commit settings old link w x question p
     pub confirmed : IsConfirmed wait link new
 
-  -- one round failed, though replicas have what it asked
+  -- one round failed, though replicas have its command
   pub record IsConfirmedFailure (e : RunError) : Type 0 where
     pub link : Link
     pub fails : Fails with_verdict with_commit settings old link w x e
     pub confirmed : IsConfirmed wait link new
 
-  -- it asked, and this reply came, which is passed over, since it is not known that replicas have what it asked. What
-  -- was done before stays, nothing is told to the handler, and the worker begins again
+  -- it sent a command, and received this reply, which is discarded, since it is not known that replicas have the
+  -- command. Earlier work stays, the handler receives nothing, and the worker begins again
   pub record IsUnconfirmedRound (e : ConfirmError) : Type 0 where
     pub link : Link
     pub standing : Standing R
@@ -60,7 +60,7 @@ module _ {R : Type 0} (with_verdict : R → List ℕ × Pairs → Verdict → R)
     pub unconfirmed : IsUnconfirmed wait link new e
     pub stands : x ≡ record standing { machine = begins_again standing.machine }
 
-  -- the round had no reply; or it had one, which does not bring it on, or which is not confirmed
+  -- the round had no reply; or one that is an error to the worker, or that is not confirmed
   abbrev pub FailsConfirmed : RoundError → Type 0
   FailsConfirmed (ends.Run e) = FailsUnanswered with_commit settings old new w x e ⊎ IsConfirmedFailure e
   FailsConfirmed (ends.Unconfirmed e) = IsUnconfirmedRound e

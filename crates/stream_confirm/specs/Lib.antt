@@ -1,2 +1,2 @@
--- What the contracts of a confirmed round speak of.
+-- The definitions that the contracts of a confirmed round use.
 pub mod Confirmed

@@ -1,16 +1,16 @@
-//! Why a round is not confirmed, or breaks off.
+//! Errors of a confirmed round.
 use stream_feed::ConfirmError;
 use stream_worker::RunError;
 use thiserror::Error;
 
-/// Why a worker whose rounds are to be confirmed does not go on over a connection.
+/// Why a worker with confirmed rounds stopped using a connection.
 #[derive(Debug, Drop, Error)]
 pub enum RoundError {
     /// The round broke off.
     #[error("{0}")]
     Run(RunError),
-    /// Not as many replicas as are wanted have what was asked, as far as is known. The handler was told of
-    /// nothing in this round.
+    /// Fewer replicas than required acknowledged the command, as far as is known. The handler received nothing in this
+    /// round.
     #[error("{0}")]
     Unconfirmed(ConfirmError),
 }

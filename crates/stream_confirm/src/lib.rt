@@ -1,5 +1,5 @@
-//! Rounds of a worker that replicas confirm: its handler is told of an entry only after as many replicas as are wanted
-//! have that it was delivered. So no failover to one of these hands the entry out again as new.
+//! Rounds of a worker that replicas confirm: its handler receives an entry only after the required number of replicas
+//! have its delivery. So no failover to one of these delivers the entry again as new.
 //!
 //! `wait` and `wait_aof` are the commands WAIT and WAITAOF themselves.
 #![tactic(auto)]

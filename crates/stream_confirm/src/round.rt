@@ -12,13 +12,12 @@ use std::io::{Read, Write};
 use stream_feed::{Wait, confirm};
 use stream_worker::{Handler, Round, RunError, Worker};
 
-/// Makes one round, as `Worker::round` does, and asks WAIT before its reply is taken. So the handler is
-/// told of its entries only after as many replicas as are wanted have that they were delivered, and
-/// acknowledgements are confirmed too.
+/// Makes one round, as `Worker::round` does, and sends WAIT before its reply is taken. So the handler receives entries
+/// only after the required number of replicas have their delivery, and acknowledgements are confirmed too.
 ///
-/// If fewer have it, or the server does not say, the error is `Unconfirmed`: the reply is passed over,
-/// and what it handed out is pending. After an `Err` the worker begins again with what is pending for it,
-/// unless it is `Run` of `Request`: then nothing went out.
+/// If fewer have it, or WAIT fails, the error is `Unconfirmed`: the reply is discarded, and its entries stay pending.
+/// After an `Err` the worker reads its own pending entries again, unless it is `Run` of `Request`: then nothing was
+/// sent.
 pub fn round_confirmed<H: Handler, R: Read + Drop, W: Write + Drop>(
     alloc: Global,
     connection: &mut Connection<R, W>,

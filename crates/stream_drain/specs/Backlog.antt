@@ -1,4 +1,4 @@
--- What the program hears of the backlog of its group.
+-- How the program reads the backlog of its group.
 use Rattle.std.specs.Prelude.{◌≡◌, ℕ, List, [], ◌∷◌, Option, Some, None, option_map, Result, Ok, Err, codes}
 use Rattle.std.specs.Prelude.{string_bytes}
 use Rattle.std.specs.List.{find}
@@ -11,20 +11,20 @@ use Rattle.redis_streams.specs.InfoRefusal.{RefusesGroups}
 use Rattle.stream_drain.specs.declared.backlog.Backlog.{Backlog}
 use Rattle.stream_drain.specs.declared.backlog.Watched.{Watched}
 
--- what this group has still to do
+-- the backlog of this group
 abbrev pub left_to : Group → Backlog
 left_to g = record { lag = g.lag; pending = g.pending }
 
--- what the first group of this name has still to do, if there is one
+-- the backlog of the first group of this name, if there is one
 abbrev pub left_in : List ℕ → List Group → Option Backlog
 left_in name groups = option_map left_to (find (λ g. bytes_eq g.name name) groups)
 
--- the command that asks for the groups of the watched stream
+-- the command for the groups of the watched stream
 abbrev pub groups_asked : Watched → List (List ℕ)
 groups_asked w = codes "XINFO" ∷ codes "GROUPS" ∷ string_bytes w.key ∷ []
 
--- if no group is watched, nothing is asked; else that command is asked, and this is what its reply says of the group,
--- or why it has none
+-- if no group is watched, no command is sent; else that command is sent, and this is the backlog in its reply, or the
+-- error
 abbrev pub Hears : Option Watched → Link → Link → Result (Option Backlog) AskError → Type 0
 Hears None old new heard = (heard ≡ Ok None) × (new ≡ old)
 Hears (Some w) old new (Ok backlog) = (groups : List Group)

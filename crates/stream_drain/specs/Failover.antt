@@ -22,7 +22,7 @@ use Rattle.stream_drain.specs.Once.{written_as}
 use Rattle.stream_drain.specs.Resumed.{BeginsWithLast, KnowsItsFile}
 use Rattle.stream_drain.specs.Written.{Written, committed_with, lines_in, written_too}
 
--- how the program keeps entries, as lines of text or of JSON
+-- the form of the program's lines, text or JSON
 abbrev pub keeps_lines : Bool → Keeps Written
 keeps_lines json = record {
   with_verdict = written_too;
@@ -30,12 +30,13 @@ keeps_lines json = record {
   written = λ lines file. written_as json (record new_consumer { lines = lines; file = file });
 }
 
--- the law: it looks up
+-- the law: it finds out for each entry whether its file has it
 abbrev pub LinesLookUp : Type 0
 LinesLookUp = (json : Bool) → LooksUp (keeps_lines json)
 
--- the law: the start of the program after a crash is a start of `worker_failover`. The premises are that the file is the lines of
--- the entries that the crash leaves, that the ids of the file are known, and that it reads back the lines of the last commit
+-- the law: the start of the program after a crash is a start of `worker_failover`. The premises are that the file is
+-- the lines of the entries that the crash leaves, that the ids of the file are known, and that it reads back the lines
+-- of the last commit
 abbrev pub StartsOverTheModel : Type 0
 StartsOverTheModel = (number : ℕ) (settings : Settings) (json : Bool) (known : Id → Bool) (c : Consumer Pairs) (kept : ℕ)
     (worker : Worker) (history : Written) → added_last c kept ≤ number
@@ -53,15 +54,15 @@ LinesOnce = (json : Bool) (s : Setting Pairs) (wait : Option Wait) (settings : S
     (w : Standing Written) → Runs (keeps_lines json) s wait settings events w
     → HasLines json w (file_after s events) × Once (ids_of (file_after s events))
 
--- the law: if the program and the producer ask WAIT, each entry of the file is in the log, with its own fields, after any
--- failover, and comes to nobody as new
+-- the law: if the program and the producer send WAIT, each entry of the file is in the log, with its own fields, after
+-- any failover, and is delivered to nobody as new
 abbrev pub LinesAreOfTheLog : Type 0
 LinesAreOfTheLog = (json : Bool) (s : Setting Pairs) (wait : Wait) (settings : Settings) (events : List (Event Pairs))
     (w : Standing Written) → Runs (keeps_lines json) s (Some wait) settings events w → ProducerAlwaysWaits events
     → HasLines json w (file_after s events) × ((e : Entry) → Among e (file_after s events)
     → Among e (log (after s events).now) × (Among e (after s events).now.stream.fresh → ⊥))
 
--- the law: then each record that the producer took to be in the stream is still to come, or pending, or a line of the file,
+-- the law: then each record that the producer counted as added is not yet delivered, or pending, or a line of the file,
 -- or was deleted, whatever happened later, if nobody else adds or acknowledges
 abbrev pub LinesLoseNothing : Type 0
 LinesLoseNothing = (json : Bool) (s : Setting Pairs) → Fit s → (wait : Wait) (settings : Settings)
@@ -71,8 +72,8 @@ LinesLoseNothing = (json : Bool) (s : Setting Pairs) → Fit s → (wait : Wait)
     → Among e (take (known_in (after s earlier).now.producer.stage) (entries s.base s.records))
     → HasLines json w (file_after s (earlier ++ later)) × IsKept (after s (earlier ++ later)).now e
 
--- the law: if the producer said once that all is in, then when the stream is drained, and nothing is deleted, the file has a
--- line of each record, once
+-- the law: if the producer once reported that all records are added, the stream is drained, and nothing is deleted,
+-- then the file has a line of each record, once
 abbrev pub LinesAreTheRecords : Type 0
 LinesAreTheRecords = (json : Bool) (s : Setting Pairs) → Fit s → (wait : Wait) (settings : Settings)
     (earlier later : List (Event Pairs)) (w : Standing Written)

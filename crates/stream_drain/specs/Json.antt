@@ -1,4 +1,4 @@
--- Tokens of JSON that stand in one line.
+-- JSON tokens within one line.
 use Rattle.std.specs.Prelude.{List, Bool, true, false}
 use Rattle.std.specs.List.{list_all}
 use Rattle.json.specs.Token.{Token, begin_object, end_object, begin_array, end_array}

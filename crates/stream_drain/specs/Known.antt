@@ -1,4 +1,4 @@
--- Ids that are looked up, and the entries that get a line.
+-- Known ids, and the entries that get a line.
 use Rattle.std.specs.Prelude.{◌||◌, ℕ, List, [], ◌∷◌, Bool, false, Option, Some, None, if◌then◌else◌, option_map}
 use Rattle.std.specs.Str.{bytes_eq}
 use Rattle.known_ids.specs.Known.{Place, knows, places_in}
@@ -6,7 +6,7 @@ use Rattle.known_ids.specs.declared.known.KnownIds.{KnownIds}
 use Rattle.line_log.specs.EntryLine.{Entry}
 use Rattle.stream_group.specs.Worker.{Id}
 
--- whether an id is known: that of a line that is there, or is gathered. None if no entry is looked up
+-- whether an id is known: that of a line that is committed or gathered; none without `--look-up`
 abbrev pub Known : Type 0
 Known = Option (Id → Bool)
 
@@ -15,15 +15,15 @@ abbrev pub is_known : Known → Id → Bool
 is_known None id = false
 is_known (Some known) id = known id
 
--- with this id too
+-- the known ids and this one
 abbrev pub known_too : Known → Id → Known
 known_too known id = option_map (λ before other. bytes_eq id other || before other) known
 
--- of these numbers
+-- the known ids of these numbers
 abbrev pub numbers_known : List Place → Known
 numbers_known places = Some (knows places)
 
--- of these ids
+-- the same of these ids
 abbrev pub known_by : Option KnownIds → Known
 known_by None = None
 known_by (Some ids) = numbers_known (places_in ids.ids.items)
@@ -33,7 +33,7 @@ abbrev pub lines_for : Known → List Entry → List Entry
 lines_for known [] = []
 lines_for known (e ∷ es) = if is_known known e.0 then lines_for known es else e ∷ lines_for (known_too known e.0) es
 
--- what is known after them
+-- the known ids after them
 abbrev pub known_after : Known → List Entry → Known
 known_after known [] = known
 known_after known (e ∷ es) = if is_known known e.0 then known_after known es else known_after (known_too known e.0) es

@@ -16,14 +16,14 @@ use Rattle.stream_worker.specs.declared.state.Settings.{Settings}
 use Rattle.stream_worker.specs.declared.worker.Progress.TheVariants.{GoesOn, Stopped}
 use Rattle.stream_drain.specs.Written.{Beginning, Written, committed_with, written_of, written_too}
 
--- it stands so in its life, with these ids of deleted entries, if its handler did something of which the lines are what
--- is gathered, and what is committed after what was there first
+-- a state of its life, with these ids of deleted entries, if its handler did entries whose lines are the gathered ones,
+-- and the ones committed after the first content of the file
 pub record LivesSo (settings : Settings) (first : Beginning) (w : Standing Written) (deleted : List Id) : Type 0 where
   pub doings : Doings
   pub lives : Lives settings (with_doings w doings) deleted
   pub written : w.history ≡ written_of first doings
 
--- a new worker, whose handler has gathered nothing, with so much in its file
+-- a new worker, whose handler has gathered nothing, with this in its file
 abbrev pub newborn_with : Settings → Beginning → Standing Written
 newborn_with settings first = record {
   machine = start settings.every;
@@ -32,16 +32,16 @@ newborn_with settings first = record {
   history = record { json = first.json; known = first.known; loose = []; committed = first.first };
 }
 
--- if what is written are the lines of these doings, this way leads to what is written then, the lines of more doings
+-- if the written lines are those of these doings, this way leads to the lines of more doings
 abbrev pub LeadsSo : Way → Link → Link → Standing Written → Standing Written → Beginning → Doings → Type 0
 LeadsSo way old new w x first d = loops.LeadsSo written_of way old new w x first d
 
--- so it is, whatever was in the file first and was done since
+-- the same, whatever was in the file first and was done since
 abbrev pub Leads : Way → Link → Link → Standing Written → Standing Written → Type 0
 Leads way old new w x = loops.Leads written_of way old new w x
 
--- the law: so a worker begins; each round is such a way; and where it lives at first it lives after such rounds, where
--- just those entries were deleted meanwhile of which the replies in these rounds said so
+-- the law: a worker begins in such a state; each round is such a way; and from a state of its life such rounds lead to
+-- one, with exactly the deleted entries that the replies of these rounds report
 pub record RoundsAreLived : Type 0 where
   pub begins : (settings : Settings) (first : Beginning) → LivesSo settings first (newborn_with settings first) []
   pub goes_on : (settings : Settings) (old new : Link) (w x : Standing Written) (asked : Asked)

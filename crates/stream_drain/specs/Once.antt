@@ -1,4 +1,4 @@
--- No id is twice in the file of a worker that looks entries up, whatever the server hands out.
+-- No id is twice in the file of a worker with `--look-up`, whatever the server delivers.
 use Rattle.std.specs.Prelude.{◌≡◌, ℕ, List, [], Bool, Some}
 use Rattle.line_log.specs.EntryLine.{Entry}
 use Rattle.line_log.specs.Holds.{with_more}
@@ -24,9 +24,9 @@ abbrev pub over_file : Bool → List Entry → Written
 over_file json es =
     record { json = json; known = Some (listed (ids_in es)); loose = []; committed = Some (lines_in json es) }
 
--- where a worker that looks entries up may stand. At first its file is the lines of entries, and no id is there twice.
--- In each round any reply brings it on, or the round fails. At any time it may end or crash: then its file has what was
--- committed and the first so many of the lines that were gathered, and another worker is started over it
+-- the states of a worker with `--look-up`. At first its file is the lines of entries, and no id is there twice. In each
+-- round it takes any reply, or the round fails. At any time it may end or crash: then its file has the committed lines
+-- and the first ones of the gathered lines, and another worker is started over it
 pub data Reaches (json : Bool) : Standing Written → Type 0 where
   begins : (es : List Entry) (w : Standing Written) → Once (ids_in es) → w.history ≡ over_file json es → Reaches json w
   turns : (settings : Settings) (w x : Standing Written) (old new : Link) (q : Asked) (p : Progress) → Reaches json w
@@ -38,7 +38,7 @@ pub data Reaches (json : Bool) : Standing Written → Type 0 where
       → with_more (lines_in json kept) w.history.committed ≡ Some (lines_in json es) → x.history ≡ over_file json es
       → Reaches json x
 
--- what is committed is the lines of entries, and no id is there twice
+-- the committed text is the lines of entries, and no id is there twice
 pub record HasEachOnce (json : Bool) (w : Standing Written) : Type 0 where
   pub es : List Entry
   pub committed : w.history.committed ≡ Some (lines_in json es)
@@ -48,13 +48,13 @@ pub record HasEachOnce (json : Bool) (w : Standing Written) : Type 0 where
 abbrev pub NoIdIsTwice : Type 0
 NoIdIsTwice = (json : Bool) (w : Standing Written) → Reaches json w → HasEachOnce json w
 
--- the law: a worker that begins over the lines of entries, whose ids are known, begins so
+-- the law: a worker that begins over the lines of entries, whose ids are known, begins in such a state
 abbrev pub StartsLookingUp : Type 0
 StartsLookingUp = (number : ℕ) (settings : Settings) (json : Bool) (known : Id → Bool) (es : List Entry) (w : Standing Written)
     → KnowsItsFile json (lines_in json es) (Some known)
     → BeginsWithLast number settings json (Some known) (lines_in json es) w → w.history ≡ over_file json es
 
--- what a handler has written that gathered the lines of this consumer of `stream_failover`, over its file
+-- the state of a handler that gathered the lines of this consumer of `stream_failover`, over its file
 abbrev pub written_as : Bool → Consumer Pairs → Written
 written_as json c = record {
   json = json;
@@ -63,8 +63,8 @@ written_as json c = record {
   committed = Some (lines_in json c.file);
 }
 
--- the law: the entries of a reply, a commit, and a crash with the start after it change what the handler has written as
--- they change the consumer of `stream_failover`
+-- the law: the entries of a reply, a commit, and a crash with the start after it change the handler's lines as they
+-- change the consumer of `stream_failover`
 pub record LooksUpAsTheModel : Type 0 where
   pub reply : (json : Bool) (c : Consumer Pairs) (a : Answer Pairs) (verdicts : List Verdict)
       → with_all written_too (written_as json c) (told_in (entries_in a) verdicts)

@@ -1,11 +1,11 @@
--- What the program is to do, by what clap found in its command line.
+-- The options of the program, by the matches of clap in its command line.
 use Rattle.std.specs.Prelude.{◌≡◌, ◌≢◌, None, codes}
 use Rattle.clap.specs.declared.parser.matches.Found.{Found}
 use Rattle.command_lines.specs.Worker.{AreSettings, GivesUp, IsFlag, IsWord, Waits}
 use Rattle.stream_drain.specs.declared.options.Options.{Options}
 
--- the worker is that of the line, and writes to FILE; each flag is that of its name; entries are given up by `--dead`, and
--- rounds confirmed by `--wait`, of which a line has one at most
+-- the worker's settings are those of the command line, and it writes to FILE; each flag is that of its name; entries
+-- are given up by `--dead`, or rounds are confirmed by `--wait`, not both
 pub record AreOptions (found : Found) (o : Options) : Type 0 where
   pub settings : AreSettings (codes "count") 1 10000 found o.settings
   pub path : IsWord found (codes "FILE") o.path

@@ -1,11 +1,11 @@
--- What the program says of its progress.
+-- The progress that the program prints.
 use Rattle.std.specs.Prelude.{◌==◌, ℕ, List, Option, Some, None, ◌++◌, codes, decimal, if◌then◌else◌}
 
--- a number and what it counts, in the singular or the plural
+-- a number and its noun, in the singular or the plural
 abbrev pub counted : ℕ → List ℕ → List ℕ → List ℕ
 counted number one many = decimal number ++ (if number == 1 then one else many)
 
--- so many entries and batches, and so many letters where there may be any
+-- the number of entries, of batches, and of letters if any may be sent
 abbrev pub report_text : ℕ → ℕ → Option ℕ → List ℕ
 report_text entries batches None = counted entries (codes " entry") (codes " entries") ++ codes " in "
     ++ counted batches (codes " batch") (codes " batches")

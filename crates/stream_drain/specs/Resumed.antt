@@ -1,4 +1,4 @@
--- Where a worker begins that acknowledges first what the last lines of its file say.
+-- The start of a worker that first acknowledges the entries of the last lines of its file.
 use Rattle.std.specs.Prelude.{◌≡◌, ◌≤◌, ◌⊎◌, ◌&&◌, ◌||◌, ◌==◌, ℕ, nat_le, List, [], ◌∷◌, ◌++◌, length, map, Bool, Some, None}
 use Rattle.line_log.specs.EntryLine.{Entry}
 use Rattle.line_log.specs.LastLines.{last_of, lines_of}
@@ -25,28 +25,28 @@ ids_in es = map (λ e. e.0) es
 abbrev pub is_of_id : ℕ → Bool
 is_of_id b = (nat_le 48 b && nat_le b 57) || (b == 45)
 
--- the line tells this id: wherever it is the line of an entry, that is the id of the entry
+-- the line has this id: if it is the line of an entry, that is the id of the entry
 abbrev pub Tells : Bool → List ℕ → Id → Type 0
 Tells json line id = (e : Entry) → line_in json e ≡ line → e.0 ≡ id
 
--- each line tells the id at its place
+-- each line has the id at its place
 abbrev pub TellEach : Bool → List (List ℕ) → List Id → Type 0
 TellEach json [] [] = Unit {0}
 TellEach json [] (id ∷ ids) = ⊥
 TellEach json (line ∷ lines) [] = ⊥
 TellEach json (line ∷ lines) (id ∷ ids) = Tells json line id × TellEach json lines ids
 
--- so many lines stand last, or fewer, and nothing before them
+-- the last lines, this number of them; or fewer, and there is nothing before them
 abbrev pub AreLast : ℕ → List ℕ → List Entry → Type 0
 AreLast number first es = (length es ≡ number) ⊎ ((first ≡ []) × (length es ≤ number))
 
--- the ids that are known at first: just those of the lines of the file, wherever these are of entries
+-- the ids known at first: exactly those of the lines of the file, if these are lines of entries
 abbrev pub KnowsItsFile : Bool → List ℕ → Known → Type 0
 KnowsItsFile json bytes None = Unit {0}
 KnowsItsFile json bytes (Some known) = (es : List Entry) → lines_of bytes ≡ map (line_in json) es
     → (id : Id) → known id ≡ listed (ids_in es) id
 
--- a worker that is to acknowledge these ids first, whose handler has gathered nothing, with so much in its file
+-- a worker that acknowledges these ids first, whose handler has gathered nothing, with this in its file
 abbrev pub resumed_so : Settings → Bool → Known → List Id → List ℕ → Standing Written
 resumed_so settings json known ids committed = record {
   machine = record (start settings.every) { to_acknowledge = ids };
@@ -55,28 +55,28 @@ resumed_so settings json known ids committed = record {
   history = record { json = json; known = known; loose = []; committed = Some committed };
 }
 
--- a worker begins so with its file. If nothing is looked up: wherever the file is whole lines, of which the last so many
--- are those of entries, it lives so as one that committed these entries. Else: wherever the file is the lines of entries,
--- whose ids are known, it lives so as one that committed the last of them
+-- the start of a worker with its file. Without `--look-up`: if the file is whole lines, of which the last ones are
+-- those of entries, the state is one after these entries were committed. With it: if the file is the lines of entries,
+-- whose ids are known, the state is one after the last of them were committed
 abbrev pub BeginsSo : ℕ → Settings → Bool → Known → List ℕ → Standing Written → Type 0
 BeginsSo number settings json None committed w = (first : List ℕ) (es : List Entry) → AreLines first
     → committed ≡ first ++ lines_in json es → AreLast number first es → LivesSo settings (with_bytes json None first) w []
 BeginsSo number settings json (Some known) committed w = (es : List Entry) → committed ≡ lines_in json es
     → KnowsItsFile json committed (Some known) → LivesSo settings (with_bytes json (Some known) committed) w []
 
--- and it begins with the ids of the last lines: wherever the file is the lines of entries, it is to acknowledge first the
--- ids of the last so many of these, in order, and its handler has gathered nothing
+-- and it begins with the ids of the last lines: if the file is the lines of entries, it first acknowledges the ids of
+-- the last ones, in order, and its handler has gathered nothing
 abbrev pub BeginsWithLast : ℕ → Settings → Bool → Known → List ℕ → Standing Written → Type 0
 BeginsWithLast number settings json known committed w = (es : List Entry) → committed ≡ lines_in json es
     → w ≡ resumed_so settings json known (ids_in (last_of number es)) committed
 
--- the law: so a worker begins that is to acknowledge the ids of these entries, whose lines are the last of its file
+-- the law: the start of a worker that acknowledges these entries, whose lines are the last of its file
 abbrev pub ResumedIsLived : Type 0
 ResumedIsLived = (settings : Settings) (json : Bool) (first : List ℕ) (es : List Entry)
     → LivesSo settings (with_bytes json None first) (resumed_so settings json None (ids_in es) (first ++ lines_in json es)) []
 
--- the law: over a file that is the lines of entries, the worker is started as `stream_system` says, with the ids of the
--- last so many of them
+-- the law: over a file that is the lines of entries, the start of the worker is that of `stream_system`, with the ids
+-- of the last ones
 abbrev pub StartsOverItsFile : Type 0
 StartsOverItsFile = (number : ℕ) (settings : Settings) (json : Bool) (known : Known) (es : List Entry) (worker : Worker)
     (history : Written) → BeginsWithLast number settings json known (lines_in json es) (standing_of worker history)

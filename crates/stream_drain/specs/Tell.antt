@@ -1,4 +1,4 @@
--- That a line tells its entry.
+-- A line determines its entry.
 use Rattle.std.specs.Prelude.{◌≡◌, ◌<◌, ℕ, List, Bool}
 use Rattle.std.specs.List.{AllByRecursion}
 use Rattle.line_log.specs.EntryLine.{Entry}
@@ -13,7 +13,7 @@ AreBytes xs = AllByRecursion (λ b. b < 256) xs
 abbrev pub IsOfBytes : Entry → Type 0
 IsOfBytes e = AllByRecursion (λ p. AreBytes p.0 × AreBytes p.1) e.1
 
--- the law: two entries with the same line, of tabs or of JSON, are the same
+-- the law: two entries with the same line, in text or in JSON, are the same
 abbrev pub LinesTellEntries : Type 0
 LinesTellEntries = (json : Bool) (a b : Entry) → IsOfBytes a → IsOfBytes b → line_in json a ≡ line_in json b → a ≡ b
 

@@ -1,4 +1,4 @@
--- What stands where the line of a known id begins.
+-- The text of the file at the offset of a known id.
 use Rattle.std.specs.Prelude.{◌≡◌, ◌-◌, ◌==◌, ◌&&◌, ◌||◌, ℕ, zero, suc, List, [], ◌∷◌, ◌++◌, length, drop, codes, Bool, true, false}
 use Rattle.std.specs.Prelude.{Option, Some, None, IfSome, if◌then◌else◌}
 use Rattle.known_ids.specs.Known.{Place, has_at, places_in}
@@ -25,11 +25,11 @@ abbrev pub ends_text : List ℕ → Bool
 ends_text [] = false
 ends_text (b ∷ rest) = (b == 9) || (b == 10)
 
--- the text begins with this line and its end
+-- the text begins with this line and its line end
 abbrev pub has_line : List ℕ → List ℕ → Bool
 has_line line text = begins line text && ends (drop (length line) text)
 
--- the text begins as a line of this id does: of JSON, or of texts that tabs separate
+-- the text begins as a line of this id does: JSON, or text with tabs
 abbrev pub has_id : Bool → Id → List ℕ → Bool
 has_id true id text = begins (codes "{\"id\":\"") text
     && (begins id (drop 7 text) && begins (codes "\",\"fields\":[") (drop (length id) (drop 7 text)))
@@ -40,26 +40,26 @@ abbrev pub found_in : Bool → Id → List ℕ → Option (List ℕ) → There
 found_in json id line None = Neither
 found_in json id line (Some text) = if has_line line text then Same else if has_id json id text then Other else Neither
 
--- what stands at a place, if a line begins there: with the first byte, or behind the end of another line
+-- the text at an offset, if a line begins there: at the first byte, or after the end of another line
 abbrev pub begun : ℕ → List ℕ → Option (List ℕ)
 begun zero bytes = Some bytes
 begun (suc k) [] = None
 begun (suc k) (b ∷ rest) = if b == 10 then Some rest else None
 
--- what stands at this place of these bytes
+-- what these bytes have at this offset
 abbrev pub there : Bool → Id → List ℕ → List ℕ → ℕ → There
 there json id line bytes at = found_in json id line (begun at (drop (at - 1) bytes))
 
--- of what is committed and of what is gathered behind it, where the file is known, and no shorter than it was
+-- of the committed text and the gathered text after it, if the file is known, and no shorter than it was
 abbrev pub OfAll : Option (List ℕ) → ℕ → List ℕ → (List ℕ → Type 0) → Type 0
 OfAll committed len batch P = IfSome committed (λ bytes. len ≡ length bytes → P (bytes ++ batch))
 
--- where the line of an entry was known to begin, this stands
+-- this is at the known offset of an entry's line
 abbrev pub Stands : There → Bool → Entry → List Place → List ℕ → Type 0
 Stands found json e places bytes = (n at : ℕ) × (number_of e.0 ≡ Some n) × (has_at places n at ≡ true)
     × (there json e.0 (line_in json e) bytes at ≡ found)
 
--- what is found there if an entry is not done for this
+-- what is found there if an entry is not done for this fault
 abbrev pub Finds : Fault → There → Type 0
 Finds (Log error) found = Unit {0}
 Finds NotAnId found = ⊥
@@ -73,14 +73,14 @@ Says NotAnId json e places bytes = number_of e.0 ≡ None
 Says OtherFields json e places bytes = Stands Other json e places bytes
 Says Changed json e places bytes = Stands Neither json e places bytes
 
--- the log did not take it
+-- the log failed
 abbrev pub IsOfLog : Fault → Type 0
 IsOfLog (Log error) = Unit {0}
 IsOfLog NotAnId = ⊥
 IsOfLog OtherFields = ⊥
 IsOfLog Changed = ⊥
 
--- why an entry was not done, if entries are looked up, and if they are not
+-- why an entry was not done, with `--look-up` and without
 abbrev pub Explains : Fault → Bool → Entry → Option KnownIds → Option (List ℕ) → List ℕ → Type 0
 Explains fault json e None committed batch = IsOfLog fault
 Explains fault json e (Some ids) committed batch =
@@ -90,7 +90,7 @@ Explains fault json e (Some ids) committed batch =
 abbrev pub HasItsLine : Bool → Entry → Option (List ℕ) → List ℕ → Type 0
 HasItsLine json e committed batch = IfSome committed (λ bytes. HasLine (line_in json e) (bytes ++ batch))
 
--- where the lines of the known ids begin: just where those of the file do
+-- the offsets of the known ids: exactly those of the lines of the file
 abbrev pub KnowsPlaces : Bool → List ℕ → Option KnownIds → Type 0
 KnowsPlaces json bytes None = Unit {0}
 KnowsPlaces json bytes (Some ids) = IfSome (told json 0 (lines_of bytes))

@@ -1,4 +1,4 @@
--- A turn of the program: a round, and commands that only look or send letters before it and after it.
+-- A turn of the program: a round, with commands that only read or send letters before it and after it.
 use Rattle.redis_connection.specs.Link.{Link}
 use Rattle.stream_confirm.specs.Confirmed.{IsConfirmedRound}
 use Rattle.stream_feed.specs.declared.wait.Wait.{Wait}
@@ -12,7 +12,7 @@ use Rattle.stream_worker.specs.declared.state.Asked.{Asked}
 use Rattle.stream_worker.specs.declared.state.Settings.{Settings}
 use Rattle.stream_worker.specs.declared.worker.Progress.{Progress}
 
--- the round of a turn was confirmed, as `--wait` asks
+-- the round of a turn was confirmed, if `--wait` is given
 pub record IsConfirmedTurn (with_verdict : Written → List ℕ × Pairs → Verdict → Written)
     (with_commit : Written → Written) (settings : Settings) (wait : Wait) (old new : Link) (w x : Standing Written)
     (asked : Asked) : Type 0 where

@@ -14,11 +14,11 @@ pub record Written : Type 0 where
   pub loose : List ℕ  -- gathered and not committed
   pub committed : Option (List ℕ)  -- committed, where the file is known
 
--- what a handler has written: these ids are known, these lines are gathered, and so many bytes of its file are committed
+-- the state of a handler: these ids are known, these lines are gathered, and these bytes of its file are committed
 abbrev pub written_by : Bool → Known → List ℕ → Option (List ℕ) → ℕ → Written
 written_by json known loose file len = record { json = json; known = known; loose = loose; committed = committed_in file len }
 
--- the lines of entries, each with its end
+-- the lines of entries, each with its line end
 abbrev pub lines_in : Bool → List Entry → List ℕ
 lines_in json es = flat_map (λ e. line_in json e ++ 10 ∷ []) es
 
@@ -32,17 +32,17 @@ written_too w e done = if is_known w.known e.0 then w else line_too w e
 written_too w e left_pending = w
 written_too w e stop = w
 
--- what was gathered is committed
+-- the gathered lines are committed
 abbrev pub committed_with : Written → Written
 committed_with w = record w { loose = []; committed = with_more w.loose w.committed }
 
--- what there is as a handler begins
+-- the state in which a handler begins
 pub record Beginning : Type 0 where
   pub json : Bool
   pub known : Known
   pub first : Option (List ℕ)  -- what is committed, where the file is known
 
--- what is gathered and committed of these doings, after what there was at first
+-- the lines gathered and committed after these doings, from this beginning
 abbrev pub written_of : Beginning → Doings → Written
 written_of b d = record {
   json = b.json;
@@ -51,9 +51,9 @@ written_of b d = record {
   committed = with_more (lines_in b.json (lines_for b.known d.committed)) b.first;
 }
 
--- the law: what is gathered is the lines of what was done and not committed, in order, and what is committed is what was
--- there first and the lines of what was committed, in order, after each verdict and each commit. Each entry gets its line
--- if none is looked up
+-- the law: after each verdict and each commit, the gathered text is the lines of the entries done and not committed, in
+-- order, and the committed text is the first content and the lines of the committed entries, in order. Without
+-- `--look-up` each entry gets its line
 pub record GathersItsLines : Type 0 where
   pub verdict : (b : Beginning) (d : Doings) (e : Entry) (v : Verdict)
       → written_of b (done_too d e v) ≡ written_too (written_of b d) e v

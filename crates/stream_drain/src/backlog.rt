@@ -1,4 +1,4 @@
-//! What a group has still to do, as the server tells it.
+//! The backlog of a group: its lag and its pending entries.
 ghost use Rattle.std.specs.Prelude.{◌≡◌};
 ghost use Rattle.redis_streams.specs.InfoMeaning.{group_meaning, groups_meaning};
 ghost use Rattle.stream_drain.specs.Backlog.{left_in, left_to};
@@ -6,38 +6,38 @@ ghost use Rattle.stream_drain.specs.Backlog.{left_in, left_to};
 use redis_streams::{StreamInfoGroup, StreamInfoGroupsReply};
 use std::fmt;
 
-/// The group that is watched.
+/// The group whose backlog is shown.
 #[derive(Drop)]
 pub struct Watched {
-    /// The stream.
+    /// The key of the stream.
     pub key: String,
     /// The name of the group.
     pub group: String,
 }
 
-/// What a group has still to do.
+/// The backlog of a group.
 #[derive(Clone, Copy)]
 pub struct Backlog {
-    /// So many entries it has not had yet, where the server can tell.
+    /// How many entries were not delivered yet, the group's `lag`; `None` if the server returns nil.
     lag: Option<usize>,
-    /// So many entries were delivered and are not acknowledged, to all of its consumers.
+    /// How many entries are pending for all of its consumers.
     pending: usize,
 }
 
-/// The backlog of the first group of this name, as XINFO GROUPS tells it; None if there is no such group.
+/// The backlog of the first group of this name in a reply of XINFO GROUPS; `None` if there is no such group.
 pub fn backlog_in(reply: &StreamInfoGroupsReply, name: &str) -> Option<Backlog>
     ensures { result ≡ left_in name.now (groups_meaning reply.now) }
 {
     for group in &reply.groups {
         if group.name.as_str() == name {
-            return Some(backlog_of(group));
+            return Some(read_backlog(group));
         }
     }
     None
 }
 
-/// The backlog of a group, as XINFO GROUPS tells it.
-fn backlog_of(group: &StreamInfoGroup) -> Backlog
+/// The backlog of a group in a reply of XINFO GROUPS.
+fn read_backlog(group: &StreamInfoGroup) -> Backlog
     ensures { result ≡ left_to (group_meaning group.now) }
 {
     Backlog {

@@ -1,4 +1,4 @@
-//! The loop of the program: it asks, and takes the answers.
+//! The loop of the program: it sends commands and takes the replies.
 ghost use Rattle.std.specs.Prelude.{◌≡◌, IfErr, IfOk, IfSome, IsTrue, OnErr, OnOk, false};
 ghost use Rattle.stream_confirm.specs.Confirmed.{IsConfirmedRound};
 ghost use Rattle.stream_letters.specs.Besides.{Besides, BreaksBesides, LooksNot};
@@ -28,13 +28,13 @@ use stream_feed::Wait;
 use stream_letters::DeadLetterSearch;
 use stream_worker::{Asked, Handler, Pipelined, Progress, RequestError, Round, RunError, Worker};
 
-/// The limit on what a connection holds, as `Limits::default` has it.
+/// The limit on the buffer of a connection, as in `Limits::default`.
 const LARGEST: &str = "1 GiB";
 
-/// The limit on the values of a reply, as `Limits::default` has it.
+/// The limit on the values of a reply, as in `Limits::default`.
 const MOST: &str = "16,777,216";
 
-/// Drains until something fails, or until a read finds nothing new where that is asked for.
+/// Drains until something fails, or, with `until_empty`, until a read returns no new entries.
 pub fn drain<R: Read + Drop, W: Write + Drop, D: LogFile + Drop, T: Clock + Eprint + AllocGlobal>(
     rt: &T,
     connection: &mut Connection<R, W>,
@@ -68,7 +68,8 @@ pub fn drain<R: Read + Drop, W: Write + Drop, D: LogFile + Drop, T: Clock + Epri
     Err(anyhow!("the last turn came").into())
 }
 
-/// Looks for entries to give up, makes a round, or two with one write, and counts: what was asked last.
+/// Searches for entries to give up, makes a round, or two in one write, and counts. Returns the command that was sent
+/// last.
 fn turn<R: Read + Drop, W: Write + Drop, D: LogFile + Drop, T: Clock + Eprint + AllocGlobal>(
     rt: &T,
     connection: &mut Connection<R, W>,
@@ -100,7 +101,7 @@ fn turn<R: Read + Drop, W: Write + Drop, D: LogFile + Drop, T: Clock + Eprint + 
     Ok(made.round.asked)
 }
 
-/// Looks for entries that were delivered too often, where they are given up.
+/// Searches for entries that were delivered too often, if they are given up.
 fn look<R: Read + Drop, W: Write + Drop, D: LogFile + Drop>(
     alloc: Global,
     connection: &mut Connection<R, W>,
@@ -120,7 +121,7 @@ fn look<R: Read + Drop, W: Write + Drop, D: LogFile + Drop>(
     }
 }
 
-/// Makes a round that replicas confirm, or one that they need not, after which the worker goes on.
+/// Makes a round, confirmed by replicas if `--wait` is given, after which the worker goes on.
 fn any_round<R: Read + Drop, W: Write + Drop, D: LogFile + Drop>(
     alloc: Global,
     connection: &mut Connection<R, W>,
@@ -181,17 +182,17 @@ fn confirmed<R: Read + Drop, W: Write + Drop, D: LogFile + Drop>(
     }
 }
 
-/// Why a round that was to be confirmed failed.
+/// The failure of a confirmed round.
 fn unconfirmed(error: RoundError, fault: &Option<Fault>) -> Failure {
     match error {
-        RoundError::Run(error) => broken_off(error, fault),
+        RoundError::Run(error) => convert_run_error(error, fault),
         RoundError::Unconfirmed(error) => Failure::Unconfirmed(error),
     }
 }
 
-/// Makes a round, or two with one write if they may go together, after which the worker goes on.
+/// Makes a round, or two in one write if that is allowed, after which the worker goes on.
 ///
-/// They may not if entries are given up: these are looked for between an acknowledgement and a claim.
+/// It is not allowed if entries are given up: these are searched for between an acknowledgement and a claim.
 fn round<R: Read + Drop, W: Write + Drop, D: LogFile + Drop>(
     alloc: Global,
     connection: &mut Connection<R, W>,
@@ -214,7 +215,7 @@ fn round<R: Read + Drop, W: Write + Drop, D: LogFile + Drop>(
                 goes_on(made.round.progress, &lines.fault, &lines.undone)?;
                 Ok(made)
             }
-            Err(error) => Err(broken_off(error, &lines.fault)),
+            Err(error) => Err(convert_run_error(error, &lines.fault)),
         }
     } else {
         match worker.round(alloc, connection, lines) {
@@ -222,12 +223,12 @@ fn round<R: Read + Drop, W: Write + Drop, D: LogFile + Drop>(
                 goes_on(round.progress, &lines.fault, &lines.undone)?;
                 Ok(alone(round))
             }
-            Err(error) => Err(broken_off(error, &lines.fault)),
+            Err(error) => Err(convert_run_error(error, &lines.fault)),
         }
     }
 }
 
-/// A round that had a write of its own.
+/// A round with a write of its own, as a `Pipelined`.
 fn alone(round: Round) -> Pipelined
     ensures { result ≡ record { acknowledged = false; round = round } }
 {
@@ -237,7 +238,7 @@ fn alone(round: Round) -> Pipelined
     }
 }
 
-/// An error if the handler said to stop.
+/// Returns an error if the handler returned `Stop`.
 fn goes_on(
     progress: Progress,
     fault: &Option<Fault>,
@@ -248,11 +249,11 @@ fn goes_on(
 {
     match progress {
         Progress::GoesOn => Ok(()),
-        Progress::Stopped => Err(stopped(fault, undone).into()),
+        Progress::Stopped => Err(describe_stop(fault, undone).into()),
     }
 }
 
-/// If it is due: so many entries are in the file, which is shown once a second.
+/// Counts the entries in the file, and shows the counts once a second.
 fn count<R: Read + Drop, W: Write + Drop, T: Clock + Eprint + AllocGlobal>(
     rt: &T,
     connection: &mut Connection<R, W>,
@@ -273,8 +274,8 @@ fn count<R: Read + Drop, W: Write + Drop, T: Clock + Eprint + AllocGlobal>(
     }
 }
 
-/// Shows the counts, and behind them the backlog of the group, where it is watched. Where the server
-/// does not tell it, the program says why, and goes on without.
+/// Shows the counts, and the backlog of the group if it is watched. If the server does not return the backlog, the
+/// program shows the error, and goes on without it.
 fn show<R: Read + Drop, W: Write + Drop, T: Eprint + AllocGlobal>(
     rt: &T,
     connection: &mut Connection<R, W>,
@@ -302,7 +303,7 @@ fn show<R: Read + Drop, W: Write + Drop, T: Eprint + AllocGlobal>(
     }
 }
 
-/// Shows the counts, and this behind them.
+/// Shows the counts, and this text after them.
 fn say<T: Eprint, M: fmt::Display>(rt: &T, report: &Report, more: &M) -> Result<(), Failure> {
     Ok(written(rt, report, more)?)
 }
@@ -312,8 +313,8 @@ fn written<T: Eprint, M: fmt::Display>(rt: &T, report: &Report, more: &M) -> Any
     Ok(())
 }
 
-/// The backlog of the group that is watched, as the server tells it; none where none is watched, or the
-/// server has no such group.
+/// Reads the backlog of the watched group from the server; `None` if no group is watched, or the server has no such
+/// group.
 fn backlog_told<R: Read + Drop, W: Write + Drop>(
     alloc: Global,
     connection: &mut Connection<R, W>,
@@ -333,10 +334,10 @@ fn backlog_told<R: Read + Drop, W: Write + Drop>(
     }
 }
 
-/// Why a round failed.
-fn broken_off(error: RunError, fault: &Option<Fault>) -> Failure {
+/// The failure of a round.
+fn convert_run_error(error: RunError, fault: &Option<Fault>) -> Failure {
     match error {
-        RunError::Request(RequestError::NotCommitted) => not_committed(fault).into(),
+        RunError::Request(RequestError::NotCommitted) => describe_commit_error(fault).into(),
         RunError::Receive {
             error: ConnectionError::Fault(WireFault::Overfull),
             ..
@@ -353,16 +354,16 @@ fn broken_off(error: RunError, fault: &Option<Fault>) -> Failure {
     }
 }
 
-/// Why what was done was not committed.
-fn not_committed(fault: &Option<Fault>) -> Error {
+/// The error of a commit.
+fn describe_commit_error(fault: &Option<Fault>) -> Error {
     match fault {
         Some(reason) => anyhow!("cannot write the file: {reason}"),
         _ => RunError::Request(RequestError::NotCommitted).into(),
     }
 }
 
-/// Why an entry was not done, and which one if its id is known.
-fn stopped(fault: &Option<Fault>, undone: &Option<String>) -> Error {
+/// The error of an entry that was not done, with its id if it is known.
+fn describe_stop(fault: &Option<Fault>, undone: &Option<String>) -> Error {
     match (fault, undone) {
         (Some(reason), Some(id)) => anyhow!("cannot write the line of the entry {id}: {reason}"),
         (Some(reason), None) => anyhow!("cannot write a line: {reason}"),

@@ -1,4 +1,4 @@
-//! Why the program ends before it is asked to.
+//! Why the program failed.
 use anyhow::Error;
 use redis_connection::AskError;
 use stream_feed::ConfirmError;
@@ -6,22 +6,22 @@ use stream_letters::SearchError;
 use stream_worker::RunError;
 use thiserror::Error as AnError;
 
-/// Why the program ends before it is asked to.
+/// Why the program failed.
 #[derive(Debug, Drop, AnError)]
 pub enum Failure {
     /// A round broke off.
     #[error("{0}")]
     Round(RunError),
-    /// Fewer replicas than are wanted confirmed a round.
+    /// Fewer replicas than required confirmed a round.
     #[error("{0}")]
     Unconfirmed(ConfirmError),
     /// The search for dead letters broke off.
     #[error("{0}")]
     Search(SearchError),
-    /// The backlog of the group has no reply.
+    /// The backlog of the group could not be read.
     #[error("{0}")]
     Ask(AskError),
-    /// The file, the clock or standard error failed, or the program could not begin.
+    /// The file, the clock or standard error failed, or the program could not start.
     #[error("{0}")]
     Other(Error),
 }

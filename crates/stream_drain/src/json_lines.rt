@@ -24,7 +24,7 @@ pub fn json_line(alloc: Global, entry: &EntryRef<'_>) -> Result<Vec<u8>, AllocEr
     Ok(out.into_inner())
 }
 
-/// An entry as an object.
+/// Writes an entry as an object.
 fn push_entry(alloc: Global, out: &mut Writer, entry: &EntryRef<'_>) -> Result<(), AllocError>
     ensures before { out.new.before ≡ out.old.before }
     ensures tokens { OnOk result (out.new.tokens ≡ out.old.tokens ++ entry_tokens (pair_of entry.now)) }
@@ -34,7 +34,7 @@ fn push_entry(alloc: Global, out: &mut Writer, entry: &EntryRef<'_>) -> Result<(
     end(out)
 }
 
-/// The beginning of an entry, with its id, up to its fields.
+/// Writes the beginning of an entry, with its id, up to its fields.
 fn begin(out: &mut Writer, id: &str) -> Result<(), AllocError>
     ensures before { out.new.before ≡ out.old.before }
     ensures tokens { OnOk result (out.new.tokens ≡ out.old.tokens ++ begin_tokens id.now) }
@@ -43,7 +43,7 @@ fn begin(out: &mut Writer, id: &str) -> Result<(), AllocError>
     begin_fields(out)
 }
 
-/// The beginning of the fields.
+/// Writes the beginning of the fields.
 fn begin_fields(out: &mut Writer) -> Result<(), AllocError>
     ensures before { out.new.before ≡ out.old.before }
     ensures tokens { OnOk result (out.new.tokens
@@ -53,7 +53,7 @@ fn begin_fields(out: &mut Writer) -> Result<(), AllocError>
     out.begin_array()
 }
 
-/// The beginning of an object, with the id.
+/// Writes the beginning of an object, with the id.
 fn begin_id(out: &mut Writer, id: &str) -> Result<(), AllocError>
     ensures before { out.new.before ≡ out.old.before }
     ensures tokens { OnOk result (out.new.tokens
@@ -64,7 +64,7 @@ fn begin_id(out: &mut Writer, id: &str) -> Result<(), AllocError>
     out.string(id)
 }
 
-/// The end of an entry, behind its fields.
+/// Writes the end of an entry, after its fields.
 fn end(out: &mut Writer) -> Result<(), AllocError>
     ensures before { out.new.before ≡ out.old.before }
     ensures tokens { OnOk result (out.new.tokens ≡ out.old.tokens ++ end_tokens) }
@@ -73,7 +73,7 @@ fn end(out: &mut Writer) -> Result<(), AllocError>
     out.end_object()
 }
 
-/// Fields, in order.
+/// Writes fields, in order.
 fn push_fields(alloc: Global, out: &mut Writer, fields: FieldsRef<'_>) -> Result<(), AllocError>
     ensures before { out.new.before ≡ out.old.before }
     ensures tokens { OnOk result (out.new.tokens ≡ out.old.tokens ++ flat_map field_tokens fields.entry) }
@@ -84,7 +84,7 @@ fn push_fields(alloc: Global, out: &mut Writer, fields: FieldsRef<'_>) -> Result
     Ok(())
 }
 
-/// A name and its value, as an array of two.
+/// Writes a name and its value, as an array of two.
 fn push_field(alloc: Global, out: &mut Writer, name: &[u8], value: &[u8]) -> Result<(), AllocError>
     ensures before { out.new.before ≡ out.old.before }
     ensures tokens { OnOk result (out.new.tokens ≡ out.old.tokens ++ field_tokens (name.now, value.now)) }
@@ -95,7 +95,7 @@ fn push_field(alloc: Global, out: &mut Writer, name: &[u8], value: &[u8]) -> Res
     out.end_array()
 }
 
-/// A text as a string, or, where it is not UTF-8, as an object of its Base64.
+/// Writes bytes as a string, or, if they are not UTF-8, as an object with their Base64.
 fn push_text(alloc: Global, out: &mut Writer, bytes: &[u8]) -> Result<(), AllocError>
     ensures before { out.new.before ≡ out.old.before }
     ensures tokens { OnOk result (out.new.tokens ≡ out.old.tokens ++ bytes_tokens bytes.now) }
@@ -106,7 +106,7 @@ fn push_text(alloc: Global, out: &mut Writer, bytes: &[u8]) -> Result<(), AllocE
     }
 }
 
-/// Bytes as an object of their Base64.
+/// Writes bytes as an object with their Base64.
 fn push_base64(alloc: Global, out: &mut Writer, bytes: &[u8]) -> Result<(), AllocError>
     ensures before { out.new.before ≡ out.old.before }
     ensures tokens { OnOk result (out.new.tokens ≡ out.old.tokens ++ base64_tokens bytes.now) }
@@ -115,7 +115,7 @@ fn push_base64(alloc: Global, out: &mut Writer, bytes: &[u8]) -> Result<(), Allo
     push_object(out, "base64", &text)
 }
 
-/// An object of one name and its text.
+/// Writes an object of one name and its text.
 fn push_object(out: &mut Writer, name: &str, text: &str) -> Result<(), AllocError>
     ensures before { out.new.before ≡ out.old.before }
     ensures tokens { OnOk result (out.new.tokens

@@ -31,16 +31,16 @@ use thiserror::Error;
 /// Why a line was not gathered, or not committed.
 #[derive(Debug, Drop, Error)]
 pub enum Fault {
-    /// The log did not take it, or memory ran out.
+    /// The log failed, or memory ran out.
     #[error("{0}")]
     Log(LogError),
-    /// Its id is looked up, and is not as servers write one.
+    /// Its id is not as servers write one, so it cannot be searched for in the file.
     #[error("its id is not two numbers")]
     NotAnId,
-    /// Its id is known, and where the line of that begins another line of this id stands.
+    /// Its id is known, and the file has another line of this id at its offset.
     #[error("a line of its id is there with other fields")]
     OtherFields,
-    /// Its id is known, and where the line of that begins no line of this id stands.
+    /// Its id is known, and the file has no line of this id at its offset.
     #[error("the file was changed")]
     Changed,
 }
@@ -49,17 +49,17 @@ pub enum Fault {
 #[derive(Drop)]
 pub struct Lines<D: LogFile + Drop> {
     log: LineLog<D>,
-    /// Each line is JSON.
+    /// Whether each line is JSON.
     json: bool,
-    /// If each entry is looked up: the ids that have a line, also one that is gathered.
+    /// With `--look-up`: the ids that have a line, gathered ones included.
     known: Option<KnownIds>,
-    /// The line of the entry that is handled; it keeps its room for the next one.
+    /// The line of the current entry; its buffer is reused for the next one.
     text: Vec<u8>,
-    /// How many entries were handed out, how many were done, and how many of them are committed.
+    /// How many entries it received, how many were done, and how many of them are committed.
     pub seen: u64,
     pub done: u64,
     pub committed: u64,
-    /// Why it stopped, or did not commit.
+    /// The error with which it stopped, or did not commit.
     pub fault: Option<Fault>,
     /// The id of the entry at which it stopped, if there was memory to keep it.
     pub undone: Option<String>,
@@ -67,9 +67,8 @@ pub struct Lines<D: LogFile + Drop> {
 }
 
 impl<D: LogFile + Drop> Lines<D> {
-    /// Opens the log in this file, and writes into it, lines of tabs or of JSON. What is committed at first
-    /// is the whole lines that the file has. If entries are to be looked up, the file is read from its start;
-    /// it is an error if one of its lines tells no id.
+    /// Opens the log in this file, for lines of text with tabs or of JSON. The whole lines of the file are committed at
+    /// first. With `look_up` the file is read from its start; it is an error if one of its lines has no id.
     pub fn open(alloc: Global, file: D, json: bool, look_up: bool) -> Result<Lines<D>, FileError>
         requires { D.is_sound file }
         ensures new { IfOk result (λ lines. (lines.json ≡ json) × (lines.log.batch.items ≡ [])
@@ -98,8 +97,8 @@ impl<D: LogFile + Drop> Lines<D> {
         })
     }
 
-    /// The ids of the last so many lines of what is committed, in order; of all if there are fewer. It
-    /// fails where one of these lines tells no id.
+    /// The ids of the last `number` committed lines, in order; of all if there are fewer. It fails if one of these
+    /// lines has no id.
     pub fn last_ids(&self, alloc: Global, number: usize) -> AnyResult<Vec<String>>
         ensures { IfOk result (λ ids. IfSome (committed_in (D.seen self.now.log.file) self.now.log.len)
             (λ bytes. TellEach self.now.json (last_of number (lines_of bytes)) (ids_of ids))) }
@@ -108,7 +107,7 @@ impl<D: LogFile + Drop> Lines<D> {
         ids_told(alloc, &lines, self.json)
     }
 
-    /// Adds the line of an entry to the log, unless its id is known; then this line has to be there.
+    /// Adds the line of an entry to the log. If its id is known, the log must already have this line.
     fn take(&mut self, alloc: Global, entry: &EntryRef<'_>) -> Result<(), Fault>
         ensures ok { OnOk result (⟦<Lines<D> as Handler>⟧.history self.new
             ≡ written_too (⟦<Lines<D> as Handler>⟧.history self.old) (pair_of entry.now) done) }
@@ -147,8 +146,8 @@ impl<D: LogFile + Drop> Handler for Lines<D> {
 
     ghost history = { λ h. written_by h.json (known_by h.known) h.log.batch.items (D.seen h.log.file) h.log.len };
 
-    /// Gathers the line of the entry, which is done then; if it cannot, the worker stops. If its id is known, this very
-    /// line is there already, or the worker stops.
+    /// Gathers the line of the entry, which is done then; if it cannot, the worker stops. If its id is known, the log
+    /// must already have this line, or the worker stops.
     fn handle(&mut self, alloc: Global, entry: &EntryRef<'_>) -> Verdict
         ensures history { ⟦<Lines<D> as Handler>⟧.history self.new
             ≡ written_too (⟦<Lines<D> as Handler>⟧.history self.old) (pair_of entry.now) (verdict_of result) }
@@ -179,9 +178,9 @@ impl<D: LogFile + Drop> Handler for Lines<D> {
         }
     }
 
-    /// Writes the lines that were gathered, and has the disk take them in. After an Ok every crash leaves a
-    /// file that begins with what was committed before and these lines; after an `Err` what was committed
-    /// before stays, and the next commit writes these lines too.
+    /// Writes the gathered lines and syncs the file. After an Ok every crash leaves a file that begins with the lines
+    /// committed before and these lines. After an `Err` the lines committed before stay, and the next commit writes
+    /// these lines too.
     fn commit(&mut self, _alloc: Global) -> Result<(), NotCommitted>
         ensures holds { OnOk result ((lines : List ℕ)
             → Holds D.seen D.may_leave D.is_sound lines self.old.log.file self.old.log.len self.old.log.is_broken
@@ -212,7 +211,7 @@ impl<D: LogFile + Drop> Handler for Lines<D> {
     }
 }
 
-/// The ids of the lines of a file, if they are to be looked up.
+/// Reads the ids of the lines of a file, with `look_up`.
 fn ids_of<D: LogFile>(
     alloc: Global,
     file: &D,
@@ -230,8 +229,8 @@ fn ids_of<D: LogFile>(
     }
 }
 
-/// Adds the line of an entry to the log, and then its id is known, and where its line begins. If its id was known, this
-/// line has to be there.
+/// Adds the line of an entry to the log, and its id and offset to the known ones. If its id was known, the log must
+/// already have this line.
 fn add_new<D: LogFile + Drop>(
     alloc: Global,
     known: &mut KnownIds,
@@ -261,7 +260,7 @@ fn add_new<D: LogFile + Drop>(
         return Err(Fault::NotAnId);
     };
     if let Some(at) = known.place_of(number) {
-        return look_at(alloc, log, at, text, entry, json);
+        return check_line_at(alloc, log, at, text, entry, json);
     }
     known.make_room()?;
     let at = log.end()?;
@@ -270,8 +269,8 @@ fn add_new<D: LogFile + Drop>(
     Ok(())
 }
 
-/// Looks at the line of an entry whose id is known, which has to begin at this place.
-fn look_at<D: LogFile + Drop>(
+/// Checks that the log has the line of an entry with a known id at this offset.
+fn check_line_at<D: LogFile + Drop>(
     alloc: Global,
     log: &LineLog<D>,
     at: usize,
@@ -284,7 +283,7 @@ fn look_at<D: LogFile + Drop>(
     ensures why { IfErr result (λ fault. OfAll (committed_in (D.seen log.now.file) log.now.len) log.now.len
         log.now.batch.items (λ bytes. Finds fault (there json (pair_of entry.now).0 (line_in json (pair_of entry.now)) bytes at))) }
 {
-    put(alloc, text, entry, json)?;
+    set_line(alloc, text, entry, json)?;
     match what_is_at(alloc, log, at, text, entry.id().as_bytes(), json)? {
         There::Same => Ok(()),
         There::Other => Err(Fault::OtherFields),
@@ -307,13 +306,13 @@ fn add<D: LogFile + Drop>(
     ensures file { (log.new.file ≡ log.old.file) × (log.new.len ≡ log.old.len)
         × (log.new.is_broken ≡ log.old.is_broken) }
 {
-    put(alloc, text, entry, json)?;
+    set_line(alloc, text, entry, json)?;
     log.add_line(text)?;
     Ok(())
 }
 
-/// Puts the line of an entry in place of this text.
-fn put(
+/// Replaces this text by the line of an entry.
+fn set_line(
     alloc: Global,
     text: &mut Vec<u8>,
     entry: &EntryRef<'_>,
@@ -338,7 +337,7 @@ fn push_line(text: &mut Vec<u8>, entry: &EntryRef<'_>) -> Result<(), AllocError>
     push_fields(text, entry.fields())
 }
 
-/// Appends names and values, each behind a tab.
+/// Appends names and values, each after a tab.
 fn push_fields(text: &mut Vec<u8>, fields: FieldsRef<'_>) -> Result<(), AllocError>
     ensures { OnOk result (text.new.items ≡ text.old.items ++ flat_map field_text fields.entry) }
 {

@@ -1,23 +1,22 @@
-//! Drains a stream for one consumer of a group into a file, over a connection that stands at its
-//! standard input and output:
+//! Drains a stream for one consumer of a group into a file, over a connection at its standard input and output:
 //!
 //! ```text
 //! bash -c 'exec 3<>/dev/tcp/127.0.0.1/6379; stream_drain orders packers ann orders.txt <&3 >&3'
 //! ```
 //!
-//! Each entry is a line of the file: its id and its fields, in order and with repeated ones,
-//! separated by tabs. A backslash, a tab, a line feed and a carriage return in them are written as
-//! `\\`, `\t`, `\n` and `\r`. With `--json` each line is `{"id":"1-0","fields":[["name","value"],..]}`,
-//! and a text that is not UTF-8 is `{"base64":".."}` there. The lines of a batch are on the disk before
-//! its entries are acknowledged. So whatever crash comes, an entry that was added is still to come, or
-//! pending, or in the file, or was deleted; with `--dead` it may have a letter in place of a line.
+//! Each entry is a line of the file: its id and its fields, in order and with repeated ones, separated by tabs. A
+//! backslash, a tab, a line feed and a carriage return in them are written as `\\`, `\t`, `\n` and `\r`. With `--json`
+//! each line is `{"id":"1-0","fields":[["name","value"],..]}`, and a text that is not UTF-8 is `{"base64":".."}` there.
+//! The lines of a batch are on the disk before its entries are acknowledged. So after any crash an entry that was added
+//! is not yet delivered, or pending, or in the file, or was deleted; with `--dead` it may have a letter in place of a
+//! line.
 //!
-//! A program that is started again first acknowledges the entries of the last lines of its file. So no
-//! entry is a line twice, if the file is this consumer's alone.
+//! A program that is started again first acknowledges the entries of the last lines of its file. So no entry has two
+//! lines, if no other consumer writes to the file.
 //!
-//! With the first batch, and then once a second, it writes to standard error what it did and what the group has still to do,
-//! and at the end what it did; with `--quiet` only at the end. It ends with 0 if `--until-empty` is there and
-//! nothing new came, with 2 if a word is wrong, and else with 1 and the reason. `--help` tells its words.
+//! With the first batch, and then once a second, it prints its counts and the group's backlog on standard error, and at
+//! the end its counts; with `--quiet` only at the end. The exit status is 0 if `--until-empty` is given and a read
+//! returned nothing new, 2 if an argument is wrong, and else 1 with the reason. `--help` prints its arguments.
 #![tactic(auto)]
 
 ghost use Rattle.std.specs.Prelude.{◌≡◌, IfOk, OnErr, OnOk, is_some};
@@ -54,7 +53,7 @@ use stream_letters::{DeadLetterSearch, GiveUp};
 use stream_worker::Settings;
 
 fn main(rt: HostRuntime) -> Result<ExitCode> {
-    let words = words_of(&rt)?;
+    let words = read_arguments(&rt)?;
     match options_of(rt.alloc(), &words) {
         Ok(options) => end_with(&rt, drain_by(&rt, options)),
         Err(error) => Ok(tell(rt.alloc(), &rt, &error)?),
@@ -74,16 +73,16 @@ fn end_with<T: Eprint + AllocGlobal>(rt: &T, ended: Result<(), Failure>) -> Resu
     Ok(ExitCode::FAILURE)
 }
 
-/// What is shown of a failure: an error of the server whole, and what to do about it. A control character, which could
+/// The text of a failure: an error of the server in full, and what to do about it. A control character, which could
 /// steer a terminal, is shown as `?`.
 fn text_of(alloc: Global, failure: &Failure) -> Result<String, AllocError> {
     if let Failure::Other(error) = failure {
         let text = format!(in alloc; "{error:?}")?;
-        return masked(alloc, &text, true);
+        return mask_controls(alloc, &text, true);
     }
     let text = format!(in alloc; "{failure}")?;
-    let mut text = masked(alloc, &text, false)?;
-    let remedy = match code_in(&text) {
+    let mut text = mask_controls(alloc, &text, false)?;
+    let remedy = match find_code(&text) {
         Some(code) => remedy_of(code),
         None => None,
     };
@@ -95,13 +94,13 @@ fn text_of(alloc: Global, failure: &Failure) -> Result<String, AllocError> {
 }
 
 /// The code of the server's error that a text names.
-fn code_in(text: &str) -> Option<&str> {
+fn find_code(text: &str) -> Option<&str> {
     let (_, error) = text.split_once("the server answers ")?;
     error.split(' ').next()
 }
 
-/// The text with `?` for each control character. Line feeds may stay.
-fn masked(alloc: Global, text: &str, keeps_lines: bool) -> Result<String, AllocError> {
+/// The text with `?` for each control character. Line feeds are kept if `keeps_lines`.
+fn mask_controls(alloc: Global, text: &str, keeps_lines: bool) -> Result<String, AllocError> {
     let mut shown = String::new(alloc);
     for letter in text.chars() {
         let is_shown = !letter.is_control() || keeps_lines && letter == '\n';
@@ -110,8 +109,8 @@ fn masked(alloc: Global, text: &str, keeps_lines: bool) -> Result<String, AllocE
     Ok(shown)
 }
 
-/// The words that the program is called with.
-fn words_of(rt: &HostRuntime) -> Result<Vec<String>> {
+/// The arguments of the program.
+fn read_arguments(rt: &HostRuntime) -> Result<Vec<String>> {
     let mut words = Vec::new(rt.alloc());
     for word in env::args(rt)?.skip(1) {
         words.push(word)?;
@@ -119,7 +118,7 @@ fn words_of(rt: &HostRuntime) -> Result<Vec<String>> {
     Ok(words)
 }
 
-/// Drains as these options say, over standard input and output.
+/// Drains by these options, over standard input and output.
 fn drain_by(rt: &HostRuntime, options: Options) -> Result<(), Failure> {
     let Options {
         mut settings,
@@ -132,15 +131,15 @@ fn drain_by(rt: &HostRuntime, options: Options) -> Result<(), Failure> {
         wait,
     } = options;
     let alloc = rt.alloc();
-    let mut lines = lines_at(rt, &path, json, look_up)?;
+    let mut lines = open_lines(rt, &path, json, look_up)?;
     let mut connection = Connection::new(
         alloc,
         rt.reader(),
         io::writer(rt),
         Limits::default(),
     ).map_err(Error::from)?;
-    let mut report = report_of(alloc, &settings, quiet)?;
-    let mut dead = dead_of(alloc, &mut settings, dead)?;
+    let mut report = make_report(alloc, &settings, quiet)?;
+    let mut dead = make_search(alloc, &mut settings, dead)?;
     let Start {
         mut worker,
         acknowledges,
@@ -170,20 +169,20 @@ fn show_report(rt: &HostRuntime, report: &Report) -> Result<()> {
     Ok(())
 }
 
-/// The lines in the file of this path.
-fn lines_at(rt: &HostRuntime, path: &str, json: bool, look_up: bool) -> Result<Lines<SystemFile>>
+/// Opens the file of this path for lines.
+fn open_lines(rt: &HostRuntime, path: &str, json: bool, look_up: bool) -> Result<Lines<SystemFile>>
     ensures json { IfOk result (λ lines. lines.json ≡ json) }
     ensures looks { IfOk result (λ lines. is_some lines.known ≡ look_up) }
 {
     let file = match SystemFile::open(rt, path) {
         Ok(file) => file,
-        Err(error) => return Err(not_opened(path, error)),
+        Err(error) => return Err(describe_open_error(path, error)),
     };
     Lines::open(rt.alloc(), file, json, look_up).context(format_args!("cannot open {path}"))
 }
 
-/// Why a file was not opened.
-fn not_opened(path: &str, error: LogError) -> Error {
+/// The error of a file that was not opened.
+fn describe_open_error(path: &str, error: LogError) -> Error {
     match error {
         LogError::File(reason) => {
             if reason.kind() == ErrorKind::WouldBlock {
@@ -196,9 +195,9 @@ fn not_opened(path: &str, error: LogError) -> Error {
     }
 }
 
-/// What looks for entries that were delivered too often, where they are given up. Then those that come again are asked
-/// for one at a time.
-fn dead_of(
+/// The search for entries that were delivered too often, if they are given up. Then entries that were delivered before
+/// are requested one at a time.
+fn make_search(
     alloc: Global,
     settings: &mut Settings,
     to: Option<GiveUp>,
@@ -209,8 +208,8 @@ fn dead_of(
     }
 }
 
-/// What is shown, with the backlog of the group where it is not quiet.
-fn report_of(alloc: Global, settings: &Settings, quiet: bool) -> Result<Report> {
+/// The report, with the backlog of the group unless it is quiet.
+fn make_report(alloc: Global, settings: &Settings, quiet: bool) -> Result<Report> {
     let mut report = Report::new(quiet);
     if !quiet {
         report.watched = Some(watched(alloc, settings)?);
@@ -218,7 +217,7 @@ fn report_of(alloc: Global, settings: &Settings, quiet: bool) -> Result<Report> 
     Ok(report)
 }
 
-/// The group that is watched.
+/// The group whose backlog is shown.
 fn watched(alloc: Global, settings: &Settings) -> Result<Watched, AllocError> {
     let key = String::from_str(alloc, settings.key())?;
     let group = String::from_str(alloc, settings.group())?;

@@ -1,4 +1,4 @@
-//! The words that the program is called with.
+//! The arguments of the program.
 ghost use Rattle.std.specs.Prelude.{◌≡◌, ◌≤◌, ◌⊎◌, length, IfErr, IfOk, IsTrue, None};
 ghost use Rattle.clap.specs.Words.{found_of, kind_of};
 ghost use Rattle.command_lines.specs.Worker.{Waits};
@@ -16,26 +16,26 @@ use stream_feed::Wait;
 use stream_letters::GiveUp;
 use stream_worker::Settings;
 
-/// What the program is to do.
+/// The options of the program.
 #[derive(Drop)]
 pub struct Options {
     pub settings: Settings,
     pub path: String,
-    /// It ends where a read finds nothing new.
+    /// Whether it ends when a read returns no new entries.
     pub until_empty: bool,
-    /// Each line is JSON.
+    /// Whether each line is JSON.
     pub json: bool,
-    /// Each entry is looked up in the file, and none gets a second line.
+    /// Whether each entry is searched for in the file, so none gets a second line.
     pub look_up: bool,
-    /// Nothing is shown but the counts at the end.
+    /// Whether only the counts at the end are shown.
     pub quiet: bool,
-    /// Entries that were delivered too often go to a stream of dead letters.
+    /// Entries that were delivered too often are moved to a stream of dead letters.
     pub dead: Option<GiveUp>,
-    /// So many replicas are to confirm what is asked before entries are handled.
+    /// This number of replicas must confirm each command before its entries are handled.
     pub wait: Option<Wait>,
 }
 
-// Not more than what is acknowledged at the beginning.
+// At most the number of entries that are acknowledged at the start.
 const COUNT: Number = Number {
     name: "count",
     value: "ENTRIES",
@@ -51,7 +51,7 @@ const LOOK_UP: &str =
 const WAIT: &str =
     "So many replicas are to confirm each read within so many milliseconds, each number 1 at least";
 
-/// The options of these words.
+/// The options of these arguments.
 pub fn options_of(alloc: Global, words: &[String]) -> Result<Options, Error>
     ensures { IfOk result (λ _. 4 ≤ length words.now) }
 {
@@ -60,7 +60,7 @@ pub fn options_of(alloc: Global, words: &[String]) -> Result<Options, Error>
     options_in(alloc, &mut command, &matches)
 }
 
-/// The options that a line asks for, by what was found in it.
+/// The options of a command line, by its matches.
 fn options_in(
     alloc: Global,
     command: &mut Command<'_>,
@@ -123,8 +123,8 @@ fn with_flags<'a>(alloc: Global, command: Command<'a>) -> Result<Command<'a>, Al
         .arg(wait(alloc, WAIT))
 }
 
-/// How many replicas are to confirm what is asked, and how long it waits for them. Letters are not confirmed, so none
-/// are sent then.
+/// The number of replicas that must confirm each command, and how long it waits for them. Letters are not confirmed, so
+/// `--dead` is refused then.
 fn wait_beside(
     alloc: Global,
     command: &mut Command<'_>,

@@ -1,4 +1,4 @@
-//! What the program says of its progress, on standard error.
+//! The progress that the program prints on standard error.
 ghost use Rattle.std.specs.Prelude.{◌≡◌, false, true, IsTrue, None, Ok, OnOk, Some};
 ghost use Rattle.stream_drain.specs.Report.{counted, report_text};
 
@@ -8,7 +8,7 @@ use std::rt::Clock;
 use std::time::{Duration, Instant};
 use std::{fmt, mem};
 
-/// Counts, which are shown at the end. Where it is not quiet they are also shown with the first batch, and then once a
+/// Counts, which are shown at the end. Unless it is quiet they are also shown with the first batch, and then once a
 /// second.
 #[derive(Drop)]
 pub struct Report {
@@ -16,19 +16,19 @@ pub struct Report {
     shown: Option<Instant>,
     entries: u64,
     batches: u64,
-    /// The first acknowledgement is of what was in the file at the beginning, which is no batch.
+    /// Whether the first acknowledgement is of entries that were in the file at the start, which is not a batch.
     pub resumes: bool,
-    /// So many dead letters were sent, where any may be.
+    /// How many dead letters were sent; `None` if none are sent.
     pub letters: Option<u64>,
-    /// Nothing is shown before the end.
+    /// Whether nothing is shown before the end.
     quiet: bool,
-    /// The group whose backlog is shown with the counts; none where it is quiet, and where the server
-    /// does not tell the backlog.
+    /// The group whose backlog is shown with the counts; `None` if it is quiet, or if the server does not return the
+    /// backlog.
     pub watched: Option<Watched>,
 }
 
 impl Report {
-    /// Nothing was done yet.
+    /// A report with all counts at 0.
     pub fn new(quiet: bool) -> Report
         ensures counts { (result.entries ≡ 0) × (result.batches ≡ 0) × (result.letters ≡ None)
             × (result.resumes ≡ false) }
@@ -45,7 +45,7 @@ impl Report {
         }
     }
 
-    /// Whether it is time to show the counts, which it never is where it is quiet.
+    /// Whether it is time to show the counts, which it never is if it is quiet.
     pub fn is_due<R: Clock>(&self, rt: &R) -> bool
         ensures quiet { IsTrue self.now.quiet → result ≡ false }
         ensures first { self.now.quiet ≡ false → self.now.shown ≡ None → result ≡ true }
@@ -59,8 +59,8 @@ impl Report {
         }
     }
 
-    /// Takes the number of entries in the file once an acknowledgement has its reply. Returns whether it is time to show
-    /// the counts, which it never is where it is quiet.
+    /// Takes the number of entries in the file once an acknowledgement has its reply. Returns whether it is time to
+    /// show the counts, which it never is if it is quiet.
     pub fn count<R: Clock>(&mut self, rt: &R, entries: u64) -> Result<bool>
         ensures counts { OnOk result (self.new.entries ≡ entries) }
         ensures quiet { IsTrue self.old.quiet → result ≡ Ok false }
@@ -114,7 +114,7 @@ impl fmt::Display for Report {
     }
 }
 
-/// A number and what it counts, in the singular or the plural.
+/// A number and its noun, in the singular or the plural.
 #[derive(Clone, Copy)]
 struct Counted {
     number: u64,

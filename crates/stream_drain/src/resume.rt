@@ -1,4 +1,4 @@
-//! How the program begins: with the ids that the last lines of its file tell.
+//! The start of the program: with the ids of the last lines of its file.
 ghost use Rattle.std.specs.Prelude.{◌≡◌, ◌≤◌, ◌++◌, ◌∷◌, [], ℕ, List, IfOk, IfSome, IsTrue, codes, length, string_bytes, take};
 ghost use Rattle.std.specs.List.{list_all};
 ghost use Rattle.line_log.specs.Holds.{committed_in};
@@ -16,20 +16,19 @@ use line_log::{LogFile, entry_in};
 use std::alloc::{AllocError, Global};
 use stream_worker::{Handler, Settings, Worker};
 
-/// So many entries at most are asked for at once, so no commit has more lines.
+/// The largest `COUNT`, so no commit has more lines.
 pub const LARGEST_COUNT: usize = 10_000;
 
-/// A worker at its beginning.
+/// A worker at its start.
 #[derive(Drop)]
 pub struct Start {
     pub worker: Worker,
-    /// It acknowledges first what is in its file.
+    /// Whether it first acknowledges the entries in its file.
     pub acknowledges: bool,
 }
 
-/// A worker that first acknowledges the entries of the last lines of its file, as many as a commit may
-/// have: those that stand there but were not acknowledged do not come again. It fails where one of these
-/// lines tells no id.
+/// A worker that first acknowledges the entries of the last lines of its file, as many as a commit may have. So entries
+/// with a line that were not acknowledged are not delivered again. It fails if one of these lines has no id.
 pub fn begun<D: LogFile + Drop>(
     alloc: Global,
     settings: Settings,
@@ -66,34 +65,33 @@ fn has_ids(ids: &[String]) -> bool
     }
 }
 
-/// The ids of the entries of these lines, in order. It fails where a line tells none.
+/// The ids of the entries of these lines, in order. It fails if a line has none.
 pub fn ids_told(alloc: Global, lines: &[Vec<u8>], json: bool) -> Result<Vec<String>>
     ensures { IfOk result (λ ids. TellEach json (bytes_of lines.now) (ids_of ids)) }
 {
     let mut ids = Vec::with_capacity(alloc, lines.len())?;
     for line in lines {
-        match id_told(alloc, line, json)? {
+        match find_id(alloc, line, json)? {
             Some(id) => ids.push(id)?,
-            None => return untold(lines.len().saturating_sub(ids.len())),
+            None => return fail_without_id(lines.len().saturating_sub(ids.len())),
         }
     }
     Ok(ids)
 }
 
-/// No id, since the line at this place from the end tells none.
-fn untold(place: usize) -> Result<Vec<String>>
+/// The error that the line at this place from the end has no id.
+fn fail_without_id(place: usize) -> Result<Vec<String>>
     ensures { IfOk result (λ _. ⊥) }
 {
     bail!("line {place} from its end is of no entry: correct the file, or take another one")
 }
 
-/// The id of the entry of a line; none where the line is of no entry, or of one without an id of a
-/// stream.
-fn id_told(alloc: Global, line: &[u8], json: bool) -> Result<Option<String>, AllocError>
+/// The id in a line; `None` if it is not a line of an entry, or the id is not one of a stream.
+fn find_id(alloc: Global, line: &[u8], json: bool) -> Result<Option<String>, AllocError>
     ensures { IfOk result (λ o. IfSome o (λ id. Tells json line.now (string_bytes id))) }
 {
     if json {
-        match id_of_json(line) {
+        match find_id_in_json(line) {
             Some(id) => id_text(alloc, id),
             None => Ok(None),
         }
@@ -105,7 +103,7 @@ fn id_told(alloc: Global, line: &[u8], json: bool) -> Result<Option<String>, All
     }
 }
 
-/// These bytes as an id, where each is a digit or a hyphen, and there is a hyphen.
+/// These bytes as an id, if each is a digit or a hyphen, and there is a hyphen.
 fn id_text(alloc: Global, id: &[u8]) -> Result<Option<String>, AllocError>
     ensures { IfOk result (λ o. IfSome o (λ text. string_bytes text ≡ id.now)) }
 {
@@ -118,9 +116,8 @@ fn id_text(alloc: Global, id: &[u8]) -> Result<Option<String>, AllocError>
     }
 }
 
-/// The id that stands in a line `{"id":"..","fields":[..`, where each of its bytes is a digit or a
-/// hyphen.
-fn id_of_json(line: &[u8]) -> Option<&[u8]>
+/// The id in a line `{"id":"..","fields":[..`, if each of its bytes is a digit or a hyphen.
+fn find_id_in_json(line: &[u8]) -> Option<&[u8]>
     ensures { IfSome result (λ id. (rest : List ℕ) × (line.now ≡ codes "{\"id\":\"" ++ (id.now ++ (34 ∷ rest)))
         × IsTrue (list_all is_of_id id.now)) }
 {
@@ -135,7 +132,7 @@ fn id_of_json(line: &[u8]) -> Option<&[u8]>
     if is_head && is_next { Some(id) } else { None }
 }
 
-/// How many bytes at the head are digits and hyphens.
+/// How many of the first bytes are digits and hyphens.
 fn of_id(text: &[u8]) -> usize
     ensures within { result ≤ length text.now }
     ensures all { IsTrue (list_all is_of_id (take result text.now)) }

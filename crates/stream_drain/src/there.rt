@@ -1,4 +1,4 @@
-//! What stands where the line of a known id begins.
+//! The text of the file at the offset of a known id.
 ghost use Rattle.std.specs.Prelude.{◌≡◌, IfOk, Some, option_map, true};
 ghost use Rattle.known_ids.specs.Told.{begins};
 ghost use Rattle.line_log.specs.Holds.{committed_in};
@@ -11,22 +11,22 @@ const JSON_HEAD: &[u8] = b"{\"id\":\"";
 
 const JSON_NEXT: &[u8] = b"\",\"fields\":[";
 
-/// So many bytes stand around the id at the head of a line of JSON.
+/// The number of bytes around the id at the start of a line of JSON.
 const AROUND: usize = 19;
 
-/// What stands where the line of a known id begins.
+/// The text of the file at the offset of a known id.
 #[derive(Clone, Copy)]
 pub enum There {
-    /// This line, with its end.
+    /// This line, with its line end.
     Same,
-    /// Another line of its id.
+    /// Another line of this id.
     Other,
     /// Neither.
     Neither,
 }
 
-/// What stands at this place of the lines that are committed and gathered. It reads as many bytes as the line has, or
-/// as the head of another line of its id, and two more.
+/// Reads the text at this offset of the committed and gathered lines. It reads as many bytes as the line has, or as the
+/// start of another line of its id, and two more.
 pub fn what_is_at<D: LogFile + Drop>(
     alloc: Global,
     log: &LineLog<D>,
@@ -46,7 +46,7 @@ pub fn what_is_at<D: LogFile + Drop>(
     }
 }
 
-/// What stands at this place, if a line begins there. The bytes begin one before it, or there if it is the first.
+/// The text at this offset, if a line begins there. The bytes begin one before it, or there if it is the first.
 fn begun(bytes: &[u8], at: usize) -> Option<&[u8]>
     ensures { option_map (λ text. text.now) result ≡ begun at bytes.now }
 {
@@ -72,7 +72,7 @@ fn found_in(text: &[u8], line: &[u8], id: &[u8], json: bool) -> There
     }
 }
 
-/// Whether the text begins with this line and its end.
+/// Whether the text begins with this line and its line end.
 fn has_line(text: &[u8], line: &[u8]) -> bool
     ensures { result ≡ has_line line.now text.now }
 {

@@ -61,7 +61,7 @@ NoOtherAcks (e ∷ es) = NoneByOthers e × NoOtherAcks es
 abbrev pub FileOnce : Type 0 → Type 0
 FileOnce F = (s : Setting F) (events : List (Event F)) → Once (ids_of (after s events).now.consumer.file)
 
--- nor is it with any server, whatever that hands out: one that forgets all, or gives one id to two entries
+-- nor is it with any server, whatever it delivers: one that forgets all, or gives one id to two entries
 abbrev pub FileOnceOfAnyServer : Type 0 → Type 0
 FileOnceOfAnyServer F = (moves : List (Move F)) → Once (ids_of (moved_on moves new_consumer).file)
 
@@ -80,7 +80,7 @@ abbrev pub FileIsOfRecords : Type 0 → Type 0
 FileIsOfRecords F = (s : Setting F) (events : List (Event F)) → NoOtherAdds events → (e : Entry F)
     → Among e (after s events).now.consumer.file → Among e (entries s.base s.records)
 
--- the entries that a reply on the way hands out
+-- the entries in a reply on the way
 abbrev pub on_the_way : {F : Type 0} → Option (Answer F) → List (Delivered F)
 on_the_way None = []
 on_the_way (Some a) = entries_in a

@@ -1,4 +1,4 @@
--- A consumer that looks an entry up in its file before it adds a line.
+-- A consumer that checks its file for an entry's id before it adds a line.
 use Rattle.std.specs.Prelude.{ℕ, List, [], ◌∷◌, ◌++◌, Option, Some, None, if◌then◌else◌}
 use Rattle.stream_group.specs.Worker.{Id, Entry, Verdict, Answer, entries_in, handled_in}
 use Rattle.stream_group.specs.Group.{ids_of, listed}
@@ -22,7 +22,7 @@ looks_up verdicts (Some a) c = record (takes verdicts (Some a) c) {
 
 -- what a consumer goes through with a server of which nothing is known
 pub data Move (F : Type 0) : Type 0 where
-  -- this reply is on the way to it, whatever it hands out
+  -- this reply is on the way to it, whatever it delivers
   Told : (answer : Answer F) → Move F
   -- the reply comes to it, and its handler says this of the entries
   Takes : (verdicts : List Verdict) → Move F

@@ -20,8 +20,8 @@ first_world = record { now = once.first_world; kept = empty_world ∷ [] }
 
 -- what may happen next
 pub data Event (F : Type 0) : Type 0 where
-  -- an event of stream_once, but the consumer looks up what it takes. An `Arrive` or an `Ask` of this kind comes
-  -- without WAIT
+  -- an event of stream_once, but the consumer checks its file for each entry that it takes. An `Arrive` or an `Ask`
+  -- of this kind comes without WAIT
   Plain : (event : once.Event F) → Event F
   -- what the producer sent comes to the server, with a WAIT for `asked` replicas after it; `said` of them confirm
   Arrive_waits : (executes : Bool) (asked said : ℕ) → Event F
@@ -57,8 +57,8 @@ fails_over w (Some earlier) = record w {
 abbrev pub remembers : {F : Type 0} → List (group.World F) → once.World F → World F
 remembers kept w = record { now = w; kept = w.stream ∷ kept }
 
--- as many replicas as were asked for, or more, have all that the server had when WAIT came. How many there will be is
--- said at once: a failover before they are is one after a WAIT that is not confirmed
+-- as many replicas as were asked for, or more, have all that the server had when WAIT came. The number of them is
+-- given at once: a failover before they are is one after a WAIT that is not confirmed
 abbrev pub is_confirmed : (asked said : ℕ) → Bool
 is_confirmed asked said = nat_lt 0 asked && not (nat_lt said asked)
 
@@ -69,7 +69,7 @@ waited s asked said kept break w = remembers
     (if is_confirmed asked said then [] else kept)
     (if is_confirmed asked said then w else once.happens s w break)
 
--- what an event of stream_once makes of its world, with a consumer that looks up
+-- what an event of stream_once makes of its world, with a consumer that checks its file first
 abbrev pub plainly : {F : Type 0} → Setting F → once.World F → once.Event F → once.World F
 plainly s w (Take verdicts) = record w { consumer = looks_up verdicts w.consumer.answer w.consumer }
 plainly s w event = once.happens s w event

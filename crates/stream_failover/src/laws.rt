@@ -9,8 +9,8 @@ ghost use Rattle.stream_failover.specs.Law.{LogIsFirstRecords, LogIsKept, LogIsO
 ghost use Rattle.stream_failover.specs.Law.{NothingConfirmedIsLost, ProducerLosesNothing};
 ghost use Rattle.stream_failover.specs.Many.{EachFileOnce, NoneInTwoFiles};
 
-/// No id is twice in the file of a consumer that looks an entry up in it before it adds a line. It
-/// is so with WAIT or without, and with any server, whatever that hands out. The file only grows.
+/// No id is twice in the file of a consumer that checks the file for an entry's id before it adds a line. It is
+/// so with WAIT or without, and with any server, whatever it delivers. The file only grows.
 pub fn nothing_comes_out_twice<F>()
     ensures once { FileOnce F }
     ensures any { FileOnceOfAnyServer F }

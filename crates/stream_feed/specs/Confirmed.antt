@@ -1,4 +1,4 @@
--- WAIT, what its reply says, and rounds with one after each.
+-- WAIT, the meaning of its reply, and rounds with one after each.
 use Rattle.std.specs.Prelude.{◌≡◌, ◌<◌, ◌≤◌, ℕ, zero, suc, List, [], ◌∷◌, codes, decimal, Option, Some, None}
 use Rattle.std.specs.Prelude.{Result, Ok, Err}
 use Rattle.redis_connection.specs.Ask.{Asks, HasNoAnswer}
@@ -20,12 +20,12 @@ use Rattle.stream_feed.specs.declared.wait.Wait.{Wait}
 use Rattle.stream_feed.specs.declared.wait.WaitError.{WaitError}
 use Rattle.stream_feed.specs.declared.wait.WaitError.TheVariants.{NoReplicas, NoTime}
 
--- why a WAIT is refused: the first cause that holds
+-- why a WAIT is refused: the first error that holds
 abbrev pub IsNoWait : ℕ → ℕ → WaitError → Type 0
 IsNoWait replicas milliseconds NoReplicas = replicas ≡ 0
 IsNoWait replicas milliseconds NoTime = (0 < replicas) × (milliseconds ≡ 0)
 
--- a WAIT for so many replicas and milliseconds, or why there is none
+-- a WAIT for this number of replicas and of milliseconds, or the error
 abbrev pub IsMade : ℕ → ℕ → Result Wait WaitError → Type 0
 IsMade replicas milliseconds (Ok w) =
     (w.replicas ≡ replicas) × (w.milliseconds ≡ milliseconds) × (0 < milliseconds)
@@ -35,28 +35,28 @@ IsMade replicas milliseconds (Err e) = IsNoWait replicas milliseconds e
 abbrev pub wait_sentence : Wait → List (List ℕ)
 wait_sentence w = codes "WAIT" ∷ decimal w.replicas ∷ decimal w.milliseconds ∷ []
 
--- the server replied that so many replicas have what came to it before
+-- the server replied that this number of replicas have all earlier writes
 abbrev pub HaveIt : Wait → Link → Link → ℕ → Type 0
 HaveIt w old new n = Asks old new (wait_sentence w) (unsigned_reading 64) n
 
--- as many as are wanted, or more
+-- the required number, or more
 abbrev pub IsConfirmed : Wait → Link → Link → Type 0
 IsConfirmed w old new = (n : ℕ) × HaveIt w old new n × (w.replicas ≤ n)
 
--- it did not say; or so many have it, which are fewer
+-- the reply is an error or none was received; or only this number have the writes, which is fewer
 abbrev pub IsUnconfirmed : Wait → Link → Link → ConfirmError → Type 0
 IsUnconfirmed w old new (causes.Ask e) =
     HasNoAnswer old new (wait_sentence w) (unsigned_reading 64) RefusesNumber e
 IsUnconfirmed w old new (causes.TooFew n) = HaveIt w old new n × (n < w.replicas)
 
--- after a round that asked this, what it did is confirmed, if that is wanted and it asked anything
+-- after a round with this command, its writes are confirmed, if a WAIT is given and it sent anything
 abbrev pub Confirms : Option Wait → Asked → Link → Link → Type 0
 Confirms None a old new = new ≡ old
 Confirms (Some w) asked.Nothing old new = new ≡ old
 Confirms (Some w) asked.LastId old new = IsConfirmed w old new
 Confirms (Some w) asked.Records old new = IsConfirmed w old new
 
--- after a round that asked this, what it did is not confirmed, though that is wanted
+-- after a round with this command, its writes are not confirmed, though a WAIT is given
 abbrev pub ConfirmsNot : Option Wait → Asked → Link → Link → ConfirmError → Type 0
 ConfirmsNot None a old new e = ⊥
 ConfirmsNot (Some w) asked.Nothing old new e = ⊥
@@ -70,7 +70,7 @@ module _ (wait : Option Wait) (s : Settings) (known : Option (List Fields)) (cou
     pub round : IsRound s known count old link v x a
     pub confirms : Confirms wait a link new
 
-  -- a round that is not
+  -- a round that is not confirmed
   pub record IsUnconfirmedRound (old new : Link) (v : Standing) (e : ConfirmError) : Type 0 where
     pub link : Link
     pub standing : Standing
@@ -83,13 +83,13 @@ module _ (wait : Option Wait) (s : Settings) (known : Option (List Fields)) (cou
   BreaksConfirmed old new v (ends.Round e) = Breaks s known count old new v e
   BreaksConfirmed old new v (ends.Unconfirmed e) = IsUnconfirmedRound old new v e
 
-  -- so many rounds, one after the other, each of which asked something and is confirmed
+  -- this number of rounds, one after the other, each of which sent something and is confirmed
   abbrev pub ConfirmedRounds : ℕ → Link → Link → Standing → Standing → Type 0
   ConfirmedRounds zero old new v x = (new ≡ old) × (x ≡ v)
   ConfirmedRounds (suc n) old new v x = (l : Link) × (y : Standing) × (a : Asked) × ConfirmedRounds n old l v y
       × IsConfirmedRound l new y x a
 
-  -- it began with knowing nothing, made such rounds, and the next one asked nothing
+  -- it began without the last id, made such rounds, and the next one sent nothing
   pub record FinishedConfirmed (old new : Link) : Type 0 where
     pub count_of : ℕ
     pub link : Link

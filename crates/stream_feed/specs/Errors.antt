@@ -1,4 +1,4 @@
--- How errors of what a producer stands on are told.
+-- How errors of the libraries below become a producer's errors.
 use Rattle.redis_args.specs.declared.writer.WriteError.{WriteError}
 use Rattle.redis_args.specs.declared.writer.WriteError.TheVariants as writing
 use Rattle.stream_feed.specs.declared.error.RequestError.{RequestError}

@@ -1,5 +1,5 @@
--- A producer's code whose rounds are confirmed by WAIT is the producer of `stream_failover`, whose server may go back to an
--- earlier state.
+-- A producer's code whose rounds are confirmed by WAIT is the producer of `stream_failover`, whose server may go back
+-- to an earlier state.
 use Rattle.std.specs.Prelude.{◌≡◌, ◌≤◌, ◌<◌, ℕ, Bool, List, [], ◌∷◌, ◌++◌, length, Option, Some}
 use Rattle.redis_connection.specs.Link.{Link}
 use Rattle.stream_once.specs.Feed.{entries, known_in}
@@ -19,7 +19,7 @@ use Rattle.stream_feed.specs.declared.stage.Asked.{Asked}
 use Rattle.stream_feed.specs.declared.stage.Asked.TheVariants as asked
 use Rattle.stream_feed.specs.declared.wait.Wait.{Wait}
 
--- the event is none of the producer's connection, and no failover
+-- the event is not one of the producer's connection, and not a failover
 abbrev pub IsBesides : Event Fields → Type 0
 IsBesides (Plain event) = IsOfOthers event
 IsBesides (Arrive_waits executes asked said) = ⊥
@@ -31,14 +31,14 @@ abbrev pub AreBesides : List (Event Fields) → Type 0
 AreBesides [] = Unit {0}
 AreBesides (e ∷ es) = IsBesides e × AreBesides es
 
--- what becomes of what a round asks, and of the WAIT after it
+-- what becomes of a round's commands, and of the WAIT after them
 pub data Fate : Type 0 where
-  -- it comes to the server in this round, which executes it, or refuses it whole; so many replicas confirm it
+  -- they reach the server in this round, which executes them, or refuses all of them; this number of replicas confirm
   comes : (executes : Bool) (said : ℕ) → Fate
-  -- it comes later, or never
+  -- they arrive later, or never
   comes_not : Fate
 
--- what others do in a round, and what becomes of what it asks
+-- what others do in a round, and what becomes of its commands
 pub record Meantime : Type 0 where
   pub earlier : List (Event Fields)  -- after it asked, before that comes to the server
   pub fate : Fate
@@ -46,12 +46,12 @@ pub record Meantime : Type 0 where
   pub earlier_besides : AreBesides earlier
   pub later_besides : AreBesides later
 
--- what was asked comes to the server, with a WAIT for so many replicas after it
+-- the commands reach the server, with a WAIT for this number of replicas after them
 abbrev pub arrival : ℕ → Fate → List (Event Fields)
 arrival wanted (comes executes said) = Arrive_waits executes wanted said ∷ []
 arrival wanted comes_not = []
 
--- what happens in a round until the replies are there
+-- what happens in a round until the replies are received
 abbrev pub until_replied : Settings → Wait → Meantime → List (Event Fields)
 until_replied s w m = Plain (Send s.batch) ∷ (m.earlier ++ (arrival w.replicas m.fate ++ m.later))
 
@@ -59,20 +59,20 @@ until_replied s w m = Plain (Send s.batch) ∷ (m.earlier ++ (arrival w.replicas
 abbrev pub round_events : Settings → Wait → Meantime → List (Event Fields)
 round_events s w m = until_replied s w m ++ Plain Hear ∷ []
 
--- what came was confirmed by so many
+-- what arrived was confirmed by this number of replicas
 abbrev pub IsSaid : Fate → ℕ → Type 0
 IsSaid (comes executes said) n = said ≡ n
 IsSaid comes_not n = Unit {0}
 
--- the reply to WAIT is the one that the server sent; and if nothing was asked, nothing comes
+-- the reply to WAIT is the one that the server sent; and if no command was sent, none arrives
 abbrev pub HearsTheWait : (w : Wait) (a : Asked) (old new : Link) → Fate → Confirms (Some w) a old new → Type 0
 HearsTheWait w asked.Nothing old new fate c = fate ≡ comes_not
 HearsTheWait w asked.LastId old new fate c = IsSaid fate c.0
 HearsTheWait w asked.Records old new fate c = IsSaid fate c.0
 
 module _ (setting : Setting Fields) (w : Wait) (s : Settings) (known : Option (List Fields)) (count : ℕ) where
-  -- the premises of a confirmed round: it sends the next of the setting's records, and the replies, also that to WAIT, are
-  -- those that this server sent
+  -- the premises of a confirmed round: it sends the next of the setting's records, and the replies, also that to WAIT,
+  -- are those that this server sent
   pub record IsServed (old new : Link) (v x : Standing) (a : Asked) (m : Meantime) (world : World Fields)
       (r : IsConfirmedRound (Some w) s known count old new v x a) : Type 0 where
     pub records : SendsTheRecords setting s v r.round.asks.0
@@ -86,7 +86,7 @@ module _ (setting : Setting Fields) (w : Wait) (s : Settings) (known : Option (L
   IsSent old new v (ends.Round e) b = IsSentOfTheRecords setting s known count old new v e b
   IsSent old new v (ends.Unconfirmed e) b = SendsTheRecords setting s v b.round.asks.0
 
--- what happens in a round that breaks off: it sent nothing; or what it sent may have come, may come yet, or never
+-- what happens in a round that breaks off: it sent nothing; or its commands have arrived, arrive later, or never
 abbrev pub break_events : Settings → Wait → Meantime → ConfirmedError → List (Event Fields)
 break_events s w m (ends.Round (causes.Request e)) = Plain Break ∷ []
 break_events s w m e = until_replied s w m ++ Plain Break ∷ []
@@ -95,7 +95,7 @@ break_events s w m e = until_replied s w m ++ Plain Break ∷ []
 pub data Moment : Type 0 where
   -- between two rounds
   between : Moment
-  -- in a round, after it asked
+  -- in a round, after it sent its commands
   within : (m : Meantime) → Moment
 
 -- what happened in that round
@@ -103,9 +103,9 @@ abbrev pub events_until : Settings → Wait → Moment → List (Event Fields)
 events_until s w between = []
 events_until s w (within m) = until_replied s w m
 
--- a producer with these settings, whose rounds are confirmed by this WAIT, may be so after these events. At first it knows
--- nothing. Then others do something, or a round is confirmed, or it breaks off, or the producer is started again, or the
--- server fails over, after which the producer goes on over another connection
+-- a producer with these settings, whose rounds are confirmed by this WAIT, may be so after these events. At first it
+-- knows nothing. Then others do something, or a round is confirmed, or it breaks off, or the producer is started again,
+-- or the server fails over, after which the producer goes on over another connection
 pub data Runs (setting : Setting Fields) (w : Wait) : Settings → List (Event Fields) → Standing → Type 0 where
   begins : (s : Settings) → Runs setting w s [] idle
   rests : (s : Settings) (events others : List (Event Fields)) (v : Standing) → AreBesides others
@@ -129,20 +129,20 @@ abbrev pub RunsAreEvents : Type 0
 RunsAreEvents = (setting : Setting Fields) (w : Wait) (s : Settings) (events : List (Event Fields)) (x : Standing)
     → Runs setting w s events x → IsProducer x (after setting events).now.producer
 
--- with all that comes from it, a WAIT comes
+-- each of its batches arrives with a WAIT
 abbrev pub RunsWait : Type 0
 RunsWait = (setting : Setting Fields) (w : Wait) (s : Settings) (events : List (Event Fields)) (x : Standing)
     → Runs setting w s events x → ProducerAlwaysWaits events
 
--- as many records as it takes to be in are in, whatever happens then, failovers too, if nobody else adds and each producer
--- asks WAIT
+-- as many records as it counts as added are in the log, and stay there whatever happens, failovers too, if nobody else
+-- adds and each producer sends WAIT
 abbrev pub CodeKnowsWhatStays : Type 0
 CodeKnowsWhatStays = (setting : Setting Fields) → Fit setting → (w : Wait) (s : Settings)
     (events more : List (Event Fields)) (x : Standing) → Runs setting w s events x
     → NoOtherAdds events → NoOtherAdds more → ProducerAlwaysWaits more
     → known_in x.stage ≤ length (log (run setting more (after setting events)).now)
 
--- if a round asks nothing, the log is all records, and stays so
+-- if a round sends nothing, the log is all records, and stays so
 abbrev pub AskingNothingStaysAll : Type 0
 AskingNothingStaysAll = (setting : Setting Fields) → Fit setting → (w : Wait) (s : Settings) → 0 < s.batch
     → (events more : List (Event Fields)) (known : Option (List Fields)) (count : ℕ) (old new : Link) (v x : Standing)

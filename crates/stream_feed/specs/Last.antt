@@ -1,4 +1,4 @@
--- The question for the last id of a stream, and what its reply says.
+-- The command for the last id of a stream, and the meaning of its reply.
 use Rattle.std.specs.Prelude.{◌≡◌, ℕ, List, Some}
 use Rattle.redis_connection.specs.Link.{Link, Sends, SendsFront, IsEnded, IsFaulty}
 use Rattle.redis_connection.specs.Passing.{ReceivesAnswer, AwaitsAnswer}
@@ -10,7 +10,7 @@ use Rattle.stream_feed.specs.Unheard.{IsUnasked}
 use Rattle.stream_feed.specs.declared.error.RunError.{RunError}
 use Rattle.stream_feed.specs.declared.error.RunError.TheVariants as causes
 
--- `XINFO STREAM key` went out, and the reply says that this is the last id
+-- `XINFO STREAM key` was sent, and the reply has this last id
 pub record LastIs (key : List ℕ) (old new : Link) (last : Numbers) : Type 0 where
   pub between : Link
   pub reply : wire.Answer
@@ -18,7 +18,8 @@ pub record LastIs (key : List ℕ) (old new : Link) (last : Numbers) : Type 0 wh
   pub receives : ReceivesAnswer between new reply
   pub says : last_of reply ≡ Some last
 
--- why the last id is not known: the question did not go out; or it did, and no reply came, or one that says no last id
+-- why the last id is not known: the command was not sent; or it was, and no reply was received, or one without a last
+-- id
 abbrev pub IsUntold : List ℕ → Link → Link → RunError → Type 0
 IsUntold key old new (causes.Request e) = new ≡ old
 IsUntold key old new (causes.Send e) = SendsFront old new (ask_bytes key)

@@ -1,4 +1,4 @@
--- What a producer's contracts speak of.
+-- The definitions that a producer's contracts use.
 pub mod Records
 pub mod Checked
 pub mod Sentences

@@ -15,7 +15,7 @@ arguments_of_field field = field.0.items ∷ field.1.items ∷ []
 abbrev pub arguments_of : Vec (Vec ℕ Global × Vec ℕ Global) Global → Fields
 arguments_of record_of = flat_map arguments_of_field record_of.items
 
--- these are all records, where they are known
+-- these are all records, if they are known
 abbrev pub AreAll : Option (List Fields) → List Fields → Type 0
 AreAll None all = Unit {0}
 AreAll (Some known) all = all ≡ known

@@ -1,5 +1,5 @@
--- A producer's code is the producer of `stream_once`. Its rounds, those that break off, and its starts are events of that
--- model.
+-- A producer's code is the producer of `stream_once`. Its rounds, those that break off, and its starts are events of
+-- that model.
 use Rattle.std.specs.Prelude.{◌≡◌, ◌≤◌, ◌<◌, ℕ, zero, suc, Bool, List, [], ◌∷◌, ◌++◌, length, Option, Some, None}
 use Rattle.std.specs.Prelude.{string_bytes}
 use Rattle.redis_connection.specs.Link.{Link}
@@ -27,8 +27,8 @@ pub record IsProducer (x : Standing) (p : Producer Fields) : Type 0 where
   pub sent : p.sent ≡ None
   pub answer : p.answer ≡ None
 
--- the event is the consumer's, or one of the stream and of others, or a request of a connection that broke comes late: it
--- is none of the producer's connection
+-- the event is the consumer's, or one of the stream and of others, or a late request of a broken connection: it is not
+-- one of the producer's connection
 abbrev pub IsOfOthers : Event Fields → Type 0
 IsOfOthers (Send count) = ⊥
 IsOfOthers (Arrive executes) = ⊥
@@ -43,14 +43,14 @@ AreOfOthers (e ∷ es) = IsOfOthers e × AreOfOthers es
 
 -- ---- a round
 
--- what becomes of what a round asks
+-- what becomes of a round's commands
 pub data Fate : Type 0 where
-  -- it comes to the server in this round, which executes it, or refuses it whole
+  -- they reach the server in this round, which executes them, or refuses all of them
   comes : (executes : Bool) → Fate
-  -- it comes later, or never
+  -- they arrive later, or never
   comes_not : Fate
 
--- what others do in a round, and what becomes of what it asks
+-- what others do in a round, and what becomes of its commands
 pub record Meantime : Type 0 where
   pub earlier : List (Event Fields)  -- after it asked, before that comes to the server
   pub fate : Fate
@@ -58,12 +58,12 @@ pub record Meantime : Type 0 where
   pub earlier_others : AreOfOthers earlier
   pub later_others : AreOfOthers later
 
--- what was asked comes to the server
+-- the commands reach the server
 abbrev pub arrival : Fate → List (Event Fields)
 arrival (comes executes) = Arrive executes ∷ []
 arrival comes_not = []
 
--- what happens in a round until the last reply is there
+-- what happens in a round until the last reply is received
 abbrev pub until_replied : Settings → Meantime → List (Event Fields)
 until_replied s m = Send s.batch ∷ (m.earlier ++ (arrival m.fate ++ m.later))
 
@@ -71,27 +71,27 @@ until_replied s m = Send s.batch ∷ (m.earlier ++ (arrival m.fate ++ m.later))
 abbrev pub round_events : Settings → Meantime → List (Event Fields)
 round_events s m = until_replied s m ++ Hear ∷ []
 
--- the first premise: the ids begin at the setting's base, and the batch is the next of the setting's records. It is assumed
--- of a source whose records no contract tells
+-- the first premise: the ids begin at the setting's base, and the batch is the next of the setting's records. It is
+-- assumed of a source whose records no contract gives
 pub record SendsTheRecords (setting : Setting Fields) (s : Settings) (v : Standing) (all : List Fields) : Type 0 where
   pub base : setting.base ≡ s.base
   pub batch : next_batch s all v.stage ≡ next_batch s setting.records v.stage
 
--- a producer hears what was sent to it, or nothing that it can use
+-- a producer hears the reply sent to it, or nothing that it can use
 abbrev pub IsHeard : Option Answer → Option Answer → Type 0
 IsHeard sent None = Unit {0}
 IsHeard sent (Some answer) = sent ≡ Some answer
 
 module _ (base count : ℕ) where
-  -- what it hears of the last of these replies. Before it come those that say `QUEUED`
+  -- what it hears of the last of these replies, which comes after those that are `QUEUED`
   abbrev pub heard_last : (n : ℕ) (old new : Link) (w x : Standing) → Hears base count n old new w x → Option Answer
   heard_last zero old new w x h = None
   heard_last (suc n) old new w x h = heard h.1.stage h.2
 
 module _ (setting : Setting Fields) (s : Settings) (known : Option (List Fields)) (count : ℕ) (old new : Link)
     (v x : Standing) (a : Asked) (m : Meantime) (w : World Fields) where
-  -- the second premise: the last reply is the one that this server sent to what was asked. It is assumed of the server, and of
-  -- a producer that has one connection at a time
+  -- the second premise: the last reply is the one that this server sent to the commands. It is assumed of the server,
+  -- and of a producer that has one connection at a time
   abbrev pub HearsTheReply : IsRound s known count old new v x a → Type 0
   HearsTheReply r = IsHeard (run setting (until_replied s m) w).producer.answer
       (heard_last s.base count r.standing.coming r.link new r.standing x r.hears)
@@ -113,21 +113,21 @@ sent_bytes s None = []
 sent_bytes s (Some ask_last) = ask_bytes (string_bytes s.key)
 sent_bytes s (Some (batch b)) = batch_bytes (head_of s) b
 
--- the bytes of a round are those of what the model's producer sends
+-- the bytes of a round are those of the model's commands
 abbrev pub RoundsSendIt : Type 0
 RoundsSendIt = (setting : Setting Fields) (s : Settings) (known : Option (List Fields)) (bytes : List ℕ) (v y : Standing)
     (a : Asked) (w : World Fields) (q : Asks s known [] bytes v y a) → IsProducer v w.producer
     → SendsTheRecords setting s v q.0
     → bytes ≡ sent_bytes s (happens setting w (Send s.batch)).producer.sent
 
--- the first premise holds of a source whose records are told
+-- the first premise holds for a source whose records are known
 abbrev pub ToldRecordsAreSent : Type 0
 ToldRecordsAreSent = (setting : Setting Fields) (s : Settings) (out more : List ℕ) (v y : Standing) (a : Asked)
     (q : Asks s (Some setting.records) out more v y a) → setting.base ≡ s.base → SendsTheRecords setting s v q.0
 
 -- ---- a round that breaks off
 
--- it sent nothing; or what it sent may have come, may come yet, or never
+-- it sent nothing; or its commands have arrived, arrive later, or never
 abbrev pub break_events : Settings → Meantime → RunError → List (Event Fields)
 break_events s m (causes.Request e) = Break ∷ []
 break_events s m e = until_replied s m ++ Break ∷ []
@@ -150,11 +150,11 @@ BreaksAreEvents = (setting : Setting Fields) (s : Settings) (known : Option (Lis
 
 -- ---- a crash and a start
 
--- when a crash comes. No contract speaks of a call that does not return, so these moments are a premise
+-- when a crash comes. A contract holds only of calls that return, so these moments are a premise
 pub data Moment : Type 0 where
   -- between two rounds, or before anything was sent
   between : Moment
-  -- in a round, after it asked
+  -- in a round, after it sent its commands
   within : (m : Meantime) → Moment
 
 -- what happened in that round
@@ -197,20 +197,20 @@ RunsAreEvents = (setting : Setting Fields) (s : Settings) (events : List (Event 
 
 -- ---- a session
 
--- what happens in so many rounds
+-- what happens in this number of rounds
 abbrev pub session_events : Settings → (ℕ → Meantime) → ℕ → List (Event Fields)
 session_events s ms zero = []
 session_events s ms (suc n) = session_events s ms n ++ round_events s (ms n)
 
 module _ (setting : Setting Fields) (s : Settings) (known : Option (List Fields)) (count : ℕ) (ms : ℕ → Meantime)
     (events : List (Event Fields)) where
-  -- the premises of a round after so many others
+  -- the premises of a round after this number of others
   abbrev pub IsServedAfter : (n : ℕ) (old new : Link) (v x : Standing) (a : Asked)
       → IsRound s known count old new v x a → Type 0
   IsServedAfter n old new v x a r =
       IsServed setting s known count old new v x a (ms n) (after setting (events ++ session_events s ms n)) r
 
-  -- the premises of each of so many rounds
+  -- the premises of each of this number of rounds
   abbrev pub EachIsServed : (n : ℕ) (old new : Link) (v x : Standing) → Rounds s known count n old new v x → Type 0
   EachIsServed zero old new v x r = Unit {0}
   EachIsServed (suc n) old new v x r =
@@ -241,18 +241,18 @@ CodeAddsFirstRecords = (setting : Setting Fields) → Fit setting → (s : Setti
     (x : Standing) → Runs setting s events x → NoOtherAdds events
     → AreFirst (log (after setting events)) (entries setting.base setting.records)
 
--- no id stands twice in it, whoever adds to it
+-- no id is twice in it, whoever adds to it
 abbrev pub CodeAddsOnce : Type 0
 CodeAddsOnce = (setting : Setting Fields) (s : Settings) (events : List (Event Fields)) (x : Standing)
     → Runs setting s events x → Once (ids_of (log (after setting events)))
 
--- as many records as the code takes to be in are in, if nobody else adds
+-- as many records as the code counts as added are in the log, if nobody else adds
 abbrev pub CodeKnowsWhatIsIn : Type 0
 CodeKnowsWhatIsIn = (setting : Setting Fields) → Fit setting → (s : Settings) (events : List (Event Fields))
     (x : Standing) → Runs setting s events x → NoOtherAdds events
     → known_in x.stage ≤ length (log (after setting events))
 
--- if a round asks nothing, the log is all records, if nobody else adds
+-- if a round sends nothing, the log is all records, if nobody else adds
 abbrev pub AskingNothingIsAll : Type 0
 AskingNothingIsAll = (setting : Setting Fields) → Fit setting → (s : Settings) → 0 < s.batch
     → (events : List (Event Fields)) (known : Option (List Fields)) (count : ℕ) (old new : Link) (v x : Standing)
@@ -260,7 +260,7 @@ AskingNothingIsAll = (setting : Setting Fields) → Fit setting → (s : Setting
     → Runs setting s events v → NoOtherAdds events
     → log (after setting events) ≡ entries setting.base setting.records
 
--- so it is of a session whose last round asks nothing
+-- the same for a session whose last round sends nothing
 abbrev pub FinishedIsAll : Type 0
 FinishedIsAll = (setting : Setting Fields) → Fit setting → (s : Settings) → 0 < s.batch
     → (known : Option (List Fields)) (count : ℕ) (ms : ℕ → Meantime) (events : List (Event Fields)) (old new : Link)

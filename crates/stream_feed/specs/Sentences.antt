@@ -1,4 +1,4 @@
--- What a producer sends.
+-- The commands of a producer.
 use Rattle.std.specs.Prelude.{ℕ, List, [], ◌∷◌, ◌++◌, codes, option_map, string_bytes}
 use Rattle.redis_args.specs.Clause.{clause}
 use Rattle.redis_wire.specs.Packed.{command_bytes}
@@ -13,11 +13,11 @@ use Rattle.stream_feed.specs.declared.settings.Settings.{Settings}
 abbrev pub ask_bytes : List ℕ → List ℕ
 ask_bytes key = command_bytes (codes "XINFO" ∷ codes "STREAM" ∷ key ∷ [])
 
--- the id of the record that has this number with the base
+-- the id of the record with this number after the base
 abbrev pub own_id : ℕ → List ℕ
 own_id number = id_text (number, 0)
 
--- what XADD has before the id: the key, and `MAXLEN mode n` or `MINID mode id` if it trims
+-- the arguments of XADD before the id: the key, and `MAXLEN mode n` or `MINID mode id` if it trims
 abbrev pub head_of : Settings → List (List ℕ)
 head_of s = string_bytes s.key ∷ clause strategy_sentence (option_map strategy_of s.trim)
 

@@ -1,4 +1,4 @@
--- A session of a producer over a connection: rounds, in each of which it asks and takes all replies.
+-- A session of a producer over a connection: rounds, in each of which it sends commands and takes all replies.
 use Rattle.std.specs.Prelude.{◌≡◌, Bool, true, false, ℕ, zero, suc, ◌<◌, ◌≤◌, List, [], ◌∷◌, length, Option}
 use Rattle.redis_wire.specs.Reply as wire
 use Rattle.redis_connection.specs.Link.{Link, Sends, SendsFront, IsEnded, IsFaulty}
@@ -19,21 +19,21 @@ BeginsAsLine [] = ⊥
 BeginsAsLine (b ∷ bytes) = b ≡ 43
 
 module _ (base count : ℕ) where
-  -- a reply came, and was taken
+  -- a reply was received, and was taken
   abbrev pub HearsOne : Link → Link → Standing → Standing → Type 0
   HearsOne old new w x = (a : wire.Answer) × ReceivesAnswer old new a × Took base count w x a
 
-  -- so many replies came, and each was taken
+  -- this number of replies were received, and each was taken
   abbrev pub Hears : ℕ → Link → Link → Standing → Standing → Type 0
   Hears zero old new w x = (new ≡ old) × (x ≡ w)
   Hears (suc n) old new w x = (l : Link) × (y : Standing) × (a : wire.Answer) × Hears n old l w y
       × ReceivesAnswer l new a × Took base count y x a
 
-  -- all replies came that were to come
+  -- all expected replies were received
   abbrev pub HearsAll : Link → Link → Standing → Standing → Type 0
   HearsAll old new w x = Hears w.coming old new w x
 
-  -- a reply did not come, and the error says why; or it came and was not taken
+  -- a reply was not received, and the error says why; or it was, and was refused
   abbrev pub Unheard : Link → Link → Standing → RunError → Type 0
   Unheard old new w (causes.Request e) = ⊥
   Unheard old new w (causes.Send e) = ⊥
@@ -41,12 +41,12 @@ module _ (base count : ℕ) where
   Unheard old new w (causes.Answer e) = (x : Standing) × (a : wire.Answer) × ReceivesAnswer old new a
       × Untaken base count w x a e
 
-  -- some replies came, and the next one did not, or was not taken
+  -- some replies were taken, and the next one was not received, or was refused
   abbrev pub FailsToHear : Link → Link → Standing → RunError → Type 0
   FailsToHear old new w e = (n : ℕ) × (l : Link) × (x : Standing) × Hears n old l w x × Unheard l new x e
 
 module _ (s : Settings) (known : Option (List Fields)) (count : ℕ) where
-  -- a round: it asked this, which went out, and all replies came
+  -- a round: it sent this, and all replies were received
   pub record IsRound (old new : Link) (w x : Standing) (a : Asked) : Type 0 where
     pub bytes : List ℕ
     pub link : Link
@@ -55,7 +55,7 @@ module _ (s : Settings) (known : Option (List Fields)) (count : ℕ) where
     pub sends : Sends old link bytes
     pub hears : HearsAll s.base count link new standing x
 
-  -- what it asked did not go out whole
+  -- its commands were not sent whole
   pub record IsUnsent (old new : Link) (w : Standing) : Type 0 where
     pub bytes : List ℕ
     pub standing : Standing
@@ -63,7 +63,7 @@ module _ (s : Settings) (known : Option (List Fields)) (count : ℕ) where
     pub asks : Asks s known [] bytes w standing asked
     pub sends : SendsFront old new bytes
 
-  -- it did, and not all replies came
+  -- they were, and not all replies were received
   pub record IsUnanswered (old new : Link) (w : Standing) (e : RunError) : Type 0 where
     pub bytes : List ℕ
     pub link : Link
@@ -79,17 +79,17 @@ module _ (s : Settings) (known : Option (List Fields)) (count : ℕ) where
   Breaks old new w (causes.Send e) = IsUnsent old new w
   Breaks old new w e = IsUnanswered old new w e
 
-  -- so many rounds, one after the other, each of which asked something
+  -- this number of rounds, one after the other, each of which sent something
   abbrev pub Rounds : ℕ → Link → Link → Standing → Standing → Type 0
   Rounds zero old new w x = (new ≡ old) × (x ≡ w)
   Rounds (suc n) old new w x = (l : Link) × (y : Standing) × (a : Asked) × Rounds n old l w y × IsRound l new y x a
 
-  -- no record is behind those that it knows to be in
+  -- no record is left after those that it knows to be added
   abbrev pub AllIn : Standing → Type 0
   AllIn x = (m : ℕ) × (x ≡ record { stage = knows m; coming = 0 })
       × ((all : List Fields) × AreAll known all × (0 < s.batch → length all ≤ m))
 
-  -- it began with knowing nothing, made some rounds, and the next one asked nothing
+  -- it began without the last id, made some rounds, and the next one sent nothing
   pub record Finished (old new : Link) : Type 0 where
     pub count_of : ℕ
     pub link : Link
@@ -98,7 +98,7 @@ module _ (s : Settings) (known : Option (List Fields)) (count : ℕ) where
     pub rounds : Rounds count_of old link idle standing
     pub last : IsRound link new standing ends asked.Nothing
 
-  -- it began so, and made rounds until one asked nothing, since all records were in, or as many as were allowed
+  -- it began so, and made rounds until one sent nothing, since all records were added, or as many as were allowed
   pub record Ran (most : ℕ) (old new : Link) (x : Standing) (done : Bool) : Type 0 where
     pub count_of : ℕ
     pub rounds : Rounds count_of old new idle x

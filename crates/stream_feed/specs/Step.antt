@@ -12,14 +12,14 @@ use Rattle.stream_feed.specs.declared.settings.Settings.{Settings}
 use Rattle.stream_feed.specs.declared.stage.Asked.{Asked}
 use Rattle.stream_feed.specs.declared.stage.Asked.TheVariants as asked
 
--- what is on the way to the server, where it asked this, with these records
+-- what is on the way to the server, after this command, with these records
 abbrev pub on_the_way : Asked → List (Numbered Fields) → Option (Request Fields)
 on_the_way asked.Nothing b = None
 on_the_way asked.LastId b = Some ask_last
 on_the_way asked.Records b = Some (batch b)
 
--- what `request` promises where no reply is to come is the step `Send` of the model: the model's producer is then
--- where this one is, and what is on the way is what it asked
+-- the contract of `request` while no reply is expected is the step `Send` of the model: the model's producer is then in
+-- the state of this one, and its commands are on the way
 abbrev pub RequestsStayInStep : Type 0
 RequestsStayInStep = (s : Settings) (setting : Setting Fields) → setting.base ≡ s.base → (w : World Fields)
     → w.producer.sent ≡ None → w.producer.answer ≡ None → (out more : List ℕ) (new : Standing) (a : Asked)
@@ -28,7 +28,7 @@ RequestsStayInStep = (s : Settings) (setting : Setting Fields) → setting.base 
     × ((happens setting w (Send s.batch)).producer.sent
     ≡ on_the_way a (next_batch s setting.records w.producer.stage))
 
--- what `answered` promises of the last reply is a step of the model, wherever the answer is the one on its way
+-- the contract of `answered` for the last reply is a step of the model, if the reply is the one on its way
 abbrev pub AnswersStayInStep : Type 0
 AnswersStayInStep = (setting : Setting Fields) (w : World Fields) (x : feed.Answer) → w.producer.answer ≡ Some x
     → (count : ℕ) (a : wire.Answer) → heard w.producer.stage a ≡ Some x

@@ -1,4 +1,4 @@
--- Why a reply is none to what was asked.
+-- Why a reply is not one to the command.
 use Rattle.std.specs.Prelude.{◌≡◌, ℕ, Bool, true, false, nat_eq, Option, Some, None}
 use Rattle.redis_wire.specs.Reply as wire
 use Rattle.redis_wire.specs.Reply.{AnswerList}
@@ -8,7 +8,7 @@ use Rattle.stream_feed.specs.Replies.{last_of, not_standing, reply_count}
 use Rattle.stream_feed.specs.declared.error.FeedError.{FeedError}
 use Rattle.stream_feed.specs.declared.error.FeedError.TheVariants as causes
 
--- the reply is no error
+-- the reply is not an error
 abbrev pub IsNoError : wire.Answer → Type 0
 IsNoError (wire.value t) = Unit {0}
 IsNoError (wire.refused text) = ⊥
@@ -22,7 +22,7 @@ IsValue (wire.refused text) = ⊥
 IsValue (wire.group kind members) = ⊥
 IsValue (wire.pushed kind payload) = ⊥
 
--- the reply as a cause: its text where it is an error, and else that it is no answer
+-- the reply as an error: its text if it is an error reply, and else `NotAnAnswer`
 abbrev pub IsCause : wire.Answer → FeedError → Type 0
 IsCause a causes.NotAsked = ⊥
 IsCause a (causes.Server e) = a ≡ wire.refused e.text.items
@@ -30,7 +30,7 @@ IsCause a causes.NotAnAnswer = IsNoError a
 IsCause a causes.OtherWriter = ⊥
 IsCause a causes.Memory = ⊥
 
--- why it tells no last id
+-- why it has no last id
 abbrev pub IsUnasked : wire.Answer → FeedError → Type 0
 IsUnasked a causes.NotAsked = ⊥
 IsUnasked a (causes.Server e) = (a ≡ wire.refused e.text.items) × (last_of a ≡ None)
@@ -38,7 +38,7 @@ IsUnasked a causes.NotAnAnswer = IsNoError a × (last_of a ≡ None)
 IsUnasked a causes.OtherWriter = ⊥
 IsUnasked a causes.Memory = IsValue a
 
--- the first reply as a cause
+-- the first reply as an error
 abbrev pub IsOfFirst : Option wire.Answer → FeedError → Type 0
 IsOfFirst None e = ⊥
 IsOfFirst (Some a) e = IsCause a e
@@ -55,7 +55,7 @@ OfGroup n groups.Set xs e = e ≡ causes.NotAnAnswer
 OfGroup n groups.Map xs e = e ≡ causes.NotAnAnswer
 OfGroup n groups.Attribute xs e = e ≡ causes.NotAnAnswer
 
--- why a batch of so many records does not stand in the stream, by the reply to EXEC
+-- why a batch of this number of records is not in the stream, by the reply to EXEC
 abbrev pub IsUnexecuted : ℕ → wire.Answer → FeedError → Type 0
 IsUnexecuted n (wire.value t) e = e ≡ causes.NotAnAnswer
 IsUnexecuted n (wire.refused text) e = IsCause (wire.refused text) e

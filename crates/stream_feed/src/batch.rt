@@ -55,7 +55,7 @@ fn append_records(
     ensures { OnOk result (out.new.items ≡ out.old.items
         ++ adds_bytes (head_of settings.now) (numbered before (map arguments_of records.now))) }
 {
-    let front = front_of(alloc, settings)?;
+    let front = build_front(alloc, settings)?;
     let mut id = Vec::new(alloc);
     let mut number = before;
     for fields in records {
@@ -65,17 +65,16 @@ fn append_records(
     Ok(())
 }
 
-/// What each `XADD` of a batch begins with, after the count of its arguments: its name, the key, and how
-/// it trims the stream.
+/// The start of each `XADD` of a batch, after the count of its arguments: its name, the key, and the trimming options.
 #[derive(Drop)]
 struct Front {
-    /// How many arguments these are.
+    /// The number of these arguments.
     count: usize,
     bytes: Vec<u8>,
 }
 
-/// What each `XADD` begins with.
-fn front_of(alloc: Global, settings: &Settings) -> Result<Front, WriteError>
+/// The start of each `XADD`.
+fn build_front(alloc: Global, settings: &Settings) -> Result<Front, WriteError>
     ensures count { IfOk result (λ front. front.count ≡ length (codes "XADD" ∷ head_of settings.now)) }
     ensures bytes { IfOk result (λ front. front.bytes.items
         ≡ flat_map bulk_bytes (codes "XADD" ∷ head_of settings.now)) }
@@ -122,8 +121,8 @@ fn append_record(
     Ok(())
 }
 
-/// Appends how many arguments an `XADD` has: `count` before its id, the id, and two for each field. They
-/// are fewer than 2^32.
+/// Appends the number of arguments of an `XADD`: `count` before its id, the id, and two for each field. They are fewer
+/// than 2^32.
 #[tactic(auto, unfolding(redis_wire::specs::Packed::head_bytes))]
 fn append_head(out: &mut Vec<u8>, count: usize, fields: usize) -> Result<(), WriteError>
     ensures { OnOk result (out.new.items ≡ out.old.items ++ head_bytes (count + 1 + 2 * fields)) }
@@ -141,7 +140,7 @@ fn append_head(out: &mut Vec<u8>, count: usize, fields: usize) -> Result<(), Wri
     Ok(())
 }
 
-/// Writes the id of the record that has this number with the base: `number-0`.
+/// Writes the id `number-0`.
 fn write_id(id: &mut Vec<u8>, number: u64) -> Result<(), AllocError>
     ensures { OnOk result (id.new.items ≡ own_id number) }
 {
@@ -183,7 +182,7 @@ fn append_argument(out: &mut Vec<u8>, argument: &[u8]) -> Result<(), WriteError>
     Ok(())
 }
 
-/// Appends the bytes of a command, which has its name at least. An `Err` changes nothing.
+/// Appends the bytes of a command, which has at least a name. An `Err` changes nothing.
 fn append_command<T: ToRedisArgs>(
     alloc: Global,
     out: &mut Vec<u8>,

@@ -14,14 +14,13 @@ use std::alloc::Global;
 use std::io::{Read, Write};
 use thiserror::Error;
 
-/// Why a producer whose rounds are to be confirmed does not go on over a connection. It is
-/// disconnected then.
+/// Why a producer with confirmed rounds stopped using a connection. It is disconnected then.
 #[derive(Debug, Drop, Error)]
 pub enum ConfirmedError {
     /// A round broke off.
     #[error("{0}")]
     Round(RunError),
-    /// Not as many replicas as are wanted have what was sent, as far as is known.
+    /// Fewer replicas than required acknowledged the writes, as far as is known.
     #[error("{0}")]
     Unconfirmed(ConfirmError),
 }
@@ -49,9 +48,9 @@ impl From<ConfirmError> for ConfirmedError {
 }
 
 impl Producer {
-    /// Makes one round, as `round` does, and then asks WAIT, if `wait` says so and the round asked
-    /// anything. So the records that it takes to be in are on as many replicas as are wanted, and so is
-    /// the last id that it goes on from. Otherwise it is disconnected, and asks for the last id next.
+    /// Makes one round, as `round` does, and then sends WAIT, if `wait` is given and the round sent a command. So the
+    /// records that it counts as added are on the required number of replicas, and so is the last id that it goes on
+    /// from. Otherwise it is disconnected, and reads the last id next.
     pub fn round_confirmed<S: Source, R: Read + Drop, W: Write + Drop>(
         &mut self,
         alloc: Global,
@@ -73,7 +72,7 @@ impl Producer {
         Ok(asked)
     }
 
-    /// Asks WAIT after a round that asked this, if it is wanted.
+    /// Sends WAIT after a round with this command, if `wait` is given.
     fn confirm_round<R: Read + Drop, W: Write + Drop>(
         &mut self,
         alloc: Global,

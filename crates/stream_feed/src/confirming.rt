@@ -1,4 +1,4 @@
-//! WAIT: whether replicas have what was written.
+//! WAIT: whether replicas acknowledged the writes.
 ghost use Rattle.std.specs.Prelude.{◌≡◌, IfErr, OnErr, OnOk};
 ghost use Rattle.stream_feed.specs.Confirmed.{IsConfirmed, IsMade, IsUnconfirmed, wait_sentence};
 ghost use Rattle.stream_feed.specs.Machine.{idle, standing_of};
@@ -12,8 +12,7 @@ use std::io::{Read, Write};
 use thiserror::Error;
 
 impl Wait {
-    /// For so many replicas, and so many milliseconds at most. It is refused by the first cause that
-    /// holds.
+    /// A WAIT for this number of replicas, for at most this number of milliseconds. Returns the first error that holds.
     pub fn new(replicas: u64, milliseconds: u64) -> Result<Wait, WaitError>
         ensures { IsMade replicas milliseconds result }
     {
@@ -38,13 +37,13 @@ impl ToRedisArgs for Wait {
     }
 }
 
-/// Why it is not known that replicas have what was written.
+/// Why the writes are not confirmed.
 #[derive(Debug, Drop, Error)]
 pub enum ConfirmError {
-    /// The server did not say.
+    /// The reply to WAIT is an error or of another kind, or none was received.
     #[error("WAIT: {0}")]
     Ask(AskError),
-    /// So many have it, and more are wanted.
+    /// Only this number of replicas acknowledged the writes.
     #[error("{0} replicas confirmed, and more are wanted")]
     TooFew(u64),
 }
@@ -60,8 +59,8 @@ impl From<AskError> for ConfirmError {
     }
 }
 
-/// Asks WAIT, and takes its reply: Ok if as many replicas as are wanted have all that came to the server
-/// over the connection before.
+/// Sends WAIT and takes its reply: Ok if the required number of replicas acknowledged all earlier writes of the
+/// connection.
 pub fn confirm<R: Read + Drop, W: Write + Drop>(
     alloc: Global,
     connection: &mut Connection<R, W>,
@@ -78,7 +77,7 @@ pub fn confirm<R: Read + Drop, W: Write + Drop>(
 }
 
 impl Producer {
-    /// Asks WAIT as `confirm` does. After an `Err` the producer is disconnected.
+    /// Sends WAIT as `confirm` does. After an `Err` the producer is disconnected.
     pub(crate) fn confirm<R: Read + Drop, W: Write + Drop>(
         &mut self,
         alloc: Global,

@@ -1,4 +1,4 @@
-//! Why a producer asks nothing, or a reply does not bring it on.
+//! Errors of a producer's commands and of their replies.
 use crate::source::NotRead;
 use redis_connection::ConnectionError;
 use redis_resp::WriteError;
@@ -6,7 +6,7 @@ use redis_wire::ServerError;
 use std::alloc::AllocError;
 use thiserror::Error;
 
-/// Why a producer asks nothing. No bytes were appended, and it is where it was.
+/// Why no command was written. No bytes were appended, and the producer is unchanged.
 #[derive(Clone, Copy, Debug, PartialEq, Eq, Error)]
 pub enum RequestError {
     /// The source did not read its records.
@@ -48,20 +48,20 @@ impl From<WriteError> for RequestError {
     }
 }
 
-/// Why a reply does not bring a producer on. But for `NotAsked`, and for an error that answers one
-/// of the commands before the last, it asks for the last id next.
+/// Why a reply is an error to a producer. It reads the last id next, except after `NotAsked` and after an error in
+/// reply to a command before the last.
 #[derive(Debug, Drop, Error)]
 pub enum FeedError {
-    /// No reply was to come.
+    /// No command waits for a reply.
     #[error("an answer to no question")]
     NotAsked,
-    /// The server answered an error, such as `EXECABORT`, `OOM` or `WRONGTYPE`.
+    /// The server returned an error, such as `EXECABORT`, `OOM` or `WRONGTYPE`.
     #[error("the server answers {0}")]
     Server(ServerError),
-    /// The reply is none to the question.
+    /// The reply is not of the kind that the command returns.
     #[error("no answer of a command")]
     NotAnAnswer,
-    /// The last id is above the base, and none of the records: somebody else adds to the stream.
+    /// The last id is above the base, and is not a record's: another client adds to the stream.
     #[error("another writer adds to the stream")]
     OtherWriter,
     /// Out of memory.
@@ -80,19 +80,19 @@ impl From<AllocError> for FeedError {
     }
 }
 
-/// Why a producer does not go on over a connection. It is disconnected then.
+/// Why a producer stopped using a connection. It is disconnected then.
 #[derive(Debug, Drop, Error)]
 pub enum RunError {
-    /// It asked nothing, and nothing was sent.
+    /// No command was written, and nothing was sent.
     #[error("{0}")]
     Request(RequestError),
-    /// Some front of what it asked was sent.
+    /// Only a prefix of its commands was sent.
     #[error("{0}")]
     Send(ConnectionError),
-    /// What it asked was sent, and a reply did not come.
+    /// Its commands were sent, and a reply was not received.
     #[error("{0}")]
     Receive(ConnectionError),
-    /// A reply came, which does not bring it on.
+    /// A reply was received, and is an error to the producer.
     #[error("{0}")]
     Answer(FeedError),
 }

@@ -12,12 +12,12 @@ use crate::error::FeedError;
 use redis_resp::Value;
 use redis_wire::{GroupKind, Reply};
 
-/// What `XADD` answers where the id is not above the last one: the record stands already.
+/// The error of `XADD` if the id is not above the last one: the record is in the stream already.
 const STANDS: &[u8] =
     b"ERR The ID specified in XADD is equal or smaller than the target stream top item";
 
-/// A batch of so many records was executed, and each of them stands in the stream: the reply has
-/// for each the id that was added, or the error that the last id is not below it.
+/// Checks that a batch of `sent` records was executed, and that each of them is in the stream: the reply has for each
+/// the id that was added, or the error that its id is not above the last one.
 pub fn read_executed(reply: Reply, sent: u64) -> Result<(), FeedError>
     ensures ok { OnOk result (is_executed sent (answer reply) ≡ true) }
     ensures err { IfErr result (λ e. (is_executed sent (answer reply) ≡ false)
@@ -25,7 +25,7 @@ pub fn read_executed(reply: Reply, sent: u64) -> Result<(), FeedError>
 {
     match reply {
         Reply::Value(Value::Array(values)) => {
-            if are_so_many(&values, sent) {
+            if has_ids(&values, sent) {
                 Ok(())
             } else {
                 Err(FeedError::NotAnAnswer)
@@ -52,20 +52,19 @@ fn read_members(members: Vec<Reply>, sent: u64) -> Result<(), FeedError>
     each_stands(members)
 }
 
-/// Each reply is one of a record that stands in the stream; the first that is not, where there is
-/// one.
+/// Checks that each reply is one of a record in the stream. Returns the error of the first that is not.
 fn each_stands(members: Vec<Reply>) -> Result<(), FeedError>
     ensures ok { OnOk result (not_standing (answer_list (map answer members.items)) ≡ None) }
     ensures err { IfErr result (IsOfFirst (not_standing (answer_list (map answer members.items)))) }
 {
     for member in members {
-        check_stands(member)?;
+        check_added(member)?;
     }
     Ok(())
 }
 
-/// The reply to XADD is one of a record that stands in the stream.
-fn check_stands(member: Reply) -> Result<(), FeedError>
+/// Checks that the reply to XADD is one of a record in the stream.
+fn check_added(member: Reply) -> Result<(), FeedError>
     ensures ok { OnOk result (stands (answer member) ≡ true) }
     ensures err { IfErr result (λ e. (stands (answer member) ≡ false)
         × IsCause (answer member) e) }
@@ -83,8 +82,8 @@ fn check_stands(member: Reply) -> Result<(), FeedError>
     }
 }
 
-/// There are so many values, and each is an id.
-fn are_so_many(values: &[Value], sent: u64) -> bool
+/// Whether there are `sent` values, each an id.
+fn has_ids(values: &[Value], sent: u64) -> bool
     ensures { result ≡ is_ids sent (array (trees (map tree values.now))) }
 {
     if values.len() as u64 != sent {
@@ -93,14 +92,14 @@ fn are_so_many(values: &[Value], sent: u64) -> bool
     are_ids(values)
 }
 
-/// Each value is an id.
+/// Whether each value is an id.
 fn are_ids(values: &[Value]) -> bool
     ensures { result ≡ list_all (λ v. is_id (tree v)) values.now }
 {
     values.iter().all(|value| is_id(value))
 }
 
-/// The value is a text, as an id is.
+/// Whether the value is a string, as an id is.
 fn is_id(value: &Value) -> bool
     ensures { result ≡ is_id (tree value.now) }
 {

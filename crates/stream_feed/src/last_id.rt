@@ -17,11 +17,11 @@ use std::alloc::{AllocError, Global};
 use std::collections::HashMap;
 use std::io::{Read, Write};
 
-/// What a server answers where there is no stream.
+/// The error of XINFO STREAM if there is no stream.
 const NO_STREAM: &[u8] = b"ERR no such key";
 
-/// Asks for the last id of the stream `key`, as its two numbers. They are 0 and 0 if there is no stream.
-/// So a first run finds the base of records that are added after what is there.
+/// Reads the last id of the stream `key`, as its two numbers. They are 0 and 0 if there is no stream. So a first run
+/// finds the base for records that are added after the stream's entries.
 pub fn ask_last_id<R: Read + Drop, W: Write + Drop>(
     alloc: Global,
     connection: &mut Connection<R, W>,
@@ -43,25 +43,25 @@ pub fn ask_last_id<R: Read + Drop, W: Write + Drop>(
     }
 }
 
-/// The two numbers of the last id that the stream gave out; 0 and 0 where there is no stream.
+/// The two numbers of the stream's `last-generated-id`; 0 and 0 if there is no stream.
 pub fn read_last_id(alloc: Global, reply: Reply) -> Result<(u64, u64), FeedError>
     ensures ok { IfOk result (λ last. last_of (answer reply) ≡ Some last) }
     ensures err { IfErr result (IsUnasked (answer reply)) }
 {
     match reply {
-        Reply::Value(value) => read_told(alloc, value),
-        Reply::Error(error) => read_refused(error),
+        Reply::Value(value) => parse_value(alloc, value),
+        Reply::Error(error) => parse_error(error),
         Reply::Group { .. } | Reply::Push { .. } => Err(FeedError::NotAnAnswer),
     }
 }
 
 /// Reads the last id out of a value.
-fn read_told(alloc: Global, told: Value) -> Result<(u64, u64), FeedError>
+fn parse_value(alloc: Global, told: Value) -> Result<(u64, u64), FeedError>
     ensures ok { IfOk result (λ last. last_in (tree told) ≡ Some last) }
     ensures err { IfErr result (IsUnasked (value (tree told))) }
 {
-    match read_text(alloc, told)? {
-        Some(text) => match numbers_of(text.as_str()) {
+    match find_last_id_text(alloc, told)? {
+        Some(text) => match parse_id(text.as_str()) {
             Some(last) => Ok(last),
             None => Err(FeedError::NotAnAnswer),
         },
@@ -70,7 +70,7 @@ fn read_told(alloc: Global, told: Value) -> Result<(u64, u64), FeedError>
 }
 
 /// Reads an error: without the stream the last id is 0-0.
-fn read_refused(error: ServerError) -> Result<(u64, u64), FeedError>
+fn parse_error(error: ServerError) -> Result<(u64, u64), FeedError>
     ensures ok { IfOk result (λ last. no_stream error.text.items ≡ Some last) }
     ensures err { IfErr result (λ e. (no_stream error.text.items ≡ None)
         × (e ≡ causes.Server error)) }
@@ -82,8 +82,8 @@ fn read_refused(error: ServerError) -> Result<(u64, u64), FeedError>
     }
 }
 
-/// The last id that XINFO STREAM tells, as a text; None where it tells none.
-fn read_text(alloc: Global, told: Value) -> Result<Option<String>, AllocError>
+/// The `last-generated-id` of XINFO STREAM, as text; `None` if the reply has none.
+fn find_last_id_text(alloc: Global, told: Value) -> Result<Option<String>, AllocError>
     ensures { IfOk result (λ text. option_map string_bytes text ≡ last_text (tree told)) }
 {
     let fields: HashMap<String, Value> = match from_redis_value(alloc, told) {
@@ -94,8 +94,8 @@ fn read_text(alloc: Global, told: Value) -> Result<Option<String>, AllocError>
     field_of::<String>(alloc, &fields, "last-generated-id")
 }
 
-/// The two numbers of an id; None where the text is no id of 64 bits each.
-fn numbers_of(text: &str) -> Option<(u64, u64)>
+/// The two numbers of an id; `None` if the text is not two numbers of 64 bits.
+fn parse_id(text: &str) -> Option<(u64, u64)>
     ensures { result ≡ numbers_in text.now }
 {
     let (first, second) = text.split_once('-')?;
@@ -104,7 +104,7 @@ fn numbers_of(text: &str) -> Option<(u64, u64)>
     Some((first, second))
 }
 
-/// The number that a text is, where it fits 64 bits.
+/// Parses a number; `None` if it does not fit 64 bits.
 fn number_of(text: &str) -> Option<u64>
     ensures { result ≡ option_and_then (within 64) (unsigned_of text.now) }
 {

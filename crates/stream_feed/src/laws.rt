@@ -1,4 +1,4 @@
-//! What holds of producers over every schedule.
+//! Laws of producers over every schedule.
 ghost use Rattle.stream_feed.specs.Confirmed.{NoneIsUnconfirmed, UnconfirmedAreRounds, UnconfirmedBreakOff};
 ghost use Rattle.stream_feed.specs.Failover as failover;
 ghost use Rattle.stream_feed.specs.Records.{Fields};
@@ -8,9 +8,8 @@ ghost use Rattle.stream_feed.specs.Schedule.{RunsAreEvents, SessionsRun, StartsA
 ghost use Rattle.stream_feed.specs.Step.{AnswersStayInStep, BreaksStayInStep, RequestsStayInStep};
 ghost use Rattle.stream_once.specs.Law.{DoneIsAll, KnownIsIn, LogGrows, LogIsFirstRecords, LogOnce};
 
-/// The laws of `stream_once`, of records with the fields that a producer sends: what was added is
-/// the first records, in order, each once, with its own fields; and where the producer knows that
-/// so many are in, they are. Nobody else adds to the stream.
+/// The laws of `stream_once`, for records with fields: the stream has the first records, in order, each once, with its
+/// own fields. As many records as the producer knows to be added are in the stream. Nobody else adds to the stream.
 pub fn nothing_twice()
     ensures first { LogIsFirstRecords Fields }
     ensures once { LogOnce Fields }
@@ -19,22 +18,21 @@ pub fn nothing_twice()
     ensures grows { LogGrows Fields }
 {}
 
-/// What `Producer::request`, `answered` and `disconnected` promise are steps of the model: the
-/// producer is then where the model's producer is, and what is on the way is what the model's asked.
+/// The contracts of `Producer::request`, `answered` and `disconnected` are steps of the model. Afterwards the producer
+/// is in the state of the model's producer, and the commands on the way are those of the model.
 pub fn stays_in_step()
     ensures requests { RequestsStayInStep }
     ensures answers { AnswersStayInStep }
     ensures breaks { BreaksStayInStep }
 {}
 
-/// What `Producer::round`, `disconnected` and `new` promise are events of the producer of
-/// `stream_once`: a round that returns Ok, one that breaks off, and a crash with the start after it. So
-/// after each schedule of them (`Runs`) the producer is that of the model, and the bytes of each round
-/// are those of what the model's producer sends. The rounds of a session are such rounds, and so are
-/// those of one that breaks off.
+/// The contracts of `Producer::round`, `disconnected` and `new` are events of the producer of `stream_once`: a round
+/// that returns Ok, one that breaks off, and a crash with the start after it. So after each schedule of them (`Runs`)
+/// the producer is that of the model, and each round sends the bytes of the model's commands. The rounds of a session
+/// are such rounds, and so are those of one that breaks off.
 ///
-/// The premises of a round (`IsServed`) are two. It sends the next of the model's records, which holds
-/// of a source whose records are told. The last reply is the one that the model's server sent.
+/// The premises of a round (`IsServed`) are two. It sends the next of the model's records, which holds for a source
+/// whose records are known. The last reply is the one that the model's server sent.
 pub fn rounds_are_those_of_once()
     ensures rounds { RoundsAreEvents }
     ensures bytes { RoundsSendIt }
@@ -46,9 +44,9 @@ pub fn rounds_are_those_of_once()
     ensures broken { BrokenSessionsRun }
 {}
 
-/// After each schedule of the code the log is the first of the records, in order, each once, with its
-/// own fields. As many records as the code takes to be in are in. If a round asks nothing, the log is
-/// all records; so it is if a session ends by such a round. Nobody else adds to the stream.
+/// After each schedule of the code the log is the first of the records, in order, each once, with its own fields. As
+/// many records as the code counts as added are in it. If a round sends nothing, the log is all records; so it is if a
+/// session ends by such a round. Nobody else adds to the stream.
 pub fn the_code_adds_each_record_once()
     ensures first { CodeAddsFirstRecords }
     ensures once { CodeAddsOnce }
@@ -57,18 +55,17 @@ pub fn the_code_adds_each_record_once()
     ensures all { FinishedIsAll }
 {}
 
-/// Rounds that no WAIT is asked for are rounds as `Producer::run` makes them.
+/// Rounds without a WAIT are rounds as `Producer::run` makes them.
 pub fn rounds_without_wait_are_rounds()
     ensures finished { UnconfirmedAreRounds }
     ensures broke { UnconfirmedBreakOff }
     ensures none { NoneIsUnconfirmed }
 {}
 
-/// A producer whose rounds are confirmed by WAIT (`Producer::round_confirmed`) is that of
-/// `stream_failover`, in which the server may go back to an earlier state. It is so after each schedule
-/// of such rounds, of rounds that break off or are not confirmed, of crashes and of failovers. So as many
-/// records as it takes to be in are in, and stay in. If a round asks nothing, the log is all records, and
-/// stays so. Nobody else adds to the stream.
+/// A producer whose rounds are confirmed by WAIT (`Producer::round_confirmed`) is that of `stream_failover`, in which
+/// the server may go back to an earlier state. It is so after each schedule of such rounds, of rounds that break off or
+/// are not confirmed, of crashes and of failovers. So as many records as it counts as added are in the log, and stay
+/// there. If a round sends nothing, the log is all records, and stays so. Nobody else adds to the stream.
 ///
 /// The premises of a round are those of `rounds_are_those_of_once`, and that the reply to WAIT is the one
 /// that the server sent. The model's premise is that the new master is a replica that confirmed.

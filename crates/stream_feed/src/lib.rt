@@ -1,9 +1,8 @@
-//! A producer that adds records to a stream and repeats none, whatever fails: a machine without
-//! input and output, which says the next bytes to send and takes the replies.
+//! A producer that adds records to a stream and repeats none, whatever fails. It is a state machine without input and
+//! output: it writes the next bytes to send and takes the replies.
 //!
-//! Records are numbered from 1, and the record k has the id `(base + k)-0`. They go out in batches
-//! of `MULTI`, `XADD` for each, `EXEC`; after whatever fails the producer asks the server for the
-//! last id, and goes on after it.
+//! Records are numbered from 1, and the record k has the id `(base + k)-0`. They are sent in batches of `MULTI`, `XADD`
+//! for each, `EXEC`. After a failure the producer reads the last id from the server, and goes on after it.
 #![tactic(auto)]
 
 mod batch;

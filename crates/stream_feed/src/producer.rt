@@ -23,19 +23,19 @@ use redis_wire::Reply;
 use std::alloc::Global;
 use std::mem;
 
-/// A producer that adds records to a stream, without input and output: `request` says the next
-/// bytes to send, and `answered` takes each reply. Each record is added once and in order, whatever
-/// fails, as long as nobody else adds to the stream.
+/// A producer that adds records to a stream, without input and output: `request` writes the next bytes to send, and
+/// `answered` takes each reply. Each record is added once and in order, whatever fails, as long as nobody else adds to
+/// the stream.
 #[derive(Debug, Drop)]
 pub struct Producer {
     settings: Settings,
     stage: Stage,
-    /// So many replies are still to come.
+    /// The number of replies still expected.
     coming: u64,
 }
 
 impl Producer {
-    /// A producer that knows nothing of the stream.
+    /// A producer that does not know the last id yet.
     pub fn new(settings: Settings) -> Producer
         ensures { result ≡ record { settings = settings; stage = Stage.Asking; coming = 0 } }
     {
@@ -46,22 +46,22 @@ impl Producer {
         }
     }
 
-    /// What it knows of the stream.
+    /// The current stage.
     pub fn stage(&self) -> Stage
         ensures { result ≡ self.now.stage }
     {
         self.stage
     }
 
-    /// How many replies are still to come.
+    /// The number of replies still expected.
     pub fn coming(&self) -> u64
         ensures { result ≡ self.now.coming }
     {
         self.coming
     }
 
-    /// Has the source read ahead if a batch is on its way, since the records after it are asked next.
-    pub(crate) fn look_ahead<S: Source>(&self, alloc: Global, source: &mut S)
+    /// Calls the source's `read_ahead` if a batch is on its way, since the records after it are read next.
+    pub(crate) fn announce_next<S: Source>(&self, alloc: Global, source: &mut S)
         ensures { S.records source.new ≡ S.records source.old }
     {
         if let Stage::Waits(batch) = self.stage {
@@ -69,7 +69,7 @@ impl Producer {
         }
     }
 
-    /// One reply fewer is still to come.
+    /// Counts down the expected replies.
     pub(crate) fn count_reply(&mut self)
         requires { 0 < self.old.coming }
         ensures coming { self.new.coming + 1 ≡ self.old.coming }
@@ -79,8 +79,8 @@ impl Producer {
         self.coming -= 1;
     }
 
-    /// The connection is closed, and what did not come of the replies is not to come: it asks for
-    /// the last id next. Call it also after a `FeedError` whose connection goes on no further.
+    /// Records that the connection was closed: no more replies are expected, and it reads the last id next. Call it
+    /// also after a `FeedError`, if you close the connection then.
     pub fn disconnected(&mut self)
         ensures standing { standing_of self.new ≡ idle }
         ensures settings { self.new.settings ≡ self.old.settings }
@@ -89,10 +89,9 @@ impl Producer {
         self.coming = 0;
     }
 
-    /// Appends the bytes to send next: where it knows nothing, `XINFO STREAM key`; where it knows how
-    /// many records are in, `MULTI`, `XADD` of each record of the next batch, and `EXEC`, or nothing
-    /// where all records are in. It appends nothing where replies are still to come. An `Err` appends
-    /// nothing, and after it the same is requested again.
+    /// Appends the bytes to send next: `XINFO STREAM key` if it does not know the last id; else `MULTI`, `XADD` of each
+    /// record of the next batch, and `EXEC`, or nothing if all records are added. It appends nothing while replies are
+    /// expected. An `Err` appends nothing, and the next call requests the same again.
     #[tactic(auto, using(crate::proofs::TakenLemmas::still_to_come, crate::proofs::TakenLemmas::none_to_come))]
     pub fn request<S: Source>(
         &mut self,
@@ -119,7 +118,7 @@ impl Producer {
         }
     }
 
-    /// Asks for the last id.
+    /// Appends the command for the last id.
     fn ask(&mut self, alloc: Global, out: &mut Vec<u8>) -> Result<Asked, RequestError>
         ensures bytes { OnOk result (out.new.items
             ≡ out.old.items ++ ask_bytes (string_bytes self.old.settings.key)) }
@@ -134,8 +133,7 @@ impl Producer {
         Ok(Asked::LastId)
     }
 
-    /// Sends the records behind the first `known` ones, as many as go into a batch; nothing where
-    /// there are none.
+    /// Appends a batch of the records after the first `known` ones; nothing if there are none.
     fn send<S: Source>(
         &mut self,
         alloc: Global,
@@ -158,7 +156,7 @@ impl Producer {
         self.send_read(alloc, out, known, &records)
     }
 
-    /// Sends these records; nothing where there are none.
+    /// Appends a batch of these records; nothing if there are none.
     fn send_read(
         &mut self,
         alloc: Global,
@@ -182,7 +180,7 @@ impl Producer {
         self.send_records(alloc, out, known, records)
     }
 
-    /// Sends these records, of which there is one at least.
+    /// Appends a batch of these records, of which there is at least one.
     fn send_records(
         &mut self,
         alloc: Global,
@@ -205,16 +203,16 @@ impl Producer {
         ensures settings { self.new.settings ≡ self.old.settings }
     {
         let sent = records.len() as u64;
-        let before = id_before(self.settings.base, known, sent)?;
+        let before = compute_id_before(self.settings.base, known, sent)?;
         append_batch(alloc, out, &self.settings, before, records)?;
         self.stage = Stage::Waits(OnTheWay { known, sent });
         self.coming = sent + 2;
         Ok(Asked::Records)
     }
 
-    /// Takes the next reply to what was requested last. `count` is how many records there are. Of
-    /// the replies to a batch the last one counts, that of `EXEC`; an error before it is returned,
-    /// and the others are still to come. After an error in the last one it asks for the last id.
+    /// Takes the next reply to what was requested last. `count` is how many records there are. Of the replies to a
+    /// batch the last one counts, that of `EXEC`; an error before it is returned, and the others are still expected.
+    /// After an error in the last one it reads the last id.
     #[tactic(auto, using(crate::proofs::TakenLemmas::taken))]
     pub fn answered(&mut self, alloc: Global, reply: Reply, count: u64) -> Result<(), FeedError>
         ensures ok { OnOk result (Took self.old.settings.base count (standing_of self.old)
@@ -237,9 +235,8 @@ impl Producer {
     }
 }
 
-/// The number that the id of the record before these has with the base. The ids of all of them are
-/// of 64 bits.
-fn id_before(base: u64, known: u64, sent: u64) -> Result<u64, RequestError>
+/// The number in the id of the record before these. The ids of all of them fit 64 bits.
+fn compute_id_before(base: u64, known: u64, sent: u64) -> Result<u64, RequestError>
     ensures ok { IfOk result (λ before. (before ≡ base + known) × (before + sent < 2 ^ 64)) }
     ensures err { IfErr result (λ e. (e ≡ causes.NoIdLeft) × (2 ^ 64 ≤ base + known + sent)) }
 {
@@ -255,7 +252,7 @@ fn id_before(base: u64, known: u64, sent: u64) -> Result<u64, RequestError>
     }
 }
 
-/// What is known by the last reply.
+/// The stage after the last reply.
 #[tactic(auto, using(crate::proofs::TakenLemmas::learnt_executed))]
 fn learn(
     alloc: Global,
@@ -278,7 +275,7 @@ fn learn(
     }
 }
 
-/// How many records are in, by the last id: none if it is at or below the base.
+/// How many records are added, by the last id: none if it is at or below the base.
 fn learn_last(alloc: Global, base: u64, reply: Reply, count: u64) -> Result<Stage, FeedError>
     ensures ok { IfOk result (λ next. Learns base count asking (stage_of next) (answer reply)) }
     ensures err { IfErr result (Unlearnt base count asking (answer reply)) }
@@ -293,7 +290,7 @@ fn learn_last(alloc: Global, base: u64, reply: Reply, count: u64) -> Result<Stag
     Ok(Stage::Knows(last - base))
 }
 
-/// The reply to a command before EXEC is anything but an error.
+/// Checks that the reply to a command before EXEC is not an error.
 fn take_queued(reply: Reply) -> Result<(), FeedError>
     ensures ok { OnOk result (IsNoError (answer reply)) }
     ensures err { IfErr result (IsCause (answer reply)) }

@@ -13,8 +13,8 @@ use std::alloc::Global;
 use std::io::{Read, Write};
 
 impl Producer {
-    /// Takes the replies that are still to come.
-    fn hear<R: Read + Drop, W: Write + Drop>(
+    /// Takes the replies that are still expected.
+    fn take_replies<R: Read + Drop, W: Write + Drop>(
         &mut self,
         alloc: Global,
         connection: &mut Connection<R, W>,
@@ -27,13 +27,13 @@ impl Producer {
         ensures settings { self.new.settings ≡ self.old.settings }
     {
         for _reply in 0..self.coming() {
-            self.hear_next(alloc, connection, count)?;
+            self.take_next(alloc, connection, count)?;
         }
         Ok(())
     }
 
-    /// Takes the next reply. It builds no value of a line that is not the last reply.
-    fn hear_next<R: Read + Drop, W: Write + Drop>(
+    /// Takes the next reply. It does not decode a simple string that is not the last reply.
+    fn take_next<R: Read + Drop, W: Write + Drop>(
         &mut self,
         alloc: Global,
         connection: &mut Connection<R, W>,
@@ -46,13 +46,13 @@ impl Producer {
         ensures settings { self.new.settings ≡ self.old.settings }
     {
         if self.coming() > 1 {
-            return self.hear_queued(alloc, connection, count);
+            return self.take_queued_reply(alloc, connection, count);
         }
         self.hear_reply(alloc, connection, count)
     }
 
-    /// Takes the next reply. At least one more is to come after it.
-    fn hear_queued<R: Read + Drop, W: Write + Drop>(
+    /// Takes the next reply. At least one more is expected after it.
+    fn take_queued_reply<R: Read + Drop, W: Write + Drop>(
         &mut self,
         alloc: Global,
         connection: &mut Connection<R, W>,
@@ -72,8 +72,8 @@ impl Producer {
         }
     }
 
-    /// Takes the next reply if it is a line such as `+QUEUED`, which is no error. It returns whether it
-    /// is. If not, the reply is still to come.
+    /// Takes the next reply if it is a simple string such as `+QUEUED`. Returns whether it is; if not, the reply is not
+    /// taken.
     fn hears_line<R: Read + Drop, W: Write + Drop>(
         &mut self,
         alloc: Global,
@@ -123,7 +123,7 @@ impl Producer {
         }
     }
 
-    /// Makes one round, and after an error leaves the producer where it is.
+    /// Makes one round. An error leaves the producer as it is.
     fn try_round<S: Source, R: Read + Drop, W: Write + Drop>(
         &mut self,
         alloc: Global,
@@ -143,14 +143,14 @@ impl Producer {
         if let Err(error) = connection.send_bytes(&bytes) {
             return Err(RunError::Send(error));
         }
-        self.look_ahead(alloc, source);
-        self.hear(alloc, connection, count)?;
+        self.announce_next(alloc, source);
+        self.take_replies(alloc, connection, count)?;
         Ok(asked)
     }
 
-    /// Makes one round of `run`: it asks, and takes all replies. It asks `Nothing` where all records
-    /// are in. `count` is how many records there are. After an `Err` it is disconnected, and replies
-    /// may still come: close the connection.
+    /// Makes one round of `run`: it sends commands, and takes all replies. It sends `Nothing` if all records are added.
+    /// `count` is how many records there are. After an `Err` it is disconnected, and replies may still arrive: close
+    /// the connection.
     pub fn round<S: Source, R: Read + Drop, W: Write + Drop>(
         &mut self,
         alloc: Global,
@@ -175,11 +175,11 @@ impl Producer {
         }
     }
 
-    /// Runs for so many rounds, or until all records are in: whether they are. It begins with the
-    /// question for the last id, whatever it knew. `count` is how many records there are.
+    /// Runs for `rounds` rounds, or until all records are added. Returns whether they are. It always begins by reading
+    /// the last id. `count` is how many records there are.
     ///
-    /// After an `Err` it is disconnected, and replies may still come: close the connection, and run
-    /// it again over another one.
+    /// After an `Err` it is disconnected, and replies may still arrive: close the connection, and run it again over a
+    /// new one.
     pub fn run<S: Source, R: Read + Drop, W: Write + Drop>(
         &mut self,
         alloc: Global,
@@ -208,7 +208,7 @@ impl Producer {
     }
 }
 
-/// Whether bytes begin with `+`, as a line does that is no error.
+/// Whether bytes begin with `+`, as a simple string does.
 fn is_line(bytes: &[u8]) -> bool
     ensures { IsTrue result ↔ BeginsAsLine bytes.now }
 {

@@ -1,11 +1,11 @@
-//! What a producer is asked to do.
+//! The settings of a producer.
 ghost use Rattle.std.specs.Prelude.{◌≡◌, Some, string_bytes};
 ghost use Rattle.stream_feed.specs.Checked.{based, checked};
 
 use stream_options::StreamTrimStrategy;
 use thiserror::Error;
 
-/// Why settings are none.
+/// Why the settings were refused.
 #[derive(Clone, Copy, Debug, PartialEq, Eq, Error)]
 pub enum SettingsError {
     /// The key is empty.
@@ -17,28 +17,28 @@ pub enum SettingsError {
     /// A batch has more than 10,000 records.
     #[error("a batch has 10,000 records at most")]
     LargeBatch,
-    /// No id of 64 bits is behind the base.
+    /// No id of 64 bits is above the base.
     #[error("no id is behind the base")]
     LargeBase,
 }
 
-/// What a producer is asked to do.
+/// The settings of a producer.
 #[derive(Debug, Drop)]
 pub struct Settings {
-    /// The stream.
+    /// The key of the stream.
     pub(crate) key: String,
     /// The first record has the id `(base + 1)-0`.
     pub(crate) base: u64,
-    /// At most so many records are sent at once.
+    /// The most records in a batch.
     pub(crate) batch: usize,
     /// How each XADD trims the stream, if it does.
     pub(crate) trim: Option<StreamTrimStrategy>,
 }
 
 impl Settings {
-    /// To the stream `key`, with the ids `(base + 1)-0`, `(base + 2)-0` and so on, at most `batch`
-    /// records at once, from 1 to 10,000. The base stays the same for all time that these records
-    /// are added to the stream. Nothing is trimmed. It is refused by the first cause that holds.
+    /// Settings for the stream `key`, the ids `(base + 1)-0`, `(base + 2)-0` and so on, and at most `batch` records at
+    /// once, from 1 to 10,000. Use the same base as long as these records are added to the stream. Nothing is trimmed.
+    /// Returns the first error that holds.
     pub fn new(key: String, base: u64, batch: usize) -> Result<Settings, SettingsError>
         ensures { result ≡ checked key base batch }
     {
@@ -62,7 +62,7 @@ impl Settings {
         })
     }
 
-    /// The stream.
+    /// The key of the stream.
     pub fn key(&self) -> &str
         ensures { result.now ≡ string_bytes self.now.key }
     {
@@ -80,8 +80,8 @@ impl Settings {
         Ok(self)
     }
 
-    /// Each `XADD` has this `MAXLEN` or `MINID`, in place of any before. So the stream keeps the newest
-    /// entries. Its last id is not changed by that, so no record is added again.
+    /// Each `XADD` has this `MAXLEN` or `MINID`, in place of any before. So the stream keeps only the newest entries.
+    /// Trimming does not change its last id, so no record is added again.
     pub fn trim(mut self, strategy: StreamTrimStrategy) -> Settings
         ensures { result ≡ record self { trim = Some strategy } }
     {

@@ -1,34 +1,34 @@
-//! What a producer knows.
+//! The stage of a producer.
 ghost use Rattle.std.specs.Prelude.{◌+◌, ◌<◌, ◌^◌};
 
-/// Records that were sent and are not answered.
+/// A batch that was sent and has no reply yet.
 #[derive(Clone, Copy, Debug, PartialEq, Eq)]
 pub struct OnTheWay {
-    /// So many records are in the stream before them.
+    /// How many records were added before the batch.
     pub known: u64,
-    /// So many were sent.
+    /// How many records were sent.
     pub sent: u64,
     ghost fits: { known + sent < 2 ^ 64 },
 }
 
-/// What a producer knows of the stream.
+/// What a producer knows of the stream's records.
 #[derive(Clone, Copy, Debug, PartialEq, Eq)]
 pub enum Stage {
-    /// Nothing: it asks for the last id.
+    /// Nothing: it reads the last id.
     Asking,
-    /// So many records are in the stream, the first ones.
+    /// This number of records are in the stream, the first ones.
     Knows(u64),
-    /// So are those before the ones that are on the way.
+    /// A batch is on its way, and the records before it are in the stream.
     Waits(OnTheWay),
 }
 
-/// What a producer asks.
+/// The command that a producer sends.
 #[derive(Clone, Copy, Debug, PartialEq, Eq)]
 pub enum Asked {
-    /// Nothing: replies are still to come, or all records are in.
+    /// None: replies are still expected, or all records are added.
     Nothing,
-    /// The last id of the stream.
+    /// `XINFO STREAM`, for the last id.
     LastId,
-    /// That records are added.
+    /// A batch of records.
     Records,
 }

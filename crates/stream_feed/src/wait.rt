@@ -1,26 +1,26 @@
-//! What is asked of replicas.
+//! The settings of a WAIT.
 ghost use Rattle.std.specs.Prelude.{◌<◌};
 
 use thiserror::Error;
 
-/// Why a WAIT is none.
+/// Why the settings of a WAIT were refused.
 #[derive(Clone, Copy, Debug, PartialEq, Eq, Error)]
 pub enum WaitError {
-    /// No replica is waited for, so nothing would be confirmed.
+    /// The number of replicas is 0, so nothing would be confirmed.
     #[error("WAIT is for one replica at least")]
     NoReplicas,
-    /// The server would wait for ever.
+    /// The milliseconds are 0: the server would wait forever.
     #[error("WAIT has one millisecond at least")]
     NoTime,
 }
 
-/// The command `WAIT replicas milliseconds`. The server replies how many replicas have all that came
-/// to it over the connection before, after so many milliseconds at most. Fewer are no error of it.
+/// The command `WAIT replicas milliseconds`. The server returns the number of replicas that acknowledged all earlier
+/// writes of the connection, after at most this number of milliseconds. Fewer are not an error reply.
 #[derive(Clone, Copy, Debug, PartialEq, Eq)]
 pub struct Wait {
-    /// So many replicas are waited for.
+    /// The number of replicas.
     pub(crate) replicas: u64,
-    /// So many milliseconds at most.
+    /// The most milliseconds to wait.
     pub(crate) milliseconds: u64,
     ghost some: { 0 < replicas },
 }

@@ -9,7 +9,7 @@ use Rattle.stream_files.specs.Files.{Form, Files, batch, commits, reopens}
 use Rattle.stream_files.specs.Law.{MayLeave}
 
 module _ {D : Type 0} (seen : D → Option (List ℕ)) (may_leave : D → List ℕ → Type 0) (is_sound : D → Type 0) where
-  -- a log with this file, so many committed bytes, and whether a commit failed, holds the worker's file
+  -- a log with this file, this number of committed bytes, and this flag for a failed commit holds the worker's file
   abbrev pub HoldsFile : D → ℕ → Bool → Files → Name → Type 0
   HoldsFile file len is_broken f name = Holds seen may_leave is_sound (f.file name) file len is_broken
 
@@ -18,12 +18,13 @@ module _ {D : Type 0} (seen : D → Option (List ℕ)) (may_leave : D → List �
   HeldLeavesSo = (file : D) (len : ℕ) (is_broken : Bool) (f : Files) (name : Name)
       → HoldsFile file len is_broken f name → (bytes : List ℕ) → may_leave file bytes → MayLeave f name bytes
 
-  -- opened on what a crash left, it holds the file that the worker has after `Reopens`
+  -- opened on what a crash left, the log holds the file that the worker has after `Reopens`
   abbrev pub OpensSo : D → D → ℕ → Bool → Type 0
   OpensSo old new len is_broken = (form : Form) (f : Files) (name : Name) (every : ℕ) (torn : List ℕ) (ids : List Id)
       → seen old ≡ Some (f.file name ++ torn) → HoldsFile new len is_broken (reopens form f name every torn ids) name
 
-  -- if it held the file and gathered the lines of a commit, it holds the file that the worker has after `Commits`
+  -- if the log held the file and the lines of a commit were added, it holds the file that the worker has after
+  -- `Commits`
   abbrev pub CommitsSo : List ℕ → D → ℕ → Bool → D → ℕ → Bool → Type 0
   CommitsSo gathered old old_len was_broken new len is_broken =
       (form : Form) (f : Files) (name : Name) (gives_up : Entry → Bool) → gathered ≡ batch form f name gives_up

@@ -38,7 +38,7 @@ begins [] bytes = true
 begins (x ∷ xs) [] = false
 begins (x ∷ xs) (b ∷ bs) = x == b && begins xs bs
 
--- a line of these bytes is this one, where the first line begins at once, or behind the next line feed
+-- a line of these bytes is this one; the first line begins at once, or after the next line feed
 abbrev pub has_line_from : Bool → List ℕ → List ℕ → Bool
 has_line_from at_once line [] = false
 has_line_from at_once line (b ∷ bs) =
@@ -81,7 +81,7 @@ commits form f consumer gives_up = record {
   letters = f.letters ++ filter gives_up (f.stream.loose consumer);
 }
 
--- the file of a worker after a crash that left these bytes behind what is committed
+-- the file of a worker after a crash that left these bytes after what is committed
 abbrev pub repaired : Files → Name → List ℕ → List ℕ
 repaired f consumer torn = whole_lines (f.file consumer ++ torn)
 

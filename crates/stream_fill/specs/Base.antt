@@ -1,4 +1,4 @@
--- The base of records that are added after entries that a stream has already, as a file keeps it.
+-- The base of records that are added after the entries of a stream, stored in a file.
 use Rattle.std.specs.Prelude.{◌≡◌, ◌⊎◌, ℕ, ◌<◌, ◌^◌, List, [], ◌∷◌, ◌++◌, decimal, Option, Some, None, IfSome}
 use Rattle.line_log.specs.Device.{Only}
 use Rattle.line_log.specs.declared.error.LogError.TheVariants as logs
@@ -16,45 +16,45 @@ abbrev pub BeginsWithNumber : List ℕ → ℕ → Type 0
 BeginsWithNumber bytes n =
     ((bytes ≡ []) × (n ≡ 0)) ⊎ ((bytes ≡ decimal n) ⊎ ((rest : List ℕ) × (bytes ≡ decimal n ++ 32 ∷ rest)))
 
--- the line of some base begins with these bytes, and has this after them
+-- the line of some base begins with these bytes, and continues with these
 abbrev pub IsFront : List ℕ → List ℕ → List ℕ → Type 0
 IsFront key bytes rest = (base : ℕ) × (base < 2 ^ 64) × (base_line key base ≡ bytes ++ rest)
 
--- what bytes keep for a stream: a base, if they are its line; none yet, if they are a part of the line of one
+-- the base that bytes have for a stream: if they are its line; none yet, if they are a part of the line of one
 abbrev pub Keeps : List ℕ → List ℕ → Option ℕ → Type 0
 Keeps key bytes (Some base) = bytes ≡ base_line key base
 Keeps key bytes None = (next : ℕ) × (rest : List ℕ) × IsFront key bytes (next ∷ rest)
 
--- they are something else: no line begins with them
+-- they have another content: no line begins with them
 abbrev pub IsOther : List ℕ → List ℕ → Type 0
 IsOther key bytes = (rest : List ℕ) → IsFront key bytes rest → ⊥
 
--- why these bytes keep none
+-- why these bytes have none
 abbrev pub IsUnkept : List ℕ → List ℕ → BaseError → Type 0
 IsUnkept key bytes causes.OtherFile = IsOther key bytes
 IsUnkept key bytes (causes.File e) = e ≡ logs.Memory
 IsUnkept key bytes (causes.Ask e) = ⊥
 
--- why it was not read: the file has something else in it, or was not read
+-- why it was not read: the file has another content, or could not be read
 abbrev pub IsUnread : Option (List ℕ) → List ℕ → BaseError → Type 0
 IsUnread seen key causes.OtherFile = IfSome seen (IsOther key)
 IsUnread seen key (causes.File e) = Unit {0}
 IsUnread seen key (causes.Ask e) = ⊥
 
--- it is of the file, or of memory
+-- the error is of the file, or of memory
 abbrev pub IsOfFile : BaseError → Type 0
 IsOfFile causes.OtherFile = ⊥
 IsOfFile (causes.File e) = Unit {0}
 IsOfFile (causes.Ask e) = ⊥
 
 module _ {D : Type 0} (seen : D → Option (List ℕ)) (may_leave : D → List ℕ → Type 0) (key : List ℕ) where
-  -- the file keeps this base; nothing was asked, and the file stays as it is
+  -- the file has this base; no command was sent, and the file stays as it is
   pub record IsKept (file file' : D) (old new : Link) (base : ℕ) : Type 0 where
     pub line : IfSome (seen file) (λ bytes. Keeps key bytes (Some base))
     pub same : file' ≡ file
     pub unasked : new ≡ old
 
-  -- it kept none yet; the base is the first number of the last id, and the file keeps it now, also after a crash
+  -- it had none yet; the base is the first number of the last id, and the file has it now, also after a crash
   pub record IsAsked (file file' : D) (old new : Link) (base : ℕ) : Type 0 where
     pub none : IfSome (seen file) (λ bytes. Keeps key bytes None)
     pub second : ℕ
@@ -62,17 +62,17 @@ module _ {D : Type 0} (seen : D → Option (List ℕ)) (may_leave : D → List �
     pub line : IfSome (seen file) (λ _. seen file' ≡ Some (base_line key base))
     pub durable : IfSome (seen file) (λ _. Only (base_line key base) (may_leave file'))
 
-  -- so a base is found
+  -- a base is found
   abbrev pub FindsBase : D → D → Link → Link → ℕ → Type 0
   FindsBase file file' old new base = IsKept file file' old new base ⊎ IsAsked file file' old new base
 
 module _ {D : Type 0} (seen : D → Option (List ℕ)) (key : List ℕ) where
-  -- nothing was asked, and the file stays as it is
+  -- no command was sent, and the file stays as it is
   abbrev pub IsUntouched : D → D → Link → Link → Type 0
   IsUntouched file file' old new = (file' ≡ file) × (new ≡ old)
 
-  -- why there is none: the file has something else in it; the file was not read or written, after the question or
-  -- before it; or the last id is not known, and the file stays as it is
+  -- why there is none: the file has another content; the file could not be read or written, after the command or before
+  -- it; or the last id is not known, and the file stays as it is
   abbrev pub HasNoBase : D → D → Link → Link → BaseError → Type 0
   HasNoBase file file' old new causes.OtherFile = IfSome (seen file) (IsOther key) × IsUntouched file file' old new
   HasNoBase file file' old new (causes.File e) =

@@ -1,4 +1,4 @@
--- How a session ends that does not bring all records in.
+-- The end of a session that did not add all records.
 use Rattle.std.specs.Prelude.{ℕ, ◌-◌, ◌^◌, List, Option}
 use Rattle.redis_connection.specs.Link.{Link}
 use Rattle.stream_feed.specs.Confirmed.{BrokeConfirmed, ConfirmedRounds}
@@ -9,7 +9,7 @@ use Rattle.stream_feed.specs.declared.wait.Wait.{Wait}
 use Rattle.stream_fill.specs.declared.fill.FillError.{FillError}
 use Rattle.stream_fill.specs.declared.fill.FillError.TheVariants as causes
 
--- a round broke off or was not confirmed, by this error; or so many rounds were made that no number is left
+-- a round broke off or was not confirmed, with this error; or the number of rounds is at its maximum
 abbrev pub Fails : Option Wait → Settings → Option (List Fields) → ℕ → Link → Link → FillError → Type 0
 Fails wait s known count old new (causes.Round e) = BrokeConfirmed wait s known count old new e
 Fails wait s known count old new causes.NoTurnLeft =

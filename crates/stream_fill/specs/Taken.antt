@@ -1,26 +1,26 @@
--- What is read of a buffer.
+-- The lines that are read from a buffer.
 use Rattle.std.specs.Prelude.{◌≡◌, ◌≢◌, ℕ, List, [], ◌∷◌, ◌++◌, Contains, Vec}
 use Rattle.std.specs.declared.alloc.Global.{Global}
 use Rattle.stream_feed.specs.Records.{arguments_of}
 use Rattle.stream_fill.specs.declared.lines.Form.{Form}
 use Rattle.stream_fill.specs.declared.lines.Form.TheVariants as forms
 
--- a record as the code has it
+-- the type of a record in the code
 abbrev pub Record : Type 0
 Record = Vec (Vec ℕ Global × Vec ℕ Global) Global
 
--- these bytes begin with these lines, each of which has its end, and `rest` is after them
+-- these bytes begin with these lines, each of which has its line end, and `rest` is after them
 abbrev pub BeginsWith : List ℕ → List (List ℕ) → List ℕ → Type 0
 BeginsWith bytes [] rest = bytes ≡ rest
 BeginsWith bytes (l ∷ ls) rest =
     (more : List ℕ) × (bytes ≡ l ++ 10 ∷ more) × (Contains l 10 → ⊥) × BeginsWith more ls rest
 
--- the record of a line: of a text it has one field. What the fields of a line of JSON are is not stated
+-- the record of a line: a text gives one field. The fields of a JSON line are not stated
 abbrev pub IsRecordOf : Form → List ℕ → Record → Type 0
 IsRecordOf forms.Json line r = r.items ≢ []
 IsRecordOf (forms.Text name) line r = arguments_of r ≡ name.items ∷ line ∷ []
 
--- so is each of these of its line
+-- the same of each of these and its line
 abbrev pub AreRecordsOf : Form → List (List ℕ) → List Record → Type 0
 AreRecordsOf form [] [] = Unit {0}
 AreRecordsOf form [] (r ∷ rs) = ⊥

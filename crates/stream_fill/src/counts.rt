@@ -1,21 +1,21 @@
-//! What the program did.
+//! The counts of the program.
 ghost use Rattle.std.specs.Prelude.{◌≡◌, ℕ};
 
 use std::fmt;
 use stream_feed::{Asked, Stage};
 
-/// What was done.
+/// Counts of the records.
 #[derive(Clone, Copy)]
 pub struct Counts {
-    /// So many records are in.
+    /// How many records are in the stream.
     known: u64,
-    /// So many of them were in before.
+    /// How many of them were in it before.
     there: u64,
     batches: u64,
 }
 
 impl Counts {
-    /// Nothing yet.
+    /// All counts at 0.
     pub fn new() -> Counts
         ensures { result ≡ record { known = 0; there = 0; batches = 0 } }
     {
@@ -26,7 +26,7 @@ impl Counts {
         }
     }
 
-    /// Takes what was asked, and what is known then.
+    /// Counts after a round with this command, which ended in this stage.
     pub fn take(&mut self, asked: Asked, stage: Stage)
         ensures known { (n : ℕ) → stage ≡ Stage.Knows n → self.new.known ≡ n }
     {

@@ -1,4 +1,4 @@
-//! Rounds until all records are in.
+//! Rounds until all records are added.
 ghost use Rattle.std.specs.Prelude.{◌≡◌, IfErr, OnOk};
 ghost use Rattle.stream_feed.specs.Confirmed.{FinishedConfirmed};
 ghost use Rattle.stream_fill.specs.Filled.{Fails};
@@ -10,13 +10,13 @@ use std::io::{Read, Write};
 use stream_feed::{Asked, ConfirmedError, Producer, Settings, Source, Wait};
 use thiserror::Error;
 
-/// Why not all records are in.
+/// Why not all records were added.
 #[derive(Debug, Drop, Error)]
 pub enum FillError {
     /// A round broke off, or was not confirmed.
     #[error("{0}")]
     Round(ConfirmedError),
-    /// So many rounds were made that no number is left.
+    /// The number of rounds is at its maximum.
     #[error("the last turn came")]
     NoTurnLeft,
 }
@@ -32,9 +32,8 @@ impl From<ConfirmedError> for FillError {
     }
 }
 
-/// Makes rounds until one asks nothing, since all records are in, or until one breaks off. It begins
-/// with knowing nothing. `count` is how many records there are. With `wait` each round is confirmed by
-/// so many replicas.
+/// Makes rounds until one sends nothing, since all records are added, or until one breaks off. It begins by reading the
+/// last id. `count` is how many records there are. With `wait` each round is confirmed by replicas.
 pub fn fill<S: Source, R: Read + Drop, W: Write + Drop>(
     alloc: Global,
     connection: &mut Connection<R, W>,

@@ -8,7 +8,7 @@ use std::alloc::{AllocError, AllocFailed, Global};
 use stream_feed::{Field, Record};
 use thiserror::Error;
 
-/// Why a line is no record.
+/// Why a line is not a record.
 #[derive(Clone, Copy, Debug, Error)]
 pub enum NoRecord {
     #[error("is no JSON")]
@@ -34,13 +34,13 @@ impl<T: Drop> From<AllocFailed<T>> for NoRecord {
 }
 
 /// The record of a line: an object of texts, `{"name":"value",..}`, or a line of `stream_drain`,
-/// `{"id":"1-0","fields":[["name","value"],..]}`, whose id is passed over. A text is a string or,
-/// where it is not UTF-8, `{"base64":".."}`.
+/// `{"id":"1-0","fields":[["name","value"],..]}`, whose id is ignored. A text is a string or, if it is not UTF-8,
+/// `{"base64":".."}`.
 pub fn record_of_json(alloc: Global, scratch: &mut Scratch, line: &[u8]) -> Result<Record, NoRecord>
     ensures { IfOk result (λ r. r.items ≢ []) }
 {
     let record = match Value::from_slice(alloc, line, scratch) {
-        Ok(value) => record_of_value(alloc, &value)?,
+        Ok(value) => parse_value(alloc, &value)?,
         Err(json::Error::OutOfMemory) => return Err(NoRecord::Memory),
         Err(_) => return Err(NoRecord::NoJson),
     };
@@ -51,87 +51,87 @@ pub fn record_of_json(alloc: Global, scratch: &mut Scratch, line: &[u8]) -> Resu
 }
 
 /// The record of a value.
-fn record_of_value(alloc: Global, value: &Value<'_>) -> Result<Record, NoRecord> {
+fn parse_value(alloc: Global, value: &Value<'_>) -> Result<Record, NoRecord> {
     match value {
-        Value::Object(members) => record_of_object(alloc, members),
+        Value::Object(members) => parse_object(alloc, members),
         _ => Err(NoRecord::NoTexts),
     }
 }
 
 /// The record of an object, which is a line of `stream_drain` or has a field for each member.
-fn record_of_object(alloc: Global, members: &[(&str, Value<'_>)]) -> Result<Record, NoRecord> {
+fn parse_object(alloc: Global, members: &[(&str, Value<'_>)]) -> Result<Record, NoRecord> {
     if let [id, fields] = members {
         if is_id(id) && fields.0 == "fields" {
             if let Value::Array(pairs) = &fields.1 {
-                return record_of_pairs(alloc, pairs);
+                return parse_pairs(alloc, pairs);
             }
         }
     }
-    record_of_members(alloc, members)
+    parse_members(alloc, members)
 }
 
-/// The member is the id of a line of `stream_drain`.
+/// Whether the member is the id of a line of `stream_drain`.
 fn is_id(member: &(&str, Value<'_>)) -> bool {
     member.0 == "id" && matches!(&member.1, Value::String(_))
 }
 
-/// Each pair is a field.
-fn record_of_pairs(alloc: Global, pairs: &[Value<'_>]) -> Result<Record, NoRecord>
+/// The record of pairs, each of which is a field.
+fn parse_pairs(alloc: Global, pairs: &[Value<'_>]) -> Result<Record, NoRecord>
     ensures { IfOk result (λ r. length r.items ≡ length pairs.now) }
 {
     let mut record = Vec::new(alloc);
     for pair in pairs {
-        record.push(field_of_pair(alloc, pair)?)?;
+        record.push(parse_pair(alloc, pair)?)?;
     }
     Ok(record)
 }
 
-/// An array of a name and a value is a field.
-fn field_of_pair(alloc: Global, pair: &Value<'_>) -> Result<Field, NoRecord> {
+/// The field of an array of a name and a value.
+fn parse_pair(alloc: Global, pair: &Value<'_>) -> Result<Field, NoRecord> {
     let Value::Array(texts) = pair else {
         return Err(NoRecord::NoTexts);
     };
     match texts.as_slice() {
-        [name, value] => Ok((text_of(alloc, name)?, text_of(alloc, value)?)),
+        [name, value] => Ok((parse_text(alloc, name)?, parse_text(alloc, value)?)),
         _ => Err(NoRecord::NoTexts),
     }
 }
 
-/// Each member is a field.
-fn record_of_members(alloc: Global, members: &[(&str, Value<'_>)]) -> Result<Record, NoRecord>
+/// The record of members, each of which is a field.
+fn parse_members(alloc: Global, members: &[(&str, Value<'_>)]) -> Result<Record, NoRecord>
     ensures { IfOk result (λ r. length r.items ≡ length members.now) }
 {
     let mut record = Vec::new(alloc);
     for member in members {
-        record.push(field_of_member(alloc, member)?)?;
+        record.push(parse_member(alloc, member)?)?;
     }
     Ok(record)
 }
 
-/// A member is a field: its name and its text.
-fn field_of_member(alloc: Global, member: &(&str, Value<'_>)) -> Result<Field, NoRecord> {
+/// The field of a member: its name and its text.
+fn parse_member(alloc: Global, member: &(&str, Value<'_>)) -> Result<Field, NoRecord> {
     let name = Vec::from_slice(alloc, member.0.as_bytes())?;
-    Ok((name, text_of(alloc, &member.1)?))
+    Ok((name, parse_text(alloc, &member.1)?))
 }
 
-/// A text: a string, or an object of its Base64.
-fn text_of(alloc: Global, value: &Value<'_>) -> Result<Vec<u8>, NoRecord> {
+/// The bytes of a text: a string, or an object with Base64.
+fn parse_text(alloc: Global, value: &Value<'_>) -> Result<Vec<u8>, NoRecord> {
     match value {
         Value::String(text) => Ok(Vec::from_slice(alloc, text.as_bytes())?),
         Value::Object(members) => match members.as_slice() {
-            [member] => bytes_of(alloc, member),
+            [member] => decode_member(alloc, member),
             _ => Err(NoRecord::NoTexts),
         },
         _ => Err(NoRecord::NoTexts),
     }
 }
 
-/// The bytes that a member with Base64 encodes.
-fn bytes_of(alloc: Global, member: &(&str, Value<'_>)) -> Result<Vec<u8>, NoRecord> {
+/// Decodes a member with Base64.
+fn decode_member(alloc: Global, member: &(&str, Value<'_>)) -> Result<Vec<u8>, NoRecord> {
     match &member.1 {
         Value::String(text) => {
             if member.0 == "base64" {
-                decoded(alloc, text)
+                decode_base64(alloc, text)
             } else {
                 Err(NoRecord::NoTexts)
             }
@@ -140,8 +140,8 @@ fn bytes_of(alloc: Global, member: &(&str, Value<'_>)) -> Result<Vec<u8>, NoReco
     }
 }
 
-/// The bytes that this encodes.
-fn decoded(alloc: Global, text: &str) -> Result<Vec<u8>, NoRecord> {
+/// Decodes Base64.
+fn decode_base64(alloc: Global, text: &str) -> Result<Vec<u8>, NoRecord> {
     match STANDARD.decode(alloc, text.as_bytes()) {
         Ok(bytes) => Ok(bytes),
         Err(DecodeAllocError::OutOfMemory) => Err(NoRecord::Memory),

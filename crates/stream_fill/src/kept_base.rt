@@ -1,7 +1,7 @@
-//! The base of records that are added after entries that a stream has already: a file keeps it.
+//! The base of records that are added after the entries of a stream, stored in a file.
 //!
-//! A first run takes the last id of the stream as the base. It writes the base to the file, and has the disk
-//! take it in, before it adds anything. So a later run finds the same base, and goes on.
+//! A first run takes the last id of the stream as the base. It writes the base to the file, and syncs it, before it
+//! adds anything. So a later run finds the same base, and goes on.
 ghost use Rattle.std.specs.Prelude.{◌≡◌, ◌<◌, ◌^◌, ℕ, Some, decimal, IfErr, IfOk, IfSome, OnOk};
 ghost use Rattle.line_log.specs.Device.{Only};
 ghost use Rattle.stream_fill.specs.Base.{BeginsWithNumber, FindsBase, HasNoBase, IsOfFile, IsUnkept, IsUnread, Keeps, base_line};
@@ -16,16 +16,16 @@ use std::str;
 use stream_feed::{RunError, ask_last_id};
 use thiserror::Error;
 
-/// Why there is no base.
+/// Why no base was found.
 #[derive(Debug, Drop, Error)]
 pub enum BaseError {
-    /// The file has something else in it.
+    /// The file has another content.
     #[error("keeps no base of this stream")]
     OtherFile,
-    /// The file was not read or written.
+    /// The file could not be read or written.
     #[error("{0}")]
     File(LogError),
-    /// The server did not say what the last id is.
+    /// The last id could not be read from the server.
     #[error("{0}")]
     Ask(RunError),
 }
@@ -64,8 +64,8 @@ impl From<RunError> for BaseError {
     }
 }
 
-/// The base that the file keeps for the stream `key`. If it keeps none, the base is the first number of
-/// the last id that the stream has, and the file keeps that from now on.
+/// Returns the base that the file has for the stream `key`. If it has none, the base is the first number of the
+/// stream's last id, and is written to the file.
 pub fn find_base<D: LogFile, R: Read + Drop, W: Write + Drop>(
     alloc: Global,
     file: &mut D,
@@ -83,8 +83,8 @@ pub fn find_base<D: LogFile, R: Read + Drop, W: Write + Drop>(
     Ok(base)
 }
 
-/// The base that a file keeps for the stream `key`, if it keeps one. A run that was killed while it wrote the
-/// base may have left a part of it. That is no base, and nothing was added yet.
+/// Reads the base that a file has for the stream `key`, if any. A run that was killed while it wrote the base may have
+/// left a part of it. That is not a base, and nothing was added yet.
 #[tactic(auto, using(crate::proofs::KeepLemmas::whole_kept))]
 fn read_base<D: LogFile>(alloc: Global, file: &D, key: &str) -> Result<Option<u64>, BaseError>
     ensures ok { IfOk result (λ found. IfSome (D.seen file.now) (λ bytes. Keeps key.now bytes found)) }
@@ -95,7 +95,7 @@ fn read_base<D: LogFile>(alloc: Global, file: &D, key: &str) -> Result<Option<u6
     base_in(alloc, &bytes, key)
 }
 
-/// The base that these bytes of a file keep, if they are not a part of such a line.
+/// Parses the base in these bytes of a file; `None` if they are only a part of such a line.
 fn base_in(alloc: Global, bytes: &[u8], key: &str) -> Result<Option<u64>, BaseError>
     ensures ok { IfOk result (Keeps key.now bytes.now) }
     ensures err { IfErr result (IsUnkept key.now bytes.now) }
@@ -103,7 +103,7 @@ fn base_in(alloc: Global, bytes: &[u8], key: &str) -> Result<Option<u64>, BaseEr
     let Some(base) = number_at_front(bytes) else {
         return Err(BaseError::OtherFile);
     };
-    let line = line_of(alloc, key, base)?;
+    let line = format_base(alloc, key, base)?;
     if bytes == line.as_slice() {
         return Ok(Some(base));
     }
@@ -113,7 +113,7 @@ fn base_in(alloc: Global, bytes: &[u8], key: &str) -> Result<Option<u64>, BaseEr
     Err(BaseError::OtherFile)
 }
 
-/// The number that bytes begin with, up to a space or their end; 0 if there are no bytes.
+/// Parses the number at the start of bytes, up to a space or their end; 0 if there are no bytes.
 #[tactic(auto, using(crate::proofs::BaseLemmas::of_nothing, crate::proofs::BaseLemmas::before_space, crate::proofs::BaseLemmas::without_space))]
 fn number_at_front(bytes: &[u8]) -> Option<u64>
     ensures { (n : ℕ) → n < 2 ^ 64 → BeginsWithNumber bytes.now n → result ≡ Some n }
@@ -127,7 +127,7 @@ fn number_at_front(bytes: &[u8]) -> Option<u64>
     }
 }
 
-/// The number that these digits are.
+/// Parses these digits as a number.
 #[tactic(auto, using(crate::proofs::BaseLemmas::not_text, crate::proofs::BaseLemmas::read_back))]
 fn number_of(digits: &[u8]) -> Option<u64>
     ensures { (n : ℕ) → n < 2 ^ 64 → digits.now ≡ decimal n → result ≡ Some n }
@@ -138,7 +138,7 @@ fn number_of(digits: &[u8]) -> Option<u64>
     text.parse::<u64>().ok()
 }
 
-/// Has the file keep this base, in place of a part of one.
+/// Writes this base to the file, in place of a part of one.
 #[tactic(auto, using(crate::proofs::KeepLemmas::line_kept))]
 fn keep_base<D: LogFile>(alloc: Global, file: &mut D, key: &str, base: u64) -> Result<(), BaseError>
     ensures kept { OnOk result (IfSome (D.seen file.old)
@@ -147,15 +147,15 @@ fn keep_base<D: LogFile>(alloc: Global, file: &mut D, key: &str, base: u64) -> R
         (λ _. Only (base_line key.now base) (D.may_leave file.new))) }
     ensures err { IfErr result IsOfFile }
 {
-    let line = line_of(alloc, key, base)?;
+    let line = format_base(alloc, key, base)?;
     file.cut(0)?;
     file.append(&line)?;
     file.sync()?;
     Ok(())
 }
 
-/// The line that keeps a base: its digits, a space, the key and a line feed.
-fn line_of(alloc: Global, key: &str, base: u64) -> Result<Vec<u8>, AllocError>
+/// The line of a base: its digits, a space, the key and a line feed.
+fn format_base(alloc: Global, key: &str, base: u64) -> Result<Vec<u8>, AllocError>
     ensures { IfOk result (λ line. line.items ≡ base_line key.now base) }
 {
     let mut line = Vec::new(alloc);

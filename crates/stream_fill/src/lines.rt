@@ -14,54 +14,53 @@ use std::io::{BufRead, BufReader, Seek, SeekFrom};
 use std::rt::Files;
 use stream_feed::{NotRead, Record, Source};
 
-/// So many bytes of the file are read at once.
+/// How many bytes of the file are read at once.
 const PIECE: usize = 65_536;
 
-/// The place of each so manieth line is kept.
+/// Remembers the file offset of every 65,536th line.
 const STEP: u64 = 65_536;
 
-/// What a line is.
+/// The form of a line.
 #[derive(Drop)]
 pub enum Form {
-    /// An object of JSON.
+    /// A JSON object.
     Json,
     /// The value of the field of this name.
     Text(Vec<u8>),
 }
 
-/// Records that were read before they are asked for.
+/// Records that were read ahead.
 #[derive(Drop)]
 struct Ahead {
-    /// So many are before them.
+    /// How many records are before them.
     behind: u64,
     records: Vec<Record>,
 }
 
-/// A file of lines, each of which is a record. Lines that come in behind those that stand there at
-/// the start are not read.
+/// A file of lines, each of which is a record. Lines that are appended after it was opened are not read.
 #[derive(Drop)]
 pub struct Lines {
     file: BufReader<File>,
     form: Form,
-    /// Where each line begins whose number before it can be divided by `STEP`.
+    /// The offset of each line whose number, counted from 0, is a multiple of `STEP`.
     places: Vec<u64>,
-    /// So many lines stand before what is read next, where that is known.
+    /// The number of the line that is read next, counted from 0; `None` if it is unknown.
     before: Option<u64>,
-    /// The line that was read last; it keeps its room for the next one.
+    /// The line that was read last; its buffer is reused for the next one.
     line: Vec<u8>,
     scratch: Scratch,
-    /// The records that were read ahead, where some were.
+    /// The records that were read ahead, if any.
     ahead: Option<Ahead>,
     /// How many lines there are.
     pub count: u64,
-    /// Behind them stands a line without an end.
+    /// Whether a line without a line end is after them.
     pub is_torn: bool,
-    /// Why records were not read.
+    /// The error of the last read that failed.
     pub fault: Option<Error>,
 }
 
 impl Lines {
-    /// The lines of the file of this path, which are counted.
+    /// Opens the file of this path, and counts its lines.
     pub fn open<R: Files<File = File> + AllocGlobal>(
         rt: &R,
         path: &str,
@@ -88,13 +87,13 @@ impl Lines {
         Ok(lines)
     }
 
-    /// Counts the lines, and keeps places.
+    /// Counts the lines, and stores offsets.
     fn count_all(&mut self) -> Result<()> {
         self.places.push(0)?;
         let mut place = 0u64;
         for _ in 0..u64::MAX {
             place = self.count_buffered(place)?;
-            if !self.next_line()? {
+            if !self.read_next_line()? {
                 self.is_torn = !self.line.is_empty();
                 return Ok(());
             }
@@ -106,8 +105,8 @@ impl Lines {
         bail!("the file has no end")
     }
 
-    /// Counts the lines that are whole in the buffer, which begins at this place of the file. It returns
-    /// where the next line begins.
+    /// Counts the whole lines in the buffer, which begins at this offset of the file. Returns the offset of the next
+    /// line.
     fn count_buffered(&mut self, begin: u64) -> Result<u64> {
         let Ok(piece) = self.file.fill_buf() else {
             return Ok(begin);
@@ -122,8 +121,8 @@ impl Lines {
         Ok(begin.saturating_add(len as u64))
     }
 
-    /// Reads the next line, without its end. False where none has an end.
-    fn next_line(&mut self) -> Result<bool> {
+    /// Reads the next line, without its line end. Returns false if there is no line end.
+    fn read_next_line(&mut self) -> Result<bool> {
         self.line.clear();
         let _len = self
             .file
@@ -137,8 +136,8 @@ impl Lines {
         }
     }
 
-    /// Goes to where so many lines stand before.
-    fn go_to(&mut self, behind: u64) -> Result<()> {
+    /// Seeks to the line after the first `behind` ones.
+    fn seek_line(&mut self, behind: u64) -> Result<()> {
         if self.before == Some(behind) {
             return Ok(());
         }
@@ -151,7 +150,7 @@ impl Lines {
             .seek(SeekFrom::Start(*place))
             .context("cannot read the file")?;
         for _ in 0..behind % STEP {
-            if !self.next_line()? {
+            if !self.read_next_line()? {
                 bail!("the file became shorter");
             }
         }
@@ -159,10 +158,10 @@ impl Lines {
     }
 
     /// The records after the first `behind` ones, at most `most` of them.
-    fn records_from(&mut self, alloc: Global, behind: u64, most: usize) -> Result<Vec<Record>> {
+    fn read_from(&mut self, alloc: Global, behind: u64, most: usize) -> Result<Vec<Record>> {
         let mut records = Vec::new(alloc);
         if behind < self.count {
-            self.go_to(behind)?;
+            self.seek_line(behind)?;
             self.before = None;
             let left = self.count.saturating_sub(behind).min(most as u64);
             self.read_records(alloc, &mut records, behind, left)?;
@@ -171,7 +170,7 @@ impl Lines {
         Ok(records)
     }
 
-    /// Reads the next lines as records, until there are so many.
+    /// Reads the next lines as records, up to this number.
     fn read_records(
         &mut self,
         alloc: Global,
@@ -184,16 +183,16 @@ impl Lines {
             if records.len() as u64 >= most {
                 return Ok(());
             }
-            if !self.next_line()? {
+            if !self.read_next_line()? {
                 bail!("the file became shorter");
             }
-            let number = number_of_next(records, behind);
-            records.push(record_of(alloc, &self.form, &mut self.scratch, &self.line, number)?)?;
+            let number = find_next_number(records, behind);
+            records.push(parse_record(alloc, &self.form, &mut self.scratch, &self.line, number)?)?;
         }
         Ok(())
     }
 
-    /// Reads the lines that are whole in the buffer as records, until there are so many.
+    /// Reads the whole lines in the buffer as records, up to this number.
     fn read_buffered(
         &mut self,
         alloc: Global,
@@ -218,7 +217,7 @@ impl Source for Lines {
     fn read(&mut self, alloc: Global, behind: u64, most: usize) -> Result<Vec<Record>, NotRead> {
         let mut records = match self.ahead.take() {
             Some(ahead) if ahead.behind == behind => ahead.records,
-            _ => match self.records_from(alloc, behind, most) {
+            _ => match self.read_from(alloc, behind, most) {
                 Ok(records) => records,
                 Err(fault) => {
                     self.fault = Some(fault);
@@ -231,15 +230,14 @@ impl Source for Lines {
     }
 
     fn read_ahead(&mut self, alloc: Global, behind: u64, most: usize) {
-        self.ahead = match self.records_from(alloc, behind, most) {
+        self.ahead = match self.read_from(alloc, behind, most) {
             Ok(records) => Some(Ahead { behind, records }),
             Err(_fault) => None,
         };
     }
 }
 
-/// Takes the lines that are whole in these bytes as records, until there are so many. It returns what
-/// is after them.
+/// Takes the whole lines in these bytes as records, up to this number. Returns the bytes after them.
 #[tactic(auto, using(crate::proofs::TakenLemmas::none_taken, crate::proofs::TakenLemmas::one_more_taken))]
 fn take_lines<'a>(
     alloc: Global,
@@ -258,14 +256,14 @@ fn take_lines<'a>(
         let Some((line, after)) = split_at_byte(rest, b'\n') else {
             break;
         };
-        let number = number_of_next(records, behind);
-        records.push(record_of(alloc, form, scratch, line, number)?)?;
+        let number = find_next_number(records, behind);
+        records.push(parse_record(alloc, form, scratch, line, number)?)?;
         rest = after;
     }
     Ok(rest)
 }
 
-/// Counts a line, where the next one begins at this place.
+/// Counts a line after which the next one begins at this offset.
 fn count_line(count: &mut u64, places: &mut Vec<u64>, place: u64) -> Result<(), AllocError> {
     *count = count.saturating_add(1);
     if *count % STEP == 0 {
@@ -275,14 +273,14 @@ fn count_line(count: &mut u64, places: &mut Vec<u64>, place: u64) -> Result<(), 
 }
 
 /// The number of the next line, if these records were read after the first `behind` ones.
-fn number_of_next(records: &Vec<Record>, behind: u64) -> u64 {
+fn find_next_number(records: &Vec<Record>, behind: u64) -> u64 {
     behind
         .saturating_add(records.len() as u64)
         .saturating_add(1)
 }
 
-/// The record of a line, which has this number.
-fn record_of(
+/// The record of the line with this number.
+fn parse_record(
     alloc: Global,
     form: &Form,
     scratch: &mut Scratch,
@@ -296,7 +294,7 @@ fn record_of(
             Ok(record) => Ok(record),
             Err(cause) => Err(anyhow!("line {number} {cause}")),
         },
-        Form::Text(name) => match record_of_text(alloc, name, line) {
+        Form::Text(name) => match make_text_record(alloc, name, line) {
             Ok(record) => Ok(record),
             Err(error) => Err(error.into()),
         },
@@ -304,7 +302,7 @@ fn record_of(
 }
 
 /// A record of one field.
-fn record_of_text(alloc: Global, name: &Vec<u8>, value: &[u8]) -> Result<Record, AllocError>
+fn make_text_record(alloc: Global, name: &Vec<u8>, value: &[u8]) -> Result<Record, AllocError>
     ensures { IfOk result (λ r. arguments_of r ≡ name.now.items ∷ value.now ∷ []) }
 {
     let mut record = Vec::with_capacity(alloc, 1)?;

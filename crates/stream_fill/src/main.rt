@@ -1,21 +1,19 @@
-//! Fills a stream with the lines of a file, each once and in order, over a connection that stands at
-//! its standard input and output:
+//! Fills a stream with the lines of a file, each once and in order, over a connection at its standard input and output:
 //!
 //! ```text
 //! bash -c 'exec 3<>/dev/tcp/127.0.0.1/6379; stream_fill orders orders.txt <&3 >&3'
 //! ```
 //!
-//! The line k is a record with the id `(base + k)-0` and one field, `line` or what `--field` says. With
-//! `--json` each line is an object of texts, `{"name":"value",..}`, or a line that `stream_drain --json`
-//! wrote, whose fields it has; a text that is not UTF-8 stands there as `{"base64":".."}`. Batches of
-//! `--batch` records go out, 1,000 if nothing is said. With `--wait REPLICAS MS` so many replicas are to
-//! confirm each batch in so many milliseconds. It keeps nothing on a disk: it asks the server how many of
-//! the lines are in, and goes on after them. So after whatever failed it is called
-//! again with the same words.
+//! The line k is a record with the id `(base + k)-0` and one field, which is named `line` or by `--field`. With
+//! `--json` each line is an object of texts, `{"name":"value",..}`, or a line that `stream_drain --json` wrote, with
+//! the same fields; a text that is not UTF-8 is `{"base64":".."}` there. Batches have `--batch` records, 1,000 by
+//! default. With `--wait REPLICAS MS` each batch waits for REPLICAS replicas, at most MS milliseconds. It stores
+//! nothing on disk: it reads from the server how many of the lines are added, and goes on after them. So after any
+//! failure call it again with the same arguments.
 //!
-//! What it did stands on standard error at the end. It ends with 0 where all lines are in, with 2 if a
-//! word is wrong, and else with 1 and the reason. A last line without an end is not added, and is a
-//! reason. `--help` tells its words.
+//! It prints its counts on standard error at the end. The exit status is 0 if all lines are added, 2 if an argument is
+//! wrong, and else 1 with the reason. A last line without a line end is not added, and is such a reason. `--help`
+//! prints its arguments.
 #![tactic(auto)]
 
 ghost use Rattle.std.specs.Prelude.{◌≡◌, IfOk, IfSome, IsErr, IsOk, OnErr, OnOk};
@@ -46,36 +44,35 @@ use std::{env, io};
 use stream_feed::{ConfirmedError, RequestError, RunError, Settings};
 
 fn main(rt: HostRuntime) -> Result<ExitCode> {
-    let words = words_of(&rt)?;
+    let words = read_arguments(&rt)?;
     match options_of(rt.alloc(), &words) {
-        Ok(options) => ended(rt.alloc(), fill_by(&rt, options)),
+        Ok(options) => choose_exit(rt.alloc(), fill_by(&rt, options)),
         Err(error) => Ok(tell(rt.alloc(), &rt, &error)?),
     }
 }
 
-/// How the program ends: with status 0 exactly if all lines are in, and else with the reason.
-fn ended(alloc: Global, outcome: Result<()>) -> Result<ExitCode>
+/// The exit status: 0 exactly if all lines are added, and else the error.
+fn choose_exit(alloc: Global, outcome: Result<()>) -> Result<ExitCode>
     ensures all { OnOk outcome (IfOk result (λ code. exit_status code ≡ 0)) }
     ensures given { OnOk outcome (IsOk result) }
     ensures failed { OnErr outcome (IsErr result) }
 {
     match outcome {
         Ok(()) => Ok(ExitCode::SUCCESS),
-        Err(error) => Err(masked(alloc, error)),
+        Err(error) => Err(mask_error(alloc, error)),
     }
 }
 
-/// An error as it may be shown: a control character, which could steer a terminal, stands in its text
-/// as `?`.
-fn masked(alloc: Global, error: Error) -> Error {
-    match masked_text(alloc, &error) {
+/// An error that may be shown: a control character, which could steer a terminal, is `?` in its text.
+fn mask_error(alloc: Global, error: Error) -> Error {
+    match mask_text(alloc, &error) {
         Ok(Some(text)) => Error::msg(text),
         Ok(None) | Err(_) => error,
     }
 }
 
 /// The text of an error that has a control character in it, masked.
-fn masked_text(alloc: Global, error: &Error) -> Result<Option<String>, AllocError> {
+fn mask_text(alloc: Global, error: &Error) -> Result<Option<String>, AllocError> {
     let text = format!(in alloc; "{error}")?;
     if !text.chars().any(char::is_control) {
         return Ok(None);
@@ -87,8 +84,8 @@ fn masked_text(alloc: Global, error: &Error) -> Result<Option<String>, AllocErro
     Ok(Some(shown))
 }
 
-/// The words that the program is called with.
-fn words_of(rt: &HostRuntime) -> Result<Vec<String>> {
+/// The arguments of the program.
+fn read_arguments(rt: &HostRuntime) -> Result<Vec<String>> {
     let mut words = Vec::new(rt.alloc());
     for word in env::args(rt)?.skip(1) {
         words.push(word)?;
@@ -96,7 +93,7 @@ fn words_of(rt: &HostRuntime) -> Result<Vec<String>> {
     Ok(words)
 }
 
-/// Fills as these options say, over standard input and output.
+/// Fills by these options, over standard input and output.
 fn fill_by(rt: &HostRuntime, options: Options) -> Result<()> {
     let Options {
         mut settings,
@@ -112,7 +109,7 @@ fn fill_by(rt: &HostRuntime, options: Options) -> Result<()> {
     if is_onto {
         let path = format!(in alloc; "{path}.onto")?;
         let mut file = open_kept(rt, path.as_str())?;
-        settings = after_entries(alloc, settings, &mut file, &mut connection, path.as_str())?;
+        settings = use_kept_base(alloc, settings, &mut file, &mut connection, path.as_str())?;
         kept = Some(file);
     }
     let mut counts = Counts::new();
@@ -126,11 +123,11 @@ fn fill_by(rt: &HostRuntime, options: Options) -> Result<()> {
         wait,
         &mut counts,
     );
-    // Until here no other run has the file that keeps the base.
+    // Until here no other run has the file of the base open.
     drop(kept);
     eprintln!(rt; "{counts}")?;
     if let Err(error) = ended {
-        return Err(told(error, lines.fault));
+        return Err(explain_error(error, lines.fault));
     }
     if lines.is_torn {
         bail!("the last line has no end, and is not added");
@@ -138,7 +135,7 @@ fn fill_by(rt: &HostRuntime, options: Options) -> Result<()> {
     Ok(())
 }
 
-/// The file that keeps the base of lines that are added after what the stream has.
+/// Opens the file of the base, for lines that are added after the stream's entries.
 fn open_kept(rt: &HostRuntime, path: &str) -> Result<SystemFile> {
     match SystemFile::open(rt, path) {
         Ok(file) => Ok(file),
@@ -149,8 +146,8 @@ fn open_kept(rt: &HostRuntime, path: &str) -> Result<SystemFile> {
     }
 }
 
-/// The settings with the base that the file keeps.
-fn after_entries<R: Read + Drop, W: Write + Drop>(
+/// The settings with the base of the file.
+fn use_kept_base<R: Read + Drop, W: Write + Drop>(
     alloc: Global,
     settings: Settings,
     file: &mut SystemFile,
@@ -167,8 +164,8 @@ fn after_entries<R: Read + Drop, W: Write + Drop>(
     }
 }
 
-/// Why not all lines are in. If records were not read, it is the fault of the file.
-fn told(error: FillError, fault: Option<Error>) -> Error
+/// The error that not all lines were added. If records were not read, it is the fault of the file.
+fn explain_error(error: FillError, fault: Option<Error>) -> Error
     ensures { error ≡ FillError.Round (ConfirmedError.Round (RunError.Request RequestError.NotRead))
         → IfSome fault (λ f. result ≡ f) }
 {

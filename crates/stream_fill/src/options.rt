@@ -1,4 +1,4 @@
-//! The words that the program is called with.
+//! The arguments of the program.
 ghost use Rattle.std.specs.Prelude.{◌≡◌, ◌≤◌, IfOk, IfSome, None, length};
 ghost use Rattle.clap.specs.Words.{found_of};
 ghost use Rattle.command_lines.specs.Numbers.{number_of};
@@ -14,15 +14,15 @@ use std::alloc::{AllocError, Global};
 use stream_feed::{Settings, Wait};
 use stream_options::{StreamTrimStrategy, StreamTrimmingMode};
 
-/// What the program is to do.
+/// The options of the program.
 #[derive(Drop)]
 pub struct Options {
     pub settings: Settings,
     pub path: String,
     pub form: Form,
-    /// The lines are added after what the stream has.
+    /// Whether the lines are added after the stream's entries.
     pub is_onto: bool,
-    /// So many replicas are to confirm each batch.
+    /// This number of replicas must confirm each batch.
     pub wait: Option<Wait>,
 }
 
@@ -51,7 +51,7 @@ const MINID: &str = "Each XADD keeps the entries from this id on, as its MINID";
 const APPROXIMATE: &str =
     "With --maxlen or --minid: as XADD's ~, it may keep somewhat more, which is faster";
 
-/// The options of these words.
+/// The options of these arguments.
 pub fn options_of(alloc: Global, words: &[String]) -> Result<Options, Error>
     ensures { IfOk result (λ _. 2 ≤ length words.now) }
 {
@@ -60,7 +60,7 @@ pub fn options_of(alloc: Global, words: &[String]) -> Result<Options, Error>
     options_in(alloc, &mut command, &matches)
 }
 
-/// The options that a line asks for, by what was found in it.
+/// The options of a command line, by its matches.
 fn options_in(
     alloc: Global,
     command: &mut Command<'_>,
@@ -73,7 +73,7 @@ fn options_in(
     Ok(Options {
         settings,
         path: String::from_str(alloc, word_of(matches, "FILE"))?,
-        form: form_of(alloc, matches)?,
+        form: read_form(alloc, matches)?,
         is_onto: matches.get_flag("onto"),
         wait,
     })
@@ -101,8 +101,8 @@ fn command_of<'a>(alloc: Global) -> Result<Command<'a>, AllocError> {
         .arg(wait(alloc, help))
 }
 
-/// What a line is.
-fn form_of(alloc: Global, matches: &ArgMatches<'_>) -> Result<Form, AllocError>
+/// The form of a line.
+fn read_form(alloc: Global, matches: &ArgMatches<'_>) -> Result<Form, AllocError>
     ensures { IfOk result (λ form. HasForm (found_of matches.now) form) }
 {
     if matches.get_flag("json") {
@@ -123,15 +123,15 @@ fn settings_of(
     let base = BASE.of(matches).unwrap_or(0);
     let batch = BATCH.of(matches).unwrap_or(0) as usize;
     let mode = mode_of(matches);
-    let trim = trim_of(alloc, command, matches, mode)?;
+    let trim = read_trim(alloc, command, matches, mode)?;
     match Settings::new(key, base, batch) {
-        Ok(settings) => Ok(trimmed(settings, trim)),
+        Ok(settings) => Ok(apply_trim(settings, trim)),
         Err(error) => Err(refused(alloc, command, &error)),
     }
 }
 
-/// The settings with how each XADD trims the stream, if it does.
-fn trimmed(settings: Settings, trim: Option<StreamTrimStrategy>) -> Settings
+/// The settings with the trimming of each XADD, if any.
+fn apply_trim(settings: Settings, trim: Option<StreamTrimStrategy>) -> Settings
     ensures { settings.trim ≡ None → result ≡ record settings { trim = trim } }
 {
     match trim {
@@ -140,7 +140,7 @@ fn trimmed(settings: Settings, trim: Option<StreamTrimStrategy>) -> Settings
     }
 }
 
-/// How exactly `--maxlen` and `--minid` are meant.
+/// The trimming mode of `--maxlen` and `--minid`, exact or approximate.
 fn mode_of(matches: &ArgMatches<'_>) -> StreamTrimmingMode
     ensures { HasMode (found_of matches.now) result }
 {
@@ -151,8 +151,8 @@ fn mode_of(matches: &ArgMatches<'_>) -> StreamTrimmingMode
     }
 }
 
-/// How each XADD trims the stream, if it does: so exactly, by `--maxlen` or `--minid`.
-fn trim_of(
+/// The trimming of each XADD, if any: by `--maxlen` or `--minid`, in this mode.
+fn read_trim(
     alloc: Global,
     command: &mut Command<'_>,
     matches: &ArgMatches<'_>,
@@ -161,7 +161,7 @@ fn trim_of(
     ensures { IfOk result (λ trim. TrimsBy (found_of matches.now) mode trim) }
 {
     if let Some(word) = matches.get_str("maxlen") {
-        let Some(len) = length_of(word) else {
+        let Some(len) = parse_length(word) else {
             let reason = "wanted is a number of entries";
             return Err(refused_value(alloc, command, word, "--maxlen <N>", reason));
         };
@@ -182,8 +182,8 @@ fn trim_of(
     Ok(None)
 }
 
-/// A length that MAXLEN takes: below 2^63.
-fn length_of(word: &str) -> Option<usize>
+/// A length that MAXLEN accepts: below 2^63.
+fn parse_length(word: &str) -> Option<usize>
     ensures { IfSome result (λ len. len ≡ number_of word.now) }
 {
     let len = word.parse::<usize>().ok()?;

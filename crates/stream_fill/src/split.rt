@@ -1,9 +1,9 @@
-//! Bytes that a byte parts.
+//! Splitting bytes at a byte.
 ghost use Rattle.std.specs.Prelude.{◌≡◌, ◌∷◌, ◌++◌, Contains, IfSome, IsNone};
 
 use memchr::memchr;
 
-/// What is before the first such byte, and what is after it. None if there is none.
+/// Splits bytes at the first such byte, which is in neither part. `None` if there is none.
 pub fn split_at_byte(bytes: &[u8], byte: u8) -> Option<(&[u8], &[u8])>
     ensures some { IfSome result (λ s. bytes.now ≡ s.0.now ++ byte ∷ s.1.now) }
     ensures first { IfSome result (λ s. Contains s.0.now byte → ⊥) }

@@ -1,4 +1,4 @@
--- What is acknowledged was replied `done`, over all rounds of a worker.
+-- Acknowledged entries had the reply `done`, over all rounds of a worker.
 use Rattle.std.specs.Prelude.{◌≡◌, ◌⊎◌, ℕ, List, [], ◌∷◌, ◌++◌, flat_map, Bool, Option, Some}
 use Rattle.std.specs.List.{AllByRecursion}
 use Rattle.redis_connection.specs.Link.{Link}
@@ -20,7 +20,7 @@ use Rattle.stream_worker.specs.declared.state.GroupState.TheVariants.{Unknown}
 use Rattle.stream_worker.specs.declared.state.Settings.{Settings}
 use Rattle.stream_worker.specs.declared.worker.Progress.{Progress}
 
--- an entry whose line was sent, and the line that came next
+-- an entry whose line was sent, and the next line received
 pub record Exchange : Type 0 where
   pub entry : Entry Pairs
   pub reply : List ℕ
@@ -29,31 +29,31 @@ pub record Exchange : Type 0 where
 abbrev pub lines_of : List ℕ → List Exchange → List ℕ
 lines_of stream xs = flat_map (λ x. ended (line_of stream x.entry)) xs
 
--- the lines that came, in order
+-- the lines received, in order
 abbrev pub replies_of : List Exchange → List ℕ
 replies_of xs = flat_map (λ x. ended x.reply) xs
 
--- of an entry of this id the reply to its line was `done`
+-- the reply to the line of an entry with this id was `done`
 abbrev pub WasDone : List Exchange → Id → Type 0
 WasDone xs id = (x : Exchange) × Among x xs × (x.entry.0 ≡ id) × (verdict_of x.reply ≡ Some Done)
 
--- a handler has this talk
+-- this is the talk of a handler
 abbrev pub IsTalk : Talk → Type 0
 IsTalk (goes_on p) = Unit {0}
 IsTalk over = Unit {0}
 IsTalk wrong = ⊥
 
--- as far as the talk goes on, this was sent, and this is to come
+-- while the talk goes on, this was sent, and this will be received
 abbrev pub Stands : Talk → List ℕ → List ℕ → List ℕ → Type 0
 Stands (goes_on p) stream sent coming = p ≡ record { stream = stream; sent = Some sent; coming = Some coming }
 Stands over stream sent coming = Unit {0}
 Stands wrong stream sent coming = ⊥
 
--- what a worker asks to acknowledge next
+-- the ids that a worker acknowledges next
 abbrev pub acknowledges : Settings → Standing Talk → List Id
 acknowledges settings w = (asking committed settings w).machine.to_acknowledge
 
--- of which entries a reply to its question said that they were deleted
+-- the entries that a reply to its command reported as deleted
 abbrev pub deleted_told : Settings → Standing Talk → wire.Answer → List Id
 deleted_told settings w a = deleted_by (hears settings (asking committed settings w).asked a)
 
@@ -67,17 +67,16 @@ newborn_over settings stream sent coming = record {
 }
 
 module _ (settings : Settings) (stream sent coming : List ℕ) where
-  -- where a worker may stand, and of which entries it was told that they were deleted: at first it is new, and each round
-  -- brings it on
+  -- the states that a worker may reach, with the entries that were reported as deleted: at first it is new, and each
+  -- round leads to the next state
   pub data Reaches : Standing Talk → List Id → Type 0 where
     begins : Reaches (newborn_over settings stream sent coming) []
     turns : (w x : Standing Talk) (deleted : List Id) (old new : Link) (q : Asked) (p : Progress) → Reaches w deleted
         → (t : Turned talked committed settings old new w x q p)
         → Reaches x (deleted ++ deleted_told settings w t.turn.answer)
 
-  -- what went out to the child are the lines of entries, one after the other, and what came from it are the replies, one
-  -- for each in this order; and each id that is acknowledged next was replied `done`, or the server said that it was
-  -- deleted
+  -- the lines of entries were sent to the child, one after the other, and the replies were received, one for each in
+  -- this order; and each id that is acknowledged next had the reply `done`, or the server reported that it was deleted
   pub record AreReplied (w : Standing Talk) (deleted : List Id) : Type 0 where
     pub exchanges : List Exchange
     pub rest : List ℕ
@@ -86,7 +85,7 @@ module _ (settings : Settings) (stream sent coming : List ℕ) where
     pub stands : Stands w.history stream (sent ++ lines_of stream exchanges) rest
     pub done : (id : Id) → Among id (acknowledges settings w) → WasDone exchanges id ⊎ Among id deleted
 
--- the law, of each talk that a handler has
+-- the law, for each talk of a handler
 pub record AcknowledgedWasReplied : Type 0 where
   pub replied : (settings : Settings) (stream sent coming : List ℕ) (w : Standing Talk) (deleted : List Id)
       → Reaches settings stream sent coming w deleted → IsTalk w.history → AreReplied settings stream sent coming w deleted

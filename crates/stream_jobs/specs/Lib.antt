@@ -1,4 +1,4 @@
--- What the contracts speak of.
+-- The definitions that the contracts use.
 pub mod LineOf
 pub mod VerdictOf
 pub mod Lines

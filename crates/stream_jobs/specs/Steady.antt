@@ -1,4 +1,4 @@
--- What is known of a reader or a writer at every time, or at none.
+-- Readers and writers whose bytes are known at every time, or never.
 use Rattle.std.specs.Prelude.{◌≡◌, ◌==◌, ℕ, List, Bool, true, false, Option, Some, None, if◌then◌else◌, refl}
 use Rattle.std.specs.Io.Buffered.{reader_capacity, reader_remaining}
 use Rattle.std.specs.declared.io.buffered.BufReader.{BufReader}
@@ -11,7 +11,7 @@ is_known bytes is = cc is
 abbrev no_bytes : Option (List ℕ)
 no_bytes = None
 
--- of a reader whose own bytes are never known none are
+-- the bytes of a reader over an unknown one are never known
 pub never_known : {R A : Type 0} (b : BufReader R A) → reader_remaining (λ _. None) b ≡ None
 never_known b = by (reader_capacity b == 0)
   where

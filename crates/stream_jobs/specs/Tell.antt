@@ -1,4 +1,4 @@
--- That a line tells its entry.
+-- A line determines its entry.
 use Rattle.std.specs.Prelude.{◌≡◌, ◌≢◌, List, ℕ}
 use Rattle.std.specs.List.{AllByRecursion}
 use Rattle.entry_json.specs.Fields.{AreOfBytes}
@@ -7,8 +7,8 @@ use Rattle.stream_in_place.specs.Sent.{Pairs}
 use Rattle.stream_jobs.specs.LineOf.{line_of}
 use Rattle.stream_jobs.specs.Lines.{HasNoEnd}
 
--- the law: two entries with the same line, whose names and values are bytes, are the same, and of the same stream; and no
--- line ends within a line
+-- the law: two entries with the same line, whose names and values are bytes, are the same, and of the same stream; and
+-- a line has no line end within it
 pub record LinesTellEntries : Type 0 where
   pub entry : (s t : List ℕ) (a b : Entry Pairs) → AreOfBytes a.1 → AreOfBytes b.1 → line_of s a ≡ line_of t b
       → (s ≡ t) × (a ≡ b)

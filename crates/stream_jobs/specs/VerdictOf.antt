@@ -1,4 +1,4 @@
--- What a line of a child says of its entry.
+-- The reply of a child to an entry.
 use Rattle.std.specs.Prelude.{ℕ, List, [], ◌∷◌, ◌==◌, ◌||◌, Bool, true, false, Option, Some, None, if◌then◌else◌, codes, length, take}
 use Rattle.std.specs.Str.{bytes_eq}
 use Rattle.stream_jobs.specs.declared.reply.Reply.{Reply}
@@ -8,7 +8,7 @@ use Rattle.stream_jobs.specs.declared.reply.Reply.TheVariants.{Done, Later, Dead
 abbrev pub begins : List ℕ → List ℕ → Bool
 begins line head = bytes_eq (take (length head) line) head
 
--- the verdict of a line, and none if it is no reply
+-- the verdict of a line, and none if it is not a reply
 abbrev pub verdict_of : List ℕ → Option Reply
 verdict_of line =
     if bytes_eq line (codes "done") then Some Done

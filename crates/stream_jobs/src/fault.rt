@@ -1,4 +1,4 @@
-//! What goes wrong with a child.
+//! Errors of a child process.
 ghost use Rattle.std.specs.Prelude.{◌≡◌};
 ghost use Rattle.stream_jobs.specs.declared.fault.Fault.TheVariants.{Memory};
 
@@ -9,10 +9,10 @@ use thiserror::Error;
 /// Why a child has no reply.
 #[derive(Debug, Drop, Error)]
 pub enum Fault {
-    /// It does not take the line.
+    /// The line could not be written to it.
     #[error("it takes no line: {0}")]
     Write(io::Error),
-    /// Its reply cannot be read.
+    /// Its reply could not be read.
     #[error("its reply cannot be read: {0}")]
     Read(io::Error),
     /// Its output ended before the end of a reply.
@@ -21,10 +21,10 @@ pub enum Fault {
     /// Its reply is longer than `LONGEST`.
     #[error("its reply is longer than 65536 bytes")]
     TooLong,
-    /// Its reply is another line.
+    /// Its reply is not one of the known lines.
     #[error("its reply is not done, later, dead or stop")]
     Unknown,
-    /// It wrote a line before it was asked.
+    /// It wrote a line before one was sent to it.
     #[error("it wrote more than one line for the entry before")]
     Unasked,
     /// Memory ran out.

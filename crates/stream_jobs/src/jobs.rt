@@ -1,4 +1,4 @@
-//! A handler that asks a child.
+//! A handler that passes entries to a child process.
 ghost use Rattle.std.specs.Prelude.{◌≡◌, ◌∷◌, [], ◌++◌, IfOk, OnOk, Some, string_bytes, true, false};
 ghost use Rattle.stream_jobs.specs.Talk.{Exchanges, Talk, committed, talk_of, talked};
 ghost use Rattle.stream_jobs.specs.VerdictOf.{verdict_of as verdict_of_line};
@@ -12,7 +12,7 @@ use std::alloc::Global;
 use std::mem;
 use stream_worker::{EntryRef, Handler, NotCommitted, Verdict};
 
-/// What a child said of an entry that stays pending.
+/// A child's reply to an entry that stays pending.
 #[derive(Debug, Drop)]
 pub struct Note {
     /// The id of the entry.
@@ -23,23 +23,23 @@ pub struct Note {
     pub text: Vec<u8>,
 }
 
-/// A handler that asks a child: it writes a line for each entry, and reads one line.
+/// A handler that passes entries to a child process: it writes a line for each entry, and reads one line.
 #[derive(Drop)]
 pub struct Jobs<R: SteadyRead + Drop, W: SteadyWrite + Drop> {
     stream: String,
     replies: R,
     lines: W,
-    /// The last reply, which keeps its room for the next one.
+    /// The last reply; its buffer is reused for the next one.
     reply: Vec<u8>,
-    /// It said to stop, and asks no more.
+    /// Whether it returned `Stop`, and sends no more lines.
     over: bool,
-    /// How many entries were handed out, how many were done, how many of them are committed, and how many were left
-    /// pending by a reply.
+    /// How many entries it received, how many were done, how many of them are committed, and how many stay pending by a
+    /// reply.
     pub seen: u64,
     pub done: u64,
     pub committed: u64,
     pub left: u64,
-    /// What went wrong with the child; none if it said itself to stop.
+    /// The error of the child; `None` if its reply was `stop`.
     pub fault: Option<Fault>,
     /// The id of the entry at which it stopped, if there was memory to keep it.
     pub undone: Option<String>,
@@ -47,8 +47,7 @@ pub struct Jobs<R: SteadyRead + Drop, W: SteadyWrite + Drop> {
 }
 
 impl<R: SteadyRead + Drop, W: SteadyWrite + Drop> Jobs<R, W> {
-    /// A handler for the entries of this stream, over a writer for the lines and a reader for the replies. Nothing was
-    /// asked yet.
+    /// A handler for the entries of this stream, over a writer for the lines and a reader for the replies.
     pub fn new(alloc: Global, stream: String, replies: R, lines: W) -> Jobs<R, W>
         ensures ends { (result.replies ≡ replies) × (result.lines ≡ lines) }
         ensures stream { result.stream ≡ stream }
@@ -71,7 +70,7 @@ impl<R: SteadyRead + Drop, W: SteadyWrite + Drop> Jobs<R, W> {
         }
     }
 
-    /// Whether it said to stop.
+    /// Whether it returned `Stop`.
     pub fn is_over(&self) -> bool
         ensures { result ≡ self.now.over }
     {
@@ -85,7 +84,7 @@ impl<R: SteadyRead + Drop, W: SteadyWrite + Drop> Jobs<R, W> {
         &self.reply
     }
 
-    /// Gives out the texts of entries that stay pending, in order; those given out are forgotten.
+    /// Takes the texts for entries that stay pending, in order, and leaves an empty list.
     pub fn take_notes(&mut self, alloc: Global) -> Vec<Note>
         ensures notes { result ≡ self.old.notes }
         ensures rest { self.new.notes.items ≡ [] }
@@ -94,8 +93,8 @@ impl<R: SteadyRead + Drop, W: SteadyWrite + Drop> Jobs<R, W> {
         mem::replace(&mut self.notes, Vec::new(alloc))
     }
 
-    /// Writes the line of an entry and reads the next line: what it says. A line that came before it was asked for is
-    /// an error: it would be taken for the reply to this entry.
+    /// Writes the line of an entry, reads the next line, and returns its reply. A line that was received before is an
+    /// error: it would be taken for the reply to this entry.
     fn exchange(&mut self, alloc: Global, entry: &EntryRef<'_>) -> Result<Reply, Fault>
         ensures stream { self.new.stream ≡ self.old.stream }
         ensures over { self.new.over ≡ self.old.over }
@@ -117,7 +116,7 @@ impl<R: SteadyRead + Drop, W: SteadyWrite + Drop> Jobs<R, W> {
         }
     }
 
-    /// Asks the child of an entry: what it replies. The text of an entry that stays pending is kept.
+    /// Sends an entry to the child and returns its reply. Keeps the text if the entry stays pending.
     fn ask(&mut self, alloc: Global, entry: &EntryRef<'_>) -> Result<Reply, Fault>
         ensures stream { self.new.stream ≡ self.old.stream }
         ensures over { self.new.over ≡ self.old.over }
@@ -152,7 +151,7 @@ impl<R: SteadyRead + Drop, W: SteadyWrite + Drop> Jobs<R, W> {
         Ok(())
     }
 
-    /// Stops at an entry, for this fault if there is one.
+    /// Stops at an entry, with this fault if there is one.
     fn stop(&mut self, alloc: Global, id: &str, fault: Option<Fault>) -> Verdict
         ensures verdict { result ≡ Verdict.Stop }
         ensures over { self.new.over ≡ true }
@@ -173,8 +172,8 @@ impl<R: SteadyRead + Drop, W: SteadyWrite + Drop> Handler for Jobs<R, W> {
 
     ghost history = { λ j. talk_of j.over (string_bytes j.stream) (W.contents j.lines) (R.remaining j.replies) };
 
-    /// Asks the child of the entry, which is done if the reply is `done`. After `stop`, and after a reply that is none,
-    /// it stops, and asks of no other one.
+    /// Sends the entry to the child; it is done if the reply is `done`. After `stop`, and after a fault, it stops, and
+    /// sends no other one.
     fn handle(&mut self, alloc: Global, entry: &EntryRef<'_>) -> Verdict {
         self.seen = self.seen.saturating_add(1);
         if self.over {
@@ -198,7 +197,7 @@ impl<R: SteadyRead + Drop, W: SteadyWrite + Drop> Handler for Jobs<R, W> {
         }
     }
 
-    /// The replies of a batch are there by then, so nothing is left to do.
+    /// Does nothing, since the replies of a batch were received before.
     fn commit(&mut self, _alloc: Global) -> Result<(), NotCommitted> {
         self.committed = self.done;
         Ok(())

@@ -1,8 +1,8 @@
 //! A worker's handler that is another program, in any language, at the other end of two pipes.
 //!
-//! For each entry it writes one line of JSON, `{"id":"1-0","fields":[["name","value"],..],"stream":"orders"}`, and reads
-//! one line: `done`, `later`, `later TEXT`, `dead TEXT` or `stop`. The next line is written after that reply. An entry is
-//! done where the reply to its line is `done`, and by no other.
+//! For each entry it writes one line of JSON, `{"id":"1-0","fields":[["name","value"],..],"stream":"orders"}`, and
+//! reads one line: `done`, `later`, `later TEXT`, `dead TEXT` or `stop`. The next line is written after that reply. An
+//! entry is done only if the reply to its line is `done`.
 #![tactic(auto)]
 
 mod fault;

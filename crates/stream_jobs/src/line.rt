@@ -21,7 +21,7 @@ pub fn entry_line(alloc: Global, stream: &str, entry: &EntryRef<'_>) -> Result<V
     Ok(out.into_inner())
 }
 
-/// An entry as an object.
+/// Writes an entry as an object.
 fn push_entry(
     alloc: Global,
     out: &mut Writer,
@@ -36,7 +36,7 @@ fn push_entry(
     end(out, stream)
 }
 
-/// What comes before the fields.
+/// Writes the part before the fields.
 fn begin(out: &mut Writer, id: &str) -> Result<(), AllocError>
     ensures before { out.new.before ≡ out.old.before }
     ensures tokens { OnOk result (out.new.tokens ≡ out.old.tokens ++ head_tokens id.now) }
@@ -45,7 +45,7 @@ fn begin(out: &mut Writer, id: &str) -> Result<(), AllocError>
     out.key("fields")
 }
 
-/// The beginning of an object, with the id.
+/// Writes the beginning of an object, with the id.
 fn begin_id(out: &mut Writer, id: &str) -> Result<(), AllocError>
     ensures before { out.new.before ≡ out.old.before }
     ensures tokens { OnOk result (out.new.tokens
@@ -55,7 +55,7 @@ fn begin_id(out: &mut Writer, id: &str) -> Result<(), AllocError>
     push_text(out, "id", id)
 }
 
-/// What comes after the fields.
+/// Writes the part after the fields.
 fn end(out: &mut Writer, stream: &str) -> Result<(), AllocError>
     ensures before { out.new.before ≡ out.old.before }
     ensures tokens { OnOk result (out.new.tokens ≡ out.old.tokens ++ stream_tokens stream.now) }
@@ -64,7 +64,7 @@ fn end(out: &mut Writer, stream: &str) -> Result<(), AllocError>
     out.end_object()
 }
 
-/// A name and its text.
+/// Writes a name and its text.
 fn push_text(out: &mut Writer, name: &str, text: &str) -> Result<(), AllocError>
     ensures before { out.new.before ≡ out.old.before }
     ensures tokens { OnOk result (out.new.tokens ≡ out.old.tokens ++ key name.now ∷ string text.now ∷ []) }

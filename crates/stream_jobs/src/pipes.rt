@@ -10,26 +10,25 @@ use std::alloc::Global;
 use std::fs::File;
 use std::io::{self, BufReader, ErrorKind, Read, Write};
 
-/// The longest reply has so many bytes, without its end.
+/// The most bytes in a reply, without its line end.
 pub const LONGEST: usize = 65_536;
 
-/// A writer of which it is known at every time what it holds, or at none.
+/// A writer whose content is known at every time, or never.
 pub trait SteadyWrite: Write {
-    /// If it is unknown of one value, it is of each.
+    /// If it is unknown for one value, it is for each.
     ghost stays_unknown: { (a b : Self) → Self.contents a ≡ None → Self.contents b ≡ None };
 }
 
-/// A reader of which it is known at every time what it has left, or at none.
+/// A reader whose remaining bytes are known at every time, or never.
 pub trait SteadyRead: Read {
-    /// The bytes that were read ahead of the line that was asked for. A reader of bytes that are all there from the
-    /// start holds none.
+    /// The bytes that were read before a line was requested. A reader in memory has none.
     ghost ahead: { Self → List ℕ };
 
-    /// Whether it holds such bytes.
+    /// Whether it has such bytes.
     fn holds_more(&self) -> bool
         ensures { result ≡ nat_lt 0 (length (Self.ahead self.now)) };
 
-    /// If it is unknown of one value, it is of each.
+    /// If it is unknown for one value, it is for each.
     ghost stays_unknown: { (a b : Self) → Self.remaining a ≡ None → Self.remaining b ≡ None };
 }
 
@@ -61,7 +60,7 @@ impl SteadyRead for BufReader<File> {
     }
 }
 
-/// Writes a line with its end, and has the writer send it.
+/// Writes a line with its line end, and flushes the writer.
 pub fn write_line<W: Write>(writer: &mut W, line: &mut Vec<u8>) -> Result<(), Fault>
     ensures sent { OnOk result (Appends (W.contents writer.old) (W.contents writer.new) (line.old.items ++ 10 ∷ [])) }
 {
@@ -75,10 +74,9 @@ pub fn write_line<W: Write>(writer: &mut W, line: &mut Vec<u8>) -> Result<(), Fa
     }
 }
 
-/// Reads a line, and keeps it without its end. No byte after the end is taken.
+/// Reads a line, and stores it without its line end. It reads no byte after the line end.
 ///
-/// An `Err` is `TooLong` where `LONGEST` bytes and one more came with no end, and `Ended` where the reader is at its end
-/// before one.
+/// An `Err` is `TooLong` if `LONGEST` bytes and one more have no line end, and `Ended` if the reader ends before one.
 pub fn read_line<R: Read>(reader: &mut R, line: &mut Vec<u8>) -> Result<(), Fault>
     ensures read { OnOk result (Consumes (R.remaining reader.old) (R.remaining reader.new) (line.new.items ++ 10 ∷ [])) }
     ensures one_line { OnOk result (HasNoEnd line.new.items) }
@@ -96,7 +94,7 @@ pub fn read_line<R: Read>(reader: &mut R, line: &mut Vec<u8>) -> Result<(), Faul
     Err(Fault::TooLong)
 }
 
-/// Reads the next byte, and again where a signal interrupted it.
+/// Reads the next byte; retries if a signal interrupted it.
 fn read_byte<R: Read>(reader: &mut R) -> Result<u8, Fault>
     ensures ok { IfOk result (λ byte. Consumes (R.remaining reader.old) (R.remaining reader.new) (byte ∷ [])) }
     ensures err { IfErr result (NoByte (R.remaining reader.old) (R.remaining reader.new)) }

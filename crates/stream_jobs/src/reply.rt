@@ -1,21 +1,21 @@
-//! What a line of a child says of its entry.
+//! The reply of a child to an entry.
 ghost use Rattle.std.specs.Prelude.{◌≡◌};
 ghost use Rattle.stream_jobs.specs.VerdictOf.{text_of, verdict_of};
 
-/// What a line of a child says of its entry.
+/// The reply of a child to an entry.
 #[derive(Clone, Copy, Debug, PartialEq, Eq)]
 pub enum Reply {
     /// `done`: the entry is acknowledged, once the worker has committed.
     Done,
-    /// `later` or `later TEXT`: it stays pending, and comes again.
+    /// `later` or `later TEXT`: it stays pending, and is delivered again.
     Later,
     /// `dead TEXT`: it is to be given up.
     Dead,
-    /// `stop`: it stays pending, and the worker takes no other one.
+    /// `stop`: it stays pending, and the worker takes no other entry.
     Stop,
 }
 
-/// What this line says, without its end; None if it is no reply.
+/// Parses this line, without its line end; `None` if it is not a reply.
 pub fn reply_in(line: &[u8]) -> Option<Reply>
     ensures { result ≡ verdict_of line.now }
 {
@@ -32,7 +32,7 @@ pub fn reply_in(line: &[u8]) -> Option<Reply>
     }
 }
 
-/// The text behind the first space of a line; an empty one if it has no space.
+/// The text after the first space of a line; empty if it has no space.
 pub fn text_in(line: &[u8]) -> &[u8]
     ensures { result.now ≡ text_of line.now }
 {

@@ -1,4 +1,4 @@
--- Commands that go out between two rounds: those that only look, and those by which entries are given up.
+-- Commands that are sent between two rounds: those that only read, and those that give entries up.
 use Rattle.std.specs.Prelude.{◌≡◌, ◌⊎◌, ℕ, List, [], ◌∷◌, codes}
 use Rattle.redis_connection.specs.Ask.{Exchanges}
 use Rattle.redis_connection.specs.Link.{Link}
@@ -9,39 +9,39 @@ use Rattle.stream_letters.specs.Dead.{BreaksOff, Claimer, GivesUp, GivesUpSome}
 use Rattle.stream_letters.specs.declared.search.Waiting.{Waiting}
 use Rattle.stream_system.specs.Desks.{Names}
 
--- the command changes nothing: it is an XPENDING, an XINFO or a WAIT
+-- the command changes nothing: it is XPENDING, XINFO or WAIT
 abbrev pub OnlyLooks : List (List ℕ) → Type 0
 OnlyLooks [] = ⊥
 OnlyLooks (word ∷ words) = (word ≡ codes "XPENDING") ⊎ ((word ≡ codes "XINFO") ⊎ (word ≡ codes "WAIT"))
 
--- such a command went out, and then this reply came
+-- such a command was sent, and then this reply was received
 pub record Looks (old new : Link) : Type 0 where
   pub words : List (List ℕ)
   pub only : OnlyLooks words
   pub answer : Answer
   pub exchanges : Exchanges old new words answer
 
--- nothing went out; or a front of such a command; or all of it, and no reply came, or this one
+-- nothing was sent; or a prefix of such a command; or all of it, and no reply was received, or this one
 pub record BreaksLooking (old new : Link) : Type 0 where
   pub words : List (List ℕ)
   pub only : OnlyLooks words
   pub breaks : BreaksOff words old new
 
--- such a command was asked in vain: the server refused it, or its reply is not one to it; or no reply came
+-- such a command failed: the reply is an error, or of another kind; or no reply was received
 abbrev pub LooksNot : Link → Link → AskError → Type 0
 LooksNot old new (errors.Connection e) = BreaksLooking old new
 LooksNot old new (errors.Server e) = Looks old new
 LooksNot old new (errors.Parsing e) = Looks old new
 LooksNot old new errors.NotAnAnswer = Looks old new
 
--- entries were claimed, and given up as far as it came
+-- entries were claimed, and the first ones were given up
 pub record BreaksGivingUp (old new : Link) : Type 0 where
   pub claimer : Claimer
   pub names : Names
   pub entries : List Waiting
   pub breaks : GivesUpSome claimer names entries old new
 
--- it looked, and gave entries up, one after the other
+-- it searched, and gave entries up, one after the other
 pub data Besides : Link → Link → Type 0 where
   nothing : (l : Link) → Besides l l
   looks : (l m n : Link) → Besides l m → Looks m n → Besides l n

@@ -1,4 +1,4 @@
--- Looks for entries that are given up, over a connection: none is acknowledged before its letter was answered.
+-- The search for entries that are given up, over a connection: none is acknowledged before the reply to its letter.
 use Rattle.std.specs.Prelude.{◌≡◌, ◌≢◌, ◌⊎◌, ℕ, zero, suc, true, false, List, [], ◌∷◌, ◌++◌, map, Option, Some}
 use Rattle.std.specs.Prelude.{option_map, codes, decimal, String, Vec, string_bytes}
 use Rattle.std.specs.declared.alloc.Global.{Global}
@@ -23,21 +23,21 @@ use Rattle.stream_letters.specs.declared.error.SearchSettingsError.TheVariants.{
 use Rattle.stream_system.specs.Desks.{Names, letter_for, words_of}
 use Rattle.stream_worker.specs.Letters.{Desk, after_letter, letter_asks, letter_bytes, serves}
 
--- a search may be made for entries of this stream that were delivered so often: once at least, and their letters go to
--- another stream, which has a name
+-- the settings of a search are accepted: the delivery count is 1 at least, and the dead-letter stream has a name and is
+-- another stream
 pub record IsAllowed (key : List ℕ) (to : GiveUp) : Type 0 where
   pub deliveries : to.deliveries ≢ 0
   pub named : string_bytes to.stream ≢ []
   pub other : string_bytes to.stream ≢ key
 
--- why it may not
+-- why they are refused
 abbrev pub IsRefused : List ℕ → GiveUp → SearchSettingsError → Type 0
 IsRefused key to NoDeliveries = to.deliveries ≡ 0
 IsRefused key to NoStream = string_bytes to.stream ≡ []
 IsRefused key to SameStream = string_bytes to.stream ≡ key
 IsRefused key to Memory = Unit {0}
 
--- the id of a pending entry, and how often it was delivered
+-- the id of a pending entry, and its delivery count
 abbrev pub waiting_of : Waiting → List ℕ × ℕ
 waiting_of w = (string_bytes w.id, w.deliveries)
 
@@ -45,14 +45,14 @@ waiting_of w = (string_bytes w.id, w.deliveries)
 abbrev pub row_of : String Global × Value × Value × ℕ → List ℕ × ℕ
 row_of r = (string_bytes r.0, r.3)
 
--- the page ends with an entry, and behind it is what starts with its id behind a parenthesis
+-- the page ends with an entry, and the next start is a parenthesis and its id
 pub record IsBehind (page : List Waiting) (start : List ℕ) : Type 0 where
   pub before : List Waiting
   pub last : Waiting
   pub page_is : page ≡ before ++ last ∷ []
   pub start_is : start ≡ codes "(" ++ string_bytes last.id
 
--- what XCLAIM answers of one id: the id and the texts of the entry, or nil
+-- a row of the reply to XCLAIM: the id and the texts of the entry, or nil
 abbrev pub Row : Type 0
 Row = Option (List ℕ × List (List ℕ))
 
@@ -60,7 +60,7 @@ Row = Option (List ℕ × List (List ℕ))
 abbrev pub rows_reading : Tree → Option (List Row)
 rows_reading = list_reading (option_reading (two_reading text_reading (list_reading bytes_reading)))
 
--- the same of what was read
+-- the same of decoded rows
 abbrev pub rows_of : List (Option (String Global × Vec RawBytes Global)) → List Row
 rows_of rows = map (option_map (λ p. (string_bytes p.0, map (λ (text : RawBytes). text.0.items) p.1.items))) rows
 
@@ -71,7 +71,7 @@ pub record Claimer : Type 0 where
   pub consumer : List ℕ
   pub min_idle : ℕ
 
--- of what looks for entries that were delivered too often, if they are idle so long
+-- the same of a search, with this idle time
 abbrev pub claimer_of : DeadLetterSearch → ℕ → Claimer
 claimer_of d min_idle = record {
   key = string_bytes d.key;
@@ -88,7 +88,7 @@ letter_names d = (string_bytes d.key, string_bytes d.group, string_bytes d.strea
 abbrev pub claim_words : Claimer → List ℕ → List (List ℕ)
 claim_words c id = codes "XCLAIM" ∷ c.key ∷ c.group ∷ c.consumer ∷ decimal c.min_idle ∷ id ∷ []
 
--- nothing went out; or a front of the command; or all of it, and no answer came, or this one
+-- nothing was sent; or a prefix of the command; or all of it, and no reply was received, or this one
 abbrev pub BreaksOff : List (List ℕ) → Link → Link → Type 0
 BreaksOff words old new = (new ≡ old) ⊎ (Fails old new (command_bytes words) ⊎ ((a : Answer) × Exchanges old new words a))
 
@@ -96,31 +96,30 @@ BreaksOff words old new = (new ≡ old) ⊎ (Fails old new (command_bytes words)
 abbrev pub AreJust : List Row → Entry → Type 0
 AreJust rows e = rows ≡ Some (e.0, words_of e.1) ∷ []
 
--- an entry that has fields was answered, and no other, and it is the one that was claimed: its letter waits behind those
--- before it
+-- the reply is exactly the claimed entry, with fields: its letter is queued after those before it
 pub record PostedOne (dead : List ℕ) (w : Waiting) (rows : List Row) (e : Entry) (desk desk' : Desk) : Type 0 where
   pub just : AreJust rows e
   pub claimed : e.0 ≡ string_bytes w.id
   pub fields : e.1 ≢ []
   pub waits : desk' ≡ record desk { waiting = desk.waiting ++ (e.0, letter_for dead e w.deliveries) ∷ [] }
 
--- no entry with fields was all that was answered, and no more waits than before
+-- the reply is not exactly one entry with fields, and the queue is as before
 pub record PostedNone (rows : List Row) (desk desk' : Desk) : Type 0 where
   pub none : (e : Entry) → AreJust rows e → e.1 ≡ []
   pub waits : desk' ≡ desk
 
--- an entry with these texts, its names and values by turns, was posted; or there are none, and nothing more waits
+-- a letter with these texts, names and values by turns, was queued; or there are none, and the queue is as before
 abbrev pub PostedFields : List ℕ → Waiting → List (List ℕ) → Desk → Desk → Type 0
 PostedFields dead w texts desk desk' = ((fields : Fields) × (texts ≡ words_of fields) × (fields ≢ [])
     × (desk' ≡ record desk {
       waiting = desk.waiting ++ (string_bytes w.id, letter_for dead (string_bytes w.id, fields) w.deliveries) ∷ [];
     })) ⊎ ((texts ≡ []) × (desk' ≡ desk))
 
--- an entry was claimed, and these rows were answered
+-- an entry was claimed, and these rows were returned
 abbrev pub Posted : List ℕ → Waiting → List Row → Desk → Desk → Type 0
 Posted dead w rows desk desk' = ((e : Entry) × PostedOne dead w rows e desk desk') ⊎ PostedNone rows desk desk'
 
--- these were claimed one after the other, and of what was answered these entries were posted, in order
+-- these were claimed one after the other, and these of the returned entries were queued, in order
 abbrev pub PostsAll : Claimer → List ℕ → List Waiting → List Entry → Link → Desk → Link → Desk → Type 0
 PostsAll c dead [] es old desk new desk' = (es ≡ []) × (new ≡ old) × (desk' ≡ desk)
 PostsAll c dead (w ∷ ws) es old desk new desk' = (m : Link) × (d : Desk) × (rows : List Row)
@@ -129,7 +128,7 @@ PostsAll c dead (w ∷ ws) es old desk new desk' = (m : Link) × (d : Desk) × (
     × PostsAll c dead ws more m d new desk')
     ⊎ (PostedNone rows desk d × PostsAll c dead ws es m d new desk'))
 
--- a front of them was, and the claim of the next one broke off, or what was answered was not posted
+-- the first ones were, and the claim of the next one failed, or the entry that it returned was not queued
 pub record PostsSome (c : Claimer) (dead : List ℕ) (ws : List Waiting) (old : Link) (desk : Desk) (new : Link)
     (desk' : Desk) : Type 0 where
   pub before : List Waiting
@@ -142,37 +141,37 @@ pub record PostsSome (c : Claimer) (dead : List ℕ) (ws : List Waiting) (old : 
   pub breaks : BreaksOff (claim_words c (string_bytes next.id)) between new
 
 module _ (names : Names) where
-  -- what the desk asks went out whole, and then this answer came, after messages that were passed over
+  -- the next command was sent whole, and then this reply was received, after push messages that were skipped
   pub record Hears (desk : Desk) (old new : Link) (a : Answer) : Type 0 where
     pub between : Link
     pub sends : Sends old between (letter_bytes names desk)
     pub receives : ReceivesAnswer between new a
 
-  -- so many times the desk asked, and the answer served, which brought it on
+  -- this number of commands were sent, and each reply was accepted
   abbrev pub Goes : ℕ → Link → Desk → Link → Desk → Type 0
   Goes zero old desk new desk' = (new ≡ old) × (desk' ≡ desk)
   Goes (suc n) old desk new desk' = (m : Link) × (d : Desk) × (a : Answer) × Goes n old desk m d
       × Hears d m new a × (serves (letter_asks d) a ≡ true) × (desk' ≡ after_letter (letter_asks d) d)
 
-  -- the desk asked no more; or a front of what it asks went out; or all of it, and no reply came, or one that does
-  -- not serve
+  -- nothing more was sent; or a prefix of the next command; or all of it, and no reply was received, or one that is
+  -- refused
   abbrev pub Breaks : Desk → Link → Link → Type 0
   Breaks desk old new = (new ≡ old) ⊎ Fails old new (letter_bytes names desk)
       ⊎ ((a : Answer) × Hears desk old new a × (serves (letter_asks desk) a ≡ false))
 
-  -- until nothing waits
+  -- until the queue is empty
   abbrev pub Delivers : Link → Desk → Link → Desk → Type 0
   Delivers old desk new desk' = ((n : ℕ) × Goes n old desk new desk') × (desk'.waiting ≡ [])
 
-  -- as far as it came
+  -- for the first replies only
   abbrev pub DeliversSome : Link → Desk → Link → Desk → Type 0
   DeliversSome old desk new desk' = (n : ℕ) × (m : Link) × Goes n old desk m desk' × Breaks desk' m new
 
--- a desk at which nothing waits
+-- an empty queue
 abbrev pub none_waits : Desk
 none_waits = record { waiting = []; added = false }
 
--- these were claimed, and their letters were delivered
+-- these were claimed, and their letters were sent
 pub record GivesUp (c : Claimer) (names : Names) (ws : List Waiting) (old new : Link) : Type 0 where
   pub es : List Entry
   pub between : Link
@@ -181,7 +180,7 @@ pub record GivesUp (c : Claimer) (names : Names) (ws : List Waiting) (old new : 
   pub posts : PostsAll c names.2 ws es old none_waits between desk
   pub delivers : Delivers names between desk new left
 
--- or they were not all claimed; or they were, and their letters were delivered as far as it came
+-- or they were not all claimed; or they were, and only the first letters were sent
 abbrev pub GivesUpSome : Claimer → Names → List Waiting → Link → Link → Type 0
 GivesUpSome c names ws old new = (new ≡ old) ⊎ (((d : Desk) × PostsSome c names.2 ws old none_waits new d)
     ⊎ ((es : List Entry) × (m : Link) × (d : Desk) × (d' : Desk) × PostsAll c names.2 ws es old none_waits m d

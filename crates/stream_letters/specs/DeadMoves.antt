@@ -1,4 +1,4 @@
--- That what is given up over a connection is moves of a desk of `stream_system`.
+-- Entries that are given up over a connection are moves of the model `stream_system`.
 use Rattle.std.specs.Prelude.{◌≡◌, ℕ, zero, suc, List, [], ◌∷◌, ◌++◌}
 use Rattle.redis_connection.specs.Link.{Link}
 use Rattle.line_log.specs.EntryLine.{Entry}
@@ -10,23 +10,23 @@ use Rattle.stream_worker.specs.Letters.{Desk, after_letter, letter_asks}
 use Rattle.stream_letters.specs.Dead.{Claimer, Goes, PostsAll, GivesUp}
 use Rattle.stream_letters.specs.declared.search.Waiting.{Waiting}
 
--- the moves that post these entries, if the replies that have them are of these numbers, from that one on
+-- the moves that queue these entries, if the replies that have them are of these numbers, from that one on
 abbrev pub posting : Name → (ℕ → ℕ) → ℕ → List Entry → List Move
 posting name which k [] = []
 posting name which k (e ∷ es) = Posts name (which k) e ∷ posting name which (suc k) es
 
--- a desk after so many replies that served
+-- the queue after this number of accepted replies
 abbrev pub desk_after : ℕ → Desk → Desk
 desk_after zero d = d
 desk_after (suc n) d = after_letter (letter_asks (desk_after n d)) (desk_after n d)
 
--- the moves that so many replies are, if those to an XACK are of these numbers
+-- the moves of this number of replies, if those to an XACK are of these numbers
 abbrev pub delivering : Name → (ℕ → ℕ) → ℕ → Desk → List Move
 delivering name which zero d = []
 delivering name which (suc n) d =
     delivering name which n d ++ moves_after name (which n) (letter_asks (desk_after n d))
 
--- a desk to which entries were posted is where these moves lead
+-- the queue after these entries is the one that these moves lead to
 abbrev pub ClaimsAreMoves : Type 0
 ClaimsAreMoves = (c : Claimer) (dead : List ℕ) (ws : List Waiting) (es : List Entry) (old new : Link) (desk desk' : Desk)
     → PostsAll c dead ws es old desk new desk' → (form : Form) (s : System) (name : Name) (which : ℕ → ℕ) (k : ℕ)
@@ -34,14 +34,14 @@ ClaimsAreMoves = (c : Claimer) (dead : List ℕ) (ws : List Waiting) (es : List 
     → AreOfDesk name (posting name which k es)
     × IsDesk dead desk' ((run form (posting name which k es) s).desks name)
 
--- so is one after replies that served, all of them or as many as came
+-- so is the queue after accepted replies, all of them or the first ones
 abbrev pub DeliveriesAreMoves : Type 0
 DeliveriesAreMoves = (names : Names) (n : ℕ) (old new : Link) (desk desk' : Desk) → Goes names n old desk new desk'
     → (form : Form) (s : System) (name : Name) (which : ℕ → ℕ) → IsDesk names.2 desk (s.desks name)
     → AreOfDesk name (delivering name which n desk)
     × IsDesk names.2 desk' ((run form (delivering name which n desk) s).desks name)
 
--- and after all of them nothing waits at the desk of the system either
+-- and after all of them the model's queue is empty too
 abbrev pub GiveUpsAreMoves : Type 0
 GiveUpsAreMoves = (c : Claimer) (names : Names) (ws : List Waiting) (old new : Link) (g : GivesUp c names ws old new)
     (form : Form) (s : System) (name : Name) (claimed answered : ℕ → ℕ) → s.desks name ≡ new_desk

@@ -1,4 +1,4 @@
--- What the contracts of a search for dead letters speak of.
+-- The definitions that the contracts of a search for dead letters use.
 pub mod Dead
 pub mod Besides
 pub mod DeadMoves

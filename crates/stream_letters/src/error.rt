@@ -1,4 +1,4 @@
-//! Why a search for dead letters does not begin, or does not go on.
+//! Errors of a search for dead letters.
 ghost use Rattle.std.specs.Prelude.{◌≡◌};
 ghost use Rattle.stream_letters.specs.declared.error.SearchError.TheVariants as causes;
 ghost use Rattle.stream_letters.specs.declared.error.SearchSettingsError.TheVariants as refusals;
@@ -8,16 +8,16 @@ use std::alloc::AllocError;
 use stream_worker::LetterError;
 use thiserror::Error;
 
-/// Why settings of a search are refused.
+/// Why the settings of a search were refused.
 #[derive(Clone, Copy, Debug, PartialEq, Eq, Drop, Error)]
 pub enum SearchSettingsError {
-    /// Each pending entry was delivered once at least, so all would be given up.
+    /// The number of deliveries is 0: every pending entry was delivered at least once, so all would be given up.
     #[error("entries that were delivered 0 times are all entries")]
     NoDeliveries,
-    /// The stream of dead letters has no name.
+    /// The name of the dead-letter stream is empty.
     #[error("no stream of dead letters")]
     NoStream,
-    /// The letters would be entries of the stream that is read.
+    /// The dead-letter stream is the stream that is read.
     #[error("the stream of dead letters is the stream itself")]
     SameStream,
     /// Out of memory.
@@ -33,26 +33,26 @@ impl From<AllocError> for SearchSettingsError {
     }
 }
 
-/// Why a search for dead letters broke off. What it claimed is pending for its consumer, and what has no letter is
-/// not acknowledged. After `Ask` and `Connection` a reply may still come: close the connection.
+/// Why a search for dead letters broke off. The entries that it claimed are pending for its consumer, and an entry
+/// without a letter is not acknowledged. After `Ask` and `Connection` a reply may still arrive: close the connection.
 #[derive(Debug, Drop, Error)]
 pub enum SearchError {
-    /// XPENDING or XCLAIM has no reply of its kind.
+    /// XPENDING or XCLAIM returned an error or a reply of another kind, or no reply was received.
     #[error("{0}")]
     Ask(AskError),
-    /// A letter or its acknowledgement was not sent, or no reply came.
+    /// A letter or its acknowledgement was not sent, or no reply was received.
     #[error("{0}")]
     Connection(ConnectionError),
-    /// A letter or its acknowledgement was refused, or the reply is none to it.
+    /// The reply to a letter or to its acknowledgement is an error, or of another kind.
     #[error("{0}")]
     Letter(LetterError),
     /// XCLAIM returned another entry.
     #[error("another entry was answered than the one that was claimed")]
     OtherEntry,
-    /// An entry has a name of a field, and no value.
+    /// The fields of an entry have a name without a value.
     #[error("an entry has a name of a field, and no value")]
     NoValue,
-    /// As many letters were sent as can be counted.
+    /// The number of letters is at its maximum.
     #[error("the last letter came")]
     LastLetter,
     /// Out of memory.

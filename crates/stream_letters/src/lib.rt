@@ -1,9 +1,9 @@
-//! Dead letters over a connection: pending entries that were delivered too often are looked for, claimed and sent
-//! to a stream of their own, each acknowledged after its letter was added.
+//! Dead letters over a connection. Finds pending entries that were delivered too often, claims them and copies each to
+//! a stream of dead letters. Each entry is acknowledged after its letter was added.
 //!
-//! `DeadLetterSearch::turn` is called before each command of a worker. It asks XPENDING before the first command and
-//! before each claim, claims what was delivered too often by XCLAIM, and has `DeadLetters` of `stream_worker` pass
-//! it on over the same connection.
+//! `DeadLetterSearch::turn` is called before each command of a worker. It sends XPENDING before the first command and
+//! before each claim. It claims entries that were delivered too often with XCLAIM, and moves them with `DeadLetters` of
+//! `stream_worker` over the same connection.
 #![tactic(auto)]
 
 mod error;

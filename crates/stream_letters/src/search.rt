@@ -19,38 +19,38 @@ use std::mem;
 use stream_commands::{AtLeastOne, xclaim, xpending_consumer_count, xpending_idle_count};
 use stream_worker::{Asked, DeadLetters, LetterAsked, Settings};
 
-/// So many pending entries are asked for at once.
+/// The `COUNT` of XPENDING.
 const PAGE: usize = 100;
 
-/// So many times at most they are asked for in one look.
+/// The most pages of pending entries that one search reads.
 const PAGES: usize = 1000;
 
-/// What XCLAIM answers: the ids, each with its fields in order; or nil for what was deleted.
+/// The reply to XCLAIM: the ids, each with its fields in order; or nil for a deleted entry.
 type Claimed = Vec<Option<(String, Vec<RawBytes>)>>;
 
-/// A row that XPENDING answers: the id, the consumer, for how long it is idle, and how often it was
-/// delivered. The name of a consumer is any bytes, so it is not read.
+/// A row of the reply to XPENDING: the id, the consumer, the idle time, and the delivery count. A consumer's name may
+/// be any bytes, so it is not decoded.
 type Row = (String, Value, Value, usize);
 
-/// An entry that is pending.
+/// A pending entry.
 #[derive(Drop)]
 pub struct Waiting {
     /// Its id.
     id: String,
-    /// How often it was delivered.
+    /// Its delivery count.
     deliveries: usize,
 }
 
-/// Which entries are given up, and where their letters go.
+/// Which entries are given up, and the stream for their letters.
 #[derive(Drop)]
 pub struct GiveUp {
-    /// Those that were delivered so often or more.
+    /// Entries with this delivery count or more are given up.
     pub deliveries: usize,
-    /// The stream of dead letters.
+    /// The name of the dead-letter stream.
     pub stream: String,
 }
 
-/// Looks for pending entries that were delivered too often, and gives them up.
+/// Finds pending entries that were delivered too often, and gives them up.
 #[derive(Drop)]
 pub struct DeadLetterSearch {
     key: String,
@@ -59,22 +59,21 @@ pub struct DeadLetterSearch {
     min_idle: usize,
     deliveries: usize,
     stream: String,
-    /// It looks after so many reads of new entries, which is when the worker claims.
+    /// How many reads of new entries are made between searches, as between the worker's claims.
     every: usize,
-    /// So many reads were made since.
+    /// How many reads were made since the last search.
     reads: usize,
-    /// The worker is to acknowledge first what is in its file, and has not begun.
+    /// Whether the worker must first acknowledge the entries in its file.
     waits: bool,
-    /// It looked before the worker began.
+    /// Whether the search before the worker's first command was made.
     begun: bool,
-    /// So many entries have a letter, and were acknowledged.
+    /// How many entries have a letter and were acknowledged.
     letters: u64,
 }
 
 impl DeadLetterSearch {
-    /// For the group and the consumer of a worker, which is made of the same settings after this. From then on
-    /// it asks for entries that come again one at a time: one that ends the process raises no other's count
-    /// of deliveries. Nothing was looked at yet.
+    /// A search for a worker, which is then made from the same settings. It sets `one_at_a_time` in them, so an entry
+    /// that ends the process raises no other entry's delivery count.
     pub fn new(
         alloc: Global,
         settings: &mut Settings,
@@ -91,13 +90,13 @@ impl DeadLetterSearch {
         ensures allowed { OnOk result (IsAllowed (string_bytes settings.old.key) to) }
         ensures refused { IfErr result (IsRefused (string_bytes settings.old.key) to) }
     {
-        allow(settings.key(), &to)?;
+        check_settings(settings.key(), &to)?;
         let search = DeadLetterSearch::of(alloc, settings, to)?;
         settings.set_one_at_a_time(true);
         Ok(search)
     }
 
-    /// The search under the names of these settings.
+    /// The search with the names of these settings.
     fn of(alloc: Global, settings: &Settings, to: GiveUp) -> Result<DeadLetterSearch, AllocError>
         ensures names { IfOk result (λ d. (string_bytes d.key ≡ string_bytes settings.now.key)
             × (string_bytes d.group ≡ string_bytes settings.now.group)
@@ -121,23 +120,23 @@ impl DeadLetterSearch {
         })
     }
 
-    /// The worker is to acknowledge first what is in its file: the next turn looks at nothing.
+    /// Skips the search of the next turn, since the worker must first acknowledge the entries in its file.
     pub fn wait_once(&mut self)
         ensures { self.new ≡ record self.old { waits = true } }
     {
         self.waits = true;
     }
 
-    /// So many entries have a letter, and were acknowledged.
+    /// How many entries have a letter and were acknowledged.
     pub fn letters(&self) -> u64
         ensures { result ≡ self.now.letters }
     {
         self.letters
     }
 
-    /// Before the next command of a worker, whose last one asked this: looks before the first one,
-    /// and before each claim. It waits while the worker has entries in hand, or is to acknowledge what
-    /// is in its file, since these are pending too.
+    /// Call it before each command of a worker, with its last command. It searches before the first command and before
+    /// each claim. It does not search while the worker has entries to acknowledge, in memory or in its file, since
+    /// these are pending too.
     pub fn turn<R: Read + Drop, W: Write + Drop>(
         &mut self,
         alloc: Global,
@@ -151,16 +150,16 @@ impl DeadLetterSearch {
         ensures ok { OnOk result (Besides connection.old connection.new) }
         ensures err { OnErr result (BreaksBesides connection.old connection.new) }
     {
-        self.reads = reads_after(self.reads, asked);
+        self.reads = count_reads(self.reads, asked);
         let waits = mem::replace(&mut self.waits, false);
         if in_hand || waits {
             return Ok(());
         }
-        self.look_if_due(alloc, connection)
+        self.search_if_due(alloc, connection)
     }
 
-    /// Looks before the first command, and before each claim.
-    fn look_if_due<R: Read + Drop, W: Write + Drop>(
+    /// Searches before the first command, and before each claim.
+    fn search_if_due<R: Read + Drop, W: Write + Drop>(
         &mut self,
         alloc: Global,
         connection: &mut Connection<R, W>,
@@ -170,7 +169,7 @@ impl DeadLetterSearch {
     {
         if !self.begun {
             self.begun = true;
-            return self.look_at_both(alloc, connection);
+            return self.search_own_and_idle(alloc, connection);
         }
         if self.reads < self.every {
             return Ok(());
@@ -179,8 +178,8 @@ impl DeadLetterSearch {
         self.look(alloc, connection, false)
     }
 
-    /// Looks at what is pending for the consumer itself, and then at what anybody left.
-    fn look_at_both<R: Read + Drop, W: Write + Drop>(
+    /// Searches the consumer's own pending entries, and then idle ones of all consumers.
+    fn search_own_and_idle<R: Read + Drop, W: Write + Drop>(
         &mut self,
         alloc: Global,
         connection: &mut Connection<R, W>,
@@ -192,8 +191,7 @@ impl DeadLetterSearch {
         self.look(alloc, connection, false)
     }
 
-    /// Looks at what is pending for the consumer itself, or at what anybody left for the idle time,
-    /// page by page.
+    /// Searches the consumer's own pending entries, or those of all consumers that are idle long enough, page by page.
     fn look<R: Read + Drop, W: Write + Drop>(
         &mut self,
         alloc: Global,
@@ -205,7 +203,7 @@ impl DeadLetterSearch {
     {
         let mut start = String::from_str(alloc, "-")?;
         for _ in 0..PAGES {
-            match self.look_at_page(alloc, connection, &start, own)? {
+            match self.search_page(alloc, connection, &start, own)? {
                 Some(next) => start = next,
                 None => return Ok(()),
             }
@@ -213,8 +211,8 @@ impl DeadLetterSearch {
         Ok(())
     }
 
-    /// Gives up what was delivered too often of one page: where the next page starts.
-    fn look_at_page<R: Read + Drop, W: Write + Drop>(
+    /// Gives up the entries of one page that were delivered too often. Returns the start of the next page.
+    fn search_page<R: Read + Drop, W: Write + Drop>(
         &mut self,
         alloc: Global,
         connection: &mut Connection<R, W>,
@@ -225,14 +223,14 @@ impl DeadLetterSearch {
         ensures err { OnErr result (BreaksBesides connection.old connection.new) }
     {
         let page = self.page(alloc, connection, start, own)?;
-        let next = next_start(alloc, &page)?;
-        let entries = too_often(page, self.deliveries);
+        let next = find_next_start(alloc, &page)?;
+        let entries = keep_too_often(page, self.deliveries);
         let min_idle = if own { 0 } else { self.min_idle };
         self.give_up(alloc, connection, &entries, min_idle)?;
         Ok(next)
     }
 
-    /// The pending entries from this id on; none where there is no group.
+    /// The pending entries from this id on; an empty list if there is no group.
     fn page<R: Read + Drop, W: Write + Drop>(
         &self,
         alloc: Global,
@@ -255,7 +253,7 @@ impl DeadLetterSearch {
         }
     }
 
-    /// Claims these entries, gives them up, and has their letters delivered.
+    /// Claims these entries, gives them up, and sends their letters.
     fn give_up<R: Read + Drop, W: Write + Drop>(
         &mut self,
         alloc: Global,
@@ -273,7 +271,7 @@ impl DeadLetterSearch {
         deliver(alloc, connection, &mut desk, &mut self.letters)
     }
 
-    /// A desk for letters, at which nothing waits.
+    /// An empty queue of letters.
     fn desk(&self, alloc: Global) -> Result<DeadLetters, AllocError>
         ensures names { IfOk result (λ d. names_of d ≡ letter_names self.now) }
         ensures waits { IfOk result (λ d. desk_of d ≡ none_waits) }
@@ -334,8 +332,8 @@ impl DeadLetterSearch {
     }
 }
 
-/// Refuses what no search may be made for.
-fn allow(key: &str, to: &GiveUp) -> Result<(), SearchSettingsError>
+/// Checks the settings of a search.
+fn check_settings(key: &str, to: &GiveUp) -> Result<(), SearchSettingsError>
     ensures ok { OnOk result (IsAllowed key.now to.now) }
     ensures err { IfErr result (IsRefused key.now to.now) }
 {
@@ -351,8 +349,8 @@ fn allow(key: &str, to: &GiveUp) -> Result<(), SearchSettingsError>
     Ok(())
 }
 
-/// So many reads were made, where this was asked last.
-fn reads_after(reads: usize, asked: Asked) -> usize {
+/// How many reads were made, if this was the last command.
+fn count_reads(reads: usize, asked: Asked) -> usize {
     if asked == Asked::New {
         reads.saturating_add(1)
     } else {
@@ -360,7 +358,7 @@ fn reads_after(reads: usize, asked: Asked) -> usize {
     }
 }
 
-/// Asks for pending entries; there are none where there is no group.
+/// Sends XPENDING; the list is empty if there is no group.
 fn ask_page<T: ToRedisArgs, R: Read + Drop, W: Write + Drop>(
     alloc: Global,
     connection: &mut Connection<R, W>,
@@ -370,7 +368,7 @@ fn ask_page<T: ToRedisArgs, R: Read + Drop, W: Write + Drop>(
     ensures err { OnlyLooks (T.args command.now) → OnErr result (BreaksLooking connection.old connection.new) }
 {
     match connection.ask_as(alloc, command) {
-        Ok(rows) => Ok(waiting_in(alloc, rows)?),
+        Ok(rows) => Ok(collect_waiting(alloc, rows)?),
         Err(AskError::Server(error)) if error.code() == b"NOGROUP".as_slice() => {
             Ok(Vec::new(alloc))
         }
@@ -379,7 +377,7 @@ fn ask_page<T: ToRedisArgs, R: Read + Drop, W: Write + Drop>(
 }
 
 /// The entries of these rows, in order.
-fn waiting_in(alloc: Global, rows: Vec<Row>) -> Result<Vec<Waiting>, AllocError>
+fn collect_waiting(alloc: Global, rows: Vec<Row>) -> Result<Vec<Waiting>, AllocError>
     ensures { IfOk result (λ all. map waiting_of all.items ≡ map row_of rows.items) }
 {
     let mut all = Vec::with_capacity(alloc, rows.len())?;
@@ -389,7 +387,7 @@ fn waiting_in(alloc: Global, rows: Vec<Row>) -> Result<Vec<Waiting>, AllocError>
     Ok(all)
 }
 
-/// Gives an entry up, as it was claimed; not where another consumer has it, or it was deleted.
+/// Gives up an entry that was claimed; not if another consumer has it, or it was deleted.
 fn post(
     alloc: Global,
     desk: &mut DeadLetters,
@@ -411,7 +409,7 @@ fn post(
     post_fields(alloc, desk, entry, texts)
 }
 
-/// The entry that these rows are; None if they are not one.
+/// The only row; `None` if there is not exactly one.
 fn the_row(rows: &[Option<(String, Vec<RawBytes>)>]) -> Option<&(String, Vec<RawBytes>)>
     ensures { MatchOption result ((e : Entry) → AreJust (rows_of rows.now) e → e.1 ≡ [])
         (λ row. rows.now ≡ Some row.now ∷ []) }
@@ -422,7 +420,7 @@ fn the_row(rows: &[Option<(String, Vec<RawBytes>)>]) -> Option<&(String, Vec<Raw
     }
 }
 
-/// Gives an entry up with these names and values, which are none where it was deleted.
+/// Gives up an entry with these names and values; there are none if it was deleted.
 fn post_fields(
     alloc: Global,
     desk: &mut DeadLetters,
@@ -435,7 +433,7 @@ fn post_fields(
     ensures names { names_of desk.new ≡ names_of desk.old }
     ensures added { (desk_of desk.new).added ≡ (desk_of desk.old).added }
 {
-    let Some(fields) = pairs_of(alloc, texts)? else {
+    let Some(fields) = pair_up(alloc, texts)? else {
         return Err(SearchError::NoValue);
     };
     let Some(fields) = AtLeastOne::new(&fields) else {
@@ -443,21 +441,20 @@ fn post_fields(
     };
     match desk.give_up(alloc, entry.id.as_str(), entry.deliveries, &fields) {
         Ok(()) => Ok(()),
-        Err(error) => Err(not_written(error)),
+        Err(error) => Err(convert_write_error(error)),
     }
 }
 
-/// Those of these pending entries that were delivered so often or more, in order.
-fn too_often(mut page: Vec<Waiting>, deliveries: usize) -> Vec<Waiting>
+/// Keeps the pending entries with this delivery count or more, in order.
+fn keep_too_often(mut page: Vec<Waiting>, deliveries: usize) -> Vec<Waiting>
     ensures { result.items ≡ filter (λ w. nat_le deliveries w.deliveries) page.items }
 {
     page.retain(|entry| entry.deliveries >= deliveries);
     page
 }
 
-/// Where the page behind this one starts, which is behind its last id; None where this one is not
-/// full.
-fn next_start(alloc: Global, page: &[Waiting]) -> Result<Option<String>, AllocError>
+/// The start of the next page, just after the last id; `None` if this page is not full.
+fn find_next_start(alloc: Global, page: &[Waiting]) -> Result<Option<String>, AllocError>
     ensures { IfOk result (λ next. MatchOption next (length page.now < PAGE)
         (λ start. (PAGE ≤ length page.now) × IsBehind page.now (string_bytes start))) }
 {
@@ -474,9 +471,8 @@ fn next_start(alloc: Global, page: &[Waiting]) -> Result<Option<String>, AllocEr
     }
 }
 
-/// The names and values that these texts are by turns, in order; None where the last name has no
-/// value.
-fn pairs_of<'a>(
+/// Pairs up these texts, which are names and values by turns; `None` if the last name has no value.
+fn pair_up<'a>(
     alloc: Global,
     texts: &'a [RawBytes],
 ) -> Result<Option<Vec<(&'a [u8], &'a [u8])>>, AllocError>
@@ -493,8 +489,8 @@ fn pairs_of<'a>(
     Ok(if rest.is_empty() { Some(pairs) } else { None })
 }
 
-/// Sends what the desk asks, and takes the answers, until nothing waits; counts the entries that
-/// were acknowledged.
+/// Sends the queued commands and takes their replies, until the queue is empty. Counts the entries that were
+/// acknowledged.
 fn deliver<R: Read + Drop, W: Write + Drop>(
     alloc: Global,
     connection: &mut Connection<R, W>,
@@ -511,7 +507,7 @@ fn deliver<R: Read + Drop, W: Write + Drop>(
         let asked = match desk.request(alloc, &mut question) {
             Ok(LetterAsked::Nothing) => return Ok(()),
             Ok(asked) => asked,
-            Err(error) => return Err(not_written(error)),
+            Err(error) => return Err(convert_write_error(error)),
         };
         connection.send_bytes(&question)?;
         let reply = connection.receive(alloc)?;
@@ -526,6 +522,6 @@ fn deliver<R: Read + Drop, W: Write + Drop>(
 }
 
 /// Why a command was not written.
-fn not_written(error: WriteError) -> SearchError {
+fn convert_write_error(error: WriteError) -> SearchError {
     ConnectionError::from(error).into()
 }

@@ -8,8 +8,8 @@ use Rattle.stream_worker.specs.Session.{Standing}
 use Rattle.stream_worker.specs.declared.state.Settings.{Settings}
 use Rattle.stream_loop.specs.Loop.{Drains}
 
--- the law: where a worker lives at first it lives after such rounds, where just those entries were deleted meanwhile of
--- which the replies in these rounds said so
+-- the law: if a worker lives at first, it lives after such rounds, with just those entries deleted meanwhile that the
+-- replies in these rounds reported
 abbrev pub LoopsAreLived : Type 0
 LoopsAreLived = (settings : Settings) (old new : Link) (v y : Standing Doings) (deleted told : List Id)
     → Lives settings v deleted → Drains settings old v new y told → Lives settings y (deleted ++ told)

@@ -14,7 +14,7 @@ use Rattle.stream_worker.specs.declared.state.Settings.{Settings}
 use Rattle.stream_worker.specs.declared.worker.Progress.TheVariants.{GoesOn, Stopped}
 use Rattle.stream_letters.specs.Besides.{Besides, BreaksBesides, BreaksLooking, Looks}
 
--- its reply was passed over, or it had come before; and then a command that only looks was asked, or broke off
+-- its reply was skipped, or had come before; and then a command that only reads was sent, or broke off
 pub record Looked (old new : Link) : Type 0 where
   pub link : Link
   pub passed : (link ≡ old) ⊎ ((a : wire.Answer) × ReceivesAnswer old link a)
@@ -31,7 +31,8 @@ module _ (settings : Settings) where
         (t : Turned done_too committed_too settings l m v u asked GoesOn) → Loops m u n y told
         → Loops l v n y (deleted_told settings v t.turn.answer ++ told)
 
-  -- nothing more went out; or the question went out with the acknowledgement that failed; or it was looked then
+  -- nothing more was sent; or the question was sent with the acknowledgement that failed; or a command that only
+  -- reads was sent
   abbrev pub IsLeft : Link → Link → Standing Doings → Type 0
   IsLeft old new v = (new ≡ old)
       ⊎ (((e f : RunError) × LeavesNext old new (next_command settings (asking committed_too settings v)) e f)

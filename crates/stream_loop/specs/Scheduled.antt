@@ -48,8 +48,8 @@ module _ (s : Setting Fields) (settings : Settings) where
   HearsToTheEnd events old new v y told (fails l m k n u x z error ids p f left) ms e = HearsEach events l m u x ids p ms
       × FailsHearing settings m k x z e s (after s (events ++ loop_events l m u x ids p ms)) error f
 
--- the law: after a schedule and rounds of the loop, and maybe an end of it, is a schedule. What others do meanwhile may be
--- what the worker's own search of dead letters does
+-- the law: after a schedule and rounds of the loop, and perhaps an end of it, is a schedule. What others do meanwhile
+-- may be what the worker's own search of dead letters does
 pub record LoopsRun : Type 0 where
   pub loops : (s : Setting Fields) (settings : Settings) (events : List (Event Fields)) (old new : Link)
       (v y : Standing Doings) (told : List Id) (p : Loops settings old v new y told) (ms : List Meantime)

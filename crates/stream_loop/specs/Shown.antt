@@ -6,15 +6,15 @@ use Rattle.stream_in_place.specs.Sent.{Pairs}
 use Rattle.stream_worker.specs.Gathered.{Doings, done_too, committed_too}
 use Rattle.stream_worker.specs.Session.{Standing}
 
--- where a worker stands, with these doings of its handler in place of what that keeps
+-- a worker, with these doings of its handler in place of what the handler keeps
 abbrev pub with_doings : {H : Type 0} → Standing H → Doings → Standing Doings
 with_doings w d = record { machine = w.machine; group = w.group; asked = w.asked; history = d }
 
--- what leads from here to there over a connection, and of which ids of deleted entries it told
+-- how one state leads to another over a connection, and which ids were reported as deleted
 abbrev pub Way : Type 1
 Way = Link → Standing Doings → Link → Standing Doings → List Id → Type 0
 
--- what is kept is a picture of the doings, for each way to draw it: each verdict and each commit changes the two alike
+-- what is kept is a function of the doings: each verdict and each commit changes the two alike
 pub record IsPicture {H P : Type 0} (shown : P → Doings → H) (with_verdict : H → List ℕ × Pairs → Verdict → H)
     (with_commit : H → H) : Type 0 where
   pub verdict : (p : P) (d : Doings) (e : List ℕ × Pairs) (v : Verdict)

@@ -1,4 +1,4 @@
--- What a tool shows of a group, by what XINFO STREAM FULL tells of it and the time of the server's clock.
+-- What a tool shows of a group, by the reply to XINFO STREAM FULL and the time of the server's clock.
 use Rattle.std.specs.Prelude.{ℕ, ◌-◌, ◌&&◌, Bool, List, [], ◌∷◌, Option, Some, None, map, filter, fold, max, nat_le}
 use Rattle.std.specs.Prelude.{nat_lt, string_bytes}
 use Rattle.redis.specs.Words.{FullConsumer, FullGroup, FullPending}
@@ -22,11 +22,11 @@ abbrev pub oldest_in : ℕ → List FullPending → Option ℕ
 oldest_in now [] = None
 oldest_in now (p ∷ ps) = Some (longest_in now (p ∷ ps))
 
--- the ids of the pending entries that were delivered more than so many times
+-- the ids of the pending entries that were delivered more than n times
 abbrev pub too_often_in : ℕ → List FullPending → List (List ℕ)
 too_often_in times pending = map (λ p. p.id) (filter (λ p. nat_lt times p.times_delivered) pending)
 
--- entries are pending for the consumer, and it has not been seen for so long
+-- entries are pending for the consumer, and it has not been seen for this long
 abbrev pub is_dead : ℕ → ℕ → FullConsumer → Bool
 is_dead now silent c = nat_lt 0 c.pending_count && nat_le silent (now - c.seen_time)
 

@@ -7,11 +7,11 @@ ghost use Rattle.stream_monitor.specs.GroupState.{dead_in, longest_in, oldest_in
 use redis::streams::{StreamInfoFullConsumer, StreamInfoFullGroup, StreamInfoFullPending};
 use std::alloc::{AllocError, Global};
 
-/// What a tool shows of a group. Of pending entries it has those that the reply has: ask with
-/// a `COUNT` of 0 for all.
+/// What a tool shows of a group. Its pending entries are those of the reply: send XINFO with a `COUNT` of 0 for
+/// all.
 #[derive(Debug, Drop)]
 pub struct GroupState {
-    /// How many entries the group has still to read, if the server can tell.
+    /// How many entries the group has still to read, if the server knows.
     pub lag: Option<usize>,
     /// How many entries are pending.
     pub pending: usize,

@@ -1,4 +1,4 @@
-//! For tools that watch groups: what a tool shows of a group, from one reply to XINFO STREAM FULL.
+//! For monitoring tools: the state of a group, from one reply to XINFO STREAM FULL.
 #![tactic(auto)]
 
 pub mod group_state;

@@ -9,25 +9,25 @@ use Rattle.stream_once.specs.Consumer.{is_idle}
 use Rattle.stream_once.specs.World.{Setting, World, Event, Ask, Else, first_world, happens}
 use Rattle.stream_once.specs.Law.{after}
 
--- the entries that the consumer is handed out again, by what its phase asks
+-- the entries that are redelivered to the consumer, by what its phase asks
 abbrev pub asked_again : {F : Type 0} → Name → (Id → Bool) → Id → Phase → group.World F → List (Delivered F)
 asked_again name pick next (own behind) w = alone.again w (group.Reread name pick)
 asked_again name pick next (claiming from) w = alone.again w (group.Claim name pick next)
 asked_again name pick next (reading rounds) w = []
 
--- the entries that an event hands out again, to the consumer or to another one
+-- the entries that an event redelivers, to the consumer or to another one
 abbrev pub again : {F : Type 0} → Setting F → World F → Event F → List (Delivered F)
 again s w (Ask n pick next) =
     if is_idle w.consumer then asked_again s.name pick next w.consumer.machine.phase w.stream else []
 again s w (Else event) = alone.again w.stream event
 again s w event = []
 
--- how often an event of a schedule hands out the entry of this id again, and no other entry
+-- how often an event of a schedule redelivers the entry of this id, and no other entry
 abbrev pub times_alone : {F : Type 0} → Setting F → Id → List (Event F) → World F → ℕ
 times_alone s id [] w = 0
 times_alone s id (e ∷ es) w = alone.alone id (again s w e) + times_alone s id es (happens s w e)
 
--- no event of a schedule hands out two entries again
+-- no event of a schedule redelivers two entries
 abbrev pub OneAtATime : {F : Type 0} → Setting F → List (Event F) → World F → Type 0
 OneAtATime s [] w = Unit {0}
 OneAtATime s (e ∷ es) w = (length (again s w e) ≤ 1) × OneAtATime s es (happens s w e)

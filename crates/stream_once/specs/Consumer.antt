@@ -9,10 +9,10 @@ use Rattle.stream_group.specs.Group.{Name, ids_of, given, whole, reread, claim_a
 use Rattle.stream_group.specs.World.{read, read_again, claim}
 use Rattle.stream_group.specs.World as group
 
--- the consumer, its connection and its file. An entry stands there as its line
+-- the consumer, its connection and its file. An entry is there as its line
 pub record Consumer (F : Type 0) : Type 0 where
   pub machine : Machine
-  pub answer : Option (Answer F)  -- the answer on the way to it
+  pub answer : Option (Answer F)  -- the reply on the way to it
   pub lines : List (Entry F)  -- lines that it wrote, or will write, and has not synced
   pub file : List (Entry F)  -- lines that no crash takes back
   pub last_commit : ℕ  -- how many lines the last commit added
@@ -26,23 +26,23 @@ abbrev pub is_empty : {A : Type 0} → List A → Bool
 is_empty [] = true
 is_empty (x ∷ xs) = false
 
--- it asks for entries only where all that it did is committed and acknowledged, and no answer is on the way
+-- it asks for entries only if all that it did is committed and acknowledged, and no reply is on the way
 abbrev pub is_idle : {F : Type 0} → Consumer F → Bool
 is_idle c = is_none c.answer && (is_empty c.machine.to_commit && is_empty c.machine.to_acknowledge)
 
--- it asks for what its phase says: the stream then, where COUNT is n, and of what is pending the server picks these
+-- it asks for what its phase says, with COUNT n, and of what is pending the server picks these: the stream then
 abbrev pub after_asking : {F : Type 0} → Name → ℕ → (Id → Bool) → Id → Phase → group.World F → group.World F
 after_asking name n pick next (own behind) w = read_again w name pick
 after_asking name n pick next (claiming from) w = claim w name pick next
 after_asking name n pick next (reading rounds) w = read w name n
 
--- the answer
+-- the reply
 abbrev pub answer_for : {F : Type 0} → Name → ℕ → (Id → Bool) → Id → Phase → group.World F → Answer F
 answer_for name n pick next (own behind) w = own_pending (reread pick name w.pending w.deleted w.seen)
 answer_for name n pick next (claiming from) w = taken_over next (claim_answer pick w.pending w.deleted w.seen)
 answer_for name n pick next (reading rounds) w = news (map whole (given w.deleted n w.fresh))
 
--- an answer comes to it: its handler says this of the entries, and a line is added for each that it did
+-- a reply comes to it: its handler says this of the entries, and a line is added for each that it did
 abbrev pub takes : {F : Type 0} → List Verdict → Option (Answer F) → Consumer F → Consumer F
 takes verdicts None c = c
 takes verdicts (Some a) c = record c {
@@ -60,7 +60,7 @@ syncs c = record c {
   last_commit = length c.lines;
 }
 
--- it commits, where no answer is on the way and all that was committed before is acknowledged
+-- it commits, if no reply is on the way and all that was committed before is acknowledged
 abbrev pub commits : {F : Type 0} → Consumer F → Consumer F
 commits c = if is_none c.answer && is_empty c.machine.to_acknowledge then syncs c else c
 
@@ -68,7 +68,7 @@ commits c = if is_none c.answer && is_empty c.machine.to_acknowledge then syncs 
 abbrev pub last_lines : {F : Type 0} → ℕ → List (Entry F) → List (Entry F)
 last_lines n file = drop (length file - n) file
 
--- how many lines the last commit added: where a crash cut a commit off, those lines of it that are in the file
+-- how many lines the last commit added: if a crash cut a commit off, those lines of it that are in the file
 abbrev pub last_added : {F : Type 0} → ℕ → List (Entry F) → ℕ
 last_added before [] = before
 last_added before (e ∷ es) = length (e ∷ es)
@@ -86,6 +86,6 @@ restarts every kept more c = record {
   last_commit = last_added c.last_commit (take kept c.lines);
 }
 
--- its connection breaks: no answer comes, and it begins again with what is pending for it
+-- its connection breaks: no reply comes, and it begins again with what is pending for it
 abbrev pub reconnects : {F : Type 0} → Consumer F → Consumer F
 reconnects c = record c { machine = begins_again c.machine; answer = None }

@@ -47,12 +47,12 @@ abbrev pub run_many : {F : Type 0} → Setting F → List (Name × Event F) → 
 run_many s [] m = m
 run_many s (e ∷ es) m = run_many s es (happens_to s m e.0 e.1)
 
--- the ids in an answer on the way
+-- the ids in a reply on the way
 abbrev pub on_the_way : {F : Type 0} → Option (Answer F) → List Id
 on_the_way None = []
 on_the_way (Some a) = map (λ d. d.0) (entries_in a)
 
--- the consumer has the entry of this id: in an answer on the way to it, in its file, or as a line that is not synced
+-- the consumer has the entry of this id: in a reply on the way to it, in its file, or as a line that is not synced
 abbrev pub Has : {F : Type 0} → Consumer F → Id → Type 0
 Has c id = Among id (on_the_way c.answer) ⊎ Among id (ids_of (c.file ++ c.lines))
 
@@ -88,27 +88,27 @@ AllFair s m (e ∷ es) = IsFair m e.0 e.1 × AllFair s (happens_to s m e.0 e.1) 
 abbrev pub file_after : {F : Type 0} → Setting F → List (Name × Event F) → Name → List (Entry F)
 file_after s events name = ((run_many s events first_many).consumers name).file
 
--- no id stands twice in any of the files
+-- no id is twice in any of the files
 abbrev pub EachFileOnce : Type 0 → Type 0
 EachFileOnce F = (s : Setting F) (events : List (Name × Event F)) (name : Name)
     → Once (ids_of (file_after s events name))
 
--- what stands in any of them is of the log, with its own fields
+-- what is in any of them is of the log, with its own fields
 abbrev pub EachFileIsOfLog : Type 0 → Type 0
 EachFileIsOfLog F = (s : Setting F) (events : List (Name × Event F)) (name : Name) (e : Entry F)
     → Among e (file_after s events name) → Among e (log_of (run_many s events first_many).stream)
 
--- if no claim takes what another consumer has, no id stands in two files
+-- if no claim takes what another consumer has, no id is in two files
 abbrev pub NoneInTwoFiles : Type 0 → Type 0
 NoneInTwoFiles F = (s : Setting F) (events : List (Name × Event F)) → AllFair s first_many events
     → (id : Id) (one other : Name) → Among id (ids_of (file_after s events one))
     → Among id (ids_of (file_after s events other)) → one ≡ other
 
--- the entry stands in one of the files
+-- the entry is in one of the files
 abbrev pub InSomeFile : {F : Type 0} → Many F → Entry F → Type 0
 InSomeFile m e = (name : Name) × Among e (m.consumers name).file
 
--- the entry is still to come; or it is pending; or it stands in one of the files; or it was deleted from the stream
+-- the entry is still to come; or it is pending; or it is in one of the files; or it was deleted from the stream
 abbrev pub IsKeptByOne : {F : Type 0} → Many F → Entry F → Type 0
 IsKeptByOne m e =
     Among e m.stream.fresh
@@ -120,13 +120,13 @@ EachIsKeptByOne F = (s : Setting F) (events : List (Name × Event F)) → NoOthe
     → (e : Entry F) → Among e (log_of (run_many s events first_many).stream)
     → IsKeptByOne (run_many s events first_many) e
 
--- the entry stands in one of the files, and in no other
+-- the entry is in one of the files, and in no other
 abbrev pub InOneFile : {F : Type 0} → Many F → Entry F → Type 0
 InOneFile m e =
     (name : Name)
     × (Among e (m.consumers name).file × ((other : Name) → Among e.0 (ids_of (m.consumers other).file) → name ≡ other))
 
--- if the producer is done, the stream drained, and nothing deleted, each record stands in one of the files, and in no
+-- if the producer is done, the stream drained, and nothing deleted, each record is in one of the files, and in no
 -- other; if nobody else adds or acknowledges, and no claim takes what another consumer has
 abbrev pub EachComesOutInOneFile : Type 0 → Type 0
 EachComesOutInOneFile F = (s : Setting F) → Fit s → (events : List (Name × Event F))

@@ -1,11 +1,11 @@
--- How many lines a commit adds, by how many entries an answer has.
+-- How many lines a commit adds, by how many entries a reply has.
 use Rattle.std.specs.Prelude.{◌≤◌, ℕ, List, [], ◌∷◌, length, take}
 use Rattle.stream_group.specs.Worker.{entries_in}
 use Rattle.stream_once.specs.Consumer.{answer_for, last_added}
 use Rattle.stream_once.specs.World.{Setting, World, Event, Ask, first_world, happens}
 use Rattle.stream_once.specs.Law.{after}
 
--- the server answers with at most so many entries
+-- the server replies with at most n entries
 abbrev pub IsWithin : {F : Type 0} → ℕ → Setting F → World F → Event F → Type 0
 IsWithin number s w (Ask n pick next) =
     length (entries_in (answer_for s.name n pick next w.consumer.machine.phase w.stream)) ≤ number
@@ -16,7 +16,7 @@ abbrev pub AllWithin : {F : Type 0} → ℕ → Setting F → World F → List (
 AllWithin number s w [] = Unit {0}
 AllWithin number s w (e ∷ es) = IsWithin number s w e × AllWithin number s (happens s w e) es
 
--- then the last commit added at most so many lines, and so did one that a crash cuts off now
+-- then the last commit added at most n lines, and so did one that a crash cuts off now
 abbrev pub CommitsAreWithin : Type 0 → Type 0
 CommitsAreWithin F = (s : Setting F) (events : List (Event F)) (number : ℕ) → AllWithin number s first_world events
     → (kept : ℕ)

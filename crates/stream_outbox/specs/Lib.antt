@@ -1,3 +1,3 @@
--- What the contracts of an outbox speak of.
+-- The definitions that the contracts of an outbox use.
 pub mod Sent
 pub mod Posts

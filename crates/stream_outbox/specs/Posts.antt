@@ -13,13 +13,13 @@ use Rattle.stream_outbox.specs.declared.error.PostError.{PostError}
 use Rattle.stream_outbox.specs.declared.error.PostError.TheVariants as causes
 use Rattle.stream_outbox.specs.Sent.{SendsAll, SendsSome}
 
--- what passed of the work, the commands that were not replied to, and those that were not as something was committed
+-- the history of the work, the commands without a reply, and those that had none at a commit
 pub record Posts (H : Type 0) : Type 0 where
   pub work : H
   pub unsent : List (List ℕ)
   pub early : List (List ℕ)
 
--- what there is of an outbox in which these are not replied to: nothing was committed early
+-- an outbox in which these have no reply: nothing was committed early
 abbrev pub posts_by : {H : Type 0} → H → List (List ℕ) → Posts H
 posts_by h commands = record { work = h; unsent = commands; early = [] }
 
@@ -39,7 +39,7 @@ module _ {H : Type 0} (with_verdict : H → List ℕ × Pairs → Verdict → H)
     early = p.early;
   }
 
--- with one more commit: commands that are not replied to are early then
+-- with one more commit: the commands without a reply were early
 abbrev pub committed_after : {H : Type 0} → (H → H) → Posts H → Posts H
 committed_after with_commit p = record {
   work = with_commit p.work;
@@ -47,13 +47,13 @@ committed_after with_commit p = record {
   early = p.early ++ p.unsent;
 }
 
--- it stands so, with nothing left in its outbox
+-- this state, with an empty outbox
 abbrev pub with_all_sent : {H : Type 0} → Standing (Posts H) → Standing (Posts H)
 with_all_sent w = record w { history = record (w.history) { unsent = [] } }
 
 module _ {H : Type 0} (with_verdict : Posts H → List ℕ × Pairs → Verdict → Posts H) (with_commit : Posts H → Posts H)
     (settings : Settings) where
-  -- a round was made, and then all that is in the outbox was sent, and each of it replied to
+  -- a round was made, and then every command in the outbox was sent and got its reply
   pub record PostsRound (old new : Link) (w x : Standing (Posts H)) (asked : Asked) (p : Progress) : Type 0 where
     pub between : Link
     pub after : Standing (Posts H)
@@ -61,7 +61,7 @@ module _ {H : Type 0} (with_verdict : Posts H → List ℕ × Pairs → Verdict 
     pub sends : SendsAll after.history.unsent between new
     pub stands : x ≡ with_all_sent after
 
-  -- a round failed; or it was made, and not all that is in the outbox was sent
+  -- a round failed; or it was made, and not every command in the outbox got its reply
   abbrev pub FailsPosting : Link → Link → Standing (Posts H) → Standing (Posts H) → PostError → Type 0
   FailsPosting old new w x (causes.Round e) = Fails with_verdict with_commit settings old new w x e
   FailsPosting old new w x (causes.Outbox e) = (m : Link) × (u : Standing (Posts H)) × (q : Asked) × (p : Progress)
@@ -69,8 +69,8 @@ module _ {H : Type 0} (with_verdict : Posts H → List ℕ × Pairs → Verdict 
       × SendsSome u.history.unsent x.history.unsent m new
       × (x ≡ record u { history = record (u.history) { unsent = x.history.unsent } })
 
--- the law: a round that commits before it asks begins with an empty outbox. So each command that the entries before left
--- there was replied to before the acknowledgement of these entries goes out
+-- the law: a round that commits begins with an empty outbox. So each command of the entries before it got its reply
+-- before the acknowledgement of these entries is sent
 abbrev pub NothingIsEarly : {H : Type 0} → (H → List ℕ × Pairs → Verdict → H) → (H → H)
     → (H → List ℕ × Pairs → Verdict → List (List ℕ)) → Type 0
 NothingIsEarly {H} with_verdict with_commit posts = (settings : Settings) (old new : Link) (w x : Standing (Posts H))

@@ -1,4 +1,4 @@
--- Commands that are sent in one write, each of which is replied to.
+-- Commands that are sent in one write, each with a reply.
 use Rattle.std.specs.Prelude.{◌≡◌, ◌⊎◌, ℕ, zero, suc, Bool, true, false, ◌||◌, List, [], map, codes, drop, length, take}
 use Rattle.std.specs.Prelude.{Option, Some, None, ◌<◌}
 use Rattle.std.specs.List.{flat_map}
@@ -7,37 +7,38 @@ use Rattle.redis_connection.specs.Passing.{AwaitsAnswer, ReceivesAnswer}
 use Rattle.redis_wire.specs.Reply.{Answer, value, refused, group, pushed}
 use Rattle.stream_outbox.specs.declared.outbox.Outbox.{Outbox}
 
--- the bytes of the commands that were not replied to, in order
+-- the bytes of the commands without a reply, in order
 abbrev pub unsent_of : Outbox → List (List ℕ)
 unsent_of o = map (λ c. c.items) o.commands.items
 
--- one after the other, as they go out
+-- one after the other, as they are sent
 abbrev pub all_bytes : List (List ℕ) → List ℕ
 all_bytes commands = flat_map (λ c. c) commands
 
--- the server took the command: its reply is no error
+-- the server executed the command: its reply is not an error
 abbrev pub takes : Answer → Bool
 takes (value t) = true
 takes (refused text) = false
 takes (group kind members) = false
 takes (pushed kind payload) = false
 
--- so many replies came, one after the other, and none is an error
+-- this number of replies were received, one after the other, and none is an error
 abbrev pub Replied : ℕ → Link → Link → Type 0
 Replied zero old new = new ≡ old
 Replied (suc n) old new = (m : Link) × (a : Answer) × Replied n old m × ReceivesAnswer m new a × (takes a ≡ true)
 
--- no reply came, or one that is an error
+-- no reply was received, or one that is an error
 abbrev pub IsNotTaken : Link → Link → Type 0
 IsNotTaken old new = AwaitsAnswer old new ⊎ ((a : Answer) × ReceivesAnswer old new a × (takes a ≡ false))
 
--- these commands went out in one write, and then a reply to each came, and none is an error; or there was none
+-- these commands were sent in one write, and then a reply to each was received, none of them an error; or there was no
+-- command
 pub record SendsAll (commands : List (List ℕ)) (old new : Link) : Type 0 where
   pub between : Link
   pub sends : Sends old between (all_bytes commands)
   pub replied : Replied (length commands) between new
 
--- they all went out, and so many replies came, and then none or an error
+-- they were all sent, and this number of replies were received, and then none or an error
 pub record IsRepliedTo (commands left : List (List ℕ)) (old new : Link) : Type 0 where
   pub between : Link
   pub count : ℕ
@@ -48,7 +49,8 @@ pub record IsRepliedTo (commands left : List (List ℕ)) (old new : Link) : Type
   pub not_taken : IsNotTaken last new
   pub left_is : left ≡ drop count commands
 
--- nothing went out, or a front of their bytes, and all of them are left; or so many were replied to, and the others are left
+-- nothing was sent, or a prefix of their bytes, and all of them are left; or the first ones got replies, and the others
+-- are left
 abbrev pub SendsSome : List (List ℕ) → List (List ℕ) → Link → Link → Type 0
 SendsSome commands left old new =
     ((left ≡ commands) × ((new ≡ old) ⊎ SendsFront old new (all_bytes commands))) ⊎ IsRepliedTo commands left old new

@@ -1,4 +1,4 @@
-//! Why an outbox is not empty.
+//! Errors of an outbox.
 ghost use Rattle.std.specs.Prelude.{◌≡◌};
 ghost use Rattle.stream_outbox.specs.declared.error.OutboxError.TheVariants as causes;
 ghost use Rattle.stream_outbox.specs.declared.error.PostError.TheVariants as posts;
@@ -9,17 +9,17 @@ use std::alloc::AllocError;
 use stream_worker::RunError;
 use thiserror::Error;
 
-/// Why not each command was replied to. Those that were not stay in the outbox. After any of these errors but `Memory`
-/// replies may still come: close the connection, and send over a new one.
+/// Why a command got no reply. Commands without a reply stay in the outbox. After any of these errors but `Memory`
+/// replies may still arrive: close the connection, and send over a new one.
 #[derive(Debug, Drop, Error)]
 pub enum OutboxError {
-    /// The commands were not sent, or no reply came.
+    /// The commands were not sent, or no reply was received.
     #[error("{0}")]
     Connection(ConnectionError),
-    /// The server refused a command. Those after it stay in the outbox too, and are sent again.
+    /// The server returned an error to a command. It and those after it stay in the outbox, and are sent again.
     #[error("the server answers {0}")]
     Refused(ServerError),
-    /// The reply is a group with an error in it.
+    /// The reply is an aggregate with an error in it.
     #[error("no answer of a command")]
     NotAnAnswer,
     /// Out of memory, and nothing was sent.
@@ -49,7 +49,7 @@ pub enum PostError {
     /// The round failed, and nothing of the outbox was sent. It is `NotCommitted` while a command has no reply.
     #[error("{0}")]
     Round(RunError),
-    /// The round was made, and what is in the outbox was not all sent.
+    /// The round was made, and not every command of the outbox was sent and got its reply.
     #[error("{0}")]
     Outbox(OutboxError),
 }

@@ -1,10 +1,10 @@
-//! An outbox: what a handler sends to other streams goes out before its entry is acknowledged.
+//! An outbox: the commands that a handler sends to other streams get their replies before its entry is acknowledged.
 //!
 //! A user's `Work` puts whole commands into an `Outbox`, as an XADD to another stream. `Posting` is the worker's
 //! handler over it. `Posting::round` makes a round, and then sends what is in the outbox in one write and takes a reply
 //! to each command. While one command has no reply, nothing is committed, so the worker acknowledges nothing of it.
 //!
-//! A command is sent at least once: after an error all that have no reply stay, and are sent again.
+//! A command is sent at least once: after an error all without a reply stay, and are sent again.
 #![tactic(auto)]
 
 mod error;

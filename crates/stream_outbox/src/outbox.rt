@@ -1,4 +1,4 @@
-//! Commands on their way to other streams.
+//! The commands to other streams that have no reply yet.
 ghost use Rattle.std.specs.Prelude.{◌≡◌, ◌↔◌, ◌<◌, ◌≤◌, ◌++◌, ◌∷◌, [], IfOk, IsTrue, OnErr, OnOk};
 ghost use Rattle.std.specs.Prelude.{drop, false, length, map, take, true};
 ghost use Rattle.redis_connection.specs.Link.{Link};
@@ -14,13 +14,13 @@ use redis_wire::{PackError, Reply, pack_command};
 use std::alloc::{AllocError, Global};
 use std::io::{Read, Write};
 
-/// Commands that were not replied to, in order, each as its bytes.
+/// Commands without a reply, in order, each as its bytes.
 #[derive(Debug, Drop)]
 pub struct Outbox {
     commands: Vec<Vec<u8>>,
 }
 
-/// So many replies came, and how it ended.
+/// How many replies were received, and the error that ended them.
 #[derive(Drop)]
 struct Replies {
     count: usize,
@@ -28,7 +28,7 @@ struct Replies {
 }
 
 impl Outbox {
-    /// Nothing is to be sent. It takes no memory.
+    /// An empty outbox. Allocates nothing.
     pub fn new(alloc: Global) -> Outbox
         ensures { unsent_of result ≡ [] }
     {
@@ -37,21 +37,21 @@ impl Outbox {
         }
     }
 
-    /// Each command was replied to.
+    /// Whether every command got its reply.
     pub fn is_empty(&self) -> bool
         ensures empty { IsTrue result ↔ (unsent_of self.now ≡ []) }
     {
         self.commands.is_empty()
     }
 
-    /// How many commands were not replied to.
+    /// How many commands have no reply.
     pub fn len(&self) -> usize
         ensures { result ≡ length (unsent_of self.now) }
     {
         self.commands.len()
     }
 
-    /// A whole command, as an XADD, is to be sent after those before it. An `Err` changes nothing.
+    /// Appends a whole command, as an XADD. An `Err` changes nothing.
     pub fn push<T: ToRedisArgs>(&mut self, alloc: Global, command: &T) -> Result<(), PackError>
         ensures ok { OnOk result (unsent_of self.new
             ≡ unsent_of self.old ++ command_bytes (T.args command.now) ∷ []) }
@@ -64,17 +64,17 @@ impl Outbox {
         }
     }
 
-    /// Takes back the commands after the first `len`, for work that cannot be done whole.
+    /// Removes the commands after the first `len`, if an entry's work cannot be completed.
     pub fn truncate(&mut self, len: usize)
         ensures { unsent_of self.new ≡ take len (unsent_of self.old) }
     {
         self.commands.truncate(len);
     }
 
-    /// Sends all commands in one write, and takes one reply to each. After Ok it is empty. After an `Err` those that
-    /// were not replied to stay, and the next call sends them again: each goes out at least once, and maybe twice.
+    /// Sends all commands in one write, and takes one reply to each. After Ok it is empty. After an `Err` those without
+    /// a reply stay, and the next call sends them again: each is sent at least once, and maybe twice.
     ///
-    /// A reply that is an error ends it, and that command and those after it stay. The server may have taken those.
+    /// An error reply ends it, and that command and those after it stay. The server may have executed the later ones.
     pub fn send<R: Read + Drop, W: Write + Drop>(
         &mut self,
         alloc: Global,
@@ -85,14 +85,14 @@ impl Outbox {
         ensures err { OnErr result (SendsSome (unsent_of self.old) (unsent_of self.new)
             connection.old connection.new) }
     {
-        let bytes = joined(alloc, &self.commands)?;
+        let bytes = join_commands(alloc, &self.commands)?;
         connection.send_bytes(&bytes)?;
         let replies = take_replies(alloc, connection, self.len());
         self.drop_first(replies.count);
         replies.ended
     }
 
-    /// Takes out the first commands.
+    /// Removes the first commands.
     fn drop_first(&mut self, count: usize)
         requires { count ≤ length (unsent_of self.old) }
         ensures { unsent_of self.new ≡ drop count (unsent_of self.old) }
@@ -102,7 +102,7 @@ impl Outbox {
 }
 
 /// The bytes of these commands, one after the other.
-fn joined(alloc: Global, commands: &[Vec<u8>]) -> Result<Vec<u8>, AllocError>
+fn join_commands(alloc: Global, commands: &[Vec<u8>]) -> Result<Vec<u8>, AllocError>
     ensures { IfOk result (λ bytes. bytes.items ≡ all_bytes (map (λ c. c.items) commands.now)) }
 {
     let mut bytes = Vec::new(alloc);
@@ -112,7 +112,7 @@ fn joined(alloc: Global, commands: &[Vec<u8>]) -> Result<Vec<u8>, AllocError>
     Ok(bytes)
 }
 
-/// Takes so many replies, to the first that is an error.
+/// Takes this number of replies, up to the first that is an error.
 fn take_replies<R: Read + Drop, W: Write + Drop>(
     alloc: Global,
     connection: &mut Connection<R, W>,

@@ -1,4 +1,4 @@
-//! A worker's handler that posts.
+//! A worker's handler with an outbox.
 ghost use Rattle.std.specs.Prelude.{◌≡◌, ◌++◌, ℕ, [], List, IfErr, IfOk, OnErr, OnOk};
 ghost use Rattle.stream_group.specs.Worker as machine;
 ghost use Rattle.stream_outbox.specs.Posts.{FailsPosting, Posts, PostsRound, committed_after, posted_too, posts_by};
@@ -14,36 +14,36 @@ use std::alloc::Global;
 use std::io::{Read, Write};
 use stream_worker::{EntryRef, Handler, NotCommitted, Round, Verdict, Worker};
 
-/// What is done with entries, and what is sent for them.
+/// The work on entries, and the commands that are sent for them.
 pub trait Work {
     ghost History: { Type 0 };
 
-    /// The history with one more verdict.
+    /// The history after one more verdict.
     ghost with_verdict: { History → List ℕ × Pairs → machine.Verdict → History };
 
-    /// The history with one more commit.
+    /// The history after one more commit.
     ghost with_commit: { History → History };
 
-    /// What passed so far.
+    /// The history so far.
     ghost history: { Self → History };
 
-    /// The commands that are sent for an entry, each as its bytes, if this is said of it.
+    /// The commands that are sent for an entry with this verdict, each as its bytes.
     ghost posts: { History → List ℕ × Pairs → machine.Verdict → List (List ℕ) };
 
-    /// Does what is to be done with an entry, and puts what is to be sent for it into the outbox.
+    /// Handles an entry, and puts the commands for it into the outbox.
     fn handle(&mut self, alloc: Global, entry: &EntryRef<'_>, outbox: &mut Outbox) -> Verdict
         ensures history { history self.new ≡ with_verdict (history self.old)
             (pair_of entry.now) (verdict_of result) }
         ensures posts { unsent_of outbox.new ≡ unsent_of outbox.old
             ++ posts (history self.old) (pair_of entry.now) (verdict_of result) };
 
-    /// Makes everything that it did outlive a crash. It is called after all commands were replied to.
+    /// Makes all its work durable. It is called after every command got its reply.
     fn commit(&mut self, alloc: Global) -> Result<(), NotCommitted>
         ensures ok { OnOk result (history self.new ≡ with_commit (history self.old)) }
         ensures err { OnErr result (history self.new ≡ history self.old) };
 }
 
-/// Work with its outbox, as a handler of a worker. It commits nothing while a command is in the outbox.
+/// Work with its outbox, as a worker's handler. It commits nothing while a command is in the outbox.
 #[derive(Drop)]
 pub struct Posting<W: Work + Drop> {
     /// The work.
@@ -52,7 +52,7 @@ pub struct Posting<W: Work + Drop> {
 }
 
 impl<W: Work + Drop> Posting<W> {
-    /// Work whose outbox is empty. It takes no memory.
+    /// Work with an empty outbox. Allocates nothing.
     pub fn new(alloc: Global, work: W) -> Posting<W>
         ensures work { result.work ≡ work }
         ensures outbox { unsent_of result.outbox ≡ [] }
@@ -66,7 +66,7 @@ impl<W: Work + Drop> Posting<W> {
     /// Makes a round, and then sends what is in the outbox, and takes a reply to each command.
     ///
     /// After `Outbox` call `send` over the next connection, before the next round: until then the worker acknowledges
-    /// nothing of what was done.
+    /// none of the entries.
     pub fn round<R: Read + Drop, O: Write + Drop>(
         &mut self,
         alloc: Global,
@@ -93,7 +93,7 @@ impl<W: Work + Drop> Posting<W> {
         }
     }
 
-    /// Sends what an earlier `round` or `send` left in the outbox, as `Outbox::send` does.
+    /// Sends the commands that an earlier `round` or `send` left in the outbox, as `Outbox::send` does.
     pub fn send<R: Read + Drop, O: Write + Drop>(
         &mut self,
         alloc: Global,
@@ -122,7 +122,7 @@ impl<W: Work + Drop> Handler for Posting<W> {
         self.work.handle(alloc, entry, &mut self.outbox)
     }
 
-    /// Commits the work; not while a command is in the outbox.
+    /// Commits the work, unless a command is in the outbox.
     fn commit(&mut self, alloc: Global) -> Result<(), NotCommitted>
         ensures history { OnOk result (⟦<Posting<W> as Handler>⟧.history self.new
             ≡ committed_after W.with_commit (⟦<Posting<W> as Handler>⟧.history self.old)) }

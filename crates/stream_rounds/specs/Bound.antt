@@ -6,7 +6,7 @@ use Rattle.stream_group.specs.Group as group
 use Rattle.stream_group.specs.World.{World}
 use Rattle.stream_rounds.specs.Page.{how_many}
 
--- how many pages of n so many entries fill, the last of them perhaps not whole
+-- how many pages of n this many entries fill, the last of them perhaps not whole
 abbrev pub pages : ℕ → ℕ → ℕ
 pages n so_many = (so_many + (n - 1)) / n
 
@@ -17,11 +17,11 @@ held_for [] (id ∷ ids) = 1
 held_for (id ∷ ids) [] = 1
 held_for (id ∷ ids) (x ∷ xs) = 2
 
--- so many pages of its own take two rounds each, and one more finds that none is left
+-- this many pages of its own take two rounds each, and one more finds that none is left
 abbrev pub own_for : ℕ → ℕ
 own_for pages = 2 * pages + 1
 
--- so many pages that it claims take two rounds each, and none takes one
+-- this many pages that it claims take two rounds each, and none takes one
 abbrev pub claims_for : ℕ → ℕ
 claims_for zero = 1
 claims_for (suc pages) = 2 * pages + 2
@@ -30,20 +30,20 @@ claims_for (suc pages) = 2 * pages + 2
 abbrev pub reads_before : ℕ → ℕ
 reads_before every = 1 + (every - 1)
 
--- so many pages of new entries take two rounds each; after so many reads it claims, which takes one more
+-- this many pages of new entries take two rounds each; after `every` reads it claims, which takes one more
 abbrev pub reads_for : (every pages : ℕ) → ℕ
 reads_for every zero = 0
 reads_for every (suc pages) = 2 * pages + 2 + pages / reads_before every
 
--- by where it stands, with so many pages pending for it, pending for anyone, and still to come. Where it claims or
--- reads, it may have to claim from the first once more
+-- by its phase, with this many pages pending for it, pending for anyone, and still to come. If it claims or reads, it
+-- may have to claim from the first once more
 abbrev pub from_phase : (every : ℕ) → Phase → (mine all fresh : ℕ) → ℕ
 from_phase every (own id) mine all fresh = own_for mine + claims_for all + reads_for every fresh
 from_phase every (claiming id) mine all fresh =
     claims_for all + reads_before every + claims_for all + reads_for every fresh
 from_phase every (reading rounds) mine all fresh = reads_before every + claims_for all + reads_for every fresh
 
--- so many rounds are enough where so many entries are pending for it, pending for anyone, and still to come
+-- the rounds that are enough if this many entries are pending for it, pending for anyone, and still to come
 abbrev pub rounds_for : ℕ → Machine → (mine all fresh : ℕ) → ℕ
 rounds_for n m mine all fresh =
     held_for m.to_acknowledge m.to_commit + from_phase m.every m.phase (pages n mine) (pages n all) (pages n fresh)
@@ -61,7 +61,7 @@ module _ {F : Type 0} where
   abbrev pub enough_rounds : ℕ → Name → World F → ℕ
   enough_rounds n name w = rounds_for n (w.workers name) (mine_in name w) (pending_in w) (length w.fresh)
 
-  -- so many rounds hand out again all that is pending for a worker that begins again
+  -- the rounds after which all that is pending for a worker that begins again was redelivered
   abbrev pub again_rounds : ℕ → Name → World F → ℕ
   again_rounds n name w =
       held_for (w.workers name).to_acknowledge (w.workers name).to_commit + 2 * pages n (mine_in name w)

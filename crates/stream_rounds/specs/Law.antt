@@ -1,4 +1,4 @@
--- That all is drained where nothing fails.
+-- That all is drained if nothing fails.
 use Rattle.std.specs.Prelude.{◌≡◌, ◌⊎◌, ℕ, ◌≤◌, List, [], ◌++◌, length, codes}
 use Rattle.stream_group.specs.Worker.{Id, Entry}
 use Rattle.stream_group.specs.Worker as worker
@@ -32,8 +32,8 @@ abbrev pub IsHandledSince : {F : Type 0} → World F → World F → Entry F →
 IsHandledSince {F} w v e =
     ((since : List (Entry F)) × (v.handled ≡ w.handled ++ since) × Among e since) ⊎ Among e.0 v.deleted
 
--- after enough rounds of a worker that begins again, each entry that was pending for it, and that it does not hold, was
--- handed out to it again, and is acknowledged
+-- after enough rounds of a worker that begins again, each entry that was pending for it, and that it does not hold,
+-- was redelivered to it, and is acknowledged
 abbrev pub HandsOutAgain : {F : Type 0} → World F → Name → ℕ → ℕ → Type 0
 HandsOutAgain {F} w name n so_many =
     (w.workers name).phase ≡ worker.own (codes "0") → again_rounds n name w ≤ so_many

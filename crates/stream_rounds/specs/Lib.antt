@@ -1,4 +1,4 @@
--- Rounds of a worker where nothing fails.
+-- Rounds of a worker in which nothing fails.
 pub mod Page
 pub mod Rounds
 pub mod Bound

@@ -1,16 +1,16 @@
--- Which of the pending entries a server hands out where COUNT is n: the first n of them, in the order of the log.
+-- Which pending entries a server delivers with COUNT n: the first n of them, in the order of the log.
 use Rattle.std.specs.Prelude.{ℕ, zero, suc, Bool, List, [], ◌∷◌, ◌+◌, codes, if◌then◌else◌}
 use Rattle.std.specs.Str.{bytes_eq}
 use Rattle.stream_group.specs.Worker.{Id, Entry}
 use Rattle.stream_group.specs.Group.{Name, Pending, listed, ids_of, own, pending_ids}
 
 module _ {F : Type 0} where
-  -- the entries from the one of this id on; all of them where none has this id
+  -- the entries from the one of this id on; all of them if none has this id
   abbrev pub from_id : Id → List (Entry F) → List (Entry F)
   from_id id [] = []
   from_id id (e ∷ es) = if listed (ids_of es) id then from_id id es else e ∷ es
 
-  -- the entries behind the one of this id; all of them where none has this id
+  -- the entries after the one of this id; all of them if none has this id
   abbrev pub behind_id : Id → List (Entry F) → List (Entry F)
   behind_id id [] = []
   behind_id id (e ∷ es) =
@@ -33,12 +33,12 @@ module _ {F : Type 0} where
   how_many meant [] = 0
   how_many meant (e ∷ es) = if meant e.0 then 1 + how_many meant es else how_many meant es
 
-  -- the id of the first one, and `0-0` where there is none
+  -- the id of the first one, and `0-0` if there is none
   abbrev pub first_id : List (Entry F) → Id
   first_id [] = codes "0-0"
   first_id (e ∷ es) = e.0
 
-  -- XREADGROUP behind an id: the first n that are pending for the consumer
+  -- XREADGROUP after an id: the first n that are pending for the consumer
   abbrev pub own_page : ℕ → Name → Id → List Pending → List (Entry F) → List (Entry F)
   own_page n name id pending seen = first_of n (listed (own name pending)) (behind_id id seen)
 

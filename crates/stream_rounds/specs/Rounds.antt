@@ -1,4 +1,4 @@
--- A round of a worker where nothing fails: the events of the model that it is.
+-- A round of a worker in which nothing fails: its events in the model.
 use Rattle.std.specs.Prelude.{ℕ, zero, suc, Bool, List, [], ◌∷◌, ◌++◌, map}
 use Rattle.stream_group.specs.Worker.{Id, Delivered, Verdict, done, Phase, own, claiming, reading}
 use Rattle.stream_group.specs.Group.{Name, listed, ids_of, given, whole, reread, claim_answer}
@@ -16,7 +16,7 @@ module _ {F : Type 0} where
   commit_of name [] (id ∷ ids) = Commit name ∷ []
   commit_of name (id ∷ ids) to_commit = []
 
-  -- which entries a server hands out again to the consumer, behind an id
+  -- which entries a server redelivers to the consumer, after an id
   abbrev pub own_pick : ℕ → Name → Id → World F → Id → Bool
   own_pick n name id w = listed (ids_of (own_page n name id w.pending w.seen))
 
@@ -24,8 +24,8 @@ module _ {F : Type 0} where
   abbrev pub claim_pick : ℕ → Id → World F → Id → Bool
   claim_pick n id w = listed (ids_of (claim_page n id w.pending w.seen))
 
-  -- an XACK goes out if something is to be acknowledged, and arrives, and its answer comes; else what the phase asks
-  -- goes out, the server answers with its page, and the answer comes
+  -- an XACK is sent if something is to be acknowledged, and arrives, and its reply comes; else the request of the
+  -- phase is sent, and the reply comes with the server's page
   abbrev pub asks : ℕ → Name → World F → (to_acknowledge : List Id) → Phase → List (Event F)
   asks n name w (i ∷ ids) phase = Acknowledge name ∷ Ack_comes 0 ∷ Comes 0 [] ∷ []
   asks n name w [] (own id) =
@@ -49,16 +49,16 @@ module _ {F : Type 0} where
   abbrev pub events_of_round : ℕ → Name → World F → List (Event F)
   events_of_round n name w = commit_in name w ++ asked_in n name (run (commit_in name w) w)
 
-  -- a round of the worker of this name, where COUNT is n
+  -- a round of the worker of this name, with COUNT n
   abbrev pub round : ℕ → Name → World F → World F
   round n name w = run (events_of_round n name w) w
 
-  -- so many rounds of it, and nothing else between them
+  -- `so_many` rounds of it, and nothing else between them
   abbrev pub rounds : (so_many : ℕ) → ℕ → Name → World F → World F
   rounds zero n name w = w
   rounds (suc so_many) n name w = rounds so_many n name (round n name w)
 
-  -- the events of so many rounds
+  -- the events of `so_many` rounds
   abbrev pub events_of_rounds : (so_many : ℕ) → ℕ → Name → World F → List (Event F)
   events_of_rounds zero n name w = []
   events_of_rounds (suc so_many) n name w =

@@ -1,4 +1,4 @@
-//! What holds after enough rounds of a worker where nothing fails.
+//! What holds after enough rounds of a worker if nothing fails.
 ghost use Rattle.stream_rounds.specs.Law.{AllIsDrained, CountsWhatIsPending, LostIsHandedOutAgain, RoundsAreASchedule};
 
 /// Whatever happened before, after `enough_rounds` of one worker, and after any more, nothing is

@@ -1,8 +1,8 @@
--- Whose failure it is.
+-- The failures of the child.
 use Rattle.stream_run.specs.declared.failure.Failure.{Failure}
 use Rattle.stream_run.specs.declared.failure.Failure.TheVariants.{Child, Unopened, Round, Search, Other}
 
--- the child's
+-- the failure is the child's
 abbrev pub IsOfChild : Failure → Type 0
 IsOfChild (Child e) = Unit {0}
 IsOfChild (Unopened e) = Unit {0}

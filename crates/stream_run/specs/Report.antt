@@ -1,12 +1,12 @@
--- What the program says of its progress.
+-- The progress that the program prints.
 use Rattle.std.specs.Prelude.{ℕ, List, ◌++◌, codes, decimal, Option, Some, None}
 
--- so many entries and batches, and so many that were left pending
+-- the number of entries, of batches, and of entries left pending
 abbrev pub counts_text : ℕ → ℕ → ℕ → List ℕ
 counts_text entries batches left =
     codes "done " ++ decimal entries ++ codes ", batches " ++ decimal batches ++ codes ", left pending " ++ decimal left
 
--- and so many dead letters, if any may be sent
+-- and the number of dead letters, if any may be sent
 abbrev pub report_text : ℕ → ℕ → ℕ → Option ℕ → List ℕ
 report_text entries batches left None = counts_text entries batches left
 report_text entries batches left (Some letters) =

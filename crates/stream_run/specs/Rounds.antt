@@ -20,7 +20,7 @@ module _ (settings : Settings) where
     turns : (l m n : Link) (w x y : Standing Talk) (q : Asked) (p : Progress) → Rounds l w m x
         → Turned talked committed settings m n x y q p → Rounds l w n y
 
-  -- nothing more went out, or another command broke off, or a round did
+  -- nothing more was sent, or another command failed, or a round did
   abbrev pub Breaks : Link → Link → Standing Talk → Standing Talk → Type 0
   Breaks old new w x = ((old ≡ new) × (w ≡ x)) ⊎ (((w ≡ x) × BreaksBesides old new)
       ⊎ ((e : RunError) × FailsPipelined talked committed settings old new w x e))
@@ -32,7 +32,7 @@ module _ (settings : Settings) where
     pub rounds : Rounds old w between before
     pub breaks : Breaks between new before x
 
--- the law: where a worker stands after such rounds is a place that the law of `stream_jobs` speaks of
+-- the law: the state of a worker after such rounds is one of the law of `stream_jobs`
 abbrev pub RoundsAreReached : Type 0
 RoundsAreReached = (settings : Settings) (stream sent coming : List ℕ) (old new : Link) (w x : Standing Talk)
     (deleted : List Id) → Reaches settings stream sent coming w deleted → Rounds settings old w new x

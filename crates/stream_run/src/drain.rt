@@ -1,4 +1,4 @@
-//! The loop of the program: it asks, and takes the answers.
+//! The loop of the program: it sends commands and takes the replies.
 ghost use Rattle.std.specs.Prelude.{◌≡◌, ◌⊎◌, IfOk, IsTrue, None, OnErr, OnOk, false};
 ghost use Rattle.stream_letters.specs.Besides.{Besides, BreaksBesides};
 ghost use Rattle.stream_run.specs.Rounds.{Rounds, Stops};
@@ -15,14 +15,14 @@ use stream_jobs::{Fault, Jobs, Note, SteadyRead, SteadyWrite};
 use stream_letters::DeadLetterSearch;
 use stream_worker::{Asked, Handler, Pipelined, Round, RunError, Worker};
 
-/// The limit on what a connection holds, as `Limits::default` has it.
+/// The limit on the buffer of a connection, as in `Limits::default`.
 const LARGEST: &str = "1 GiB";
 
-/// The limit on the values of a reply, as `Limits::default` has it.
+/// The limit on the values of a reply, as in `Limits::default`.
 const MOST: &str = "16,777,216";
 
-/// Drains until something fails, until the child replies `stop`, or until a read finds nothing new where that is asked
-/// for.
+/// Drains until something fails, until the child replies `stop`, or, with `until_empty`, until a read returns no new
+/// entries.
 pub fn drain<
     R: Read + Drop,
     W: Write + Drop,
@@ -61,8 +61,8 @@ pub fn drain<
     Err(anyhow!("the last turn came").into())
 }
 
-/// Looks for entries to give up, makes a round, or two with one write, shows the texts of the child and counts: what was
-/// asked last.
+/// Searches for entries to give up, makes a round, or two in one write, shows the texts of the child and counts.
+/// Returns the command that was sent last.
 fn turn<
     R: Read + Drop,
     W: Write + Drop,
@@ -102,7 +102,7 @@ fn turn<
     Ok(made.round.asked)
 }
 
-/// Looks for entries that were delivered too often, if they are given up.
+/// Searches for entries that were delivered too often, if they are given up.
 fn look<R: Read + Drop, W: Write + Drop>(
     alloc: Global,
     connection: &mut Connection<R, W>,
@@ -122,9 +122,9 @@ fn look<R: Read + Drop, W: Write + Drop>(
     }
 }
 
-/// Makes a round, or two with one write if they may go together.
+/// Makes a round, or two in one write if that is allowed.
 ///
-/// They may not if entries are given up: these are looked for between an acknowledgement and a claim.
+/// It is not allowed if entries are given up: these are searched for between an acknowledgement and a claim.
 fn round<R: Read + Drop, W: Write + Drop, C: SteadyRead + Drop, D: SteadyWrite + Drop>(
     alloc: Global,
     connection: &mut Connection<R, W>,
@@ -143,18 +143,18 @@ fn round<R: Read + Drop, W: Write + Drop, C: SteadyRead + Drop, D: SteadyWrite +
     if together {
         match worker.round_pipelined(alloc, connection, jobs) {
             Ok(made) => Ok(made),
-            Err(error) => Err(broken_off(error)),
+            Err(error) => Err(convert_run_error(error)),
         }
     } else {
         match worker.round(alloc, connection, jobs) {
-            Ok(round) => Ok(alone(round)),
-            Err(error) => Err(broken_off(error)),
+            Ok(round) => Ok(wrap_round(round)),
+            Err(error) => Err(convert_run_error(error)),
         }
     }
 }
 
-/// A round that had a write of its own.
-fn alone(round: Round) -> Pipelined
+/// A round with a write of its own, as a `Pipelined`.
+fn wrap_round(round: Round) -> Pipelined
     ensures { result ≡ record { acknowledged = false; round = round } }
 {
     Pipelined {
@@ -163,7 +163,7 @@ fn alone(round: Round) -> Pipelined
     }
 }
 
-/// After the last entry: one more round if something is done and not acknowledged, which acknowledges it.
+/// Makes one more round after the last entry, if something is done and not acknowledged.
 fn settle<R: Read + Drop, W: Write + Drop, C: SteadyRead + Drop, D: SteadyWrite + Drop>(
     alloc: Global,
     connection: &mut Connection<R, W>,
@@ -187,11 +187,11 @@ fn settle<R: Read + Drop, W: Write + Drop, C: SteadyRead + Drop, D: SteadyWrite 
             report.count(jobs.committed);
             Ok(())
         }
-        Err(error) => Err(broken_off(error)),
+        Err(error) => Err(convert_run_error(error)),
     }
 }
 
-/// Why the handler said to stop; Ok if the child replied so.
+/// Returns the error with which the handler stopped; Ok if the child replied `stop`.
 fn ended<C: SteadyRead + Drop, D: SteadyWrite + Drop>(
     alloc: Global,
     jobs: &Jobs<C, D>,
@@ -207,7 +207,7 @@ fn ended<C: SteadyRead + Drop, D: SteadyWrite + Drop>(
         None => Err(anyhow!("the entry {id} was asked of after a stop").into()),
         Some(Fault::Memory) => Err(anyhow!("out of memory for the entry {id}").into()),
         Some(Fault::Unknown) => {
-            let line = shown(alloc, jobs.reply())?;
+            let line = mask_bytes(alloc, jobs.reply())?;
             Err(Failure::Child(anyhow!(
                 "the child's reply to the entry {id} is not done, later, dead or stop: {line}"
             )))
@@ -218,8 +218,8 @@ fn ended<C: SteadyRead + Drop, D: SteadyWrite + Drop>(
     }
 }
 
-/// Why a round failed.
-fn broken_off(error: RunError) -> Failure {
+/// The failure of a round.
+fn convert_run_error(error: RunError) -> Failure {
     match error {
         RunError::Receive {
             error: ConnectionError::Fault(WireFault::Overfull),
@@ -240,18 +240,18 @@ fn broken_off(error: RunError) -> Failure {
 /// Shows each text, with its entry.
 fn show_notes<T: Eprint + AllocGlobal>(rt: &T, notes: &[Note]) -> Result<(), Error> {
     for note in notes {
-        let text = shown(rt.alloc(), &note.text)?;
-        let id = shown(rt.alloc(), note.id.as_bytes())?;
+        let text = mask_bytes(rt.alloc(), &note.text)?;
+        let id = mask_bytes(rt.alloc(), note.id.as_bytes())?;
         let word = if note.dead { "dead" } else { "later" };
         eprintln!(rt; "{id} {word}: {text}")?;
     }
     Ok(())
 }
 
-/// Bytes as a text, with `?` for each control character, and for what is not UTF-8.
-fn shown(alloc: Global, bytes: &[u8]) -> Result<String, AllocError> {
+/// Bytes as text, with `?` for each control character, and for bytes that are not UTF-8.
+fn mask_bytes(alloc: Global, bytes: &[u8]) -> Result<String, AllocError> {
     let Ok(text) = str::from_utf8(bytes) else {
-        return ascii_of(alloc, bytes);
+        return mask_ascii(alloc, bytes);
     };
     let mut shown = String::new(alloc);
     for letter in text.chars() {
@@ -260,8 +260,8 @@ fn shown(alloc: Global, bytes: &[u8]) -> Result<String, AllocError> {
     Ok(shown)
 }
 
-/// Bytes as a text, with `?` for each byte that is no letter of ASCII.
-fn ascii_of(alloc: Global, bytes: &[u8]) -> Result<String, AllocError> {
+/// Bytes as text, with `?` for each byte that is not printable ASCII.
+fn mask_ascii(alloc: Global, bytes: &[u8]) -> Result<String, AllocError> {
     let mut shown = String::new(alloc);
     for byte in bytes {
         let is_shown = (b' '..=b'~').contains(byte);

@@ -1,4 +1,4 @@
-//! Why the program ends before it is asked to.
+//! Why the program failed.
 use anyhow::Error;
 use std::alloc::AllocError;
 use std::io;
@@ -6,13 +6,13 @@ use stream_letters::SearchError;
 use stream_worker::RunError;
 use thiserror::Error as AnError;
 
-/// Why the program ends before it is asked to.
+/// Why the program failed.
 #[derive(Debug, Drop, AnError)]
 pub enum Failure {
-    /// The child has no reply, for this reason.
+    /// The child failed to reply, with this error.
     #[error("{0}")]
     Child(Error),
-    /// The pipes of the child cannot be opened.
+    /// The pipes of the child could not be opened.
     #[error("cannot open the pipes of the other program: {0}")]
     Unopened(io::Error),
     /// A round broke off.
@@ -21,7 +21,7 @@ pub enum Failure {
     /// The search for dead letters broke off.
     #[error("{0}")]
     Search(SearchError),
-    /// Standard error failed, memory ran out, or the program could not begin.
+    /// Standard error failed, memory ran out, or the program could not start.
     #[error("{0}")]
     Other(Error),
 }

@@ -1,8 +1,8 @@
-//! What holds of the rounds of the program.
+//! The law of the program's rounds.
 ghost use Rattle.stream_run.specs.Rounds.{RoundsAreReached};
 
-/// Where the worker stands after the rounds of the program, the law of `stream_jobs` speaks of it. So each id that it
-/// acknowledges was replied `done`, or the server said that it was deleted.
+/// The law of `stream_jobs` holds for the state of the worker after the rounds of the program. So each id that it
+/// acknowledges had the reply `done`, or the server reported that it was deleted.
 pub fn rounds_are_reached()
     ensures { RoundsAreReached }
 {}

@@ -1,6 +1,6 @@
-//! Hands each entry of a stream to another program, in any language, for one consumer of a group, over a connection that
-//! is at its standard input and output. The other program, the child, reads lines from what is opened as `/dev/fd/4`
-//! here, and writes lines to what is opened as `/dev/fd/3`, if `--lines` and `--replies` name no other paths.
+//! Passes each entry of a stream to another program, in any language, for one consumer of a group, over a connection at
+//! its standard input and output. The other program, the child, reads lines from the pipe that is `/dev/fd/4` here, and
+//! writes lines to the one that is `/dev/fd/3`. `--lines` and `--replies` name other paths.
 //!
 //! For each entry the child reads one line, `{"id":"1-0","fields":[["name","value"],..],"stream":"orders"}`, and writes
 //! one:
@@ -10,9 +10,10 @@
 //! - `dead TEXT`: the same, and the text is shown on standard error;
 //! - `stop`: it stays pending, and the program ends with status 0.
 //!
-//! What was not replied `done` is not acknowledged. At the end it says on standard error what it did. It ends with 0 if
-//! `--until-empty` is there and nothing new came, with 2 if a word is wrong, with 4 if the child has no such reply, and
-//! else with 1 and the reason. `--help` tells its words.
+//! An entry without the reply `done` is not acknowledged. At the end it prints its counts on standard error. The exit
+//! status is 0 if the child replied `stop`, or if `--until-empty` is given and a read returned nothing new. It is 2 if
+//! an argument is wrong, 4 if the child sends no valid reply, and else 1 with the reason. `--help` prints its
+//! arguments.
 #![tactic(auto)]
 
 ghost use Rattle.std.specs.Prelude.{◌≡◌, IfErr, IfOk, OnOk};
@@ -42,11 +43,11 @@ use stream_jobs::Jobs;
 use stream_letters::{DeadLetterSearch, GiveUp};
 use stream_worker::{Settings, Worker};
 
-/// The status if the child has no reply.
+/// The exit status if the child sends no valid reply.
 const CHILD_FAILED: u8 = 4;
 
 fn main(rt: HostRuntime) -> Result<ExitCode> {
-    let words = words_of(&rt)?;
+    let words = read_arguments(&rt)?;
     match options_of(rt.alloc(), &words) {
         Ok(options) => end_with(&rt, drain_by(&rt, options)),
         Err(error) => Ok(tell(rt.alloc(), &rt, &error)?),
@@ -62,15 +63,15 @@ fn end_with<T: Eprint + AllocGlobal>(rt: &T, ended: Result<(), Failure>) -> Resu
     let Err(failure) = ended else {
         return Ok(ExitCode::SUCCESS);
     };
-    let status = status_of(&failure);
+    let status = choose_status(&failure);
     let text = format!(in rt.alloc(); "{failure}")?;
-    let text = masked(rt.alloc(), &text)?;
+    let text = mask_controls(rt.alloc(), &text)?;
     eprintln!(rt; "Error: {text}")?;
     Ok(ExitCode::from(status))
 }
 
 /// The status of a failure: 4 if it is the child's, and else 1.
-fn status_of(failure: &Failure) -> u8
+fn choose_status(failure: &Failure) -> u8
     ensures child { IsOfChild failure.now → result ≡ 4 }
     ensures other { (IsOfChild failure.now → ⊥) → result ≡ 1 }
 {
@@ -81,7 +82,7 @@ fn status_of(failure: &Failure) -> u8
 }
 
 /// The text with `?` for each control character.
-fn masked(alloc: Global, text: &str) -> Result<String, AllocError> {
+fn mask_controls(alloc: Global, text: &str) -> Result<String, AllocError> {
     let mut shown = String::new(alloc);
     for letter in text.chars() {
         shown.push(if letter.is_control() { '?' } else { letter })?;
@@ -89,8 +90,8 @@ fn masked(alloc: Global, text: &str) -> Result<String, AllocError> {
     Ok(shown)
 }
 
-/// The words that the program is called with.
-fn words_of(rt: &HostRuntime) -> Result<Vec<String>> {
+/// The arguments of the program.
+fn read_arguments(rt: &HostRuntime) -> Result<Vec<String>> {
     let mut words = Vec::new(rt.alloc());
     for word in env::args(rt)?.skip(1) {
         words.push(word)?;
@@ -98,7 +99,7 @@ fn words_of(rt: &HostRuntime) -> Result<Vec<String>> {
     Ok(words)
 }
 
-/// Drains as these options say, over standard input and output.
+/// Drains by these options, over standard input and output.
 fn drain_by(rt: &HostRuntime, options: Options) -> Result<(), Failure> {
     let Options {
         mut settings,
@@ -116,7 +117,7 @@ fn drain_by(rt: &HostRuntime, options: Options) -> Result<(), Failure> {
         open_lines(rt, &lines)?,
     );
     let mut connection = Connection::new(alloc, rt.reader(), io::writer(rt), Limits::default())?;
-    let mut dead = dead_of(alloc, &mut settings, dead)?;
+    let mut dead = make_search(alloc, &mut settings, dead)?;
     let mut worker = Worker::new(alloc, settings);
     let mut report = Report::new();
     let ended = drain(
@@ -140,7 +141,7 @@ fn show_report(rt: &HostRuntime, report: &Report) -> Result<()> {
     Ok(())
 }
 
-/// The lines that the child writes.
+/// Opens the pipe that the child writes to.
 fn open_replies(rt: &HostRuntime, path: &str) -> Result<BufReader<File>, Failure> {
     match File::open(rt, path) {
         Ok(file) => match BufReader::new(rt.alloc(), file) {
@@ -151,7 +152,7 @@ fn open_replies(rt: &HostRuntime, path: &str) -> Result<BufReader<File>, Failure
     }
 }
 
-/// The lines that the child reads.
+/// Opens the pipe that the child reads from.
 fn open_lines(rt: &HostRuntime, path: &str) -> Result<File, Failure> {
     let mut options = OpenOptions::new();
     options.write(true);
@@ -161,9 +162,9 @@ fn open_lines(rt: &HostRuntime, path: &str) -> Result<File, Failure> {
     }
 }
 
-/// What looks for entries that were delivered too often, where they are given up. Then those that come again are asked
-/// for one at a time.
-fn dead_of(
+/// The search for entries that were delivered too often, if they are given up. Then entries that were delivered before
+/// are requested one at a time.
+fn make_search(
     alloc: Global,
     settings: &mut Settings,
     to: Option<GiveUp>,

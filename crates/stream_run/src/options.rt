@@ -1,4 +1,4 @@
-//! The words that the program is called with.
+//! The arguments of the program.
 ghost use Rattle.std.specs.Prelude.{◌≡◌, ◌≤◌, ◌⊎◌, length, IfErr, IfOk};
 ghost use Rattle.clap.specs.Words.{found_of, kind_of};
 ghost use Rattle.stream_run.specs.Options.{AreOptions};
@@ -13,20 +13,20 @@ use std::alloc::{AllocError, Global};
 use stream_letters::GiveUp;
 use stream_worker::Settings;
 
-/// What the program is to do.
+/// The options of the program.
 #[derive(Drop)]
 pub struct Options {
     pub settings: Settings,
-    /// It ends where a read finds nothing new.
+    /// Whether it ends when a read returns no new entries.
     pub until_empty: bool,
-    /// Entries that were delivered too often go to a stream of dead letters.
+    /// Entries that were delivered too often are moved to a stream of dead letters.
     pub dead: Option<GiveUp>,
-    /// The path of the pipe that the child reads, and of the one that it writes.
+    /// The path of the pipe that the child reads from, and of the one that it writes to.
     pub lines: String,
     pub replies: String,
 }
 
-/// The paths of the pipes, if no others are named.
+/// The default paths of the pipes.
 const LINES: &str = "/dev/fd/4";
 
 const REPLIES: &str = "/dev/fd/3";
@@ -40,7 +40,7 @@ const COUNT: Number = Number {
     usual: "10",
 };
 
-/// The options of these words.
+/// The options of these arguments.
 pub fn options_of(alloc: Global, words: &[String]) -> Result<Options, Error>
     ensures { IfOk result (λ _. 3 ≤ length words.now) }
 {
@@ -49,7 +49,7 @@ pub fn options_of(alloc: Global, words: &[String]) -> Result<Options, Error>
     options_in(alloc, &mut command, &matches)
 }
 
-/// The options that a line asks for, by what was found in it.
+/// The options of a command line, by its matches.
 fn options_in(
     alloc: Global,
     command: &mut Command<'_>,

@@ -1,4 +1,4 @@
-//! What the program says of its progress.
+//! The progress that the program prints.
 ghost use Rattle.std.specs.Prelude.{◌≡◌, None, Some};
 ghost use Rattle.stream_run.specs.Report.{report_text};
 
@@ -7,18 +7,18 @@ use std::fmt;
 /// Counts, which are shown at the end.
 #[derive(Clone, Copy)]
 pub struct Report {
-    /// So many entries were done and committed.
+    /// How many entries were done and committed.
     pub entries: u64,
-    /// In so many batches.
+    /// In how many batches.
     pub batches: u64,
-    /// So many replies left an entry pending.
+    /// How many replies left an entry pending.
     pub left: u64,
-    /// So many dead letters were sent, if any may be.
+    /// How many dead letters were sent; `None` if none are sent.
     pub letters: Option<u64>,
 }
 
 impl Report {
-    /// Nothing was done yet.
+    /// A report with all counts at 0.
     pub fn new() -> Report
         ensures { (result.entries ≡ 0) × (result.batches ≡ 0) × (result.left ≡ 0) × (result.letters ≡ None) }
     {
@@ -30,7 +30,7 @@ impl Report {
         }
     }
 
-    /// So many entries are done, and the batches are one more.
+    /// Counts a batch, and stores how many entries are done.
     pub fn count(&mut self, entries: u64)
         ensures { self.new.entries ≡ entries }
     {

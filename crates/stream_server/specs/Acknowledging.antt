@@ -24,7 +24,7 @@ pending_without_all (id ∷ ids) pending = pending_without_all ids (pending_with
 abbrev pub names_of : List Consumer → List (ℕ × List ℕ)
 names_of consumers = map (λ c. (c.number, c.name.items)) consumers
 
--- what was pending with these ids is not, and so many that was; the others stay, in order
+-- what was pending with these ids is not, and `count` were; the others stay, in order
 pub record AreAcknowledged (ids : List EntryId) (count : ℕ) (old new : Group) : Type 0 where
   pub pending : IsInOrder old → new.pending.items ≡ pending_without_all ids old.pending.items
   pub order : IsInOrder old → IsInOrder new
@@ -32,7 +32,7 @@ pub record AreAcknowledged (ids : List EntryId) (count : ℕ) (old new : Group) 
   pub names : names_of new.consumers.items ≡ names_of old.consumers.items
   pub others : new ≡ record old { pending = new.pending; consumers = new.consumers }
 
--- a count as an answer
+-- a count as a reply
 abbrev pub count_answer : ℕ → Answer
 count_answer n = Int (pos (min n 9223372036854775807))
 

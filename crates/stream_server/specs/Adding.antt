@@ -44,7 +44,7 @@ abbrev pub IsTrimmedBy : Option Trim → Stream → Stream → Type 0
 IsTrimmedBy None old new = new ≡ old
 IsTrimmedBy (Some trim) old new = (count : ℕ) × IsTrimmed trim count old new
 
--- an entry of these fields is the newest of the stream, which is trimmed then; its id, which is the answer, is above
+-- an entry of these fields is the newest of the stream, which is trimmed then; its id, which is the reply, is above
 pub record IsAdded (fields : Vec (Vec ℕ)) (options : Retention) (now : ℕ) (answer : Answer) (old new : Stream) : Type 0 where
   pub entry : Entry
   pub longer : Stream

@@ -3,7 +3,7 @@ use Rattle.std.specs.Prelude.{◌≡◌, ◌≤◌, ◌<◌, ℕ, List, [], leng
 use Rattle.stream_store.specs.declared.group.Group.{Group}
 use Rattle.stream_store.specs.declared.stream.Stream.{Stream}
 
--- the stream of this key is so after as this says, and the others stay
+-- the stream of this key is changed so, and the others stay
 pub record IsChangedAt (key : List ℕ) (How : Stream → Stream → Type 0) (old new : List Stream) : Type 0 where
   pub index : ℕ
   pub was : Stream
@@ -14,7 +14,7 @@ pub record IsChangedAt (key : List ℕ) (How : Stream → Stream → Type 0) (ol
   pub how : How was is
   pub changed : new ≡ slice_set old index is
 
--- a stream of this key comes in among the others: it is so as this makes it of one without entries and groups
+-- a new stream of this key is among the others, as this makes it of an empty one
 pub record IsMade (key : List ℕ) (How : Stream → Stream → Type 0) (old new : List Stream) : Type 0 where
   pub index : ℕ
   pub empty : Stream
@@ -26,7 +26,7 @@ pub record IsMade (key : List ℕ) (How : Stream → Stream → Type 0) (old new
   pub how : How empty is
   pub made : new ≡ insert old index is
 
--- the group of this name is so after as this says, and the others and the entries stay
+-- the group of this name is changed so, and the others and the entries stay
 pub record IsGroupChangedAt (name : List ℕ) (How : Group → Group → Type 0) (old new : Stream) : Type 0 where
   pub index : ℕ
   pub was : Group

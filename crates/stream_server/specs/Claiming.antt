@@ -40,7 +40,7 @@ abbrev pub entries_with : List EntryId → List Entry → List Entry
 entries_with [] entries = []
 entries_with (id ∷ ids) entries = entry_with id entries ++ entries_with ids entries
 
--- how often more an entry is delivered
+-- by how much its delivery count grows
 abbrev pub times_more : Bool → ℕ
 times_more only_ids = if only_ids then 0 else 1
 
@@ -92,7 +92,7 @@ sent_fields fields = array_of (item_list (map (λ f. plain (bulk f.items)) field
 abbrev pub sent_entry : Entry → Sent
 sent_entry e = array_of (item_list (sent_id e.id ∷ sent_fields e.fields.items ∷ []))
 
--- the answer to XAUTOCLAIM as it is sent
+-- the reply to XAUTOCLAIM as it is sent
 abbrev pub sent_claim : EntryId → List Sent → List EntryId → Sent
 sent_claim next claimed gone =
     array_of (item_list (sent_id next ∷ array_of (item_list claimed) ∷ array_of (item_list (map sent_id gone)) ∷ []))
@@ -101,8 +101,8 @@ sent_claim next claimed gone =
 abbrev pub sent_claimed : Bool → Entry → Sent
 sent_claimed only_id entry = if only_id then sent_id entry.id else sent_entry entry
 
--- A claim in a stream finds what was idle long enough and what is gone. The group is changed so, if the ids ascend, and
--- the answer is where the next claim goes on, the entries that are taken over, and the ids that are gone.
+-- A claim in a stream finds what was idle long enough and what is gone. The group is changed so, if the ids ascend,
+-- and the reply is where the next claim goes on, the entries that are taken over, and the ids that are gone.
 pub record Claims (name : List ℕ) (claim : Claim) (answer : Answer) (stream : Stream) (old new : Group) : Type 0 where
   pub stalled : Stalled
   pub found : IsFound stream old claim (min (claim.most * 10) (2 ^ 64 - 1)) stalled

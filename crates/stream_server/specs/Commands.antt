@@ -66,13 +66,13 @@ IsDone changes.AutoClaim words now answer old new = IsXautoclaim (drop 1 words) 
 IsDone changes.ReadGroup words now answer old new = ReadsGroup (drop 1 words) now answer old new
 IsDone change words now answer old new = Unit {0}
 
--- why XACK and XDEL of so many words may be refused
+-- why XACK and XDEL of these words may be refused
 abbrev pub MayRefuse : Change → List (Vec ℕ) → Refusal → Type 0
 MayRefuse changes.Acknowledge words e = 2 ≤ length (drop 1 words) → IsRefusedFor (drop 2 (drop 1 words)) e
 MayRefuse changes.DeleteEntries words e = 1 ≤ length (drop 1 words) → IsRefusedFor (drop 1 (drop 1 words)) e
 MayRefuse change words e = Unit {0}
 
--- it is done and answered, or refused for another reason than that memory is
+-- it is executed and has its reply, or is refused for another reason than memory
 abbrev pub Replies : Change → List (Vec ℕ) → ℕ → List Stream → List Stream → Reply → Type 0
 Replies change words now old new (Done answer) = IsDone change words now answer old new
 Replies change words now old new (Refused text) = (e : Refusal) × (e ≢ Memory) × MayRefuse change words e

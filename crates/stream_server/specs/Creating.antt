@@ -8,7 +8,7 @@ use Rattle.stream_store.specs.declared.stream.Stream.{Stream}
 use Rattle.stream_server.specs.declared.commands.group.Start.{Start}
 use Rattle.stream_server.specs.declared.commands.group.Start.TheVariants.{Last, At}
 
--- this word says so where a group begins: `$` at the last id of the stream, and any other one at an id
+-- the group begins where this word says: `$` at the last id of the stream, and any other one at an id
 abbrev pub IsStartIn : Start → Vec ℕ → Type 0
 IsStartIn Last word = word.items ≡ codes "$"
 IsStartIn (At id) word = word.items ≢ codes "$"

@@ -23,7 +23,7 @@ abbrev pub entries_without_all : List EntryId → List Entry → List Entry
 entries_without_all [] entries = entries
 entries_without_all (id ∷ ids) entries = entries_without_all ids (entries_without id entries)
 
--- the entries with these ids are gone, and so many were there; the others stay, in order
+-- the entries with these ids are gone, and `count` were there; the others stay, in order
 pub record AreDeleted (ids : List EntryId) (count : ℕ) (old new : Stream) : Type 0 where
   pub entries : EntriesAscend old.entries.items → new.entries.items ≡ entries_without_all ids old.entries.items
   pub order : EntriesAscend old.entries.items → EntriesAscend new.entries.items

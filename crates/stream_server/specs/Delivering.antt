@@ -1,4 +1,4 @@
--- What XREADGROUP hands out.
+-- What XREADGROUP delivers.
 use Rattle.std.specs.Prelude.{◌≡◌, ℕ, Bool, List, [], ◌∷◌, filter, take}
 use Rattle.std.specs.Bool.{MatchBool}
 use Rattle.std.specs.Ordering.{is_lt}
@@ -10,7 +10,7 @@ use Rattle.stream_store.specs.declared.entry_id.EntryId.{EntryId}
 use Rattle.stream_store.specs.declared.group.Group.{Group}
 use Rattle.stream_store.specs.declared.stream.Entry.{Entry}
 
--- the entries behind this id, in order
+-- the entries after this id, in order
 abbrev pub entries_behind : EntryId → List Entry → List Entry
 entries_behind id = filter (λ entry. is_lt (id_order id entry.id))
 
@@ -39,7 +39,7 @@ module _ (number now : ℕ) (noack : Bool) where
   AreDelivered (entry ∷ entries) old new =
       (between : Group) × IsDelivered entry.id old between × AreDelivered entries between new
 
--- the consumer of this name is seen, and the first so many entries behind the last one are delivered to it
+-- the consumer of this name is seen, and the first `most` entries after the last one are delivered to it
 pub record HandsOut (name : List ℕ) (now most : ℕ) (noack : Bool) (entries : List Entry) (old new : Group) : Type 0 where
   pub number : ℕ
   pub between : Group

@@ -6,7 +6,7 @@ abbrev pub MayPass : Option ℕ → ℕ → Type 0
 MayPass None n = Unit {0}
 MayPass (Some left) n = n ≤ left
 
--- n more bytes passed; where the connection is to break, that many fewer may pass before it does
+-- n more bytes passed; if the connection is to break, n fewer may pass before it does
 abbrev pub Passes : Option ℕ → Option ℕ → ℕ → Type 0
 Passes None new n = new ≡ None
 Passes (Some left) new n = (n ≤ left) × (new ≡ Some (left - n))

@@ -117,7 +117,7 @@ XackIsTheEvent = (key name : List ℕ) (ids : List EntryId) (consumer : Name) (a
     → AcknowledgesIn arguments answer old new → IsModelIn key name (map seen_stream old) w
     → (n : ℕ) × (answer ≡ count_answer n) × XackComes key name ids consumer n (map seen_stream new) w
 
--- XDEL of these ids is that each of them is deleted, whatever the group's world was
+-- XDEL of these ids is the event that each of them is deleted, whatever the group's world was
 abbrev pub XdelIsTheEvents : Type 0
 XdelIsTheEvents = (key name : List ℕ) (ids : List EntryId) (arguments : List (Vec ℕ)) (answer : Answer)
     (old new : List Stream) (w : World Fields) → AreFit ids → texts_of arguments ≡ key ∷ words_of_ids ids

@@ -13,14 +13,14 @@ use Rattle.stream_server.specs.Model.{Fields, IsModelIn, numbers}
 use Rattle.stream_server.specs.declared.answer.Answer.{Answer}
 use Rattle.stream_server.specs.declared.answer.Answer.TheVariants.{Id}
 
--- an entry of this id and these fields is added to the world; the id is above the last one, and is the answer
+-- an entry of this id and these fields is added to the world; the id is above the last one, and is the reply
 pub record XaddAppends (key name : List ℕ) (id : EntryId) (fields : Fields) (answer : Answer) (new : List Seen) (w : World Fields) : Type 0 where
   pub answered : answer ≡ Id id
   pub above : is_below w.last (numbers id) ≡ true
   pub model : IsModelIn key name new (happens w (Append (numbers id) fields))
 
 -- XADD of a key, the text of an id and fields is that an entry of that id is added, and with `*` of the id that is
--- the answer, whatever the group's world was
+-- the reply, whatever the group's world was
 abbrev pub XaddIsTheEvent : Type 0
 XaddIsTheEvent = (key name command asked : List ℕ) (fields : Fields) (words : List (Vec ℕ)) (now : ℕ) (answer : Answer)
     (old new : List Stream) (w : World Fields) → texts_of words ≡ command ∷ key ∷ asked ∷ fields

@@ -29,16 +29,16 @@ abbrev pub sent_parts : Id → Option Fields → Sent
 sent_parts id (Some fields) = array_of (item_list (plain (bulk id) ∷ array_of (item_list (map (λ f. plain (bulk f)) fields)) ∷ []))
 sent_parts id None = plain nil
 
--- an entry that is handed out as it is sent, or its id alone
+-- an entry that is delivered as it is sent, or its id alone
 abbrev pub sent_delivered : Bool → Delivered Fields → Sent
 sent_delivered only_id d = if only_id then plain (bulk d.0) else sent_parts d.0 d.1
 
--- the event that a consumer claims these entries, which are handed out but with JUSTID
+-- the event that a consumer claims these entries, which are delivered but with JUSTID
 abbrev pub claiming : Bool → Name → (Id → Bool) → Id → Event Fields
 claiming only_ids consumer pick next = if only_ids then Claim_ids consumer pick else Claim consumer pick next
 
--- The group is that of the world after the consumer claimed these, and those that are gone were deleted. The answer is
--- where the next claim goes on, what the model answers, and the ids that are gone.
+-- The group is that of the world after the consumer claimed these, and those that are gone were deleted. The reply is
+-- where the next claim goes on, what the model replies, and the ids that are gone.
 pub record XautoclaimClaims (key name consumer : List ℕ) (only_ids : Bool) (claimed gone : List EntryId) (next : EntryId) (answer : Answer) (new : List Seen) (w : World Fields) : Type 0 where
   pub model : IsModelIn key name new (happens w (claiming only_ids consumer (is_picked claimed gone) (id_text next)))
   pub numbered : AreNumbered model.group

@@ -24,7 +24,7 @@ abbrev pub sent_parts_again : Id → Option Fields → Sent
 sent_parts_again id (Some fields) = sent_whole (id, fields)
 sent_parts_again id None = array_of (item_list (plain (bulk id) ∷ no_array ∷ []))
 
--- an entry that is handed out again as it is sent
+-- an entry that is delivered again as it is sent
 abbrev pub sent_again : Delivered Fields → Sent
 sent_again d = sent_parts_again d.0 d.1
 
@@ -40,8 +40,8 @@ pub record SeenAscends (w : World Fields) : Type 0 where
   pub are : ids_of w.seen ≡ words_of_ids ids
   pub ascend : AscendIds ids
 
--- The consumer reads those of its own again that have these ids: the group is that of the world after it, and the answer
--- is what the model answers, each entry with its fields or nil.
+-- The consumer reads those of its own again that have these ids: the group is that of the world after it, and the
+-- reply is what the model replies, each entry with its fields or nil.
 pub record XreadgroupRereads (key name consumer : List ℕ) (own : List EntryId) (answer : Answer) (new : List Seen) (w : World Fields) : Type 0 where
   pub model : IsModelIn key name new (happens w (Reread consumer (listed (words_of_ids own))))
   pub numbered : AreNumbered model.group

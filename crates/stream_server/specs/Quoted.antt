@@ -14,7 +14,7 @@ pub data Turn : Type 0 where
 abbrev pub is_from : ℕ → ℕ → ℕ → Bool
 is_from low high b = nat_le low b && nat_le b high
 
--- a byte that stands between words: a blank, or one from tab to CR
+-- a byte that is between words: a blank, or one from tab to CR
 abbrev pub is_blank : ℕ → Bool
 is_blank b = (b == 32) || is_from 9 13 b
 
@@ -31,7 +31,7 @@ abbrev pub digit_value : ℕ → ℕ
 digit_value b = if is_from 48 57 b then b - 48
     else (if is_from 97 102 b then b - 87 else (if is_from 65 70 b then b - 55 else 0))
 
--- what a byte behind a backslash stands for
+-- what a byte after a backslash means
 abbrev pub escaped : ℕ → ℕ
 escaped b = if b == 110 then 10 else (if b == 114 then 13 else (if b == 116 then 9
     else (if b == 98 then 8 else (if b == 97 then 7 else b))))
@@ -79,13 +79,13 @@ at_end places.Inside w = Some (w ∷ [])
 at_end places.Closed w = Some (w ∷ [])
 at_end _ w = None
 
--- the words from a turn on, where this is how a reading goes on behind it
+-- the words from a turn on, if the parsing goes on so after it
 unfoldable pub behind_turn : (Place → List ℕ → Option (List (List ℕ))) → Turn → Option (List (List ℕ))
 behind_turn go (goes p w) = go p w
 behind_turn go (ends w) = option_map (λ ws. w ∷ ws) (go places.Between [])
 behind_turn go fails = None
 
--- the words from here on; none where quotes are unbalanced
+-- the words from here on; none if quotes are unbalanced
 unfoldable pub words_from : List ℕ → Place → List ℕ → Option (List (List ℕ))
 words_from [] = at_end
 words_from (b ∷ bs) = λ p w. behind_turn (words_from bs) (turn p w b)
@@ -98,7 +98,7 @@ split_words line = words_from line places.Between []
 abbrev pub prefixed : List (List ℕ) → Option (List (List ℕ)) → Option (List (List ℕ))
 prefixed words read = option_map (λ ws. words ++ ws) read
 
--- a byte led on: the reading stands there then; or a word was read, and it stands between words
+-- a byte led on: the reading is there then; or a word was read, and it is between words
 abbrev pub GoesOn : Turn → List (List ℕ) → List (List ℕ) → Place → List ℕ → Type 0
 GoesOn (goes q w) old new p v = (p ≡ q) × (v ≡ w) × (new ≡ old)
 GoesOn (ends w) old new p v = (p ≡ places.Between) × (v ≡ []) × (new ≡ old ++ w ∷ [])

@@ -11,7 +11,7 @@ use Rattle.stream_server.specs.declared.answer.Reply.{Reply}
 use Rattle.stream_server.specs.declared.answer.Reply.TheVariants.{Done, Refused, Executed}
 use Rattle.stream_server.specs.Sent.{sent, tree_of, reply_said, reply_bytes}
 
--- an answer, or why a command was refused, is within the limits and has so many levels at most
+-- a reply, or why a command was refused, is within the limits and has at most n levels
 abbrev pub OutcomeFits : Protocol → Limits → ℕ → Result Answer (Vec ℕ) → Type 0
 OutcomeFits p limits d (Ok a) = IsWritable p limits d (tree_of p (sent a))
 OutcomeFits p limits d (Err text) = (0 < d) × (length text.items ≤ limits.line)
@@ -28,8 +28,8 @@ ReplyFits p limits (Refused text) = OutcomeFits p limits limits.depth (Err text)
 ReplyFits p limits (Executed v) = (0 < limits.depth) × (length v.items ≤ limits.length)
     × OutcomesFit p limits (limits.depth - 1) v.items
 
--- where lines of 20 bytes are allowed, the bytes of a reply within the limits are one answer of RESP, the
--- one that the reply is, and nothing else
+-- if lines of 20 bytes are allowed, the bytes of a reply within the limits are one RESP reply, the right one, and
+-- nothing else
 abbrev pub RepliesAreRead : Type 0
 RepliesAreRead = (p : Protocol) (limits : Limits) (r : Reply) → limits.length < 2 ^ 32 → 20 ≤ limits.line
     → ReplyFits p limits r → value_count (reply_said p r) ≤ limits.values

@@ -13,7 +13,7 @@ use Rattle.stream_server.specs.declared.answer.Answer.{Answer}
 abbrev pub IsCalled : Vec ℕ → List ℕ → Type 0
 IsCalled word name = map to_ascii_lowercase word.items ≡ name
 
--- a consumer reads of the stream of this key: what is new, or what is its own behind the id that the text is
+-- a consumer reads of the stream of this key: what is new, or what is its own after the id that the text is
 pub record ReadsOne (group consumer : List ℕ) (most now : ℕ) (key text : List ℕ) (answer : Answer) (old new : List Stream) : Type 0 where
   pub news : text ≡ codes ">" → IsReadIn key consumer now most group answer old new
   pub own : (id : EntryId) → Fits id → id ≢ largest → IsWordOf id text → IsRereadIn key consumer now most id group answer old new

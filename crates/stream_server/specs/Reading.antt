@@ -1,4 +1,4 @@
--- What XREADGROUP and XREAD answer of new entries.
+-- The new entries in the replies of XREADGROUP and XREAD.
 use Rattle.std.specs.Prelude.{◌≡◌, ◌≢◌, ℕ, Bool, List, [], Option, Some, None, map, take}
 use Rattle.std.specs.Global.{Vec}
 use Rattle.stream_store.specs.Laws.{AreInOrder}
@@ -9,13 +9,13 @@ use Rattle.stream_server.specs.Delivering.{HandsOut, entries_behind}
 use Rattle.stream_server.specs.Sent.{sent}
 use Rattle.stream_server.specs.declared.answer.Answer.{Answer}
 
--- the first so many of these entries are found, or there are none
+-- the first n of these entries are found, or there are none
 abbrev pub AreFound : ℕ → List Entry → Option (Vec Answer) → Type 0
 AreFound most entries None = entries ≡ []
 AreFound most entries (Some answers) = (entries ≢ []) × (map sent answers.items ≡ map sent_entry (take most entries))
 
--- If no entry is after the last one that the group delivered, there is no answer, and nothing changes. Else the first so
--- many are handed out, and are the answer.
+-- If no entry is after the last one that the group delivered, there is no reply, and nothing changes. Else the first
+-- `most` are delivered, and are the reply.
 module _ (name : List ℕ) (now most : ℕ) (noack : Bool) (entries : List Entry) (old new : Group) where
   abbrev pub AreHandedOut : Option (Vec Answer) → Type 0
   AreHandedOut None = new ≡ old

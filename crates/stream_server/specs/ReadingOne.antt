@@ -20,7 +20,7 @@ abbrev pub sent_news : List ℕ → List Entry → Sent
 sent_news key entries = rows_of (more_rows key (array_of (item_list (map sent_entry entries))) no_rows)
 
 module _ (key name : List ℕ) (now most : ℕ) where
-  -- if nothing is new, the answer says so, and nothing changes; or the first so many are handed out, and are the answer
+  -- if nothing is new, the reply says so, and nothing changes; or the first ones are delivered, and are the reply
   abbrev pub IsAnswered : Answer → List Entry → Group → Group → List Entry → Type 0
   IsAnswered answer entries old new [] = (new ≡ old) × (sent answer ≡ no_array)
   IsAnswered answer entries old new (e ∷ es) = HandsOut name now most false entries old new
@@ -35,7 +35,7 @@ module _ (key name : List ℕ) (now most : ℕ) where
   abbrev pub IsReadIn : List ℕ → Answer → List Stream → List Stream → Type 0
   IsReadIn group answer = IsChangedAt key (λ was is. IsGroupChangedAt group (ReadsNews answer was) was is)
 
-  -- there is room in the group for what is read, which is handed out if it is put into the group, and is the answer
+  -- there is room in the group for what is read, which is delivered if it is put into the group, and is the reply
   pub record IsReady (entries news : List Entry) (group : Group) (read : Outcome) : Type 0 where
     pub named : read.room.name.items ≡ name
     pub has_room : HasRoom read.room group
@@ -50,7 +50,7 @@ module _ (key name : List ℕ) (now most : ℕ) where
   IsFound entries group (e ∷ es) None = ⊥
   IsFound entries group (e ∷ es) (Some read) = IsReady entries (e ∷ es) group read
 
--- what is read is answered in rows
+-- the reply to what is read has rows
 abbrev pub IsInRows : Option Outcome → Type 0
 IsInRows None = Unit {0}
 IsInRows (Some read) = IsRows read.answer

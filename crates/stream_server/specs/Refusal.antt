@@ -3,7 +3,7 @@ use Rattle.std.specs.Prelude.{ℕ, List, []}
 use Rattle.stream_server.specs.declared.refusal.Refusal.{Refusal}
 use Rattle.stream_server.specs.declared.refusal.Refusal.TheVariants.{Memory, Fixed, Text}
 
--- its text; nothing where memory was refused
+-- its text; nothing if an allocation failed
 abbrev pub refusal_text : Refusal → List ℕ
 refusal_text Memory = []
 refusal_text (Fixed text) = text.now

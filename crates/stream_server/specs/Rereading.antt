@@ -21,7 +21,7 @@ use Rattle.stream_server.specs.Stalled.{has_entry}
 use Rattle.stream_server.specs.declared.answer.Answer.{Answer}
 use Rattle.stream_server.specs.declared.commands.read.own.Rereading.{Rereading}
 
--- what is pending behind this id, in order
+-- what is pending after this id, in order
 abbrev pub pending_behind : EntryId → List Pending → List Pending
 pending_behind id = filter (λ p. is_lt (id_order id p.id))
 
@@ -29,7 +29,7 @@ pending_behind id = filter (λ p. is_lt (id_order id p.id))
 abbrev pub pending_for : ℕ → List Pending → List Pending
 pending_for number = filter (λ p. p.consumer == number)
 
--- the first so many that are pending behind this id for the consumer of this number
+-- the first n that are pending after this id for the consumer of this number
 abbrev pub own_behind : ℕ → EntryId → ℕ → List Pending → List Pending
 own_behind number id most pending = take most (pending_for number (pending_behind id pending))
 
@@ -63,21 +63,21 @@ abbrev pub IsSeenAlone : List ℕ → ℕ → ℕ → Group → Group → Type 0
 IsSeenAlone name now number old new = IsSeenAgain name now number old new
     ⊎ (IsNewcomer name now number old new × (NamesAscend (consumer_names old) → IsMissing name (consumer_names old)))
 
--- These are the first so many that are pending behind the id for the consumer of this name: they are so for the number
--- that it has if it is seen.
+-- These are the first n that are pending after the id for the consumer of this name: for the number that it has if it
+-- is seen.
 abbrev pub AreOwn : List ℕ → EntryId → ℕ → Group → List Pending → Type 0
 AreOwn name behind most group own =
     (now number : ℕ) (seen : Group) → IsSeenAlone name now number group seen → IsInOrder group
     → NamesAscend (consumer_names group) → AreNumbered group → own ≡ own_behind number behind most group.pending.items
 
--- The consumer of this name is seen, and these entries are delivered to it once more.
+-- The consumer of this name is seen, and these entries are redelivered to it.
 pub record DeliversAgain (name : List ℕ) (now : ℕ) (ids : List EntryId) (old new : Group) : Type 0 where
   pub takes : TakesOver name now false ids old new
   pub alone : IsSeenAlone name now takes.number old takes.seen
 
 module _ (key name : List ℕ) (now most : ℕ) (behind : EntryId) where
-  -- The first so many that are pending behind the id for the consumer of this name are the answer. The consumer is seen,
-  -- and those of which the entry is still there are delivered to it once more, at this moment. Nothing else changes.
+  -- The first n that are pending after the id for the consumer of this name are the reply. The consumer is seen, and
+  -- those whose entry is still there are redelivered to it, at this moment. Nothing else changes.
   pub record Rereads (answer : Answer) (entries : List Entry) (old new : Group) : Type 0 where
     pub own : List Pending
     pub delivered : TakesOver name now false (ids_of (with_entries entries own)) old new
@@ -89,12 +89,12 @@ module _ (key name : List ℕ) (now most : ℕ) (behind : EntryId) where
   ReadsOwn answer stream old new = AreInOrder stream.entries.items → IsInOrder old → NamesAscend (consumer_names old)
       → AreNumbered old → Rereads answer stream.entries.items old new
 
-  -- in the group of this name of the stream of this key, a consumer reads its own behind this id
+  -- in the group of this name of the stream of this key, a consumer reads its own after this id
   abbrev pub IsRereadIn : List ℕ → Answer → List Stream → List Stream → Type 0
   IsRereadIn group answer = IsChangedAt key (λ was is. IsGroupChangedAt group (ReadsOwn answer was) was is)
 
 module _ (key name : List ℕ) (most : ℕ) (behind : EntryId) where
-  -- there is room for the consumer, those with entries are to be delivered, and all are the answer
+  -- there is room for the consumer, those with entries are to be delivered, and all are the reply
   pub record IsReadyAgain (entries : List Entry) (group : Group) (read : Rereading) : Type 0 where
     pub own : List Pending
     pub are_own : AreOwn name behind most group own

@@ -1,4 +1,4 @@
--- What is sent for a reply: which value of RESP, and which bytes.
+-- The bytes of a reply: which RESP value, and which bytes.
 use Rattle.std.specs.Prelude.{ℕ, suc, List, [], ◌∷◌, ◌++◌, codes, length, map, Result, Ok, Err}
 use Rattle.std.specs.Global.{Vec}
 use Rattle.std.specs.List.{flat_map}
@@ -56,7 +56,7 @@ status_text Queued = codes "QUEUED"
 status_text Stream = codes "stream"
 status_text Missing = codes "none"
 
--- one level of an answer, with each answer inside already seen so
+-- one level of a reply, with each reply inside already seen so
 abbrev pub sent_step : Answer-F Sent → Sent
 sent_step Answer-F.Okay = plain okay
 sent_step (Answer-F.Status status) = plain (simple (status_text status))
@@ -70,11 +70,11 @@ sent_step (Answer-F.Array v) = array_of (item_list v.items)
 sent_step (Answer-F.Rows v) = rows_of (row_list v.items)
 sent_step (Answer-F.Map v) = map_of (row_list v.items)
 
--- what is sent for an answer
+-- what is sent for a reply
 abbrev pub sent : Answer → Sent
 sent = fold-Answer Sent sent_step
 
--- a name and an answer as a name and what is sent
+-- a name and a reply as a name and what is sent
 abbrev pub sent_row : Vec ℕ × Answer → Vec ℕ × Sent
 sent_row r = (r.0, sent r.1)
 
@@ -103,7 +103,7 @@ abbrev mutual
   rows_apart (more_rows name x rs) =
       more_trees (array (more_trees (bulk name) (more_trees (tree_of Resp2 x) no_trees))) (rows_apart rs)
 
-  -- each name, and behind it what belongs to it
+  -- each name, and after it what belongs to it
   pub rows_in_turn : Rows → Trees
   rows_in_turn no_rows = no_trees
   rows_in_turn (more_rows name x rs) = more_trees (bulk name) (more_trees (tree_of Resp2 x) (rows_in_turn rs))
@@ -113,11 +113,11 @@ abbrev mutual
   pairs_of no_rows = no_pairs
   pairs_of (more_rows name x rs) = more_pairs (bulk name) (tree_of Resp3 x) (pairs_of rs)
 
--- an error in one line: a blank in place of each CR and LF
+-- an error in one line: a space in place of each CR and LF
 abbrev pub one_line : List ℕ → List ℕ
 one_line text = map blank_end text
 
--- the answer to a command, or why it was refused
+-- the reply to a command, or why it was refused
 abbrev pub outcome_said : Protocol → Result Answer (Vec ℕ) → Said
 outcome_said p (Ok a) = value (tree_of p (sent a))
 outcome_said p (Err text) = refused (one_line text.items)
@@ -132,7 +132,7 @@ abbrev pub array_said : Answers → Said
 array_said (values ts) = value (array (trees ts))
 array_said (mixed xs) = group groups.Array (answer_list xs)
 
--- which answer of RESP a reply is
+-- which reply of RESP a reply is
 abbrev pub reply_said : Protocol → Reply → Said
 reply_said p (Done a) = value (tree_of p (sent a))
 reply_said p (Refused text) = refused (one_line text.items)
@@ -140,7 +140,7 @@ reply_said p (Executed v) = array_said (outcomes_said p v.items)
 
 -- ---- which bytes it is
 
--- no array, which RESP2 has beside no value
+-- a null array, which RESP2 has beside a null
 abbrev pub no_array_bytes : Protocol → List ℕ
 no_array_bytes Resp2 = line_bytes 42 (codes "-1")
 no_array_bytes Resp3 = nil_bytes Resp3
@@ -155,7 +155,7 @@ abbrev pub row_count : Rows → ℕ
 row_count no_rows = 0
 row_count (more_rows name x rs) = suc (row_count rs)
 
--- the head of so many rows
+-- the head of n rows
 abbrev pub rows_head : Protocol → ℕ → List ℕ
 rows_head Resp2 n = count_bytes 42 n
 rows_head Resp3 n = count_bytes 37 n
@@ -174,18 +174,18 @@ abbrev mutual
   sent_bytes p (rows_of rs) = rows_head p (row_count rs) ++ rows_bytes p rs
   sent_bytes p (map_of rs) = map_head p (row_count rs) ++ turns_bytes p rs
 
-  -- one behind the other
+  -- one after the other
   pub items_bytes : Protocol → Items → List ℕ
   items_bytes p no_items = []
   items_bytes p (more_items x xs) = sent_bytes p x ++ items_bytes p xs
 
-  -- rows one behind the other
+  -- rows one after the other
   pub rows_bytes : Protocol → Rows → List ℕ
   rows_bytes p no_rows = []
   rows_bytes p (more_rows name x rs) =
       (row_head p ++ (bulk_bytes name ++ sent_bytes p x)) ++ rows_bytes p rs
 
-  -- names, each with what belongs to it behind it
+  -- names, each with what belongs to it after it
   pub turns_bytes : Protocol → Rows → List ℕ
   turns_bytes p no_rows = []
   turns_bytes p (more_rows name x rs) = (bulk_bytes name ++ sent_bytes p x) ++ turns_bytes p rs
@@ -194,7 +194,7 @@ abbrev mutual
 abbrev pub refused_bytes : List ℕ → List ℕ
 refused_bytes text = line_bytes 45 (one_line text)
 
--- the answer to a command, or why it was refused
+-- the reply to a command, or why it was refused
 abbrev pub outcome_bytes : Protocol → Result Answer (Vec ℕ) → List ℕ
 outcome_bytes p (Ok a) = sent_bytes p (sent a)
 outcome_bytes p (Err text) = refused_bytes text.items

@@ -13,7 +13,7 @@ pub record SeenSession : Type 0 where
   pub mode : Mode
   pub queue : List Queued
 
--- a connection without the room that its lists have
+-- a connection without the capacity of its lists
 abbrev pub seen_session : Protocol → Vec ℕ → Mode → Vec Queued → SeenSession
 seen_session protocol name mode queue =
     record { protocol = protocol; name = name.items; mode = mode; queue = queue.items }

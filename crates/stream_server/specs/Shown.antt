@@ -6,6 +6,6 @@ use Rattle.std.specs.List.{prefix_len}
 abbrev pub is_not_nul : ℕ → Bool
 is_not_nul b = not (b == 0)
 
--- what stands before the first NUL
+-- what is before the first NUL
 abbrev pub text_before_nul : List ℕ → List ℕ
 text_before_nul word = take (prefix_len is_not_nul word) word

@@ -27,7 +27,7 @@ pub record OthersStay (key : List ℕ) (old new : List Seen) : Type 0 where
   pub same : (k : ℕ) (d : Seen) → k < length old → (slice_index_or old k d).key ≢ key
       → slice_index_or new k d ≡ slice_index_or old k d
 
--- XACK of ids is answered: it is the event that an acknowledgement of them comes, and the answer is how many were
+-- If XACK of ids gets a reply, it is the event that an acknowledgement of them comes, and the reply is how many were
 -- pending.
 abbrev pub XackSteps : List (Vec ℕ) → Reply → List Seen → List Seen → Type 0
 XackSteps words reply old new = (command key name : List ℕ) (ids : List EntryId) (consumer : Name) (w : World Fields)
@@ -35,7 +35,7 @@ XackSteps words reply old new = (command key name : List ℕ) (ids : List EntryI
     → texts_of words ≡ command ∷ key ∷ name ∷ words_of_ids ids → IsModelIn key name old w
     → (n : ℕ) × (reply ≡ Done (count_answer n)) × XackComes key name ids consumer n new w × OthersStay key old new
 
--- XDEL of ids is answered: each of them is deleted, in the world of each group of the stream.
+-- If XDEL of ids gets a reply, each of them is deleted, in the world of each group of the stream.
 abbrev pub XdelSteps : List (Vec ℕ) → Reply → List Seen → List Seen → Type 0
 XdelSteps words reply old new = (command key name : List ℕ) (ids : List EntryId) (w : World Fields)
     → lower_case command ≡ codes "xdel" → 1 ≤ length ids → AreFit ids
@@ -43,8 +43,8 @@ XdelSteps words reply old new = (command key name : List ℕ) (ids : List EntryI
     → (n : ℕ) × (reply ≡ Done (count_answer n)) × IsModelIn key name new (run (map Delete (words_of_ids ids)) w)
     × OthersStay key old new
 
--- If XADD of an id alone is answered, an entry of these fields is added in the world of each group of the stream: of
--- that id, and with `*` of the id that is the answer.
+-- If XADD of an id alone gets a reply, an entry of these fields is added in the world of each group of the stream: of
+-- that id, and with `*` of the id that is the reply.
 abbrev pub XaddSteps : List (Vec ℕ) → Reply → List Seen → List Seen → Type 0
 XaddSteps words reply old new = (command key name asked : List ℕ) (fields : Fields) (answer : Answer) (w : World Fields)
     → lower_case command ≡ codes "xadd" → 2 ≤ length fields → texts_of words ≡ command ∷ key ∷ asked ∷ fields
@@ -52,7 +52,8 @@ XaddSteps words reply old new = (command key name asked : List ℕ) (fields : Fi
     → ((id : EntryId) → Fits id → asked ≡ id_text id → XaddAppends key name id fields answer new w)
     × (asked ≡ codes "*" → (id : EntryId) × XaddAppends key name id fields answer new w) × OthersStay key old new
 
--- If XAUTOCLAIM is answered, the consumer claimed entries in the world of the group; without options it has no JUSTID.
+-- If XAUTOCLAIM gets a reply, the consumer claimed entries in the world of the group; without options it has no
+-- JUSTID.
 abbrev pub XautoclaimSteps : List (Vec ℕ) → Reply → List Seen → List Seen → Type 0
 XautoclaimSteps words reply old new = (command key name consumer : List ℕ) (others : List (List ℕ)) (answer : Answer) (w : World Fields)
     → lower_case command ≡ codes "xautoclaim" → 2 ≤ length others
@@ -74,14 +75,14 @@ abbrev pub IsMost : List (List ℕ) → ℕ → Type 0
 IsMost [] most = most ≡ 18446744073709551615
 IsMost (word ∷ words) most = 0 < most
 
--- The consumer reads of one stream. If the text is `>`, it reads up to so many new entries; if it is an id, its own
+-- The consumer reads of one stream. If the text is `>`, it reads up to `most` new entries; if it is an id, its own
 -- pending entries after it again. The group was this one.
 pub record ReadsSo (key name consumer text : List ℕ) (most : ℕ) (answer : Answer) (group : Group) (old new : List Seen) (w : World Fields) : Type 0 where
   pub news : text ≡ codes ">" → XreadgroupReads key name consumer most answer new w × OthersStay key old new
   pub own : (id : EntryId) → Fits id → id ≢ largest → IsWordOf id text → AreInOrder (consumer_names group) → PendingIsSeen w
       → SeenAscends w → (own : List EntryId) × XreadgroupRereads key name consumer own answer new w × OthersStay key old new
 
--- If XREADGROUP of one stream is answered, the consumer reads so in the world of the group.
+-- If XREADGROUP of one stream gets a reply, the consumer reads so in the world of the group.
 abbrev pub XreadgroupSteps : List (Vec ℕ) → Reply → List Seen → List Seen → Type 0
 XreadgroupSteps words reply old new = (command first name consumer second key text : List ℕ) (asked : List (List ℕ))
     (answer : Answer) (w : World Fields)

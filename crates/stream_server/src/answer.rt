@@ -1,41 +1,41 @@
-//! What the server answers.
+//! The replies of the server.
 ghost use Rattle.std.specs.Prelude.{◌≡◌};
 ghost use Rattle.stream_server.specs.Sent.{status_text};
 
 use stream_store::EntryId;
 
-/// What a command is answered.
+/// The outcome of a command.
 #[derive(Debug, Drop)]
 pub enum Reply {
     /// The command was done.
     Done(Answer),
-    /// It was refused and nothing was changed: a code, a blank and a message.
+    /// It was refused and nothing was changed: a code, a space and a message.
     Refused(Vec<u8>),
-    /// Commands were done one after the other: of each its answer, or why it was refused.
+    /// The outcomes of EXEC: for each command its reply, or why it was refused.
     Executed(Vec<Result<Answer, Vec<u8>>>),
 }
 
-/// The answer to a command that was done.
+/// The reply to a command that was done.
 #[derive(Debug, Drop)]
 pub enum Answer {
     /// The status `OK`.
     Okay,
     /// Another status.
     Status(Status),
-    /// A short text: a status, or bytes where CR or LF stands in it.
+    /// A short text: a status, or bytes if it has a CR or LF.
     Line(Vec<u8>),
     Int(i64),
     Bytes(Vec<u8>),
     /// The text of an id.
     Id(EntryId),
-    /// No value.
+    /// A null.
     Nil,
-    /// No array, which RESP2 writes in another way.
+    /// A null array, which RESP2 writes differently.
     NilArray,
     Array(Vec<Answer>),
-    /// Each name with its answer: in RESP2 an array of pairs, in RESP3 a map.
+    /// Each name with its reply: in RESP2 an array of pairs, in RESP3 a map.
     Rows(Vec<(Vec<u8>, Answer)>),
-    /// Each name with its answer: in RESP2 names and answers in turn, in RESP3 a map.
+    /// Each name with its reply: in RESP2 names and replies in turn, in RESP3 a map.
     Map(Vec<(Vec<u8>, Answer)>),
 }
 
@@ -44,7 +44,7 @@ pub enum Answer {
 pub enum Status {
     /// `PONG`
     Pong,
-    /// `QUEUED`: the command is done once EXEC comes.
+    /// `QUEUED`: EXEC will execute the command.
     Queued,
     /// `stream`: a key that is there.
     Stream,

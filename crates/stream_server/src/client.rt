@@ -1,4 +1,4 @@
-//! A client of a server: bytes that it sends come in, and bytes of answers go out.
+//! A client of a server: it sends bytes of commands, and receives bytes of replies.
 ghost use Rattle.std.specs.Prelude.{◌≡◌, ◌++◌, ◌+◌, ◌*◌, ◌<◌, ◌≤◌, [], true, false, IsTrue, IfOk, OnOk, OnErr, map, max, option_map, vec_capacity, vec_len};
 ghost use Rattle.redis_wire.specs.declared.written.Protocol.TheVariants.{Resp2};
 ghost use Rattle.stream_server.specs.Incoming.{Gives, command_at, protocol_error_bytes};
@@ -13,14 +13,13 @@ use std::marker::Model;
 
 /// What a server knows of a client and its connection.
 ///
-/// A contract sees what the client sent that is no whole command yet, and whether the connection has
-/// ended. What was looked through is not looked through again, so small pieces cost no more than large
-/// ones.
+/// A contract sees the bytes of an incomplete command, and whether the connection has ended. What was parsed is
+/// not parsed again, so small pieces cost no more than large ones.
 #[derive(Drop)]
 pub struct Client {
     session: Session,
     unread: Vec<u8>,
-    // how far the command in `unread` was looked through
+    // how far the command in `unread` was parsed
     scan: Scan,
     has_ended: bool,
 }
@@ -49,13 +48,12 @@ impl Client {
         }
     }
 
-    /// Takes in bytes that the client sent, in whatever pieces they come, and has the server do each
-    /// command that is whole then, in their order. The answers are appended to `answers`, one for each
-    /// command that has words.
+    /// Takes bytes that the client sent, in whatever pieces they come, and executes each command that is
+    /// complete, in order. The replies are appended to `answers`, one for each command that is not empty.
     ///
-    /// Bytes that are no command, however they go on, are answered `-ERR Protocol error: ..`, and end
-    /// the connection. So does an `Err`: memory was refused, and the last command that was done may have
-    /// no answer. What comes after the end is ignored.
+    /// Bytes that no further bytes could make a command get the reply `-ERR Protocol error: ..`, and end the
+    /// connection. So does an `Err`: an allocation failed, and the last command that was executed may have no
+    /// reply. What comes after the end is ignored.
     pub fn answer(
         &mut self,
         alloc: Global,
@@ -85,8 +83,8 @@ impl Client {
         self.answer_held(alloc, server, now, answers)
     }
 
-    /// Does each whole command of what is unread. The memory of these bytes is given back before the
-    /// first one is done.
+    /// Executes each complete command of what is unread. The memory of these bytes is freed before the first
+    /// one is executed.
     fn answer_held(
         &mut self,
         alloc: Global,
@@ -116,7 +114,7 @@ impl Client {
         }
     }
 
-    /// Does each whole command of bytes, where nothing is unread, and keeps what is left.
+    /// Executes each complete command of bytes, if nothing is unread, and keeps the rest.
     fn answer_new(
         &mut self,
         alloc: Global,
@@ -140,7 +138,7 @@ impl Client {
         Ok(())
     }
 
-    /// Whether the connection has ended: the server sends no more, and takes nothing in.
+    /// Whether the connection has ended: the server sends no more, and ignores what comes.
     pub fn has_ended(&self) -> bool
         ensures { result ≡ self.now.has_ended }
     {
@@ -148,8 +146,8 @@ impl Client {
     }
 }
 
-/// Does each whole command at the head of bytes, and appends the answers. What is left behind them is
-/// no whole command; none is left where they go on with no command, whatever comes.
+/// Executes each complete command at the head of bytes, and appends the replies. Returns the rest, which is no
+/// complete command; None after a protocol error.
 fn answer_all<'a>(
     alloc: Global,
     server: &mut Server,
@@ -197,8 +195,8 @@ fn hold(held: &mut Vec<u8>, bytes: &[u8], wanted: usize) -> Result<(), AllocErro
     Ok(())
 }
 
-/// Takes room for `more` bytes more, and at most for twice the bytes that are then held. It grows by
-/// an eighth, and up to `wanted` bytes it doubles.
+/// Reserves memory for `more` bytes more, and at most for twice the bytes that are then held. It grows by an
+/// eighth, and up to `wanted` bytes it doubles.
 fn make_room(held: &mut Vec<u8>, more: usize, wanted: usize) -> Result<(), AllocError>
     ensures same { held.new.items ≡ held.old.items }
     ensures enough { OnOk result (vec_len held.old + more ≤ vec_capacity held.new) }
@@ -214,7 +212,7 @@ fn make_room(held: &mut Vec<u8>, more: usize, wanted: usize) -> Result<(), Alloc
     held.reserve_exact(room_for(room, needed, wanted) - held.len())
 }
 
-/// The room in place of one that is too small.
+/// The new capacity in place of one that is too small.
 fn room_for(room: usize, needed: usize, wanted: usize) -> usize
     requires { room < needed }
     ensures enough { needed ≤ result }
@@ -224,7 +222,7 @@ fn room_for(room: usize, needed: usize, wanted: usize) -> usize
     least.max(wanted.min(room.saturating_mul(2)))
 }
 
-/// Does a command, and appends its answer; one of no words has none.
+/// Executes a command, and appends its reply; an empty command has none.
 fn answer_one(
     alloc: Global,
     server: &mut Server,

@@ -1,4 +1,4 @@
-//! The commands by their names, and what they share.
+//! The commands by their names, and functions that several use.
 ghost use Rattle.std.specs.Prelude.{◌≡◌, IfErr, IfOk, OnErr};
 ghost use Rattle.stream_server.specs.Commands.{IsDone, MayRefuse, PlainIsDone, PlainMayRefuse};
 ghost use Rattle.stream_server.specs.Streams.{seen_streams};
@@ -48,7 +48,7 @@ const WRONG_NAME: Refusal = Refusal::Fixed(
     "ERR Client names cannot contain spaces, newlines or special characters.",
 );
 
-/// How many bytes of a word that is not known are shown.
+/// How many bytes of an unknown word an error shows.
 const MOST_SHOWN: usize = 128;
 
 const INVALID_ID: Refusal = Refusal::Fixed(
@@ -58,13 +58,13 @@ const INVALID_ID: Refusal = Refusal::Fixed(
 /// A command.
 #[derive(Clone, Copy)]
 pub(crate) enum Command {
-    /// It says when commands are done.
+    /// MULTI, EXEC, DISCARD or WATCH.
     Transaction(Step),
-    /// It is done at once, or queued.
+    /// Executed at once, or queued.
     Plain(Plain),
 }
 
-/// What says when commands are done.
+/// The commands of a transaction.
 #[derive(Clone, Copy)]
 pub(crate) enum Step {
     Begin,
@@ -82,7 +82,7 @@ pub(crate) enum Plain {
     Connection(Connection),
 }
 
-/// What changes streams.
+/// The commands that change streams.
 #[derive(Clone, Copy, Debug)]
 pub(crate) enum Change {
     Delete,
@@ -98,7 +98,7 @@ pub(crate) enum Change {
     SetId,
 }
 
-/// What reads streams.
+/// The commands that read streams.
 #[derive(Clone, Copy, Debug)]
 pub(crate) enum LookUp {
     Exists,
@@ -111,7 +111,7 @@ pub(crate) enum LookUp {
     Info,
 }
 
-/// Does a command, of these words. What is refused changes nothing.
+/// Executes a command with these arguments. If it is refused, nothing is changed.
 pub(crate) fn run(
     alloc: Global,
     streams: &mut Vec<Stream>,
@@ -133,7 +133,7 @@ pub(crate) fn run(
     }
 }
 
-/// Does a command that changes streams.
+/// Executes a command that changes streams.
 fn run_change(
     alloc: Global,
     streams: &mut Vec<Stream>,
@@ -163,7 +163,7 @@ fn run_change(
     }
 }
 
-/// Does a command that reads streams.
+/// Executes a command that reads streams.
 fn run_reading(
     alloc: Global,
     streams: &[Stream],
@@ -186,7 +186,7 @@ fn run_reading(
     }
 }
 
-/// Does a command that asks of a server with so many keys.
+/// Executes a command that reports on a server with `keys` keys.
 fn run_report(
     alloc: Global,
     keys: usize,
@@ -235,7 +235,7 @@ fn len_of(streams: &[Stream], arguments: &[Vec<u8>]) -> Result<Answer, Refusal> 
     }
 }
 
-/// The stream of this key, where a group of this name is asked for.
+/// The stream of this key, for a command that names this group.
 fn stream_for<'a>(
     alloc: Global,
     streams: &'a [Stream],
@@ -271,7 +271,7 @@ fn name_of(group: &Group, number: u64) -> &[u8] {
     &[]
 }
 
-/// The first entries from this id on up to that one, `most` at most.
+/// The first entries from this id up to that one, `most` at most.
 fn entries_up(
     alloc: Global,
     stream: &Stream,
@@ -291,7 +291,7 @@ fn entries_up(
     Ok(answers)
 }
 
-/// One more name with its answer.
+/// Appends a name with its reply.
 fn put_row(
     alloc: Global,
     rows: &mut Vec<(Vec<u8>, Answer)>,
@@ -315,7 +315,7 @@ fn check_name(name: &[u8]) -> Result<(), Refusal> {
     Ok(())
 }
 
-/// The refusal of a command that is not known: its name, and its arguments in quotes.
+/// The error for an unknown command: its name, and its arguments in quotes.
 fn unknown(alloc: Global, word: &[u8], arguments: &[Vec<u8>]) -> Refusal {
     match quoted(alloc, arguments) {
         Ok(text) => refusal_of(
@@ -331,7 +331,7 @@ fn unknown(alloc: Global, word: &[u8], arguments: &[Vec<u8>]) -> Refusal {
     }
 }
 
-/// The first arguments in quotes, each with a blank behind it, as long as they are short.
+/// The first arguments in quotes, each with a space after it, as long as they are short.
 fn quoted(alloc: Global, arguments: &[Vec<u8>]) -> Result<Vec<u8>, AllocError> {
     let mut text = Vec::new(alloc);
     for argument in arguments {
@@ -345,7 +345,7 @@ fn quoted(alloc: Global, arguments: &[Vec<u8>]) -> Result<Vec<u8>, AllocError> {
     Ok(text)
 }
 
-/// Makes the refusal of so many arguments of a command.
+/// The error for a wrong number of arguments of a command.
 fn wrong_count(alloc: Global, word: &[u8]) -> Refusal {
     match lower(alloc, word) {
         Ok(word) => refusal_of(
@@ -356,7 +356,7 @@ fn wrong_count(alloc: Global, word: &[u8]) -> Refusal {
     }
 }
 
-/// Makes the refusal of so many arguments of a subcommand.
+/// The error for a wrong number of arguments of a subcommand.
 fn wrong_subcount(alloc: Global, word: &[u8], subcommand: &[u8]) -> Refusal {
     match (lower(alloc, word), lower(alloc, subcommand)) {
         (Ok(word), Ok(subcommand)) => refusal_of(
@@ -373,19 +373,19 @@ fn wrong_subcount(alloc: Global, word: &[u8], subcommand: &[u8]) -> Refusal {
     }
 }
 
-/// The refusal of a subcommand that is not known.
+/// The error for an unknown subcommand.
 fn unknown_subcommand(alloc: Global, word: &[u8], subcommand: &[u8]) -> Refusal {
     let subcommand = shown(subcommand, MOST_SHOWN);
     see_help(alloc, b"ERR unknown subcommand '", subcommand, word)
 }
 
-/// The refusal of options that the subcommand does not have.
+/// The error for options that the subcommand does not have.
 fn wrong_options(alloc: Global, word: &[u8], subcommand: &[u8]) -> Refusal {
     let fault = b"ERR unknown subcommand or wrong number of arguments for '";
     see_help(alloc, fault, subcommand, word)
 }
 
-/// The fault and the subcommand, and which help there is.
+/// The error with the subcommand and the HELP that lists the right ones.
 fn see_help(alloc: Global, fault: &[u8], subcommand: &[u8], word: &[u8]) -> Refusal {
     let Ok(mut upper) = Vec::from_slice(alloc, word) else {
         return Refusal::Memory;
@@ -394,7 +394,7 @@ fn see_help(alloc: Global, fault: &[u8], subcommand: &[u8], word: &[u8]) -> Refu
     refusal_of(alloc, &[fault, subcommand, b"'. Try ", &upper, b" HELP."])
 }
 
-/// The texts behind one another as a refusal.
+/// The concatenation of the texts as an error.
 fn refusal_of(alloc: Global, parts: &[&[u8]]) -> Refusal {
     let mut text = Vec::new(alloc);
     for part in parts {
@@ -405,7 +405,7 @@ fn refusal_of(alloc: Global, parts: &[&[u8]]) -> Refusal {
     Refusal::Text(text)
 }
 
-/// The refusal for a missing group, as XGROUP and XINFO word it.
+/// The NOGROUP error, in the words of XGROUP and XINFO.
 fn no_group_for(alloc: Global, key: &[u8], group: &[u8]) -> Refusal {
     refusal_of(
         alloc,
@@ -419,7 +419,7 @@ fn no_group_for(alloc: Global, key: &[u8], group: &[u8]) -> Refusal {
     )
 }
 
-/// The refusal for a missing key or group, as XPENDING, XCLAIM and XAUTOCLAIM word it.
+/// The NOGROUP error for a missing key or group, in the words of XPENDING, XCLAIM and XAUTOCLAIM.
 fn no_group(alloc: Global, key: &[u8], group: &[u8]) -> Refusal {
     refusal_of(
         alloc,
@@ -446,12 +446,12 @@ fn integer_in(argument: &[u8]) -> Option<i64> {
     }
 }
 
-/// A number of 64 bits with a sign. Any other text is refused as no integer.
+/// A number of 64 bits with a sign. Any other text is an error: not an integer.
 fn integer(argument: &[u8]) -> Result<i64, Refusal> {
     integer_in(argument).ok_or(NOT_AN_INTEGER)
 }
 
-/// A number of 64 bits with a sign, and 0 for a negative one. Any other text is refused as no integer.
+/// A number of 64 bits with a sign, and 0 for a negative one. Any other text is an error: not an integer.
 fn count(argument: &[u8]) -> Result<u64, Refusal> {
     Ok(u64::try_from(integer(argument)?).unwrap_or(0))
 }
@@ -470,7 +470,7 @@ fn loose_id(text: &[u8], missing: u64) -> Option<EntryId> {
     }
 }
 
-/// The first id of an interval that begins so.
+/// The first id of an interval with this start.
 fn interval_start(argument: &[u8]) -> Result<EntryId, Refusal> {
     let (id, is_exclusive) = interval_end_at(argument, 0)?;
     if !is_exclusive {
@@ -480,7 +480,7 @@ fn interval_start(argument: &[u8]) -> Result<EntryId, Refusal> {
         .ok_or(Refusal::Fixed("ERR invalid start ID for the interval"))
 }
 
-/// The last id of an interval that ends so.
+/// The last id of an interval with this end.
 fn interval_end(argument: &[u8]) -> Result<EntryId, Refusal> {
     let (id, is_exclusive) = interval_end_at(argument, u64::MAX)?;
     if !is_exclusive {
@@ -490,7 +490,7 @@ fn interval_end(argument: &[u8]) -> Result<EntryId, Refusal> {
         .ok_or(Refusal::Fixed("ERR invalid end ID for the interval"))
 }
 
-/// One end of an interval, and whether the id itself is left out.
+/// One end of an interval, and whether it is exclusive.
 fn interval_end_at(argument: &[u8], missing: u64) -> Result<(EntryId, bool), Refusal> {
     let (found, is_exclusive) = match argument {
         [b'(', text @ ..] if !text.is_empty() => (strict_id(text, missing), true),
@@ -502,7 +502,7 @@ fn interval_end_at(argument: &[u8], missing: u64) -> Result<(EntryId, bool), Ref
     }
 }
 
-/// Room in the group for what is changed, where a consumer was seen.
+/// Reserves memory in the group for the changes, if a consumer was seen.
 fn room_of(
     alloc: Global,
     streams: &[Stream],
@@ -520,7 +520,7 @@ fn room_of(
     }
 }
 
-/// Changes the group as the draft says. With its room, it asks for no memory.
+/// Changes the group as the draft says. With the room, it allocates nothing.
 fn settle(streams: &mut [Stream], draft: Draft<'_>, room: Option<Room>) {
     let Ok(index) = place_of(streams, draft.key) else {
         return;
@@ -531,7 +531,7 @@ fn settle(streams: &mut [Stream], draft: Draft<'_>, room: Option<Room>) {
     put_part(&mut streams[index].groups[place], draft.part, room);
 }
 
-/// Puts what the part holds into the group.
+/// Copies the last delivered id and the pending entries of the part into the group.
 fn put_part(group: &mut Group, part: Group, room: Option<Room>) {
     group.last_id = part.last_id;
     group.entries_read = part.entries_read;

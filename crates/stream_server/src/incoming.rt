@@ -1,4 +1,4 @@
-//! Commands out of bytes, as redis-server reads them: arrays of bulk strings, and lines of words.
+//! Commands parsed from bytes as redis-server does: arrays of bulk strings, and inline commands.
 ghost use Rattle.std.specs.Prelude.{◌≡◌, ◌++◌, ◌<◌, ◌≤◌, Err, IfOk, OnOk, OnErr, map, length};
 ghost use Rattle.std.specs.Bool.{OnTrue};
 ghost use Rattle.std.specs.List.{prefix_len};
@@ -17,7 +17,7 @@ use itoa::Buffer;
 use redis_wire::push_line;
 use std::alloc::{AllocError, AllocFailed, Global};
 
-/// How many bytes may stand before the end of a line.
+/// How many bytes may be before the end of a line.
 const LONGEST_LINE: usize = 65_536;
 
 /// How many words a command may have.
@@ -26,20 +26,20 @@ const MOST_WORDS: u64 = 2_147_483_647;
 /// How many bytes a word may have.
 const LONGEST_WORD: u64 = 536_870_912;
 
-/// What is wrong with bytes that are no command, however they go on.
+/// A protocol error: no further bytes could make these a command.
 #[derive(Clone, Copy, Debug, PartialEq, Eq)]
 pub enum ProtocolError {
-    /// The line of a count goes on for too long.
+    /// The line of a count is too long.
     LongCount,
-    /// The line of a length goes on for too long.
+    /// The line of a length is too long.
     LongLength,
-    /// A line of words goes on for too long.
+    /// An inline command is too long.
     LongLine,
-    /// A count is no number, or is over the limit.
+    /// A count is not a number, or is over the limit.
     BadCount,
-    /// A length is no number, is negative, or is over the limit.
+    /// A length is not a number, is negative, or is over the limit.
     BadLength,
-    /// This byte stands where the `$` of a length has to stand.
+    /// This byte is in place of the `$` of a length.
     NoLength(u8),
     /// A quote is not closed, or something follows the closing quote at once.
     UnbalancedQuotes,
@@ -48,11 +48,11 @@ pub enum ProtocolError {
 /// Why no command was read.
 #[derive(Debug, Drop)]
 pub(crate) enum Stop {
-    /// A growth was refused.
+    /// An allocation failed.
     Memory,
-    /// The bytes end before the command does.
+    /// The command is not complete.
     Short,
-    /// The bytes are no command, however they go on.
+    /// No further bytes could make these a command.
     Fault(ProtocolError),
 }
 
@@ -72,8 +72,7 @@ impl<T: Drop> From<AllocFailed<T>> for Stop {
     }
 }
 
-/// The command at the head of bytes, its name first, and the bytes behind it. One of no words is
-/// passed over in silence.
+/// The command at the head of bytes, its name first, and the bytes after it. An empty command is skipped.
 #[tactic(auto, unfolding(crate::specs::Incoming::command_at))]
 pub(crate) fn command_at(alloc: Global, bytes: &[u8]) -> Result<(Vec<Vec<u8>>, &[u8]), Stop>
     ensures gives { Gives (λ x. (map (λ w. w.items) x.0.items, x.1.now)) result (command_at bytes.now) }
@@ -91,19 +90,19 @@ pub(crate) fn command_at(alloc: Global, bytes: &[u8]) -> Result<(Vec<Vec<u8>>, &
     }
 }
 
-/// How far a command was looked through that is not whole yet.
+/// How far an incomplete command was parsed.
 #[derive(Clone, Copy, Debug, PartialEq, Eq)]
 pub(crate) struct Scan {
-    /// The bytes before this place are the count of its words, and words that are whole.
+    /// The bytes before this index are the count of its words, and complete words.
     at: usize,
     /// How many words are to come after them; 0 if the count is not known.
     left: u32,
-    /// How many bytes there have to be for the next word to be whole; 0 if its length is not known.
+    /// How many bytes are needed for the next word to be complete; 0 if its length is not known.
     pub(crate) wanted: usize,
 }
 
 impl Scan {
-    /// Nothing was looked through.
+    /// Nothing was parsed.
     pub(crate) const NEW: Scan = Scan {
         at: 0,
         left: 0,
@@ -111,8 +110,8 @@ impl Scan {
     };
 }
 
-/// Looks on through a command, and returns whether it is an array that the bytes end too early for.
-/// No byte of a word is read, and no word is looked at again.
+/// Parses more of a command, and returns whether it is an incomplete array. No byte of a word is read, and no
+/// word is parsed again.
 pub(crate) fn is_short(scan: &mut Scan, bytes: &[u8]) -> bool
     requires { IsScan scan.old bytes.now }
     ensures scan { IsScan scan.new bytes.now }
@@ -158,7 +157,7 @@ fn begun(bytes: &[u8]) -> Scan
     }
 }
 
-/// How many bytes a word that is not whole will have, with its length; 0 if that is not known.
+/// How many bytes an incomplete word will have, with its length; 0 if that is not known.
 fn room_of_word(bytes: &[u8]) -> usize {
     let Ok((line, rest)) = head_at(ProtocolError::LongLength, bytes) else {
         return 0;
@@ -189,7 +188,7 @@ fn count_at(bytes: &[u8]) -> Result<(u32, &[u8]), Stop>
     Ok((word_count(line)?, rest))
 }
 
-/// A command as a line of words.
+/// An inline command: a line of words.
 #[tactic(auto, unfolding(crate::specs::Incoming::line_at))]
 fn line_at(alloc: Global, bytes: &[u8]) -> Result<(Vec<Vec<u8>>, &[u8]), Stop>
     ensures gives { Gives (λ x. (map (λ w. w.items) x.0.items, x.1.now)) result (line_at bytes.now) }
@@ -199,7 +198,7 @@ fn line_at(alloc: Global, bytes: &[u8]) -> Result<(Vec<Vec<u8>>, &[u8]), Stop>
     Ok((split_words(alloc, line)?, rest))
 }
 
-/// So many bulk strings.
+/// The next `count` bulk strings.
 fn words_at(alloc: Global, count: u32, bytes: &[u8]) -> Result<(Vec<Vec<u8>>, &[u8]), Stop>
     ensures gives { Gives (λ x. (map (λ w. w.items) x.0.items, x.1.now)) result (words_at count bytes.now) }
     ensures within { IfOk result (λ x. length x.1.now ≤ length bytes.now) }
@@ -216,7 +215,7 @@ fn words_at(alloc: Global, count: u32, bytes: &[u8]) -> Result<(Vec<Vec<u8>>, &[
     Ok((words, rest))
 }
 
-/// A bulk string: its length, and so many bytes with two more behind them, whatever those are.
+/// A bulk string: its length, its bytes, and any two bytes after them.
 #[tactic(auto, unfolding(crate::specs::Incoming::word_at))]
 fn word_at(bytes: &[u8]) -> Result<(&[u8], &[u8]), Stop>
     ensures gives { Gives (λ x. (x.0.now, x.1.now)) result (word_at bytes.now) }
@@ -227,7 +226,7 @@ fn word_at(bytes: &[u8]) -> Result<(&[u8], &[u8]), Stop>
     body_at(rest, len as usize)
 }
 
-/// So many bytes, with two more behind them.
+/// The next `len` bytes, with any two bytes after them.
 #[tactic(auto, unfolding(crate::specs::Incoming::body_at, crate::specs::Incoming::behind_two))]
 fn body_at(bytes: &[u8], len: usize) -> Result<(&[u8], &[u8]), Stop>
     ensures gives { Gives (λ x. (x.0.now, x.1.now)) result (body_at bytes.now len) }
@@ -243,7 +242,7 @@ fn body_at(bytes: &[u8], len: usize) -> Result<(&[u8], &[u8]), Stop>
     }
 }
 
-/// How many words the head of an array announces.
+/// The number of words in the head of an array.
 #[tactic(auto, unfolding(crate::specs::Incoming::word_count))]
 fn word_count(line: &[u8]) -> Result<u32, Stop>
     ensures { Gives (λ n. n) result (word_count line.now) }
@@ -254,7 +253,7 @@ fn word_count(line: &[u8]) -> Result<u32, Stop>
     }
 }
 
-/// So many words; a number below 0 is as good as 0.
+/// The number of words of an array; 0 for a negative number.
 fn count_of(number: Option<i64>) -> Result<u32, Stop>
     ensures { Gives (λ n. n) result (count_of number) }
 {
@@ -274,7 +273,7 @@ fn count_of(number: Option<i64>) -> Result<u32, Stop>
     }
 }
 
-/// How many bytes the head of a bulk string announces.
+/// The length in the head of a bulk string.
 #[tactic(auto, unfolding(crate::specs::Incoming::word_len))]
 fn word_len(line: &[u8]) -> Result<u32, Stop>
     ensures { Gives (λ n. n) result (word_len line.now) }
@@ -291,7 +290,7 @@ fn word_len(line: &[u8]) -> Result<u32, Stop>
     }
 }
 
-/// So many bytes.
+/// The length of a bulk string.
 fn length_of(number: Option<i64>) -> Result<u32, Stop>
     ensures { Gives (λ n. n) result (length_of number) }
 {
@@ -311,7 +310,7 @@ fn length_of(number: Option<i64>) -> Result<u32, Stop>
     }
 }
 
-/// The number that a text is, with no plus sign and no leading zero.
+/// The number of a text, with no plus sign and no leading zero.
 #[tactic(auto, unfolding(crate::specs::Incoming::strict_number))]
 fn number_of(text: &[u8]) -> Option<i64>
     ensures { result ≡ strict_number text.now }
@@ -328,7 +327,7 @@ fn number_of(text: &[u8]) -> Option<i64>
     }
 }
 
-/// The number that a text is, whatever its sign and its zeros.
+/// The number of a text, with any sign and leading zeros.
 fn parsed_number(text: &[u8]) -> Option<i64>
     ensures { result ≡ number_of text.now }
 {
@@ -338,14 +337,14 @@ fn parsed_number(text: &[u8]) -> Option<i64>
     text.parse().ok()
 }
 
-/// Whether a number is written so.
+/// Whether this is the text of the number.
 fn is_written_so(number: i64, text: &[u8]) -> bool
     ensures { result ≡ bytes_eq (signed_decimal number) text.now }
 {
     Buffer::new().format::<i64>(number).as_bytes() == text
 }
 
-/// The line at the head of bytes that a CR and one byte more end, and the bytes behind them.
+/// The line at the head of bytes, ended by CR and one more byte, and the bytes after those.
 #[tactic(auto, unfolding(crate::specs::Incoming::head_at, crate::specs::Incoming::behind_one))]
 fn head_at(fault: ProtocolError, bytes: &[u8]) -> Result<(&[u8], &[u8]), Stop>
     ensures gives { Gives (λ x. (x.0.now, x.1.now)) result (head_at fault bytes.now) }
@@ -358,8 +357,7 @@ fn head_at(fault: ProtocolError, bytes: &[u8]) -> Result<(&[u8], &[u8]), Stop>
     }
 }
 
-/// The bytes before the first `end`, and those behind it. A NUL stands for no end, and what is behind
-/// it is not looked at.
+/// The bytes before the first `end`, and those after it. A NUL before it means that there is no end.
 #[tactic(auto, unfolding(crate::specs::Incoming::before))]
 fn before(end: u8, fault: ProtocolError, bytes: &[u8]) -> Result<(&[u8], &[u8]), Stop>
     ensures gives { Gives (λ x. (x.0.now, x.1.now)) result (before end fault bytes.now) }
@@ -373,7 +371,7 @@ fn before(end: u8, fault: ProtocolError, bytes: &[u8]) -> Result<(&[u8], &[u8]),
     ended(end, fault, bytes.len(), front, rest)
 }
 
-/// A front, and what stands behind the byte that has to end it.
+/// The first bytes, and what is after the byte that has to end them.
 #[tactic(auto, unfolding(crate::specs::Incoming::ended))]
 fn ended<'a>(
     end: u8,
@@ -405,7 +403,7 @@ fn ended<'a>(
     }
 }
 
-/// How many bytes stand before the first `end` or NUL.
+/// How many bytes are before the first `end` or NUL.
 fn front_len(end: u8, bytes: &[u8]) -> usize
     ensures len { result ≡ prefix_len (is_before end) bytes.now }
     ensures within { result ≤ length bytes.now }
@@ -416,7 +414,7 @@ fn front_len(end: u8, bytes: &[u8]) -> usize
         .count()
 }
 
-/// Appends what a client is told of an error of the protocol.
+/// Appends the reply to a protocol error.
 pub(crate) fn push_protocol_error(
     alloc: Global,
     out: &mut Vec<u8>,
@@ -431,7 +429,7 @@ pub(crate) fn push_protocol_error(
     Ok(())
 }
 
-/// The text of an error of the protocol.
+/// The text of a protocol error.
 fn error_text(alloc: Global, error: ProtocolError) -> Result<Vec<u8>, AllocError>
     ensures { IfOk result (λ v. v.items ≡ error_text error) }
 {
@@ -444,7 +442,7 @@ fn error_text(alloc: Global, error: ProtocolError) -> Result<Vec<u8>, AllocError
     Ok(text)
 }
 
-/// A byte as an error shows it: a blank in place of CR and LF.
+/// A byte as an error shows it: a space in place of CR and LF.
 fn shown(byte: u8) -> u8
     ensures { result ≡ blank_end byte }
 {
@@ -456,7 +454,7 @@ fn shown(byte: u8) -> u8
 }
 
 impl ProtocolError {
-    /// What redis-server says of it; behind the text of `NoLength` stand the byte and a quote.
+    /// The text of redis-server; for `NoLength` the byte and a quote follow.
     pub fn text(self) -> &'static [u8]
         ensures { result.now ≡ fault_text self }
     {

@@ -1,4 +1,4 @@
-//! Laws of replies that are sent, and of what commands do.
+//! Laws of the bytes of replies, and of what commands do.
 ghost use Rattle.stream_server.specs.Model.{XackIsTheEvent, XdelIsTheEvents};
 ghost use Rattle.stream_server.specs.ModelAdding.{XaddIsTheEvent};
 ghost use Rattle.stream_server.specs.ModelClaiming.{XautoclaimIsTheEvent};
@@ -6,14 +6,14 @@ ghost use Rattle.stream_server.specs.ModelReading.{HandingOutIsTheEvent, Reading
 ghost use Rattle.stream_server.specs.ModelRereading.{XreadgroupWithAnIdIsTheEvent};
 ghost use Rattle.stream_server.specs.ReadBack.{RepliesAreRead};
 
-/// The bytes that `append_reply` appends of a reply are read back as one answer, and nothing more:
-/// the answer that the reply is. So a client gets one answer for each command.
+/// The bytes that `append_reply` appends are parsed as one RESP reply, the right one, and nothing more. So a
+/// client gets one reply for each command.
 pub fn replies_are_read()
     ensures { RepliesAreRead }
 {}
 
-/// If the entries and a group of a stream are those of a world of `stream_group`, they are so after
-/// XACK, of the world to which the acknowledgement came. The answer is how many were pending.
+/// If the entries and a group of a stream are those of a world of `stream_group`, they are so after XACK, of
+/// the world to which the acknowledgement came. The reply is how many were pending.
 pub fn xack_is_the_event()
     ensures { XackIsTheEvent }
 {}
@@ -24,47 +24,46 @@ pub fn xdel_is_the_events()
     ensures { XdelIsTheEvents }
 {}
 
-/// If the entries and a group of a stream are those of a world of `stream_group`, they are so after
-/// XADD of an id alone, of the world in which the entry is added: with that id, or for `*` with the
-/// id that is the answer. Its fields are the words after the id, in order.
+/// If the entries and a group of a stream are those of a world of `stream_group`, they are so after XADD of an
+/// id alone, of the world in which the entry is added: with that id, or for `*` with the id that is the reply.
+/// Its fields are the words after the id, in order.
 pub fn xadd_is_the_event()
     ensures { XaddIsTheEvent }
 {}
 
 /// If the entries and a group of a stream are those of a world of `stream_group`, they are so after
-/// `XREADGROUP` with `>` has handed out entries of it, of the world in which the consumer reads so
-/// many. The entries are those that the world gives. It is of what `hand_out` ensures, without
-/// `NOACK`, if the group has made fewer than 2 ^ 64 - 1 consumers.
+/// `XREADGROUP` with `>` has delivered entries of it, of the world in which the consumer reads as many. The
+/// entries are those that the world gives. It is about what `deliver_new` ensures, without `NOACK`, if the group
+/// has made fewer than 2 ^ 64 - 1 consumers.
 pub fn handing_out_is_the_event()
     ensures { HandingOutIsTheEvent }
 {}
 
-/// If what `read_as` ensures is done for `>`, the group is so too of the world in which the consumer
-/// reads so many. The answer has the entries that the world gives, as they are sent, or none.
+/// After what `read_as` ensures for `>`, the group is also that of the world in which the consumer reads as
+/// many. The reply has the entries that the world gives, as they are sent, or none.
 pub fn reading_news_is_the_event()
     ensures { ReadingNewsIsTheEvent }
 {}
 
-/// If the entries and a group of a stream are those of a world of `stream_group`, they are so after
-/// XREADGROUP of one key with `>`, of the world in which the consumer reads so many. It is of what
-/// `read_one` ensures, without `NOACK`. `BLOCK` does not wait. `COUNT` is the number that `options_in`
-/// reads.
+/// If the entries and a group of a stream are those of a world of `stream_group`, they are so after XREADGROUP
+/// of one key with `>`, of the world in which the consumer reads as many. It is of what `read_one` ensures,
+/// without `NOACK`. `BLOCK` does not wait. `COUNT` is the number that `options_in` parses.
 pub fn xreadgroup_is_the_event()
     ensures { XreadgroupIsTheEvent }
 {}
 
-/// If the entries and a group of a stream are those of a world of `stream_group`, they are so after
-/// XREADGROUP of one key with an id, of the world in which the consumer reads its own pending entries
-/// again. The answer has those that the world gives, with nil for the fields of one that was deleted.
-/// It is of what `read_one` ensures, with `NOACK` or without. It has three premises more: the names of
-/// the group's consumers ascend, what is pending is of the log, and the log ascends.
+/// If the entries and a group of a stream are those of a world of `stream_group`, they are so after XREADGROUP
+/// of one key with an id, of the world in which the consumer reads its own pending entries again. The reply has
+/// those that the world gives, with nil for the fields of one that was deleted. It is of what `read_one`
+/// ensures, with `NOACK` or without. It has three premises more: the names of the group's consumers ascend,
+/// what is pending is of the log, and the log ascends.
 pub fn xreadgroup_with_an_id_is_the_event()
     ensures { XreadgroupWithAnIdIsTheEvent }
 {}
 
-/// If the entries and a group of a stream are those of a world of `stream_group`, they are so after
-/// XAUTOCLAIM, of the world in which the consumer claimed the entries that are picked. The answer
-/// has the entries that the model answers, with JUSTID their ids, and the ids that were deleted.
+/// If the entries and a group of a stream are those of a world of `stream_group`, they are so after XAUTOCLAIM,
+/// of the world in which the consumer claimed the entries that are picked. The reply has the entries that the
+/// model replies, with JUSTID their ids, and the ids that were deleted.
 pub fn xautoclaim_is_the_event()
     ensures { XautoclaimIsTheEvent }
 {}

@@ -1,7 +1,7 @@
 //! A server of stream commands in memory: no socket, no file and no clock.
 //!
-//! A command is a list of words, its name first. `Server::step` does one at the moment that it is
-//! handed, and answers as redis-server 7.0.15 does; `append_reply` makes bytes of an answer.
+//! A command is a list of words, its name first. `Server::step` executes one at the time that its caller
+//! passes, and replies as redis-server 7.0.15 does; `append_reply` writes the bytes of a reply.
 #![tactic(auto)]
 
 mod answer;

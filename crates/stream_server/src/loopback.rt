@@ -14,10 +14,10 @@ use std::io::{ErrorKind, Read, Write};
 use std::marker::Model;
 use std::rc::Rc;
 
-/// A server in memory, and connections to it: a program that speaks to a server is tried with no
-/// process and no socket. What is written to a connection is answered at once.
+/// A server in memory, and connections to it: to test a client without a process or a socket. Each command that
+/// is written to a connection gets its reply at once.
 ///
-/// A contract sees the moment at which its clock stands.
+/// A contract sees the time of its clock.
 #[derive(Drop)]
 pub struct Loopback {
     alloc: Global,
@@ -33,7 +33,7 @@ impl Model for Loopback {
     ghost view = { λ loopback. loopback.now };
 }
 
-/// What all connections have in common.
+/// The state that all connections share.
 #[derive(Drop)]
 struct Shared {
     server: RefCell<Server>,
@@ -44,11 +44,11 @@ struct Shared {
 #[derive(Drop)]
 struct Line {
     client: Client,
-    /// What was answered and is not yet read.
+    /// The replies that are not yet read.
     answers: Vec<u8>,
 }
 
-/// The end of a connection at which answers are read.
+/// The end of a connection at which replies are read.
 ///
 /// A contract sees how many bytes may still be read before the connection breaks, if it is to break.
 #[derive(Drop)]
@@ -86,7 +86,7 @@ impl Model for LoopbackWriter {
 }
 
 impl Loopback {
-    /// Connections to this server, whose clock stands at 0. An `Err` says that memory was refused.
+    /// Connections to this server, whose clock is at 0. An `Err` says that an allocation failed.
     pub fn new(alloc: Global, server: Server) -> io::Result<Loopback>
         ensures ok { IfOk result (λ loopback. loopback ≡ 0) }
         ensures err { IfErr result (λ e. error_kind e ≡ ErrorKind.OutOfMemory) }
@@ -102,7 +102,7 @@ impl Loopback {
         })
     }
 
-    /// One more connection, which is not to break. An `Err` says that memory was refused.
+    /// A new connection that does not break. An `Err` says that an allocation failed.
     pub fn connect(&self) -> io::Result<(LoopbackReader, LoopbackWriter)>
         ensures ok { IfOk result (λ ends. (ends.0 ≡ None) × (ends.1 ≡ None)) }
         ensures err { IfErr result (λ e. error_kind e ≡ ErrorKind.OutOfMemory) }
@@ -125,8 +125,8 @@ impl Loopback {
         Ok((reader, writer))
     }
 
-    /// Sets the clock of the server: what is written from here on is done at this moment, in
-    /// milliseconds.
+    /// Sets the clock of the server, in milliseconds: commands that are written from now on are executed at
+    /// this time.
     pub fn set_now(&mut self, now: u64)
         ensures { self.new ≡ now }
     {
@@ -136,8 +136,7 @@ impl Loopback {
 }
 
 impl LoopbackReader {
-    /// Breaks the connection once so many more bytes were read: a read behind them is the error
-    /// `ConnectionReset`.
+    /// Breaks the connection after `bytes` more bytes were read: the next read is the error `ConnectionReset`.
     pub fn break_after(&mut self, bytes: usize)
         ensures { self.new ≡ Some bytes }
     {
@@ -146,8 +145,8 @@ impl LoopbackReader {
 }
 
 impl LoopbackWriter {
-    /// Breaks the connection once so many more bytes were written: the server has those, and a write
-    /// behind them is the error `BrokenPipe`.
+    /// Breaks the connection after `bytes` more bytes were written: the server has those, and the next write is
+    /// the error `BrokenPipe`.
     pub fn break_after(&mut self, bytes: usize)
         ensures { self.new ≡ Some bytes }
     {
@@ -155,8 +154,8 @@ impl LoopbackWriter {
     }
 }
 
-/// How many of so many bytes may pass, or this error where none may.
-fn passing(left: Option<usize>, len: usize, kind: ErrorKind) -> io::Result<usize>
+/// How many of `len` bytes may pass, or this error if none may.
+fn count_passing(left: Option<usize>, len: usize, kind: ErrorKind) -> io::Result<usize>
     ensures within { IfOk result (λ n. n ≤ len) }
     ensures passes { IfOk result (λ n. MayPass left n) }
     ensures broken { IfErr result (λ e. (left ≡ Some 0) × (error_kind e ≡ kind)) }
@@ -172,7 +171,7 @@ fn passing(left: Option<usize>, len: usize, kind: ErrorKind) -> io::Result<usize
     }
 }
 
-/// What may still pass behind so many bytes.
+/// How many bytes may still pass after `len` more.
 fn left_behind(left: Option<usize>, len: usize) -> Option<usize>
     ensures { MayPass left len → Passes left result len }
 {
@@ -182,8 +181,8 @@ fn left_behind(left: Option<usize>, len: usize) -> Option<usize>
     }
 }
 
-/// Moves the first answers into a buffer, as many as there is room for. Where there are none, that is
-/// the end of the input after the end of the connection, and else the error `WouldBlock`.
+/// Moves bytes of the first replies into a buffer, as many as fit. If there are none, it returns 0 after the
+/// end of the connection, and otherwise the error `WouldBlock`.
 fn give(answers: &mut Vec<u8>, has_ended: bool, buf: &mut [u8]) -> io::Result<usize>
     ensures bound { ReadsAtMost result buf.new }
     ensures bytes { IfOk result (λ n. answers.old.items ≡ take n buf.new ++ answers.new.items) }
@@ -200,7 +199,7 @@ fn give(answers: &mut Vec<u8>, has_ended: bool, buf: &mut [u8]) -> io::Result<us
     Ok(len)
 }
 
-/// Leaves out the first bytes.
+/// Removes the first bytes.
 fn drop_front(bytes: &mut Vec<u8>, len: usize)
     requires { len ≤ length bytes.old.items }
     ensures { bytes.new.items ≡ drop len bytes.old.items }
@@ -211,15 +210,15 @@ fn drop_front(bytes: &mut Vec<u8>, len: usize)
 }
 
 impl Read for LoopbackReader {
-    /// Reads what was answered and is not yet read. It never waits: where nothing is, that is the
-    /// error `WouldBlock`, or the end of the input after the server has ended the connection.
+    /// Reads replies that are not yet read. It never waits: if there are none, it is the error `WouldBlock`, or
+    /// the end of the input after the server has ended the connection.
     fn read(&mut self, buf: &mut [u8]) -> io::Result<usize>
         ensures bound { ReadsAtMost result buf.new }
         ensures bytes { ReadConsumes None None result buf.new }
         ensures passes { IfOk result (λ n. Passes self.old self.new n) }
         ensures err { OnErr result (self.new ≡ self.old) }
     {
-        let len = passing(self.left, buf.len(), ErrorKind::ConnectionReset)?;
+        let len = count_passing(self.left, buf.len(), ErrorKind::ConnectionReset)?;
         let Ok(mut line) = self.line.try_borrow_mut() else {
             return Err(io::Error::from(ErrorKind::ResourceBusy));
         };
@@ -232,7 +231,7 @@ impl Read for LoopbackReader {
 }
 
 impl Write for LoopbackWriter {
-    /// Writes bytes of commands; each command that is whole then is done and answered. It is the error
+    /// Writes bytes of commands; each complete command is executed and gets its reply. It is the error
     /// `BrokenPipe` after the server has ended the connection, and `OutOfMemory` ends it.
     fn write(&mut self, buf: &[u8]) -> io::Result<usize>
         ensures bound { WritesAtMost result buf.now }
@@ -240,7 +239,7 @@ impl Write for LoopbackWriter {
         ensures passes { IfOk result (λ n. Passes self.old self.new n) }
         ensures err { OnErr result (self.new ≡ self.old) }
     {
-        let len = passing(self.left, buf.len(), ErrorKind::BrokenPipe)?;
+        let len = count_passing(self.left, buf.len(), ErrorKind::BrokenPipe)?;
         let Ok(mut line) = self.line.try_borrow_mut() else {
             return Err(io::Error::from(ErrorKind::ResourceBusy));
         };

@@ -8,7 +8,7 @@ use crate::incoming::{ProtocolError, Stop};
 use std::alloc::{AllocError, Global};
 use std::mem;
 
-/// Where in a line a reading of its words stands.
+/// The state of the parser of a line of words.
 #[derive(Clone, Copy)]
 pub(crate) enum Place {
     /// Between words.
@@ -17,25 +17,25 @@ pub(crate) enum Place {
     Inside,
     /// In double quotes.
     Double,
-    /// Behind a backslash in double quotes.
+    /// After a backslash in double quotes.
     Escape,
-    /// Behind `\x` in double quotes.
+    /// After `\x` in double quotes.
     Hex,
-    /// Behind `\x` and one hexadecimal digit.
+    /// After `\x` and one hexadecimal digit.
     HexDigit,
     /// In single quotes.
     Single,
-    /// Behind a backslash in single quotes.
+    /// After a backslash in single quotes.
     SingleEscape,
-    /// Behind a closing quote.
+    /// After a closing quote.
     Closed,
 }
 
-/// The words of a line: blanks stand between them, and quotes around what has blanks in it. A word may
-/// go on with quotes, and none goes on behind them.
+/// The words of a line: spaces separate them, and a word with spaces is in quotes. Quotes may follow other
+/// bytes of a word, and end it.
 ///
-/// In double quotes `\n`, `\r`, `\t`, `\b`, `\a` and `\x41` stand for one byte, and a backslash before
-/// another byte for that byte; in single quotes `\'` stands for the quote.
+/// In double quotes `\n`, `\r`, `\t`, `\b`, `\a` and `\x41` mean one byte, and a backslash before another byte
+/// means that byte; in single quotes `\'` means the quote.
 pub(crate) fn split_words(alloc: Global, line: &[u8]) -> Result<Vec<Vec<u8>>, Stop>
     ensures { Gives (λ v. map (λ w. w.items) v.items) result (balanced (split_words line.now)) }
 {
@@ -51,7 +51,7 @@ pub(crate) fn split_words(alloc: Global, line: &[u8]) -> Result<Vec<Vec<u8>>, St
     Ok(words)
 }
 
-/// Ends a line.
+/// Takes the end of a line.
 #[tactic(auto, unfolding(crate::specs::Quoted::at_end))]
 fn end_line(words: &mut Vec<Vec<u8>>, word: Vec<u8>, place: Place) -> Result<(), Stop>
     ensures { Gives (λ _. map (λ w. w.items) words.new.items) result
@@ -67,7 +67,7 @@ fn end_line(words: &mut Vec<Vec<u8>>, word: Vec<u8>, place: Place) -> Result<(),
     }
 }
 
-/// Takes the next byte of a line, and answers where the reading stands then.
+/// Takes the next byte of a line, and returns the new state.
 #[tactic(auto, unfolding(crate::specs::Quoted::turn))]
 fn taken(
     alloc: Global,
@@ -103,7 +103,7 @@ fn taken(
     }
 }
 
-/// A word that ends.
+/// Takes the end of a word.
 fn end_word(alloc: Global, words: &mut Vec<Vec<u8>>, word: &mut Vec<u8>) -> Result<Place, Stop>
     ensures place { IfOk result (λ p. p ≡ Place.Between) }
     ensures word { OnOk result (word.new.items ≡ []) }
@@ -115,7 +115,7 @@ fn end_word(alloc: Global, words: &mut Vec<Vec<u8>>, word: &mut Vec<u8>) -> Resu
     Ok(Place::Between)
 }
 
-/// A byte of a word, in no quotes.
+/// Takes a byte of a word outside quotes.
 #[tactic(auto, unfolding(crate::specs::Quoted::in_word))]
 fn in_word(word: &mut Vec<u8>, byte: u8) -> Result<Place, AllocError>
     ensures { IfOk result (λ p. in_word word.old.items byte ≡ goes p word.new.items) }
@@ -129,7 +129,7 @@ fn in_word(word: &mut Vec<u8>, byte: u8) -> Result<Place, AllocError>
     put(word, byte, Place::Inside)
 }
 
-/// A byte in quotes.
+/// Takes a byte in quotes.
 #[tactic(auto, unfolding(crate::specs::Quoted::turn))]
 fn in_quotes(word: &mut Vec<u8>, place: Place, byte: u8) -> Result<Place, AllocError>
     requires inside { place ≢ Place.Between }
@@ -168,7 +168,7 @@ fn in_quotes(word: &mut Vec<u8>, place: Place, byte: u8) -> Result<Place, AllocE
     }
 }
 
-/// A byte in double quotes.
+/// Takes a byte in double quotes.
 #[tactic(auto, unfolding(crate::specs::Quoted::in_double))]
 fn in_double(word: &mut Vec<u8>, byte: u8) -> Result<Place, AllocError>
     ensures { IfOk result (λ p. in_double word.old.items byte ≡ goes p word.new.items) }
@@ -182,7 +182,7 @@ fn in_double(word: &mut Vec<u8>, byte: u8) -> Result<Place, AllocError>
     put(word, byte, Place::Double)
 }
 
-/// A byte in single quotes.
+/// Takes a byte in single quotes.
 #[tactic(auto, unfolding(crate::specs::Quoted::in_single))]
 fn in_single(word: &mut Vec<u8>, byte: u8) -> Result<Place, AllocError>
     ensures { IfOk result (λ p. in_single word.old.items byte ≡ goes p word.new.items) }
@@ -196,7 +196,7 @@ fn in_single(word: &mut Vec<u8>, byte: u8) -> Result<Place, AllocError>
     put(word, byte, Place::Single)
 }
 
-/// One more byte of a word.
+/// Appends a byte to a word.
 fn put(word: &mut Vec<u8>, byte: u8, place: Place) -> Result<Place, AllocError>
     ensures place { IfOk result (λ p. p ≡ place) }
     ensures word { OnOk result (word.new.items ≡ word.old.items ++ byte ∷ []) }
@@ -205,7 +205,7 @@ fn put(word: &mut Vec<u8>, byte: u8, place: Place) -> Result<Place, AllocError>
     Ok(place)
 }
 
-/// A byte in place of the last ones of a word.
+/// Replaces the last bytes of a word by this one.
 fn instead(word: &mut Vec<u8>, count: usize, byte: u8, place: Place) -> Result<Place, AllocError>
     ensures place { IfOk result (λ p. p ≡ place) }
     ensures word { OnOk result (word.new.items ≡ instead count word.old.items byte) }
@@ -248,7 +248,7 @@ fn digit_value(digit: u8) -> u8
     }
 }
 
-/// The byte that a byte behind a backslash stands for.
+/// The byte of an escape, by the byte after its backslash.
 fn escaped(byte: u8) -> u8
     ensures { result ≡ escaped byte }
 {
@@ -267,14 +267,14 @@ fn escaped(byte: u8) -> u8
     }
 }
 
-/// Whether a byte stands between words.
+/// Whether a byte separates words.
 fn is_blank(byte: u8) -> bool
     ensures { result ≡ is_blank byte }
 {
     byte == b' ' || is_from(9, 13, byte)
 }
 
-/// Whether a byte ends a word that is in no quotes.
+/// Whether a byte ends a word outside quotes.
 fn is_end(byte: u8) -> bool
     ensures { result ≡ is_end byte }
 {

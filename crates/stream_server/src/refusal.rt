@@ -8,16 +8,16 @@ use std::alloc::{AllocError, AllocFailed, Global};
 /// Why a command is refused.
 #[derive(Drop)]
 pub(crate) enum Refusal {
-    /// Memory was refused.
+    /// An allocation failed.
     Memory,
-    /// A text that is always the same.
+    /// A constant text.
     Fixed(&'static str),
-    /// A text that repeats what was sent.
+    /// A text with a part of what was sent.
     Text(Vec<u8>),
 }
 
 impl Refusal {
-    /// What it says; an `Err` where memory was refused, also for the text.
+    /// Its text; an `Err` if an allocation failed, also that of the text.
     pub(crate) fn into_text(self, alloc: Global) -> Result<Vec<u8>, AllocError>
         ensures text { IfOk result (λ text. text.items ≡ refusal_text self) }
         ensures memory { OnOk result (self ≢ Memory) }

@@ -1,4 +1,4 @@
-//! The server: its streams, and one command after the other.
+//! The server: its streams, and one command at a time.
 ghost use Rattle.std.specs.Prelude.{◌≡◌, [], IfOk, OnErr};
 ghost use Rattle.stream_server.specs.Server.{IsRefused};
 ghost use Rattle.stream_server.specs.Stepping.{XackSteps, XaddSteps, XautoclaimSteps, XdelSteps, XreadgroupSteps};
@@ -13,7 +13,7 @@ use stream_store::Stream;
 
 /// The streams of a server, by their keys.
 ///
-/// A contract sees each stream without the room that its lists have in memory.
+/// A contract sees each stream without the capacity of its lists.
 #[derive(Debug, Drop)]
 pub struct Server {
     streams: Vec<Stream>,
@@ -40,12 +40,11 @@ impl Server {
         }
     }
 
-    /// Does a command, its name and its arguments, at the moment `now`, in milliseconds, and
-    /// answers as redis-server does; what would wait is answered at once. After MULTI it is queued,
-    /// and EXEC does what is queued.
+    /// Executes a command, its name and its arguments, at the time `now`, in milliseconds, and replies as
+    /// redis-server does, without ever blocking. After MULTI it is queued, and EXEC executes what is queued.
     ///
-    /// A command that is refused changes no stream, and nor does one that memory is refused for:
-    /// the `Err`, after which the session is as it was too.
+    /// A command that is refused changes no stream. An `Err` says that an allocation failed: it changes no
+    /// stream either, nor the session.
     pub fn step(
         &mut self,
         alloc: Global,

@@ -9,7 +9,7 @@ use std::marker::Model;
 
 /// What a server knows of one connection.
 ///
-/// A contract sees it without the room that its lists have in memory.
+/// A contract sees it without the capacity of its lists.
 #[derive(Debug, Drop)]
 pub struct Session {
     /// HELLO changes it.
@@ -17,7 +17,7 @@ pub struct Session {
     /// What CLIENT SETNAME or HELLO sets; nothing at the beginning.
     pub(crate) name: Vec<u8>,
     pub(crate) mode: Mode,
-    /// What EXEC is to do.
+    /// The commands that EXEC is to execute.
     pub(crate) queue: Vec<Queued>,
 }
 
@@ -29,7 +29,7 @@ impl Model for Session {
     ghost view = { λ s. seen_session s.protocol s.name s.mode s.queue };
 }
 
-/// When commands are done.
+/// When commands are executed.
 #[derive(Clone, Copy, Debug, PartialEq, Eq)]
 pub(crate) enum Mode {
     /// As they come.

@@ -1,4 +1,4 @@
-//! `MULTI`, `EXEC`, `DISCARD`, `WATCH`: when commands are done.
+//! Transactions: `MULTI`, `EXEC`, `DISCARD`, `WATCH`.
 ghost use Rattle.std.specs.Prelude.{◌≡◌, ◌≢◌, ◌<◌, ℕ, length, IfOk, OnErr};
 ghost use Rattle.std.specs.Global.{Vec};
 ghost use Rattle.stream_server.specs.Commands.{IsNamed, PlainReplies, Replies, least_of};
@@ -33,10 +33,10 @@ const WRONG_EXECUTE: Refusal = Refusal::Fixed(
     "EXECABORT Transaction discarded because of: wrong number of arguments for 'exec' command",
 );
 
-/// What a command of a transaction comes to where memory is refused.
+/// The error of a command of a transaction if an allocation failed.
 const OUT_OF_MEMORY: &str = "OOM command not allowed when used memory > 'maxmemory'.";
 
-/// Does a command, or queues it. What is refused changes no stream.
+/// Executes a command, or queues it. If it is refused, no stream is changed.
 pub(crate) fn answered(
     alloc: Global,
     streams: &mut Vec<Stream>,
@@ -53,17 +53,24 @@ pub(crate) fn answered(
         → seen_streams streams.new ≡ seen_streams streams.old) }
 {
     match commands::command_in(alloc, &words) {
-        Ok(Command::Transaction(step)) => stepped(alloc, streams, now, session, step, words.len()),
+        Ok(Command::Transaction(step)) => execute_step(
+            alloc,
+            streams,
+            now,
+            session,
+            step,
+            words.len(),
+        ),
         Ok(Command::Plain(command)) if session.mode == Mode::AtOnce => {
-            at_once(alloc, streams, now, session, command, words)
+            execute_now(alloc, streams, now, session, command, words)
         }
         Ok(Command::Plain(command)) => queued(session, command, words),
-        Err(refusal) => rejected(alloc, session, refusal),
+        Err(refusal) => reject_command(alloc, session, refusal),
     }
 }
 
 /// Does a command.
-fn at_once(
+fn execute_now(
     alloc: Global,
     streams: &mut Vec<Stream>,
     now: u64,
@@ -83,7 +90,7 @@ fn at_once(
     }
 }
 
-/// Queues a command; one that would not be done is not kept.
+/// Queues a command; after an error in the transaction it is not kept.
 fn queued(session: &mut Session, command: Plain, words: Vec<Vec<u8>>) -> Result<Reply, AllocError>
     ensures { OnErr result (session.new ≡ session.old) }
 {
@@ -93,8 +100,12 @@ fn queued(session: &mut Session, command: Plain, words: Vec<Vec<u8>>) -> Result<
     Ok(Reply::Done(Answer::Status(Status::Queued)))
 }
 
-/// Refuses a command before it is done or queued: then what is queued is not done either.
-fn rejected(alloc: Global, session: &mut Session, refusal: Refusal) -> Result<Reply, AllocError>
+/// Refuses a command before it is executed or queued: then the queued ones are not executed either.
+fn reject_command(
+    alloc: Global,
+    session: &mut Session,
+    refusal: Refusal,
+) -> Result<Reply, AllocError>
     ensures { OnErr result (session.new ≡ session.old) }
 {
     let reply = refused(alloc, refusal)?;
@@ -111,8 +122,8 @@ fn refused(alloc: Global, refusal: Refusal) -> Result<Reply, AllocError>
     Ok(Reply::Refused(refusal.into_text(alloc)?))
 }
 
-/// Does what says when commands are done, and has so many words.
-fn stepped(
+/// Executes a command of a transaction.
+fn execute_step(
     alloc: Global,
     streams: &mut Vec<Stream>,
     now: u64,
@@ -127,10 +138,10 @@ fn stepped(
 {
     match step {
         Step::Begin => begun(alloc, session),
-        Step::Execute if words > 1 => given_up(alloc, session, WRONG_EXECUTE),
+        Step::Execute if words > 1 => drop_queue(alloc, session, WRONG_EXECUTE),
         Step::Execute => ended(alloc, streams, now, session),
-        Step::Discard => discarded(alloc, session),
-        Step::Watch => watched(alloc, session.mode),
+        Step::Discard => discard_queue(alloc, session),
+        Step::Watch => check_watch(alloc, session.mode),
     }
 }
 
@@ -145,8 +156,8 @@ fn begun(alloc: Global, session: &mut Session) -> Result<Reply, AllocError>
     Ok(Reply::Done(Answer::Okay))
 }
 
-/// `WATCH key ..`; no change of a key is looked at.
-fn watched(alloc: Global, mode: Mode) -> Result<Reply, AllocError> {
+/// `WATCH key ..`; changes of the keys are not tracked.
+fn check_watch(alloc: Global, mode: Mode) -> Result<Reply, AllocError> {
     if mode != Mode::AtOnce {
         return refused(alloc, WATCH_INSIDE);
     }
@@ -154,7 +165,7 @@ fn watched(alloc: Global, mode: Mode) -> Result<Reply, AllocError> {
 }
 
 /// `DISCARD`
-fn discarded(alloc: Global, session: &mut Session) -> Result<Reply, AllocError>
+fn discard_queue(alloc: Global, session: &mut Session) -> Result<Reply, AllocError>
     ensures { OnErr result (session.new ≡ session.old) }
 {
     if session.mode == Mode::AtOnce {
@@ -164,8 +175,8 @@ fn discarded(alloc: Global, session: &mut Session) -> Result<Reply, AllocError>
     Ok(Reply::Done(Answer::Okay))
 }
 
-/// Does nothing of what is queued, and says why.
-fn given_up(alloc: Global, session: &mut Session, refusal: Refusal) -> Result<Reply, AllocError>
+/// Drops the queued commands, and returns why.
+fn drop_queue(alloc: Global, session: &mut Session, refusal: Refusal) -> Result<Reply, AllocError>
     ensures { OnErr result (session.new ≡ session.old) }
 {
     let reply = refused(alloc, refusal)?;
@@ -173,7 +184,7 @@ fn given_up(alloc: Global, session: &mut Session, refusal: Refusal) -> Result<Re
     Ok(reply)
 }
 
-/// Commands are done as they come.
+/// Executes commands as they come, from now on.
 fn forget(session: &mut Session) {
     session.queue.clear();
     session.mode = Mode::AtOnce;
@@ -193,9 +204,9 @@ fn ended(
 {
     match session.mode {
         Mode::AtOnce => refused(alloc, NOT_BEGUN),
-        Mode::Aborted => given_up(alloc, session, ABORTED),
+        Mode::Aborted => drop_queue(alloc, session, ABORTED),
         Mode::Queued => {
-            let mut outcomes = none_done(alloc, session.queue.len())?;
+            let mut outcomes = fail_for_memory(alloc, session.queue.len())?;
             let queue = mem::replace(&mut session.queue, Vec::new(alloc));
             session.mode = Mode::AtOnce;
             execute(alloc, streams, now, session, queue, &mut outcomes);
@@ -204,8 +215,11 @@ fn ended(
     }
 }
 
-/// What so many commands come to for which memory is refused.
-fn none_done(alloc: Global, count: usize) -> Result<Vec<Result<Answer, Vec<u8>>>, AllocError> {
+/// The outcomes of `count` commands if an allocation failed.
+fn fail_for_memory(
+    alloc: Global,
+    count: usize,
+) -> Result<Vec<Result<Answer, Vec<u8>>>, AllocError> {
     let mut outcomes = Vec::with_capacity(alloc, count)?;
     for _ in 0..count {
         outcomes.push(Err(Vec::from_slice(alloc, OUT_OF_MEMORY.as_bytes())?))?;
@@ -213,8 +227,8 @@ fn none_done(alloc: Global, count: usize) -> Result<Vec<Result<Answer, Vec<u8>>>
     Ok(outcomes)
 }
 
-/// Does commands one after the other. An outcome that has no memory stays as it is, and so do the
-/// streams.
+/// Executes commands one after the other. If an allocation fails for one, its outcome stays the error, and the
+/// streams stay as they are.
 fn execute(
     alloc: Global,
     streams: &mut Vec<Stream>,

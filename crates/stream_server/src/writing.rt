@@ -14,10 +14,9 @@ use redis_wire::{Protocol, push_bulk, push_count, push_error, push_line, push_te
 use std::alloc::{AllocError, Global};
 use stream_store::EntryId;
 
-/// Appends the bytes of a reply behind what is there: those of one answer of RESP, whatever stands
-/// in it. An `Err` changes nothing.
+/// Appends the bytes of a reply: one RESP reply, whatever is in it. An `Err` changes nothing.
 ///
-/// An error is one line, with a blank in place of each CR and LF.
+/// An error is one line, with a space in place of each CR and LF.
 pub fn append_reply(
     alloc: Global,
     out: &mut Vec<u8>,
@@ -56,7 +55,7 @@ fn push_reply(
     }
 }
 
-/// Appends what commands came to, one behind the other.
+/// Appends the outcomes of commands, one after the other.
 fn push_outcomes(
     alloc: Global,
     out: &mut Vec<u8>,
@@ -72,7 +71,7 @@ fn push_outcomes(
     Ok(())
 }
 
-/// Appends what a command came to.
+/// Appends the outcome of a command.
 fn push_outcome(
     alloc: Global,
     out: &mut Vec<u8>,
@@ -95,7 +94,7 @@ fn push_refusal(alloc: Global, out: &mut Vec<u8>, text: &[u8]) -> Result<(), All
     push_error(alloc, out, Protocol::Resp2, text)
 }
 
-/// Appends an answer.
+/// Appends a reply.
 #[cycle(answers)]
 fn push_answer(out: &mut Vec<u8>, protocol: Protocol, answer: &Answer) -> Result<(), AllocError>
     ensures { OnOk result (out.new.items ≡ out.old.items ++ sent_bytes protocol (sent answer.now)) }
@@ -124,7 +123,7 @@ fn push_answer(out: &mut Vec<u8>, protocol: Protocol, answer: &Answer) -> Result
     }
 }
 
-/// Appends answers one behind the other.
+/// Appends replies one after the other.
 #[cycle(answers)]
 fn push_answers(
     out: &mut Vec<u8>,
@@ -140,7 +139,7 @@ fn push_answers(
     Ok(())
 }
 
-/// Appends rows, each a name and its answer.
+/// Appends rows, each a name and its reply.
 #[cycle(answers)]
 fn push_rows(
     out: &mut Vec<u8>,
@@ -158,7 +157,7 @@ fn push_rows(
     Ok(())
 }
 
-/// Appends names and answers in turn.
+/// Appends names and replies in turn.
 #[cycle(answers)]
 fn push_in_turn(
     out: &mut Vec<u8>,
@@ -175,7 +174,7 @@ fn push_in_turn(
     Ok(())
 }
 
-/// Appends what stands for no value.
+/// Appends a null.
 fn push_nil(out: &mut Vec<u8>, protocol: Protocol) -> Result<(), AllocError>
     ensures { OnOk result (out.new.items ≡ out.old.items ++ nil_bytes protocol) }
 {
@@ -185,7 +184,7 @@ fn push_nil(out: &mut Vec<u8>, protocol: Protocol) -> Result<(), AllocError>
     }
 }
 
-/// Appends what stands for no array.
+/// Appends a null array.
 fn push_no_array(out: &mut Vec<u8>, protocol: Protocol) -> Result<(), AllocError>
     ensures { OnOk result (out.new.items ≡ out.old.items ++ no_array_bytes protocol) }
 {
@@ -195,7 +194,7 @@ fn push_no_array(out: &mut Vec<u8>, protocol: Protocol) -> Result<(), AllocError
     }
 }
 
-/// Appends the head of so many rows.
+/// Appends the head of `count` rows.
 fn push_rows_head(out: &mut Vec<u8>, protocol: Protocol, count: usize) -> Result<(), AllocError>
     ensures { OnOk result (out.new.items ≡ out.old.items ++ rows_head protocol count) }
 {

@@ -1,4 +1,4 @@
-//! The loop of the program: it asks, and takes the answers.
+//! The loop of the program: it sends commands, and takes the replies.
 ghost use Rattle.std.specs.Prelude.{◌≡◌, IfOk, IsTrue, OnErr, OnOk, false};
 ghost use Rattle.stream_letters.specs.Besides.{Besides, BreaksBesides};
 ghost use Rattle.stream_loop.specs.Loop.{Loops, Stops};
@@ -26,7 +26,7 @@ const LARGEST: &str = "1 GiB";
 /// The limit on the values of a reply, as `Limits::default` has it.
 const MOST: &str = "16,777,216";
 
-/// Drains until something fails, or until a read finds nothing new if that is asked for.
+/// Drains until something fails, or until a read finds nothing new with `--until-empty`.
 pub fn drain<R: Read + Drop, W: Write + Drop, T: Table + Drop, P: Eprint + AllocGlobal>(
     rt: &P,
     connection: &mut Connection<R, W>,
@@ -55,7 +55,7 @@ pub fn drain<R: Read + Drop, W: Write + Drop, T: Table + Drop, P: Eprint + Alloc
     bail!("the last turn came")
 }
 
-/// Looks for entries to give up, makes a round, or two with one write, and counts: what was asked last.
+/// Looks for entries to give up, makes a round, or two with one write, and counts. Returns the last request.
 fn turn<R: Read + Drop, W: Write + Drop, T: Table + Drop, P: Eprint + AllocGlobal>(
     rt: &P,
     connection: &mut Connection<R, W>,
@@ -109,7 +109,8 @@ fn look<R: Read + Drop, W: Write + Drop>(
     }
 }
 
-/// Says why entries were left pending, if there are more of them than before. The reason is that of the last one.
+/// Prints why entries were left pending, if there are more of them than before. The reason is that of the last
+/// one.
 fn say_left<P: Eprint + AllocGlobal>(
     rt: &P,
     before: u64,
@@ -125,9 +126,10 @@ fn say_left<P: Eprint + AllocGlobal>(
     Ok(())
 }
 
-/// Makes a round, or two with one write if they may go together, after which the worker goes on.
+/// Makes a round, or two in one write if that is allowed, after which the worker goes on.
 ///
-/// They may not if entries are given up: these are looked for between an acknowledgement and a claim.
+/// Two rounds in one write are not allowed if entries are given up: the search for these is between an
+/// acknowledgement and a claim.
 fn round<R: Read + Drop, W: Write + Drop, T: Table + Drop>(
     alloc: Global,
     connection: &mut Connection<R, W>,
@@ -149,21 +151,21 @@ fn round<R: Read + Drop, W: Write + Drop, T: Table + Drop>(
                 goes_on(made.round.progress, &rows.fault, &rows.undone)?;
                 Ok(made)
             }
-            Err(error) => Err(broken_off(error, &rows.fault)),
+            Err(error) => Err(explain_round_error(error, &rows.fault)),
         }
     } else {
         match worker.round(alloc, connection, rows) {
             Ok(round) => {
                 goes_on(round.progress, &rows.fault, &rows.undone)?;
-                Ok(alone(round))
+                Ok(wrap_round(round))
             }
-            Err(error) => Err(broken_off(error, &rows.fault)),
+            Err(error) => Err(explain_round_error(error, &rows.fault)),
         }
     }
 }
 
 /// A round that had a write of its own.
-fn alone(round: Round) -> Pipelined
+fn wrap_round(round: Round) -> Pipelined
     ensures { result ≡ record { acknowledged = false; round = round } }
 {
     Pipelined {
@@ -183,10 +185,10 @@ fn goes_on(progress: Progress, fault: &Option<Fault>, undone: &Option<String>) -
     }
 }
 
-/// Why a round failed.
-fn broken_off(error: RunError, fault: &Option<Fault>) -> Error {
+/// The error of a round that failed.
+fn explain_round_error(error: RunError, fault: &Option<Fault>) -> Error {
     match error {
-        RunError::Request(RequestError::NotCommitted) => not_committed(fault),
+        RunError::Request(RequestError::NotCommitted) => explain_commit_error(fault),
         RunError::Receive {
             error: ConnectionError::Fault(WireFault::Overfull),
             ..
@@ -203,15 +205,15 @@ fn broken_off(error: RunError, fault: &Option<Fault>) -> Error {
     }
 }
 
-/// Why what was done was not committed.
-fn not_committed(fault: &Option<Fault>) -> Error {
+/// The error of a commit that failed.
+fn explain_commit_error(fault: &Option<Fault>) -> Error {
     match fault {
         Some(reason) => anyhow!("cannot commit: {reason}"),
         None => RunError::Request(RequestError::NotCommitted).into(),
     }
 }
 
-/// Why an entry was not done, and which one if its id is known.
+/// The error of an entry that was not done, with its id if that is known.
 fn stopped(fault: &Option<Fault>, undone: &Option<String>) -> Error {
     match (fault, undone) {
         (
@@ -226,7 +228,7 @@ fn stopped(fault: &Option<Fault>, undone: &Option<String>) -> Error {
             _,
         ) => anyhow!(
             "cannot make a row: the field {name} of {first}-{second} {}",
-            lack(*why)
+            explain_field_error(*why)
         ),
         (Some(Fault::NotAnId), Some(id)) => {
             anyhow!("cannot make a row of the entry {id}: its id is not two numbers")
@@ -239,8 +241,8 @@ fn stopped(fault: &Option<Fault>, undone: &Option<String>) -> Error {
     }
 }
 
-/// What a field is or is not.
-fn lack(why: FieldError) -> &'static str {
+/// What is wrong with a field.
+fn explain_field_error(why: FieldError) -> &'static str {
     match why {
         FieldError::Missing => "is missing",
         FieldError::NotText => "is not a text in UTF-8",

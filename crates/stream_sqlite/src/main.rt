@@ -1,5 +1,5 @@
-//! Drains a stream for one consumer of a group into a table of a SQLite file, over a connection that stands at
-//! its standard input and output:
+//! Drains a stream for one consumer of a group into a table of a SQLite file, over a connection that is at its
+//! standard input and output:
 //!
 //! ```text
 //! bash -c 'exec 3<>/dev/tcp/127.0.0.1/6379; stream_sqlite orders packers ann orders.db <&3 >&3'
@@ -7,18 +7,19 @@
 //!
 //! Each entry is a row of the table `entries`: `milliseconds` and `sequence` are its id, and `fields` is a text
 //! of JSON, `[["name","value"],..]`. With `--table NAME` it is a row of another table, and with
-//! `--columns item:text,pieces:integer,photo:blob?` it has the fields of these names in place of that text.
-//! A batch is one transaction, and its entries are acknowledged after that was committed. An entry whose id is in the
-//! table already is left out if its fields are the same, and else the program ends with an error.
+//! `--columns item:text,pieces:integer,photo:blob?` it has the fields of these names in place of that text. A
+//! batch is one transaction, and its entries are acknowledged after the commit. An entry whose id is in the
+//! table already is skipped if its fields are the same; otherwise the program ends with an error.
 //!
-//! With `--forward TARGET` each new row is sent on to the stream TARGET of the same server, under its own id. What is to
-//! be sent is in the table `outbox` of the same file, from the transaction of the row until the server has answered.
+//! With `--forward TARGET` each new row is added to the stream TARGET of the same server, under its own id.
+//! What is to be sent is in the table `outbox` of the same file, from the transaction of the row until the
+//! reply of the server.
 //!
-//! With `--dead N STREAM` an entry that is no row is left pending, and after N deliveries it goes to a stream of dead
-//! letters.
+//! With `--dead N STREAM` an entry that is no row is left pending, and after N deliveries it is moved to a
+//! stream of dead letters.
 //!
-//! At the end it says on standard error what it did. It ends with 0 if `--until-empty` is there and nothing new
-//! came, with 2 if a word is wrong, and else with 1 and the reason. `--help` tells its words.
+//! At the end it prints on standard error what it did. Its exit status is 0 if nothing new came with
+//! `--until-empty`, 2 for a wrong argument, and otherwise 1, with the reason. `--help` lists its arguments.
 #![tactic(auto)]
 
 ghost use Rattle.std.specs.Prelude.{◌≡◌, IfOk, IsErr, IsOk, OnErr, OnOk};
@@ -59,7 +60,7 @@ fn main(rt: HostRuntime) -> Result<ExitCode> {
     }
 }
 
-/// The exit status 0, or the failure, after which it is 1.
+/// The exit status 0, or the failure, whose exit status is 1.
 fn end_with(alloc: Global, ended: Result<()>) -> Result<ExitCode>
     ensures ok { OnOk ended (IfOk result (λ code. exit_status code ≡ 0)) }
     ensures given { OnOk ended (IsOk result) }
@@ -88,7 +89,7 @@ fn mask_text(alloc: Global, error: &Error) -> Result<Option<String>, AllocError>
     Ok(Some(format!(in alloc; "{}", Masked(&text))?))
 }
 
-/// The words that the program is called with.
+/// The arguments of the program.
 fn words_of(rt: &HostRuntime) -> Result<Vec<String>> {
     let mut words = Vec::new(rt.alloc());
     for word in env::args(rt)?.skip(1) {
@@ -129,7 +130,7 @@ fn drain_by(rt: &HostRuntime, options: Options) -> Result<()> {
     closed.context(format_args!("cannot close {path}"))
 }
 
-/// Drains into this table, which it gives back.
+/// Drains into this table, and returns it.
 fn drain_into<S: Alter + Drop>(
     rt: &HostRuntime,
     settings: Settings,
@@ -151,7 +152,7 @@ fn drain_into<S: Alter + Drop>(
     (rows.into_table(), ended)
 }
 
-/// Drains into the table of this outbox, which it gives back, and sends the entries on to this stream.
+/// Drains into the table of this outbox, which it returns, and forwards the entries to this stream.
 fn forward_into<S: Alter + Drop>(
     rt: &HostRuntime,
     settings: Settings,
@@ -174,7 +175,7 @@ fn forward_into<S: Alter + Drop>(
     (rows.into_table().into_table(), ended)
 }
 
-/// Drains over these ends, and says what was done.
+/// Drains over this connection, and prints what was done.
 fn drain_over<R: Read + Drop, W: Write + Drop, T: Table + Drop, P: Eprint + AllocGlobal>(
     rt: &P,
     reader: R,
@@ -205,8 +206,8 @@ fn drain_over<R: Read + Drop, W: Write + Drop, T: Table + Drop, P: Eprint + Allo
     ended
 }
 
-/// What looks for entries that were delivered too often, if they are given up. Then those that come again are asked
-/// for one at a time.
+/// The dead letters of the options, if entries are given up. Then redelivered entries are requested one at a
+/// time.
 fn dead_of(
     alloc: Global,
     settings: &mut Settings,
@@ -218,7 +219,7 @@ fn dead_of(
     }
 }
 
-/// Drains over these ends and sends on, and says what was done.
+/// Drains over this connection, forwards the entries, and prints what was done.
 fn forward_over<R: Read + Drop, W: Write + Drop, T: WithOutbox + Drop, P: Eprint + AllocGlobal>(
     rt: &P,
     reader: R,
@@ -267,8 +268,8 @@ fn form_of(alloc: Global, table: &str, columns: &[Column]) -> Result<Form> {
     Ok(Form::of(alloc, table, &fields)?)
 }
 
-/// Says that the file beside that of this path which should be its log is none, if it is so. The database takes nothing
-/// of it in.
+/// Prints a warning if the file that should be the write-ahead log of this path is not one. The database
+/// ignores it.
 fn say_of_log(rt: &HostRuntime, path: &str) -> Result<()> {
     let path = format!(in rt.alloc(); "{path}-wal")?;
     let Ok(file) = File::open(rt, path.as_str()) else {
@@ -294,7 +295,8 @@ fn is_head_of_log(head: &[u8]) -> bool {
     )
 }
 
-/// Says how many commands wait in the outbox of this table, and for which stream. It says nothing of an empty one.
+/// Prints how many commands are in the outbox of this table, and for which stream. It prints nothing for an
+/// empty one.
 fn say_what_waits<S: Alter + Drop>(rt: &HostRuntime, table: &mut SqliteTable<S>) -> Result<()> {
     let Ok(Some(waiting)) = table.waiting(rt.alloc()) else {
         return Ok(());
@@ -335,7 +337,8 @@ fn outbox_beside<S: Alter + Drop>(
     opened_in(rt, path, OUTBOX, OUTBOX_CREATE, opened)
 }
 
-/// A table of this name that was opened in this file. If it is another one, what is there and what is wanted are told.
+/// A table of this name that was opened in this file. If it is another one, the error has both its form and the
+/// wanted one.
 fn opened_in<T: Drop>(
     rt: &HostRuntime,
     path: &str,

@@ -1,4 +1,4 @@
-//! The words that the program is called with.
+//! The arguments of the program.
 ghost use Rattle.std.specs.Prelude.{◌≡◌, ◌≤◌, [], length, IfOk, None, codes};
 ghost use Rattle.clap.specs.Words.{first_value, found_of};
 ghost use Rattle.command_lines.specs.Worker.{GivesUp, IsWord};
@@ -28,11 +28,12 @@ pub struct Options {
     pub table: String,
     /// Its columns; if there are none, all fields are one text.
     pub columns: Vec<Column>,
-    /// It ends where a read finds nothing new.
+    /// Whether it ends when a read finds nothing new.
     pub until_empty: bool,
-    /// The stream that the entries go on to.
+    /// The stream that the entries are forwarded to.
     pub forward: Option<String>,
-    /// Entries that were delivered too often go to a stream of dead letters, and those that are no row are left pending.
+    /// If set, entries that were delivered too often are moved to a stream of dead letters, and those that are
+    /// no row are left pending.
     pub dead: Option<GiveUp>,
 }
 
@@ -45,7 +46,7 @@ const COUNT: Number = Number {
     usual: "1000",
 };
 
-/// The options of these words.
+/// The options of these arguments.
 pub fn options_of(alloc: Global, words: &[String]) -> Result<Options, Error>
     ensures { IfOk result (λ _. 4 ≤ length words.now) }
 {
@@ -142,7 +143,7 @@ fn columns_of(
     Ok(columns)
 }
 
-// As an error names the option.
+// The option as an error names it.
 const COLUMNS: &str = "--columns <LIST>";
 
 const FORWARD: &str = "--forward <TARGET>";
@@ -154,7 +155,7 @@ const DEAD: &str = "--dead <TIMES> <STREAM>";
 const DEAD_HELP: &str =
     "Entries that are no row are left pending; those delivered so many times, 1 at least, go to this stream";
 
-/// The name of the table. Names that begin so are the database's own.
+/// The name of the table. Names that begin with `sqlite_` are the database's own.
 fn table_of(
     alloc: Global,
     command: &mut Command<'_>,
@@ -172,7 +173,7 @@ fn table_of(
     Ok(String::from_str(alloc, table)?)
 }
 
-/// The database keeps names that begin so for itself.
+/// The prefix of names that the database keeps for itself.
 const OWN: &str = "sqlite_";
 
 /// A column: its name, and what its values are. With a question mark a row may have none.
@@ -204,8 +205,8 @@ fn kind_of(alloc: Global, command: &mut Command<'_>, kind: &str) -> Result<Kind,
     }
 }
 
-/// The stream that the entries go on to, if one is named. They come from another one, and their table is not the
-/// outbox.
+/// The stream that the entries are forwarded to, if one is named. It must be another one than KEY, and their
+/// table not the outbox.
 fn forward_of(
     alloc: Global,
     command: &mut Command<'_>,
@@ -247,7 +248,7 @@ fn dead_of(
     Ok(to)
 }
 
-/// Whether there is a column of this name, to which the case of ASCII letters is all one.
+/// Whether there is a column of this name, ignoring the case of ASCII letters.
 fn is_taken(columns: &[Column], name: &str) -> bool {
     for column in columns {
         if column.name.eq_ignore_ascii_case(name) {

@@ -1,4 +1,4 @@
-//! What the program says of its progress.
+//! The report of the program on its progress.
 ghost use Rattle.std.specs.Prelude.{◌≡◌, None, Some};
 ghost use Rattle.stream_sqlite.specs.Report.{counted, report_text};
 
@@ -25,7 +25,7 @@ impl Report {
         }
     }
 
-    /// So many entries are in the table, and the batches are one more.
+    /// Counts one more batch, and this many more entries in the table.
     pub fn count(&mut self, entries: u64)
         ensures { self.new.entries ≡ entries }
     {

@@ -1,4 +1,4 @@
--- The consumers of a group, who are seen, made and taken out.
+-- The consumers of a group, which are seen, created and removed.
 use Rattle.std.specs.Prelude.{◌≡◌, ◌≤◌, ◌<◌, ◌+◌, ◌==◌, ◌⊎◌, ℕ, List, not, length, filter, min}
 use Rattle.std.specs.Prelude.{slice_index_or, slice_set, insert, remove, vec_capacity, vec_len}
 use Rattle.stream_store.specs.declared.group.Consumer.{Consumer}
@@ -21,7 +21,7 @@ pub record IsSeenAgain (name : List ℕ) (now number : ℕ) (old new : Group) : 
   pub consumers : new.consumers.items ≡ slice_set old.consumers.items index (record was { seen_at = now })
   pub next : new.next_number ≡ old.next_number
 
--- the consumer is new and comes in among the others, which stay: it has the number that no other had
+-- the consumer is new, and the others stay: it has the number that no other had
 pub record IsNewcomer (name : List ℕ) (now number : ℕ) (old new : Group) : Type 0 where
   pub index : ℕ
   pub is : Consumer
@@ -45,7 +45,7 @@ HasRoom room g = (vec_len g.consumers < vec_capacity g.consumers) ⊎ (vec_len g
 abbrev pub pending_for_others : ℕ → List Pending → List Pending
 pending_for_others number = filter (λ p. not (p.consumer == number))
 
--- the consumer is taken out with what is pending for it, which it has as many of; the others stay
+-- the consumer is removed with its `count` pending entries; the others stay
 pub record IsTakenOut (name : List ℕ) (count : ℕ) (old new : Group) : Type 0 where
   pub index : ℕ
   pub was : Consumer
@@ -54,6 +54,6 @@ pub record IsTakenOut (name : List ℕ) (count : ℕ) (old new : Group) : Type 0
   pub pending : new.pending.items ≡ pending_for_others was.number old.pending.items
   pub counted : count ≡ was.pending
 
--- the consumer of this name, if it was there, is taken out
+-- the consumer of this name, if it was there, is removed
 abbrev pub IsRemoved : List ℕ → ℕ → Group → Group → Type 0
 IsRemoved name count old new = IsTakenOut name count old new ⊎ ((new ≡ old) × (count ≡ 0))

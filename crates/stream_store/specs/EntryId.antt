@@ -10,6 +10,6 @@ id_count = 18446744073709551616 * 18446744073709551616
 abbrev pub id_number : EntryId → ℕ
 id_number id = id.milliseconds * 18446744073709551616 + id.sequence
 
--- an id as a command writes it
+-- an id as text
 abbrev pub id_text : EntryId → List ℕ
 id_text id = decimal id.milliseconds ++ 45 ∷ [] ++ decimal id.sequence

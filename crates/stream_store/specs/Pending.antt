@@ -17,7 +17,7 @@ with_more number c =
 abbrev pub with_less : ℕ → Consumer → Consumer
 with_less number c = if c.number == number then record c { pending = c.pending - 1 } else c
 
--- it takes the place of what was pending with its id, which one consumer has less then
+-- it replaces what was pending with its id, which one consumer has less then
 pub record IsRegiven (p : Pending) (old new : Group) : Type 0 where
   pub index : ℕ
   pub was : Pending
@@ -48,7 +48,7 @@ IsGiven p old new = IsRegiven p old new ⊎ IsGivenNew p old new
 abbrev pub pending_without : EntryId → List Pending → List Pending
 pending_without id = filter (λ p. not (is_eq (id_order p.id id)))
 
--- what was pending with this id is taken out, and the others stay; one less is pending for its consumer
+-- what was pending with this id is removed, and the others stay; one less is pending for its consumer
 pub record IsAcknowledged (id : EntryId) (old new : Group) : Type 0 where
   pub index : ℕ
   pub was : Pending

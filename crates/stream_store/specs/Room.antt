@@ -1,10 +1,10 @@
--- Memory for what will be pending, taken before a group is changed.
+-- Memory for what will be pending, allocated before a group is changed.
 use Rattle.std.specs.Prelude.{◌≤◌, ◌+◌, ◌⊎◌, ℕ}
 use Rattle.std.specs.VecDeque.{deque_capacity, deque_len}
 use Rattle.stream_store.specs.declared.group.Group.{Group}
 use Rattle.stream_store.specs.declared.room.Room.{Room}
 
--- the group has memory for so many more that are pending
+-- the group has memory for n more pending entries
 abbrev pub IsOpenFor : ℕ → Group → Type 0
 IsOpenFor more g = deque_len g.pending + more ≤ deque_capacity g.pending
 

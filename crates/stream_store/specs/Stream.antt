@@ -1,4 +1,4 @@
--- What a stream and a group show, and how they change.
+-- The contents of a stream and a group, and how they change.
 use Rattle.std.specs.Prelude.{◌≡◌, ◌≢◌, ◌≤◌, ◌<◌, ◌+◌, ◌-◌, ℕ, ℤ, pos, ◌+ℤ◌, List, [], ◌∷◌, ◌++◌, length, remove, slice_set as set, sum_by, take}
 use Rattle.std.specs.Int.{w64, saturate_signed}
 use Rattle.std.specs.declared.cmp.Ordering.TheVariants.{Greater}
@@ -10,7 +10,7 @@ use Rattle.stream_store.specs.declared.stream.Entry.{Entry}
 use Rattle.stream_store.specs.declared.stream.Node.{Node}
 use Rattle.stream_store.specs.declared.stream.Stream.{Stream}
 
--- a stream without the room that its lists have
+-- a stream without the capacity of its lists
 pub record Seen : Type 0 where
   pub key : List ℕ
   pub entries : List Entry
@@ -20,7 +20,7 @@ pub record Seen : Type 0 where
   pub entries_added : ℤ
   pub groups : List Group
 
--- what a stream shows
+-- the contents of a stream
 abbrev pub seen_stream : Stream → Seen
 seen_stream s = record {
   key = s.key.items;
@@ -45,14 +45,14 @@ pub record IsLonger (entry : Entry) (old new : Stream) : Type 0 where
     entries_added = new.entries_added;
   }
 
--- one entry with this id is taken out, and the others stay
+-- one entry with this id is removed, and the others stay
 pub record IsWithoutOne (id : EntryId) (old new : List Entry) : Type 0 where
   pub index : ℕ
   pub within : index < length old
   pub named : HoldsAt (λ entry. entry.id ≡ id) old index
   pub others : new ≡ remove old index
 
--- the id of the first one, 0-0 where there is none
+-- the id of the first one, 0-0 if there is none
 abbrev pub first_id_of : List Entry → EntryId
 first_id_of [] = record { milliseconds = 0; sequence = 0 }
 first_id_of (entry ∷ entries) = entry.id
@@ -69,7 +69,7 @@ abbrev pub IsWithin : ℕ → List Node → ℕ → Type 0
 IsWithin index nodes place = (sum_by (λ node. node.live) (take place nodes) ≤ index)
     × (index < sum_by (λ node. node.live) (take (place + 1) nodes))
 
--- the node at this place has one entry less, and one that had no other is gone
+-- the node at this place has one entry less, and an empty one is removed
 pub record IsOneLess (place : ℕ) (old new : List Node) : Type 0 where
   pub node : Node
   pub named : HoldsAt (λ n. n ≡ node) old place

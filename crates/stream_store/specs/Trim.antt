@@ -1,4 +1,4 @@
--- How many entries a trim takes away.
+-- How many entries a trim removes.
 use Rattle.std.specs.Prelude.{◌≡◌, ◌+◌, ◌-◌, ◌==◌, ◌||◌, ◌&&◌, ℕ, Bool, true, false, List, [], ◌∷◌, cond, drop, length, nat_le, nat_lt}
 use Rattle.std.specs.Ordering.{is_lt}
 use Rattle.stream_store.specs.Order.{id_order, IsAscending, IsSplitBefore}
@@ -9,30 +9,30 @@ use Rattle.stream_store.specs.declared.trim.Bound.{Bound}
 use Rattle.stream_store.specs.declared.trim.Bound.TheVariants.{Length, Below}
 use Rattle.stream_store.specs.declared.trim.Trim.{Trim}
 
--- so many of the oldest go: all but the newest ones that may stay, or those with smaller ids
+-- n of the oldest are removed: all but the newest ones that may stay, or those with smaller ids
 abbrev pub IsExactCount : Bound → List Entry → ℕ → Type 0
 IsExactCount (Length most) entries count = count ≡ length entries - most
 IsExactCount (Below least) entries count =
     IsAscending (λ entry. entry.id) entries → IsSplitBefore (λ entry. entry.id) least entries count
 
--- whether the bound lets a node go as a whole, of so many entries where so many went: more are there than may stay,
--- and no fewer are left without it; or its last id is smaller
+-- whether the bound allows to remove a node as a whole, by the number of entries and of those removed before: more
+-- are there than may stay, and no fewer are left without it; or its last id is smaller
 abbrev pub lets_go : Bound → ℕ → ℕ → Node → Bool
 lets_go (Length most) len taken node = nat_lt taken (len - most) && nat_le (taken + node.live) (len - most)
 lets_go (Below least) len taken node = is_lt (id_order node.last least)
 
--- the node goes: no more than there are, no more than the limit, and the bound lets it go
+-- the node is removed: no more than there are, no more than the limit, and the bound allows it
 abbrev pub goes : Trim → ℕ → ℕ → Node → Bool
 goes trim len taken node =
     nat_le (taken + node.live) len && ((trim.limit == 0 || nat_le (taken + node.live) trim.limit) && lets_go trim.bound len taken node)
 
--- how many entries are gone with the first whole nodes, where so many were gone before
+-- how many entries are removed with the first whole nodes, by how many were removed before
 abbrev pub whole_from : Trim → ℕ → ℕ → List Node → ℕ
 whole_from trim len taken [] = taken
 whole_from trim len taken (node ∷ nodes) =
     cond (goes trim len taken node) (whole_from trim len (taken + node.live) nodes) taken
 
--- so many of the oldest entries go, as many as the trim names, and the others stay
+-- `count` of the oldest entries are removed, as many as the trim says, and the others stay
 pub record IsTrimmed (trim : Trim) (count : ℕ) (old new : Stream) : Type 0 where
   pub entries : new.entries.items ≡ drop count old.entries.items
   pub exact : trim.is_approximate ≡ false → IsExactCount trim.bound old.entries.items count

@@ -8,9 +8,9 @@ use std::alloc::{AllocError, Global};
 /// The id of an entry, such as `1526919030474-55`.
 #[derive(Clone, Copy, Debug, PartialEq, Eq, PartialOrd, Ord)]
 pub struct EntryId {
-    /// Milliseconds, as a rule since 1970.
+    /// Milliseconds, usually of Unix time.
     pub milliseconds: u64,
-    /// Which one of that millisecond.
+    /// The sequence number within that millisecond.
     pub sequence: u64,
 }
 
@@ -27,7 +27,7 @@ impl EntryId {
         sequence: u64::MAX,
     };
 
-    /// The next larger one; `None` behind the largest one.
+    /// The next larger one; `None` after the largest one.
     pub fn next(self) -> Option<EntryId>
         ensures some { IfSome result (λ id. id_number id ≡ id_number self + 1) }
         ensures none { IfNone result (id_number self + 1 ≡ id_count) }
@@ -67,7 +67,7 @@ impl EntryId {
         None
     }
 
-    /// The id as a command writes it: `milliseconds-sequence`.
+    /// The id as text: `milliseconds-sequence`.
     pub fn to_text(self, alloc: Global) -> Result<Vec<u8>, AllocError>
         ensures { IfOk result (λ text. text.items ≡ id_text self) }
     {

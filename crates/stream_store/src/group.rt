@@ -15,21 +15,21 @@ use std::alloc::{AllocError, Global};
 use std::collections::VecDeque;
 use std::marker::Model;
 
-/// An entry that was given to a consumer and is not acknowledged.
+/// An entry that was delivered to a consumer and is not acknowledged.
 #[derive(Clone, Copy, Debug, PartialEq, Eq)]
 pub struct Pending {
     pub id: EntryId,
     /// The number of the consumer.
     pub consumer: u64,
-    /// When it was given last, in milliseconds.
+    /// When it was delivered last, in milliseconds.
     pub given_at: u64,
-    /// How often it was given.
+    /// How often it was delivered.
     pub deliveries: u64,
 }
 
-/// What is pending, in memory of its own. So a list of many moves one word for each.
+/// A pending entry in memory of its own, so that a list of many moves one word for each.
 ///
-/// A contract sees what is pending.
+/// A contract sees the pending entry.
 #[derive(Debug, Drop)]
 pub struct Held {
     pending: Box<Pending>,
@@ -44,7 +44,7 @@ impl Model for Held {
 }
 
 impl Held {
-    /// Takes memory for it.
+    /// Allocates memory for it.
     pub fn new(alloc: Global, pending: Pending) -> Result<Held, AllocError>
         ensures { IfOk result (λ held. held ≡ pending) }
     {
@@ -52,14 +52,14 @@ impl Held {
         Ok(Held { pending })
     }
 
-    /// What is pending.
+    /// The pending entry.
     pub fn get(&self) -> Pending
         ensures { result ≡ self.now }
     {
         *self.pending
     }
 
-    /// It is pending for the consumer of this number.
+    /// Returns it as pending for the consumer of this number.
     pub fn for_consumer(mut self, number: u64) -> Held
         ensures { result ≡ record self { consumer = number } }
     {
@@ -67,7 +67,7 @@ impl Held {
         self
     }
 
-    /// It is pending so from now on.
+    /// Replaces the pending entry.
     pub fn set(&mut self, pending: Pending)
         ensures { self.new ≡ pending }
     {
@@ -79,7 +79,7 @@ impl Held {
 #[derive(Clone, Debug, Drop)]
 pub struct Consumer {
     pub name: Vec<u8>,
-    /// The number by which its pending entries name it; no other consumer of the group ever has it.
+    /// The number that its pending entries have; no other consumer of the group ever has it.
     pub number: u64,
     /// When it was seen last, in milliseconds.
     pub seen_at: u64,
@@ -87,13 +87,13 @@ pub struct Consumer {
     pub pending: u64,
 }
 
-/// A group: what it was given last, and what is pending for its consumers.
+/// A group: its last delivered id, and what is pending for its consumers.
 #[derive(Debug, Drop)]
 pub struct Group {
     pub name: Vec<u8>,
     /// The last id that was delivered.
     pub last_id: EntryId,
-    /// How many entries were read, where that is known.
+    /// How many entries were read, if that is known.
     pub entries_read: Option<i64>,
     /// What is pending, in the order of its ids.
     pub pending: VecDeque<Held>,
@@ -122,7 +122,7 @@ impl Group {
         }
     }
 
-    /// The index of what is pending with this id, or of the first behind it.
+    /// The index of the pending entry with this id, or as an `Err` of the first after it.
     pub fn place(&self, id: EntryId) -> Result<usize, usize>
         ensures bound { IsSearchInRange result (length self.now.pending.items) }
         ensures found { IfOk result (HoldsAt (λ pending. pending.id ≡ id) self.now.pending.items) }
@@ -132,7 +132,7 @@ impl Group {
         self.pending.binary_search_by_key(&id, |held| held.get().id)
     }
 
-    /// The index of the first that is pending with at least this id.
+    /// The index of the first pending entry with at least this id.
     pub fn start(&self, id: EntryId) -> usize
         ensures bound { result ≤ length self.now.pending.items }
         ensures split { IsAscending (λ pending. pending.id) self.now.pending.items
@@ -144,7 +144,7 @@ impl Group {
         }
     }
 
-    /// What is pending with this id.
+    /// The pending entry with this id.
     pub fn get(&self, id: EntryId) -> Option<Pending>
         ensures some { IfSome result (λ pending. pending.id ≡ id) }
         ensures there { IfSome result (λ pending. Contains self.now.pending.items pending) }
@@ -168,8 +168,8 @@ impl Group {
         }
     }
 
-    /// A group that has delivered as much, with this consumer alone, where it is there, and with
-    /// nothing pending.
+    /// A group with the same last delivered id, with this consumer alone, if it exists, and with nothing
+    /// pending.
     pub fn part(&self, alloc: Global, name: &[u8]) -> Result<Group, AllocError>
         ensures last_id { IfOk result (λ part. part.last_id ≡ self.now.last_id) }
         ensures entries_read { IfOk result (λ part. part.entries_read ≡ self.now.entries_read) }
@@ -190,7 +190,7 @@ impl Group {
         })
     }
 
-    /// Room for this consumer and for so many more that are pending.
+    /// Reserves memory for this consumer and for `more` pending entries.
     pub fn room_for(&self, alloc: Global, name: &[u8], more: usize) -> Result<Room, AllocError>
         ensures named { IfOk result (λ room. room.name.items ≡ name.now) }
         ensures enough { IfOk result (λ room. HasRoom room self.now) }
@@ -212,8 +212,7 @@ impl Group {
         })
     }
 
-    /// The number of the consumer, who was seen now and is made where it is new. What is pending
-    /// stays.
+    /// Marks the consumer as seen now, creates it if it is new, and returns its number. What is pending stays.
     pub fn see(&mut self, alloc: Global, name: &[u8], now: u64) -> Result<u64, AllocError>
         ensures ok { IfOk result (λ number. IsSeen name.now now number self.old self.new) }
         ensures err { OnErr result (self.new ≡ record self.old { consumers = self.new.consumers }) }
@@ -233,8 +232,8 @@ impl Group {
         }
     }
 
-    /// Sees the consumer that the room is for, which is the group's from now on. If it is the one that
-    /// `room_for` took of this group, no memory is asked for.
+    /// Marks the consumer of the room as seen now, and gives the room to the group. If `room_for` of this group
+    /// made the room, it allocates nothing.
     pub fn see_in(&mut self, room: Room, now: u64) -> Result<u64, AllocError>
         ensures ok { IfOk result (λ number. IsSeen room.name.items now number self.old self.new) }
         ensures err_consumers { OnErr result (self.new.consumers.items ≡ self.old.consumers.items) }
@@ -262,7 +261,7 @@ impl Group {
         }
     }
 
-    /// Makes a consumer, whose place is at this index, and gives its number.
+    /// Inserts a new consumer at this index, and returns its number.
     fn make(&mut self, index: usize, name: Vec<u8>, now: u64) -> Result<u64, AllocError>
         requires { index ≤ length self.old.consumers.items }
         ensures ok { IfOk result (λ number. IsNewcomer name.items now number self.old self.new) }
@@ -288,7 +287,7 @@ impl Group {
         Ok(number)
     }
 
-    /// The entry is pending so, whether it was pending or not. It asks for memory only if it was not.
+    /// Inserts or replaces the pending entry with this id. It allocates memory only if there was none.
     pub fn give(&mut self, pending: Pending) -> Result<(), AllocError>
         ensures ok { OnOk result (IsGiven pending self.old self.new) }
         ensures err { OnErr result (self.new.pending.items ≡ self.old.pending.items) }
@@ -307,7 +306,7 @@ impl Group {
         Ok(())
     }
 
-    /// The same of what is held. If the group has memory for one more, it asks for none.
+    /// The same of a held one. If the group has memory for one more, it allocates nothing.
     pub fn put(&mut self, held: Held) -> Result<(), AllocError>
         ensures ok { OnOk result (IsGiven held self.old self.new) }
         ensures err { OnErr result (self.new.pending.items ≡ self.old.pending.items) }
@@ -326,7 +325,7 @@ impl Group {
         Ok(())
     }
 
-    /// What is pending with its id is pending so from now on; it is at this index.
+    /// Replaces the pending entry with its id, which is at this index.
     fn replace(&mut self, index: usize, pending: Pending)
         requires within { index < length self.old.pending.items }
         requires named { HoldsAt (λ old. old.id ≡ pending.id) self.old.pending.items index }
@@ -341,7 +340,7 @@ impl Group {
         one_more(&mut self.consumers, pending.consumer);
     }
 
-    /// It is pending in addition, at this index.
+    /// Inserts it at this index.
     fn insert(&mut self, index: usize, held: Held) -> Result<(), AllocError>
         requires { index ≤ length self.old.pending.items }
         ensures ok { OnOk result (IsGivenAt index held self.old self.new) }
@@ -357,7 +356,7 @@ impl Group {
         Ok(())
     }
 
-    /// The entry is no longer pending; tells whether it was.
+    /// Removes the entry from the pending ones, and returns whether it was there.
     pub fn acknowledge(&mut self, id: EntryId) -> bool
         ensures without { IsAscending (λ pending. pending.id) self.old.pending.items
             → self.new.pending.items ≡ pending_without id self.old.pending.items }
@@ -379,7 +378,7 @@ impl Group {
         true
     }
 
-    /// Takes the consumer out, with what is pending for it, and tells how many entries that was.
+    /// Removes the consumer with its pending entries, and returns how many these were.
     pub fn remove_consumer(&mut self, name: &[u8]) -> u64
         ensures removed { IsRemoved name.now result self.old self.new }
         ensures others { self.new ≡ record self.old { pending = self.new.pending; consumers = self.new.consumers } }
@@ -393,7 +392,7 @@ impl Group {
         consumer.pending
     }
 
-    /// The index of the consumer of this name, or of the first behind it.
+    /// The index of the consumer of this name, or of the first after it.
     fn place_of(&self, name: &[u8]) -> Result<usize, usize>
         ensures bound { IsSearchInRange result (length self.now.consumers.items) }
         ensures found { IfOk result (HoldsAt (λ consumer. consumer.name.items ≡ name.now)
@@ -409,7 +408,7 @@ impl Group {
     }
 }
 
-/// What is pending moves into the room, where that is larger.
+/// Moves the pending entries into the room, if that is larger.
 fn move_pending(pending: &mut VecDeque<Held>, mut room: VecDeque<Held>)
     ensures items { pending.new.items ≡ pending.old.items }
     ensures len { deque_len pending.new ≡ deque_len pending.old }
@@ -424,7 +423,7 @@ fn move_pending(pending: &mut VecDeque<Held>, mut room: VecDeque<Held>)
     }
 }
 
-/// The consumers move into the room, where that is larger.
+/// Moves the consumers into the room, if that is larger.
 fn move_consumers(consumers: &mut Vec<Consumer>, mut room: Vec<Consumer>)
     ensures items { consumers.new.items ≡ consumers.old.items }
     ensures capacity { vec_capacity consumers.old ≤ vec_capacity consumers.new }
@@ -438,7 +437,7 @@ fn move_consumers(consumers: &mut Vec<Consumer>, mut room: Vec<Consumer>)
     }
 }
 
-/// One more entry is pending for the consumer of this number.
+/// Counts one more pending entry for the consumer of this number.
 fn one_more(consumers: &mut [Consumer], number: u64)
     ensures { consumers.new ≡ map (with_more number) consumers.old }
 {
@@ -447,7 +446,7 @@ fn one_more(consumers: &mut [Consumer], number: u64)
     }
 }
 
-/// One less entry is pending for the consumer of this number.
+/// Counts one pending entry less for the consumer of this number.
 fn one_less(consumers: &mut [Consumer], number: u64)
     ensures { consumers.new ≡ map (with_less number) consumers.old }
 {
@@ -456,7 +455,7 @@ fn one_less(consumers: &mut [Consumer], number: u64)
     }
 }
 
-/// One more entry is pending for the consumer where it has this number.
+/// Counts one more pending entry for the consumer, if it has this number.
 fn count_more(consumer: &mut Consumer, number: u64)
     ensures { consumer.new ≡ with_more number consumer.old }
 {
@@ -465,7 +464,7 @@ fn count_more(consumer: &mut Consumer, number: u64)
     }
 }
 
-/// One less entry is pending for the consumer where it has this number.
+/// Counts one pending entry less for the consumer, if it has this number.
 fn count_less(consumer: &mut Consumer, number: u64)
     ensures { consumer.new ≡ with_less number consumer.old }
 {

@@ -1,13 +1,13 @@
-//! Laws of the order in which entries stand.
+//! Laws of the order of entries.
 ghost use Rattle.stream_store.specs.Laws.{EntriesStayInOrder, PendingStaysInOrder};
 
-/// Where the ids of what is pending ascend, they do so after an entry is given or acknowledged.
+/// The ids of pending entries still ascend after an entry is delivered or acknowledged.
 pub fn pending_stays_in_order()
     ensures { PendingStaysInOrder }
 {}
 
-/// Where the ids of the entries ascend, they do so after one is appended above them, one is taken
-/// out, and the first ones are trimmed.
+/// The ids of the entries still ascend after one is appended above them, one is removed, or the first ones are
+/// trimmed.
 pub fn entries_stay_in_order()
     ensures { EntriesStayInOrder }
 {}

@@ -1,6 +1,6 @@
 //! A stream and its groups in memory: entries in order, and what is pending for whom.
 //!
-//! It knows no command and no clock: a moment, in milliseconds, is handed in.
+//! It knows no command and no clock: a time, in milliseconds, is an argument.
 #![tactic(auto)]
 
 mod entry_id;

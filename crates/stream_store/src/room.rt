@@ -1,16 +1,16 @@
-//! Room for what a group is given.
+//! Memory for what is delivered to a group.
 use crate::group::{Consumer, Held};
 use std::collections::VecDeque;
 
-/// Memory for a consumer and for what is given to it, taken before the group is changed.
+/// Memory for a consumer and for what is delivered to it, allocated before the group is changed.
 ///
-/// `Group::room_for` takes it, and `Group::see_in` hands it over.
+/// `Group::room_for` allocates it, and `Group::see_in` gives it to the group.
 #[derive(Debug, Drop)]
 pub struct Room {
     /// The name of the consumer.
     pub name: Vec<u8>,
-    /// For what is pending, where the group has too little.
+    /// For the pending entries, if the group has too little.
     pub pending: VecDeque<Held>,
-    /// For the consumers, where the group has too little.
+    /// For the consumers, if the group has too little.
     pub consumers: Vec<Consumer>,
 }

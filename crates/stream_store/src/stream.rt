@@ -16,13 +16,13 @@ use std::alloc::{AllocError, Global};
 use std::collections::VecDeque;
 use std::mem::replace;
 
-/// So many entries stand in one node, and trimming with `~` takes whole nodes.
+/// How many entries one node has. Trimming with `~` removes whole nodes.
 pub const NODE_ENTRIES: u64 = 100;
 
-/// If at least so many entries go at once, their memory is given back later.
+/// If at least this many entries are removed at once, their memory is freed later.
 const MANY: usize = 1_000;
 
-/// The memory of so many of them is given back with each later change.
+/// How many of them each later change frees.
 const FEW: usize = 16;
 
 /// An entry of a stream.
@@ -33,7 +33,7 @@ pub struct Entry {
     pub fields: Vec<Vec<u8>>,
 }
 
-/// A run of entries that trimming with `~` takes as a whole.
+/// A run of entries that trimming with `~` removes as a whole.
 #[derive(Clone, Copy, Debug, PartialEq, Eq)]
 pub struct Node {
     /// How many of its entries are still there.
@@ -52,7 +52,7 @@ pub struct Stream {
     pub entries: VecDeque<Entry>,
     /// The nodes of these entries, in their order.
     pub nodes: VecDeque<Node>,
-    /// Entries that were trimmed, whose memory is given back a few at a time.
+    /// Trimmed entries, whose memory is freed a few at a time.
     pub gone: VecDeque<Entry>,
     /// The largest id that the stream ever had.
     pub last_id: EntryId,
@@ -114,7 +114,7 @@ impl Stream {
         Ok(())
     }
 
-    /// The index of the entry with this id, or of the first one behind it.
+    /// The index of the entry with this id, or as an `Err` of the first one after it.
     pub fn place(&self, id: EntryId) -> Result<usize, usize>
         ensures bound { IsSearchInRange result (length self.now.entries.items) }
         ensures found { IfOk result (HoldsAt (λ entry. entry.id ≡ id) self.now.entries.items) }
@@ -149,7 +149,7 @@ impl Stream {
         }
     }
 
-    /// Takes the entry with this id out, and tells whether it was there.
+    /// Removes the entry with this id, and returns whether it was there.
     pub fn remove(&mut self, id: EntryId) -> bool
         ensures gone { OnTrue result (IsWithoutOne id self.old.entries.items
             self.new.entries.items) }
@@ -179,7 +179,7 @@ impl Stream {
         true
     }
 
-    /// Takes away the oldest entries, as many as the trim names, and tells how many these were.
+    /// Removes the oldest entries, as many as the trim says, and returns how many these were.
     pub fn trim(&mut self, trim: Trim) -> usize
         ensures { IsTrimmed trim result self.old self.new }
     {
@@ -196,8 +196,8 @@ impl Stream {
         count
     }
 
-    /// Takes so many of the oldest entries out. If many go, and more than stay, the others move to a
-    /// list of their own, and the memory of those that go is given back by later changes.
+    /// Removes the `count` oldest entries. If these are many, and more than stay, the others move to a list of
+    /// their own, and later changes free the memory of those that were removed.
     fn take_oldest(&mut self, count: usize)
         requires { count ≤ length self.old.entries.items }
         ensures entries { self.new.entries.items ≡ drop count self.old.entries.items }
@@ -214,7 +214,7 @@ impl Stream {
         }
     }
 
-    /// Gives back the memory of a few entries that are gone, and of their list with the last of them.
+    /// Frees a few trimmed entries, and their list with the last of them.
     fn give_back(&mut self)
         ensures same { self.new ≡ record self.old { gone = self.new.gone } }
         ensures few { self.new.gone.items ≡ drop 16 self.old.gone.items }
@@ -231,7 +231,7 @@ impl Stream {
         }
     }
 
-    /// The id of the first entry, 0-0 where there is none.
+    /// The id of the first entry, 0-0 if there is none.
     pub fn first_id(&self) -> EntryId
         ensures { result ≡ first_id_of self.now.entries.items }
     {
@@ -241,8 +241,8 @@ impl Stream {
         }
     }
 
-    /// Whether an entry with at least this id was deleted from behind the first one that is there,
-    /// as far as the stream remembers.
+    /// Whether an entry with at least this id was deleted after the first one that is left, as far as the
+    /// stream remembers.
     pub fn has_tombstone_from(&self, id: EntryId) -> bool
         ensures some { OnTrue result (IsTombstoneFrom id self.now) }
         ensures none { OnFalse result (IsTombstoneFrom id self.now → ⊥) }
@@ -253,7 +253,7 @@ impl Stream {
             && id <= self.max_deleted_id
     }
 
-    /// How many entries there were ever up to this id, where that is known.
+    /// How many entries were ever added up to this id, if that is known.
     pub fn distance(&self, id: EntryId) -> Option<i64>
         ensures all { id ≡ self.now.last_id → result ≡ Some self.now.entries_added }
     {
@@ -279,7 +279,7 @@ impl Stream {
         None
     }
 
-    /// How many of the oldest entries the bound takes away.
+    /// How many of the oldest entries the bound removes.
     fn exact_count(&self, bound: Bound) -> usize
         ensures bound { result ≤ length self.now.entries.items }
         ensures exact { IsExactCount bound self.now.entries.items result }
@@ -294,7 +294,7 @@ impl Stream {
     }
 }
 
-/// How many of the first nodes go as a whole, and how many entries these are.
+/// How many of the first nodes are removed as a whole, and how many entries these are.
 fn whole_nodes(nodes: &VecDeque<Node>, len: usize, trim: Trim) -> (usize, usize)
     ensures nodes { result.0 ≤ length nodes.now.items }
     ensures count { result.1 ≡ whole_from trim len 0 nodes.now.items }
@@ -311,7 +311,7 @@ fn whole_nodes(nodes: &VecDeque<Node>, len: usize, trim: Trim) -> (usize, usize)
     (nodes.len(), whole)
 }
 
-/// Whether the node goes as a whole, where so many of the entries went before.
+/// Whether the node is removed as a whole, after `taken` entries before it.
 fn goes(trim: Trim, len: usize, taken: usize, node: Node) -> bool
     ensures { result ≡ goes trim len taken node }
 {
@@ -322,7 +322,7 @@ fn goes(trim: Trim, len: usize, taken: usize, node: Node) -> bool
     behind <= len && is_within && lets_go(trim.bound, len, taken, behind, node)
 }
 
-/// Whether the bound lets the node go, behind which so many entries will have gone.
+/// Whether the bound allows to remove the node, after `taken` entries before it.
 fn lets_go(bound: Bound, len: usize, taken: usize, behind: usize, node: Node) -> bool
     requires { behind ≡ taken + node.live }
     ensures { result ≡ lets_go bound len taken node }
@@ -336,7 +336,7 @@ fn lets_go(bound: Bound, len: usize, taken: usize, behind: usize, node: Node) ->
     }
 }
 
-/// One entry less in the node in which the entry at this index stood.
+/// Counts one entry less in the node of the entry at this index.
 fn forget(nodes: &mut VecDeque<Node>, index: usize)
     ensures { index < sum_by (λ node. node.live) nodes.old.items
         → IsLessAt index nodes.old.items nodes.new.items }
@@ -346,7 +346,7 @@ fn forget(nodes: &mut VecDeque<Node>, index: usize)
     }
 }
 
-/// The place of the node in which the entry at this index stands.
+/// The index of the node of the entry at this index.
 fn node_of(nodes: &VecDeque<Node>, index: usize) -> Option<usize>
     ensures some { IfSome result (λ place. place < length nodes.now.items) }
     ensures within { IfSome result (IsWithin index nodes.now.items) }
@@ -363,7 +363,7 @@ fn node_of(nodes: &VecDeque<Node>, index: usize) -> Option<usize>
     None
 }
 
-/// One entry less in the node at this place; one that had no other goes.
+/// Counts one entry less in the node at this index; an empty node is removed.
 fn take_one(nodes: &mut VecDeque<Node>, place: usize)
     requires { place < length nodes.old.items }
     ensures { IsOneLess place nodes.old.items nodes.new.items }
@@ -376,7 +376,7 @@ fn take_one(nodes: &mut VecDeque<Node>, place: usize)
     }
 }
 
-/// So many entries less in the first node, which stays though none may be left in it.
+/// Counts `count` entries less in the first node, which stays even if it is empty.
 fn take_from_first(nodes: &mut VecDeque<Node>, count: usize) {
     let count = u64::try_from(count).unwrap_or(u64::MAX);
     let Some(node) = nodes.front_mut() else {

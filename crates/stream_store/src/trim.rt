@@ -1,10 +1,10 @@
-//! What is trimmed away.
+//! How a stream is trimmed.
 use crate::entry_id::EntryId;
 
-/// Which entries are trimmed away.
+/// Which entries are trimmed.
 #[derive(Clone, Copy, Debug, PartialEq, Eq)]
 pub enum Bound {
-    /// `MAXLEN`: the oldest, until no more than so many are left.
+    /// `MAXLEN`: the oldest, until no more than this many are left.
     Length(u64),
     /// `MINID`: those whose ids are smaller.
     Below(EntryId),
@@ -16,6 +16,6 @@ pub struct Trim {
     pub bound: Bound,
     /// `~`: only whole nodes.
     pub is_approximate: bool,
-    /// `LIMIT`: at most so many entries; 0: any number.
+    /// `LIMIT`: at most this many entries; 0 for no limit.
     pub limit: u64,
 }

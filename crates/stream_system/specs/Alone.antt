@@ -15,8 +15,8 @@ use Rattle.stream_worker.specs.Session.{Standing}
 use Rattle.stream_worker.specs.declared.state.Settings.{Settings}
 use Rattle.stream_system.specs.Once.{Runs, begins, waits, turns, fails, restarts}
 
--- the server keeps to COUNT: its answer to a question of the consumer has no more entries than that. To others it hands
--- out no two entries again at once
+-- the server keeps to COUNT: its reply to the consumer has no more entries than that. It redelivers to others one
+-- entry at a time
 abbrev pub KeepsToCount : Setting Fields → World Fields → Event Fields → Type 0
 KeepsToCount s w (Ask n pick next) =
     length (entries_in (answer_for s.name n pick next w.consumer.machine.phase w.stream)) ≤ n
@@ -38,7 +38,7 @@ StartsAlone (fails settings events old new v x e m f hears r) = StartsAlone r
 StartsAlone (restarts settings with_settings events v x moment t r) =
     (with_settings.one_at_a_time ≡ true) × StartsAlone r
 
--- then an entry that was delivered n times and is pending was handed out by itself at least n - 1 times
+-- then a pending entry that was delivered n times was delivered by itself at least n - 1 times
 abbrev pub CodeIsCountedAlone : Type 0
 CodeIsCountedAlone = (s : Setting Fields) (settings : Settings) (events : List (Event Fields)) (v : Standing Doings)
     (r : Runs s settings events v) → StartsAlone r → AllKeepToCount s events first_world → (p : Pending)

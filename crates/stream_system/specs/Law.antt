@@ -12,7 +12,7 @@ use Rattle.stream_worker.specs.Answers.{Heard, told, no_group, group_made}
 use Rattle.stream_system.specs.System.{System, Move, Hears, Posts, first_system, heard}
 use Rattle.stream_system.specs.System.{moves, run}
 
--- what tells a worker of entries is the reply of that number, which is on its way to it
+-- a worker got these entries by the reply of that number, which is on its way to it
 abbrev pub IsReplyTo : System → Name → ℕ → Option Heard → Type 0
 IsReplyTo s name which None = Unit {0}
 IsReplyTo s name which (Some (told answer)) =
@@ -25,7 +25,7 @@ abbrev pub HasClaimed : System → Name → ℕ → Entry → Type 0
 HasClaimed s name which e = (next : Id)
     × (item s.server.replies which ≡ Some (record { consumer = name; answer = taken_over next ((e.0, Some e.1) ∷ []) }))
 
--- a worker that hears something hears a reply that is on its way to it, and so does its desk that posts an entry
+-- a worker takes only a reply that is on its way to it, and so does its queue of dead letters
 abbrev pub HearsTruly : System → Move → Type 0
 HearsTruly s (Hears name settings which reply verdicts) =
     IsReplyTo s name which (heard settings (s.workers name) reply)

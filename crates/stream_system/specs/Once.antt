@@ -1,4 +1,5 @@
--- A worker's code with its file is the consumer of `stream_once`. Its rounds, failures and starts are events of that model.
+-- The code of a worker with its file is the consumer of `stream_once`. Its rounds, failures and starts are events of
+-- that model.
 use Rattle.std.specs.Prelude.{◌≡◌, ◌≤◌, ◌⊎◌, ℕ, ◌-◌, List, [], ◌∷◌, ◌++◌, take, Bool, Option, Some, None}
 use Rattle.std.specs.Prelude.{if◌then◌else◌}
 use mathlib.Core.Logic.{inl, inr}
@@ -104,7 +105,7 @@ IsHeard sent (Some no_group) = sent ≡ None
 IsHeard sent (Some group_made) = sent ≡ None
 
 module _ (settings : Settings) (v : Standing Doings) (m : Meantime) where
-  -- what its question has behind COUNT, if it is one for entries
+  -- the number after COUNT in its request, if it requests entries
   abbrev pub count : ℕ
   count = count_asked settings (at_request v.machine).phase
 

@@ -20,7 +20,7 @@ use Rattle.stream_worker.specs.declared.worker.Worker.{Worker}
 use Rattle.stream_system.specs.System.{System, Move, Serves, Commits, Sends, Hears, Breaks, Posts, Adds_letter}
 use Rattle.stream_system.specs.System.{Sends_ack, Settles, Restarts, repaired, filed_then, moves, run}
 
--- the move is the server's, or another worker's, or a desk's
+-- the move is the server's, or another worker's, or that of a queue of dead letters
 abbrev pub IsOther : Name → Move → Type 0
 IsOther name (Serves event) = Unit {0}
 IsOther name (Commits other) = other ≢ name

@@ -66,8 +66,8 @@ serves s (Go_back consumer) = s
 serves s (Crash consumer every keeps ids) = s
 serves s event = server_of (group.happens (world_with s) event)
 
--- a worker's desk, at which entries wait that it claimed and gives up: in order, each for its letter, and then for its
--- acknowledgement
+-- a worker's queue of dead letters: the entries that it claimed and gives up, in order. Each waits for its letter,
+-- and then for its acknowledgement
 pub record Desk : Type 0 where
   pub waiting : List Entry
   pub added : Bool  -- the letter of the first one was added, and the reply to that came
@@ -117,19 +117,19 @@ pub data Move : Type 0 where
   Hears : (name : Name) (settings : Settings) (which : ℕ) (reply : wire.Answer) (verdicts : List Verdict) → Move
   -- a round of a worker fails: it begins again with what is pending for it, and knows this of the group
   Breaks : (name : Name) (state : GroupState) (question : Asked) → Move
-  -- the reply to its XCLAIM of one id comes to the desk of a worker, and has this entry, which waits behind the others
-  -- from then on. To the server the XCLAIM is a `Claim` that picks the id
+  -- the reply to its XCLAIM of one id comes to a worker and has this entry, which is put at the end of its queue. To
+  -- the server the XCLAIM is a `Claim` that picks the id
   Posts : (name : Name) (which : ℕ) (e : Entry) → Move
-  -- the reply to the XADD of its first entry's letter comes to the desk of a worker
+  -- the reply to the XADD of the first entry's letter comes to the queue of a worker
   Adds_letter : (name : Name) → Move
-  -- the desk of a worker sends the XACK of its first entry, if the letter of that one was added
+  -- the queue of a worker sends the XACK of its first entry, if the letter of that one was added
   Sends_ack : (name : Name) → Move
-  -- the reply to that XACK comes to the desk of a worker, which forgets the entry
+  -- the reply to that XACK comes, and the queue of the worker forgets the entry
   Settles : (name : Name) (which : ℕ) → Move
   -- a worker crashes, or is killed, and is started again. Its file has what was committed and any bytes after it, and
-  -- is cut after its last line feed. What its handler did and is a line of the file is committed. It reads lines of its
-  -- file back, and begins to acknowledge those of these ids that they name. Its handler may say of any entries that
-  -- they were committed before. Nothing waits at its desk
+  -- is cut after its last line feed. What its handler did and is a line of the file is committed. It reads lines of
+  -- its file back, and begins to acknowledge those of these ids that they name. Its handler may say of any entries
+  -- that they were committed before. Its queue is empty
   Restarts : (name : Name) (settings : Settings) (torn : List ℕ) (ids : List Id) (before : List Entry) → Move
 
 -- a worker after its commit
@@ -147,23 +147,23 @@ files_now w = if commits w.machine then w.history.loose else []
 abbrev pub waiting : Settings → Standing Doings → Standing Doings
 waiting settings w = record w { asked = asks w.group w.machine.phase w.machine.to_acknowledge }
 
--- what a reply tells it
+-- what it takes from a reply
 abbrev pub heard : Settings → Standing Doings → wire.Answer → Option Heard
 heard settings w reply = hears settings w.asked reply
 
--- a worker that this was told
+-- a worker after this reply
 abbrev pub having : Settings → Standing Doings → wire.Answer → List Verdict → Standing Doings
 having settings w reply verdicts =
     having_heard done_too w (group_after settings w.group w.asked reply) (heard settings w reply) verdicts
 
--- the replies that are still on their way, if the one of that number told this
+-- the replies that are still on their way after the one of that number came with this
 abbrev pub still_coming : List (Reply Fields) → ℕ → Option Heard → List (Reply Fields)
 still_coming replies which None = replies
 still_coming replies which (Some (told answer)) = but replies which
 still_coming replies which (Some no_group) = replies
 still_coming replies which (Some group_made) = replies
 
--- the file of a worker after a crash that left these bytes behind what is committed
+-- the file of a worker after a crash that left these bytes after what is committed
 abbrev pub repaired : System → Name → List ℕ → List ℕ
 repaired s name torn = whole_lines (s.file name ++ torn)
 
@@ -180,23 +180,23 @@ abbrev pub first : List Entry → List Entry
 first [] = []
 first (e ∷ es) = e ∷ []
 
--- whose letter is added at a desk: the first one's, unless it was added before
+-- the entry whose letter is added: the first one of the queue, unless it was added before
 abbrev pub lettered_now : Desk → List Entry
 lettered_now d = if d.added then [] else first d.waiting
 
--- the desk then
+-- the queue then
 abbrev pub with_letter : Desk → Desk
 with_letter d = record d { added = not (is_empty d.waiting) }
 
--- what a desk acknowledges: the first one, if its letter was added
+-- what a queue acknowledges: the first one, if its letter was added
 abbrev pub acknowledges_now : Desk → List Id
 acknowledges_now d = if d.added then ids_of (first d.waiting) else []
 
--- the desk without its first one
+-- the queue without its first one
 abbrev pub without_first : Desk → Desk
 without_first d = record { waiting = drop 1 d.waiting; added = false }
 
--- the system with this desk
+-- the system with this queue
 abbrev pub with_desk : System → Name → Desk → System
 with_desk s name d = record s { desks = with_one s.desks name d }
 

@@ -1,4 +1,4 @@
-//! What holds of workers over one server, each with a file of lines, after every schedule.
+//! What holds after every schedule of workers over one server, each with a file of lines.
 ghost use Rattle.stream_system.specs.Alone.{CodeIsCountedAlone};
 ghost use Rattle.stream_system.specs.Desks.{AsksAsItDoes, LettersAreMoves, OthersLeaveTheDesk, PostsAreMoves};
 ghost use Rattle.stream_system.specs.Desks.{StartsWithANewDesk};
@@ -10,11 +10,11 @@ ghost use Rattle.stream_system.specs.Once.{RoundsAreEvents, RoundsRun, RunsAreEv
 ghost use Rattle.stream_system.specs.Once.{StartsAreEvents, StartsReadEnough};
 ghost use Rattle.stream_system.specs.Rounds.{FailuresAreMoves, OthersChangeNothing, RoundsAreMoves, StartsAreMoves};
 
-/// After any moves each entry that was ever added is still to come, or pending, or is a line of some
-/// worker's file, whatever a crash leaves of it; or the addition of its letter was answered; or it was
-/// deleted. So is each entry that is acknowledged a line of some file, or it has such a letter, or it
-/// was deleted. The premise is that a worker, and its desk of letters, hear only replies that are on
-/// their way to it (`AllHearTruly`).
+/// After any moves each entry that was ever added is still to come, or pending, or is a line of some worker's
+/// file, whatever a crash leaves of it; or its letter was added and the reply came; or it was deleted. So is
+/// each entry that is acknowledged a line of some file, or it has such a letter, or it was deleted. The premise
+/// is that a worker, and its queue of dead letters, take only replies that are on their way to it
+/// (`AllHearTruly`).
 pub fn each_entry_is_kept()
     ensures kept { EachEntryIsKept }
     ensures acknowledged { AcknowledgedIsSettled }
@@ -36,10 +36,9 @@ pub fn rounds_are_moves()
     ensures failures { FailuresAreMoves }
 {}
 
-/// What `DeadLetters` promises is moves of a worker's desk. An entry that is given up is posted. A desk
-/// asks for the letter of its first entry, or for the acknowledgement of just that one after the letter
-/// was answered. After a reply that serves, its moves lead to where the desk is, whatever others do
-/// meanwhile.
+/// The contracts of `DeadLetters` are moves of a worker's queue of dead letters. An entry that is given up is
+/// put into it. For its first entry the queue sends the XADD of the letter, and after the reply the XACK of
+/// that entry. After each reply the queue is in the state that its moves lead to, whatever others do meanwhile.
 pub fn desks_are_moves()
     ensures posts { PostsAreMoves }
     ensures asks { AsksAsItDoes }
@@ -48,16 +47,16 @@ pub fn desks_are_moves()
     ensures others { OthersLeaveTheDesk }
 {}
 
-/// What `Worker::resumed` and `Worker::new` promise is a move of the worker, after a crash that left
-/// any bytes behind what its file had. The premise is that it is given ids of entries that are
-/// committed, and lines of that file.
+/// What `Worker::resumed` and `Worker::new` promise is a move of the worker, after a crash that left any bytes
+/// after what its file had. The premise is that it is given ids of entries that are committed, and lines of
+/// that file.
 pub fn starts_are_moves()
     ensures { StartsAreMoves }
 {}
 
-/// A worker's round that returns Ok is a round of `stream_rounds`, where its server hands out its
-/// page and its handler says `done` of each entry. Enough of such rounds, with nothing between them,
-/// lead to a world where nothing is pending and nothing is still to come.
+/// A worker's round that returns Ok is a round of `stream_rounds`, if the server delivers its page and the
+/// handler says `done` of each entry. Enough of such rounds, with nothing between them, lead to a world where
+/// nothing is pending and nothing is still to come.
 pub fn rounds_that_hear_the_page_are_rounds()
     ensures round { OneRoundIsOne }
     ensures drains { EnoughRoundsDrain }
@@ -94,10 +93,10 @@ pub fn the_code_writes_each_entry_once()
 {}
 
 /// After each schedule of the code whose workers are started with `one_at_a_time`, a pending entry that was
-/// delivered `n` times was handed out by itself at least `n - 1` times. So no entry is given up because
-/// another one of its batch ends the process.
+/// delivered `n` times was delivered by itself at least `n - 1` times. So no entry is given up because another
+/// one of its batch ends the process.
 ///
-/// The premise is that the server keeps to COUNT, and hands out no two entries again at once to others
+/// The premise is that the server keeps to COUNT, and redelivers to others one entry at a time
 /// (`AllKeepToCount`).
 pub fn the_code_counts_each_entry_alone()
     ensures { CodeIsCountedAlone }

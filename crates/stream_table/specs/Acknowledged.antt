@@ -18,20 +18,20 @@ use Rattle.stream_table.specs.Lived.{LivesSo, newborn_with}
 abbrev pub IsThere : List Row → Id → Type 0
 IsThere rows id = IsSome (find (key_in id) rows)
 
--- what a worker asks to acknowledge next
+-- what a worker acknowledges next
 abbrev pub acknowledges : Settings → Standing Kept → List Id
 acknowledges settings w = (asking committed_with settings w).machine.to_acknowledge
 
--- what may have been asked in a round that failed: nothing if its command did not go out
+-- what a failed round may have acknowledged: nothing if its command was not sent
 abbrev pub asked_before : RunError → List Id → List Id
 asked_before (causes.Request e) ids = []
 asked_before e ids = ids
 
 module _ (settings : Settings) (columns : List Column) (gone : List Id) where
-  -- where a worker may stand, over a table that had these rows as it was started, and what was acknowledged so far, by it
-  -- and by those before it: at first it is new; in each round an answer brings it on, or the round fails; and at any time
-  -- it may crash. Then its table has what was committed, and maybe more, of which the keys are apart, and another worker
-  -- is started over it, which knows nothing else. What the server says was deleted is gone
+  -- where a worker may be, over a table that had these rows as it was started, and what was acknowledged so far, by
+  -- it and by those before it: at first it is new; in each round a reply brings it on, or the round fails; and at any
+  -- time it may crash. Then its table has what was committed, and perhaps more rows, all keys distinct, and another
+  -- worker is started over it, which knows nothing else. What the server reports as deleted is gone
   pub data Reaches : List Row → Standing Kept → List Id → List Id → Type 0 where
     begins : (first : List Row) → KeysApart first → Reaches first (newborn_with settings (columns, Some first)) [] []
     turns : (first : List Row) (w x : Standing Kept) (deleted more acknowledged : List Id) (old new : Link) (q : Asked)

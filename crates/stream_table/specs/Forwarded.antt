@@ -1,4 +1,4 @@
--- What is sent to another stream for an entry, and how it is answered.
+-- The command that forwards an entry to another stream, and its reply.
 use Rattle.std.specs.Prelude.{◌≡◌, ◌⊎◌, ℕ, Bool, true, false, List, [], ◌∷◌, Option, Some, Result, Ok, Err, codes, flat_map}
 use Rattle.std.specs.Prelude.{option_map, IfSome}
 use Rattle.std.specs.Str.{bytes_eq}
@@ -32,12 +32,12 @@ abbrev pub posted_in : List ℕ → List Column → Entry Pairs → Posted
 posted_in target columns e =
     (row_in columns e, (command_bytes (add_words target e), command_bytes (look_words target e.0)))
 
--- what a handler keeps that forwards: the rows as one does that forwards nothing
+-- what a handler that forwards keeps: the rows, as one that forwards nothing does
 abbrev pub forwarding_kept : List Column → List Posted → Option Stored → Kept
 forwarding_kept columns loose known =
     record { columns = columns; loose = rows_in loose; committed = rows_known known }
 
--- the server took the command: its answer is a value
+-- the server took the command: its reply is a value
 abbrev pub is_taken : wire.Answer → Bool
 is_taken (wire.value t) = true
 is_taken (wire.refused text) = false
@@ -69,7 +69,7 @@ shows_one (wire.refused text) = false
 shows_one (wire.group kind members) = false
 shows_one (wire.pushed kind payload) = false
 
--- these bytes went out, and then this answer came
+-- these bytes were sent, and then this reply came
 abbrev pub AsksBy : List ℕ → wire.Answer → Link → Link → Type 0
 AsksBy bytes a old new = (m : Link) × Sends old m bytes × ReceivesAnswer m new a
 
@@ -79,13 +79,13 @@ IsAdded p old new = (a : wire.Answer) × ((AsksBy p.command a old new × (is_tak
     ⊎ ((m : Link) × (b : wire.Answer) × AsksBy p.command a old m × (is_too_small a ≡ true) × AsksBy p.question b m new
     × (shows_one b ≡ true)))
 
--- posts went out over a connection, each the first one that was left then, and each was answered so and then removed
+-- posts were sent over a connection, each the first one that was left; each got such a reply and was then removed
 pub data Went : Link → Option Stored → Link → Option Stored → Type 0 where
   none : (l : Link) (s : Option Stored) → Went l s l s
   more : (l m n : Link) (s t : Option Stored) (p : Post) → Went l s m t → IfSome t (λ u. IsFirst (Some p) u.posts)
       → IsAdded p m n → Went l s n (option_map (λ u. without_post u p.key) t)
 
--- all posts went so; or some did, and then something failed
+-- all posts were sent so; or some were, and then something failed
 abbrev pub HasSent : {A : Type 0} → Result A SendError → Link → Option Stored → Link → Option Stored → Type 0
 HasSent (Ok x) old s new t = Went old s new t × IfSome t (λ u. u.posts ≡ [])
 HasSent (Err e) old s new t = (m : Link) × Went old s m t

@@ -48,7 +48,7 @@ kept_too k e stop = k
 abbrev pub committed_with : Kept → Kept
 committed_with k = record k { loose = []; committed = with_known k.loose k.committed }
 
--- what there is as a handler begins: its columns, and the rows of its table, where they are known
+-- what there is as a handler begins: its columns, and the rows of its table, if they are known
 abbrev pub Beginning : Type 0
 Beginning = List Column × Option (List Row)
 

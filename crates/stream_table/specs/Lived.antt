@@ -16,8 +16,8 @@ use Rattle.stream_worker.specs.declared.state.Settings.{Settings}
 use Rattle.stream_worker.specs.declared.worker.Progress.TheVariants.{GoesOn, Stopped}
 use Rattle.stream_table.specs.Kept.{Beginning, Kept, committed_with, kept_of, kept_too}
 
--- it stands so in its life, with these ids of deleted entries, if its handler did something of which the rows are what
--- is gathered, and what is committed after what was there first
+-- it is so in its life, with these ids of deleted entries, if its handler has done something, whose rows are those
+-- that it gathered and those that it committed after the first rows
 pub record LivesSo (settings : Settings) (first : Beginning) (w : Standing Kept) (deleted : List Id) : Type 0 where
   pub doings : Doings
   pub lives : Lives settings (with_doings w doings) deleted
@@ -36,8 +36,8 @@ newborn_with settings first = record {
 abbrev pub Leads : Way → Link → Link → Standing Kept → Standing Kept → Type 0
 Leads way old new w x = loops.Leads kept_of way old new w x
 
--- the law: so a worker begins; each round is such a way; and where it lives at first it lives after such rounds, where
--- just those entries were deleted meanwhile of which the replies in these rounds said so
+-- the law: so a worker begins; each round is such a way; and if it lives at first, it lives after such rounds, with
+-- just those entries deleted meanwhile that the replies in these rounds reported
 pub record RoundsAreLived : Type 0 where
   pub begins : (settings : Settings) (first : Beginning) → LivesSo settings first (newborn_with settings first) []
   pub goes_on : (settings : Settings) (old new : Link) (w x : Standing Kept) (asked : Asked)

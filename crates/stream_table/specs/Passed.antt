@@ -1,4 +1,4 @@
--- What is acknowledged is a row, and went on or will.
+-- What is acknowledged is a row, and was or will be forwarded.
 use Rattle.std.specs.Prelude.{◌≡◌, ◌⊎◌, List, Some}
 use Rattle.row_table.specs.declared.cell.Column.{Column}
 use Rattle.row_table.specs.Posts.{Stored}
@@ -11,9 +11,9 @@ use Rattle.stream_worker.specs.declared.state.Settings.{Settings}
 use Rattle.stream_table.specs.Acknowledged.{IsThere, Reaches}
 use Rattle.stream_table.specs.Kept.{Kept, key_in}
 
--- the law: a worker that forwards stands so after some schedule, and its table has what it has after a schedule of
--- transactions and answers. Then each id that was acknowledged is a row, which was there first, or whose post is there or
--- was answered; or the server said that it was deleted
+-- the law: a worker that forwards is so after some schedule, and its table has what it has after a schedule of
+-- transactions and replies. Then each id that was acknowledged is a row, which was there first, or whose post is
+-- there or got a reply; or the server said that it was deleted
 abbrev pub AcknowledgedIsPassedOn : Type 0
 AcknowledgedIsPassedOn = (settings : Settings) (columns : List Column) (gone : List Id) (began : List Row)
     (w : Standing Kept) (deleted acknowledged : List Id) (first s : Stored) (done : List Key)

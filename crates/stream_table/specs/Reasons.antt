@@ -16,7 +16,7 @@ use Rattle.stream_table.specs.declared.handler.Fault.TheVariants as faults
 use Rattle.stream_table.specs.declared.columns.ReadError.{ReadError}
 use Rattle.stream_table.specs.declared.columns.ReadError.TheVariants as reading
 
--- memory ran out, or it is what the reading says
+-- memory ran out, or it is the error of the reading
 abbrev pub IsWhy : Result Cell FieldError → ReadError → Type 0
 IsWhy read reading.Memory = Unit {0}
 IsWhy read (reading.Field why) = read ≡ Err why

@@ -58,7 +58,7 @@ impl<T: Drop> From<AllocFailed<T>> for CellsError {
     }
 }
 
-/// The values of an entry: if there are no columns, one text of all fields, and else one in each column.
+/// The values of an entry: one in each column, or one text of all fields if there are no columns.
 pub fn entry_cells(
     alloc: Global,
     columns: &[Column],
@@ -76,7 +76,7 @@ pub fn entry_cells(
     Ok(cells)
 }
 
-/// A value in each column.
+/// Appends a value for each column.
 fn push_cells(
     alloc: Global,
     cells: &mut Vec<Cell>,
@@ -105,7 +105,7 @@ fn column_cell(alloc: Global, column: &Column, entry: &EntryRef<'_>) -> Result<C
     }
 }
 
-/// The value in this column, if it has one; a field that is missing is none, if the column may have none.
+/// The value in this column, if it has one; a missing field is null, if the column is optional.
 fn read_cell(alloc: Global, column: &Column, entry: &EntryRef<'_>) -> Result<Cell, ReadError>
     ensures ok { IfOk result (λ cell. cell_read column.now (pairs_or_none entry.now.fields) ≡ Ok (cell_of cell)) }
     ensures err { IfErr result (IsWhy (cell_read column.now (pairs_or_none entry.now.fields))) }

@@ -1,4 +1,4 @@
-//! The fields of an entry as a text of JSON.
+//! The fields of an entry as JSON text.
 ghost use Rattle.std.specs.Prelude.{◌≡◌, ◌++◌, ◌∷◌, [], IfOk, OnOk, codes, flat_map};
 ghost use Rattle.json.specs.Print.{print};
 ghost use Rattle.json.specs.Token.{begin_array, begin_object, end_object, end_array, key, string};
@@ -21,7 +21,7 @@ pub fn fields_text(alloc: Global, fields: FieldsRef<'_>) -> Result<Vec<u8>, Allo
     Ok(out.into_inner())
 }
 
-/// Fields, in order.
+/// Appends the fields, in order.
 fn push_fields(alloc: Global, out: &mut Writer, fields: FieldsRef<'_>) -> Result<(), AllocError>
     ensures before { out.new.before ≡ out.old.before }
     ensures tokens { OnOk result (out.new.tokens ≡ out.old.tokens ++ flat_map field_tokens fields.entry) }
@@ -32,7 +32,7 @@ fn push_fields(alloc: Global, out: &mut Writer, fields: FieldsRef<'_>) -> Result
     Ok(())
 }
 
-/// A name and its value, as an array of two.
+/// Appends a name and its value, as an array of two.
 fn push_field(alloc: Global, out: &mut Writer, name: &[u8], value: &[u8]) -> Result<(), AllocError>
     ensures before { out.new.before ≡ out.old.before }
     ensures tokens { OnOk result (out.new.tokens ≡ out.old.tokens ++ field_tokens (name.now, value.now)) }
@@ -43,7 +43,7 @@ fn push_field(alloc: Global, out: &mut Writer, name: &[u8], value: &[u8]) -> Res
     out.end_array()
 }
 
-/// A text as a string, or, if it is not UTF-8, as an object of its Base64.
+/// Appends a text as a string, or, if it is not UTF-8, as an object of its Base64.
 fn push_text(alloc: Global, out: &mut Writer, bytes: &[u8]) -> Result<(), AllocError>
     ensures before { out.new.before ≡ out.old.before }
     ensures tokens { OnOk result (out.new.tokens ≡ out.old.tokens ++ bytes_tokens bytes.now) }
@@ -54,7 +54,7 @@ fn push_text(alloc: Global, out: &mut Writer, bytes: &[u8]) -> Result<(), AllocE
     }
 }
 
-/// Bytes as an object of their Base64.
+/// Appends bytes as an object of their Base64.
 fn push_base64(alloc: Global, out: &mut Writer, bytes: &[u8]) -> Result<(), AllocError>
     ensures before { out.new.before ≡ out.old.before }
     ensures tokens { OnOk result (out.new.tokens ≡ out.old.tokens ++ base64_tokens bytes.now) }
@@ -63,7 +63,7 @@ fn push_base64(alloc: Global, out: &mut Writer, bytes: &[u8]) -> Result<(), Allo
     push_object(out, "base64", &text)
 }
 
-/// An object of one name and its text.
+/// Appends an object of one name and its text.
 fn push_object(out: &mut Writer, name: &str, text: &str) -> Result<(), AllocError>
     ensures before { out.new.before ≡ out.old.before }
     ensures tokens { OnOk result (out.new.tokens

@@ -1,4 +1,4 @@
-//! Entries as rows of a table, which are sent to another stream too.
+//! Entries as rows of a table that are also sent to another stream.
 ghost use Rattle.std.specs.Prelude.{◌≡◌, ◌↔◌, IsTrue, ◌++◌, ◌∷◌, ◌⊎◌, [], ◌+◌, ◌-◌, ◌^◌, false, min, true, IfErr, IfSome, IsSomeAnd, OnErr, OnOk, string_bytes};
 ghost use Rattle.row_table.specs.OfPost.{all_posted};
 ghost use Rattle.row_table.specs.Posts.{rows_in, rows_known, with_known_posted};
@@ -18,26 +18,26 @@ use std::alloc::Global;
 use std::io::{Read, Write};
 use stream_worker::{EntryRef, Handler, NotCommitted, Verdict};
 
-/// A handler whose entries are rows of a table, as those of `Rows` are, and go on to another stream: each is added
-/// there under its own id, with its own fields, after it was committed.
+/// A handler that stores entries as rows of a table, as `Rows` does, and forwards them: each is added to
+/// another stream under its own id, with its own fields, after it was committed.
 #[derive(Drop)]
 pub struct Forwarding<T: WithOutbox + Drop> {
     table: T,
     /// The columns of its rows; if there are none, a row has one text of all fields.
     columns: Vec<Column>,
-    /// The key of the stream that they go on to.
+    /// The key of the stream that they are forwarded to.
     target: String,
-    /// The rows of what was done and is not committed.
+    /// The rows of the entries that are done and not committed.
     loose: Vec<PostedRow>,
-    /// An entry that is no row is left pending, and the worker goes on.
+    /// Whether an entry that is no row is left pending, and the worker goes on.
     leaves_unfit: bool,
-    /// How many entries were handed out, how many were done, and how many of them are committed.
+    /// How many entries were delivered, how many were done, and how many of them are committed.
     pub seen: u64,
     pub done: u64,
     pub committed: u64,
     /// How many were left pending.
     pub left: u64,
-    /// How many were sent on and answered.
+    /// How many were forwarded, with a reply.
     pub sent: u64,
     /// Why it stopped, left an entry pending last, or did not commit.
     pub fault: Option<Fault>,
@@ -46,8 +46,8 @@ pub struct Forwarding<T: WithOutbox + Drop> {
 }
 
 impl<T: WithOutbox + Drop> Forwarding<T> {
-    /// A handler over this table, which has gathered nothing. Its rows have a value in each of these columns, or, if
-    /// there are none, one text of all fields. They go on to the stream `target`.
+    /// A handler over this tablewith no rows yet. Its rows have a value in each of these columns, or, if there
+    /// are none, one text of all fields. They are forwarded to the stream `target`.
     pub fn new(alloc: Global, table: T, columns: Vec<Column>, target: String) -> Forwarding<T>
         ensures { (result.table ≡ table) × (result.columns ≡ columns) × (result.target ≡ target)
             × (result.loose.items ≡ []) × (result.seen ≡ 0) × (result.done ≡ 0) × (result.committed ≡ 0)
@@ -70,7 +70,7 @@ impl<T: WithOutbox + Drop> Forwarding<T> {
         }
     }
 
-    /// The stream that they go on to.
+    /// The stream that they are forwarded to.
     pub fn target(&self) -> &str
         ensures { result.now ≡ string_bytes self.now.target }
     {
@@ -98,7 +98,7 @@ impl<T: WithOutbox + Drop> Forwarding<T> {
         self.table
     }
 
-    /// Sends on what is committed and was not answered, as `send_posts` does.
+    /// Forwards what is committed and has no reply yet, as `send_posts` does.
     pub fn send<R: Read + Drop, W: Write + Drop>(
         &mut self,
         alloc: Global,
@@ -118,7 +118,7 @@ impl<T: WithOutbox + Drop> Forwarding<T> {
         send_posts(alloc, &mut self.table, connection, &mut self.sent)
     }
 
-    /// Gathers the row of an entry, and what is sent for it.
+    /// Adds the row of an entry, and what is sent for it.
     fn gather(&mut self, alloc: Global, entry: &EntryRef<'_>) -> Result<(), Fault>
         ensures ok { OnOk result (all_posted self.new.loose.items ≡ all_posted self.old.loose.items
             ++ posted_in (string_bytes self.old.target) self.old.columns.items (pair_of entry.now) ∷ []) }
@@ -133,7 +133,7 @@ impl<T: WithOutbox + Drop> Forwarding<T> {
         let row = row_of_entry(alloc, &self.columns, entry)?;
         let posted = match posted_row(alloc, &self.target, row, entry) {
             Ok(posted) => posted,
-            Err(error) => return Err(unpacked(error)),
+            Err(error) => return Err(convert_pack_error(error)),
         };
         match self.loose.push(posted) {
             Ok(()) => Ok(()),
@@ -142,8 +142,8 @@ impl<T: WithOutbox + Drop> Forwarding<T> {
     }
 }
 
-/// The fault of an entry whose command is not made.
-fn unpacked(error: PackError) -> Fault
+/// The fault of an entry whose command could not be encoded.
+fn convert_pack_error(error: PackError) -> Fault
     ensures { is_unfit result ≡ false }
 {
     match error {
@@ -161,7 +161,8 @@ impl<T: WithOutbox + Drop> Handler for Forwarding<T> {
 
     ghost history = { λ h. forwarding_kept h.columns.items (all_posted h.loose.items) (T.committed h.table) };
 
-    /// Gathers the row of the entry and what is sent for it, which is done then; if it cannot, the worker stops.
+    /// Adds the row of the entry and what is sent for it, and returns that it is done; if it cannot, the worker
+    /// stops.
     fn handle(&mut self, alloc: Global, entry: &EntryRef<'_>) -> Verdict
         ensures posted { result ≡ Verdict.Done → all_posted self.new.loose.items ≡ all_posted self.old.loose.items
             ++ posted_in (string_bytes self.old.target) self.old.columns.items (pair_of entry.now) ∷ [] }
@@ -197,8 +198,8 @@ impl<T: WithOutbox + Drop> Handler for Forwarding<T> {
         }
     }
 
-    /// Puts in the rows that were gathered, with what is sent for them, as one transaction. After an `Err` the table
-    /// is as it was, and the next commit puts in these rows too.
+    /// Inserts the rows that were added, with what is sent for them, in one transaction. After an `Err` the
+    /// table is as it was, and the next commit inserts these rows too.
     fn commit(&mut self, alloc: Global) -> Result<(), NotCommitted>
         ensures posted { OnOk result (T.committed self.new.table
             ≡ with_known_posted (all_posted self.old.loose.items) (T.committed self.old.table)) }

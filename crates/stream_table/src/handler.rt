@@ -22,7 +22,7 @@ pub enum Fault {
     /// The id is not two numbers of 64 bits.
     #[error("an id is not two numbers")]
     NotAnId,
-    /// The table refuses.
+    /// The error of the table.
     #[error("{0}")]
     Table(TableError),
     /// The field of this name of this entry has no value for its column.
@@ -47,17 +47,17 @@ impl Fault {
     }
 }
 
-/// A handler whose entries are rows of a table.
+/// A handler that stores entries as rows of a table.
 #[derive(Drop)]
 pub struct Rows<T: Table + Drop> {
     table: T,
     /// The columns of its rows; if there are none, a row has one text of all fields.
     columns: Vec<Column>,
-    /// The rows of what was done and is not committed.
+    /// The rows of the entries that are done and not committed.
     loose: Vec<Row>,
-    /// An entry that is no row is left pending, and the worker goes on.
+    /// Whether an entry that is no row is left pending, and the worker goes on.
     leaves_unfit: bool,
-    /// How many entries were handed out, how many were done, and how many of them are committed.
+    /// How many entries were delivered, how many were done, and how many of them are committed.
     pub seen: u64,
     pub done: u64,
     pub committed: u64,
@@ -70,7 +70,7 @@ pub struct Rows<T: Table + Drop> {
 }
 
 impl<T: Table + Drop> Rows<T> {
-    /// A handler over this table, which has gathered nothing. A row has one text of all fields.
+    /// A handler over this tablewith no rows yet. A row has one text of all fields.
     pub fn new(alloc: Global, table: T) -> Rows<T>
         ensures { (result.table ≡ table) × (result.columns.items ≡ []) × (result.loose.items ≡ [])
             × (result.seen ≡ 0) × (result.done ≡ 0) × (result.committed ≡ 0)
@@ -121,7 +121,7 @@ impl<T: Table + Drop> Rows<T> {
         self.table
     }
 
-    /// Gathers the row of an entry.
+    /// Adds the row of an entry.
     fn gather(&mut self, alloc: Global, entry: &EntryRef<'_>) -> Result<(), Fault>
         ensures ok { OnOk result (rows_of self.new.loose.items
             ≡ rows_of self.old.loose.items ++ row_in self.old.columns.items (pair_of entry.now) ∷ []) }
@@ -148,7 +148,7 @@ impl<T: Table + Drop> Handler for Rows<T> {
 
     ghost history = { λ h. kept_by h.columns.items h.loose.items (T.committed h.table) };
 
-    /// Gathers the row of the entry, which is done then; if it cannot, the worker stops.
+    /// Adds the row of the entry, and returns that it is done; if it cannot, the worker stops.
     fn handle(&mut self, alloc: Global, entry: &EntryRef<'_>) -> Verdict
         ensures history { ⟦<Rows<T> as Handler>⟧.history self.new
             ≡ kept_too (⟦<Rows<T> as Handler>⟧.history self.old) (pair_of entry.now) (verdict_of result) }
@@ -181,9 +181,9 @@ impl<T: Table + Drop> Handler for Rows<T> {
         }
     }
 
-    /// Puts in the rows that were gathered, as one transaction. After an Ok each of them is in the table with
-    /// its own fields, and so it is in whatever a crash leaves; after an `Err` the table is as it was, and the
-    /// next commit puts in these rows too.
+    /// Inserts the rows that were added, in one transaction. After an Ok each of them is in the table with its
+    /// own fields, also after a crash. After an `Err` the table is as it was, and the next commit inserts these
+    /// rows too.
     fn commit(&mut self, alloc: Global) -> Result<(), NotCommitted>
         ensures there { OnOk result (AreKnown (rows_of self.old.loose.items) (T.committed self.new.table)) }
         ensures durable { OnOk result (LeavesJust (T.committed self.new.table) (T.may_leave self.new.table)) }

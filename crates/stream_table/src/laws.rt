@@ -12,22 +12,22 @@ pub fn gathers_its_rows()
 {}
 
 /// Each round over the rows is a round of a worker's life. In it some entries were done, and the rows of those
-/// that are not committed are what is gathered. Of deleted entries there are just those that replies in its
-/// rounds told. So the laws of `stream_worker` hold of it: before an id is
-/// acknowledged its entry was done and that was committed, or the server said that it was deleted.
+/// that are not committed are what is gathered. The deleted entries are just those that the replies in its
+/// rounds reported. So the laws of `stream_worker` hold of it: before an id is acknowledged its entry was done
+/// and that was committed, or the server said that it was deleted.
 pub fn rounds_are_lived()
     ensures { RoundsAreLived }
 {}
 
-/// Each id that was acknowledged is a row, or the server said that it was deleted, over every schedule of rounds,
-/// crashes and restarts. No id is a row twice. Nothing is supposed of what the server remembers.
+/// Each id that was acknowledged is a row, or the server said that it was deleted, over every schedule of
+/// rounds, crashes and restarts. No id is a row twice. It holds whatever the server remembers.
 pub fn acknowledged_is_a_row()
     ensures { AcknowledgedIsARow }
 {}
 
-/// Each id that was acknowledged by a worker that forwards is a row, and what is sent for it is in the outbox, or its
-/// command was answered, or the row was there before the outbox. This is over every schedule of rounds, commits,
-/// answers, crashes and restarts. Nothing is supposed of what the server remembers.
+/// Each id that was acknowledged by a worker that forwards is a row, and what is sent for it is in the outbox,
+/// or the reply to its command came, or the row was there before the outbox. This holds over every schedule of
+/// rounds, commits, replies, crashes and restarts. It holds whatever the server remembers.
 pub fn acknowledged_is_passed_on()
     ensures { AcknowledgedIsPassedOn }
 {}

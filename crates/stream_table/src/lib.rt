@@ -1,14 +1,15 @@
-//! A worker's handler whose entries are rows of a table.
+//! A worker's handler that stores entries as rows of a table.
 //!
 //! The key of a row is the id of its entry, two numbers. Its values are one text of all fields, as JSON, or, if
-//! columns are named, the fields of these names as texts, integers and bytes. A batch is one
-//! transaction of the table, and its entries are acknowledged after that was committed. An entry whose id is
-//! there already is left out if it has the same fields, and else it is an error. So each id is one row,
-//! whatever is delivered again, to whom and how often.
+//! columns are named, the fields of these names as texts, integers and bytes. A batch is one transaction of the
+//! table, and its entries are acknowledged after the commit. An entry whose id is there already is skipped if
+//! it has the same fields, and otherwise is an error. So each id is one row, whatever is redelivered, to whom
+//! and how often.
 //!
-//! `Forwarding` sends entries on to another stream too. What it sends is in an outbox beside the table, put in by the
-//! transaction of the row. After the commit `send_posts` adds each under its own id, and then removes it. So a crash
-//! loses none, and a command that is sent again is refused for its id.
+//! `Forwarding` also forwards entries to another stream. What it sends is in an outbox beside the table,
+//! inserted in the transaction of the row. After the commit `send_posts` adds each under its own id, and then
+//! removes it from the outbox. So a crash loses none, and a command that is sent again is refused because of
+//! its id.
 #![tactic(auto)]
 
 mod columns;

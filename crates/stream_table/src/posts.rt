@@ -1,4 +1,4 @@
-//! What is sent to another stream for an entry.
+//! The command that forwards an entry to another stream.
 ghost use Rattle.std.specs.Prelude.{◌≡◌, ◌++◌, ◌∷◌, [], IfOk, OnOk, flat_map};
 ghost use Rattle.redis_wire.specs.Packed.{command_bytes};
 ghost use Rattle.row_table.specs.OfPost.{posted_of};
@@ -12,7 +12,7 @@ use std::alloc::{AllocError, Global};
 use stream_in_place::FieldsRef;
 use stream_worker::EntryRef;
 
-/// The row of an entry, with what is sent to this stream for it.
+/// The row of an entry, with the command that forwards it to this stream.
 pub fn posted_row(
     alloc: Global,
     target: &str,
@@ -45,7 +45,7 @@ fn add_command(alloc: Global, target: &str, entry: &EntryRef<'_>) -> Result<Vec<
     pack_command(alloc, &("XADD", target, entry.id(), fields.as_slice()))
 }
 
-/// Names and values in turn.
+/// Appends the names and values in turn.
 fn push_fields<'a>(out: &mut Vec<&'a [u8]>, fields: FieldsRef<'a>) -> Result<(), AllocError>
     ensures { OnOk result (flat_map (λ word. word.now ∷ []) out.new.items
         ≡ flat_map (λ word. word.now ∷ []) out.old.items ++ field_words fields.entry) }

@@ -1,4 +1,4 @@
-//! What is queued for another stream, on its way there.
+//! Sending what is queued for another stream.
 ghost use Rattle.std.specs.Prelude.{◌≡◌, ◌⊎◌, ℕ, List, false, true, IfOk, IfSome, OnErr, OnOk, string_bytes};
 ghost use Rattle.redis_resp.specs.Value.{tree};
 ghost use Rattle.redis_wire.specs.Packed.{command_bytes};
@@ -15,22 +15,23 @@ use std::alloc::Global;
 use std::io::{Read, Write};
 use thiserror::Error;
 
-/// What `XADD` answers where the id is not above the last one.
+/// The error of `XADD` if the id is not above the last one.
 const TOO_SMALL: &[u8] =
     b"ERR The ID specified in XADD is equal or smaller than the target stream top item";
 
-/// Why not all that is queued was sent. What was answered before is removed, but after `Table`: then nothing is.
+/// Why not all that is queued was sent. Commands that got a reply before are removed, except after `Table`:
+/// then none is.
 #[derive(Debug, Drop, Error)]
 pub enum SendError {
-    /// The table refuses.
+    /// The error of the table.
     #[error("{0}")]
     Table(TableError),
-    /// The post of this key stays queued, and each one behind it.
+    /// The post of this key stays queued, and each one after it.
     #[error("{first}-{second}: {error}")]
     Post {
         first: u64,
         second: u64,
-        /// The stream to which its command goes, if there was memory to read it.
+        /// The stream to which its command adds, if there was memory to read it.
         target: Option<String>,
         error: PostError,
     },
@@ -45,7 +46,7 @@ pub enum PostError {
     /// The server refused the command.
     #[error("the server answers {0}")]
     Refused(ServerError),
-    /// The reply is none of the command.
+    /// The reply does not fit the command.
     #[error("no answer of a command")]
     NotAnAnswer,
     /// The id is not above the last one of the target, and no entry there has it.
@@ -63,11 +64,11 @@ impl From<ConnectionError> for PostError {
     }
 }
 
-/// Sends what is queued, in the order of keys, one command after the other, and removes what was answered. A
-/// command whose id is not above the last one counts as answered if an entry of this id is there.
+/// Sends what is queued, in the order of keys, one command after the other, and removes each after its reply. A
+/// command whose id is not above the last one counts as executed if an entry of this id is there.
 ///
-/// All of it is one transaction. If the table refuses, it is taken back, and what was answered is sent again. After
-/// any other `Err` what was answered before is removed. `sent` counts the answers.
+/// All of it is one transaction. If the table returns an error, it is rolled back, and all of it is sent again.
+/// After any other `Err` the commands that got a reply before are removed. `sent` counts the replies.
 pub fn send_posts<T: WithOutbox, R: Read + Drop, W: Write + Drop>(
     alloc: Global,
     table: &mut T,
@@ -89,7 +90,7 @@ pub fn send_posts<T: WithOutbox, R: Read + Drop, W: Write + Drop>(
     }
 }
 
-/// Sends what is queued and commits: how the sending ended. An `Err` leaves the transaction as it is.
+/// Sends what is queued and commits, and returns how the sending ended. An `Err` leaves the transaction open.
 fn send_and_commit<T: WithOutbox, R: Read + Drop, W: Write + Drop>(
     alloc: Global,
     table: &mut T,
@@ -107,7 +108,7 @@ fn send_and_commit<T: WithOutbox, R: Read + Drop, W: Write + Drop>(
     Ok(ended)
 }
 
-/// Sends posts until there is none: how it ended.
+/// Sends posts until there is none, and returns how it ended.
 fn send_each<T: WithOutbox, R: Read + Drop, W: Write + Drop>(
     alloc: Global,
     table: &mut T,
@@ -137,8 +138,8 @@ fn send_each<T: WithOutbox, R: Read + Drop, W: Write + Drop>(
     Err(TableError::Refused("too many posts"))
 }
 
-/// The stream to which the command of a post goes: that of its question, if this is `XRANGE target id id`, made of the
-/// id of the post. None also if memory runs out.
+/// The stream to which the command of a post adds: that of its question, if this is `XRANGE target id id`, made
+/// of the id of the post. None also if memory runs out.
 pub fn target_of(alloc: Global, post: &Post) -> Option<String>
     ensures { IfSome result (λ target. (id : List ℕ) × ((post_of post.now).question
         ≡ command_bytes (look_words (string_bytes target) id))) }
@@ -156,7 +157,7 @@ pub fn target_of(alloc: Global, post: &Post) -> Option<String>
     String::from_str(alloc, target).ok()
 }
 
-/// Sends a post: the server takes its command, or an entry of its id is there.
+/// Sends a post. Ok if the server executes its command, or an entry of its id is there.
 fn send_post<R: Read + Drop, W: Write + Drop>(
     alloc: Global,
     connection: &mut Connection<R, W>,
@@ -171,7 +172,7 @@ fn send_post<R: Read + Drop, W: Write + Drop>(
     Ok(())
 }
 
-/// Whether the reply says that the id is not above the last one; else it says that the command was taken.
+/// Whether the reply is the error that the id is not above the last one; otherwise the command was executed.
 fn is_too_small(reply: Reply) -> Result<bool, PostError>
     ensures small { IfOk result (λ small. small ≡ true → is_too_small (answer reply) ≡ true) }
     ensures taken { IfOk result (λ small. small ≡ false → is_taken (answer reply) ≡ true) }
@@ -188,7 +189,7 @@ fn is_too_small(reply: Reply) -> Result<bool, PostError>
     }
 }
 
-/// Asks whether an entry of the id of this post is there.
+/// Whether the stream has an entry with the id of this post: one `XRANGE`.
 fn find_entry<R: Read + Drop, W: Write + Drop>(
     alloc: Global,
     connection: &mut Connection<R, W>,
@@ -225,7 +226,7 @@ fn has_entry(value: Value) -> Result<bool, PostError>
     }
 }
 
-/// Sends these bytes, and takes an answer.
+/// Sends these bytes, and receives a reply.
 fn ask<R: Read + Drop, W: Write + Drop>(
     alloc: Global,
     connection: &mut Connection<R, W>,

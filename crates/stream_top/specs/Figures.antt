@@ -1,4 +1,4 @@
--- What is measured of a stream, by what XINFO STREAM FULL tells of it and the time of the server's clock.
+-- The figures of a stream, by the reply to XINFO STREAM FULL and the time of the server's clock.
 use Rattle.std.specs.Prelude.{ℕ, ◌-◌, ◌==◌, Bool, List, [], ◌∷◌, Option, None, map, fold, max, string_bytes}
 use Rattle.std.specs.Prelude.{option_and_then, option_map, if◌then◌else◌, nat_lt, length}
 use Rattle.std.specs.List.{before_first, position_or_len}
@@ -8,7 +8,7 @@ use Rattle.stream_top.specs.declared.figures.ConsumerFigures.{ConsumerFigures}
 use Rattle.stream_top.specs.declared.figures.GroupFigures.{GroupFigures}
 use Rattle.stream_top.specs.declared.figures.StreamFigures.{StreamFigures}
 
--- a consumer: what is pending for it, and for how long it was not seen
+-- a consumer: how many entries are pending for it, and for how long it was not seen
 pub record Consumer : Type 0 where
   pub name : List ℕ
   pub pending : ℕ
@@ -48,7 +48,7 @@ abbrev pub age_in : ℕ → List FullPending → Option ℕ
 age_in now [] = None
 age_in now (p ∷ ps) = option_map (λ time. now - time) (time_in p.id)
 
--- how often the entry that was delivered most often was delivered
+-- the largest delivery count of these entries
 abbrev pub most_in : List FullPending → ℕ
 most_in pending = fold (λ most p. max most p.times_delivered) 0 pending
 

@@ -21,7 +21,7 @@ name_text MaxDeliveries = codes "redis_stream_group_max_deliveries"
 name_text ConsumerPending = codes "redis_stream_consumer_pending"
 name_text ConsumerIdle = codes "redis_stream_consumer_idle_seconds"
 
--- a blank, the text for people, and the end of the line
+-- a space, the text for people, and the end of the line
 abbrev pub help_text : Metric → List ℕ
 help_text Length = codes " Entries in the stream.\n"
 help_text LastGenerated = codes " Time in the id that was generated last.\n"

@@ -18,7 +18,7 @@ pub struct StreamFigures {
     pub key: String,
     /// How many entries it has.
     pub length: usize,
-    /// The id that was given out last; empty if there is no such stream.
+    /// The last generated id; empty if there is no such stream.
     pub last_id: String,
     /// The milliseconds of that id.
     pub last_time: Option<usize>,
@@ -31,7 +31,7 @@ pub struct StreamFigures {
 pub struct GroupFigures {
     /// Its name.
     pub name: String,
-    /// How many entries it has still to read, if the server can tell.
+    /// How many entries it has still to read, if the server knows.
     pub lag: Option<usize>,
     /// How many entries are pending.
     pub pending: usize,
@@ -41,7 +41,7 @@ pub struct GroupFigures {
     pub last_time: Option<usize>,
     /// The milliseconds since the time in the first pending entry's id; None if none is pending.
     pub oldest_pending: Option<usize>,
-    /// How often the pending entry that was delivered most often was delivered; 0 if none is pending.
+    /// The largest delivery count of the pending entries; 0 if none is pending.
     pub deliveries: usize,
     /// The figures of its consumers.
     pub consumers: Vec<ConsumerFigures>,
@@ -132,7 +132,7 @@ fn consumers_of(
     Ok(list)
 }
 
-/// How often the entry that was delivered most often was delivered, and 0 if there is none.
+/// The largest delivery count of these entries, and 0 if there is none.
 fn most_deliveries(pending: &[StreamInfoFullPending]) -> usize
     ensures { result ≡ most_in (map full_pending_meaning pending.now) }
 {
@@ -161,7 +161,7 @@ fn time_of(id: &str) -> Option<usize>
     number_of(time)
 }
 
-/// The number that a text is, if it fits 64 bits.
+/// The number of a text, if it fits 64 bits.
 fn number_of(text: &str) -> Option<usize>
     ensures { result ≡ option_and_then (within 64) (unsigned_of text.now) }
 {

@@ -1,4 +1,4 @@
-//! Figures of streams as a document of JSON.
+//! Figures of streams as a JSON document.
 ghost use Rattle.std.specs.Prelude.{◌≡◌, ◌++◌, ◌∷◌, [], IfOk, OnOk, flat_map};
 ghost use Rattle.json.specs.Print.{print};
 ghost use Rattle.json.specs.Token.{key, null};
@@ -20,7 +20,7 @@ pub fn json_text(alloc: Global, streams: &[StreamFigures]) -> Result<Vec<u8>, Al
     Ok(out.into_inner())
 }
 
-/// The object of all streams.
+/// Appends the object of all streams.
 fn push_document(out: &mut Writer, streams: &[StreamFigures]) -> Result<(), AllocError>
     ensures before { out.new.before ≡ out.old.before }
     ensures tokens { OnOk result (out.new.tokens ≡ out.old.tokens ++ document_tokens streams.now) }
@@ -31,7 +31,7 @@ fn push_document(out: &mut Writer, streams: &[StreamFigures]) -> Result<(), Allo
     end_list(out)
 }
 
-/// Streams, in order.
+/// Appends the streams, in order.
 fn push_streams(out: &mut Writer, streams: &[StreamFigures]) -> Result<(), AllocError>
     ensures before { out.new.before ≡ out.old.before }
     ensures tokens { OnOk result (out.new.tokens ≡ out.old.tokens ++ flat_map stream_tokens streams.now) }
@@ -65,7 +65,7 @@ fn push_group_list(out: &mut Writer, groups: &[GroupFigures]) -> Result<(), Allo
     end_list(out)
 }
 
-/// Groups, in order.
+/// Appends the groups, in order.
 fn push_groups(out: &mut Writer, groups: &[GroupFigures]) -> Result<(), AllocError>
     ensures before { out.new.before ≡ out.old.before }
     ensures tokens { OnOk result (out.new.tokens ≡ out.old.tokens ++ flat_map group_tokens groups.now) }
@@ -110,7 +110,7 @@ fn push_backlog(out: &mut Writer, group: &GroupFigures) -> Result<(), AllocError
     push_count(out, "max_deliveries", group.deliveries)
 }
 
-/// Consumers, in order.
+/// Appends the consumers, in order.
 fn push_consumers(out: &mut Writer, consumers: &[ConsumerFigures]) -> Result<(), AllocError>
     ensures before { out.new.before ≡ out.old.before }
     ensures tokens { OnOk result (out.new.tokens

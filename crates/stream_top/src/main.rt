@@ -5,16 +5,14 @@
 //! bash -c 'exec 3<>/dev/tcp/127.0.0.1/6379; stream_top orders 60 <&3 >&3'
 //! ```
 //!
-//! It prints a table as often as the second word says, one a second and one more as soon as an
-//! entry comes: between two tables it waits in `XREAD BLOCK 1000`. Times are those of the server's
-//! clock. In a name a control character is shown as `?`, a byte that is no UTF-8 as `\xff`, and a
-//! backslash as `\\`. It ends with 0, or with 1 if the connection ends, the server returns an error
-//! or memory runs out.
+//! The second argument is the number of tables. It prints one a second and one more as soon as an entry comes:
+//! between two tables it waits in `XREAD BLOCK 1000`. Times are those of the server's clock. In a name a
+//! control character is shown as `?`, a byte that is no UTF-8 as `\xff`, and a backslash as `\\`. It ends with
+//! 0, or with 1 if the connection ends, the server returns an error or memory runs out.
 //!
-//! With `--json` and one key or more it prints one document of JSON, and with `--openmetrics` a text
-//! of OpenMetrics, on standard error too. A key that does not exist is a stream with no entries. It
-//! prints all of it or, with status 1, only the reason. If a word is wrong, it ends with 2. `--help`
-//! tells its words.
+//! With `--json` and one key or more it prints one document of JSON, and with `--openmetrics` a text of
+//! OpenMetrics, on standard error too. A key that does not exist is a stream with no entries. It prints all of
+//! it or, with status 1, only the reason. For a wrong argument it ends with 2. `--help` lists its arguments.
 #![tactic(auto)]
 
 mod figures;
@@ -42,13 +40,13 @@ use stream_monitor::group_state::{GroupState, group_state};
 use stream_options::StreamReadOptions;
 use unicode_width::UnicodeWidthStr;
 
-/// At most so many pending entries of a group are looked at.
+/// At most how many pending entries of a group are read.
 const COUNT: usize = 100;
 
-/// So many milliseconds lie between two tables.
+/// The milliseconds between two tables.
 const WAIT: usize = 1000;
 
-/// The stream if there is one, and the server's time in milliseconds.
+/// Requests the stream, if there is one, and the server's time in milliseconds.
 fn ask<R: Read + Drop, W: Write + Drop>(
     alloc: Global,
     connection: &mut Connection<R, W>,
@@ -90,7 +88,7 @@ fn main(rt: HostRuntime) -> Result<ExitCode> {
     }
 }
 
-/// Does a task over standard input and output.
+/// Runs a task over standard input and output.
 fn run(rt: &HostRuntime, task: &Task) -> Result<ExitCode> {
     let alloc = rt.alloc();
     let mut connection = Connection::new(alloc, rt.reader(), io::writer(rt), Limits::default())?;
@@ -104,7 +102,7 @@ fn run(rt: &HostRuntime, task: &Task) -> Result<ExitCode> {
     Ok(ExitCode::SUCCESS)
 }
 
-/// Shows the table of a stream so often.
+/// Prints the table of a stream `rounds` times.
 fn show_rounds<R: Read + Drop, W: Write + Drop>(
     rt: &HostRuntime,
     connection: &mut Connection<R, W>,
@@ -117,7 +115,7 @@ fn show_rounds<R: Read + Drop, W: Write + Drop>(
         let Some(stream) = found else {
             return Err(anyhow!("the server answers {NO_SUCH_KEY}"));
         };
-        let text = page(alloc, &key.name, &stream, now)?;
+        let text = format_page(alloc, &key.name, &stream, now)?;
         eprint!(rt; "{text}")?;
         if round + 1 < rounds {
             wait(alloc, connection, &key.bytes, &stream.last_generated_id)?;
@@ -189,7 +187,7 @@ fn measure_one<R: Read + Drop, W: Write + Drop>(
     Ok(figures_of(alloc, &key.name, &stream, now)?)
 }
 
-/// The words that the program is called with.
+/// The arguments of the program.
 fn words_of<E: Env>(alloc: Global, rt: &E) -> Result<Vec<RawBytes>> {
     let mut words = Vec::new(alloc);
     for number in 1..usize::MAX {
@@ -201,10 +199,10 @@ fn words_of<E: Env>(alloc: Global, rt: &E) -> Result<Vec<RawBytes>> {
     Ok(words)
 }
 
-/// A word that the program is called with has no more bytes.
+/// The largest length of an argument in bytes.
 const LONGEST: usize = 131_072;
 
-/// The word of this number that the program is called with, which is any bytes.
+/// The argument of this number, as bytes.
 fn word_at<E: Env>(alloc: Global, rt: &E, number: usize) -> Result<Option<Vec<u8>>> {
     let mut word = vec![in alloc; 0u8; LONGEST]?;
     match rt.arg(number, &mut word) {
@@ -217,7 +215,7 @@ fn word_at<E: Env>(alloc: Global, rt: &E, number: usize) -> Result<Option<Vec<u8
     }
 }
 
-/// The record of the next reply.
+/// Receives the next reply as a record.
 fn receive_as<M: FromRedisValue, R: Read + Drop, W: Write + Drop>(
     alloc: Global,
     connection: &mut Connection<R, W>,
@@ -226,7 +224,7 @@ fn receive_as<M: FromRedisValue, R: Read + Drop, W: Write + Drop>(
     Ok(from_reply::<M>(alloc, reply)?)
 }
 
-/// The next reply, that to a command on a key; None if the server says that there is no such key.
+/// Receives the next reply, that to a command on a key; None if there is no such key.
 fn receive_of_key<R: Read + Drop, W: Write + Drop>(
     alloc: Global,
     connection: &mut Connection<R, W>,
@@ -248,10 +246,10 @@ fn is_no_such_key(reply: &Reply) -> bool {
     }
 }
 
-/// An entry that was delivered more than so many times was delivered too often.
+/// An entry that was delivered more than this many times was delivered too often.
 const TIMES: usize = 3;
 
-/// A consumer that has entries pending is dead once it has not been seen for so many milliseconds.
+/// A consumer that has entries pending is dead once it has not been seen for this many milliseconds.
 const SILENT: usize = 60_000;
 
 /// The columns, and on which side the texts of each are.
@@ -266,13 +264,13 @@ const COLUMNS: [(&str, Side); 8] = [
     ("SEEN", Side::Left),
 ];
 
-/// So many columns tell of a group, and so many of one of its consumers.
+/// How many columns are of a group, and how many of one of its consumers.
 const OF_GROUP: usize = 5;
 
 const OF_CONSUMER: usize = 3;
 
 /// The page of a stream at a time of the server's clock, in milliseconds.
-fn page(
+fn format_page(
     alloc: Global,
     key: &str,
     stream: &StreamInfoFullReply,
@@ -285,13 +283,17 @@ fn page(
     for group in &stream.groups {
         push_group(alloc, &mut cells, group, now)?;
     }
-    let mut text = heading(alloc, key, stream)?;
+    let mut text = format_heading(alloc, key, stream)?;
     push_table(&mut text, &cells)?;
     Ok(text)
 }
 
-/// What a page says of the whole stream.
-fn heading(alloc: Global, key: &str, stream: &StreamInfoFullReply) -> Result<String, AllocError> {
+/// The heading of a page, about the whole stream.
+fn format_heading(
+    alloc: Global,
+    key: &str,
+    stream: &StreamInfoFullReply,
+) -> Result<String, AllocError> {
     let mut text = shown(alloc, key)?;
     write!(
         text,
@@ -324,7 +326,7 @@ fn push_group(
     Ok(())
 }
 
-/// Adds so many cells without a text.
+/// Adds `count` empty cells.
 fn push_empty(alloc: Global, cells: &mut Vec<String>, count: usize) -> Result<(), AllocError> {
     for _ in 0..count {
         cells.push(String::new(alloc))?;
@@ -346,7 +348,7 @@ fn push_state(
     })?;
     cells.push(number(alloc, state.pending)?)?;
     cells.push(match state.oldest_idle {
-        Some(idle) => age(alloc, idle)?,
+        Some(idle) => format_age(alloc, idle)?,
         None => String::from_str(alloc, "-")?,
     })?;
     cells.push(number(alloc, state.too_often.len())?)?;
@@ -363,7 +365,7 @@ fn push_consumer(
 ) -> Result<(), AllocError> {
     cells.push(shown(alloc, &consumer.name)?)?;
     cells.push(number(alloc, consumer.pending_count)?)?;
-    let mut seen = age(alloc, now.saturating_sub(consumer.seen_time))?;
+    let mut seen = format_age(alloc, now.saturating_sub(consumer.seen_time))?;
     seen.push_str(" ago")?;
     if is_among(&consumer.name, &state.dead) {
         seen.push_str(", dead")?;
@@ -385,8 +387,8 @@ fn number(alloc: Global, number: usize) -> Result<String, AllocError> {
     format!(in alloc; "{number}")
 }
 
-/// So many milliseconds as people say them.
-fn age(alloc: Global, milliseconds: usize) -> Result<String, AllocError> {
+/// Milliseconds as a short text, for people.
+fn format_age(alloc: Global, milliseconds: usize) -> Result<String, AllocError> {
     let seconds = milliseconds / 1000;
     if seconds < 60 {
         format!(in alloc; "{}.{}s", seconds, milliseconds % 1000 / 100)
@@ -421,7 +423,7 @@ enum Side {
     Right,
 }
 
-/// Appends so many blanks.
+/// Appends `count` spaces.
 fn push_blanks(line: &mut String, count: usize) -> Result<(), AllocError> {
     for _ in 0..count {
         line.push(' ')?;
@@ -429,7 +431,7 @@ fn push_blanks(line: &mut String, count: usize) -> Result<(), AllocError> {
     Ok(())
 }
 
-/// Appends a row: two blanks are between each two columns, and none at its end.
+/// Appends a row, with two spaces between columns and none at its end.
 fn push_row(line: &mut String, row: &[String], widths: &[usize]) -> Result<(), AllocError> {
     let mut blanks = 0usize;
     for ((cell, width), (_title, side)) in row.iter().zip(widths).zip(&COLUMNS) {
@@ -463,8 +465,8 @@ fn push_table(text: &mut String, cells: &[String]) -> Result<(), AllocError> {
     Ok(())
 }
 
-// Texts as they are read and shown: in bytes that are no UTF-8, each such byte is shown as `\xff`, and a backslash
-// as `\\`. So two names are never shown as one.
+// Texts as they are shown: each byte that is not UTF-8 as `\xff`, and a backslash as `\\`. So two names are
+// never shown as one.
 
 /// A copy of a value in which each text is UTF-8.
 #[cycle(legible)]

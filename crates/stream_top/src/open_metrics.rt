@@ -1,4 +1,4 @@
-//! Figures of streams as a text of OpenMetrics.
+//! Figures of streams in the OpenMetrics format.
 ghost use Rattle.std.specs.Prelude.{◌≡◌, ◌++◌, IfOk, OnOk, decimal, flat_map};
 ghost use Rattle.stream_top.specs.Metrics.{consumer_number, consumer_samples, group_number, group_samples};
 ghost use Rattle.stream_top.specs.Metrics.{head_text, help_text, is_time, label_byte, label_text, labelled};
@@ -235,7 +235,7 @@ fn push_label(out: &mut Vec<u8>, text: &[u8]) -> Result<(), AllocError>
     Ok(())
 }
 
-/// A byte of a label. The byte 0 is written as a text, so that no reader has to take it.
+/// A byte of a label. The byte 0 is written as a text, so that no reader has to accept it.
 fn push_label_byte(out: &mut Vec<u8>, byte: u8) -> Result<(), AllocError>
     ensures { OnOk result (out.new.items ≡ out.old.items ++ label_byte byte) }
 {
@@ -287,7 +287,7 @@ fn push_count(out: &mut Vec<u8>, count: usize) -> Result<(), AllocError>
     out.extend_from_slice(Buffer::new().format::<usize>(count).as_bytes())
 }
 
-/// So many milliseconds, in seconds with three digits after the point.
+/// Milliseconds, in seconds with three digits after the point.
 #[tactic(auto, unfolding(crate::specs::Metrics::seconds_text))]
 fn push_seconds(out: &mut Vec<u8>, milliseconds: usize) -> Result<(), AllocError>
     ensures { OnOk result (out.new.items ≡ out.old.items ++ seconds_text milliseconds) }

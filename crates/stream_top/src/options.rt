@@ -1,4 +1,4 @@
-//! The words that the program is called with.
+//! The arguments of the program.
 ghost use Rattle.std.specs.Prelude.{◌≡◌, ◌≤◌, length, IfOk};
 
 use crate::escaped;
@@ -11,7 +11,7 @@ use std::alloc::{AllocError, Global};
 /// What the program is to do.
 #[derive(Drop)]
 pub enum Task {
-    /// So many tables of a stream are shown.
+    /// Tables of a stream are printed, `rounds` times.
     Tables { key: Key, rounds: u32 },
     /// The figures of streams are printed once.
     Text { keys: Vec<Key>, form: Form },
@@ -25,7 +25,7 @@ pub struct Key {
     pub name: String,
 }
 
-/// In which form the figures are printed.
+/// The format of the figures.
 #[derive(Clone, Copy)]
 pub enum Form {
     Json,
@@ -41,14 +41,14 @@ const KEY: &str = "KEY";
 
 const ROUNDS: &str = "ROUNDS";
 
-/// What `--json` and `--openmetrics` are.
+/// The id of the group of `--json` and `--openmetrics`.
 const FORM: &str = "form";
 
 const JSON: &str = "json";
 
 const OPEN_METRICS: &str = "openmetrics";
 
-/// The task of these words.
+/// The task of these arguments.
 pub fn task_of(alloc: Global, words: &[RawBytes]) -> Result<Task, Error>
     ensures { IfOk result (λ _. 1 ≤ length words.now) }
 {
@@ -62,7 +62,7 @@ pub fn task_of(alloc: Global, words: &[RawBytes]) -> Result<Task, Error>
     Ok(Task::Text { keys, form })
 }
 
-/// The words as texts. Two words are never one text.
+/// The arguments as texts. Two arguments never have the same text.
 fn texts_of(alloc: Global, words: &[RawBytes]) -> Result<Vec<String>, AllocError>
     ensures { IfOk result (λ texts. length texts.items ≡ length words.now) }
 {
@@ -106,7 +106,7 @@ fn form_of(matches: &ArgMatches<'_>) -> Option<Form> {
     }
 }
 
-/// The keys that the words name, in order.
+/// The keys in the arguments, in order.
 fn keys_of(
     alloc: Global,
     words: &[RawBytes],
@@ -141,7 +141,7 @@ fn key_of(
     })
 }
 
-// The task of words that name no form: a key, and how many tables of it are shown.
+// The task without a format: a key, and how many tables of it are printed.
 fn tables_of(alloc: Global, words: &[RawBytes], texts: &[String]) -> Result<Task, Error> {
     let mut command = command(alloc, PROGRAM, "")
         .override_usage(USAGE)

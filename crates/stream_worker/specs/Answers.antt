@@ -1,4 +1,4 @@
--- What an answer says, by what was asked.
+-- The meaning of a reply, by the command.
 use Rattle.std.specs.Prelude.{Bool, true, false, ◌&&◌, not, ℕ, List, [], ◌∷◌, Option, Some, None, option_map}
 use Rattle.std.specs.Prelude.{option_and_then, codes, string_bytes, if◌then◌else◌}
 use Rattle.std.specs.List.{list_all}
@@ -19,13 +19,13 @@ use Rattle.stream_worker.specs.declared.state.MakeGroup.{MakeGroup}
 use Rattle.stream_worker.specs.declared.state.MakeGroup.TheVariants.{Never, FromTheFirst, FromNow}
 use Rattle.stream_worker.specs.declared.state.Settings.{Settings}
 
--- what a worker hears: an answer to its machine; that there is no group, which it is to make; that one was made
+-- what a worker hears: a reply for its machine; that there is no group, which it creates next; that one was created
 pub data Heard : Type 0 where
   told : Answer Pairs → Heard
   no_group : Heard
   group_made : Heard
 
--- the entries of the one stream; none where there is no stream
+-- the entries of the only stream; an empty list if there is no stream
 abbrev pub only_stream : List ℕ → List SentStream → Option (List SentEntry)
 only_stream key [] = Some []
 only_stream key (s ∷ []) = if bytes_eq s.name key then Some s.entries else None
@@ -35,16 +35,16 @@ only_stream key (s ∷ t ∷ rest) = None
 abbrev pub entries_read : List ℕ → Tree → Option (List SentEntry)
 entries_read key t = option_and_then (only_stream key) (sent_streams_reading t)
 
--- nil stands for the fields of none
+-- no entry has nil in place of its fields
 abbrev pub all_there : List SentEntry → Bool
 all_there es = list_all (λ e. not (is_none e.fields)) es
 
--- the id of the first entry for whose fields nil stands
+-- the id of the first entry with nil in place of its fields
 abbrev pub first_nil : List SentEntry → Option (List ℕ)
 first_nil [] = None
 first_nil (e ∷ es) = if is_none e.fields then Some e.id else first_nil es
 
--- new entries: nil in one of them is no answer, since a server says only of pending entries that they were deleted
+-- new entries: nil in one of them is an error, since a server returns nil only for pending entries that were deleted
 abbrev pub those_there : List SentEntry → Option (List SentEntry)
 those_there es = if all_there es then Some es else None
 
@@ -52,7 +52,8 @@ those_there es = if all_there es then Some es else None
 abbrev pub news_read : List ℕ → Tree → Option (List SentEntry)
 news_read key t = option_and_then those_there (entries_read key t)
 
--- a claim: nil in one of its entries is no answer, since servers tell the ids of deleted ones apart, or nothing
+-- a claim: nil in one of its entries is an error, since servers return the ids of deleted ones in a list of their own,
+-- or not at all
 abbrev pub claim_there : SentAutoClaim → Option SentAutoClaim
 claim_there c = if all_there c.claimed then Some c else None
 
@@ -60,7 +61,7 @@ claim_there c = if all_there c.claimed then Some c else None
 abbrev pub claim_read : Tree → Option SentAutoClaim
 claim_read t = option_and_then claim_there (sent_autoclaim_reading t)
 
--- what a value says
+-- the meaning of a value
 abbrev pub says : List ℕ → Asked → Tree → Option Heard
 says key asked.Nothing t = None
 says key asked.Acknowledgement t = option_map (λ n. told acknowledged) (unsigned_reading 64 t)
@@ -70,21 +71,21 @@ says key asked.Own t = option_map (λ es. told (own_pending (all_delivered es)))
 says key asked.Claim t = option_map (λ c. told (taken_over c.next (all_delivered c.claimed))) (claim_read t)
 says key asked.New t = option_map (λ es. told (news (all_delivered es))) (news_read key t)
 
--- whether a group is made where there is none
+-- whether a missing group is created
 abbrev pub makes_group : MakeGroup → Bool
 makes_group Never = false
 makes_group FromTheFirst = true
 makes_group FromNow = true
 
--- NOGROUP, where a group is to be made then
+-- NOGROUP, if a missing group is created
 abbrev pub where_none : MakeGroup → List ℕ → Option Heard
 where_none make text = if makes_group make && bytes_eq (code_of text) (codes "NOGROUP") then Some no_group else None
 
--- BUSYGROUP: somebody made it
+-- BUSYGROUP: another client created it
 abbrev pub where_made : List ℕ → Option Heard
 where_made text = if bytes_eq (code_of text) (codes "BUSYGROUP") then Some group_made else None
 
--- what an error in place of a value says: only the first question of all may find that there is no group
+-- the meaning of an error reply: only the first command of all may find that there is no group
 abbrev pub means : MakeGroup → Asked → List ℕ → Option Heard
 means make asked.Nothing text = None
 means make asked.Acknowledgement text = None
@@ -94,14 +95,14 @@ means make asked.Own text = None
 means make asked.Claim text = None
 means make asked.New text = None
 
--- what a worker of these settings hears, where the answer is one to its question
+-- what a worker of these settings hears, if the reply is one to its command
 abbrev pub hears : Settings → Asked → wire.Answer → Option Heard
 hears s question (wire.value t) = says (string_bytes s.key) question t
 hears s question (wire.refused text) = means s.make_group question text
 hears s question (wire.group kind members) = None
 hears s question (wire.pushed kind payload) = None
 
--- a value in answer to this shows that the group is there
+-- a value in reply to this shows that the group exists
 abbrev pub shows_group : Asked → Bool
 shows_group asked.Nothing = false
 shows_group asked.Acknowledgement = false
@@ -122,14 +123,14 @@ by_error group (Some (told answer)) = group
 by_error group (Some no_group) = Missing
 by_error group (Some group_made) = Known
 
--- what is known of it after an answer
+-- what is known of it after a reply
 abbrev pub group_after : Settings → GroupState → Asked → wire.Answer → GroupState
 group_after s group question (wire.value t) = by_value group question
 group_after s group question (wire.refused text) = by_error group (means s.make_group question text)
 group_after s group question (wire.group kind members) = group
 group_after s group question (wire.pushed kind payload) = group
 
--- a group that was there is gone: NOGROUP to a question that comes after the first
+-- a known group is gone: NOGROUP to a command after the first
 abbrev pub is_gone : Asked → List ℕ → Bool
 is_gone asked.Nothing text = false
 is_gone asked.Acknowledgement text = false

@@ -6,7 +6,7 @@ use Rattle.stream_worker.specs.declared.state.Settings.{Settings}
 use Rattle.stream_worker.specs.declared.state.SettingsError.{SettingsError}
 use Rattle.stream_worker.specs.declared.state.SettingsError.TheVariants.{NoKey, NoGroup, NoConsumer, NoCount, LargeCount}
 
--- a stream, a group and a consumer with the defaults, or the first cause to refuse them
+-- a stream, a group and a consumer with the defaults, or the first error
 abbrev pub checked : String Global → String Global → String Global → Result Settings SettingsError
 checked key group consumer =
     if nat_eq (length (string_bytes key)) 0 then Err NoKey
@@ -24,6 +24,6 @@ checked key group consumer =
       make_group = Never;
     })
 
--- so many entries may be asked for at once, or why not
+-- the count is accepted, or the error
 abbrev pub counted : ℕ → Result (Unit {0}) SettingsError
 counted count = if nat_eq count 0 then Err NoCount else if nat_lt 10000 count then Err LargeCount else Ok tt

@@ -1,4 +1,4 @@
--- How errors of what a worker stands on are told.
+-- How errors of the libraries below become a worker's errors.
 use Rattle.redis_args.specs.declared.writer.WriteError.{WriteError}
 use Rattle.redis_args.specs.declared.writer.WriteError.TheVariants as writing
 use Rattle.redis_resp.specs.declared.value.error.ParsingError.{ParsingError}

@@ -1,4 +1,4 @@
--- The last rounds of a worker: what is done is committed and acknowledged, and nothing else is asked.
+-- The last rounds of a worker: what is done is committed and acknowledged, and no other command is sent.
 use Rattle.std.specs.Prelude.{◌≡◌, ◌≤◌, ◌⊎◌, ℕ, true, false, List, [], ◌∷◌}
 use Rattle.redis_connection.specs.Link.{Link}
 use Rattle.stream_group.specs.Worker.{Verdict}
@@ -12,14 +12,14 @@ use Rattle.stream_worker.specs.declared.worker.Progress.TheVariants.{GoesOn}
 
 module _ {R : Type 0} (with_verdict : R → List ℕ × Pairs → Verdict → R) (with_commit : R → R)
     (settings : Settings) where
-  -- in each of these rounds an acknowledgement was asked
+  -- each of these rounds sent an acknowledgement
   abbrev pub Acknowledge : Standing R → List Turn → Type 0
   Acknowledge w [] = Unit {0}
   Acknowledge w (t ∷ turns) = ((asking with_commit settings w).asked ≡ Acknowledgement)
       × Acknowledge (after_turn with_verdict with_commit settings w t) turns
 
-  -- two rounds or fewer were made, in each of which an acknowledgement was asked, and then nothing that is done is
-  -- uncommitted, and nothing that is committed is unacknowledged
+  -- at most two rounds were made, each of which sent an acknowledgement, and then everything done is committed and
+  -- acknowledged
   pub record Finished (old new : Link) (w x : Standing R) : Type 0 where
     pub n : ℕ
     pub few : n ≤ 2
@@ -28,7 +28,7 @@ module _ {R : Type 0} (with_verdict : R → List ℕ × Pairs → Verdict → R)
     pub committed : x.machine.to_commit ≡ []
     pub acknowledged : x.machine.to_acknowledge ≡ []
 
-  -- one of the two rounds failed, and an acknowledgement was asked in it and in the one before
+  -- one of the two rounds failed, and it and the one before sent an acknowledgement
   pub record FinishBroke (old new : Link) (w x : Standing R) (e : RunError) : Type 0 where
     pub broke : Broke with_verdict with_commit settings old new w x 2 e
     pub asked : Acknowledge w broke.made.turns

@@ -7,12 +7,12 @@ use Rattle.stream_in_place.specs.SentMeaning.{sent_all}
 use Rattle.stream_in_place.specs.declared.sent.SentRow.{SentRow}
 use Rattle.stream_worker.specs.Handling.{pair_of}
 
--- what was done and not committed, and what was committed
+-- the entries done and not committed, and the entries committed
 pub record Doings : Type 0 where
   pub loose : List (Entry Pairs)
   pub committed : List (Entry Pairs)
 
--- with one more entry, where it was done
+-- with one more entry, if it was done
 abbrev pub done_too : Doings → Entry Pairs → Verdict → Doings
 done_too d e done = record d { loose = d.loose ++ e ∷ [] }
 done_too d e left_pending = d

@@ -1,4 +1,4 @@
--- What the reply at the head of bytes does to a worker.
+-- What the reply at the start of the bytes changes in a worker.
 use Rattle.std.specs.Prelude.{◌≡◌, ℕ, List, ◌++◌, Result, Ok, Err}
 use Rattle.redis_resp.specs.Tree.{Tree}
 use Rattle.redis_wire.specs.Decoded.{NoReply, EndTooEarly, IsFirstFault}
@@ -20,7 +20,7 @@ use Rattle.stream_worker.specs.declared.state.Asked.TheVariants.{Nothing}
 use Rattle.stream_worker.specs.declared.state.Settings.{Settings}
 use Rattle.stream_worker.specs.declared.worker.Progress.{Progress}
 
--- the reply at the head of the bytes says this, however many values it has
+-- the reply at the start of the bytes is this one, whatever its number of values
 pub record Heads (limits : Limits) (bytes : List ℕ) (a : wire.Answer) : Type 0 where
   pub text : List ℕ
   pub rest : List ℕ
@@ -29,13 +29,13 @@ pub record Heads (limits : Limits) (bytes : List ℕ) (a : wire.Answer) : Type 0
 
 module _ {R : Type 0} (with_verdict : R → List ℕ × Pairs → Verdict → R) (settings : Settings) (limits : Limits)
     (bytes : List ℕ) where
-  -- the worker went on by the reply at the head of the bytes
+  -- the worker took the reply at the start of the bytes
   abbrev pub WentInPlace : Standing R → Standing R → Progress → Type 0
   WentInPlace w x p = (a : wire.Answer) × Heads limits bytes a
       × Went with_verdict settings w.asked a w.machine x.machine w.history x.history p
       × (x.group ≡ group_after settings w.group w.asked a) × (x.asked ≡ Nothing)
 
-  -- no reply was read, and nothing changed; or that at the head of the bytes does not bring the worker on
+  -- no reply was read, and nothing changed; or the reply at the start of the bytes is an error to the worker
   abbrev pub FailedInPlace : Standing R → Standing R → InPlaceError → Type 0
   FailedInPlace w x causes.Incomplete = (x ≡ w) × NoReply limits bytes × EndTooEarly limits bytes
   FailedInPlace w x (causes.Unread wire_errors.Memory) = x ≡ w
@@ -58,7 +58,7 @@ TakenByValue with_verdict settings question t m n r s (Ok p) = Went with_verdict
 TakenByValue with_verdict settings question t m n r s (Err e) =
     Failed with_verdict settings question (wire.value t) m n r s e
 
--- what came of the answer to this: an error says what was asked
+-- the result of a reply to this command; an error names the command
 abbrev pub in_answer : Asked → Result Progress WorkerError → Result Progress InPlaceError
 in_answer question (Ok p) = Ok p
 in_answer question (Err e) = Err (causes.Answer (let a : AnswerError = record { asked = question; error = e } in a))

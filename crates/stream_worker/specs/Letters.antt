@@ -20,7 +20,7 @@ pub record Desk : Type 0 where
 abbrev pub letter_of : Letter → Id × List ℕ
 letter_of l = (string_bytes l.id, l.command.items)
 
--- what waits at a desk, and whether its first letter was added
+-- the queued letters, and whether the first one was added
 abbrev pub desk_of : DeadLetters → Desk
 desk_of d = record { waiting = map letter_of d.letters.items; added = d.added }
 
@@ -33,27 +33,27 @@ abbrev pub letter_sentence : List ℕ → Id → ℕ → List (List ℕ) → Lis
 letter_sentence dead id n fields =
     codes "XADD" ∷ dead ∷ codes "*" ∷ codes "entry" ∷ id ∷ codes "deliveries" ∷ decimal n ∷ fields
 
--- what is asked of the first entry: that its letter is added, and then, once it was, that it is acknowledged
+-- the command for the first entry: its letter is added, and after that it is acknowledged
 abbrev pub of_first : List ℕ × List ℕ × List ℕ → Id × List ℕ → Bool → List ℕ
 of_first names letter false = letter.1
 of_first names letter true = command_bytes (codes "XACK" ∷ names.0 ∷ names.1 ∷ letter.0 ∷ [])
 
--- the bytes that are asked
+-- the bytes of that command
 abbrev pub bytes_of_first : List ℕ × List ℕ × List ℕ → List (Id × List ℕ) → Bool → List ℕ
 bytes_of_first names [] added = []
 bytes_of_first names (letter ∷ rest) added = of_first names letter added
 
--- the bytes of the next command of a desk
+-- the bytes of the next command
 abbrev pub letter_bytes : List ℕ × List ℕ × List ℕ → Desk → List ℕ
 letter_bytes names desk = bytes_of_first names desk.waiting desk.added
 
--- what is asked
+-- what that command asks
 abbrev pub asks_of_first : List (Id × List ℕ) → Bool → LetterAsked
 asks_of_first [] added = asked.Nothing
 asks_of_first (letter ∷ rest) false = asked.Add
 asks_of_first (letter ∷ rest) true = asked.Acknowledge
 
--- what the next command of a desk asks
+-- what the next command asks
 abbrev pub letter_asks : Desk → LetterAsked
 letter_asks desk = asks_of_first desk.waiting desk.added
 
@@ -67,7 +67,7 @@ abbrev pub is_count : Tree → Bool
 is_count (int z) = true
 is_count _ = false
 
--- the answer is one to the question
+-- the reply is of the kind that the command returns
 abbrev pub serves : LetterAsked → wire.Answer → Bool
 serves asked.Nothing a = false
 serves asked.Add (wire.value t) = is_text t
@@ -79,20 +79,20 @@ serves asked.Acknowledge (wire.refused text) = false
 serves asked.Acknowledge (wire.group kind members) = false
 serves asked.Acknowledge (wire.pushed kind payload) = false
 
--- after such an answer: the first one's letter was added; or the first one was acknowledged, and is forgotten
+-- after such a reply: the first letter was added; or the first entry was acknowledged, and is removed
 abbrev pub after_letter : LetterAsked → Desk → Desk
 after_letter asked.Nothing desk = desk
 after_letter asked.Add desk = record desk { added = true }
 after_letter asked.Acknowledge desk = record { waiting = drop 1 desk.waiting; added = false }
 
--- the answer is no error of the server
+-- the reply is not an error
 abbrev pub IsNoError : wire.Answer → Type 0
 IsNoError (wire.value t) = Unit {0}
 IsNoError (wire.refused text) = ⊥
 IsNoError (wire.group kind members) = Unit {0}
 IsNoError (wire.pushed kind payload) = Unit {0}
 
--- why an answer does not serve
+-- why a reply was refused
 abbrev pub Unserved : LetterAsked → wire.Answer → LetterError → Type 0
 Unserved question a causes.NotAsked = question ≡ asked.Nothing
 Unserved question a (causes.Server e) = (question ≢ asked.Nothing) × (a ≡ wire.refused e.text.items)

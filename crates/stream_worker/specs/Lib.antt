@@ -1,4 +1,4 @@
--- What a worker's contracts speak of.
+-- The definitions that a worker's contracts use.
 pub mod Checked
 pub mod Handed
 pub mod Handling

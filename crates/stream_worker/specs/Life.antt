@@ -54,7 +54,7 @@ abbrev pub newborn : Settings → Standing Doings
 newborn settings = resumed_with settings [] []
 
 module _ (settings : Settings) where
-  -- the ids of entries that this answer to its question brought without fields
+  -- the ids of entries that this reply returned without fields
   abbrev pub deleted_told : Standing Doings → wire.Answer → List Id
   deleted_told w a = deleted_by (hears settings (asking committed_too settings w).asked a)
 
@@ -72,9 +72,9 @@ module _ (settings : Settings) where
   deleted_turns w (t ∷ turns) =
       deleted_told w t.answer ++ deleted_turns (after_turn done_too committed_too settings w t) turns
 
-  -- where a worker may stand, and of which entries it was told that they were deleted: at first it is new, or it was
-  -- started with ids whose entries were committed before; in each round an answer brings it on, or the round fails, and
-  -- it goes on over this connection or another one
+  -- the states that a worker may reach, with the entries that were reported as deleted: at first it is new, or was
+  -- started with ids whose entries were committed before; in each round it takes a reply, or the round fails, and it
+  -- goes on over this connection or another one
   pub data Lives : Standing Doings → List Id → Type 0 where
     begins : Lives (newborn settings) []
     resumes : (ids : List Id) (before : List (Entry Pairs))
@@ -86,19 +86,19 @@ module _ (settings : Settings) where
         (f : Fails done_too committed_too settings old new w x e) → Lives w deleted
         → Lives x (deleted ++ deleted_at old new w x e f)
 
--- what its next command acknowledges, where it acknowledges anything
+-- the ids that its next command acknowledges, if any
 abbrev pub acknowledges : Settings → Standing Doings → List Id
 acknowledges settings w = (asking committed_too settings w).machine.to_acknowledge
 
--- the law: wherever a worker stands, before it asks to acknowledge an id its handler said that this entry is done,
--- and committed that, maybe before the worker was started; or the server said that it was deleted
+-- the law: in each of these states, before a worker acknowledges an id its handler returned `Done` for that entry and
+-- committed it, maybe before the worker was started; or the server reported that it was deleted
 abbrev pub OnlyCommittedIsAcknowledged : Type 0
 OnlyCommittedIsAcknowledged = (settings : Settings) (w : Standing Doings) (deleted : List Id)
     → Lives settings w deleted → (id : Id) → Among id (acknowledges settings w)
     → IsCommitted (asking committed_too settings w).history id ⊎ Among id deleted
 
--- the law: where `run` leaves a worker is a standing of its life, after a session that came to its end and after one that
--- broke off; and just those entries were deleted meanwhile of which the answers of this session said so
+-- the law: the state after `run` is one of these states, after a session that ended and after one that broke off; and
+-- it reports exactly the deleted entries that the replies of this session report
 abbrev pub SessionsAreLived : Type 0
 SessionsAreLived = (settings : Settings) (old new : Link) (w x : Standing Doings) (rounds : ℕ) (deleted : List Id)
     → Lives settings w deleted

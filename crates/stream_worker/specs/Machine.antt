@@ -1,4 +1,4 @@
--- A worker as the machine that the laws speak of.
+-- A worker as the machine of the laws.
 use Rattle.std.specs.Prelude.{◌≡◌, ℕ, Bool, true, false, not, ◌&&◌, List, [], ◌∷◌, ◌++◌, map, Result, Ok, Err, String}
 use Rattle.std.specs.Prelude.{Vec, string_bytes, if◌then◌else◌}
 use Rattle.std.specs.declared.alloc.Global.{Global}
@@ -25,28 +25,28 @@ machine_of w = record {
   to_acknowledge = ids_of w.to_acknowledge;
 }
 
--- nothing stands in it
+-- the list is empty
 abbrev pub is_empty : {A : Type 0} → List A → Bool
 is_empty [] = true
 is_empty (x ∷ xs) = false
 
--- nothing is to be committed, and nothing to be acknowledged
+-- there is nothing to commit and nothing to acknowledge
 abbrev pub is_settled : Machine → Bool
 is_settled m = is_empty m.to_commit && is_empty m.to_acknowledge
 
--- a worker commits before it asks: where something is to be committed, and nothing to be acknowledged
+-- a worker commits before a command: if there is something to commit, and nothing to acknowledge
 abbrev pub commits : Machine → Bool
 commits m = is_empty m.to_acknowledge && not (is_empty m.to_commit)
 
--- the machine as it asks, and the history then
+-- the machine at a request, and the history then
 abbrev pub at_request : Machine → Machine
 at_request m = if commits m then after_commit m else m
 
--- the history then, with one more commit where it commits
+-- the history then, with one more commit if it commits
 abbrev pub history_at_request : {R : Type 0} → (R → R) → Machine → R → R
 history_at_request with_commit m r = if commits m then with_commit r else r
 
--- how entries ended, by how a worker goes on
+-- how the entries ended, by the progress of a worker
 abbrev pub ending_of : Progress → Ending
 ending_of GoesOn = went_through
 ending_of Stopped = stopped
@@ -57,7 +57,7 @@ ending_said (Ok p) = ending_of p
 ending_said (Err e) = cut_off
 
 module _ {R : Type 0} (with_verdict : R → List ℕ × Pairs → Verdict → R) where
-  -- the machine took entries, and goes on in this phase, or begins again where it did not get through them
+  -- the machine took entries, and goes on in this phase, or begins again if the handler stopped before the last one
   pub record Moved (es : List (Delivered Pairs)) (next : machine.Phase) (m n : Machine) (r s : R)
       (how : Ending) : Type 0 where
     pub verdicts : List Verdict

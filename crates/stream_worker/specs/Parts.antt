@@ -1,4 +1,4 @@
--- What the parts of a worker say to one another.
+-- The contracts between the parts of a worker.
 use Rattle.std.specs.Prelude.{◌≡◌, ◌≢◌, ◌⊎◌, ℕ, Bool, true, false, List, [], Option, Some, None, String, string_bytes}
 use Rattle.std.specs.declared.alloc.Global.{Global}
 use Rattle.redis_resp.specs.Number.{unsigned_reading}
@@ -26,7 +26,7 @@ Unread reading may_refuse t e = (p : ParsingError) × (e ≡ read_error p) × Re
 abbrev pub NoStreams : Tree → WorkerError → Type 0
 NoStreams t e = (e ≡ causes.Memory) ⊎ Unread sent_streams_reading RefusesSentStreams t e
 
--- it tells of another stream
+-- it has entries of another stream
 abbrev pub IsOther : List ℕ → Tree → WorkerError → Type 0
 IsOther key t e = (e ≡ causes.OtherStream) × (entries_read key t ≡ None) × (sent_streams_reading t ≢ None)
 
@@ -34,7 +34,7 @@ IsOther key t e = (e ≡ causes.OtherStream) × (entries_read key t ≡ None) ×
 abbrev pub NotRead : List ℕ → Tree → WorkerError → Type 0
 NotRead key t e = NoStreams t e ⊎ IsOther key t e
 
--- nil stands in place of the fields of the entry that the error names
+-- the entry that the error names has nil in place of its fields
 abbrev pub IsNil : List ℕ → Asked → Tree → WorkerError → Type 0
 IsNil key question t e = (id : String Global) × (e ≡ causes.NilFields id) × HasNil key question t (string_bytes id)
 
@@ -64,7 +64,7 @@ IsOfGroup (Some (told answer)) = ⊥
 IsOfGroup (Some no_group) = Unit {0}
 IsOfGroup (Some group_made) = Unit {0}
 
--- nothing was asked; or the error is the server's, and says that the group is gone, or does not
+-- no command waits for a reply; or the error is the server's, which reports that the group is gone, or does not
 abbrev pub IsRefused : Asked → List ℕ → WorkerError → Type 0
 IsRefused question text causes.NotAsked = question ≡ asked.Nothing
 IsRefused question text (causes.Server e) =
@@ -76,7 +76,7 @@ IsRefused question text causes.OtherStream = ⊥
 IsRefused question text (causes.NilFields id) = ⊥
 IsRefused question text causes.Memory = ⊥
 
--- its own pending entries were asked for
+-- the command reads its own pending entries
 abbrev pub reads_own : Asked → Bool
 reads_own asked.Nothing = false
 reads_own asked.Acknowledgement = false

@@ -1,4 +1,4 @@
--- Two commands in one write: an acknowledgement, and the question that follows on it.
+-- Two commands in one write: an acknowledgement, and the command after it.
 use Rattle.std.specs.Prelude.{◌≡◌, ◌≢◌, ◌⊎◌, Bool, true, false, List, [], ◌++◌, ℕ, Option, Some, None}
 use Rattle.redis_connection.specs.Link.{Link, Sends, SendsFront}
 use Rattle.redis_connection.specs.Passing.{ReceivesAnswer}
@@ -18,11 +18,11 @@ use Rattle.stream_worker.specs.declared.state.Settings.{Settings}
 use Rattle.stream_worker.specs.declared.worker.Progress.{Progress}
 use Rattle.stream_worker.specs.declared.worker.Progress.TheVariants.{GoesOn}
 
--- it asked to acknowledge all that is done
+-- its command acknowledges everything done
 abbrev pub AcknowledgesAll : {R : Type 0} → Standing R → Type 0
 AcknowledgesAll y = (y.asked ≡ Acknowledgement) × (y.machine.to_commit ≡ [])
 
--- the command that follows once that is answered
+-- the command that follows after its reply
 abbrev pub next_command : {R : Type 0} → Settings → Standing R → List (List ℕ)
 next_command settings y = sentence settings y.group y.machine.phase []
 
@@ -30,12 +30,12 @@ next_command settings y = sentence settings y.group y.machine.phase []
 abbrev pub next_asked : {R : Type 0} → Standing R → Asked
 next_asked y = asks y.group y.machine.phase []
 
--- where it stands as it waits for the answer to this
+-- its state while it waits for the reply to this
 abbrev pub waiting_for : {R : Type 0} → Asked → Standing R → Standing R
 waiting_for next z = record z { asked = next }
 
--- the second answer is received and passed over, after a first one that does not bring the worker on. If it does not
--- come, that is the error
+-- the second reply is received and discarded, after a first one that is an error to the worker; if it is not received,
+-- that is the error
 abbrev pub PassesNext : Link → Link → RunError → RunError → Type 0
 PassesNext old new (causes.Answer e) (causes.Answer f) = (f ≡ e) × ((a : wire.Answer) × ReceivesAnswer old new a)
 PassesNext old new (causes.Answer e) (causes.Receive named f) = Awaited named old new (causes.Receive named f)
@@ -45,7 +45,7 @@ PassesNext old new (causes.Request e) f = (f ≡ causes.Request e) × (new ≡ o
 PassesNext old new (causes.Send e) f = (f ≡ causes.Send e) × (new ≡ old)
 PassesNext old new (causes.Receive named e) f = (f ≡ causes.Receive named e) × (new ≡ old)
 
--- if the answer to the second command, which asked this, did not come, the error says so
+-- if the reply to the second command was not received, the error says so
 abbrev pub NamesNext : Asked → RunError → RunError → Type 0
 NamesNext next (causes.Answer e) (causes.Receive named f) = named ≡ next
 NamesNext next (causes.Answer e) (causes.Request f) = Unit {0}
@@ -55,8 +55,8 @@ NamesNext next (causes.Request e) f = Unit {0}
 NamesNext next (causes.Send e) f = Unit {0}
 NamesNext next (causes.Receive named e) f = Unit {0}
 
--- what becomes of the second command after the first one failed for e: a front of it went out; or all of it, and
--- its answer was passed over
+-- the second command after the first one failed with e: a prefix of it was sent; or all of it, and its reply was
+-- discarded
 abbrev pub LeavesNext : Link → Link → List (List ℕ) → RunError → RunError → Type 0
 LeavesNext old new args (causes.Request e) f = ⊥
 LeavesNext old new args (causes.Send e) f = (f ≡ causes.Send e) × SendsFront old new (command_bytes args)
@@ -66,13 +66,13 @@ LeavesNext old new args (causes.Answer e) f = (between : Link) × Sends old betw
     × PassesNext between new (causes.Answer e) f
 
 module _ {R : Type 0} (with_commit : R → R) (settings : Settings) where
-  -- one command went out, or both did in one write, and this is what the second asks
+  -- one command was sent, or both in one write, and the second is this one
   abbrev pub SentBoth : Link → Link → Standing R → Standing R → Option Asked → Type 0
   SentBoth old new w y None = HasAsked with_commit settings old new w y
   SentBoth old new w y (Some next) = (y ≡ asking with_commit settings w) × AcknowledgesAll y × (next ≡ next_asked y)
       × Sends old new (command_bytes (command settings w) ++ command_bytes (next_command settings y))
 
-  -- a front of both went out
+  -- a prefix of both was sent
   abbrev pub SentFront : Link → Link → Standing R → Standing R → RunError → Type 0
   SentFront old new w y (causes.Send e) = (y ≡ asking with_commit settings w) × AcknowledgesAll y
       × SendsFront old new (command_bytes (command settings w) ++ command_bytes (next_command settings y)) × (e ≢ TooLong)
@@ -80,7 +80,7 @@ module _ {R : Type 0} (with_commit : R → R) (settings : Settings) where
   SentFront old new w y (causes.Receive named e) = ⊥
   SentFront old new w y (causes.Answer e) = ⊥
 
-  -- nothing went out, or a front of one command, or of both
+  -- nothing was sent, or a prefix of one command, or of both
   abbrev pub SentNeither : Link → Link → Standing R → Standing R → RunError → Type 0
   SentNeither old new w y e =
       IsUnanswered with_commit settings old new w y e ⊎ SentFront old new w y e
@@ -129,13 +129,13 @@ module _ {R : Type 0} (with_verdict : R → List ℕ × Pairs → Verdict → R)
       ⊎ (FirstFails old new w x e ⊎ SecondFails old new w x e)
 
 module _ {R : Type 0} (with_verdict : R → List ℕ × Pairs → Verdict → R) (settings : Settings) where
-  -- the first answer brought the worker on, and so did the second, which answers this
+  -- the worker took the first reply, and the second, which is the one to this
   abbrev pub TakesBoth : Link → Link → Standing R → Standing R → Asked → Asked → Progress → Type 0
   TakesBoth old new y x next question p = (m : Link) × (z : Standing R) × (q : Progress)
       × Takes with_verdict settings old m y z q
       × Takes with_verdict settings m new (waiting_for next z) x p × (question ≡ next)
 
-  -- the first did not bring it on, or the second did not
+  -- the first reply was an error to it, or the second was
   abbrev pub BreaksBoth : Link → Link → Standing R → Standing R → Asked → RunError → Type 0
   BreaksBoth old new y x next f =
       ((m : Link) × (e : RunError) × TakesNot with_verdict settings old m y x e × PassesNext m new e f

@@ -1,4 +1,4 @@
--- What a worker asks.
+-- The commands of a worker.
 use Rattle.std.specs.Prelude.{ℕ, List, [], ◌∷◌, codes, decimal, string_bytes, if◌then◌else◌}
 use Rattle.stream_group.specs.Worker as machine
 use Rattle.stream_group.specs.Worker.{Id, own, claiming, reading}
@@ -12,7 +12,7 @@ use Rattle.stream_worker.specs.declared.state.Phase.TheVariants as phases
 use Rattle.stream_worker.specs.declared.state.Asked.{Asked}
 use Rattle.stream_worker.specs.declared.state.Asked.TheVariants as asked
 
--- where the machine stands
+-- the phase of the machine
 abbrev pub phase_of : Phase → machine.Phase
 phase_of phases.Start = own (codes "0")
 phase_of (phases.Own id) = own (string_bytes id)
@@ -20,7 +20,7 @@ phase_of phases.ClaimFirst = claiming (codes "0-0")
 phase_of (phases.Claiming id) = claiming (string_bytes id)
 phase_of (phases.Reading rounds) = reading rounds
 
--- what is asked, as an error names it
+-- the name of the command in error messages
 abbrev pub asked_name : Asked → List ℕ
 asked_name asked.Nothing = codes "no command"
 asked_name asked.Acknowledgement = codes "XACK"
@@ -34,7 +34,7 @@ asked_name asked.New = codes "XREADGROUP of new entries"
 abbrev pub ack_sentence : Settings → List Id → List (List ℕ)
 ack_sentence s ids = codes "XACK" ∷ string_bytes s.key ∷ string_bytes s.group ∷ ids
 
--- where a group begins that is made
+-- the start id of a group that is created
 abbrev pub group_start : MakeGroup → List ℕ
 group_start Never = codes "$"
 group_start FromTheFirst = codes "0"
@@ -46,7 +46,7 @@ group_sentence s =
     codes "XGROUP" ∷ codes "CREATE" ∷ string_bytes s.key ∷ string_bytes s.group ∷ group_start s.make_group
     ∷ codes "MKSTREAM" ∷ []
 
--- so many of the entries that come again are asked for at once: its own pending ones, and those that it claims
+-- the COUNT for entries that were delivered before: its own pending ones, and those that it claims
 abbrev pub count_again : Settings → ℕ
 count_again s = if s.one_at_a_time then 1 else s.count
 
@@ -69,26 +69,27 @@ news_sentence s =
     ∷ codes "BLOCK" ∷ decimal s.block ∷ codes "COUNT" ∷ decimal s.count
     ∷ codes "STREAMS" ∷ string_bytes s.key ∷ codes ">" ∷ []
 
--- so many entries a question has behind COUNT: of those that come again so many, and of new ones the count
+-- the COUNT of a command: `count_again` for entries that were delivered before, and the count of the settings for new
+-- ones
 abbrev pub count_asked : Settings → machine.Phase → ℕ
 count_asked s (own id) = count_again s
 count_asked s (claiming id) = count_again s
 count_asked s (reading rounds) = s.count
 
--- where nothing is to be acknowledged and no group is to be made, what the phase asks
+-- if there is nothing to acknowledge and no group to create, the command of the phase
 abbrev pub phase_sentence : Settings → machine.Phase → List (List ℕ)
 phase_sentence s (own id) = own_sentence s id
 phase_sentence s (claiming id) = claim_sentence s id
 phase_sentence s (reading rounds) = news_sentence s
 
--- acknowledgements go out first, and a group is made before anything is read from it
+-- acknowledgements are sent first, and a group is created before anything is read from it
 abbrev pub sentence : Settings → GroupState → machine.Phase → List Id → List (List ℕ)
 sentence s group phase (id ∷ ids) = ack_sentence s (id ∷ ids)
 sentence s Missing phase [] = group_sentence s
 sentence s Unknown phase [] = phase_sentence s phase
 sentence s Known phase [] = phase_sentence s phase
 
--- what the phase asks
+-- what the command of the phase asks
 abbrev pub phase_asks : machine.Phase → Asked
 phase_asks (own id) = asked.Own
 phase_asks (claiming id) = asked.Claim

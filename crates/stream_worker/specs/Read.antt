@@ -1,4 +1,4 @@
--- The streams of a decoded answer.
+-- The streams of a decoded reply.
 use Rattle.std.specs.Prelude.{List, map, flat_map, String, Vec, string_bytes}
 use Rattle.std.specs.declared.alloc.Global.{Global}
 use Rattle.redis_resp.specs.declared.value.pair.PairList.{PairList}

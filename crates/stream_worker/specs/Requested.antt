@@ -1,12 +1,12 @@
--- What a worker does where it asks nothing.
+-- The state of a worker after a request that failed.
 use Rattle.std.specs.Prelude.{◌≡◌, true}
 use Rattle.stream_group.specs.Worker.{Machine}
 use Rattle.stream_worker.specs.Machine.{commits, at_request, history_at_request}
 use Rattle.stream_worker.specs.declared.error.RequestError.{RequestError}
 use Rattle.stream_worker.specs.declared.error.RequestError.TheVariants.{NotCommitted, TooLong, Memory}
 
--- where its handler did not commit, nothing changed; where the command was not written, the handler committed
--- before, if anything was to be committed
+-- if its handler did not commit, nothing changed; if the command was not written, the handler committed before, if
+-- there was anything to commit
 abbrev pub Unasked : {R : Type 0} → (R → R) → Machine → Machine → R → R → RequestError → Type 0
 Unasked with_commit m n r s NotCommitted = (commits m ≡ true) × (n ≡ m) × (s ≡ r)
 Unasked with_commit m n r s TooLong = (n ≡ at_request m) × (s ≡ history_at_request with_commit m r)

@@ -1,4 +1,4 @@
--- A session of a worker over a connection: the run of its machine over the answers that came.
+-- A session of a worker over a connection: the run of its machine over the replies received.
 use Rattle.std.specs.Prelude.{◌≡◌, ◌≢◌, ◌≤◌, ◌<◌, ℕ, zero, suc, List, [], ◌∷◌, ◌++◌, map, length}
 use Rattle.std.specs.Prelude.{codes, Option, Some, None}
 use Rattle.std.specs.Io.KnownBytes.{Appends, Consumes}
@@ -29,42 +29,42 @@ use Rattle.stream_worker.specs.declared.worker.Progress.{Progress}
 use Rattle.stream_worker.specs.declared.worker.Progress.TheVariants.{GoesOn, Stopped}
 use Rattle.stream_worker.specs.declared.worker.Worker.{Worker}
 
--- where a worker and its handler stand
+-- the state of a worker and its handler
 pub record Standing (R : Type 0) : Type 0 where
   pub machine : Machine
   pub group : GroupState  -- what is known of the group
-  pub asked : Asked  -- what is to be answered
+  pub asked : Asked  -- the command whose reply it waits for
   pub history : R  -- what passed between the worker and its handler
 
--- where a worker with this history of its handler stands
+-- the state of a worker with this history of its handler
 abbrev pub standing_of : {R : Type 0} → Worker → R → Standing R
 standing_of w r = record { machine = machine_of w; group = w.group; asked = w.asked; history = r }
 
--- the machine after an error: if a command may have gone out, it begins again with what is pending for it
+-- the machine after an error: if a command may have been sent, it begins again with its own pending entries
 abbrev pub machine_after : RunError → Machine → Machine
 machine_after (causes.Request e) m = m
 machine_after e m = begins_again m
 
--- where it stands then
+-- the state then
 abbrev pub after_failure : {R : Type 0} → RunError → Standing R → Standing R
 after_failure e w = record w { machine = machine_after e w.machine }
 
--- an answer that came, and what the handler said of its entries
+-- a reply that was received, and the verdicts of the handler for its entries
 pub record Turn : Type 0 where
   pub answer : wire.Answer
   pub verdicts : List Verdict
 
--- the answers of turns
+-- the replies of turns
 abbrev pub answers_of : List Turn → List wire.Answer
 answers_of turns = map (λ t. t.answer) turns
 
--- these bytes are so many messages that the server pushed, one after the other
+-- these bytes are this number of push messages, one after the other
 abbrev pub AreMessages : Limits → ℕ → List ℕ → Type 0
 AreMessages limits zero bytes = bytes ≡ []
 AreMessages limits (suc n) bytes = (front : List ℕ) × (text : List ℕ) × (a : wire.Answer) × (bytes ≡ front ++ text)
     × AreMessages limits n front × IsReply limits text a × IsMessage a
 
--- these bytes are this answer, after messages that the server pushed
+-- these bytes are this reply, after push messages
 pub record IsAnswerText (limits : Limits) (text : List ℕ) (a : wire.Answer) : Type 0 where
   pub count : ℕ
   pub messages : List ℕ
@@ -74,15 +74,15 @@ pub record IsAnswerText (limits : Limits) (text : List ℕ) (a : wire.Answer) : 
   pub reply : IsReply limits answer a
   pub is_answer : IsMessage a → ⊥
 
--- these bytes are these answers, one after the other
+-- these bytes are these replies, one after the other
 abbrev pub AreReplies : Limits → List ℕ → List wire.Answer → Type 0
 AreReplies limits bytes [] = bytes ≡ []
 AreReplies limits bytes (a ∷ more) =
     (text : List ℕ) × (rest : List ℕ) × (bytes ≡ text ++ rest) × IsAnswerText limits text a
     × AreReplies limits rest more
 
--- these bytes went out; bytes came in; and these answers stood at the head of what is held, each after messages that
--- the server pushed, and were given out with these, just their bytes
+-- these bytes were sent; bytes were received; and these replies were at the start of the buffer, each after push
+-- messages, and were taken out with them, just their bytes
 pub record Converses (old new : Link) (out : List ℕ) (came : List wire.Answer) : Type 0 where
   pub appends : Appends old.written new.written out
   pub taken : List ℕ
@@ -92,18 +92,18 @@ pub record Converses (old new : Link) (out : List ℕ) (came : List wire.Answer)
   pub replies : AreReplies old.held.limits texts came
   pub limits : new.held.limits ≡ old.held.limits
 
--- the command that a worker asks, after its handler has committed what is to be acknowledged
+-- the command that a worker requests, after its handler has committed what is to be acknowledged
 abbrev pub command : {R : Type 0} → Settings → Standing R → List (List ℕ)
 command settings w =
     sentence settings w.group (at_request w.machine).phase (at_request w.machine).to_acknowledge
 
--- the error is that a command did not go out, since it was not written
+-- the error is that a command was not sent, since it was not written
 abbrev pub IsUnsent : RunError → Type 0
 IsUnsent (causes.Request e) = Unit {0}
 IsUnsent e = ⊥
 
 module _ {R : Type 0} (with_commit : R → R) (settings : Settings) where
-  -- where it stands as it asks
+  -- its state as it sends the command
   abbrev pub asking : Standing R → Standing R
   asking w = record {
     machine = at_request w.machine;
@@ -112,11 +112,12 @@ module _ {R : Type 0} (with_commit : R → R) (settings : Settings) where
     history = history_at_request with_commit w.machine w.history;
   }
 
-  -- it asked, and this is the answer that came
+  -- it sent a command, and this is the reply received
   abbrev pub IsAsked : Link → Link → Standing R → Standing R → wire.Answer → Type 0
   IsAsked old new w x a = (x ≡ asking w) × Exchanges old new (command settings w) a
 
-  -- it asked nothing; or a front of its command went out; or all of it, and no answer came to what the error names
+  -- no command was written; or a prefix of it was sent; or all of it, and no reply to it was received, and the error
+  -- names it
   abbrev pub IsUnanswered : Link → Link → Standing R → Standing R → RunError → Type 0
   IsUnanswered old new w x (causes.Request e) =
       (new ≡ old) × Unasked with_commit w.machine x.machine w.history x.history e
@@ -128,16 +129,15 @@ module _ {R : Type 0} (with_commit : R → R) (settings : Settings) where
       × IsEnded new e × IsFaulty new.held e × (named ≡ x.asked)
   IsUnanswered old new w x (causes.Answer e) = ⊥
 
-  -- the same, and if its command may have gone out, the worker begins again
+  -- the same, and if its command may have been sent, the worker begins again
   abbrev pub FailsUnanswered : Link → Link → Standing R → Standing R → RunError → Type 0
   FailsUnanswered old new w x e = (y : Standing R) × IsUnanswered old new w y e × (x ≡ after_failure e y)
 
-  -- it asked, and its command went out
+  -- its command was written and sent
   abbrev pub HasAsked : Link → Link → Standing R → Standing R → Type 0
   HasAsked old new w x = (x ≡ asking w) × Sends old new (command_bytes (command settings w))
 
--- where a worker stands by what it heard, where this is known of its group then, and its handler said this of the
--- entries
+-- the state of a worker after what it heard, with this knowledge of its group, and these verdicts of its handler
 abbrev pub having_heard : {R : Type 0} → (R → List ℕ × Pairs → Verdict → R) → Standing R → GroupState
     → Option Heard → List Verdict → Standing R
 having_heard with_verdict w group None verdicts = record w { group = group; asked = Nothing }
@@ -157,19 +157,19 @@ EndsBy (Some (told answer)) verdicts p = ending_of p ≡ ending (entries_in answ
 EndsBy (Some no_group) verdicts p = p ≡ GoesOn
 EndsBy (Some group_made) verdicts p = p ≡ GoesOn
 
--- how a turn ends that may be the last: others follow on it only where it goes on
+-- how a turn ends that may be the last: others follow only if it goes on
 abbrev pub ends_before : List Turn → Progress → Progress
 ends_before [] p = p
 ends_before (t ∷ turns) p = GoesOn
 
--- so many rounds were made: all that were allowed, or fewer where its handler said to stop
+-- the number of rounds: all that were allowed, or fewer if its handler returned `Stop`
 abbrev pub IsCount : ℕ → ℕ → Progress → Type 0
 IsCount rounds n GoesOn = n ≡ rounds
 IsCount rounds n Stopped = (0 < n) × (n ≤ rounds)
 
 module _ {R : Type 0} (with_verdict : R → List ℕ × Pairs → Verdict → R) (with_commit : R → R)
     (settings : Settings) where
-  -- where it stands after a round: it asked, and took the answer
+  -- the state after a round: it sent a command, and took the reply
   abbrev pub after_turn : Standing R → Turn → Standing R
   after_turn w t =
       let x : Standing R = asking with_commit settings w in
@@ -180,20 +180,20 @@ module _ {R : Type 0} (with_verdict : R → List ℕ × Pairs → Verdict → R)
   after_turns w [] = w
   after_turns w (t ∷ turns) = after_turns (after_turn w t) turns
 
-  -- the bytes of all commands that it asks
+  -- the bytes of all commands that it sends
   abbrev pub bytes_asked : Standing R → List Turn → List ℕ
   bytes_asked w [] = []
   bytes_asked w (t ∷ turns) = command_bytes (command settings w) ++ bytes_asked (after_turn w t) turns
 
-  -- each answer is one to its question, and the worker goes on after it; after the last one it ends so
+  -- each reply is one to its command, and the worker goes on after it; after the last one it ends so
   abbrev pub Ends : Standing R → List Turn → Progress → Type 0
   Ends w [] p = Unit {0}
   Ends w (t ∷ turns) p =
       EndsBy (hears settings (asking with_commit settings w).asked t.answer) t.verdicts (ends_before turns p)
       × Ends (after_turn w t) turns p
 
-  -- the rounds that were made: what went out are the commands that the machine asks, and what came in are the
-  -- answers that brought it here
+  -- the rounds that were made: the commands of the machine were sent, and the replies that lead to this state were
+  -- received
   pub record Rounds (old new : Link) (w x : Standing R) (n : ℕ) (p : Progress) : Type 0 where
     pub turns : List Turn
     pub count : length turns ≡ n
@@ -201,7 +201,7 @@ module _ {R : Type 0} (with_verdict : R → List ℕ × Pairs → Verdict → R)
     pub stands : x ≡ after_turns w turns
     pub ends : Ends w turns p
 
-  -- one round was made: it asked this, and the answer that came brought it on
+  -- one round was made: it sent this command, and took the reply
   pub record Turned (old new : Link) (w x : Standing R) (question : Asked) (p : Progress) : Type 0 where
     pub turn : Turn
     pub asked : question ≡ (asking with_commit settings w).asked
@@ -209,11 +209,11 @@ module _ {R : Type 0} (with_verdict : R → List ℕ × Pairs → Verdict → R)
     pub stands : x ≡ after_turn w turn
     pub ends : EndsBy (hears settings (asking with_commit settings w).asked turn.answer) turn.verdicts p
 
-  -- the session came to its end
+  -- the session ended
   abbrev pub Ran : Link → Link → Standing R → Standing R → ℕ → Progress → Type 0
   Ran old new w x rounds p = (n : ℕ) × IsCount rounds n p × Rounds old new w x n p
 
-  -- a round breaks: it has no answer, or one that does not bring it on, to what the error names
+  -- a round breaks: no reply was received to the command that the error names, or one that is an error to the worker
   abbrev pub Breaks : Link → Link → Standing R → Standing R → RunError → Type 0
   Breaks old new w x (causes.Answer e) = (a : wire.Answer) × Exchanges old new (command settings w) a
       × Failed with_verdict settings (asking with_commit settings w).asked a (at_request w.machine) x.machine
@@ -222,7 +222,7 @@ module _ {R : Type 0} (with_verdict : R → List ℕ × Pairs → Verdict → R)
       × (e.asked ≡ (asking with_commit settings w).asked)
   Breaks old new w x e = IsUnanswered with_commit settings old new w x e
 
-  -- a round fails: it breaks, and if its command may have gone out, the worker begins again
+  -- a round fails: it breaks, and if its command may have been sent, the worker begins again
   abbrev pub Fails : Link → Link → Standing R → Standing R → RunError → Type 0
   Fails old new w x e = (y : Standing R) × Breaks old new w y e × (x ≡ after_failure e y)
 
@@ -235,8 +235,8 @@ module _ {R : Type 0} (with_verdict : R → List ℕ × Pairs → Verdict → R)
     pub made : Rounds old link w before n GoesOn
     pub fails : Fails link new before x e
 
--- the law: after a round that failed once its command may have gone out, the worker makes the group that is missing,
--- acknowledges what is committed, or asks for what is pending for it from the first entry on
+-- the law: after a round that failed after its command may have been sent, the worker creates the group that is
+-- missing, acknowledges what is committed, or reads its own pending entries from the first on
 abbrev pub FailuresBeginAgain : Type 0
 FailuresBeginAgain = (settings : Settings) (old new : Link) (w x : Standing Doings) (e : RunError)
     → Fails done_too committed_too settings old new w x e → (IsUnsent e → ⊥)

@@ -18,22 +18,22 @@ use Rattle.stream_worker.specs.declared.worker.Progress.{Progress}
 abbrev pub doings_in : World Pairs → Name → Doings
 doings_in w c = record { loose = w.loose c; committed = w.committed }
 
--- for some verdicts the reply comes to the worker of the model, which is then where this one is, and its handler
--- has done what this one's has
+-- for some verdicts the worker of the model takes the reply, and is then in the state of this one, and its handler has
+-- done what this one's has
 pub record Steps (w : World Pairs) (k : ℕ) (r : Reply Pairs) (n : Machine) (now : Doings) : Type 0 where
   pub verdicts : List Verdict
   pub worker : (happens w (Comes k verdicts)).workers r.consumer ≡ n
   pub done : (happens w (Comes k verdicts)).loose r.consumer ≡ now.loose
   pub committed : (happens w (Comes k verdicts)).committed ≡ now.committed
 
--- what `answered` promises is a step of the model, wherever the answer is the one that is on its way
+-- the contract of `answered` is a step of the model, if the reply is the one on its way
 abbrev pub AnswersStayInStep : Type 0
 AnswersStayInStep = (w : World Pairs) (k : ℕ) (r : Reply Pairs) → item w.replies k ≡ Some r
     → (settings : Settings) (question : Asked) (a : wire.Answer) → hears settings question a ≡ Some (told r.answer)
     → (n : Machine) (now : Doings) (p : Progress)
     → Went done_too settings question a (w.workers r.consumer) n (doings_in w r.consumer) now p → Steps w k r n now
 
--- and so where memory runs out among the entries
+-- and so if memory runs out among the entries
 abbrev pub CutsStayInStep : Type 0
 CutsStayInStep = (w : World Pairs) (k : ℕ) (r : Reply Pairs) → item w.replies k ≡ Some r
     → (settings : Settings) (question : Asked) (t : Tree)
@@ -41,12 +41,13 @@ CutsStayInStep = (w : World Pairs) (k : ℕ) (r : Reply Pairs) → item w.replie
     → (n : Machine) (now : Doings)
     → WasCut done_too settings question t (w.workers r.consumer) n (doings_in w r.consumer) now → Steps w k r n now
 
--- the world as the worker of that name asks: it commits, where there is something to commit and nothing to acknowledge
+-- the world as the worker of that name sends a command: it commits, if there is something to commit and nothing to
+-- acknowledge
 abbrev pub as_it_asks : World Pairs → Name → World Pairs
 as_it_asks w c = if commits (w.workers c) then happens w (Commit c) else w
 
--- what `request` promises are steps of the model: a commit, where it commits, and then the acknowledgement that it
--- sends, which names what is committed
+-- the contract of `request` is steps of the model: a commit, if it commits, and then the acknowledgement that it sends,
+-- of what is committed
 pub record Asks (w : World Pairs) (c : Name) : Type 0 where
   pub worker : (as_it_asks w c).workers c ≡ at_request (w.workers c)
   pub done : doings_in (as_it_asks w c) c ≡ history_at_request committed_too (w.workers c) (doings_in w c)

@@ -1,4 +1,4 @@
--- The next answer on a connection, and what a worker makes of it.
+-- The next reply on a connection, and the worker's state after it.
 use Rattle.std.specs.Prelude.{◌≡◌, ℕ, List}
 use Rattle.redis_connection.specs.Link.{Link, IsEnded, IsFaulty}
 use Rattle.redis_connection.specs.Passing.{AwaitsAnswer, ReceivesAnswer}
@@ -15,7 +15,7 @@ use Rattle.stream_worker.specs.declared.state.Asked.TheVariants.{Nothing}
 use Rattle.stream_worker.specs.declared.state.Settings.{Settings}
 use Rattle.stream_worker.specs.declared.worker.Progress.{Progress}
 
--- no answer to this came, and the error says so, and why
+-- no reply to this was received, and the error says so, and why
 abbrev pub Awaited : Asked → Link → Link → RunError → Type 0
 Awaited question old new (causes.Receive named e) =
     AwaitsAnswer old new × IsEnded new e × IsFaulty new.held e × (named ≡ question)
@@ -24,13 +24,13 @@ Awaited question old new (causes.Send e) = ⊥
 Awaited question old new (causes.Answer e) = ⊥
 
 module _ {R : Type 0} (with_verdict : R → List ℕ × Pairs → Verdict → R) (settings : Settings) where
-  -- an answer came, which brought the worker on
+  -- a reply was received, and the worker took it
   abbrev pub Takes : Link → Link → Standing R → Standing R → Progress → Type 0
   Takes old new w x p = (a : wire.Answer) × ReceivesAnswer old new a
       × Went with_verdict settings w.asked a w.machine x.machine w.history x.history p
       × (x.group ≡ group_after settings w.group w.asked a) × (x.asked ≡ Nothing)
 
-  -- no answer came, and nothing changed; or one that does not bring it on. The error names what was asked
+  -- no reply was received, and nothing changed; or one that is an error to the worker. The error names the command
   abbrev pub TakesNot : Link → Link → Standing R → Standing R → RunError → Type 0
   TakesNot old new w x (causes.Receive named e) = (x ≡ w) × Awaited w.asked old new (causes.Receive named e)
   TakesNot old new w x (causes.Answer e) = (a : wire.Answer) × ReceivesAnswer old new a

@@ -1,4 +1,4 @@
--- What a worker makes of entries: the machine's `acks_in` and `told_in`, for some verdicts.
+-- The entries of a reply: the machine's `acks_in` and `told_in`, for some verdicts.
 use Rattle.std.specs.Prelude.{◌≡◌, ℕ, Bool, true, false, List, ◌++◌, map, Result, Ok, Err}
 use Rattle.stream_group.specs.Worker.{Id, Delivered, Verdict, follows, acks_one, told_one, acks_in, told_in, Ending}
 use Rattle.stream_group.specs.Worker.{ending}
@@ -7,7 +7,7 @@ use Rattle.stream_worker.specs.Handling.{with_all}
 use Rattle.stream_worker.specs.declared.worker.Progress.{Progress}
 use Rattle.stream_worker.specs.declared.worker.Progress.TheVariants.{GoesOn, Stopped}
 
--- an entry as it was handed out: without fields where nil stands for them, as it does of a deleted one
+-- an entry as delivered: without fields if nil is in their place, as for a deleted one
 abbrev pub delivered_of : SentEntry → Delivered Pairs
 delivered_of e = (e.id, e.fields)
 
@@ -29,7 +29,7 @@ module _ {R : Type 0} (with_verdict : R → List ℕ × Pairs → Verdict → R)
   TookOneOr d old new r s (Ok Stopped) = TookOne d old new r s false
   TookOneOr d old new r s (Err e) = (new ≡ old) × (s ≡ r)
 
-  -- entries got verdicts, all of them or some at the front
+  -- entries got verdicts, all of them or the first ones
   pub record Took (es : List (Delivered Pairs)) (old new : List Id) (r s : R) (how : Ending) : Type 0 where
     pub verdicts : List Verdict
     pub ids : new ≡ old ++ acks_in es verdicts

@@ -13,7 +13,7 @@ use stream_commands::{
 };
 use stream_options::{StreamAutoClaimOptions, StreamReadOptions};
 
-/// Appends what a worker asks next. An `Err` changes nothing.
+/// Appends the bytes of the next command. An `Err` changes nothing.
 pub fn append_question(
     alloc: Global,
     out: &mut Vec<u8>,
@@ -32,13 +32,13 @@ pub fn append_question(
         return append_acknowledgement(alloc, out, settings, ids);
     }
     match group {
-        GroupState::Missing => append_group(alloc, out, settings),
+        GroupState::Missing => append_create_group(alloc, out, settings),
         GroupState::Unknown => append_first(alloc, out, settings, phase),
         GroupState::Known => append_by_phase(alloc, out, settings, phase),
     }
 }
 
-/// What the phase asks, before anything is known of the group.
+/// Appends the command of the phase, before anything is known of the group.
 fn append_first(
     alloc: Global,
     out: &mut Vec<u8>,
@@ -51,11 +51,11 @@ fn append_first(
     ensures err { OnErr result (out.new.items ≡ out.old.items) }
 {
     let asked = append_by_phase(alloc, out, settings, phase)?;
-    Ok(as_first(phase, asked))
+    Ok(mark_first(phase, asked))
 }
 
-/// The question of a phase, before anything is known of the group.
-fn as_first(phase: &Phase, asked: Asked) -> Asked
+/// The command of a phase, before anything is known of the group.
+fn mark_first(phase: &Phase, asked: Asked) -> Asked
     requires { asked ≡ phase_asks (phase_of phase.now) }
     ensures { result ≡ first_asks (phase_of phase.now) }
 {
@@ -65,7 +65,7 @@ fn as_first(phase: &Phase, asked: Asked) -> Asked
     }
 }
 
-/// `XACK`, of these ids.
+/// Appends `XACK key group id [id ...]`.
 fn append_acknowledgement(
     alloc: Global,
     out: &mut Vec<u8>,
@@ -82,11 +82,15 @@ fn append_acknowledgement(
         unreachable!()
     };
     let command = xack(settings.key.as_str(), settings.group.as_str(), ids);
-    append_asking(alloc, out, &command, Asked::Acknowledgement)
+    append_command_for(alloc, out, &command, Asked::Acknowledgement)
 }
 
-/// `XGROUP CREATE` with `MKSTREAM`.
-fn append_group(alloc: Global, out: &mut Vec<u8>, settings: &Settings) -> Result<Asked, WriteError>
+/// Appends `XGROUP CREATE` with `MKSTREAM`.
+fn append_create_group(
+    alloc: Global,
+    out: &mut Vec<u8>,
+    settings: &Settings,
+) -> Result<Asked, WriteError>
     ensures ok { OnOk result (out.new.items ≡ out.old.items
         ++ command_bytes (group_sentence settings.now)) }
     ensures asked { IfOk result (λ a. a ≡ Asked.Group) }
@@ -97,10 +101,10 @@ fn append_group(alloc: Global, out: &mut Vec<u8>, settings: &Settings) -> Result
         MakeGroup::FromNow | MakeGroup::Never => "$",
     };
     let command = xgroup_create_mkstream(settings.key.as_str(), settings.group.as_str(), start);
-    append_asking(alloc, out, &command, Asked::Group)
+    append_command_for(alloc, out, &command, Asked::Group)
 }
 
-/// What the phase asks.
+/// Appends the command of the phase.
 fn append_by_phase(
     alloc: Global,
     out: &mut Vec<u8>,
@@ -113,16 +117,16 @@ fn append_by_phase(
     ensures err { OnErr result (out.new.items ≡ out.old.items) }
 {
     match phase {
-        Phase::Start => append_own(alloc, out, settings, "0"),
-        Phase::Own(id) => append_own(alloc, out, settings, id.as_str()),
+        Phase::Start => append_read_own(alloc, out, settings, "0"),
+        Phase::Own(id) => append_read_own(alloc, out, settings, id.as_str()),
         Phase::ClaimFirst => append_claim(alloc, out, settings, "0-0"),
         Phase::Claiming(id) => append_claim(alloc, out, settings, id.as_str()),
-        Phase::Reading(_) => append_news(alloc, out, settings),
+        Phase::Reading(_) => append_read_new(alloc, out, settings),
     }
 }
 
-/// `XREADGROUP` of its own pending entries after this id.
-fn append_own(
+/// Appends `XREADGROUP` of the consumer's own pending entries after this id.
+fn append_read_own(
     alloc: Global,
     out: &mut Vec<u8>,
     settings: &Settings,
@@ -138,10 +142,10 @@ fn append_own(
         .group(alloc, settings.group.as_str(), settings.consumer.as_str())?;
     let stream = (settings.key.as_str(), id);
     let command = xread_options(AtLeastOne::one(&stream), &options);
-    append_asking(alloc, out, &command, Asked::Own)
+    append_command_for(alloc, out, &command, Asked::Own)
 }
 
-/// `XAUTOCLAIM` from this id on.
+/// Appends `XAUTOCLAIM` from this id on.
 fn append_claim(
     alloc: Global,
     out: &mut Vec<u8>,
@@ -164,11 +168,15 @@ fn append_claim(
     ) else {
         unreachable!()
     };
-    append_asking(alloc, out, &command, Asked::Claim)
+    append_command_for(alloc, out, &command, Asked::Claim)
 }
 
-/// `XREADGROUP` of new entries.
-fn append_news(alloc: Global, out: &mut Vec<u8>, settings: &Settings) -> Result<Asked, WriteError>
+/// Appends `XREADGROUP` of new entries.
+fn append_read_new(
+    alloc: Global,
+    out: &mut Vec<u8>,
+    settings: &Settings,
+) -> Result<Asked, WriteError>
     ensures ok { OnOk result (out.new.items ≡ out.old.items
         ++ command_bytes (news_sentence settings.now)) }
     ensures asked { IfOk result (λ a. a ≡ Asked.New) }
@@ -180,11 +188,11 @@ fn append_news(alloc: Global, out: &mut Vec<u8>, settings: &Settings) -> Result<
         .group(alloc, settings.group.as_str(), settings.consumer.as_str())?;
     let stream = (settings.key.as_str(), ">");
     let command = xread_options(AtLeastOne::one(&stream), &options);
-    append_asking(alloc, out, &command, Asked::New)
+    append_command_for(alloc, out, &command, Asked::New)
 }
 
-/// Appends the bytes of a command that asks this. An `Err` changes nothing.
-fn append_asking<T: ToRedisArgs>(
+/// Appends the bytes of this command. An `Err` changes nothing.
+fn append_command_for<T: ToRedisArgs>(
     alloc: Global,
     out: &mut Vec<u8>,
     command: &T,

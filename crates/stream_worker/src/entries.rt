@@ -9,8 +9,8 @@ use crate::worker::Progress;
 use std::alloc::{AllocError, Global};
 use stream_in_place::{EntriesRef, EntryRef, EntryRoom, SentRow};
 
-/// Hands one entry to the handler. Its id is remembered before the handler sees it, and forgotten
-/// if it is not done, so that memory cannot run out between the two.
+/// Passes one entry to the handler. Its id is stored before the call and removed if the entry is not done, so memory
+/// cannot run out between the two.
 fn take_entry<H: Handler>(
     alloc: Global,
     ids: &mut Vec<String>,
@@ -39,7 +39,7 @@ fn take_entry<H: Handler>(
     }
 }
 
-/// Hands a decoded entry to the handler, in the form of one in its bytes.
+/// Passes a decoded entry to the handler as a borrowed entry.
 fn take_row<H: Handler>(
     alloc: Global,
     room: &mut EntryRoom,
@@ -55,7 +55,7 @@ fn take_row<H: Handler>(
     take_entry(alloc, ids, &entry, handler)
 }
 
-/// Hands decoded entries to the handler, in order, until it says to stop.
+/// Passes decoded entries to the handler, in order, until it returns `Stop`.
 pub fn take_entries<H: Handler>(
     alloc: Global,
     ids: &mut Vec<String>,
@@ -76,7 +76,7 @@ pub fn take_entries<H: Handler>(
     Ok(Progress::GoesOn)
 }
 
-/// Hands entries to the handler in their bytes, in order, until it says to stop.
+/// Passes borrowed entries to the handler, in order, until it returns `Stop`.
 pub fn take_in_place<H: Handler>(
     alloc: Global,
     ids: &mut Vec<String>,

@@ -1,4 +1,4 @@
-//! Why a worker asks nothing, or an answer does not bring it on.
+//! Errors of a worker's commands and of their replies.
 use crate::handler::NotCommitted;
 use crate::state::Asked;
 use redis_connection::ConnectionError;
@@ -7,10 +7,10 @@ use redis_wire::{ServerError, WireError};
 use std::alloc::{AllocError, AllocFailed};
 use thiserror::Error;
 
-/// Why a worker asks nothing. No bytes were appended.
+/// Why no command was written. No bytes were appended.
 #[derive(Clone, Copy, Debug, PartialEq, Eq, Error)]
 pub enum RequestError {
-    /// The handler did not commit what it did; nothing of it is acknowledged.
+    /// The handler's commit failed; nothing of it is acknowledged.
     #[error("what was done could not be committed")]
     NotCommitted,
     /// The command is too long for the protocol.
@@ -46,45 +46,44 @@ impl From<WriteError> for RequestError {
     }
 }
 
-/// Which command was asked, and why the answer to it does not bring a worker on.
+/// Which command was sent, and the error of its reply.
 #[derive(Debug, Drop, Error)]
 #[error("{asked}: {error}")]
 pub struct AnswerError {
-    /// What was asked.
+    /// The command that was sent.
     pub asked: Asked,
     /// Why.
     pub error: WorkerError,
 }
 
-/// Why an answer does not bring a worker on. What is done stays remembered, and what is not stays
+/// Why a reply is an error to a worker. Entries that are done are still acknowledged later, and the others stay
 /// pending.
 #[derive(Debug, Drop, Error)]
 pub enum WorkerError {
-    /// Nothing was asked.
+    /// No command waits for a reply.
     #[error("an answer to no question")]
     NotAsked,
-    /// The server answered an error, such as `LOADING` or `READONLY`, or `NOGROUP` to the first question
-    /// of a worker that makes no group. `answered` leaves the worker where it was; `round` and `run` begin
-    /// again.
+    /// The server returned an error, such as `LOADING` or `READONLY`, or `NOGROUP` to the first command of a worker
+    /// that creates no group. `answered` leaves the worker as it was; `round` and `run` begin again.
     #[error("the server answers {0}")]
     Server(ServerError),
-    /// The group was there and is gone: the server answered `NOGROUP` to a question after the first. The
-    /// worker does not make it again, since it would begin at another place. `answered` leaves the worker
-    /// where it was; `round` and `run` begin again.
+    /// The group was destroyed: the server returned `NOGROUP` to a command after the first. The worker does not create
+    /// it again, since it would start at another id. `answered` leaves the worker as it was; `round` and `run` begin
+    /// again.
     #[error("the group is gone: the server answers {0}")]
     GroupIsGone(ServerError),
-    /// The reply is one to no command: the server pushed it unasked, or it is a group with an error
-    /// in it. `answered` leaves the worker where it was; `round` and `run` begin again.
+    /// The reply belongs to no command: it is a push message, or an aggregate with an error in it. `answered` leaves
+    /// the worker as it was; `round` and `run` begin again.
     #[error("no answer of a command")]
     NotAnAnswer,
-    /// The answer is none to the question.
+    /// The reply is not of the kind that the command returns.
     #[error("{0}")]
     Parsing(ParsingError),
-    /// The answer tells of another stream than the one that was asked for.
+    /// The reply has entries of another stream.
     #[error("an answer about another stream")]
     OtherStream,
-    /// Nil is in place of the fields of an entry, in answer to a claim or to a read of new entries: the id of
-    /// the first such entry. Servers say so only of pending entries that were deleted.
+    /// The reply to a claim or to a read of new entries has nil in place of an entry's fields: the id of the first such
+    /// entry. Servers return nil only for the consumer's own pending entries that were deleted.
     #[error("nil in place of the fields of the entry {0}")]
     NilFields(String),
     /// Out of memory.
@@ -117,17 +116,17 @@ impl From<ParsingError> for WorkerError {
     }
 }
 
-/// Why the reply at the head of bytes does not bring a worker on.
+/// Why the reply at the start of the bytes was not taken.
 #[derive(Debug, Drop, Error)]
 pub enum InPlaceError {
-    /// The bytes end before the reply does. Nothing changed: the worker waits for the answer.
+    /// The bytes end before the reply does. Nothing changed: the worker still waits for the reply.
     #[error("no whole reply")]
     Incomplete,
-    /// Memory ran out before the reply was read, or the bytes are no reply. Nothing changed: the
-    /// worker waits for the answer.
+    /// Memory ran out before the reply was read, or the bytes are not a reply. Nothing changed: the worker still waits
+    /// for the reply.
     #[error("{0}")]
     Unread(WireError),
-    /// The reply does not bring it on.
+    /// The reply is an error to the worker.
     #[error("{0}")]
     Answer(AnswerError),
 }
@@ -155,26 +154,26 @@ impl From<AnswerError> for InPlaceError {
     }
 }
 
-/// Why a worker does not go on over a connection. What is done stays remembered, and what is not
-/// stays pending.
+/// Why a worker stopped using a connection. Entries that are done are still acknowledged later, and the others stay
+/// pending.
 #[derive(Debug, Drop, Error)]
 pub enum RunError {
-    /// It asked nothing, and nothing was sent.
+    /// No command was written, and nothing was sent.
     #[error("{0}")]
     Request(RequestError),
-    /// Some front of its command was sent.
+    /// Only a prefix of its command was sent.
     #[error("{0}")]
     Send(ConnectionError),
-    /// Its command was sent, and no reply to it was given out: what came of one is held. It may be whole if
-    /// memory ran out.
+    /// Its command was sent, and no reply to it was taken: the bytes that were received stay in the buffer. They may be
+    /// a whole reply if memory ran out.
     #[error("{asked}: {error}")]
     Receive {
-        /// What was asked.
+        /// The command that was sent.
         asked: Asked,
-        /// Why no reply was given out.
+        /// Why no reply was taken.
         error: ConnectionError,
     },
-    /// A reply came, which does not bring it on.
+    /// A reply was received, and is an error to the worker.
     #[error("{0}")]
     Answer(AnswerError),
 }

@@ -1,4 +1,4 @@
-//! A handler that keeps what it is given.
+//! A handler that keeps its entries.
 ghost use Rattle.std.specs.Prelude.{◌≡◌, []};
 ghost use Rattle.stream_worker.specs.Gathered.{Doings, committed_too, done_too, pairs_of};
 
@@ -6,17 +6,17 @@ use crate::handler::{Handler, NotCommitted, Verdict};
 use std::alloc::Global;
 use stream_in_place::{EntryRef, SentRow};
 
-/// Keeps a copy of each entry, and stops if there is no memory for one.
+/// Keeps a copy of each entry, and returns `Stop` if there is no memory for it.
 #[derive(Debug, Drop)]
 pub struct Gathered {
-    /// What it kept and has not committed.
+    /// The entries that are not committed yet.
     pub loose: Vec<SentRow>,
-    /// What it kept and has committed.
+    /// The entries that were committed.
     pub committed: Vec<SentRow>,
 }
 
 impl Gathered {
-    /// Nothing yet.
+    /// Nothing is known yet.
     pub fn new(alloc: Global) -> Gathered
         ensures loose { result.loose.items ≡ [] }
         ensures committed { result.committed.items ≡ [] }

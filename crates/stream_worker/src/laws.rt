@@ -6,8 +6,8 @@ ghost use Rattle.stream_worker.specs.Life.{OnlyCommittedIsAcknowledged, Sessions
 ghost use Rattle.stream_worker.specs.Session.{FailuresBeginAgain};
 ghost use Rattle.stream_worker.specs.Step.{AnswersStayInStep, CutsStayInStep, RequestsStayInStep};
 
-/// The laws of `stream_group`, of entries with the fields that a worker sees: each that was ever
-/// added is still to come, or pending, or was handled and its handling committed, or was deleted.
+/// The laws of `stream_group`, for entries with fields. Each entry that was ever added is not yet delivered, or
+/// pending, or handled and committed, or deleted.
 pub fn nothing_is_lost()
     ensures kept { EachEntryIsKept Pairs }
     ensures acknowledged { AcknowledgedIsSettled Pairs }
@@ -16,27 +16,25 @@ pub fn nothing_is_lost()
     ensures delivered { HandledAsDelivered Pairs }
 {}
 
-/// What `Worker::answered` and `Worker::request` promise are steps of the model: the worker is then
-/// where the model's worker is, its handler has done and committed what the model says, and the
-/// acknowledgement that goes out is the model's.
+/// The contracts of `Worker::answered` and `Worker::request` are steps of the model. Afterwards the worker is in the
+/// state of the model's worker, its handler has done and committed the same, and it sends the same acknowledgement.
 pub fn stays_in_step()
     ensures answers { AnswersStayInStep }
     ensures cuts { CutsStayInStep }
     ensures requests { RequestsStayInStep }
 {}
 
-/// Over its whole life, in sessions that come to their end and in those that break off, a worker
-/// acknowledges an entry only after its handler said that it is done, and committed that; or after
-/// the server said that the entry was deleted from the stream. The commit may be one before the worker was
-/// started. Of deleted entries a session tells just those that its answers told.
+/// A worker acknowledges an entry only after its handler returned `Done` for it and committed, or after the server
+/// reported that it was deleted. This holds over any number of sessions, whether they end or break off. The commit may
+/// be from before the worker was started. A session reports exactly the deleted entries that its replies report.
 pub fn acknowledges_what_is_committed()
     ensures acknowledged { OnlyCommittedIsAcknowledged }
     ensures sessions { SessionsAreLived }
 {}
 
-/// After a round that failed once its command may have gone out, over whatever connection, a worker
-/// first makes the group that is missing, or acknowledges what is committed, or asks for what is
-/// pending for it, from the first entry on. So entries whose answer was lost come again at once.
+/// A round may fail after its command was sent. Then a worker first creates the missing group, acknowledges committed
+/// entries, or reads its own pending entries from the first on. This holds over any connection. So entries whose reply
+/// was lost are delivered again at once.
 pub fn begins_again()
     ensures { FailuresBeginAgain }
 {}

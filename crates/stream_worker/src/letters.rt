@@ -1,4 +1,4 @@
-//! Entries that are given up, on their way to a stream of dead letters.
+//! Dead letters: entries that are given up are copied to another stream.
 ghost use Rattle.std.specs.Prelude.{◌≡◌, [], ◌∷◌, ◌++◌, false, true, IfErr, IfOk, OnErr, OnOk, string_bytes};
 ghost use Rattle.redis_wire.specs.Packed.{command_bytes};
 ghost use Rattle.redis_wire.specs.Reply.{answer};
@@ -13,10 +13,10 @@ use std::mem;
 use stream_commands::{AtLeastOne, ToFieldArgs, xack};
 use thiserror::Error;
 
-/// The command to which a desk of dead letters waits for the reply.
+/// The command whose reply `DeadLetters` waits for.
 #[derive(Clone, Copy, Debug, PartialEq, Eq)]
 pub enum LetterAsked {
-    /// Nothing.
+    /// No command.
     Nothing,
     /// XADD of a letter.
     Add,
@@ -24,17 +24,16 @@ pub enum LetterAsked {
     Acknowledge,
 }
 
-/// Why a reply does not bring a desk of dead letters on. It is as it was, and asks the same again.
+/// Why a reply was refused. Nothing changed, and the same command is requested again.
 #[derive(Debug, Drop, Error)]
 pub enum LetterError {
-    /// Nothing was asked.
+    /// No command waits for a reply.
     #[error("an answer to no question")]
     NotAsked,
     /// The server returned an error.
     #[error("the server answers {0}")]
     Server(ServerError),
-    /// The reply is no id after a letter was to be added, or no count after an entry was to be
-    /// acknowledged.
+    /// The reply to XADD is not an id, or the reply to XACK is not a number.
     #[error("no answer of the command")]
     NotAnAnswer,
 }
@@ -46,12 +45,11 @@ struct Letter {
     command: Vec<u8>,
 }
 
-/// Entries that are given up, without input and output: each goes to a stream of dead letters, with
-/// its id, its deliveries and its fields, and is acknowledged once the server has returned the id
-/// that the letter has there.
+/// Moves entries that are given up to a stream of dead letters, without input and output. Each letter has the entry's
+/// id, its delivery count and its fields. The entry is acknowledged after the server has returned the letter's id.
 ///
-/// An entry stays pending until then, so a handler leaves it so (`Verdict::LeavePending`) and gives
-/// it up here. After a crash it comes again, and so may its letter.
+/// The entry stays pending until then, so a handler returns `Verdict::LeavePending` and gives it up here. After a crash
+/// it is delivered again, and its letter may be added twice.
 #[derive(Debug, Drop)]
 pub struct DeadLetters {
     key: String,
@@ -63,8 +61,7 @@ pub struct DeadLetters {
 }
 
 impl DeadLetters {
-    /// For entries of this group of the stream `key`, letters go to the stream `dead`. It takes no
-    /// memory.
+    /// Letters for entries of this group of the stream `key` are added to the stream `dead`. Allocates nothing.
     pub fn new(alloc: Global, key: String, group: String, dead: String) -> DeadLetters
         ensures desk { desk_of result ≡ record { waiting = []; added = false } }
         ensures names { names_of result ≡ (string_bytes key, string_bytes group, string_bytes dead) }
@@ -80,9 +77,8 @@ impl DeadLetters {
         }
     }
 
-    /// An entry of this id, these deliveries and these fields is given up:
-    /// `XADD dead * entry id deliveries n field value ..` is to be asked, after those before it. An
-    /// `Err` changes nothing.
+    /// Gives up an entry with this id, delivery count and fields. It queues `XADD dead * entry id deliveries n field
+    /// value ..`. An `Err` changes nothing.
     #[tactic(auto, using(crate::proofs::LetterLemmas::posted))]
     pub fn give_up<F: ToFieldArgs>(
         &mut self,
@@ -103,14 +99,14 @@ impl DeadLetters {
         ensures names { names_of self.new ≡ names_of self.old }
         ensures asked { self.new.asked ≡ self.old.asked }
     {
-        let command = letter_command(alloc, self.dead.as_str(), id, deliveries, fields)?;
+        let command = build_letter(alloc, self.dead.as_str(), id, deliveries, fields)?;
         let id = String::from_str(alloc, id)?;
         self.letters.push(Letter { id, command })?;
         Ok(())
     }
 
-    /// Appends the bytes of the next command: the letter of the first entry, or, if it was added,
-    /// the acknowledgement of that entry; nothing if no entry is given up. An `Err` appends nothing.
+    /// Appends the bytes of the next command: the XADD of the first letter, or, if it was added, the XACK of its entry.
+    /// It appends nothing if no entry is queued. An `Err` appends nothing.
     pub fn request(&mut self, alloc: Global, out: &mut Vec<u8>) -> Result<LetterAsked, WriteError>
         ensures bytes { OnOk result (out.new.items ≡ out.old.items
             ++ letter_bytes (names_of self.old) (desk_of self.old)) }
@@ -141,8 +137,8 @@ impl DeadLetters {
         Ok(asked)
     }
 
-    /// Takes the reply to the command that was requested last: the id of a letter, after which its
-    /// entry is acknowledged, or how many were acknowledged, after which the next one follows.
+    /// Takes the reply to the command that was requested last. After the id of a letter its entry is acknowledged next;
+    /// after the number of acknowledged entries the next letter follows.
     pub fn answered(&mut self, reply: Reply) -> Result<(), LetterError>
         ensures ok { OnOk result ((serves self.old.asked (answer reply) ≡ true)
             × (desk_of self.new ≡ after_letter self.old.asked (desk_of self.old))) }
@@ -172,7 +168,7 @@ impl DeadLetters {
 }
 
 /// `XADD dead * entry id deliveries n field value ..`, as bytes.
-fn letter_command<F: ToFieldArgs>(
+fn build_letter<F: ToFieldArgs>(
     alloc: Global,
     dead: &str,
     id: &str,

@@ -1,4 +1,4 @@
-//! Commands that have a name, as bytes after others.
+//! Writes commands into a buffer.
 ghost use Rattle.std.specs.Prelude.{◌≡◌, ◌≢◌, ◌++◌, [], OnOk, OnErr};
 ghost use Rattle.redis_wire.specs.Packed.{command_bytes};
 
@@ -6,7 +6,7 @@ use redis_resp::{ToRedisArgs, WriteError};
 use redis_wire::PackError;
 use std::alloc::Global;
 
-/// Appends the bytes of a command, which has its name at least. An `Err` changes nothing.
+/// Appends the bytes of a command, which has at least a name. An `Err` changes nothing.
 pub fn append_command<T: ToRedisArgs>(
     alloc: Global,
     out: &mut Vec<u8>,

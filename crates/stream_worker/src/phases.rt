@@ -1,4 +1,4 @@
-//! Where a worker goes on after an answer.
+//! The next phase of a worker after a reply.
 ghost use Rattle.std.specs.Prelude.{◌≡◌, IfOk, map, string_bytes};
 ghost use Rattle.stream_group.specs.Worker.{after_claim, after_news, after_own};
 ghost use Rattle.stream_in_place.specs.SentMeaning.{sent_of};
@@ -10,7 +10,7 @@ use crate::state::Phase;
 use std::alloc::{AllocError, Global};
 use stream_in_place::{EntriesRef, SentRow};
 
-/// Its own pending entries are asked for until none is left.
+/// The phase after a read of its own pending entries: it reads on until none is left.
 #[tactic(auto, using(crate::proofs::PhaseLemmas::after_last))]
 pub fn next_own(entries: &[SentRow]) -> Result<Phase, AllocError>
     ensures { IfOk result (λ p. phase_of p
@@ -22,7 +22,7 @@ pub fn next_own(entries: &[SentRow]) -> Result<Phase, AllocError>
     }
 }
 
-/// Where to go on after its own pending entries, read in their bytes, if there are any.
+/// The phase after borrowed own pending entries, if there are any.
 pub fn next_own_in_place(
     alloc: Global,
     entries: &Option<EntriesRef<'_>>,
@@ -31,12 +31,12 @@ pub fn next_own_in_place(
 {
     match entries {
         None => Ok(Phase::ClaimFirst),
-        Some(entries) => phase_after_last(alloc, entries.again()),
+        Some(entries) => continue_after_last(alloc, entries.again()),
     }
 }
 
-/// Where to go on after the last of these entries.
-fn phase_after_last(alloc: Global, entries: EntriesRef<'_>) -> Result<Phase, AllocError>
+/// The phase that reads on after the last of these entries.
+fn continue_after_last(alloc: Global, entries: EntriesRef<'_>) -> Result<Phase, AllocError>
     ensures { IfOk result (λ p. phase_of p ≡ after_own (all_delivered entries.entry)) }
 {
     let mut last = None;
@@ -49,7 +49,7 @@ fn phase_after_last(alloc: Global, entries: EntriesRef<'_>) -> Result<Phase, All
     }
 }
 
-/// A claim goes on from the id that the server said, until it is `0-0`.
+/// The phase after a claim: it claims on from the id that the server returned, until it is `0-0`.
 pub fn next_claim(next: String) -> Phase
     ensures { phase_of result ≡ after_claim (string_bytes next) }
 {
@@ -60,7 +60,7 @@ pub fn next_claim(next: String) -> Phase
     }
 }
 
-/// After so many reads what others left is claimed.
+/// The phase after a read of new entries: after `every` reads, idle entries are claimed.
 pub fn next_round(every: usize, phase: Phase) -> Phase
     ensures { phase_of result ≡ after_news every (phase_of phase) }
 {

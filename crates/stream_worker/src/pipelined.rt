@@ -1,4 +1,4 @@
-//! An acknowledgement and the next question in one write.
+//! An acknowledgement and the next command in one write.
 ghost use Rattle.std.specs.Prelude.{◌≡◌, IfErr, IfOk};
 ghost use Rattle.stream_worker.specs.Pipelined.{BreaksBoth, BreaksPipelined, FailsPipelined, NamesNext, PassesNext};
 ghost use Rattle.stream_worker.specs.Pipelined.{SentBoth, SentNeither, TakesBoth, WentPipelined};
@@ -13,23 +13,22 @@ use redis_connection::Connection;
 use std::alloc::Global;
 use std::io::{Read, Write};
 
-/// What one way to the server and back came to.
+/// The result of one round trip.
 #[derive(Clone, Copy, Debug, PartialEq, Eq)]
 pub struct Pipelined {
-    /// Whether the round follows on an acknowledgement that went out in the same write, and was answered.
+    /// Whether an acknowledgement was sent in the same write before the round, and its reply was taken.
     pub acknowledged: bool,
     /// The round.
     pub round: Round,
 }
 
 impl Worker {
-    /// Makes one round, or two with one way to the server and back: if everything done is to be acknowledged,
-    /// the next question goes out in the same write as `XACK`, and both answers are taken.
+    /// Makes one round, or two in one round trip: if everything done is acknowledged, the next command is sent in the
+    /// same write as `XACK`, and both replies are taken.
     ///
-    /// What it does is what two calls of `round` do. If the first answer does not bring the worker on, the
-    /// second is passed over, and what it handed out is pending; if that one does not come, the error is
-    /// `Receive`. After an `Err` the worker begins again with what is pending for it, unless it is `Request`:
-    /// then nothing went out.
+    /// It does the same as two calls of `round`. If the first reply is an error, the second is discarded, and the
+    /// entries in it stay pending; if the second is not received, the error is `Receive`. After an `Err` the worker
+    /// reads its own pending entries again, unless it is `Request`: then nothing was sent.
     pub fn round_pipelined<H: Handler, R: Read + Drop, W: Write + Drop>(
         &mut self,
         alloc: Global,
@@ -86,8 +85,8 @@ impl Worker {
         }
     }
 
-    /// Requests the next command, and the one that follows if the first acknowledges everything done, and
-    /// sends both: what the second asks.
+    /// Requests the next command, and the one after it if the first acknowledges everything done, and sends both.
+    /// Returns what the second one is.
     fn send_both<H: Handler, R: Read + Drop, W: Write + Drop>(
         &mut self,
         alloc: Global,
@@ -111,7 +110,7 @@ impl Worker {
         Ok(next)
     }
 
-    /// Takes the answer to the acknowledgement, and the one to the question after it, which asked this.
+    /// Takes the reply to the acknowledgement, and the one to the command after it.
     fn take_both<H: Handler, R: Read + Drop, W: Write + Drop>(
         &mut self,
         alloc: Global,
@@ -136,14 +135,13 @@ impl Worker {
                     progress,
                 })
             }
-            Err(error) => Err(pass_next(alloc, connection, error, next)),
+            Err(error) => Err(discard_next(alloc, connection, error, next)),
         }
     }
 }
 
-/// Passes over the answer to the second command, which asked this, if the first answer came and did not bring
-/// the worker on: the error then.
-fn pass_next<R: Read + Drop, W: Write + Drop>(
+/// Discards the reply to the second command if the first reply was an error. Returns the error.
+fn discard_next<R: Read + Drop, W: Write + Drop>(
     alloc: Global,
     connection: &mut Connection<R, W>,
     error: RunError,

@@ -1,4 +1,4 @@
-//! The entries that an answer holds.
+//! The entries of a reply.
 ghost use Rattle.std.specs.Prelude.{◌≡◌, [], IfErr, IfOk, Some, map, option_map, string_bytes};
 ghost use Rattle.redis_resp.specs.Value.{tree};
 ghost use Rattle.stream_in_place.specs.SentMeaning.{claim_of, sent_all, sent_of};
@@ -13,13 +13,13 @@ use redis_resp::{PairList, Value, from_redis_value};
 use std::alloc::{AllocError, Global};
 use stream_in_place::{EntriesRef, SentClaim, SentRow, StreamsRef};
 
-/// The entries of the one stream in a reply to XREADGROUP.
+/// The entries of the only stream in a reply to XREADGROUP.
 pub fn read_entries(alloc: Global, key: &str, value: Value) -> Result<Vec<SentRow>, WorkerError>
     ensures ok { IfOk result (λ es. entries_read key.now (tree value) ≡ Some (sent_all es)) }
     ensures err { IfErr result (NotRead key.now (tree value)) }
 {
     let streams = read_streams(alloc, value)?;
-    match only_entries(alloc, key, streams) {
+    match pick_entries(alloc, key, streams) {
         Some(entries) => Ok(entries),
         None => Err(WorkerError::OtherStream),
     }
@@ -34,7 +34,7 @@ fn read_streams(alloc: Global, value: Value) -> Result<Vec<(String, Vec<SentRow>
     Ok(join(alloc, lists)?)
 }
 
-/// The streams, in order.
+/// Joins the lists of streams, in order.
 fn join(
     alloc: Global,
     lists: Vec<PairList<Vec<SentRow>>>,
@@ -48,8 +48,8 @@ fn join(
     Ok(streams)
 }
 
-/// The entries of the one stream, and none if there is no stream.
-fn only_entries(
+/// The entries of the only stream, or an empty list if there is no stream.
+fn pick_entries(
     alloc: Global,
     key: &str,
     mut streams: Vec<(String, Vec<SentRow>)>,
@@ -66,7 +66,7 @@ fn only_entries(
     }
 }
 
-/// The new entries of the one stream.
+/// The new entries of the only stream.
 pub fn read_new(alloc: Global, key: &str, value: Value) -> Result<Vec<SentRow>, WorkerError>
     ensures ok { IfOk result (λ es. news_read key.now (tree value) ≡ Some (sent_all es)) }
     ensures err { IfErr result (NotNews key.now (tree value)) }
@@ -102,7 +102,7 @@ fn nil_id(entries: &[SentRow]) -> Result<Option<String>, AllocError>
     Ok(None)
 }
 
-/// The id of the first entry with nil in place of its fields, of entries in their bytes.
+/// The id of the first borrowed entry with nil in place of its fields.
 pub fn nil_id_in_place<'a>(entries: EntriesRef<'a>) -> Option<&'a str>
     ensures { option_map (λ id. id.now) result ≡ first_nil entries.entry }
 {
@@ -114,7 +114,7 @@ pub fn nil_id_in_place<'a>(entries: EntriesRef<'a>) -> Option<&'a str>
     None
 }
 
-/// The id of the first entry with nil in place of its fields, of entries in their bytes, if there are any.
+/// The id of the first borrowed entry with nil in place of its fields, if there are entries.
 pub fn new_nil_id<'a>(entries: &Option<EntriesRef<'a>>) -> Option<&'a str>
     ensures { option_map (λ id. id.now) result ≡ first_nil (entries_sent entries.now) }
 {
@@ -124,7 +124,7 @@ pub fn new_nil_id<'a>(entries: &Option<EntriesRef<'a>>) -> Option<&'a str>
     }
 }
 
-/// The entries of the one stream in their bytes: what there is of it, which is nothing if there is none.
+/// The borrowed entries of the only stream; `None` if there is no stream.
 pub fn only_in_place<'a>(key: &str, mut streams: StreamsRef<'a>) -> Option<Option<EntriesRef<'a>>>
     ensures { option_map entries_sent result ≡ only_stream key.now streams.entry }
 {

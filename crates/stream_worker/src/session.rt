@@ -17,12 +17,12 @@ use redis_wire::{Reply, WireError};
 use std::alloc::Global;
 use std::io::{Read, Write};
 
-/// What a round came to.
+/// The result of a round.
 #[derive(Clone, Copy, Debug, PartialEq, Eq)]
 pub struct Round {
-    /// What was asked.
+    /// The command that was sent.
     pub asked: Asked,
-    /// Whether the handler goes on.
+    /// Whether the worker goes on.
     pub progress: Progress,
 }
 
@@ -50,7 +50,7 @@ impl Worker {
         Ok(())
     }
 
-    /// Requests the next command, sends it, and receives the answer to it.
+    /// Requests the next command, sends it, and receives its reply.
     fn try_ask<H: Handler, R: Read + Drop, W: Write + Drop>(
         &mut self,
         alloc: Global,
@@ -75,9 +75,8 @@ impl Worker {
         }
     }
 
-    /// Requests the next command, sends it, and receives the answer to it, which `answered` takes.
-    /// An `Err` is never `Answer`, and nothing is acknowledged then that was not committed. If the
-    /// command may have gone out, the worker begins again.
+    /// Requests the next command, sends it, and receives its reply, for `answered`. An `Err` is never `Answer`, and
+    /// then nothing is acknowledged that was not committed. If the command may have been sent, the worker begins again.
     pub fn ask<H: Handler, R: Read + Drop, W: Write + Drop>(
         &mut self,
         alloc: Global,
@@ -98,7 +97,7 @@ impl Worker {
         }
     }
 
-    /// Begins again with what is pending for it, if a command may have gone out.
+    /// Reads its own pending entries again, if a command may have been sent.
     pub(crate) fn begin_again_after(&mut self, error: RunError) -> RunError
         ensures same { result ≡ error }
         ensures machine { machine_of self.new ≡ machine_after error (machine_of self.old) }
@@ -113,8 +112,8 @@ impl Worker {
         error
     }
 
-    /// Receives the next answer, and takes it where it is in the bytes that came, which are given out then.
-    /// If memory runs out before the answer is read, it is `Receive`, and the answer is held.
+    /// Receives the next reply, takes it without a copy, and drops its bytes from the buffer. If memory runs out before
+    /// the reply is read, the error is `Receive`, and the reply stays in the buffer.
     pub(crate) fn take_next<H: Handler, R: Read + Drop, W: Write + Drop>(
         &mut self,
         alloc: Global,
@@ -150,7 +149,7 @@ impl Worker {
         }
     }
 
-    /// Makes one round, and after an error leaves the worker where it is.
+    /// Makes one round. An error leaves the worker as it is.
     fn try_round<H: Handler, R: Read + Drop, W: Write + Drop>(
         &mut self,
         alloc: Global,
@@ -171,10 +170,9 @@ impl Worker {
         Ok(Round { asked, progress })
     }
 
-    /// Makes one round of `run`, in which it asks, and takes the answer in the bytes that came, which are
-    /// given out then. If memory runs out before the answer is read, it is `Receive`, and the answer is
-    /// held. After an `Err` the worker begins again with what is pending for it, unless it is `Request`:
-    /// then nothing went out.
+    /// Makes one round of `run`: it sends a command, takes the reply without a copy, and drops its bytes from the
+    /// buffer. If memory runs out before the reply is read, the error is `Receive`, and the reply stays in the buffer.
+    /// After an `Err` the worker reads its own pending entries again, unless it is `Request`: then nothing was sent.
     pub fn round<H: Handler, R: Read + Drop, W: Write + Drop>(
         &mut self,
         alloc: Global,
@@ -195,12 +193,11 @@ impl Worker {
         }
     }
 
-    /// Runs for so many rounds, in each of which it asks, and takes the answer in its bytes; `Stopped` if
-    /// the handler says so before. What goes out are the commands of these rounds, and what comes in are
-    /// their answers.
+    /// Runs for `rounds` rounds. Each sends a command and takes its reply without a copy. Returns `Stopped` if the
+    /// handler returned `Stop`.
     ///
-    /// After an `Err` in place of an answer that answer may still come, so close the connection: over
-    /// another one the worker begins again with what is pending for it, and no entry is lost.
+    /// After an `Err` a reply may still arrive, so close the connection. Over a new one the worker reads its own
+    /// pending entries again, and no entry is lost.
     pub fn run<H: Handler, R: Read + Drop, W: Write + Drop>(
         &mut self,
         alloc: Global,
@@ -226,11 +223,11 @@ impl Worker {
         Ok(Progress::GoesOn)
     }
 
-    /// Acknowledges what is done, and asks for nothing else: rounds until nothing that is done is uncommitted,
-    /// and nothing that is committed is unacknowledged. There are two of them at most. The handler commits
-    /// before the second, and before the first if there is nothing else to acknowledge.
+    /// Acknowledges what is done, and reads nothing: it makes rounds until everything done is committed and
+    /// acknowledged. There are two of them at most. The handler commits before the second, and before the first if
+    /// there is nothing else to acknowledge.
     ///
-    /// It is for a worker that is to end, as after its handler said to stop. An `Err` is as of `run`.
+    /// Call it before a worker ends, as after its handler returned `Stop`. Errors are as for `run`.
     pub fn finish<H: Handler, R: Read + Drop, W: Write + Drop>(
         &mut self,
         alloc: Global,
@@ -249,7 +246,7 @@ impl Worker {
         self.settle(alloc, connection, handler)
     }
 
-    /// Makes one round, unless nothing is to be committed or acknowledged.
+    /// Makes one round, if something must be committed or acknowledged.
     fn settle<H: Handler, R: Read + Drop, W: Write + Drop>(
         &mut self,
         alloc: Global,
@@ -272,7 +269,7 @@ impl Worker {
     }
 }
 
-/// Waits until the next answer is held whole, which is the one to this: how many bytes it has.
+/// Waits until the next reply is complete in the buffer. Returns its length in bytes.
 fn received_len<R: Read + Drop, W: Write + Drop>(
     alloc: Global,
     connection: &mut Connection<R, W>,

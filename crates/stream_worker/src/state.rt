@@ -1,4 +1,4 @@
-//! What a worker knows.
+//! The settings and the state of a worker.
 ghost use Rattle.std.specs.Prelude.{◌≡◌, OnOk, OnErr, string_bytes};
 ghost use Rattle.stream_worker.specs.Checked.{checked, counted};
 ghost use Rattle.stream_worker.specs.Questions.{count_again};
@@ -6,69 +6,69 @@ ghost use Rattle.stream_worker.specs.Questions.{count_again};
 use std::fmt::{self, Display};
 use thiserror::Error;
 
-/// Where a group begins that a worker makes.
+/// The start id of a group that a worker creates.
 #[derive(Clone, Copy, Debug, PartialEq, Eq)]
 pub enum MakeGroup {
-    /// It makes none: `NOGROUP` is an error.
+    /// Creates no group: `NOGROUP` is an error.
     Never,
-    /// With all entries of the stream, `XGROUP CREATE key group 0 MKSTREAM`.
+    /// From the first entry of the stream, `XGROUP CREATE key group 0 MKSTREAM`.
     FromTheFirst,
-    /// With the entries that are added from then on, `XGROUP CREATE key group $ MKSTREAM`.
+    /// From entries added after it is created, `XGROUP CREATE key group $ MKSTREAM`.
     FromNow,
 }
 
-/// Why settings are none.
+/// Why the settings were refused.
 #[derive(Clone, Copy, Debug, PartialEq, Eq, Error)]
 pub enum SettingsError {
     /// The key is empty.
     #[error("the key is empty")]
     NoKey,
-    /// The group has no name.
+    /// The group's name is empty.
     #[error("the group has no name")]
     NoGroup,
-    /// The consumer has no name.
+    /// The consumer's name is empty.
     #[error("the consumer has no name")]
     NoConsumer,
-    /// No entry is asked for at once.
+    /// The count is 0.
     #[error("the count is 1 at least")]
     NoCount,
-    /// More than 10,000 entries are asked for at once.
+    /// The count is more than 10,000.
     #[error("the count is 10,000 at most")]
     LargeCount,
 }
 
-/// What a worker is asked to do.
+/// The settings of a worker.
 ///
-/// A stream, a group and a consumer have names, and from 1 to 10,000 entries are asked for at once.
+/// The names are not empty, and the count is from 1 to 10,000.
 #[derive(Debug, Drop)]
 pub struct Settings {
-    /// The stream.
+    /// The key of the stream.
     pub(crate) key: String,
-    /// The group of consumers.
+    /// The consumer group.
     pub(crate) group: String,
-    /// A name of its own for each worker, the same after a restart.
+    /// The consumer's name: unique to each worker, and the same after a restart.
     pub(crate) consumer: String,
-    /// At most so many entries are asked for at once, `COUNT`.
+    /// The most entries in a reply, `COUNT`.
     pub(crate) count: usize,
-    /// Whether entries that come again are asked for one at a time.
+    /// Whether entries that were delivered before are requested one at a time.
     pub(crate) one_at_a_time: bool,
-    /// For so many milliseconds the server waits for new entries, `BLOCK`; 0 for as long as it
-    /// takes.
+    /// How many milliseconds the server waits for new entries, `BLOCK`; 0 for no limit.
     pub(crate) block: usize,
-    /// Entries that others left for so many milliseconds are claimed.
+    /// Entries that are pending for other consumers and idle for this many milliseconds are claimed, `min-idle-time`.
     pub(crate) min_idle: usize,
-    /// It claims after so many reads of new entries; after each for 0 and 1.
+    /// How many reads of new entries are made between claims; it claims after each one for 0 and 1.
     pub(crate) every: usize,
-    /// Whether it makes the group if the server has none as it asks first.
+    /// Whether it creates the group if the first command returns `NOGROUP`.
     pub(crate) make_group: MakeGroup,
 }
 
 impl Settings {
-    /// For the stream `key`, the group and a consumer, whose name is its own and the same after a restart.
+    /// Settings for the stream `key`, a group and a consumer. The consumer's name must be unique, and the same after a
+    /// restart.
     ///
-    /// At most 1,000 entries at once, also of those that come again, up to five seconds of waiting, claims
-    /// of what was left for a minute, after every tenth read; and no group is made. A name that is empty is refused, the
-    /// first one by its cause.
+    /// The default count is 1,000, also for entries that were delivered before, and `BLOCK` is five seconds. It claims
+    /// entries that are idle for a minute, after every tenth read. No group is created. Returns the error of the first
+    /// name that is empty.
     pub fn new(key: String, group: String, consumer: String) -> Result<Settings, SettingsError>
         ensures { result ≡ checked key group consumer }
     {
@@ -94,10 +94,9 @@ impl Settings {
         })
     }
 
-    /// At most so many entries are asked for at once, `COUNT`: from 1 to 10,000. Another number is refused,
-    /// and changes nothing.
+    /// Sets the most entries in a reply, `COUNT`: from 1 to 10,000. Another number is refused, and changes nothing.
     ///
-    /// A commit of a file costs one sync, whatever the count; a reply has room for all its entries.
+    /// A commit of a file costs one sync, whatever the count. A reply has room for all its entries.
     pub fn set_count(&mut self, count: usize) -> Result<(), SettingsError>
         ensures counted { result ≡ counted count }
         ensures ok { OnOk result (self.new ≡ record self.old { count = count }) }
@@ -113,53 +112,53 @@ impl Settings {
         Ok(())
     }
 
-    /// Whether entries that come again are asked for one at a time, `COUNT 1`: its own pending entries, and
-    /// those that it claims. New entries are asked for by `count` all the same.
+    /// Sets whether entries that were delivered before are requested one at a time, `COUNT 1`: its own pending entries,
+    /// and those that it claims. New entries are still requested by `count`.
     ///
-    /// Then an entry that ends the process raises its own count of deliveries alone. It costs a round and a
-    /// commit for each entry that comes again.
+    /// Then an entry that ends the process raises only its own delivery count. It costs a round and a commit for each
+    /// entry that is delivered again.
     pub fn set_one_at_a_time(&mut self, one_at_a_time: bool)
         ensures { self.new ≡ record self.old { one_at_a_time = one_at_a_time } }
     {
         self.one_at_a_time = one_at_a_time;
     }
 
-    /// For so many milliseconds the server waits for new entries, `BLOCK`; 0 for as long as it takes.
+    /// How many milliseconds the server waits for new entries, `BLOCK`; 0 for no limit.
     pub fn set_block(&mut self, block: usize)
         ensures { self.new ≡ record self.old { block = block } }
     {
         self.block = block;
     }
 
-    /// Entries that others left for so many milliseconds are claimed.
+    /// Entries that are pending for other consumers and idle for this many milliseconds are claimed, `min-idle-time`.
     pub fn set_min_idle(&mut self, min_idle: usize)
         ensures { self.new ≡ record self.old { min_idle = min_idle } }
     {
         self.min_idle = min_idle;
     }
 
-    /// It claims after so many reads of new entries; after each for 0 and 1.
+    /// How many reads of new entries are made between claims; it claims after each one for 0 and 1.
     pub fn set_every(&mut self, every: usize)
         ensures { self.new ≡ record self.old { every = every } }
     {
         self.every = every;
     }
 
-    /// Whether it makes the group if the server has none as it asks first.
+    /// Whether it creates the group if the first command returns `NOGROUP`.
     pub fn set_make_group(&mut self, make_group: MakeGroup)
         ensures { self.new ≡ record self.old { make_group = make_group } }
     {
         self.make_group = make_group;
     }
 
-    /// The stream.
+    /// The key of the stream.
     pub fn key(&self) -> &str
         ensures { result.now ≡ string_bytes self.now.key }
     {
         self.key.as_str()
     }
 
-    /// The group of consumers.
+    /// The consumer group.
     pub fn group(&self) -> &str
         ensures { result.now ≡ string_bytes self.now.group }
     {
@@ -173,21 +172,21 @@ impl Settings {
         self.consumer.as_str()
     }
 
-    /// So many of the entries that come again are asked for at once.
+    /// The `COUNT` for entries that were delivered before.
     pub(crate) fn count_again(&self) -> usize
         ensures { result ≡ count_again self.now }
     {
         if self.one_at_a_time { 1 } else { self.count }
     }
 
-    /// How many milliseconds others may leave an entry before it is claimed.
+    /// How many milliseconds an entry may be idle before it is claimed.
     pub fn min_idle(&self) -> usize
         ensures { result ≡ self.now.min_idle }
     {
         self.min_idle
     }
 
-    /// After how many reads it claims.
+    /// How many reads of new entries are made between claims.
     pub fn every(&self) -> usize
         ensures { result ≡ self.now.every }
     {
@@ -195,36 +194,36 @@ impl Settings {
     }
 }
 
-/// Where a worker is.
+/// The phase of a worker.
 #[derive(Debug, Drop)]
 pub enum Phase {
-    /// It asks for its own pending entries from the first on.
+    /// It reads its own pending entries from the first on.
     Start,
-    /// It asks for its own pending entries after this id.
+    /// It reads its own pending entries after this id.
     Own(String),
-    /// It claims what others left, from the first on.
+    /// It claims idle entries, from the first on.
     ClaimFirst,
-    /// It claims what others left, from this id on.
+    /// It claims idle entries, from this id on.
     Claiming(String),
-    /// It asks for new entries, and did so this often since it last claimed.
+    /// It reads new entries, and has made this many reads since the last claim.
     Reading(usize),
 }
 
 /// What a worker knows of its group.
 #[derive(Clone, Copy, Debug, PartialEq, Eq)]
 pub enum GroupState {
-    /// Nothing yet.
+    /// Nothing is known yet.
     Unknown,
-    /// There was none as it asked first, and it is to make it.
+    /// The first command returned `NOGROUP`, and the worker creates the group next.
     Missing,
-    /// It was there: the server read from it, or made it.
+    /// The group exists: the server read from it, or created it.
     Known,
 }
 
-/// What a worker waits to be answered.
+/// The command whose reply a worker waits for.
 #[derive(Clone, Copy, Debug, PartialEq, Eq)]
 pub enum Asked {
-    /// Nothing.
+    /// No command.
     Nothing,
     /// XACK.
     Acknowledgement,
@@ -240,7 +239,7 @@ pub enum Asked {
     New,
 }
 
-/// The command, as an error names it.
+/// The name of the command, for error messages.
 impl Display for Asked {
     ghost use Rattle.std.specs.Prelude.{Some};
     ghost use Rattle.stream_worker.specs.Questions.{asked_name};

@@ -35,17 +35,17 @@ use stream_in_place::{EntryTape, SentRow};
 /// Whether a worker's handler goes on.
 #[derive(Clone, Copy, Debug, PartialEq, Eq)]
 pub enum Progress {
-    /// It does.
+    /// It goes on.
     GoesOn,
-    /// The handler said to stop. What was not done is pending, and is asked for next.
+    /// The handler returned `Stop`. Entries that are not done are pending, and are read next.
     Stopped,
 }
 
-/// A worker of a consumer group, without input and output: `request` says the next command, and
-/// `answered_in_place` takes its answer out of the bytes that came, or `answered` if it is decoded.
+/// A worker of a consumer group, without input and output. `request` writes the next command. `answered_in_place` takes
+/// its reply from the bytes received, or `answered` takes it decoded.
 ///
-/// It acknowledges just what its handler has done and committed, and what came with nil in place of
-/// its fields as its own pending entries were asked for, since it was deleted from the stream.
+/// It acknowledges just the entries that its handler has done and committed, and its own pending entries that were
+/// deleted from the stream. The server returns those with nil in place of fields.
 #[derive(Debug, Drop)]
 pub struct Worker {
     settings: Settings,
@@ -58,7 +58,7 @@ pub struct Worker {
 }
 
 impl Worker {
-    /// A worker that begins with what is pending for it. It takes no memory.
+    /// A worker that begins with its own pending entries. Allocates nothing.
     pub fn new(alloc: Global, settings: Settings) -> Worker
         ensures machine { machine_of result ≡ start settings.every }
         ensures settings { result.settings ≡ settings }
@@ -68,9 +68,8 @@ impl Worker {
         Worker::resumed(alloc, settings, Vec::new(alloc))
     }
 
-    /// A worker that acknowledges these entries first, whose handling was committed before it was
-    /// started, as the last lines of its file say; and then begins with what is pending for it. It takes
-    /// no memory.
+    /// A worker that first acknowledges these entries, which were committed before it was started, as the last lines of
+    /// its file show. Then it begins with its own pending entries. Allocates nothing.
     pub fn resumed(alloc: Global, settings: Settings, committed: Vec<String>) -> Worker
         ensures machine { machine_of result ≡ record (start settings.every) {
           to_acknowledge = ids_of committed;
@@ -90,25 +89,25 @@ impl Worker {
         }
     }
 
-    /// What it waits to be answered.
+    /// The command whose reply it waits for.
     pub fn asked(&self) -> Asked
         ensures { result ≡ self.now.asked }
     {
         self.asked
     }
 
-    /// Whether nothing is to be committed, and nothing to be acknowledged.
+    /// Whether there is nothing to commit and nothing to acknowledge.
     pub(crate) fn is_settled(&self) -> bool
         ensures { result ≡ is_settled (machine_of self.now) }
     {
         self.to_commit.is_empty() && self.to_acknowledge.is_empty()
     }
 
-    /// Appends the bytes of the next command: an acknowledgement of what is committed; if there is
-    /// nothing to acknowledge a group, if one is to be made; and else what the phase asks.
+    /// Appends the bytes of the next command: `XACK` if committed entries are to be acknowledged, else `XGROUP CREATE`
+    /// if the group is missing, else the command of the phase.
     ///
-    /// If something is done and not committed, the handler commits first. An `Err` appends
-    /// nothing, and after it the same is requested again.
+    /// If something is done and not committed, the handler commits first. An `Err` appends nothing, and the next call
+    /// requests the same command again.
     pub fn request<H: Handler>(
         &mut self,
         alloc: Global,
@@ -143,8 +142,8 @@ impl Worker {
         Ok(())
     }
 
-    /// Appends the command that follows on the acknowledgement that was requested, unless something is to
-    /// be committed before it: what it asks. With `None` nothing is appended, also if memory runs out.
+    /// Appends the command that follows the requested acknowledgement, and returns which it is. Returns `None` and
+    /// appends nothing if something must be committed before it, or if memory runs out.
     pub(crate) fn append_following(&self, alloc: Global, out: &mut Vec<u8>) -> Option<Asked>
         ensures some { IfSome result (λ next. (self.now.asked ≡ Asked.Acknowledgement)
             × ((machine_of self.now).to_commit ≡ [])
@@ -162,7 +161,7 @@ impl Worker {
         }
     }
 
-    /// Waits for the answer to this.
+    /// Records that it waits for the reply to this command.
     pub(crate) fn wait_for(&mut self, question: Asked)
         ensures machine { machine_of self.new ≡ machine_of self.old }
         ensures group { self.new.group ≡ self.old.group }
@@ -172,7 +171,7 @@ impl Worker {
         self.asked = question;
     }
 
-    /// Has the handler commit what is to be acknowledged next.
+    /// Calls the handler's `commit` for what is acknowledged next.
     fn commit<H: Handler>(&mut self, alloc: Global, handler: &mut H) -> Result<(), NotCommitted>
         ensures machine { OnOk result (machine_of self.new ≡ at_request (machine_of self.old)) }
         ensures history { OnOk result (H.history handler.new ≡ history_at_request H.with_commit
@@ -190,7 +189,7 @@ impl Worker {
         Ok(())
     }
 
-    /// Takes the answer to the command that was requested last. An error says which it was.
+    /// Takes the reply to the command that was requested last. An error names the command.
     pub fn answered<H: Handler>(
         &mut self,
         alloc: Global,
@@ -216,7 +215,7 @@ impl Worker {
         }
     }
 
-    /// Takes the answer to this.
+    /// Takes the reply to this command.
     fn take_reply<H: Handler>(
         &mut self,
         alloc: Global,
@@ -237,7 +236,7 @@ impl Worker {
     {
         match reply {
             Reply::Value(value) => {
-                self.group = group_after_value(self.group, asked);
+                self.group = update_group_after_value(self.group, asked);
                 self.take_value(alloc, asked, value, handler)
             }
             Reply::Error(error) => self.take_error(asked, error),
@@ -245,8 +244,8 @@ impl Worker {
         }
     }
 
-    /// Begins again with what is pending for it, after it acknowledged what is committed: as after a
-    /// connection that broke before an answer came. `run`, `round` and `ask` do so by themselves.
+    /// Begins again with its own pending entries, after it has acknowledged what is committed. Call it after a
+    /// connection broke before a reply came. `run`, `round` and `ask` do so by themselves.
     pub fn begin_again(&mut self)
         ensures machine { machine_of self.new ≡ begins_again (machine_of self.old) }
         ensures group { self.new.group ≡ self.old.group }
@@ -271,12 +270,12 @@ impl Worker {
         if asked == Asked::Nothing {
             return Err(WorkerError::NotAsked);
         }
-        match group_after_error(self.settings.make_group, asked, &error) {
+        match update_group_after_error(self.settings.make_group, asked, &error) {
             Some(group) => {
                 self.group = group;
                 Ok(Progress::GoesOn)
             }
-            None => Err(refusal(asked, error)),
+            None => Err(convert_server_error(asked, error)),
         }
     }
 
@@ -309,7 +308,7 @@ impl Worker {
         }
     }
 
-    /// Takes the value of an XACK: what was to be acknowledged is.
+    /// Takes the reply to XACK: nothing is left to acknowledge.
     fn take_count(&mut self, alloc: Global, value: Value) -> Result<Progress, WorkerError>
         ensures ok { IfOk result (λ p. (p ≡ Progress.GoesOn)
             × IsAcknowledged (tree value) (machine_of self.old) (machine_of self.new)) }
@@ -326,7 +325,7 @@ impl Worker {
         Ok(Progress::GoesOn)
     }
 
-    /// Takes a value with its own pending entries.
+    /// Takes a reply with its own pending entries.
     fn take_own<H: Handler>(
         &mut self,
         alloc: Global,
@@ -349,7 +348,7 @@ impl Worker {
         Ok(self.take(alloc, &entries, next, handler)?)
     }
 
-    /// Takes a value with what was claimed.
+    /// Takes a reply with claimed entries.
     fn take_claimed<H: Handler>(
         &mut self,
         alloc: Global,
@@ -372,7 +371,7 @@ impl Worker {
         Ok(self.take(alloc, &claim.claimed, next, handler)?)
     }
 
-    /// Takes a value with new entries.
+    /// Takes a reply with new entries.
     fn take_new<H: Handler>(
         &mut self,
         alloc: Global,
@@ -395,8 +394,8 @@ impl Worker {
         Ok(self.take(alloc, &entries, next, handler)?)
     }
 
-    /// Hands entries to the handler, and goes on in this phase; if it does not get through them it begins
-    /// again.
+    /// Passes entries to the handler, and goes on in this phase. If the handler stops before the last one, the worker
+    /// begins again.
     fn take<H: Handler>(
         &mut self,
         alloc: Global,
@@ -422,8 +421,8 @@ impl Worker {
     }
 }
 
-/// What is known of the group after a value: it is there, if entries of it were asked for, or it was made.
-fn group_after_value(group: GroupState, asked: Asked) -> GroupState
+/// What is known of the group after a value: it exists if entries were read from it, or if it was created.
+fn update_group_after_value(group: GroupState, asked: Asked) -> GroupState
     ensures { result ≡ by_value group asked }
 {
     match asked {
@@ -432,9 +431,12 @@ fn group_after_value(group: GroupState, asked: Asked) -> GroupState
     }
 }
 
-/// What an error says of the group: that it is to be made, or that it was. Only the first question of all
-/// may find that there is none.
-fn group_after_error(make: MakeGroup, asked: Asked, error: &ServerError) -> Option<GroupState>
+/// What an error says of the group: that it is missing, or exists. Only the first command of all may find it missing.
+fn update_group_after_error(
+    make: MakeGroup,
+    asked: Asked,
+    error: &ServerError,
+) -> Option<GroupState>
     ensures { result ≡ state_by (means make asked error.now.text.items) }
 {
     match asked {
@@ -456,20 +458,20 @@ fn group_after_error(make: MakeGroup, asked: Asked, error: &ServerError) -> Opti
     }
 }
 
-/// An error of the server in place of a value, by its name.
-fn refusal(asked: Asked, error: ServerError) -> WorkerError
+/// The error for an error reply, by its code.
+fn convert_server_error(asked: Asked, error: ServerError) -> WorkerError
     requires { asked ≢ Asked.Nothing }
     ensures { IsRefused asked error.text.items result }
 {
-    if tells_of_no_group(asked, &error) {
+    if reports_lost_group(asked, &error) {
         WorkerError::GroupIsGone(error)
     } else {
         WorkerError::Server(error)
     }
 }
 
-/// Whether an error says that the group is gone, which was there.
-fn tells_of_no_group(asked: Asked, error: &ServerError) -> bool
+/// Whether an error reports that a known group is gone.
+fn reports_lost_group(asked: Asked, error: &ServerError) -> bool
     ensures { result ≡ is_gone asked error.now.text.items }
 {
     match asked {

@@ -1,4 +1,4 @@
--- A handler that looks an entry up before it gathers a line.
+-- A handler that checks its file for an entry before it adds a line.
 use Rattle.std.specs.Prelude.{◌≡◌, List, [], ◌∷◌, ◌++◌, if◌then◌else◌}
 use Rattle.stream_failover.specs.Lookup.{unwritten}
 use Rattle.stream_files.specs.Files.{Fields}
@@ -7,14 +7,14 @@ use Rattle.stream_group.specs.Worker.{Delivered, Entry, Verdict, done, left_pend
 use Rattle.stream_worker.specs.Gathered.{Doings, committed_too}
 use Rattle.stream_worker.specs.Handling.{with_all}
 
--- what a handler makes of a verdict and of a commit, and what there is if lines are gathered over a file
+-- what a handler does with a verdict and with a commit, and its state with these lines added over a file
 pub record Keeps (R : Type 0) : Type 0 where
   pub with_verdict : R → Entry Fields → Verdict → R
   pub with_commit : R → R
   pub written : (lines file : List (Entry Fields)) → R
 
--- it looks up as the consumer of `stream_failover` does: an entry whose id has a line gets no second one. A commit puts the
--- lines at the end of the file
+-- it checks its file as the consumer of `stream_failover` does: an entry whose id has a line gets no second one. A
+-- commit puts the lines at the end of the file
 pub record LooksUp {R : Type 0} (k : Keeps R) : Type 0 where
   pub reply : (lines file : List (Entry Fields)) (es : List (Delivered Fields)) (verdicts : List Verdict)
       → with_all k.with_verdict (k.written lines file) (told_in es verdicts)
@@ -36,6 +36,6 @@ keeps_entries = record {
   written = λ lines file. record { loose = lines; committed = file };
 }
 
--- the law: it looks up
+-- the law: it checks its file
 abbrev pub EntriesLookUp : Type 0
 EntriesLookUp = LooksUp keeps_entries

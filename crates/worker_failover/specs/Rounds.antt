@@ -1,4 +1,4 @@
--- The rounds of a worker that looks up, as events of `stream_failover`.
+-- The rounds of a worker that checks its file, as events of `stream_failover`.
 use Rattle.std.specs.Prelude.{◌≡◌, ◌≤◌, ◌⊎◌, ℕ, ◌-◌, List, [], ◌∷◌, ◌++◌, map, take, Bool, false, Option, Some, None}
 use mathlib.Core.Logic.{inl, inr}
 use Rattle.redis_connection.specs.Link.{Link}
@@ -37,7 +37,7 @@ pub record IsConsumer {R : Type 0} (k : Keeps R) (v : Standing R) (c : Consumer 
   pub answer : c.answer ≡ None
   pub history : v.history ≡ k.written c.lines c.file
 
--- the event is none of this consumer; and if all is calm, it is no failover
+-- the event is none of this consumer; and if `calm`, it is no failover
 abbrev pub IsBesides : (calm : Bool) → Event Fields → Type 0
 IsBesides calm (Plain event) = IsOfOthers event
 IsBesides calm (Arrive_waits executes asked said) = Unit {0}
@@ -51,13 +51,13 @@ AreBesides calm (e ∷ es) = IsBesides calm e × AreBesides calm es
 
 -- what becomes of the question of a round, and of the WAIT after it
 pub data Fate : Type 0 where
-  -- it comes to the server in this round. Of pending entries the server picks these, and it says from which id the next
-  -- claim goes on. So many replicas confirm it
+  -- it comes to the server in this round. Of pending entries the server picks these, and it says from which id the
+  -- next claim goes on. `said` replicas confirm it
   comes : (pick : Id → Bool) (next : Id) (said : ℕ) → Fate
   -- the server refuses it, or it comes later, or never. A question for entries that comes later is an event of others
   comes_not : Fate
 
--- what others do in a round, and what becomes of its question. If it is calm, the server does not fail over
+-- what others do in a round, and what becomes of its question. If `calm`, the server does not fail over
 pub record Meantime (calm : Bool) : Type 0 where
   pub before : List (Event Fields)  -- before the commit
   pub earlier : List (Event Fields)  -- after that, before the question comes to the server
@@ -79,7 +79,7 @@ question_events wait n (comes pick next said) (i ∷ ids) = Plain Acknowledge_no
 question_events wait n comes_not [] = []
 question_events wait n comes_not (i ∷ ids) = Plain Acknowledge_later ∷ []
 
--- so many confirm it
+-- this many replicas confirm it
 abbrev pub IsSaid : Fate → ℕ → Type 0
 IsSaid (comes pick next said) n = said ≡ n
 IsSaid comes_not n = Unit {0}
@@ -108,7 +108,7 @@ module _ {R : Type 0} (k : Keeps R) (wait : Option Wait) (settings : Settings) (
     HearsTheReply s w reply =
         IsHeard (run s until_replied w).now.consumer.answer (hears settings now_asking.asked reply)
 
-    -- a round that fails, after this was handled of its reply. If nothing went out, the worker may have committed
+    -- a round that fails, after this was handled of its reply. If nothing was sent, the worker may have committed
     abbrev pub events_by : RunError → (handled : List (Event Fields)) → List (Event Fields)
     events_by (causes.Request e) handled = map Plain (unasked_events v.machine e)
     events_by e handled = until_replied ++ (handled ++ Plain Reconnect ∷ [])

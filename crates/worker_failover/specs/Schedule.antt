@@ -1,4 +1,5 @@
--- A worker's code that looks up is the consumer of `stream_failover`, whose server may go back to an earlier state.
+-- The code of a worker that checks its file is the consumer of `stream_failover`, whose server may go back to an
+-- earlier state.
 use Rattle.std.specs.Prelude.{◌≡◌, List, [], ◌∷◌, ◌++◌, take, true, false, Option, Some}
 use Rattle.redis_connection.specs.Link.{Link}
 use Rattle.stream_confirm.specs.declared.error.RoundError.{RoundError}

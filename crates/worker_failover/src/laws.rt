@@ -1,23 +1,23 @@
-//! What holds of a worker that looks up, over each schedule with failovers.
+//! What holds of a worker that checks its file for each entry, over each schedule with failovers.
 ghost use Rattle.worker_failover.specs.Keeps.{EntriesLookUp};
 ghost use Rattle.worker_failover.specs.Schedule.{CodeLosesNothing, CodeLosesNothingAdded, CodeWritesEachRecord};
 ghost use Rattle.worker_failover.specs.Schedule.{CodeWritesOnce, CodeWritesTheLog};
 ghost use Rattle.worker_failover.specs.Schedule.{RunsAreEvents, RunsWait};
 
-/// A handler that keeps entries, and looks each up before it adds it, does with a reply and with a
-/// commit what the consumer of `stream_failover` does.
+/// A handler that keeps entries, and adds none whose id it has, does with a reply and with a commit what the
+/// consumer of `stream_failover` does.
 pub fn entries_are_looked_up()
     ensures { EntriesLookUp }
 {}
 
-/// A worker whose handler looks up (`LooksUp`) is the consumer of `stream_failover`, in which the
-/// server may go back to an earlier state. It is so after each schedule (`Runs`) of rounds, of rounds
-/// that fail or are not confirmed, of breaks, of crashes with the start after them, and of failovers.
-/// If its rounds are those of `round_confirmed`, a WAIT comes with each of its questions for entries.
+/// A worker whose handler checks its file (`LooksUp`) is the consumer of `stream_failover`, in which the server
+/// may go back to an earlier state. It is so after each schedule (`Runs`) of rounds, of rounds that fail or are
+/// not confirmed, of breaks, of crashes with the start after them, and of failovers. If its rounds are those of
+/// `round_confirmed`, a WAIT comes with each of its questions for entries.
 ///
-/// There are four premises. The worker hears the reply that the model's server sent. The reply to WAIT
-/// is the one that this server sent. A start reads back the lines of its last commit, or more. After
-/// a failover the master is a replica that confirmed: that is the model's own premise.
+/// There are four premises. The worker takes the reply that the model's server sent. The reply to WAIT is the
+/// one that this server sent. A start reads back the lines of its last commit, or more. After a failover the
+/// master is a replica that confirmed: that is the model's own premise.
 pub fn rounds_are_those_of_failover<R>()
     ensures runs { RunsAreEvents R }
     ensures waits { RunsWait R }

@@ -1,5 +1,5 @@
-//! A worker that looks up and asks WAIT, beside the consumer of `stream_failover`, whose server may go back to an
-//! earlier state. It runs nothing: its functions are laws.
+//! A worker that checks its file and asks WAIT, as the consumer of `stream_failover`, whose server may go back
+//! to an earlier state. It runs nothing: its functions are laws.
 #![tactic(auto)]
 
 pub mod laws;

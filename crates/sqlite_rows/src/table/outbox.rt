@@ -8,7 +8,7 @@ ghost use Rattle.row_table.specs.Posts.{post_for};
 ghost use Rattle.sqlite_rows.specs.Outbox.{AreValues, Counts, FoundPost, ShowsOutbox, WaitsIn, bytes_value, enqueue_text, first_text, number_value, outbox_create, post_values, remove_text};
 ghost use Rattle.sqlite_rows.specs.Statements.{IsMade, IsNamedAtOpening, LeavesBy, Ran, RanOne, Shows, TakesBack, key_values, row_values};
 
-use super::{SqliteTable, definition, make, malformed, refused};
+use super::{SqliteTable, definition, make, malformed_error, refused};
 use crate::error::OpenError;
 use crate::values::{values_of_key, values_of_post};
 use row_table::{Post, PostedRow, Row, Table, TableError, WithOutbox};
@@ -19,7 +19,7 @@ use std::alloc::Global;
 /// The name of the outbox.
 pub const OUTBOX: &str = "outbox";
 
-/// Makes the outbox.
+/// The statement that creates the outbox.
 pub const OUTBOX_CREATE: &str =
     "CREATE TABLE outbox (milliseconds INTEGER NOT NULL, sequence INTEGER NOT NULL, command BLOB NOT NULL, question BLOB NOT NULL, PRIMARY KEY (milliseconds, sequence)) STRICT";
 
@@ -40,7 +40,7 @@ pub struct SqliteOutbox<S: Alter + Drop> {
 }
 
 impl<S: Alter + Drop> SqliteOutbox<S> {
-    /// The table with its outbox, which is made if it is not there.
+    /// The table with its outbox, created if it is not there.
     pub fn beside(alloc: Global, table: SqliteTable<S>) -> Result<SqliteOutbox<S>, OpenError>
         ensures named { IfErr result IsNamedAtOpening }
         ensures form { IfOk result (λ outbox. outbox.table.form ≡ table.form) }
@@ -144,7 +144,7 @@ impl<S: Alter + Drop> WithOutbox for SqliteOutbox<S> {
     }
 }
 
-/// What waits in an outbox.
+/// The posts in an outbox.
 #[derive(Drop)]
 pub struct Waiting {
     /// How many posts.
@@ -154,7 +154,7 @@ pub struct Waiting {
 }
 
 impl<S: Alter + Drop> SqliteTable<S> {
-    /// What waits in the outbox of its database; none if there is no outbox, or nothing is in it.
+    /// The posts in the outbox of its database; none if there is no outbox, or it is empty.
     pub fn waiting(&mut self, alloc: Global) -> Result<Option<Waiting>, TableError>
         ensures shown { IfOk result (λ found. WaitsIn S.Store self.old.conn self.new.conn
             (option_map (λ w. (w.count, post_of w.first)) found)) }
@@ -171,7 +171,7 @@ impl<S: Alter + Drop> SqliteTable<S> {
     }
 }
 
-/// Whether the query shows the outbox.
+/// Whether the database has the outbox.
 fn has_outbox<S: Alter + Drop>(alloc: Global, conn: &mut Connection<S>) -> Result<bool, TableError>
     ensures { IfOk result (ShowsOutbox S.Store conn.old conn.new) }
 {
@@ -182,7 +182,7 @@ fn has_outbox<S: Alter + Drop>(alloc: Global, conn: &mut Connection<S>) -> Resul
     }
 }
 
-/// How many posts the query shows.
+/// How many posts the query returns.
 fn count_posts<S: Alter + Drop>(conn: &mut Connection<S>) -> Result<u64, TableError>
     ensures { IfOk result (Counts S.Store conn.old conn.new) }
 {
@@ -206,7 +206,7 @@ fn write<S: Alter + Drop>(
     }
 }
 
-/// The post that the query shows; none if it shows no row.
+/// The post that the query returns; none if it returns no row.
 fn first_post<S: Alter + Drop>(
     alloc: Global,
     conn: &mut Connection<S>,
@@ -238,7 +238,7 @@ fn number_at(row: &Shown, at: usize) -> Result<u64, TableError>
 {
     match row.get_ref(at) {
         Ok(ValueRef::Int(number)) => unsigned(number),
-        _ => Err(malformed()),
+        _ => Err(malformed_error()),
     }
 }
 
@@ -248,7 +248,7 @@ fn unsigned(number: i64) -> Result<u64, TableError>
 {
     match u64::try_from(number) {
         Ok(number) => Ok(number),
-        Err(_) => Err(malformed()),
+        Err(_) => Err(malformed_error()),
     }
 }
 
@@ -258,6 +258,6 @@ fn bytes_at(alloc: Global, row: &Shown, at: usize) -> Result<Vec<u8>, TableError
 {
     match row.get_ref(at) {
         Ok(ValueRef::Blob(bytes)) => Ok(Vec::from_slice(alloc, bytes)?),
-        _ => Err(malformed()),
+        _ => Err(malformed_error()),
     }
 }

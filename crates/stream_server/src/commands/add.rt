@@ -92,7 +92,7 @@ fn append(
     Ok(Answer::Id(id))
 }
 
-/// The id that a new entry gets, where there is one behind the last one.
+/// The id of a new entry, if there is one after the last one.
 fn id_for(last: EntryId, wanted: NewId, now: u64) -> Option<EntryId>
     ensures above { IfSome result (λ id. id_order last id ≡ Less) }
     ensures wanted { IfSome result (IsIdFor last wanted now) }

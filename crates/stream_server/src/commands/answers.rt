@@ -1,4 +1,4 @@
-//! What commands answer.
+//! Replies of commands.
 ghost use Rattle.std.specs.Prelude.{◌≡◌, ◌++◌, ◌∷◌, [], map, IfOk, OnOk};
 ghost use Rattle.redis_resp.specs.Tree.{bulk};
 ghost use Rattle.stream_server.specs.Acknowledging.{count_answer};
@@ -9,21 +9,21 @@ use crate::answer::Answer;
 use std::alloc::{AllocError, Global};
 use stream_store::Entry;
 
-/// A count as an answer.
+/// A count as a reply.
 pub(super) fn number(n: u64) -> Answer
     ensures { result ≡ count_answer n }
 {
     Answer::Int(i64::try_from(n).unwrap_or(i64::MAX))
 }
 
-/// A length as an answer.
+/// A length as a reply.
 pub(super) fn length(n: usize) -> Answer
     ensures { result ≡ count_answer n }
 {
     Answer::Int(i64::try_from(n).unwrap_or(i64::MAX))
 }
 
-/// These answers as one array.
+/// These replies as one array.
 pub(super) fn array<const N: usize>(alloc: Global, items: [Answer; N]) -> Result<Answer, AllocError>
     ensures { IfOk result (λ answer. sent answer ≡ array_of (item_list (map sent items.entry))) }
 {
@@ -33,7 +33,7 @@ pub(super) fn array<const N: usize>(alloc: Global, items: [Answer; N]) -> Result
     }
 }
 
-/// One more answer.
+/// Appends a reply.
 pub(super) fn put(answers: &mut Vec<Answer>, answer: Answer) -> Result<(), AllocError>
     ensures { OnOk result (answers.new.items ≡ answers.old.items ++ answer ∷ []) }
 {
@@ -43,14 +43,14 @@ pub(super) fn put(answers: &mut Vec<Answer>, answer: Answer) -> Result<(), Alloc
     }
 }
 
-/// Bytes as an answer.
+/// Bytes as a reply.
 pub(super) fn bytes_answer(alloc: Global, bytes: &[u8]) -> Result<Answer, AllocError>
     ensures { IfOk result (λ answer. sent answer ≡ plain (bulk bytes.now)) }
 {
     Ok(Answer::Bytes(Vec::from_slice(alloc, bytes)?))
 }
 
-/// An entry as an answer: its id and its fields.
+/// An entry as a reply: its id and its fields.
 pub(super) fn entry_answer(alloc: Global, entry: &Entry) -> Result<Answer, AllocError>
     ensures { IfOk result (λ answer. sent answer ≡ sent_entry entry.now) }
 {
@@ -58,7 +58,7 @@ pub(super) fn entry_answer(alloc: Global, entry: &Entry) -> Result<Answer, Alloc
     array(alloc, [Answer::Id(entry.id), fields])
 }
 
-/// An entry that was claimed, or its id where that alone is asked for.
+/// A claimed entry as a reply, or its id alone with JUSTID.
 pub(super) fn claimed_answer(
     alloc: Global,
     entry: &Entry,
@@ -73,7 +73,7 @@ pub(super) fn claimed_answer(
     }
 }
 
-/// The names and values of an entry as an answer.
+/// The names and values of an entry as a reply.
 pub(super) fn fields_answer(alloc: Global, fields: &[Vec<u8>]) -> Result<Answer, AllocError>
     ensures { IfOk result (λ answer. sent answer ≡ sent_fields fields.now) }
 {

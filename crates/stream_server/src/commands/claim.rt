@@ -12,7 +12,7 @@ use crate::refusal::Refusal;
 use std::alloc::{AllocError, Global};
 use stream_store::{EntryId, Group, Pending, Stream};
 
-/// What XCLAIM changes of the entries that it claims.
+/// The options of XCLAIM.
 #[derive(Clone, Copy)]
 struct ClaimOptions<'a> {
     consumer: &'a [u8],
@@ -25,8 +25,8 @@ struct ClaimOptions<'a> {
     last_id: EntryId,
 }
 
-/// `XCLAIM key group consumer min-idle id .. [IDLE ms] [TIME ms] [RETRYCOUNT n] [FORCE] [JUSTID]
-/// [LASTID id]`. All memory is taken before the group is changed.
+/// `XCLAIM key group consumer min-idle id .. [IDLE ms] [TIME ms] [RETRYCOUNT n] [FORCE] [JUSTID] [LASTID id]`.
+/// All memory is allocated before the group is changed.
 pub(super) fn claim(
     alloc: Global,
     streams: &mut [Stream],
@@ -46,7 +46,7 @@ pub(super) fn claim(
     Ok(Answer::Array(answers))
 }
 
-/// What XCLAIM changes and answers.
+/// The changes and the reply of XCLAIM.
 #[derive(Drop)]
 struct Outcome<'a> {
     draft: Draft<'a>,
@@ -54,7 +54,7 @@ struct Outcome<'a> {
     answers: Vec<Answer>,
 }
 
-/// What is changed, and what is answered.
+/// The changes and the reply.
 fn claimed<'a>(
     alloc: Global,
     streams: &[Stream],
@@ -83,7 +83,7 @@ fn claimed<'a>(
     })
 }
 
-/// What is pending of these entries is in the part too.
+/// Copies the pending ones of these entries into the part.
 fn take_up(group: &Group, part: &mut Group, ids: &[EntryId]) -> Result<(), AllocError> {
     for id in ids {
         if let Some(pending) = group.get(*id) {
@@ -93,7 +93,7 @@ fn take_up(group: &Group, part: &mut Group, ids: &[EntryId]) -> Result<(), Alloc
     Ok(())
 }
 
-/// Of these entries, what is no longer pending in the part is not pending in the group.
+/// Removes those of these entries from the group that are no longer pending in the part.
 fn drop_missing(streams: &mut [Stream], draft: &Draft<'_>, ids: &[EntryId]) {
     let Ok(index) = place_of(streams, draft.key) else {
         return;
@@ -109,7 +109,7 @@ fn drop_missing(streams: &mut [Stream], draft: &Draft<'_>, ids: &[EntryId]) {
     }
 }
 
-/// What a claim without options is.
+/// The options of a claim without any.
 fn usual_options<'a>(
     consumer: &'a [u8],
     now: u64,
@@ -130,7 +130,7 @@ fn usual_options<'a>(
     })
 }
 
-/// How many ids stand in front.
+/// How many of the first words are ids.
 fn ids_len(words: &[Vec<u8>]) -> usize
     ensures { result ≤ length words.now }
 {
@@ -140,7 +140,7 @@ fn ids_len(words: &[Vec<u8>]) -> usize
         .count()
 }
 
-/// Claims the entries one by one; what is no longer in the stream is no longer pending.
+/// Claims the entries one by one; those that were deleted from the stream are removed from the pending entries.
 fn claim_all(
     alloc: Global,
     stream: &Stream,
@@ -157,7 +157,7 @@ fn claim_all(
         let Some(deliveries) = deliveries_of(group, *id, options) else {
             continue;
         };
-        // A consumer that claims nothing is not made.
+        // A consumer that claims nothing is not created.
         let number = group.see(alloc, options.consumer, options.now)?;
         group.give(Pending {
             id: *id,
@@ -173,7 +173,7 @@ fn claim_all(
     Ok(answers)
 }
 
-/// How often the entry will have been given, where it may be claimed.
+/// The new delivery count of the entry, if it may be claimed.
 fn deliveries_of(group: &Group, id: EntryId, options: &ClaimOptions<'_>) -> Option<u64> {
     let more = if options.only_ids { 0 } else { 1 };
     let usual = match group.get(id) {
@@ -193,7 +193,7 @@ fn deliveries_of(group: &Group, id: EntryId, options: &ClaimOptions<'_>) -> Opti
     Some(options.deliveries.unwrap_or(usual))
 }
 
-/// The options behind the ids, in any order; of one kind the last counts.
+/// The options after the ids, in any order; the last of a kind counts.
 fn options_in<'a>(
     alloc: Global,
     usual: ClaimOptions<'a>,
@@ -210,7 +210,7 @@ fn options_in<'a>(
     Ok(options)
 }
 
-/// Reads one option, and gives the words behind it.
+/// Parses one option, and returns the words after it.
 fn option_at<'w>(
     alloc: Global,
     options: &mut ClaimOptions<'_>,
@@ -234,7 +234,7 @@ fn option_at<'w>(
     Ok(behind)
 }
 
-/// Reads the option of this name.
+/// Parses the option of this name.
 fn put_option(
     alloc: Global,
     options: &mut ClaimOptions<'_>,
@@ -255,7 +255,7 @@ fn put_option(
     Ok(())
 }
 
-/// The time so many milliseconds ago; one in the future is none.
+/// The time this many milliseconds ago; `now` for a negative number or one above `now`.
 fn idle_since(now: u64, text: &[u8]) -> Result<u64, Refusal> {
     match integer_in(text) {
         Some(idle) => match u64::try_from(idle) {
@@ -266,7 +266,7 @@ fn idle_since(now: u64, text: &[u8]) -> Result<u64, Refusal> {
     }
 }
 
-/// The time; one in the future is none.
+/// The time; `now` if it is in the future or negative.
 fn time_in(now: u64, text: &[u8]) -> Result<u64, Refusal> {
     match integer_in(text) {
         Some(time) => match u64::try_from(time) {
@@ -277,7 +277,7 @@ fn time_in(now: u64, text: &[u8]) -> Result<u64, Refusal> {
     }
 }
 
-/// How often an entry was given, where that is said.
+/// The delivery count of RETRYCOUNT.
 fn deliveries_in(text: &[u8]) -> Result<Option<u64>, Refusal> {
     match integer_in(text) {
         Some(n) => Ok(u64::try_from(n).ok()),
@@ -285,7 +285,7 @@ fn deliveries_in(text: &[u8]) -> Result<Option<u64>, Refusal> {
     }
 }
 
-/// The refusal of an option that XCLAIM does not have.
+/// The error for an option that XCLAIM does not have.
 fn unrecognized(alloc: Global, word: &[u8]) -> Refusal {
     let word = shown(word, usize::MAX);
     refusal_of(alloc, &[b"ERR Unrecognized XCLAIM option '", word, b"'"])

@@ -1,4 +1,4 @@
-//! `PING`, `SELECT`, `CLIENT`, and the others that concern the connection.
+//! `PING`, `SELECT`, `CLIENT`, and the other commands of the connection.
 ghost use Rattle.std.specs.Prelude.{◌≡◌, ◌<◌, length, IfOk, OnErr};
 
 use super::answers::bytes_answer;
@@ -12,7 +12,7 @@ use crate::refusal::Refusal;
 use crate::session::Session;
 use std::alloc::Global;
 
-/// What concerns the connection.
+/// The commands of the connection.
 #[derive(Clone, Copy, Debug)]
 pub(crate) enum Connection {
     Ping,
@@ -22,7 +22,7 @@ pub(crate) enum Connection {
     Client,
 }
 
-/// What CLIENT does.
+/// The subcommands of CLIENT.
 #[derive(Clone, Copy)]
 enum Action {
     SetName,
@@ -36,7 +36,7 @@ const WIDE_INDEX: Refusal = Refusal::Fixed(
     "ERR value is out of range, value must between -2147483648 and 2147483647",
 );
 
-/// Does a command that concerns the connection.
+/// Executes a command of the connection.
 pub(super) fn answered(
     alloc: Global,
     session: &mut Session,
@@ -66,7 +66,7 @@ fn ping(alloc: Global, word: &[u8], arguments: &[Vec<u8>]) -> Result<Answer, Ref
     }
 }
 
-/// `SELECT index`, of the one that there is.
+/// `SELECT index`, for index 0 only.
 fn select(arguments: &[Vec<u8>]) -> Result<Answer, Refusal> {
     let [index, ..] = arguments else {
         return Err(SYNTAX);
@@ -95,7 +95,7 @@ fn client(
     }
 }
 
-/// Whether there is such an action of CLIENT, and it may have so many arguments.
+/// Whether there is such an action of CLIENT, and it may have this many arguments.
 pub(super) fn check(alloc: Global, word: &[u8], arguments: &[Vec<u8>]) -> Result<(), Refusal>
     ensures { IfOk result (λ _. 0 < length arguments.now) }
 {
@@ -103,7 +103,7 @@ pub(super) fn check(alloc: Global, word: &[u8], arguments: &[Vec<u8>]) -> Result
     Ok(())
 }
 
-/// The action of this name, where it may have so many arguments.
+/// The action of this name, if it may have this many arguments.
 fn action_in(alloc: Global, word: &[u8], arguments: &[Vec<u8>]) -> Result<Action, Refusal>
     ensures { IfOk result (λ _. 0 < length arguments.now) }
 {
@@ -130,7 +130,7 @@ fn action_named(subcommand: &[u8]) -> Option<Action> {
     }
 }
 
-/// Whether the action may have so many arguments.
+/// Whether the action may have this many arguments.
 fn has_right_count(action: Action, count: usize) -> bool {
     match action {
         Action::SetName => count == 1,
@@ -138,7 +138,7 @@ fn has_right_count(action: Action, count: usize) -> bool {
     }
 }
 
-/// `SETNAME`; an empty name is none.
+/// `SETNAME`; an empty name removes the name.
 fn set_name(alloc: Global, session: &mut Session, arguments: &[Vec<u8>]) -> Result<Answer, Refusal>
     ensures { OnErr result (session.new ≡ session.old) }
 {

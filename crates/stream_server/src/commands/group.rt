@@ -17,7 +17,7 @@ use crate::refusal::Refusal;
 use std::alloc::Global;
 use stream_store::{EntryId, Group, Stream};
 
-/// What XGROUP does.
+/// The subcommands of XGROUP.
 #[derive(Clone, Copy, PartialEq, Eq)]
 enum Action {
     Create,
@@ -58,7 +58,7 @@ pub(super) fn group(
     }
 }
 
-/// The action on a stream that is there.
+/// Executes the action on an existing stream.
 fn done_on(
     alloc: Global,
     stream: &mut Stream,
@@ -86,7 +86,7 @@ fn done_on(
     }
 }
 
-/// Whether there is such an action, and it may have so many arguments.
+/// Whether there is such an action, and it may have this many arguments.
 pub(super) fn check(alloc: Global, word: &[u8], arguments: &[Vec<u8>]) -> Result<(), Refusal>
     ensures { IfOk result (λ _. 0 < length arguments.now) }
 {
@@ -94,7 +94,7 @@ pub(super) fn check(alloc: Global, word: &[u8], arguments: &[Vec<u8>]) -> Result
     Ok(())
 }
 
-/// The action of this name, where it may have so many arguments.
+/// The action of this name, if it may have this many arguments.
 fn action_in(alloc: Global, word: &[u8], arguments: &[Vec<u8>]) -> Result<Action, Refusal>
     ensures { IfOk result (λ _. 0 < length arguments.now) }
 {
@@ -127,7 +127,7 @@ fn action_named(subcommand: &[u8]) -> Option<Action> {
     }
 }
 
-/// Whether the action may have so many arguments.
+/// Whether the action may have this many arguments.
 fn has_right_count(action: Action, count: usize) -> bool {
     match action {
         Action::Create | Action::SetId => count >= 3,
@@ -144,7 +144,7 @@ struct GroupOptions {
     entries_read: Option<i64>,
 }
 
-/// What stands behind the id, or behind the name of a consumer.
+/// The options after the id, or after the name of a consumer.
 fn options_in(
     alloc: Global,
     action: Action,
@@ -178,7 +178,7 @@ fn options_in(
     Ok(options)
 }
 
-/// A number of entries; -1 says that it is not known.
+/// The number of ENTRIESREAD; -1 means that it is not known.
 fn entries_read_in(text: &[u8]) -> Result<Option<i64>, Refusal> {
     let n = integer(text)?;
     if n < -1 {
@@ -197,7 +197,7 @@ enum Start {
 }
 
 impl Start {
-    /// The id at which it begins, of a stream with this last id.
+    /// The id at which it begins, in a stream with this last id.
     fn id(self, last_id: EntryId) -> EntryId
         ensures { result ≡ start_id self last_id }
     {
@@ -208,7 +208,7 @@ impl Start {
     }
 }
 
-/// Where the first of the words has a group begin.
+/// Where a group begins by the first of the words.
 fn start_in(words: &[Vec<u8>]) -> Result<Start, Refusal>
     ensures { IfOk result (λ start. HoldsAt (IsStartIn start) words.now 0) }
 {
@@ -222,7 +222,7 @@ fn start_in(words: &[Vec<u8>]) -> Result<Start, Refusal>
     Ok(Start::At(id))
 }
 
-/// `CREATE` on a stream that is not there yet.
+/// `CREATE` with MKSTREAM, if the stream does not exist.
 fn create_stream(
     alloc: Global,
     streams: &mut Vec<Stream>,
@@ -303,7 +303,7 @@ fn change_group(
     }
 }
 
-/// Where `SETID` sets a group, of a stream with this last id.
+/// The id of `SETID`, in a stream with this last id.
 fn moved_to(last_id: EntryId, word: &[u8]) -> Result<EntryId, Refusal> {
     if word == b"$".as_slice() {
         Ok(last_id)
@@ -312,7 +312,7 @@ fn moved_to(last_id: EntryId, word: &[u8]) -> Result<EntryId, Refusal> {
     }
 }
 
-/// The group has delivered as much.
+/// Sets the last delivered id of the group, and the number of entries read.
 fn move_group(group: &mut Group, last_id: EntryId, options: GroupOptions) {
     group.last_id = last_id;
     group.entries_read = options.entries_read;

@@ -69,7 +69,7 @@ fn options_in(alloc: Global, words: &[Vec<u8>]) -> Result<Options<'_>, Refusal> 
     Ok(options)
 }
 
-/// Reads one option, and gives the words behind it.
+/// Parses one option, and returns the words after it.
 fn option_at<'a>(
     alloc: Global,
     options: &mut Options<'a>,
@@ -90,7 +90,7 @@ fn option_at<'a>(
     }
 }
 
-/// Makes the refusal of an option that HELLO does not have.
+/// The error for an option that HELLO does not have.
 fn wrong_option(alloc: Global, word: &[u8]) -> Refusal {
     refusal_of(
         alloc,
@@ -102,7 +102,7 @@ fn wrong_option(alloc: Global, word: &[u8]) -> Refusal {
     )
 }
 
-/// Whether there is such a user; the one that there is has any password.
+/// Whether there is such a user: `default`, with any password.
 fn check_user(user: Option<&[u8]>) -> Result<(), Refusal> {
     match user {
         Some(name) if name != b"default".as_slice() => Err(WRONG_PASSWORD),
@@ -110,7 +110,7 @@ fn check_user(user: Option<&[u8]>) -> Result<(), Refusal> {
     }
 }
 
-/// What the server says of itself.
+/// The reply of HELLO.
 fn greeting(alloc: Global, protocol: Protocol) -> Result<Answer, AllocError> {
     let version = match protocol {
         Protocol::Resp2 => 2,
@@ -133,7 +133,7 @@ fn greeting(alloc: Global, protocol: Protocol) -> Result<Answer, AllocError> {
     Ok(Answer::Map(rows))
 }
 
-/// More names with their texts.
+/// Appends names with their texts.
 fn put_texts(
     alloc: Global,
     rows: &mut Vec<(Vec<u8>, Answer)>,

@@ -54,7 +54,7 @@ pub(super) fn of_info(alloc: Global) -> Result<Answer, AllocError>
     )
 }
 
-/// The lines as one answer.
+/// The lines as one reply.
 fn lines(alloc: Global, texts: &[&'static str]) -> Result<Answer, AllocError>
     ensures { IfOk result IsInfo }
 {

@@ -1,4 +1,4 @@
-//! Which id a word is.
+//! Ids parsed from words.
 ghost use Rattle.std.specs.Prelude.{◌≡◌, ◌≤◌, ◌<◌, ◌^◌, ◌∷◌, [], ℕ, List, decimal, length, drop, take, slice_index_or, Some, Ok, IfOk, IfErr};
 ghost use Rattle.std.specs.List.{prefix_len};
 ghost use Rattle.stream_server.specs.IdWords.{AreRead, Fits, IsRefusedFor, is_of_part};
@@ -13,7 +13,7 @@ use std::alloc::Global;
 use std::str;
 use stream_store::EntryId;
 
-/// Which part of a sequence number stands in a text.
+/// The sequence number in the text of an id.
 #[derive(Clone, Copy)]
 pub(super) enum Sequence {
     Missing,
@@ -21,8 +21,8 @@ pub(super) enum Sequence {
     Given(u64),
 }
 
-/// The number that a part of an id is: blanks may stand before it, and a sign. Behind a minus it
-/// counts down from 2 to the power of 64; but what `integer_in` reads as negative is none.
+/// The number of a part of an id: spaces and a sign may be before it. After a minus it counts down from 2 to
+/// the power of 64. None for what `integer_in` parses as negative.
 fn number_in(text: &[u8]) -> Option<u64>
     ensures { (n : ℕ) → n < 2 ^ 64 → text.now ≡ decimal n → result ≡ Some n }
 {
@@ -38,7 +38,7 @@ fn number_in(text: &[u8]) -> Option<u64>
     }
 }
 
-/// What stands behind the blanks in front.
+/// The text without its leading spaces.
 fn without_blanks(text: &[u8]) -> &[u8]
     ensures { 48 ≤ slice_index_or text.now 0 0 → result.now ≡ text.now }
 {
@@ -79,7 +79,7 @@ pub(super) fn parts_in(text: &[u8]) -> Option<(u64, Sequence)>
     Some((milliseconds, sequence_in(behind)?))
 }
 
-/// What stands before the first `-`, and what stands from there on.
+/// The text before the first `-`, and the rest from there on.
 fn at_dash(text: &[u8]) -> (&[u8], &[u8])
     ensures front { result.0.now ≡ take (prefix_len is_of_part text.now) text.now }
     ensures behind { result.1.now ≡ drop (prefix_len is_of_part text.now) text.now }
@@ -87,7 +87,7 @@ fn at_dash(text: &[u8]) -> (&[u8], &[u8])
     text.split_at(front_len(text))
 }
 
-/// How many bytes stand before the first `-`.
+/// How many bytes are before the first `-`.
 fn front_len(text: &[u8]) -> usize
     ensures len { result ≡ prefix_len is_of_part text.now }
     ensures within { result ≤ length text.now }
@@ -95,7 +95,7 @@ fn front_len(text: &[u8]) -> usize
     text.iter().take_while(|byte| **byte != b'-').count()
 }
 
-/// The sequence number that stands behind the `-`, if there is one.
+/// The sequence number that is after the `-`, if there is one.
 fn sequence_in(text: &[u8]) -> Option<Sequence>
     ensures given { (n : ℕ) → n < 2 ^ 64 → text.now ≡ 45 ∷ decimal n → result ≡ Some (Given n) }
     ensures missing { text.now ≡ [] → result ≡ Some Missing }
@@ -125,7 +125,7 @@ pub(super) fn strict_id(text: &[u8], missing: u64) -> Option<EntryId>
     })
 }
 
-/// The id, or that it is none.
+/// The id; an error if the text is not one.
 pub(super) fn id(argument: &[u8]) -> Result<EntryId, Refusal>
     ensures id { (id : EntryId) → Fits id → argument.now ≡ id_text id → result ≡ Ok id }
     ensures alone { (n : ℕ) → n < 2 ^ 64 → argument.now ≡ decimal n
@@ -137,7 +137,7 @@ pub(super) fn id(argument: &[u8]) -> Result<EntryId, Refusal>
     }
 }
 
-/// The ids that the arguments are.
+/// The ids in the arguments.
 pub(super) fn ids(alloc: Global, arguments: &[Vec<u8>]) -> Result<Vec<EntryId>, Refusal>
     ensures len { IfOk result (λ ids. length ids.items ≡ length arguments.now) }
     ensures read { IfOk result (λ ids. AreRead arguments.now ids.items) }

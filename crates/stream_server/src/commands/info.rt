@@ -17,7 +17,7 @@ use stream_store::{Consumer, Entry, Group, Stream};
 
 const NO_KEY: Refusal = Refusal::Fixed("ERR no such key");
 
-/// What XINFO tells of.
+/// The subcommands of XINFO.
 #[derive(Clone, Copy)]
 enum Topic {
     Stream,
@@ -42,7 +42,7 @@ pub(super) fn info(
     }
 }
 
-/// What XINFO tells of a stream.
+/// The reply of XINFO about a stream.
 fn about(
     alloc: Global,
     streams: &[Stream],
@@ -80,7 +80,7 @@ fn about_stream(
     }
 }
 
-/// `XINFO CONSUMERS` of the stream of this key; the group is named behind it.
+/// `XINFO CONSUMERS` of the stream of this key; the group is named after it.
 fn about_consumers(
     alloc: Global,
     stream: &Stream,
@@ -99,7 +99,7 @@ fn about_consumers(
     }
 }
 
-/// Whether there is such a topic, and it may have so many arguments.
+/// Whether there is such a topic, and it may have this many arguments.
 pub(super) fn check(alloc: Global, word: &[u8], arguments: &[Vec<u8>]) -> Result<(), Refusal>
     ensures { IfOk result (λ _. 0 < length_of arguments.now) }
 {
@@ -107,7 +107,7 @@ pub(super) fn check(alloc: Global, word: &[u8], arguments: &[Vec<u8>]) -> Result
     Ok(())
 }
 
-/// The topic of this name, where it may have so many arguments.
+/// The topic of this name, if it may have this many arguments.
 fn topic_in(alloc: Global, word: &[u8], arguments: &[Vec<u8>]) -> Result<Topic, Refusal>
     ensures { IfOk result (λ _. 0 < length_of arguments.now) }
 {
@@ -136,7 +136,7 @@ fn topic_named(subcommand: &[u8]) -> Option<Topic> {
     }
 }
 
-/// Whether so many arguments may stand behind the topic.
+/// Whether this many arguments may follow the topic.
 fn has_right_count(topic: Topic, count: usize) -> bool {
     match topic {
         Topic::Stream => count >= 1,
@@ -146,7 +146,7 @@ fn has_right_count(topic: Topic, count: usize) -> bool {
     }
 }
 
-/// `[FULL [COUNT count]]`: at most how many entries are told, where they are; 0 is any number.
+/// `[FULL [COUNT count]]`: at most how many entries are returned with FULL; 0 for no limit.
 fn full_in(
     alloc: Global,
     word: &[u8],
@@ -163,7 +163,7 @@ fn full_in(
     }
 }
 
-/// More names with their answers.
+/// Appends names with their replies.
 fn put_rows(
     alloc: Global,
     rows: &mut Vec<(Vec<u8>, Answer)>,
@@ -175,7 +175,7 @@ fn put_rows(
     Ok(())
 }
 
-/// What both forms of XINFO STREAM begin with.
+/// The first fields of both forms of XINFO STREAM.
 fn head_rows(alloc: Global, stream: &Stream) -> Result<Vec<(Vec<u8>, Answer)>, AllocError> {
     let mut rows = Vec::new(alloc);
     let nodes = stream.nodes.len();
@@ -208,7 +208,7 @@ fn stream_info(alloc: Global, stream: &Stream) -> Result<Answer, AllocError>
     Ok(Answer::Map(rows))
 }
 
-/// The entry, or nil where there is none.
+/// The entry, or nil if there is none.
 fn maybe_entry(alloc: Global, entry: Option<&Entry>) -> Result<Answer, AllocError> {
     match entry {
         Some(entry) => entry_answer(alloc, entry),
@@ -227,7 +227,7 @@ fn groups_info(alloc: Global, stream: &Stream) -> Result<Answer, AllocError>
     Ok(Answer::Array(all))
 }
 
-/// What XINFO GROUPS tells of one group.
+/// The reply of XINFO GROUPS about one group.
 fn group_info(alloc: Global, stream: &Stream, group: &Group) -> Result<Answer, AllocError> {
     let name = bytes_answer(alloc, &group.name)?;
     let told = vec![in alloc;
@@ -243,7 +243,7 @@ fn group_info(alloc: Global, stream: &Stream, group: &Group) -> Result<Answer, A
     Ok(Answer::Map(rows))
 }
 
-/// A number, or nil where it is not known.
+/// A number, or nil if it is not known.
 fn maybe(n: Option<i64>) -> Answer {
     match n {
         Some(n) => Answer::Int(n),
@@ -251,7 +251,7 @@ fn maybe(n: Option<i64>) -> Answer {
     }
 }
 
-/// How many entries the group has still to read, where that is known.
+/// How many entries the group has still to read, if that is known.
 fn lag(stream: &Stream, group: &Group) -> Option<i64> {
     if stream.entries_added == 0 {
         return Some(0);
@@ -276,7 +276,7 @@ fn consumers_info(alloc: Global, group: &Group, now: u64) -> Result<Answer, Allo
     Ok(Answer::Array(all))
 }
 
-/// What XINFO CONSUMERS tells of one consumer.
+/// The reply of XINFO CONSUMERS about one consumer.
 fn consumer_info(alloc: Global, consumer: &Consumer, now: u64) -> Result<Answer, AllocError> {
     let name = bytes_answer(alloc, &consumer.name)?;
     let told = vec![in alloc;

@@ -1,4 +1,4 @@
-//! Which command the words name, and how many arguments each may have.
+//! The commands by their names, and how many arguments each may have.
 
 ghost use Rattle.std.specs.Prelude.{◌≡◌, ◌≢◌, ◌<◌, length as length_of, nat_le, Ok, Some, IfOk, IfSome, IsOk};
 ghost use Rattle.stream_server.specs.Commands.{IsNamed, event_of, least_of};
@@ -17,7 +17,7 @@ use super::{
 use crate::refusal::Refusal;
 use std::alloc::Global;
 
-/// The command of these words, where there is one, and it may have so many arguments.
+/// The command of these words, if it exists and may have this many arguments.
 pub(crate) fn command_in(alloc: Global, words: &[Vec<u8>]) -> Result<Command, Refusal>
     ensures some { IfOk result (λ _. 0 < length_of words.now) }
     ensures named { (change : Changing) → IsNamed change words.now → least_of change < length_of words.now
@@ -118,7 +118,7 @@ fn look_up_named(word: &[u8]) -> Option<LookUp> {
     None
 }
 
-/// The command of this name that asks of the server.
+/// The command of this name that reports on the server.
 fn report_named(word: &[u8]) -> Option<Report> {
     let names = [
         ("DBSIZE", Report::KeyCount),
@@ -134,7 +134,7 @@ fn report_named(word: &[u8]) -> Option<Report> {
     None
 }
 
-/// The command of this name that concerns the connection.
+/// The command of the connection of this name.
 fn connection_named(word: &[u8]) -> Option<Connection> {
     let names = [
         ("PING", Connection::Ping),
@@ -151,7 +151,7 @@ fn connection_named(word: &[u8]) -> Option<Connection> {
     None
 }
 
-/// The command of this name that says when commands are done.
+/// The command of a transaction of this name.
 fn step_named(word: &[u8]) -> Option<Step> {
     let names = [
         ("MULTI", Step::Begin),
@@ -167,7 +167,7 @@ fn step_named(word: &[u8]) -> Option<Step> {
     None
 }
 
-/// Whether the command may have so many arguments.
+/// Whether the command may have this many arguments.
 fn has_right_count(command: Command, count: usize) -> bool
     ensures { (change : Changing) → command ≡ plain (change_plain change) → result ≡ nat_le (least_of change) count }
 {
@@ -180,7 +180,7 @@ fn has_right_count(command: Command, count: usize) -> bool
     }
 }
 
-/// Whether it may have so many arguments.
+/// Whether it may have this many arguments.
 fn change_takes(change: Change, count: usize) -> bool
     ensures { result ≡ nat_le (least_of change) count }
 {
@@ -195,7 +195,7 @@ fn change_takes(change: Change, count: usize) -> bool
     }
 }
 
-/// Whether it may have so many arguments.
+/// Whether it may have this many arguments.
 fn look_up_takes(look_up: LookUp, count: usize) -> bool {
     match look_up {
         LookUp::Info | LookUp::Exists => count >= 1,
@@ -205,7 +205,7 @@ fn look_up_takes(look_up: LookUp, count: usize) -> bool {
     }
 }
 
-/// Whether it may have so many arguments.
+/// Whether it may have this many arguments.
 fn report_takes(report: Report, count: usize) -> bool {
     match report {
         Report::KeyCount | Report::Time => count == 0,
@@ -214,7 +214,7 @@ fn report_takes(report: Report, count: usize) -> bool {
     }
 }
 
-/// Whether it may have so many arguments.
+/// Whether it may have this many arguments.
 fn connection_takes(asked: Connection, count: usize) -> bool {
     match asked {
         Connection::Ping | Connection::Hello => true,
@@ -224,7 +224,7 @@ fn connection_takes(asked: Connection, count: usize) -> bool {
     }
 }
 
-/// Whether it may have so many arguments; EXEC says itself that it has too many.
+/// Whether it may have this many arguments; EXEC has its own error for too many.
 fn step_takes(step: Step, count: usize) -> bool {
     match step {
         Step::Begin | Step::Discard => count == 0,
@@ -233,7 +233,7 @@ fn step_takes(step: Step, count: usize) -> bool {
     }
 }
 
-/// Whether there is such a subcommand, and it may have so many arguments.
+/// Whether there is such a subcommand, and it may have this many arguments.
 fn check_subcommand(
     alloc: Global,
     command: Command,

@@ -1,4 +1,4 @@
-//! The id that XADD is given.
+//! The id argument of XADD.
 ghost use Rattle.std.specs.Prelude.{◌≡◌, codes, Some};
 ghost use Rattle.stream_server.specs.IdWords.{Fits};
 ghost use Rattle.stream_server.specs.declared.commands.new_ids.NewId.TheVariants.{Automatic, Given};
@@ -9,7 +9,7 @@ use super::id_words::{Sequence, parts_in};
 use super::words::before_nul;
 use stream_store::EntryId;
 
-/// The id that XADD is given.
+/// The id argument of XADD.
 #[derive(Clone, Copy)]
 pub(super) enum NewId {
     /// `*`

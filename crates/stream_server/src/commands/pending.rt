@@ -70,7 +70,7 @@ fn wanted_in(words: &[Vec<u8>]) -> Result<Option<Wanted<'_>>, Refusal> {
     }))
 }
 
-/// `[IDLE ms]`, 0 where it is missing, and the words behind it.
+/// `[IDLE ms]`, 0 if it is missing, and the words after it.
 fn least_idle_at(words: &[Vec<u8>]) -> Result<(u64, &[Vec<u8>]), Refusal> {
     match words {
         [word, text, behind @ ..] if is_word(word, "IDLE") => Ok((count(text)?, behind)),
@@ -112,14 +112,14 @@ fn rows(
     Ok(rows)
 }
 
-/// What is told of a pending entry that was given so long ago.
+/// The row of a pending entry that has been idle for this long.
 fn row(alloc: Global, group: &Group, pending: Pending, idle: u64) -> Result<Answer, AllocError> {
     let id = Answer::Id(pending.id);
     let name = bytes_answer(alloc, name_of(group, pending.consumer))?;
     array(alloc, [id, name, number(idle), number(pending.deliveries)])
 }
 
-/// How many entries are pending, the first and the last one, and how many for which consumer.
+/// The number of pending entries, the first and the last one, and how many each consumer has.
 fn summary(alloc: Global, group: &Group) -> Result<Vec<Answer>, AllocError> {
     let pending = length(group.pending.len());
     let row = match (group.pending.front(), group.pending.back()) {
@@ -140,7 +140,7 @@ fn summary(alloc: Global, group: &Group) -> Result<Vec<Answer>, AllocError> {
     }
 }
 
-/// How many entries are pending for which consumer, where there are any.
+/// How many pending entries each consumer has, if there are any.
 fn counts(alloc: Global, group: &Group) -> Result<Vec<Answer>, AllocError> {
     let mut counts = Vec::new(alloc);
     for consumer in &group.consumers {

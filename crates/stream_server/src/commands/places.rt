@@ -6,7 +6,7 @@ ghost use Rattle.stream_server.specs.Places.{AreInOrder, IsMissing, consumer_nam
 
 use stream_store::{Group, Stream};
 
-/// The index of the stream of this key, or of the first behind it.
+/// The index of the stream of this key, or of the first after it.
 pub(super) fn place_of(streams: &[Stream], key: &[u8]) -> Result<usize, usize>
     ensures bound { IsSearchInRange result (length_of streams.now) }
     ensures found { IfOk result (HoldsAt (λ stream. stream.key.items ≡ key.now) streams.now) }
@@ -26,7 +26,7 @@ pub(super) fn stream_of<'a>(streams: &'a [Stream], key: &[u8]) -> Option<&'a Str
     }
 }
 
-/// The index of the group of this name, or of the first behind it.
+/// The index of the group of this name, or of the first after it.
 pub(super) fn place_of_group(stream: &Stream, name: &[u8]) -> Result<usize, usize>
     ensures bound { IsSearchInRange result (length_of stream.now.groups.items) }
     ensures found { IfOk result (HoldsAt (λ group. group.name.items ≡ name.now) stream.now.groups.items) }
@@ -48,7 +48,7 @@ pub(super) fn group_of<'a>(stream: &'a Stream, name: &[u8]) -> Option<&'a Group>
     }
 }
 
-/// The index of the consumer of this name, or of the first behind it.
+/// The index of the consumer of this name, or of the first after it.
 pub(super) fn place_of_consumer(group: &Group, name: &[u8]) -> Result<usize, usize>
     ensures bound { IsSearchInRange result (length_of group.now.consumers.items) }
     ensures found { IfOk result (HoldsAt (λ consumer. consumer.name.items ≡ name.now) group.now.consumers.items) }

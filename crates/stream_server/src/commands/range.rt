@@ -44,7 +44,7 @@ pub(super) fn range(
     }
 }
 
-/// `[COUNT count]`, any number where it is missing; the last one counts.
+/// `[COUNT count]`, no limit if it is missing; the last one counts.
 fn most_in(options: &[Vec<u8>]) -> Result<u64, Refusal> {
     let mut most = u64::MAX;
     let mut rest = options;

@@ -29,12 +29,12 @@ use own::{deliver_again, read_own};
 use std::alloc::{AllocError, Global};
 use stream_store::{EntryId, Group, Held, Pending, Room, Stream};
 
-/// Where reading of one stream begins.
+/// Where the reading of a stream begins.
 #[derive(Clone, Copy)]
 enum Start {
-    /// Behind this id.
+    /// After this id.
     Behind(EntryId),
-    /// Behind what the group delivered last.
+    /// After the last entry that the group delivered.
     News,
 }
 
@@ -49,10 +49,10 @@ struct Reader<'a> {
     most: u64,
 }
 
-/// The options of XREAD and XREADGROUP, and what stands behind `STREAMS`.
+/// The options of XREAD and XREADGROUP, and what is after `STREAMS`.
 #[derive(Clone, Copy)]
 struct ReadOptions<'a> {
-    /// Any number where there is no COUNT or it is 0.
+    /// No limit if there is no COUNT or it is 0.
     most: u64,
     /// The group and the consumer.
     names: Option<(&'a [u8], &'a [u8])>,
@@ -79,7 +79,7 @@ pub(super) fn read(
     Ok(rows_answer(rows))
 }
 
-/// Behind which ids XREAD begins.
+/// The ids after which XREAD begins.
 fn starts_of(
     alloc: Global,
     streams: &[Stream],
@@ -92,7 +92,7 @@ fn starts_of(
     Ok(starts)
 }
 
-/// The entries of the stream of this key behind the id, and `None` where there is none.
+/// The entries of the stream of this key after the id, and `None` if there is none.
 fn entries_behind(
     alloc: Global,
     streams: &[Stream],
@@ -106,7 +106,7 @@ fn entries_behind(
     }
 }
 
-/// One more row, where there are entries.
+/// Appends a row, if there are entries.
 fn put_stream(
     alloc: Global,
     rows: &mut Vec<(Vec<u8>, Answer)>,
@@ -151,7 +151,7 @@ pub(super) fn read_group(
     }
 }
 
-/// The consumer that reads so many, each of which is then pending for it.
+/// The consumer of these names, which reads `most` entries, pending for it from then on.
 fn usual_reader<'a>(group: &'a [u8], consumer: &'a [u8], now: u64, most: u64) -> Reader<'a>
     ensures group { result.group.now ≡ group.now }
     ensures consumer { result.consumer.now ≡ consumer.now }
@@ -166,7 +166,7 @@ fn usual_reader<'a>(group: &'a [u8], consumer: &'a [u8], now: u64, most: u64) ->
     }
 }
 
-/// Reads as the options say, in any order.
+/// Reads as the options say.
 fn read_by_options(
     alloc: Global,
     streams: &mut [Stream],
@@ -184,7 +184,7 @@ fn read_by_options(
     read_all(alloc, streams, &options, reader)
 }
 
-/// Reads of several streams.
+/// Reads several streams.
 fn read_all<'a>(
     alloc: Global,
     streams: &mut [Stream],
@@ -203,7 +203,7 @@ fn read_all<'a>(
     Ok(rows_answer(rows))
 }
 
-/// Room in each of the groups.
+/// Reserves memory in each of the groups.
 fn rooms_of(
     alloc: Global,
     streams: &[Stream],
@@ -216,7 +216,7 @@ fn rooms_of(
     Ok(rooms)
 }
 
-/// What XREADGROUP answers, and what it changes of the groups.
+/// The reply of XREADGROUP, and its changes of the groups.
 fn read_for_group<'a>(
     alloc: Global,
     streams: &[Stream],
@@ -261,7 +261,7 @@ fn group_starts(
     Ok(starts)
 }
 
-/// What the consumer is given of the stream of this key.
+/// Reads the stream of this key for the consumer.
 fn read_stream<'a>(
     alloc: Global,
     streams: &[Stream],
@@ -303,7 +303,7 @@ fn place_of_draft<'a>(
     Ok(place)
 }
 
-/// The rows, or nil where there is none.
+/// The rows, or nil if there is none.
 fn rows_answer(rows: Vec<(Vec<u8>, Answer)>) -> Answer
     ensures { IsRows result }
 {
@@ -323,7 +323,7 @@ const GROUP_ALONE: &str = "ERR The GROUP option is only supported by XREADGROUP.
 const NOACK_ALONE: &str = "ERR The NOACK option is only supported by XREADGROUP. You \
     called XREAD instead.";
 
-/// The options, up to `STREAMS` and what stands behind it.
+/// The options, and the words after `STREAMS`.
 fn options_in(arguments: &[Vec<u8>], is_group: bool) -> Result<ReadOptions<'_>, Refusal> {
     let mut options = ReadOptions {
         most: u64::MAX,
@@ -348,7 +348,7 @@ fn options_in(arguments: &[Vec<u8>], is_group: bool) -> Result<ReadOptions<'_>, 
     Err(SYNTAX)
 }
 
-/// Reads one option, and gives the words behind it.
+/// Parses one option, and returns the words after it.
 fn option_at<'a>(
     options: &mut ReadOptions<'a>,
     words: &'a [Vec<u8>],
@@ -377,7 +377,7 @@ fn option_at<'a>(
     }
 }
 
-/// Reads `BLOCK ms` or `COUNT n`, and gives how many entries are read at most.
+/// Parses `BLOCK ms` or `COUNT n`, and returns how many entries are read at most.
 fn most_after(most: u64, word: &[u8], text: &[u8]) -> Result<u64, Refusal>
     ensures { IfOk result (λ n. 0 < most → 0 < n) }
 {
@@ -392,7 +392,7 @@ fn most_after(most: u64, word: &[u8], text: &[u8]) -> Result<u64, Refusal>
     Ok(if most == 0 { u64::MAX } else { most })
 }
 
-/// Whether it is a time to wait.
+/// Whether the text is a timeout.
 fn check_timeout(text: &[u8]) -> Result<(), Refusal> {
     match integer_in(text) {
         Some(n) if n < 0 => Err(Refusal::Fixed("ERR timeout is negative")),
@@ -408,7 +408,7 @@ const NO_DOLLAR: &str = "ERR The $ ID is meaningless in the context of XREADGROU
     you want to read the history of this consumer by specifying a proper ID, or use the > \
     ID to get new messages. The $ ID would just return an empty result set.";
 
-/// Behind which id XREAD begins; `$` is the last one.
+/// The id after which XREAD begins; `$` is the last one.
 fn start_of(stream: Option<&Stream>, text: &[u8]) -> Result<EntryId, Refusal> {
     if text == b"$".as_slice() {
         return match stream {
@@ -422,7 +422,7 @@ fn start_of(stream: Option<&Stream>, text: &[u8]) -> Result<EntryId, Refusal> {
     id(text)
 }
 
-/// Where XREADGROUP begins; the largest id stands for `>` too.
+/// Where XREADGROUP begins; the largest id means `>` too.
 fn group_start_of(
     alloc: Global,
     streams: &[Stream],
@@ -464,7 +464,7 @@ fn group_start_of(
     }
 }
 
-/// The first entries behind the id, and `None` where there is none.
+/// The first entries after the id, and `None` if there is none.
 fn read_behind(
     alloc: Global,
     stream: &Stream,
@@ -490,7 +490,8 @@ fn read_behind(
     Ok(Some(answers))
 }
 
-/// What the consumer is given, and `None` where there is nothing new; such a consumer is not made.
+/// The entries that are delivered to the consumer, and `None` if there are none; such a consumer is not
+/// created.
 fn read_as(
     alloc: Global,
     stream: &Stream,
@@ -515,14 +516,14 @@ fn read_as(
             let Some(answers) = read_behind(alloc, stream, part.last_id, reader.most)? else {
                 return Ok(None);
             };
-            hand_out(alloc, stream, part, reader)?;
+            deliver_new(alloc, stream, part, reader)?;
             Ok(Some(answers))
         }
     }
 }
 
-/// What is pending in the group for the consumer of this number from the id on, as much as is read,
-/// is in the part too.
+/// Copies what is pending in the group for the consumer of this number from the id on, as much as is read, into
+/// the part.
 fn take_up(
     group: &Group,
     part: &mut Group,
@@ -546,8 +547,7 @@ fn take_up(
     Ok(())
 }
 
-/// What is pending in the part from the id on, each entry with its fields, and with nil where it was
-/// deleted.
+/// What is pending in the part from the id on, each entry with its fields, or nil if it was deleted.
 fn reread(
     alloc: Global,
     stream: &Stream,
@@ -571,7 +571,7 @@ fn reread(
     Ok(answers)
 }
 
-/// The entry, which is given once more, or its id and nil where it was deleted.
+/// The entry, redelivered, or its id and nil if it was deleted.
 fn given_again(
     alloc: Global,
     stream: &Stream,
@@ -591,8 +591,8 @@ fn given_again(
     Ok(answer)
 }
 
-/// What is new is the consumer's: the first entries behind the last one that the group delivered.
-fn hand_out(
+/// Delivers new entries to the consumer: the first ones after the last one that the group delivered.
+fn deliver_new(
     alloc: Global,
     stream: &Stream,
     group: &mut Group,
@@ -614,7 +614,7 @@ fn hand_out(
     Ok(())
 }
 
-/// The index of the first entry behind this id.
+/// The index of the first entry after this id.
 fn start_behind(stream: &Stream, id: EntryId) -> usize
     ensures bound { result ≤ length stream.now.entries.items }
     ensures behind { AreInOrder stream.now.entries.items
@@ -626,7 +626,7 @@ fn start_behind(stream: &Stream, id: EntryId) -> usize
     }
 }
 
-/// The entry with this id is the last one that the group delivered, and pending for the consumer
+/// Records that the entry with this id is the last one that the group delivered. It is pending for the consumer
 /// of this number unless it is acknowledged at once.
 fn deliver(
     stream: &Stream,
@@ -651,7 +651,7 @@ fn deliver(
     })
 }
 
-/// How many entries were read with the one of this id, where that is known, of as many before it.
+/// The number of entries read up to this id, if it is known, by the number before it.
 fn read_up_to(stream: &Stream, before: Option<i64>, id: EntryId) -> Option<i64> {
     match before {
         Some(n) if !stream.has_tombstone_from(id) => Some(n.wrapping_add(1)),
@@ -660,8 +660,8 @@ fn read_up_to(stream: &Stream, before: Option<i64>, id: EntryId) -> Option<i64> 
     }
 }
 
-/// What the part holds is pending in the group for the consumer that the room is for, and the group
-/// has delivered as much as the part. With the room, no memory is asked for.
+/// Copies what is pending in the part into the group, for the consumer of the room, with the last delivered id.
+/// With the room, it allocates nothing.
 fn put_read(group: &mut Group, part: Group, room: Room, now: u64)
     ensures { HasRoom room group.old → HasPlaces (length part.pending.items) room group.old
         → IsPut room.name.items now part group.old group.new }
@@ -676,17 +676,17 @@ fn put_read(group: &mut Group, part: Group, room: Room, now: u64)
     }
 }
 
-/// What is read of one group, before the group is changed.
+/// What is read for one group, before the group is changed.
 #[derive(Drop)]
 struct Outcome {
     answer: Answer,
-    /// What the consumer is given.
+    /// The entries that are delivered to the consumer.
     part: Group,
-    /// For the consumer and what it is given.
+    /// Memory for the consumer and its entries.
     room: Room,
 }
 
-/// Reads of one stream for the consumer of a group, which begins where the word says.
+/// Reads one stream for the consumer of a group, from where the word says.
 fn read_one(
     alloc: Global,
     streams: &mut [Stream],
@@ -723,7 +723,7 @@ fn read_one(
     Ok(answer)
 }
 
-/// What the consumer is given of one stream, and `None` if nothing is new.
+/// What the consumer reads of one stream, and `None` if nothing is new.
 fn read_of(
     alloc: Global,
     stream: &Stream,
@@ -747,7 +747,7 @@ fn read_of(
     Ok(Some(Outcome { answer, part, room }))
 }
 
-/// The entries of the stream of this key as an answer.
+/// The entries of the stream of this key as a reply.
 fn row_answer(alloc: Global, key: &[u8], entries: Vec<Answer>) -> Result<Answer, AllocError>
     ensures rows { IfOk result IsRows }
     ensures sent { IfOk result (λ answer. sent answer

@@ -175,7 +175,7 @@ fn state_in(last: &[u8], options: &[Vec<u8>]) -> Result<NewState, Refusal> {
     Ok(state)
 }
 
-/// Reads one option, and gives the words behind it.
+/// Parses one option, and returns the words after it.
 fn option_at<'w>(state: &mut NewState, words: &'w [Vec<u8>]) -> Result<&'w [Vec<u8>], Refusal> {
     let [word, text, behind @ ..] = words else {
         return Err(SYNTAX);
@@ -199,7 +199,7 @@ fn added_in(text: &[u8]) -> Result<i64, Refusal> {
     Ok(added)
 }
 
-/// The largest id that was deleted, which is not above the last one; 0-0 says none.
+/// The largest deleted id, which is not above the last one; 0-0 for none.
 fn deleted_in(last_id: EntryId, text: &[u8]) -> Result<Option<EntryId>, Refusal> {
     let deleted = id(text)?;
     if last_id < deleted {

@@ -1,4 +1,4 @@
-//! `DBSIZE`, `TIME`, `INFO`, `COMMAND`: what a client asks of the server.
+//! `DBSIZE`, `TIME`, `INFO`, `COMMAND`: reports on the server.
 ghost use Rattle.std.specs.Prelude.{◌<◌, length as length_of, IfOk};
 ghost use Rattle.stream_server.specs.Kinds.{IsArray, IsBytes};
 
@@ -10,7 +10,7 @@ use crate::refusal::Refusal;
 use itoa::Buffer;
 use std::alloc::{AllocError, Global};
 
-/// What a client asks of the server.
+/// The commands that report on the server.
 #[derive(Clone, Copy, Debug)]
 pub(crate) enum Report {
     KeyCount,
@@ -83,7 +83,7 @@ pub(super) fn info(alloc: Global, keys: usize, words: &[Vec<u8>]) -> Result<Answ
     Ok(Answer::Bytes(text))
 }
 
-/// Whether a section is asked for: each is, where none is named.
+/// Whether a section is requested: each is, if none is named.
 fn is_asked(words: &[Vec<u8>], name: &str) -> bool {
     let [_, names @ ..] = words else {
         return true;
@@ -101,7 +101,7 @@ fn is_every(word: &[u8]) -> bool {
     is_word(word, "all") || is_word(word, "default") || is_word(word, "everything")
 }
 
-/// A section, behind an empty line if others are there.
+/// A section, after an empty line if others are there.
 fn push_section(text: &mut Vec<u8>, section: &str) -> Result<(), AllocError> {
     if !text.is_empty() {
         text.extend_from_slice(b"\r\n")?;

@@ -16,9 +16,9 @@ use stream_store::{Bound, NODE_ENTRIES, Trim};
 /// The options of XADD and XTRIM.
 #[derive(Clone, Copy)]
 pub(super) struct Retention {
-    /// Whether a stream is made where there is none.
+    /// Whether a stream is created if it does not exist.
     pub(super) makes_stream: bool,
-    /// What is trimmed away.
+    /// How the stream is trimmed.
     pub(super) trim: Option<Trim>,
     /// The id of XADD.
     pub(super) id: NewId,
@@ -26,7 +26,7 @@ pub(super) struct Retention {
     pub(super) len: usize,
 }
 
-/// The options as they are read.
+/// The options while they are parsed.
 #[derive(Clone, Copy)]
 struct Draft {
     makes_stream: bool,
@@ -84,7 +84,7 @@ fn id_in_front(words: &[Vec<u8>], is_add: bool) -> Option<NewId>
     }
 }
 
-/// Reads the options, up to the id of XADD, and gives the words behind them.
+/// Parses the options, up to the id of XADD, and returns the words after them.
 fn read_options<'a>(
     draft: &mut Draft,
     words: &'a [Vec<u8>],
@@ -100,7 +100,7 @@ fn read_options<'a>(
     Ok(rest)
 }
 
-/// Reads one option, and gives the words behind it.
+/// Parses one option, and returns the words after it.
 fn option_at<'a>(
     draft: &mut Draft,
     words: &'a [Vec<u8>],
@@ -125,7 +125,7 @@ fn option_at<'a>(
     }
 }
 
-/// Reads the bound of this name, and gives the words behind it.
+/// Parses the bound of this name, and returns the words after it.
 fn bound_at<'a>(
     draft: &mut Draft,
     word: &[u8],
@@ -148,7 +148,7 @@ fn limit_in(text: &[u8]) -> Result<u64, Refusal> {
     }
 }
 
-/// Reads a word of XADD that stands alone: its flag or the id.
+/// Parses a word of XADD without a value: NOMKSTREAM or the id.
 fn put_word(draft: &mut Draft, word: &[u8]) -> Result<(), Refusal> {
     if is_word(word, "nomkstream") {
         draft.makes_stream = false;
@@ -166,7 +166,7 @@ const LIMIT_ALONE: &str = "ERR syntax error, LIMIT cannot be used without specif
 
 const LIMIT_EXACT: &str = "ERR syntax error, LIMIT cannot be used without the special ~ option";
 
-/// What is trimmed away, or why the options do not go together.
+/// How the stream is trimmed, or why the options exclude each other.
 fn trim_of(draft: &Draft, is_add: bool) -> Result<Option<Trim>, Refusal> {
     let Some(bound) = draft.bound else {
         if matches!(draft.limit, Some(limit) if limit != 0) {
@@ -192,7 +192,7 @@ fn trim_of(draft: &Draft, is_add: bool) -> Result<Option<Trim>, Refusal> {
     }))
 }
 
-/// `[= | ~] threshold`: whether it is `~`, the threshold, and the arguments behind it.
+/// `[= | ~] threshold`: whether it is `~`, the threshold, and the arguments after it.
 fn threshold_at(words: &[Vec<u8>]) -> Result<(bool, &[u8], &[Vec<u8>]), Refusal> {
     match words {
         [] => Err(SYNTAX),

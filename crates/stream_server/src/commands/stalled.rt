@@ -30,7 +30,7 @@ struct Claim<'a> {
     only_ids: bool,
 }
 
-/// What a claim of stalled entries takes.
+/// What a claim of stalled entries finds.
 #[derive(Drop)]
 struct Stalled {
     claimed: Vec<Pending>,
@@ -40,8 +40,8 @@ struct Stalled {
     next: EntryId,
 }
 
-/// `XAUTOCLAIM key group consumer min-idle start [COUNT count] [JUSTID]`. All memory is taken before
-/// the group is changed.
+/// `XAUTOCLAIM key group consumer min-idle start [COUNT count] [JUSTID]`. All memory is allocated before the
+/// group is changed.
 pub(super) fn claim_stalled(
     alloc: Global,
     streams: &mut [Stream],
@@ -106,7 +106,7 @@ fn claimed_answers(
     Ok(answers)
 }
 
-/// Ids as answers.
+/// Ids as replies.
 fn id_answers(alloc: Global, ids: &[EntryId]) -> Result<Vec<Answer>, AllocError>
     ensures { IfOk result (λ answers. map sent answers.items ≡ map sent_id ids.now) }
 {
@@ -117,8 +117,8 @@ fn id_answers(alloc: Global, ids: &[EntryId]) -> Result<Vec<Answer>, AllocError>
     Ok(answers)
 }
 
-/// What is claimed is the consumer's, who is seen if there is one entry for it. What is no longer in
-/// the stream is no longer pending. With the room, no memory is asked for.
+/// Gives the claimed entries to the consumer, which is seen if there is one. Deleted entries are removed from
+/// the pending ones. With the room, it allocates nothing.
 fn settle(group: &mut Group, claim: &Claim<'_>, stalled: &Stalled, room: Room)
     ensures { HasRoom room group.old → IsInOrder group.old
         → AllByRecursion (Contains group.old.pending.items) stalled.now.claimed.items
@@ -130,7 +130,7 @@ fn settle(group: &mut Group, claim: &Claim<'_>, stalled: &Stalled, room: Room)
     let _count = acknowledge_all(group, &stalled.gone);
 }
 
-/// The consumer is seen, and takes over what it claims.
+/// Marks the consumer as seen, and gives it what it claims.
 fn take_over(group: &mut Group, claim: &Claim<'_>, claimed: &[Pending], room: Room)
     ensures { HasRoom room group.old → IsInOrder group.old
         → AllByRecursion (Contains group.old.pending.items) claimed.now
@@ -143,7 +143,7 @@ fn take_over(group: &mut Group, claim: &Claim<'_>, claimed: &[Pending], room: Ro
     give_all(group, claim, number, claimed);
 }
 
-/// Each of the entries that are pending is given to the consumer of this number.
+/// Gives each of the pending entries to the consumer of this number.
 fn give_all(group: &mut Group, claim: &Claim<'_>, number: u64, claimed: &[Pending])
     ensures pending { IsInOrder group.old → AllByRecursion (Contains group.old.pending.items) claimed.now
         → group.new.pending.items ≡ map (after_claim number claim.entry.now.now claim.entry.now.only_ids
@@ -172,7 +172,7 @@ fn taken_over(pending: Pending, number: u64, claim: &Claim<'_>) -> Pending
     }
 }
 
-/// The arguments behind the names of the key and the group.
+/// The arguments after the names of the key and the group.
 fn claim_in<'a>(
     consumer: &'a [u8],
     now: u64,
@@ -204,7 +204,7 @@ fn claim_in<'a>(
     Ok(claim)
 }
 
-/// Reads one option, and gives the words behind it.
+/// Parses one option, and returns the words after it.
 fn option_at<'w>(claim: &mut Claim<'_>, words: &'w [Vec<u8>]) -> Result<&'w [Vec<u8>], Refusal>
     ensures { claim.new.now ≡ claim.old.now }
 {
@@ -229,7 +229,7 @@ fn most_in(text: &[u8]) -> Result<u64, Refusal> {
     }
 }
 
-/// What the claim finds; it looks at ten times as many entries as it may take.
+/// What the claim finds; it scans ten times as many entries as it may take.
 fn stalled_in(
     alloc: Global,
     stream: &Stream,

@@ -1,4 +1,4 @@
-//! Words that were sent, and what is shown of them.
+//! Words that were sent, and how they are shown.
 ghost use Rattle.std.specs.Prelude.{◌≡◌, ◌≤◌, ◌↔◌, IfOk, IsTrue, length as length_of, map, take};
 ghost use Rattle.std.specs.Char.{to_ascii_lowercase};
 ghost use Rattle.std.specs.List.{prefix_len};
@@ -16,14 +16,14 @@ pub(super) fn is_word(argument: &[u8], word: &str) -> bool
     argument.eq_ignore_ascii_case(word.as_bytes())
 }
 
-/// What is shown of a word: what stands before its first NUL, at most so many bytes.
+/// The part of a word that is shown: up to its first NUL, at most `most` bytes.
 pub(super) fn shown(word: &[u8], most: usize) -> &[u8]
     ensures { result.now ≡ take most (text_before_nul word.now) }
 {
     front(before_nul(word), most)
 }
 
-/// What stands before the first NUL.
+/// The bytes before the first NUL.
 pub(super) fn before_nul(word: &[u8]) -> &[u8]
     ensures { result.now ≡ text_before_nul word.now }
 {
@@ -31,7 +31,7 @@ pub(super) fn before_nul(word: &[u8]) -> &[u8]
     text
 }
 
-/// At most so many bytes from the front.
+/// The first bytes, at most `most`.
 fn front(text: &[u8], most: usize) -> &[u8]
     ensures { result.now ≡ take most text.now }
 {
@@ -39,7 +39,7 @@ fn front(text: &[u8], most: usize) -> &[u8]
     front
 }
 
-/// How many bytes stand before the first NUL.
+/// How many bytes are before the first NUL.
 fn text_len(word: &[u8]) -> usize
     ensures len { result ≡ prefix_len is_not_nul word.now }
     ensures within { result ≤ length_of word.now }

@@ -1,11 +1,11 @@
-//! The loop of the program where the entries go on to another stream.
+//! The loop of the program that forwards entries to another stream.
 ghost use Rattle.std.specs.Prelude.{◌≡◌, IfOk, IsTrue, OnErr, OnOk};
 ghost use Rattle.stream_loop.specs.Loop.{Loops, Stops};
 ghost use Rattle.stream_sqlite.specs.Forwards.{AllWent, Ends, Forwards};
 ghost use Rattle.stream_table.specs.Lived.{Leads};
 ghost use Rattle.stream_worker.specs.Session.{standing_of};
 
-use super::{broken_off, goes_on, look, say_left};
+use super::{explain_round_error, goes_on, look, say_left};
 use crate::report::Report;
 use anyhow::{Error, Result, anyhow, bail};
 use redis_connection::Connection;
@@ -16,8 +16,8 @@ use stream_letters::DeadLetterSearch;
 use stream_table::{Forwarding, SendError};
 use stream_worker::{Asked, Handler, Worker};
 
-/// Drains until something fails, or until a read finds nothing new if that is asked for. Before each round it sends on
-/// what is committed, so nothing is left to send as it ends without an error.
+/// Drains until something fails, or until a read finds nothing new with `--until-empty`. Before each round it
+/// forwards what is committed, so nothing is left to send if it ends without an error.
 pub fn forward<R: Read + Drop, W: Write + Drop, T: WithOutbox + Drop, P: Eprint + AllocGlobal>(
     rt: &P,
     connection: &mut Connection<R, W>,
@@ -48,7 +48,7 @@ pub fn forward<R: Read + Drop, W: Write + Drop, T: WithOutbox + Drop, P: Eprint 
     bail!("the last turn came")
 }
 
-/// Sends on what is committed, and makes a round: what was asked.
+/// Forwards what is committed, and makes a round. Returns the request.
 fn pass<R: Read + Drop, W: Write + Drop, T: WithOutbox + Drop, P: Eprint + AllocGlobal>(
     rt: &P,
     connection: &mut Connection<R, W>,
@@ -72,7 +72,7 @@ fn pass<R: Read + Drop, W: Write + Drop, T: WithOutbox + Drop, P: Eprint + Alloc
     turn(rt, connection, worker, rows, report, dead, asked)
 }
 
-/// Sends on what is committed.
+/// Forwards what is committed.
 fn send<R: Read + Drop, W: Write + Drop, T: WithOutbox + Drop>(
     alloc: Global,
     connection: &mut Connection<R, W>,
@@ -85,12 +85,12 @@ fn send<R: Read + Drop, W: Write + Drop, T: WithOutbox + Drop>(
 {
     match rows.send(alloc, connection) {
         Ok(()) => Ok(()),
-        Err(error) => Err(unsent(error, rows.target())),
+        Err(error) => Err(explain_send_error(error, rows.target())),
     }
 }
 
-/// Why not all was sent on. Its own stream is named, if that of the command is not known.
-fn unsent(error: SendError, target: &str) -> Error {
+/// The error of an entry that was not forwarded. It names `target`, if the stream of the command is not known.
+fn explain_send_error(error: SendError, target: &str) -> Error {
     match error {
         SendError::Table(reason) => anyhow!("cannot send on to {target}: {reason}"),
         SendError::Post {
@@ -105,7 +105,7 @@ fn unsent(error: SendError, target: &str) -> Error {
     }
 }
 
-/// Looks for entries to give up, makes a round, and counts: what was asked.
+/// Looks for entries to give up, makes a round, and counts. Returns the request.
 fn turn<R: Read + Drop, W: Write + Drop, T: WithOutbox + Drop, P: Eprint + AllocGlobal>(
     rt: &P,
     connection: &mut Connection<R, W>,
@@ -139,7 +139,7 @@ fn turn<R: Read + Drop, W: Write + Drop, T: WithOutbox + Drop, P: Eprint + Alloc
     Ok(asked)
 }
 
-/// Makes a round, after which the worker goes on: what was asked.
+/// Makes a round, after which the worker goes on. Returns the request.
 fn round<R: Read + Drop, W: Write + Drop, T: WithOutbox + Drop>(
     alloc: Global,
     connection: &mut Connection<R, W>,
@@ -159,6 +159,6 @@ fn round<R: Read + Drop, W: Write + Drop, T: WithOutbox + Drop>(
             goes_on(made.progress, &rows.fault, &rows.undone)?;
             Ok(made.asked)
         }
-        Err(error) => Err(broken_off(error, &rows.fault)),
+        Err(error) => Err(explain_round_error(error, &rows.fault)),
     }
 }

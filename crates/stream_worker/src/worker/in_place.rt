@@ -1,4 +1,4 @@
-//! Answers out of the bytes that came, with their entries in them.
+//! Takes replies without a copy of their entries.
 ghost use Rattle.std.specs.Prelude.{◌≡◌, IfErr, IfOk, Some, true};
 ghost use Rattle.redis_resp.specs.Tree.{Tree};
 ghost use Rattle.stream_in_place.specs.SentReading.{sent_autoclaim_reading, sent_streams_reading};
@@ -23,10 +23,9 @@ use std::mem;
 use stream_in_place::{AutoClaimRef, EntriesRef, EntryTape, StreamsRef};
 
 impl Worker {
-    /// Takes the answer to the command that was requested last, which is the reply at the head of
-    /// bytes. Its entries are handed to the handler in these bytes: of an answer in a shape in which
-    /// servers write, nothing is copied but ids to acknowledge and the one to go on from. An answer in
-    /// another shape is decoded, and taken as `answered` takes it. An error says what was asked.
+    /// Takes the reply to the command that was requested last, from the start of the bytes. Its entries are passed to
+    /// the handler as borrowed entries. Of a reply as servers write it, only ids are copied: those to acknowledge, and
+    /// the one to go on from. Another reply is decoded, and taken as by `answered`. An error names the command.
     pub fn answered_in_place<H: Handler>(
         &mut self,
         alloc: Global,
@@ -48,7 +47,7 @@ impl Worker {
         result
     }
 
-    /// Takes the answer at the head of bytes, with these tables for its places.
+    /// Takes the reply at the start of the bytes, with these tables of offsets.
     fn take_with<H: Handler>(
         &mut self,
         alloc: Global,
@@ -73,7 +72,7 @@ impl Worker {
         }
     }
 
-    /// Takes the reply at the head of bytes decoded.
+    /// Decodes and takes the reply at the start of the bytes.
     fn take_decoded<H: Handler>(
         &mut self,
         alloc: Global,
@@ -93,7 +92,7 @@ impl Worker {
         }
     }
 
-    /// Takes its own pending entries.
+    /// Takes a reply with its own pending entries.
     fn take_own_in_place<H: Handler>(
         &mut self,
         alloc: Global,
@@ -118,7 +117,7 @@ impl Worker {
         }
     }
 
-    /// Takes what was claimed.
+    /// Takes a reply with claimed entries.
     fn take_claimed_in_place<H: Handler>(
         &mut self,
         alloc: Global,
@@ -143,7 +142,7 @@ impl Worker {
         }
     }
 
-    /// Takes new entries.
+    /// Takes a reply with new entries.
     fn take_new_in_place<H: Handler>(
         &mut self,
         alloc: Global,
@@ -168,7 +167,7 @@ impl Worker {
         }
     }
 
-    /// Takes its own pending entries in their bytes.
+    /// Takes its own pending entries, borrowed.
     fn take_found_own<H: Handler>(
         &mut self,
         alloc: Global,
@@ -192,7 +191,7 @@ impl Worker {
         Ok(self.take_in_place(alloc, entries, next, handler)?)
     }
 
-    /// Takes what was claimed in its bytes.
+    /// Takes claimed entries, borrowed.
     fn take_found_claimed<H: Handler>(
         &mut self,
         alloc: Global,
@@ -222,7 +221,7 @@ impl Worker {
         }
     }
 
-    /// Takes new entries in their bytes.
+    /// Takes new entries, borrowed.
     fn take_found_new<H: Handler>(
         &mut self,
         alloc: Global,
@@ -251,8 +250,8 @@ impl Worker {
         }
     }
 
-    /// Hands entries to the handler in their bytes, and goes on in this phase; if it does not get through
-    /// them it begins again.
+    /// Passes borrowed entries to the handler, and goes on in this phase. If the handler stops before the last one, the
+    /// worker begins again.
     fn take_in_place<H: Handler>(
         &mut self,
         alloc: Global,
@@ -279,7 +278,7 @@ impl Worker {
     }
 }
 
-/// What came of the answer to this: an error says what was asked.
+/// The result of a reply to this command; an error names the command.
 fn in_answer_to(
     asked: Asked,
     outcome: Result<Progress, WorkerError>,

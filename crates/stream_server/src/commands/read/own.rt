@@ -17,17 +17,17 @@ use crate::commands::places::place_of_consumer;
 use std::alloc::{AllocError, Global};
 use stream_store::{EntryId, Group, Pending, Room, Stream};
 
-/// The entries that a consumer reads again of one stream, before the group is changed.
+/// The pending entries that a consumer reads again, before the group is changed.
 #[derive(Drop)]
 pub(super) struct Rereading {
     pub(super) answer: Answer,
     /// Those that are still in the stream.
     delivered: Vec<Pending>,
-    /// For the consumer.
+    /// Memory for the consumer.
     room: Room,
 }
 
-/// Reads the entries behind the id that are pending for the consumer.
+/// Reads the entries after the id that are pending for the consumer.
 pub(super) fn read_own(
     alloc: Global,
     stream: &Stream,
@@ -52,7 +52,7 @@ pub(super) fn read_own(
     })
 }
 
-/// Finds the entries behind the id that are pending for the consumer of this name, `most` at most.
+/// Finds the entries after the id that are pending for the consumer of this name, `most` at most.
 fn own_of(
     alloc: Global,
     group: &Group,
@@ -70,7 +70,7 @@ fn own_of(
     }
 }
 
-/// Finds the entries behind the id that are pending for the consumer of this number, `most` at most.
+/// Finds the entries after the id that are pending for the consumer of this number, `most` at most.
 fn pending_for(
     alloc: Global,
     group: &Group,
@@ -96,7 +96,7 @@ fn pending_for(
     Ok(own)
 }
 
-/// The index of the first that is pending behind this id.
+/// The index of the first that is pending after this id.
 fn start_behind(group: &Group, id: EntryId) -> usize
     ensures bound { result ≤ length group.now.pending.items }
     ensures behind { IsInOrder group.now
@@ -108,7 +108,7 @@ fn start_behind(group: &Group, id: EntryId) -> usize
     }
 }
 
-/// Answers each of them with the fields of its entry, and with nil if that was deleted.
+/// The reply for each of them: with the fields of its entry, or nil if that was deleted.
 fn own_answers(alloc: Global, stream: &Stream, own: &[Pending]) -> Result<Vec<Answer>, AllocError>
     ensures { IfOk result (λ answers. AreInOrder stream.now.entries.items → map sent answers.items
         ≡ map (sent_own stream.now.entries.items) own.now) }
@@ -120,7 +120,7 @@ fn own_answers(alloc: Global, stream: &Stream, own: &[Pending]) -> Result<Vec<An
     Ok(answers)
 }
 
-/// Answers the entry with this id, or the id and nil if the entry was deleted.
+/// The reply for the entry with this id, or the id and nil if the entry was deleted.
 fn own_answer(alloc: Global, stream: &Stream, id: EntryId) -> Result<Answer, AllocError>
     ensures { IfOk result (λ answer. AreInOrder stream.now.entries.items
         → sent answer ≡ sent_first id (entry_with id stream.now.entries.items)) }
@@ -131,7 +131,7 @@ fn own_answer(alloc: Global, stream: &Stream, id: EntryId) -> Result<Answer, All
     }
 }
 
-/// Picks those of which the entry is still in the stream.
+/// Returns those whose entry is still in the stream.
 fn still_there(alloc: Global, stream: &Stream, own: &[Pending]) -> Result<Vec<Pending>, AllocError>
     ensures { IfOk result (λ there. AreInOrder stream.now.entries.items
         → there.items ≡ with_entries stream.now.entries.items own.now) }
@@ -155,8 +155,7 @@ fn put_there(stream: &Stream, there: &mut Vec<Pending>, pending: Pending) -> Res
     Ok(())
 }
 
-/// Sees the consumer that the room is for, and delivers these to it once more. With the room, it
-/// asks for no memory.
+/// Marks the consumer of the room as seen, and redelivers these to it. With the room, it allocates nothing.
 pub(super) fn deliver_again(group: &mut Group, read: Rereading, now: u64) -> Answer
     ensures answer { result ≡ read.answer }
     ensures delivered { HasRoom read.room group.old → IsInOrder group.old
@@ -175,8 +174,7 @@ pub(super) fn deliver_again(group: &mut Group, read: Rereading, now: u64) -> Ans
     answer
 }
 
-/// Sees the consumer that the room is for, and returns its number. With the room, it asks for no
-/// memory.
+/// Marks the consumer of the room as seen, and returns its number. With the room, it allocates nothing.
 fn see_alone(group: &mut Group, room: Room, now: u64) -> Result<u64, AllocError>
     ensures ok { IfOk result (λ number. IsSeenAlone room.name.items now number group.old group.new) }
     ensures full { OnErr result (HasRoom room group.old → ⊥) }
@@ -197,7 +195,7 @@ fn see_alone(group: &mut Group, room: Room, now: u64) -> Result<u64, AllocError>
     }
 }
 
-/// Gives each of these, which are pending, once more to the consumer of this number.
+/// Redelivers each of these pending entries to the consumer of this number.
 fn give_again(group: &mut Group, number: u64, now: u64, delivered: &[Pending])
     ensures pending { IsInOrder group.old → AllByRecursion (Contains group.old.pending.items) delivered.now
         → group.new.pending.items ≡ map (after_claim number now false (ids_of delivered.now)) group.old.pending.items }
@@ -212,7 +210,7 @@ fn give_again(group: &mut Group, number: u64, now: u64, delivered: &[Pending])
     }
 }
 
-/// The pending entry, delivered once more to the consumer of this number.
+/// The pending entry, redelivered to the consumer of this number.
 fn once_more(pending: Pending, number: u64, now: u64) -> Pending
     ensures { result ≡ taken_over number now false pending }
 {

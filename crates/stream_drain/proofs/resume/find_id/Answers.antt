@@ -1,0 +1,23 @@
+use Rattle.std.proofs.Common.{Bool, Some, rules, subst, sym}
+use Rattle.line_log.specs.EntryLine.{IsEntryIn}
+use Rattle.line_log.specs.EntryLineMeaning.{entry_of}
+use Rattle.stream_drain.specs.Resumed.{Tells}
+use Rattle.stream_drain.proofs.ResumeLemmas.{told_by}
+use Rattle.stream_drain.proofs.TellLemmas.{json_tells, text_tells}
+use Rattle.stream_drain.proofs.resume.find_id.Goals as goal
+
+pub returns-in-Some : goal.returns-in-Some
+returns-in-Some c =
+    let found = c.in-Some.ensures in
+    told_by c.args.json c.args.line.now c.in-Some.id.now c.id_text.result
+    (subst (λ (j : Bool). Tells j c.args.line.now c.in-Some.id.now) (sym c.if-json.true)
+    (json_tells c.args.line.now c.in-Some.id.now found.0 found.1 found.2))
+    c.id_text.ensures
+
+pub returns-in-Some-2 : goal.returns-in-Some-2
+returns-in-Some-2 c =
+    let e = entry_of c.in-Some-2.entry in
+    let is : IsEntryIn c.args.line.now (Some e) = search rules in
+    told_by c.args.json c.args.line.now e.0 c.id_text-in-Some-2.result
+    (subst (λ (j : Bool). Tells j c.args.line.now e.0) (sym c.if-json.false) (text_tells c.args.line.now e is))
+    (search rules)

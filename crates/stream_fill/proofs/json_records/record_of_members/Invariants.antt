@@ -1,6 +1,0 @@
-use Rattle.std.proofs.Common.{◌≡◌, length}
-use Rattle.stream_fill.proofs.json_records.record_of_members.Given as goal
-
--- each of the members so far is a field
-abbrev pub invariant-loop-member : goal.invariant-loop-member
-invariant-loop-member l = length l.record.items ≡ l.member-index
