@@ -5,11 +5,11 @@ use Rattle.std.specs.declared.alloc.Global.{Global}
 use Rattle.clap.specs.Words.{first_value, matched_of, one_text, raw_values}
 use Rattle.clap.specs.declared.parser.matches.Found.{Found}
 use Rattle.command_lines.specs.Numbers.{IsNumberIn, number_of}
-use Rattle.stream_feed.specs.declared.wait.Wait.{Wait}
-use Rattle.stream_letters.specs.declared.search.GiveUp.{GiveUp}
-use Rattle.stream_worker.specs.declared.state.MakeGroup.{MakeGroup}
-use Rattle.stream_worker.specs.declared.state.MakeGroup.TheVariants.{FromNow, FromTheFirst, Never}
-use Rattle.stream_worker.specs.declared.state.Settings.{Settings}
+use Rattle.worker_producer.specs.declared.wait.Wait.{Wait}
+use Rattle.worker.specs.declared.dead_letters.search.GiveUp.{GiveUp}
+use Rattle.worker.specs.declared.state.MakeGroup.{MakeGroup}
+use Rattle.worker.specs.declared.state.MakeGroup.TheVariants.{FromNow, FromTheFirst, Never}
+use Rattle.worker.specs.declared.state.Settings.{Settings}
 
 -- the word that a line has for an argument, or the empty text
 abbrev pub word_in : Found → List ℕ → List ℕ

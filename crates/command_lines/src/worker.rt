@@ -8,9 +8,9 @@ use crate::{BLOCK, EVERY, IDLE, Number, pair, refused, refused_value, wait_of, w
 use clap::error::ErrorKind;
 use clap::{Arg, ArgMatches, Command, Error};
 use std::alloc::Global;
-use stream_feed::Wait;
-use stream_letters::GiveUp;
-use stream_worker::{MakeGroup, Settings};
+use worker_producer::Wait;
+use worker::dead_letters::GiveUp;
+use worker::{MakeGroup, Settings};
 
 /// The settings of a worker that a line asks for: those of KEY, GROUP and CONSUMER, `--count`, `--block`, `--idle`,
 /// `--every` and `--from`.

@@ -159,8 +159,8 @@ pub use Rattle.stream_in_place.specs.SentReading.{sent_fields_reading, sent_row_
 pub use Rattle.stream_in_place.specs.SentRefusal.{RefusesOctetPairs, RefusesOctets, RefusesSentAutoClaim}
 pub use Rattle.stream_in_place.specs.SentRefusal.{RefusesSentFields, RefusesSentRow, RefusesSentStreams}
 pub use Rattle.stream_in_place.specs.Shapes.{BeginsWithAutoClaim, BeginsWithJustId, BeginsWithRange, BeginsWithStreams}
-pub use Rattle.stream_sentences.specs.Parts.{add_of as add_of_parts, autoclaim_of as autoclaim_of_parts}
-pub use Rattle.stream_sentences.specs.Parts.{claim_of as claim_of_parts, group_of as group_of_names}
-pub use Rattle.stream_sentences.specs.Parts.{read_of as read_of_parts, trim_of as trim_of_parts}
-pub use Rattle.stream_sentences.specs.Split.{HasNoSplit, IsOneSplit, IsSplit, arguments}
-pub use Rattle.stream_sentences.specs.Told.{WroteAnswer, WroteAnswerBeginning}
+pub use Rattle.stream_option_parsing.specs.Parts.{add_of as add_of_parts, autoclaim_of as autoclaim_of_parts}
+pub use Rattle.stream_option_parsing.specs.Parts.{claim_of as claim_of_parts, group_of as group_of_names}
+pub use Rattle.stream_option_parsing.specs.Parts.{read_of as read_of_parts, trim_of as trim_of_parts}
+pub use Rattle.stream_option_parsing.specs.Split.{HasNoSplit, IsOneSplit, IsSplit, arguments}
+pub use Rattle.stream_option_parsing.specs.Told.{WroteAnswer, WroteAnswerBeginning}

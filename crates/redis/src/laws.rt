@@ -22,4 +22,4 @@ pub use stream_options::laws::{
     unique_config, unique_idempotency, unique_maxlen, unique_mode, unique_nack, unique_policy,
     unique_read, unique_strategy, unique_trim,
 };
-pub use stream_sentences::laws::{equal_run_errors, equal_sentence_errors};
+pub use stream_option_parsing::laws::{equal_run_errors, equal_sentence_errors};

@@ -1,6 +1,6 @@
 //! What a server, a proxy or a log tool reads: the arguments of options back as settings, and lines
 //! of them.
-pub use stream_sentences::{
+pub use stream_option_parsing::{
     AddParts, AutoClaimParts, ClaimParts, GroupNames, ReadParts, RunError, SentenceError,
     TrimParts, add_with, autoclaim_with, claim_with, read_add, read_add_parts, read_autoclaim,
     read_autoclaim_parts, read_claim, read_claim_parts, read_config, read_nack, read_read,

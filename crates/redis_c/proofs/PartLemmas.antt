@@ -19,9 +19,9 @@ use Rattle.stream_options.specs.Read.{Group, ReadFits, group_sentence, read_sent
 use Rattle.stream_options.specs.ReadBack.{single_group}
 use Rattle.stream_options.specs.Trim.{Mode, mode_word, min_id, Strategy, StrategyFits, strategy_sentence}
 use Rattle.stream_options.specs.Trim.{Trim, TrimFits, trim_sentence}
-use Rattle.stream_sentences.specs.Parts.{group_of, read_of}
-use Rattle.stream_sentences.specs.declared.read.GroupNames.{GroupNames}
-use Rattle.stream_sentences.specs.declared.read.ReadParts.{ReadParts}
+use Rattle.stream_option_parsing.specs.Parts.{group_of, read_of}
+use Rattle.stream_option_parsing.specs.declared.read.GroupNames.{GroupNames}
+use Rattle.stream_option_parsing.specs.declared.read.ReadParts.{ReadParts}
 use Rattle.redis_c.specs.Parts.{first_place, Asked, asked_by, asked_of, group_by, group_in, Skips, Tells}
 use Rattle.redis_c.specs.Placed.{text_at, texts_at}
 use Rattle.redis_c.specs.Server.{read_for, read_in}

@@ -9,9 +9,9 @@ use Rattle.stream_options.specs.Claim.{Claim, ClaimFits, claim_sentence, claim_w
 use Rattle.stream_options.specs.Laws.{Any, Equal}
 use Rattle.stream_options.specs.Read.{ReadFits, CountAlike, group_sentence, read_sentence, read_words}
 use Rattle.stream_options.specs.Trim.{Trim, TrimFits, trim_sentence, trim_words}
-use Rattle.stream_sentences.specs.Parts.{group_of, read_of}
-use Rattle.stream_sentences.specs.Split.{IsOneSplit}
-use Rattle.stream_sentences.specs.declared.read.ReadParts.{ReadParts}
+use Rattle.stream_option_parsing.specs.Parts.{group_of, read_of}
+use Rattle.stream_option_parsing.specs.Split.{IsOneSplit}
+use Rattle.stream_option_parsing.specs.declared.read.ReadParts.{ReadParts}
 use Rattle.redis_c.specs.Parts.{asked_by, asked_of, group_in, Tells}
 use Rattle.redis_c.specs.Placed.{texts_at}
 use Rattle.redis_c.specs.Server.{read_in}

@@ -1,6 +1,6 @@
 -- What is returned to C about the partitions of a stream.
 use Rattle.std.specs.Prelude.{ℕ, List}
-use Rattle.redis_cluster.specs.Partition.{partition_name}
+use Rattle.redis_client.specs.Cluster.Partition.{partition_name}
 use Rattle.redis_c.specs.Packing.{IsWritten}
 use Rattle.redis_c.specs.declared.packing.Packing.{Packing}
 use Rattle.redis_c.specs.declared.packing.Packing.TheVariants as packings

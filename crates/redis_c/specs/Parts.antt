@@ -4,7 +4,7 @@ use Rattle.std.specs.Prelude.{if◌then◌else◌}
 use Rattle.redis_resp.specs.Reading.{both_read}
 use Rattle.stream_options.specs.Read.{Group}
 use Rattle.stream_options.specs.ReadBack.{single_group}
-use Rattle.stream_sentences.specs.declared.read.ReadParts.{ReadParts}
+use Rattle.stream_option_parsing.specs.declared.read.ReadParts.{ReadParts}
 use Rattle.redis_wire.specs.declared.place.Span.{Span}
 use Rattle.redis_c.specs.declared.commands.ReadSettings.{ReadSettings}
 use Rattle.redis_c.specs.declared.server.GroupPlace.{GroupPlace}

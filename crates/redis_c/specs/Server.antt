@@ -2,7 +2,7 @@
 use Rattle.std.specs.Prelude.{◌≡◌, ℕ, List, Option, Some, None, option_map, if◌then◌else◌}
 use Rattle.redis_resp.specs.Reading.{both_read}
 use Rattle.stream_options.specs.Read.{Read}
-use Rattle.stream_sentences.specs.Split.{IsOneSplit, HasNoSplit}
+use Rattle.stream_option_parsing.specs.Split.{IsOneSplit, HasNoSplit}
 use Rattle.redis_c.specs.declared.commands.ReadSettings.{ReadSettings}
 use Rattle.redis_c.specs.declared.server.GroupPlace.{GroupPlace}
 use Rattle.redis_c.specs.declared.server.Reading.{Reading}

@@ -7,7 +7,7 @@ use crate::settings::{AddSettings, Unset};
 use crate::trimming::{any_strategy_in, policy_by, utf8_at};
 use std::alloc::Global;
 use stream_options::{StreamAddOptions, StreamIdempotencyMode};
-use stream_sentences::{AddParts, add_with};
+use stream_option_parsing::{AddParts, add_with};
 
 /// How the server detects duplicates, if it does.
 fn idempotency_in(

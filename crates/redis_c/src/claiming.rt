@@ -6,7 +6,7 @@ use crate::settings::{AutoClaimSettings, ClaimSettings, Unset};
 use crate::trimming::utf8_at;
 use std::alloc::Global;
 use stream_options::{StreamAutoClaimOptions, StreamClaimOptions};
-use stream_sentences::{AutoClaimParts, ClaimParts, autoclaim_with, claim_with};
+use stream_option_parsing::{AutoClaimParts, ClaimParts, autoclaim_with, claim_with};
 
 /// The number, if it is set.
 fn if_set(is_set: bool, n: usize) -> Option<usize>

@@ -1,13 +1,13 @@
 //! The slot of a key of Redis Cluster, and the partitions of a stream.
 ghost use Rattle.std.specs.Prelude.{◌≡◌, ◌<◌, ◌≤◌, ◌^◌, ◌%◌, ◌⊎◌, None, Some, option_map};
-ghost use Rattle.redis_cluster.specs.Crc.{crc16};
-ghost use Rattle.redis_cluster.specs.Slot.{key_slot};
+ghost use Rattle.redis_client.specs.Cluster.Crc.{crc16};
+ghost use Rattle.redis_client.specs.Cluster.Slot.{key_slot};
 ghost use Rattle.redis_c.specs.Packing.{IsPackedAs};
 ghost use Rattle.redis_c.specs.Cluster.{IsNaming};
 
 use crate::code;
 use crate::packing::{Packing, copied};
-use redis_cluster::{key_slot, partition_name, partition_of};
+use redis_client::cluster::{key_slot, partition_name, partition_of};
 use std::alloc::Global;
 use std::num::NonZeroU16;
 

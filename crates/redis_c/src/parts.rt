@@ -10,7 +10,7 @@ ghost use Rattle.stream_options.specs.Policy.{policy_sentence};
 ghost use Rattle.stream_options.specs.Read.{group_sentence};
 ghost use Rattle.stream_options.specs.Trim.{StrategyFits, TrimFits, strategy_sentence, trim_sentence};
 ghost use Rattle.stream_options.specs.View.{idempotency_of, mode_of, policy_of, strategy_of};
-ghost use Rattle.stream_sentences.specs.Parts as told;
+ghost use Rattle.stream_option_parsing.specs.Parts as told;
 ghost use Rattle.redis_c.specs.Outcome.{nowhere};
 ghost use Rattle.redis_c.specs.Parts.{first_place, asked_by, asked_of, group_in, Skips, Tells};
 ghost use Rattle.redis_c.specs.Plain.{IsZeroUnless, IsNowhereUnless, IsPlainTrim, IsPlainAdd, IsPlainClaim};
@@ -25,7 +25,7 @@ use redis_wire::place::Span;
 use stream_options::{
     StreamDeletionPolicy, StreamIdempotencyMode, StreamTrimStrategy, StreamTrimmingMode,
 };
-use stream_sentences::{AddParts, AutoClaimParts, ClaimParts, GroupNames, ReadParts, TrimParts};
+use stream_option_parsing::{AddParts, AutoClaimParts, ClaimParts, GroupNames, ReadParts, TrimParts};
 
 /// The empty place, for no text.
 fn nowhere() -> Span

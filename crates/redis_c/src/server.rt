@@ -22,7 +22,7 @@ use crate::placed::{Unplaced, texts_at};
 use crate::settings::{AddSettings, AutoClaimSettings, ClaimSettings, TrimSettings};
 use redis_wire::place::Span;
 use std::alloc::Global;
-use stream_sentences::{
+use stream_option_parsing::{
     SentenceError, read_add_parts, read_autoclaim_parts, read_claim_parts, read_read_parts,
     read_trim_parts,
 };

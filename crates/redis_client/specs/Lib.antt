@@ -7,3 +7,5 @@ pub mod Said
 pub mod Greeting
 pub mod Backoff
 pub mod Next
+pub mod Cluster
+pub mod Topology

@@ -4,6 +4,7 @@
 
 mod address;
 mod backoff;
+pub mod cluster;
 mod cut;
 mod greeting;
 mod next;
@@ -11,6 +12,7 @@ mod number;
 mod parts;
 mod settings;
 mod socket;
+pub mod topology;
 
 pub use address::{Address, AddressError, Login, Protocol};
 pub use backoff::Backoff;

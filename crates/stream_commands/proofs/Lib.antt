@@ -1,2 +1,3 @@
 mod IdLemmas
 pub mod WholeCommandLemmas
+pub mod MonitorLemmas

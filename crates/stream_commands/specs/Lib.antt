@@ -3,3 +3,4 @@ pub mod NonEmpty
 pub mod Read
 pub mod Single
 pub mod WholeCommands
+pub mod Monitor

@@ -24,6 +24,7 @@ pub mod fields;
 pub mod group;
 pub mod info;
 pub mod laws;
+pub mod monitor;
 pub mod pending;
 pub mod range;
 pub mod read;

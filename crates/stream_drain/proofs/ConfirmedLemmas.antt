@@ -3,22 +3,22 @@ use Rattle.std.proofs.Common.{◌≡◌, ◌⊎◌, inl, inr, refl}
 use Rattle.redis_connection.specs.Link.{Link}
 use Rattle.redis_resp.specs.Number.{unsigned_reading}
 use Rattle.redis_resp.specs.Refusal.{RefusesNumber}
-use Rattle.stream_confirm.specs.Confirmed.{FailsConfirmed, IsConfirmedRound}
-use Rattle.stream_confirm.specs.declared.error.RoundError.{RoundError}
-use Rattle.stream_confirm.specs.declared.error.RoundError.TheVariants as ends
-use Rattle.stream_feed.specs.Confirmed.{IsConfirmed, IsUnconfirmed, wait_sentence}
-use Rattle.stream_feed.specs.declared.confirming.ConfirmError.{ConfirmError}
-use Rattle.stream_feed.specs.declared.confirming.ConfirmError.TheVariants as causes
-use Rattle.stream_feed.specs.declared.wait.Wait.{Wait}
-use Rattle.stream_letters.specs.Besides.{BreaksLooking, Looks}
-use Rattle.stream_letters.proofs.BesidesLemmas.{look_not_breaks, looked, looked_not}
-use Rattle.stream_loop.specs.Loop.{Loops, Stops}
-use Rattle.stream_loop.proofs.ShownLemmas as shown
-use Rattle.stream_worker.specs.Session.{Standing}
-use Rattle.stream_worker.specs.declared.state.Asked.{Asked}
-use Rattle.stream_worker.specs.declared.state.Settings.{Settings}
-use Rattle.stream_worker.specs.declared.worker.Progress.{Progress}
-use Rattle.stream_worker.specs.declared.worker.Progress.TheVariants.{GoesOn, Stopped}
+use Rattle.worker.specs.Confirm.Confirmed.{FailsConfirmed, IsConfirmedRound}
+use Rattle.worker.specs.declared.confirm.error.RoundError.{RoundError}
+use Rattle.worker.specs.declared.confirm.error.RoundError.TheVariants as ends
+use Rattle.worker_producer.specs.Confirmed.{IsConfirmed, IsUnconfirmed, wait_sentence}
+use Rattle.worker_producer.specs.declared.confirming.ConfirmError.{ConfirmError}
+use Rattle.worker_producer.specs.declared.confirming.ConfirmError.TheVariants as causes
+use Rattle.worker_producer.specs.declared.wait.Wait.{Wait}
+use Rattle.worker.specs.DeadLetters.Besides.{BreaksLooking, Looks}
+use Rattle.worker.proofs.DeadLettersLemmas.BesidesLemmas.{look_not_breaks, looked, looked_not}
+use Rattle.model_workers.specs.Loops.Loop.{Loops, Stops}
+use Rattle.model_workers.proofs.LoopsLemmas.ShownLemmas as shown
+use Rattle.worker.specs.Session.{Standing}
+use Rattle.worker.specs.declared.state.Asked.{Asked}
+use Rattle.worker.specs.declared.state.Settings.{Settings}
+use Rattle.worker.specs.declared.worker.Progress.{Progress}
+use Rattle.worker.specs.declared.worker.Progress.TheVariants.{GoesOn, Stopped}
 use Rattle.stream_drain.specs.Lived.{Leads}
 use Rattle.stream_drain.specs.Written.{Written, committed_with, written_of, written_too}
 use Rattle.stream_drain.proofs.LivedLemmas.{lines_picture}

@@ -1,18 +1,18 @@
 -- The program that looks up, over a server that may go back.
 use Rattle.std.proofs.Common.{◌≡◌, ◌∙◌, refl, sym, ap, ℕ, Bool, List, [], ◌++◌, Some, append-nil}
-use Rattle.line_log.specs.EntryLine.{Entry}
-use Rattle.stream_failover.specs.World.{Event}
-use Rattle.stream_group.specs.Group.{ids_of, listed}
-use Rattle.stream_group.specs.Worker.{own_pending}
+use Rattle.worker_journal.specs.EntryLine.{Entry}
+use Rattle.model_server.specs.Failover.World.{Event}
+use Rattle.model_server.specs.Group.Group.{ids_of, listed}
+use Rattle.model_server.specs.Group.Worker.{own_pending}
 use Rattle.stream_in_place.specs.Sent.{Pairs}
-use Rattle.stream_once.specs.Consumer.{new_consumer}
-use Rattle.stream_once.specs.World.{Setting}
-use Rattle.stream_worker.specs.Session.{Standing, standing_of}
-use Rattle.worker_failover.specs.Keeps.{LooksUp}
-use Rattle.worker_failover.specs.Rounds.{file_left}
-use Rattle.worker_failover.specs.Schedule.{HasFile, file_after}
-use Rattle.worker_failover.proofs.ScheduleLemmas.{code_loses_nothing, code_writes_each_record, code_writes_once}
-use Rattle.worker_failover.proofs.ScheduleLemmas.{code_writes_the_log}
+use Rattle.model_server.specs.Once.Consumer.{new_consumer}
+use Rattle.model_server.specs.Once.World.{Setting}
+use Rattle.worker.specs.Session.{Standing, standing_of}
+use Rattle.model_workers.specs.Failover.Keeps.{LooksUp}
+use Rattle.model_workers.specs.Failover.Rounds.{file_left}
+use Rattle.model_workers.specs.Failover.Schedule.{HasFile, file_after}
+use Rattle.model_workers.proofs.FailoverLemmas.ScheduleLemmas.{code_loses_nothing, code_writes_each_record, code_writes_once}
+use Rattle.model_workers.proofs.FailoverLemmas.ScheduleLemmas.{code_writes_the_log}
 use Rattle.stream_drain.specs.Failover.{HasLines, LinesAreOfTheLog, LinesLookUp, LinesLoseNothing, LinesOnce}
 use Rattle.stream_drain.specs.Failover.{LinesAreTheRecords, StartsOverTheModel, keeps_lines}
 use Rattle.stream_drain.specs.Once.{over_file}

@@ -1,25 +1,25 @@
 -- What is committed is in the file, whatever a crash leaves of it.
 use Rattle.std.proofs.Common.{◌≡◌, ◌∙◌, ◌⊎◌, refl, sym, ap, subst, inl, inr, ⊎_elim, ℕ, Bool, true, false, List, [], ◌∷◌, ◌++◌}
 use Rattle.std.proofs.Common.{Option, IfSome, append_assoc, if◌then◌else◌}
-use Rattle.line_log.specs.EntryLine.{Entry}
-use Rattle.line_log.specs.Holds.{IsHeld}
-use Rattle.line_log.specs.Lines.{AreLines, EachStartsWith, HasLine, StartsWith}
-use Rattle.line_log.proofs.LineLemmas.{committed_is_left, later_line, next_line, one_more}
+use Rattle.worker_journal.specs.EntryLine.{Entry}
+use Rattle.worker_journal.specs.Holds.{IsHeld}
+use Rattle.worker_journal.specs.Lines.{AreLines, EachStartsWith, HasLine, StartsWith}
+use Rattle.worker_journal.proofs.LineLemmas.{committed_is_left, later_line, next_line, one_more}
 use Rattle.redis_connection.specs.Link.{Link}
-use Rattle.stream_group.specs.Law.{Among}
-use Rattle.stream_group.specs.Worker.{Id}
+use Rattle.model_server.specs.Group.Law.{Among}
+use Rattle.model_server.specs.Group.Worker.{Id}
 use Rattle.stream_in_place.specs.Sent.{Pairs}
-use Rattle.stream_worker.proofs.LifeLemmas.{only_committed}
-use Rattle.stream_worker.specs.Gathered.{committed_too}
-use Rattle.stream_worker.specs.Machine.{history_at_request}
-use Rattle.stream_worker.specs.Session.{Standing, standing_of}
-use Rattle.stream_worker.specs.declared.state.Settings.{Settings}
-use Rattle.stream_worker.specs.declared.worker.Worker.{Worker}
+use Rattle.worker.proofs.LifeLemmas.{only_committed}
+use Rattle.worker.specs.Gathered.{committed_too}
+use Rattle.worker.specs.Machine.{history_at_request}
+use Rattle.worker.specs.Session.{Standing, standing_of}
+use Rattle.worker.specs.declared.state.Settings.{Settings}
+use Rattle.worker.specs.declared.worker.Worker.{Worker}
 use Rattle.stream_drain.specs.Filed.{AcknowledgedIsFiled, AreFiled, FiledFrom, IsFiled, with_bytes}
 use Rattle.stream_drain.specs.Line.{line_in}
 use Rattle.stream_drain.specs.Lived.{Leads}
-use Rattle.stream_loop.specs.Shown.{with_doings}
-use Rattle.stream_loop.specs.Loop.{Loops, Stops, Drains}
+use Rattle.model_workers.specs.Loops.Shown.{with_doings}
+use Rattle.model_workers.specs.Loops.Loop.{Loops, Stops, Drains}
 use Rattle.stream_drain.specs.Known.{Known, is_known, known_too, lines_for}
 use Rattle.stream_drain.specs.Written.{Written, committed_with, lines_in, written_by}
 use Rattle.stream_drain.specs.Written.{written_of}

@@ -5,11 +5,11 @@ use Rattle.std.specs.Prelude.{◌&&◌, nat_lt}
 use Rattle.std.specs.List.{AllByRecursion, list_all}
 use Rattle.std.proofs.lemmas.Bool.{and_parts}
 use Rattle.std.proofs.lemmas.Bool.Decides.{nat_tests}
-use Rattle.line_log.specs.EntryLine.{Entry, line_of}
-use Rattle.line_log.specs.Lines.{HasNoEnd}
-use Rattle.line_log.proofs.EntryLineLemmas.{line_tells, line_whole}
-use Rattle.stream_files.specs.Files.{Form}
-use Rattle.stream_files.proofs.Whole.{text}
+use Rattle.worker_journal.specs.EntryLine.{Entry, line_of}
+use Rattle.worker_journal.specs.Lines.{HasNoEnd}
+use Rattle.worker_journal.proofs.EntryLineLemmas.{line_tells, line_whole}
+use Rattle.model_workers.specs.Files.Files.{Form}
+use Rattle.model_workers.proofs.FilesLemmas.Whole.{text}
 use Rattle.stream_drain.specs.Line.{line_in}
 use Rattle.stream_drain.specs.Tell.{AreBytes, LinesAreAForm}
 use Rattle.stream_drain.proofs.LinesLemmas.{one_line}

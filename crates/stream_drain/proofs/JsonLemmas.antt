@@ -9,7 +9,7 @@ use Rattle.std.proofs.lemmas.List.Folds.{list_all-append}
 use Rattle.json.specs.Token.{Token, begin_object, end_object, begin_array, end_array}
 use Rattle.json.specs.Token.{key, string, number, boolean, null, bad}
 use Rattle.json.specs.Print.{begins, ends, escape, escape_byte, escape_letter, print, print_from, separator, token_text}
-use Rattle.line_log.specs.EntryLine.{Entry}
+use Rattle.worker_journal.specs.EntryLine.{Entry}
 use Rattle.std.specs.Str.{IsUtf8, is_utf8}
 use Rattle.std.proofs.lemmas.Str.{IsUtf8-from_is_utf8}
 use Rattle.stream_drain.specs.Json.{are_texts, is_text_or_bracket}

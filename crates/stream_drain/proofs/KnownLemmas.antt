@@ -13,16 +13,16 @@ use Rattle.std.proofs.lemmas.Fmt.{digits_decimal}
 use Rattle.std.proofs.lemmas.List.Folds.{list_all-append}
 use Rattle.std.proofs.lemmas.Slice.Eq.{bytes_eq-Decides}
 use Rattle.std.proofs.lemmas.Str.Parse.{IsDigitsTest, numerals_by_value}
-use Rattle.known_ids.specs.Cut.{before, from, is_other}
-use Rattle.known_ids.specs.Known.{HasOneMore, Place, has_number, knows}
-use Rattle.known_ids.specs.Number.{number_of}
-use Rattle.known_ids.specs.Told.{and_told, begins, line_number, told}
-use Rattle.known_ids.proofs.NumberLemmas.{knows_one_more, parts}
-use Rattle.line_log.specs.EntryLine.{Entry, field_text, line_of}
-use Rattle.line_log.specs.Escape.{escaped, escaped_byte, IsPlain}
-use Rattle.line_log.proofs.EscapeLemmas.{text_plain}
-use Rattle.stream_group.specs.Group.{listed}
-use Rattle.stream_group.specs.Worker.{Id}
+use Rattle.worker_journal.specs.KnownIds.Cut.{before, from, is_other}
+use Rattle.worker_journal.specs.KnownIds.Known.{HasOneMore, Place, has_number, knows}
+use Rattle.worker_journal.specs.KnownIds.Number.{number_of}
+use Rattle.worker_journal.specs.KnownIds.Told.{and_told, begins, line_number, told}
+use Rattle.worker_journal.proofs.KnownIdsLemmas.NumberLemmas.{knows_one_more, parts}
+use Rattle.worker_journal.specs.EntryLine.{Entry, field_text, line_of}
+use Rattle.worker_journal.specs.Escape.{escaped, escaped_byte, IsPlain}
+use Rattle.worker_journal.proofs.EscapeLemmas.{text_plain}
+use Rattle.model_server.specs.Group.Group.{listed}
+use Rattle.model_server.specs.Group.Worker.{Id}
 use Rattle.stream_drain.specs.Known.{Known, is_known, known_too, numbers_known}
 use Rattle.stream_drain.specs.Line.{line_in}
 use Rattle.stream_drain.specs.Resumed.{ids_in, is_of_id}

@@ -1,17 +1,17 @@
 -- The lines of entries, and the ids that they tell.
 use Rattle.std.proofs.Common.{◌≡◌, ◌∙◌, refl, sym, ap, subst, ℕ, zero, suc, Bool, true, false, List, [], ◌∷◌, ◌++◌}
 use Rattle.std.proofs.Common.{map, take, append_assoc, append-nil, Option, Some, None, IfSome, if◌then◌else◌}
-use Rattle.line_log.specs.EntryLine.{Entry}
-use Rattle.line_log.specs.Holds.{Holds, committed_in}
-use Rattle.line_log.specs.LastLines.{before_first, lines_of}
-use Rattle.line_log.specs.Lines.{HasNoEnd, IsRepaired}
-use Rattle.line_log.proofs.EntryLineLemmas.{line_whole}
-use Rattle.line_log.proofs.LastLinesLemmas.{line_before, lines_join, within_line}
-use Rattle.known_ids.specs.Known.{HasOneMore, Place, has, has_at, has_number, knows, places_in}
-use Rattle.known_ids.specs.Number.{number_of}
-use Rattle.known_ids.specs.Told.{told}
-use Rattle.known_ids.specs.declared.known.KnownIds.{KnownIds}
-use Rattle.stream_group.specs.Worker.{Id, done}
+use Rattle.worker_journal.specs.EntryLine.{Entry}
+use Rattle.worker_journal.specs.Holds.{Holds, committed_in}
+use Rattle.worker_journal.specs.LastLines.{before_first, lines_of}
+use Rattle.worker_journal.specs.Lines.{HasNoEnd, IsRepaired}
+use Rattle.worker_journal.proofs.EntryLineLemmas.{line_whole}
+use Rattle.worker_journal.proofs.LastLinesLemmas.{line_before, lines_join, within_line}
+use Rattle.worker_journal.specs.KnownIds.Known.{HasOneMore, Place, has, has_at, has_number, knows, places_in}
+use Rattle.worker_journal.specs.KnownIds.Number.{number_of}
+use Rattle.worker_journal.specs.KnownIds.Told.{told}
+use Rattle.worker_journal.specs.declared.known_ids.known.KnownIds.{KnownIds}
+use Rattle.model_server.specs.Group.Worker.{Id, done}
 use Rattle.stream_drain.specs.Known.{Known, numbers_known}
 use Rattle.stream_drain.specs.Line.{entry_tokens, line_in}
 use Rattle.stream_drain.specs.Resumed.{KnowsItsFile}

@@ -1,22 +1,22 @@
 -- The rounds of a worker whose handler writes lines, as rounds of one that keeps what it did.
 use Rattle.std.proofs.Common.{◌≡◌, sym, ap, ℕ, Bool, List, [], Option}
 use Rattle.redis_connection.specs.Link.{Link}
-use Rattle.stream_group.specs.Worker.{Machine}
-use Rattle.stream_letters.specs.Besides.{Besides, BreaksBesides}
-use Rattle.stream_loop.specs.Loop.{Loops, Stops}
-use Rattle.stream_loop.specs.Shown.{IsPicture}
-use Rattle.stream_loop.proofs.LivedLemmas.{drains_lived}
-use Rattle.stream_loop.proofs.ShownLemmas as shown
-use Rattle.stream_worker.specs.Gathered.{Doings, committed_too}
-use Rattle.stream_worker.specs.Life.{begins}
-use Rattle.stream_worker.specs.Machine.{history_at_request}
-use Rattle.stream_worker.specs.Pipelined.{FailsPipelined, WentPipelined}
-use Rattle.stream_worker.specs.Session.{Standing, Turned, Fails}
-use Rattle.stream_worker.specs.declared.error.RunError.{RunError}
-use Rattle.stream_worker.specs.declared.state.Asked.{Asked}
-use Rattle.stream_worker.specs.declared.state.Settings.{Settings}
-use Rattle.stream_worker.specs.declared.worker.Progress.{Progress}
-use Rattle.stream_worker.specs.declared.worker.Progress.TheVariants.{GoesOn, Stopped}
+use Rattle.model_server.specs.Group.Worker.{Machine}
+use Rattle.worker.specs.DeadLetters.Besides.{Besides, BreaksBesides}
+use Rattle.model_workers.specs.Loops.Loop.{Loops, Stops}
+use Rattle.model_workers.specs.Loops.Shown.{IsPicture}
+use Rattle.model_workers.proofs.LoopsLemmas.LivedLemmas.{drains_lived}
+use Rattle.model_workers.proofs.LoopsLemmas.ShownLemmas as shown
+use Rattle.worker.specs.Gathered.{Doings, committed_too}
+use Rattle.worker.specs.Life.{begins}
+use Rattle.worker.specs.Machine.{history_at_request}
+use Rattle.worker.specs.Pipelined.{FailsPipelined, WentPipelined}
+use Rattle.worker.specs.Session.{Standing, Turned, Fails}
+use Rattle.worker.specs.declared.error.RunError.{RunError}
+use Rattle.worker.specs.declared.state.Asked.{Asked}
+use Rattle.worker.specs.declared.state.Settings.{Settings}
+use Rattle.worker.specs.declared.worker.Progress.{Progress}
+use Rattle.worker.specs.declared.worker.Progress.TheVariants.{GoesOn, Stopped}
 use Rattle.stream_drain.specs.Lived.{Leads, RoundsAreLived}
 use Rattle.stream_drain.specs.Written.{Beginning, Written, committed_with, written_of, written_too}
 use Rattle.stream_drain.proofs.WrittenLemmas.{each_commit, each_verdict, with_none}

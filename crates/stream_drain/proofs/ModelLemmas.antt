@@ -4,14 +4,14 @@ use Rattle.std.proofs.Common.{append_assoc, append-nil, if◌then◌else◌, tak
 use Rattle.std.specs.Prelude.{◌||◌}
 use Rattle.std.specs.Str.{bytes_eq}
 use Rattle.std.proofs.Math.Path.{fun_ext}
-use Rattle.line_log.specs.EntryLine.{Entry}
-use Rattle.stream_failover.specs.Lookup.{unwritten}
-use Rattle.stream_group.specs.Group.{ids_of, listed}
-use Rattle.stream_group.specs.Worker.{Delivered, Id, Verdict, done, entries_in, handled_in, left_pending, stop, told_in}
+use Rattle.worker_journal.specs.EntryLine.{Entry}
+use Rattle.model_server.specs.Failover.Lookup.{unwritten}
+use Rattle.model_server.specs.Group.Group.{ids_of, listed}
+use Rattle.model_server.specs.Group.Worker.{Delivered, Id, Verdict, done, entries_in, handled_in, left_pending, stop, told_in}
 use Rattle.stream_in_place.specs.Sent.{Pairs}
-use Rattle.stream_once.specs.Consumer.{Consumer}
-use Rattle.stream_once.proofs.Apart.{ids_both}
-use Rattle.stream_worker.specs.Handling.{with_all}
+use Rattle.model_server.specs.Once.Consumer.{Consumer}
+use Rattle.model_server.proofs.OnceLemmas.Apart.{ids_both}
+use Rattle.worker.specs.Handling.{with_all}
 use Rattle.stream_drain.specs.Known.{Known, known_too, lines_for}
 use Rattle.stream_drain.specs.Line.{line_in}
 use Rattle.stream_drain.specs.Once.{LooksUpAsTheModel}

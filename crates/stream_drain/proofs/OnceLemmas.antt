@@ -1,17 +1,17 @@
 -- No id is twice in the file of a handler that looks up.
 use Rattle.std.proofs.Common.{◌≡◌, ◌∙◌, inl, inr, refl, sym, ap, ap₂, subst, ℕ, Bool, true, false, List, [], ◌∷◌, ◌++◌, map}
 use Rattle.std.proofs.Common.{Some, append_assoc, append-nil}
-use Rattle.line_log.specs.EntryLine.{Entry}
-use Rattle.line_log.specs.Holds.{with_more}
-use Rattle.line_log.specs.LastLines.{lines_of}
-use Rattle.line_log.specs.Lines.{AreLines, StartsWith}
-use Rattle.line_log.proofs.EntryLineLemmas.{line_tells}
-use Rattle.line_log.proofs.LastLinesLemmas.{lines_join}
-use Rattle.stream_group.specs.Group.{listed}
-use Rattle.stream_group.specs.Worker.{Id}
-use Rattle.stream_once.specs.Law.{Once}
-use Rattle.stream_once.proofs.Apart.{ids_both, once_left}
-use Rattle.stream_worker.specs.Gathered.{Doings}
+use Rattle.worker_journal.specs.EntryLine.{Entry}
+use Rattle.worker_journal.specs.Holds.{with_more}
+use Rattle.worker_journal.specs.LastLines.{lines_of}
+use Rattle.worker_journal.specs.Lines.{AreLines, StartsWith}
+use Rattle.worker_journal.proofs.EntryLineLemmas.{line_tells}
+use Rattle.worker_journal.proofs.LastLinesLemmas.{lines_join}
+use Rattle.model_server.specs.Group.Group.{listed}
+use Rattle.model_server.specs.Group.Worker.{Id}
+use Rattle.model_server.specs.Once.Law.{Once}
+use Rattle.model_server.proofs.OnceLemmas.Apart.{ids_both, once_left}
+use Rattle.worker.specs.Gathered.{Doings}
 use Rattle.stream_drain.specs.Known.{Known, known_after, lines_for}
 use Rattle.stream_drain.specs.Line.{line_in}
 use Rattle.stream_drain.specs.Once.{over_file}

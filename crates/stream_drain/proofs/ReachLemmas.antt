@@ -2,14 +2,14 @@
 use Rattle.std.proofs.Common.{◌≡◌, ◌∙◌, refl, ap, Bool, [], Some}
 use Rattle.std.proofs.Math.Path.{fun_ext}
 use Rattle.redis_connection.specs.Link.{Link}
-use Rattle.stream_group.specs.Group.{listed}
-use Rattle.stream_group.specs.Worker.{Id}
-use Rattle.stream_worker.specs.Session.{Standing, Turned, Fails}
-use Rattle.stream_worker.specs.declared.error.RunError.{RunError}
-use Rattle.stream_worker.specs.declared.state.Asked.{Asked}
-use Rattle.stream_worker.specs.declared.state.Settings.{Settings}
-use Rattle.stream_worker.specs.declared.worker.Progress.{Progress}
-use Rattle.stream_worker.specs.declared.worker.Progress.TheVariants.{GoesOn, Stopped}
+use Rattle.model_server.specs.Group.Group.{listed}
+use Rattle.model_server.specs.Group.Worker.{Id}
+use Rattle.worker.specs.Session.{Standing, Turned, Fails}
+use Rattle.worker.specs.declared.error.RunError.{RunError}
+use Rattle.worker.specs.declared.state.Asked.{Asked}
+use Rattle.worker.specs.declared.state.Settings.{Settings}
+use Rattle.worker.specs.declared.worker.Progress.{Progress}
+use Rattle.worker.specs.declared.worker.Progress.TheVariants.{GoesOn, Stopped}
 use Rattle.stream_drain.specs.Once.{NoIdIsTwice, Reaches, StartsLookingUp, begins, crashes, fails, turns}
 use Rattle.stream_drain.specs.Written.{Written, committed_with, lines_in, written_too}
 use Rattle.stream_drain.specs.Resumed.{ids_in}

@@ -9,15 +9,15 @@ use Rattle.std.specs.declared.alloc.AllocError.{AllocError}
 use Rattle.std.proofs.lemmas.List.{map-append}
 use Rattle.std.specs.Prelude.{String}
 use Rattle.std.specs.declared.alloc.Global.{Global}
-use Rattle.line_log.specs.LastLines.{last_of, lines_of}
-use Rattle.line_log.specs.LineTexts.{bytes_of}
-use Rattle.stream_group.specs.Worker.{Id, Machine, start}
-use Rattle.stream_worker.specs.Session.{Standing}
-use Rattle.stream_worker.specs.declared.state.Asked.{Asked}
-use Rattle.stream_worker.specs.declared.state.Asked.TheVariants.{Nothing}
-use Rattle.stream_worker.specs.declared.state.GroupState.{GroupState}
-use Rattle.stream_worker.specs.declared.state.GroupState.TheVariants.{Unknown}
-use Rattle.stream_worker.specs.declared.state.Settings.{Settings}
+use Rattle.worker_journal.specs.LastLines.{last_of, lines_of}
+use Rattle.worker_journal.specs.LineTexts.{bytes_of}
+use Rattle.model_server.specs.Group.Worker.{Id, Machine, start}
+use Rattle.worker.specs.Session.{Standing}
+use Rattle.worker.specs.declared.state.Asked.{Asked}
+use Rattle.worker.specs.declared.state.Asked.TheVariants.{Nothing}
+use Rattle.worker.specs.declared.state.GroupState.{GroupState}
+use Rattle.worker.specs.declared.state.GroupState.TheVariants.{Unknown}
+use Rattle.worker.specs.declared.state.Settings.{Settings}
 use Rattle.stream_drain.specs.Resumed.{BeginsSo, BeginsWithLast, TellEach, Tells}
 use Rattle.stream_drain.specs.Counts.{has_any}
 use Rattle.stream_drain.specs.Known.{Known}

@@ -2,18 +2,18 @@
 use Rattle.std.proofs.Common.{◌≡◌, ◌∙◌, ◌-◌, inl, inr, refl, sym, ap, ap₂, subst, ℕ, zero, suc, Bool, true, List, [], ◌∷◌, ◌++◌}
 use Rattle.std.proofs.Common.{length, map, Some, None, append-nil, arith, drop}
 use Rattle.std.proofs.lemmas.List.{drop-map}
-use Rattle.line_log.specs.EntryLine.{Entry}
-use Rattle.line_log.specs.LastLines.{last_of, lines_of}
-use Rattle.line_log.specs.Lines.{AreLines}
-use Rattle.line_log.proofs.LastLinesLemmas.{last_all, last_join, lines_join}
-use Rattle.stream_group.specs.Group.{listed}
-use Rattle.stream_group.specs.Law.{Among}
-use Rattle.stream_group.specs.Worker.{Id}
-use Rattle.stream_loop.specs.Shown.{with_doings}
-use Rattle.stream_once.proofs.Apart.{among_listed}
-use Rattle.stream_worker.specs.Life.{IsCommitted, Lives, done_before, resumes}
-use Rattle.stream_worker.specs.Session.{Standing}
-use Rattle.stream_worker.specs.declared.state.Settings.{Settings}
+use Rattle.worker_journal.specs.EntryLine.{Entry}
+use Rattle.worker_journal.specs.LastLines.{last_of, lines_of}
+use Rattle.worker_journal.specs.Lines.{AreLines}
+use Rattle.worker_journal.proofs.LastLinesLemmas.{last_all, last_join, lines_join}
+use Rattle.model_server.specs.Group.Group.{listed}
+use Rattle.model_server.specs.Group.Law.{Among}
+use Rattle.model_server.specs.Group.Worker.{Id}
+use Rattle.model_workers.specs.Loops.Shown.{with_doings}
+use Rattle.model_server.proofs.OnceLemmas.Apart.{among_listed}
+use Rattle.worker.specs.Life.{IsCommitted, Lives, done_before, resumes}
+use Rattle.worker.specs.Session.{Standing}
+use Rattle.worker.specs.declared.state.Settings.{Settings}
 use Rattle.stream_drain.specs.Line.{line_in}
 use Rattle.stream_drain.specs.Filed.{with_bytes}
 use Rattle.stream_drain.specs.Lived.{LivesSo}

@@ -14,8 +14,8 @@ use Rattle.json.specs.Token.{key, string, number, boolean, null, bad}
 use Rattle.json.specs.Lex.{tokens}
 use Rattle.json.specs.Print.{print, ArePrintable}
 use Rattle.json.proofs.Printed.Tokens.{tokens-print}
-use Rattle.line_log.specs.EntryLine.{Entry}
-use Rattle.line_log.specs.EntryLine as tabs
+use Rattle.worker_journal.specs.EntryLine.{Entry}
+use Rattle.worker_journal.specs.EntryLine as tabs
 use Rattle.stream_drain.specs.Json.{are_texts}
 use Rattle.stream_drain.specs.Line.{base64_tokens, bytes_tokens, end_tokens, entry_tokens, field_tokens}
 use Rattle.stream_drain.specs.Tell.{AreBytes, IsOfBytes, LinesTellEntries}

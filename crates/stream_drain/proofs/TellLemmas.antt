@@ -8,9 +8,9 @@ use Rattle.std.proofs.lemmas.Bool.{and_parts, true≢false}
 use Rattle.std.proofs.lemmas.List.{take-append-drop}
 use Rattle.json.specs.Token.{begin_array, key}
 use Rattle.json.specs.Print.{escape, escape_byte, escape_letter, print_from}
-use Rattle.line_log.specs.EntryLine.{Entry, IsEntryIn}
-use Rattle.line_log.proofs.EntryLineLemmas.{line_tells}
-use Rattle.stream_group.specs.Worker.{Id}
+use Rattle.worker_journal.specs.EntryLine.{Entry, IsEntryIn}
+use Rattle.worker_journal.proofs.EntryLineLemmas.{line_tells}
+use Rattle.model_server.specs.Group.Worker.{Id}
 use Rattle.stream_drain.specs.Line.{end_tokens, field_tokens, line_in}
 use Rattle.stream_drain.specs.Resumed.{TellEach, Tells, is_of_id}
 

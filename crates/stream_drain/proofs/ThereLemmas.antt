@@ -9,14 +9,14 @@ use Rattle.std.proofs.lemmas.Bool.{and_parts, cases_eq, true≢false}
 use Rattle.std.proofs.lemmas.Bool.Decides.{nat_tests}
 use Rattle.std.proofs.lemmas.List.{take-append-drop}
 use Rattle.std.proofs.lemmas.Slice.Eq.{bytes_eq-Decides}
-use Rattle.line_log.specs.Holds.{Holds, IsHeld, committed_in}
-use Rattle.line_log.specs.Lines.{AreLines, HasLine, HasNoEnd}
-use Rattle.line_log.proofs.LastLinesLemmas.{piece_of}
-use Rattle.known_ids.specs.Known.{Place, knows, places_in}
-use Rattle.known_ids.specs.Told.{begins}
-use Rattle.known_ids.specs.declared.known.KnownIds.{KnownIds}
-use Rattle.line_log.specs.EntryLine.{Entry}
-use Rattle.stream_group.specs.Worker.{Id}
+use Rattle.worker_journal.specs.Holds.{Holds, IsHeld, committed_in}
+use Rattle.worker_journal.specs.Lines.{AreLines, HasLine, HasNoEnd}
+use Rattle.worker_journal.proofs.LastLinesLemmas.{piece_of}
+use Rattle.worker_journal.specs.KnownIds.Known.{Place, knows, places_in}
+use Rattle.worker_journal.specs.KnownIds.Told.{begins}
+use Rattle.worker_journal.specs.declared.known_ids.known.KnownIds.{KnownIds}
+use Rattle.worker_journal.specs.EntryLine.{Entry}
+use Rattle.model_server.specs.Group.Worker.{Id}
 use Rattle.stream_drain.specs.Known.{is_known, known_by}
 use Rattle.stream_drain.specs.Line.{line_in}
 use Rattle.stream_drain.specs.There.{Explains, HasItsLine, OfAll, Says, Stands, begun, ends, ends_text, found_in, has_id, has_line, there}

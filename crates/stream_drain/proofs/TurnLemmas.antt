@@ -1,17 +1,17 @@
 -- Turns whose round is confirmed.
 use Rattle.std.specs.Prelude.{ℕ, IfSome, List, Option, Some, None}
 use Rattle.redis_connection.specs.Link.{Link}
-use Rattle.stream_confirm.specs.Confirmed.{IsConfirmedRound}
+use Rattle.worker.specs.Confirm.Confirmed.{IsConfirmedRound}
 use Rattle.stream_drain.specs.Turn.{IsConfirmedTurn}
 use Rattle.stream_drain.specs.Written.{Written}
-use Rattle.stream_feed.specs.declared.wait.Wait.{Wait}
-use Rattle.stream_group.specs.Worker.{Verdict}
+use Rattle.worker_producer.specs.declared.wait.Wait.{Wait}
+use Rattle.model_server.specs.Group.Worker.{Verdict}
 use Rattle.stream_in_place.specs.Sent.{Pairs}
-use Rattle.stream_letters.specs.Besides.{Besides}
-use Rattle.stream_worker.specs.Session.{Standing}
-use Rattle.stream_worker.specs.declared.state.Asked.{Asked}
-use Rattle.stream_worker.specs.declared.state.Settings.{Settings}
-use Rattle.stream_worker.specs.declared.worker.Progress.{Progress}
+use Rattle.worker.specs.DeadLetters.Besides.{Besides}
+use Rattle.worker.specs.Session.{Standing}
+use Rattle.worker.specs.declared.state.Asked.{Asked}
+use Rattle.worker.specs.declared.state.Settings.{Settings}
+use Rattle.worker.specs.declared.worker.Progress.{Progress}
 
 -- a confirmed round, with what is asked before it and after it, is a confirmed turn
 pub confirmed_turn : (v : Written → List ℕ × Pairs → Verdict → Written) (k : Written → Written) (settings : Settings)

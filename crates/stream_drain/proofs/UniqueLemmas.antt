@@ -5,13 +5,13 @@ use Rattle.std.specs.Prelude.{◌||◌}
 use Rattle.std.specs.Str.{bytes_eq}
 use Rattle.std.proofs.Math.Path.{fun_ext}
 use Rattle.std.proofs.lemmas.Bool.{true≢false}
-use Rattle.line_log.specs.EntryLine.{Entry}
-use Rattle.stream_failover.specs.Lookup.{unwritten}
-use Rattle.stream_group.specs.Group.{listed}
-use Rattle.stream_group.specs.Law.{Among}
-use Rattle.stream_group.specs.Worker.{Id}
-use Rattle.stream_once.specs.Law.{Once}
-use Rattle.stream_once.proofs.Apart.{among_listed, once_both, once_left}
+use Rattle.worker_journal.specs.EntryLine.{Entry}
+use Rattle.model_server.specs.Failover.Lookup.{unwritten}
+use Rattle.model_server.specs.Group.Group.{listed}
+use Rattle.model_server.specs.Group.Law.{Among}
+use Rattle.model_server.specs.Group.Worker.{Id}
+use Rattle.model_server.specs.Once.Law.{Once}
+use Rattle.model_server.proofs.OnceLemmas.Apart.{among_listed, once_both, once_left}
 use Rattle.stream_drain.specs.Known.{Known, known_after, known_too, lines_for}
 use Rattle.stream_drain.specs.Resumed.{ids_in}
 

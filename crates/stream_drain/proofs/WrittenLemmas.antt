@@ -1,11 +1,11 @@
 -- The lines of doings.
 use Rattle.std.proofs.Common.{◌≡◌, ◌∙◌, refl, sym, ap, ap₂, ℕ, Bool, true, false, List, [], ◌∷◌, ◌++◌, append_assoc, append-nil}
 use Rattle.std.proofs.Common.{inl, inr, Option, Some, None, if◌then◌else◌}
-use Rattle.line_log.specs.EntryLine.{Entry}
-use Rattle.line_log.specs.Holds.{with_more}
-use Rattle.stream_group.specs.Law.{Among}
-use Rattle.stream_group.specs.Worker.{Verdict, done, left_pending, stop}
-use Rattle.stream_worker.specs.Gathered.{Doings, committed_too, done_too}
+use Rattle.worker_journal.specs.EntryLine.{Entry}
+use Rattle.worker_journal.specs.Holds.{with_more}
+use Rattle.model_server.specs.Group.Law.{Among}
+use Rattle.model_server.specs.Group.Worker.{Verdict, done, left_pending, stop}
+use Rattle.worker.specs.Gathered.{Doings, committed_too, done_too}
 use Rattle.stream_drain.specs.Line.{line_in}
 use Rattle.stream_drain.specs.Known.{Known, is_known, known_after}
 use Rattle.stream_drain.specs.Written.{Beginning, GathersItsLines, Written, committed_with}

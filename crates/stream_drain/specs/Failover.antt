@@ -1,23 +1,23 @@
 -- The program with `--look-up` is the consumer of `stream_failover`, whose server may go back to an earlier state.
 use Rattle.std.specs.Prelude.{◌≡◌, ◌≤◌, ℕ, List, [], ◌++◌, take, Bool, Option, Some}
-use Rattle.line_log.specs.EntryLine.{Entry}
-use Rattle.stream_failover.specs.Law.{after, ProducerAlwaysWaits}
-use Rattle.stream_failover.specs.World.{Event}
-use Rattle.stream_feed.specs.declared.wait.Wait.{Wait}
-use Rattle.stream_group.specs.Group.{ids_of}
-use Rattle.stream_group.specs.Law.{Among}
-use Rattle.stream_group.specs.Worker.{Id}
+use Rattle.worker_journal.specs.EntryLine.{Entry}
+use Rattle.model_server.specs.Failover.Law.{after, ProducerAlwaysWaits}
+use Rattle.model_server.specs.Failover.World.{Event}
+use Rattle.worker_producer.specs.declared.wait.Wait.{Wait}
+use Rattle.model_server.specs.Group.Group.{ids_of}
+use Rattle.model_server.specs.Group.Law.{Among}
+use Rattle.model_server.specs.Group.Worker.{Id}
 use Rattle.stream_in_place.specs.Sent.{Pairs}
-use Rattle.stream_once.specs.Consumer.{Consumer, new_consumer}
-use Rattle.stream_once.specs.Feed.{entries, known_in}
-use Rattle.stream_once.specs.Law.{Fit, HasEachOnce, IsDone, IsDrained, IsKept, Once, log}
-use Rattle.stream_once.specs.World.{Setting}
-use Rattle.stream_worker.specs.Session.{Standing, standing_of}
-use Rattle.stream_worker.specs.declared.state.Settings.{Settings}
-use Rattle.stream_worker.specs.declared.worker.Worker.{Worker}
-use Rattle.worker_failover.specs.Keeps.{Keeps, LooksUp}
-use Rattle.worker_failover.specs.Rounds.{StartsOver, added_last, file_left}
-use Rattle.worker_failover.specs.Schedule.{NobodyElse, Runs, file_after}
+use Rattle.model_server.specs.Once.Consumer.{Consumer, new_consumer}
+use Rattle.model_server.specs.Once.Feed.{entries, known_in}
+use Rattle.model_server.specs.Once.Law.{Fit, HasEachOnce, IsDone, IsDrained, IsKept, Once, log}
+use Rattle.model_server.specs.Once.World.{Setting}
+use Rattle.worker.specs.Session.{Standing, standing_of}
+use Rattle.worker.specs.declared.state.Settings.{Settings}
+use Rattle.worker.specs.declared.worker.Worker.{Worker}
+use Rattle.model_workers.specs.Failover.Keeps.{Keeps, LooksUp}
+use Rattle.model_workers.specs.Failover.Rounds.{StartsOver, added_last, file_left}
+use Rattle.model_workers.specs.Failover.Schedule.{NobodyElse, Runs, file_after}
 use Rattle.stream_drain.specs.Once.{written_as}
 use Rattle.stream_drain.specs.Resumed.{BeginsWithLast, KnowsItsFile}
 use Rattle.stream_drain.specs.Written.{Written, committed_with, lines_in, written_too}

@@ -1,17 +1,17 @@
 -- The file after a crash: the lines of the entries that were committed.
 use Rattle.std.specs.Prelude.{◌≡◌, ◌⊎◌, ℕ, List, ◌++◌, Bool, true, Some, IfSome}
-use Rattle.line_log.specs.EntryLine.{Entry}
-use Rattle.line_log.specs.Lines.{AreLines, EachStartsWith, HasLine, StartsWith}
+use Rattle.worker_journal.specs.EntryLine.{Entry}
+use Rattle.worker_journal.specs.Lines.{AreLines, EachStartsWith, HasLine, StartsWith}
 use Rattle.redis_connection.specs.Link.{Link}
-use Rattle.stream_group.specs.Law.{Among}
-use Rattle.stream_group.specs.Worker.{Id}
+use Rattle.model_server.specs.Group.Law.{Among}
+use Rattle.model_server.specs.Group.Worker.{Id}
 use Rattle.stream_in_place.specs.Sent.{Pairs}
-use Rattle.stream_worker.specs.Gathered.{Doings}
-use Rattle.stream_worker.specs.Session.{Standing, asking}
-use Rattle.stream_worker.specs.declared.state.Settings.{Settings}
+use Rattle.worker.specs.Gathered.{Doings}
+use Rattle.worker.specs.Session.{Standing, asking}
+use Rattle.worker.specs.declared.state.Settings.{Settings}
 use Rattle.stream_drain.specs.Line.{line_in}
 use Rattle.stream_drain.specs.Lived.{LeadsSo, LivesSo}
-use Rattle.stream_loop.specs.Loop.{Drains}
+use Rattle.model_workers.specs.Loops.Loop.{Drains}
 use Rattle.stream_drain.specs.Known.{Known, is_known, lines_for}
 use Rattle.stream_drain.specs.Written.{Beginning, Written, committed_with, lines_in, written_of}
 

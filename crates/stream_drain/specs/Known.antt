@@ -1,10 +1,10 @@
 -- Known ids, and the entries that get a line.
 use Rattle.std.specs.Prelude.{◌||◌, ℕ, List, [], ◌∷◌, Bool, false, Option, Some, None, if◌then◌else◌, option_map}
 use Rattle.std.specs.Str.{bytes_eq}
-use Rattle.known_ids.specs.Known.{Place, knows, places_in}
-use Rattle.known_ids.specs.declared.known.KnownIds.{KnownIds}
-use Rattle.line_log.specs.EntryLine.{Entry}
-use Rattle.stream_group.specs.Worker.{Id}
+use Rattle.worker_journal.specs.KnownIds.Known.{Place, knows, places_in}
+use Rattle.worker_journal.specs.declared.known_ids.known.KnownIds.{KnownIds}
+use Rattle.worker_journal.specs.EntryLine.{Entry}
+use Rattle.model_server.specs.Group.Worker.{Id}
 
 -- whether an id is known: that of a line that is committed or gathered; none without `--look-up`
 abbrev pub Known : Type 0

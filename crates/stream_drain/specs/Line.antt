@@ -5,7 +5,7 @@ use Rattle.base64.specs.Engines as named
 use Rattle.base64.specs.GeneralPurpose.{encode_of}
 use Rattle.json.specs.Print.{print}
 use Rattle.json.specs.Token.{Token, begin_object, end_object, begin_array, end_array, key, string}
-use Rattle.line_log.specs.EntryLine.{Entry, line_of}
+use Rattle.worker_journal.specs.EntryLine.{Entry, line_of}
 
 -- an object with the Base64 of bytes
 abbrev pub base64_tokens : List ℕ → List Token

@@ -1,19 +1,19 @@
 -- The rounds of a worker whose handler writes lines, as rounds of its life.
 use Rattle.std.specs.Prelude.{◌≡◌, List, [], ◌++◌}
 use Rattle.redis_connection.specs.Link.{Link}
-use Rattle.stream_group.specs.Worker.{Id, start}
-use Rattle.stream_loop.specs.Loop.{Loops, Stops, Drains}
-use Rattle.stream_loop.specs.Shown.{Way, with_doings}
-use Rattle.stream_loop.specs.Shown as loops
-use Rattle.stream_worker.specs.Gathered.{Doings}
-use Rattle.stream_worker.specs.Life.{Lives}
-use Rattle.stream_worker.specs.Session.{Standing, Turned, Fails}
-use Rattle.stream_worker.specs.declared.error.RunError.{RunError}
-use Rattle.stream_worker.specs.declared.state.Asked.{Asked}
-use Rattle.stream_worker.specs.declared.state.Asked.TheVariants.{Nothing}
-use Rattle.stream_worker.specs.declared.state.GroupState.TheVariants.{Unknown}
-use Rattle.stream_worker.specs.declared.state.Settings.{Settings}
-use Rattle.stream_worker.specs.declared.worker.Progress.TheVariants.{GoesOn, Stopped}
+use Rattle.model_server.specs.Group.Worker.{Id, start}
+use Rattle.model_workers.specs.Loops.Loop.{Loops, Stops, Drains}
+use Rattle.model_workers.specs.Loops.Shown.{Way, with_doings}
+use Rattle.model_workers.specs.Loops.Shown as loops
+use Rattle.worker.specs.Gathered.{Doings}
+use Rattle.worker.specs.Life.{Lives}
+use Rattle.worker.specs.Session.{Standing, Turned, Fails}
+use Rattle.worker.specs.declared.error.RunError.{RunError}
+use Rattle.worker.specs.declared.state.Asked.{Asked}
+use Rattle.worker.specs.declared.state.Asked.TheVariants.{Nothing}
+use Rattle.worker.specs.declared.state.GroupState.TheVariants.{Unknown}
+use Rattle.worker.specs.declared.state.Settings.{Settings}
+use Rattle.worker.specs.declared.worker.Progress.TheVariants.{GoesOn, Stopped}
 use Rattle.stream_drain.specs.Written.{Beginning, Written, committed_with, written_of, written_too}
 
 -- a state of its life, with these ids of deleted entries, if its handler did entries whose lines are the gathered ones,

@@ -1,21 +1,21 @@
 -- No id is twice in the file of a worker with `--look-up`, whatever the server delivers.
 use Rattle.std.specs.Prelude.{◌≡◌, ℕ, List, [], Bool, Some}
-use Rattle.line_log.specs.EntryLine.{Entry}
-use Rattle.line_log.specs.Holds.{with_more}
-use Rattle.line_log.specs.Lines.{StartsWith}
+use Rattle.worker_journal.specs.EntryLine.{Entry}
+use Rattle.worker_journal.specs.Holds.{with_more}
+use Rattle.worker_journal.specs.Lines.{StartsWith}
 use Rattle.redis_connection.specs.Link.{Link}
-use Rattle.stream_group.specs.Group.{ids_of, listed}
-use Rattle.stream_group.specs.Worker.{Answer, Id, Verdict, entries_in, told_in}
+use Rattle.model_server.specs.Group.Group.{ids_of, listed}
+use Rattle.model_server.specs.Group.Worker.{Answer, Id, Verdict, entries_in, told_in}
 use Rattle.stream_in_place.specs.Sent.{Pairs}
-use Rattle.stream_once.specs.Consumer.{Consumer, restarts, syncs}
-use Rattle.stream_once.specs.Law.{Once}
-use Rattle.stream_failover.specs.Lookup.{lines_of, looks_up}
-use Rattle.stream_worker.specs.Handling.{with_all}
-use Rattle.stream_worker.specs.Session.{Standing, Turned, Fails}
-use Rattle.stream_worker.specs.declared.error.RunError.{RunError}
-use Rattle.stream_worker.specs.declared.state.Asked.{Asked}
-use Rattle.stream_worker.specs.declared.state.Settings.{Settings}
-use Rattle.stream_worker.specs.declared.worker.Progress.{Progress}
+use Rattle.model_server.specs.Once.Consumer.{Consumer, restarts, syncs}
+use Rattle.model_server.specs.Once.Law.{Once}
+use Rattle.model_server.specs.Failover.Lookup.{lines_of, looks_up}
+use Rattle.worker.specs.Handling.{with_all}
+use Rattle.worker.specs.Session.{Standing, Turned, Fails}
+use Rattle.worker.specs.declared.error.RunError.{RunError}
+use Rattle.worker.specs.declared.state.Asked.{Asked}
+use Rattle.worker.specs.declared.state.Settings.{Settings}
+use Rattle.worker.specs.declared.worker.Progress.{Progress}
 use Rattle.stream_drain.specs.Resumed.{BeginsWithLast, KnowsItsFile, ids_in}
 use Rattle.stream_drain.specs.Written.{Written, committed_with, lines_in, written_too}
 

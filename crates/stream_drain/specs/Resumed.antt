@@ -1,16 +1,16 @@
 -- The start of a worker that first acknowledges the entries of the last lines of its file.
 use Rattle.std.specs.Prelude.{◌≡◌, ◌≤◌, ◌⊎◌, ◌&&◌, ◌||◌, ◌==◌, ℕ, nat_le, List, [], ◌∷◌, ◌++◌, length, map, Bool, Some, None}
-use Rattle.line_log.specs.EntryLine.{Entry}
-use Rattle.line_log.specs.LastLines.{last_of, lines_of}
-use Rattle.line_log.specs.Lines.{AreLines}
-use Rattle.stream_group.specs.Group.{listed}
-use Rattle.stream_group.specs.Worker.{Id, start}
-use Rattle.stream_worker.specs.Session.{Standing, standing_of}
-use Rattle.stream_worker.specs.declared.state.Asked.TheVariants.{Nothing}
-use Rattle.stream_worker.specs.declared.state.GroupState.TheVariants.{Unknown}
-use Rattle.stream_worker.specs.declared.state.Settings.{Settings}
-use Rattle.stream_worker.specs.declared.worker.Worker.{Worker}
-use Rattle.stream_system.specs.Rounds.{IsStarted}
+use Rattle.worker_journal.specs.EntryLine.{Entry}
+use Rattle.worker_journal.specs.LastLines.{last_of, lines_of}
+use Rattle.worker_journal.specs.Lines.{AreLines}
+use Rattle.model_server.specs.Group.Group.{listed}
+use Rattle.model_server.specs.Group.Worker.{Id, start}
+use Rattle.worker.specs.Session.{Standing, standing_of}
+use Rattle.worker.specs.declared.state.Asked.TheVariants.{Nothing}
+use Rattle.worker.specs.declared.state.GroupState.TheVariants.{Unknown}
+use Rattle.worker.specs.declared.state.Settings.{Settings}
+use Rattle.worker.specs.declared.worker.Worker.{Worker}
+use Rattle.model_workers.specs.System.Rounds.{IsStarted}
 use Rattle.stream_drain.specs.Line.{line_in}
 use Rattle.stream_drain.specs.Filed.{with_bytes}
 use Rattle.stream_drain.specs.Lived.{LivesSo}

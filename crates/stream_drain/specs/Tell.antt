@@ -1,8 +1,8 @@
 -- A line determines its entry.
 use Rattle.std.specs.Prelude.{◌≡◌, ◌<◌, ℕ, List, Bool}
 use Rattle.std.specs.List.{AllByRecursion}
-use Rattle.line_log.specs.EntryLine.{Entry}
-use Rattle.stream_files.specs.Files.{Form}
+use Rattle.worker_journal.specs.EntryLine.{Entry}
+use Rattle.model_workers.specs.Files.Files.{Form}
 use Rattle.stream_drain.specs.Line.{line_in}
 
 -- these are bytes

@@ -1,14 +1,14 @@
 -- The text of the file at the offset of a known id.
 use Rattle.std.specs.Prelude.{◌≡◌, ◌-◌, ◌==◌, ◌&&◌, ◌||◌, ℕ, zero, suc, List, [], ◌∷◌, ◌++◌, length, drop, codes, Bool, true, false}
 use Rattle.std.specs.Prelude.{Option, Some, None, IfSome, if◌then◌else◌}
-use Rattle.known_ids.specs.Known.{Place, has_at, places_in}
-use Rattle.known_ids.specs.Number.{number_of}
-use Rattle.known_ids.specs.Told.{begins, told}
-use Rattle.known_ids.specs.declared.known.KnownIds.{KnownIds}
-use Rattle.line_log.specs.EntryLine.{Entry}
-use Rattle.line_log.specs.LastLines.{lines_of}
-use Rattle.line_log.specs.Lines.{HasLine}
-use Rattle.stream_group.specs.Worker.{Id}
+use Rattle.worker_journal.specs.KnownIds.Known.{Place, has_at, places_in}
+use Rattle.worker_journal.specs.KnownIds.Number.{number_of}
+use Rattle.worker_journal.specs.KnownIds.Told.{begins, told}
+use Rattle.worker_journal.specs.declared.known_ids.known.KnownIds.{KnownIds}
+use Rattle.worker_journal.specs.EntryLine.{Entry}
+use Rattle.worker_journal.specs.LastLines.{lines_of}
+use Rattle.worker_journal.specs.Lines.{HasLine}
+use Rattle.model_server.specs.Group.Worker.{Id}
 use Rattle.stream_drain.specs.Line.{line_in}
 use Rattle.stream_drain.specs.declared.lines.Fault.{Fault}
 use Rattle.stream_drain.specs.declared.lines.Fault.TheVariants.{Log, NotAnId, OtherFields, Changed}

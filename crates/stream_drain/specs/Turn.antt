@@ -1,16 +1,16 @@
 -- A turn of the program: a round, with commands that only read or send letters before it and after it.
 use Rattle.redis_connection.specs.Link.{Link}
-use Rattle.stream_confirm.specs.Confirmed.{IsConfirmedRound}
-use Rattle.stream_feed.specs.declared.wait.Wait.{Wait}
+use Rattle.worker.specs.Confirm.Confirmed.{IsConfirmedRound}
+use Rattle.worker_producer.specs.declared.wait.Wait.{Wait}
 use Rattle.stream_drain.specs.Written.{Written}
-use Rattle.stream_group.specs.Worker.{Verdict}
+use Rattle.model_server.specs.Group.Worker.{Verdict}
 use Rattle.stream_in_place.specs.Sent.{Pairs}
 use Rattle.std.specs.Prelude.{ℕ, List}
-use Rattle.stream_letters.specs.Besides.{Besides}
-use Rattle.stream_worker.specs.Session.{Standing}
-use Rattle.stream_worker.specs.declared.state.Asked.{Asked}
-use Rattle.stream_worker.specs.declared.state.Settings.{Settings}
-use Rattle.stream_worker.specs.declared.worker.Progress.{Progress}
+use Rattle.worker.specs.DeadLetters.Besides.{Besides}
+use Rattle.worker.specs.Session.{Standing}
+use Rattle.worker.specs.declared.state.Asked.{Asked}
+use Rattle.worker.specs.declared.state.Settings.{Settings}
+use Rattle.worker.specs.declared.worker.Progress.{Progress}
 
 -- the round of a turn was confirmed, if `--wait` is given
 pub record IsConfirmedTurn (with_verdict : Written → List ℕ × Pairs → Verdict → Written)

@@ -1,11 +1,11 @@
 -- The lines that a handler has gathered, and those that are committed.
 use Rattle.std.specs.Prelude.{◌≡◌, ℕ, List, [], ◌∷◌, ◌++◌, flat_map, Bool, Option, None, if◌then◌else◌}
-use Rattle.line_log.specs.EntryLine.{Entry}
-use Rattle.line_log.specs.Holds.{committed_in, with_more}
-use Rattle.stream_group.specs.Worker.{Verdict, done, left_pending, stop}
+use Rattle.worker_journal.specs.EntryLine.{Entry}
+use Rattle.worker_journal.specs.Holds.{committed_in, with_more}
+use Rattle.model_server.specs.Group.Worker.{Verdict, done, left_pending, stop}
 use Rattle.stream_drain.specs.Known.{Known, is_known, known_after, known_too, lines_for}
 use Rattle.stream_drain.specs.Line.{line_in}
-use Rattle.stream_worker.specs.Gathered.{Doings, done_too, committed_too}
+use Rattle.worker.specs.Gathered.{Doings, done_too, committed_too}
 
 -- whether the lines are JSON, and their bytes
 pub record Written : Type 0 where

@@ -1,20 +1,20 @@
 //! The loop of the program: it sends commands and takes the replies.
 ghost use Rattle.std.specs.Prelude.{◌≡◌, IfErr, IfOk, IfSome, IsTrue, OnErr, OnOk, false};
-ghost use Rattle.stream_confirm.specs.Confirmed.{IsConfirmedRound};
-ghost use Rattle.stream_letters.specs.Besides.{Besides, BreaksBesides, LooksNot};
+ghost use Rattle.worker.specs.Confirm.Confirmed.{IsConfirmedRound};
+ghost use Rattle.worker.specs.DeadLetters.Besides.{Besides, BreaksBesides, LooksNot};
 ghost use Rattle.stream_drain.specs.Backlog.{Hears};
 ghost use Rattle.stream_drain.specs.Filed.{FiledFrom};
 ghost use Rattle.stream_drain.specs.Lived.{Leads};
 ghost use Rattle.stream_drain.specs.Turn.{IsConfirmedTurn};
-ghost use Rattle.stream_loop.specs.Loop.{Loops, Stops};
-ghost use Rattle.stream_worker.specs.Session.{standing_of};
+ghost use Rattle.model_workers.specs.Loops.Loop.{Loops, Stops};
+ghost use Rattle.worker.specs.Session.{standing_of};
 
 use crate::backlog::{Backlog, Watched, backlog_in};
 use crate::failure::Failure;
 use crate::lines::{Fault, Lines};
 use crate::report::Report;
 use anyhow::{Error, Result as AnyResult, anyhow};
-use line_log::LogFile;
+use worker_journal::LogFile;
 use redis_connection::{AskError, Connection, ConnectionError};
 use redis_streams::StreamInfoGroupsReply;
 use redis_wire::Fault as WireFault;
@@ -23,10 +23,10 @@ use std::fmt;
 use std::io::{Read, Write};
 use std::rt::Clock;
 use stream_commands::xinfo_groups;
-use stream_confirm::{RoundError, round_confirmed};
-use stream_feed::Wait;
-use stream_letters::DeadLetterSearch;
-use stream_worker::{Asked, Handler, Pipelined, Progress, RequestError, Round, RunError, Worker};
+use worker::confirm::{RoundError, round_confirmed};
+use worker_producer::Wait;
+use worker::dead_letters::DeadLetterSearch;
+use worker::{Asked, Handler, Pipelined, Progress, RequestError, Round, RunError, Worker};
 
 /// The limit on the buffer of a connection, as in `Limits::default`.
 const LARGEST: &str = "1 GiB";

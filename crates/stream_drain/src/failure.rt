@@ -1,9 +1,9 @@
 //! Why the program failed.
 use anyhow::Error;
 use redis_connection::AskError;
-use stream_feed::ConfirmError;
-use stream_letters::SearchError;
-use stream_worker::RunError;
+use worker_producer::ConfirmError;
+use worker::dead_letters::SearchError;
+use worker::RunError;
 use thiserror::Error as AnError;
 
 /// Why the program failed.

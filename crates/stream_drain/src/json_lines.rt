@@ -5,13 +5,13 @@ ghost use Rattle.json.specs.Print.{print};
 ghost use Rattle.json.specs.Token.{begin_array, begin_object, end_object, key, string};
 ghost use Rattle.stream_drain.specs.Line.{base64_tokens, begin_tokens, bytes_tokens, end_tokens};
 ghost use Rattle.stream_drain.specs.Line.{entry_tokens, field_tokens};
-ghost use Rattle.stream_worker.specs.Handling.{pair_of};
+ghost use Rattle.worker.specs.Handling.{pair_of};
 
 use base64::engine::general_purpose::STANDARD;
 use json::Writer;
 use std::alloc::{AllocError, Global};
 use stream_in_place::FieldsRef;
-use stream_worker::EntryRef;
+use worker::EntryRef;
 
 /// The line of an entry: `{"id":"1-0","fields":[["name","value"],..]}`, where a name or a value that
 /// is not UTF-8 is `{"base64":"..."}`.

@@ -1,12 +1,12 @@
 //! Entries as lines of a file.
 ghost use Rattle.std.specs.Prelude.{◌≡◌, ◌+◌, ◌++◌, ◌∷◌, [], List, ℕ, IfErr, IfOk, IfSome, OnErr, OnOk, false, flat_map, is_some, length, true};
-ghost use Rattle.stream_group.specs.Worker.{done, stop};
-ghost use Rattle.known_ids.specs.Known.{HasPlaceToo, knows, places_in};
-ghost use Rattle.known_ids.specs.Number.{number_of};
-ghost use Rattle.line_log.specs.EntryLine.{field_text, line_of};
-ghost use Rattle.line_log.specs.Holds.{Holds, IsHeld, committed_in};
-ghost use Rattle.line_log.specs.LastLines.{last_of, lines_of};
-ghost use Rattle.line_log.specs.Lines.{AreLines, IsRepaired};
+ghost use Rattle.model_server.specs.Group.Worker.{done, stop};
+ghost use Rattle.worker_journal.specs.KnownIds.Known.{HasPlaceToo, knows, places_in};
+ghost use Rattle.worker_journal.specs.KnownIds.Number.{number_of};
+ghost use Rattle.worker_journal.specs.EntryLine.{field_text, line_of};
+ghost use Rattle.worker_journal.specs.Holds.{Holds, IsHeld, committed_in};
+ghost use Rattle.worker_journal.specs.LastLines.{last_of, lines_of};
+ghost use Rattle.worker_journal.specs.Lines.{AreLines, IsRepaired};
 ghost use Rattle.stream_drain.specs.Counts.{one_more};
 ghost use Rattle.stream_drain.specs.Line.{line_in};
 ghost use Rattle.stream_drain.specs.Resumed.{KnowsItsFile, TellEach};
@@ -14,18 +14,18 @@ ghost use Rattle.stream_drain.specs.Known.{is_known, known_by, numbers_known};
 ghost use Rattle.stream_drain.specs.There.{Explains, Finds, HasItsLine, IsOfLog, KnowsPlaces, OfAll, Says, Stands, there};
 ghost use Rattle.stream_drain.specs.Written.{Written, committed_with, written_by, written_too};
 ghost use Rattle.stream_drain.specs.declared.there.There.TheVariants.{Same};
-ghost use Rattle.stream_worker.specs.Handling.{pair_of, verdict_of};
-ghost use Rattle.stream_worker.specs.Machine.{ids_of};
+ghost use Rattle.worker.specs.Handling.{pair_of, verdict_of};
+ghost use Rattle.worker.specs.Machine.{ids_of};
 
 use crate::json_lines::json_line;
 use crate::resume::ids_told;
 use crate::there::{There, what_is_at};
 use anyhow::Result as AnyResult;
-use known_ids::{FileError, KnownIds, number_of, numbers_of_file};
-use line_log::{LineLog, LogError, LogFile, push_escaped, push_field};
+use worker_journal::known_ids::{FileError, KnownIds, number_of, numbers_of_file};
+use worker_journal::{LineLog, LogError, LogFile, push_escaped, push_field};
 use std::alloc::{AllocError, Global};
 use stream_in_place::FieldsRef;
-use stream_worker::{EntryRef, Handler, NotCommitted, Verdict};
+use worker::{EntryRef, Handler, NotCommitted, Verdict};
 use thiserror::Error;
 
 /// Why a line was not gathered, or not committed.
@@ -358,7 +358,7 @@ impl From<LogError> for Fault {
 }
 
 impl From<AllocError> for Fault {
-    ghost use Rattle.line_log.specs.declared.error.LogError.TheVariants.{Memory};
+    ghost use Rattle.worker_journal.specs.declared.error.LogError.TheVariants.{Memory};
     ghost use Rattle.stream_drain.specs.declared.lines.Fault.TheVariants.{Log};
 
     ghost from_gives = { λ _ fault. fault ≡ Log Memory };

@@ -12,9 +12,9 @@ use command_lines::{
     name, refused, settings_of, wait, word_of,
 };
 use std::alloc::{AllocError, Global};
-use stream_feed::Wait;
-use stream_letters::GiveUp;
-use stream_worker::Settings;
+use worker_producer::Wait;
+use worker::dead_letters::GiveUp;
+use worker::Settings;
 
 /// The options of the program.
 #[derive(Drop)]

@@ -1,20 +1,20 @@
 //! The start of the program: with the ids of the last lines of its file.
 ghost use Rattle.std.specs.Prelude.{◌≡◌, ◌≤◌, ◌++◌, ◌∷◌, [], ℕ, List, IfOk, IfSome, IsTrue, codes, length, string_bytes, take};
 ghost use Rattle.std.specs.List.{list_all};
-ghost use Rattle.line_log.specs.Holds.{committed_in};
-ghost use Rattle.line_log.specs.LastLines.{last_of, lines_of};
-ghost use Rattle.line_log.specs.LineTexts.{bytes_of};
+ghost use Rattle.worker_journal.specs.Holds.{committed_in};
+ghost use Rattle.worker_journal.specs.LastLines.{last_of, lines_of};
+ghost use Rattle.worker_journal.specs.LineTexts.{bytes_of};
 ghost use Rattle.stream_drain.specs.Resumed.{BeginsSo, BeginsWithLast, Tells, TellEach, is_of_id};
 ghost use Rattle.stream_drain.specs.Counts.{has_any};
 ghost use Rattle.stream_drain.specs.Known.{known_by};
-ghost use Rattle.stream_worker.specs.Machine.{ids_of};
-ghost use Rattle.stream_worker.specs.Session.{standing_of};
+ghost use Rattle.worker.specs.Machine.{ids_of};
+ghost use Rattle.worker.specs.Session.{standing_of};
 
 use crate::lines::Lines;
 use anyhow::{Result, bail};
-use line_log::{LogFile, entry_in};
+use worker_journal::{LogFile, entry_in};
 use std::alloc::{AllocError, Global};
-use stream_worker::{Handler, Settings, Worker};
+use worker::{Handler, Settings, Worker};
 
 /// The largest `COUNT`, so no commit has more lines.
 pub const LARGEST_COUNT: usize = 10_000;

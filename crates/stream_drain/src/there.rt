@@ -1,10 +1,10 @@
 //! The text of the file at the offset of a known id.
 ghost use Rattle.std.specs.Prelude.{◌≡◌, IfOk, Some, option_map, true};
-ghost use Rattle.known_ids.specs.Told.{begins};
-ghost use Rattle.line_log.specs.Holds.{committed_in};
+ghost use Rattle.worker_journal.specs.KnownIds.Told.{begins};
+ghost use Rattle.worker_journal.specs.Holds.{committed_in};
 ghost use Rattle.stream_drain.specs.There.{OfAll, begun, ends, ends_text, found_in, has_id, has_line, there};
 
-use line_log::{LineLog, LogError, LogFile};
+use worker_journal::{LineLog, LogError, LogFile};
 use std::alloc::Global;
 
 const JSON_HEAD: &[u8] = b"{\"id\":\"";

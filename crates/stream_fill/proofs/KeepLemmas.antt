@@ -3,7 +3,7 @@ use Rattle.std.proofs.Common.{◌≡◌, refl, ap, ◌∙◌, subst, ℕ, List, 
 use Rattle.std.proofs.Math.Seq.{take-length}
 use Rattle.std.specs.Prelude.{IfErr, IfSome, Result, Ok, Err}
 use Rattle.std.specs.Io.KnownBytes.{Appends}
-use Rattle.line_log.specs.Device.{Only}
+use Rattle.worker_journal.specs.Device.{Only}
 use Rattle.stream_fill.specs.Base.{IsUnkept, IsUnread, Keeps}
 use Rattle.stream_fill.specs.declared.kept_base.BaseError.{BaseError}
 use Rattle.stream_fill.specs.declared.kept_base.BaseError.TheVariants as causes

@@ -1,9 +1,9 @@
 -- The base of records that are added after the entries of a stream, stored in a file.
 use Rattle.std.specs.Prelude.{◌≡◌, ◌⊎◌, ℕ, ◌<◌, ◌^◌, List, [], ◌∷◌, ◌++◌, decimal, Option, Some, None, IfSome}
-use Rattle.line_log.specs.Device.{Only}
-use Rattle.line_log.specs.declared.error.LogError.TheVariants as logs
+use Rattle.worker_journal.specs.Device.{Only}
+use Rattle.worker_journal.specs.declared.error.LogError.TheVariants as logs
 use Rattle.redis_connection.specs.Link.{Link}
-use Rattle.stream_feed.specs.Last.{LastIs, IsUntold}
+use Rattle.worker_producer.specs.Last.{LastIs, IsUntold}
 use Rattle.stream_fill.specs.declared.kept_base.BaseError.{BaseError}
 use Rattle.stream_fill.specs.declared.kept_base.BaseError.TheVariants as causes
 

@@ -1,11 +1,11 @@
 -- The end of a session that did not add all records.
 use Rattle.std.specs.Prelude.{ℕ, ◌-◌, ◌^◌, List, Option}
 use Rattle.redis_connection.specs.Link.{Link}
-use Rattle.stream_feed.specs.Confirmed.{BrokeConfirmed, ConfirmedRounds}
-use Rattle.stream_feed.specs.Machine.{Standing, idle}
-use Rattle.stream_feed.specs.Records.{Fields}
-use Rattle.stream_feed.specs.declared.settings.Settings.{Settings}
-use Rattle.stream_feed.specs.declared.wait.Wait.{Wait}
+use Rattle.worker_producer.specs.Confirmed.{BrokeConfirmed, ConfirmedRounds}
+use Rattle.worker_producer.specs.Machine.{Standing, idle}
+use Rattle.worker_producer.specs.Records.{Fields}
+use Rattle.worker_producer.specs.declared.settings.Settings.{Settings}
+use Rattle.worker_producer.specs.declared.wait.Wait.{Wait}
 use Rattle.stream_fill.specs.declared.fill.FillError.{FillError}
 use Rattle.stream_fill.specs.declared.fill.FillError.TheVariants as causes
 

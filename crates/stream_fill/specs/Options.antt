@@ -9,7 +9,7 @@ use Rattle.stream_options.specs.View.{mode_of, strategy_of}
 use Rattle.stream_options.specs.declared.options.trim.StreamTrimmingMode.{StreamTrimmingMode}
 use Rattle.stream_options.specs.declared.options.trim.StreamTrimmingMode.TheVariants.{Approx, Exact}
 use Rattle.stream_options.specs.declared.options.trim.StreamTrimStrategy.{StreamTrimStrategy}
-use Rattle.stream_feed.specs.declared.settings.Settings.{Settings}
+use Rattle.worker_producer.specs.declared.settings.Settings.{Settings}
 use Rattle.stream_fill.specs.declared.lines.Form.{Form}
 use Rattle.stream_fill.specs.declared.lines.Form.TheVariants.{Json, Text}
 use Rattle.stream_fill.specs.declared.options.Options.{Options}

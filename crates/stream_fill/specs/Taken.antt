@@ -1,7 +1,7 @@
 -- The lines that are read from a buffer.
 use Rattle.std.specs.Prelude.{◌≡◌, ◌≢◌, ℕ, List, [], ◌∷◌, ◌++◌, Contains, Vec}
 use Rattle.std.specs.declared.alloc.Global.{Global}
-use Rattle.stream_feed.specs.Records.{arguments_of}
+use Rattle.worker_producer.specs.Records.{arguments_of}
 use Rattle.stream_fill.specs.declared.lines.Form.{Form}
 use Rattle.stream_fill.specs.declared.lines.Form.TheVariants as forms
 

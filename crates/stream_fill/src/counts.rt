@@ -2,7 +2,7 @@
 ghost use Rattle.std.specs.Prelude.{◌≡◌, ℕ};
 
 use std::fmt;
-use stream_feed::{Asked, Stage};
+use worker_producer::{Asked, Stage};
 
 /// Counts of the records.
 #[derive(Clone, Copy)]

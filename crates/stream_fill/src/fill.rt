@@ -1,13 +1,13 @@
 //! Rounds until all records are added.
 ghost use Rattle.std.specs.Prelude.{◌≡◌, IfErr, OnOk};
-ghost use Rattle.stream_feed.specs.Confirmed.{FinishedConfirmed};
+ghost use Rattle.worker_producer.specs.Confirmed.{FinishedConfirmed};
 ghost use Rattle.stream_fill.specs.Filled.{Fails};
 
 use crate::counts::Counts;
 use redis_connection::Connection;
 use std::alloc::Global;
 use std::io::{Read, Write};
-use stream_feed::{Asked, ConfirmedError, Producer, Settings, Source, Wait};
+use worker_producer::{Asked, ConfirmedError, Producer, Settings, Source, Wait};
 use thiserror::Error;
 
 /// Why not all records were added.

@@ -5,7 +5,7 @@ use base64::DecodeAllocError;
 use base64::engine::general_purpose::STANDARD;
 use json::{Scratch, Value};
 use std::alloc::{AllocError, AllocFailed, Global};
-use stream_feed::{Field, Record};
+use worker_producer::{Field, Record};
 use thiserror::Error;
 
 /// Why a line is not a record.

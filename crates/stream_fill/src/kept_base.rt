@@ -3,17 +3,17 @@
 //! A first run takes the last id of the stream as the base. It writes the base to the file, and syncs it, before it
 //! adds anything. So a later run finds the same base, and goes on.
 ghost use Rattle.std.specs.Prelude.{◌≡◌, ◌<◌, ◌^◌, ℕ, Some, decimal, IfErr, IfOk, IfSome, OnOk};
-ghost use Rattle.line_log.specs.Device.{Only};
+ghost use Rattle.worker_journal.specs.Device.{Only};
 ghost use Rattle.stream_fill.specs.Base.{BeginsWithNumber, FindsBase, HasNoBase, IsOfFile, IsUnkept, IsUnread, Keeps, base_line};
 
 use crate::split::split_at_byte;
 use itoa::Buffer;
-use line_log::{LogError, LogFile};
+use worker_journal::{LogError, LogFile};
 use redis_connection::Connection;
 use std::alloc::{AllocError, Global};
 use std::io::{Read, Write};
 use std::str;
-use stream_feed::{RunError, ask_last_id};
+use worker_producer::{RunError, ask_last_id};
 use thiserror::Error;
 
 /// Why no base was found.
@@ -43,7 +43,7 @@ impl From<LogError> for BaseError {
 
 impl From<AllocError> for BaseError {
     ghost use Rattle.std.specs.Prelude.{◌≡◌};
-    ghost use Rattle.line_log.specs.declared.error.LogError.TheVariants as logs;
+    ghost use Rattle.worker_journal.specs.declared.error.LogError.TheVariants as logs;
     ghost use Rattle.stream_fill.specs.declared.kept_base.BaseError.TheVariants as causes;
 
     ghost from_gives = { λ _ e. e ≡ causes.File logs.Memory };

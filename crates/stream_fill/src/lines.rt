@@ -1,6 +1,6 @@
 //! A file of lines as a source of records.
 ghost use Rattle.std.specs.Prelude.{◌≡◌, [], ◌∷◌, None, IfOk};
-ghost use Rattle.stream_feed.specs.Records.{arguments_of};
+ghost use Rattle.worker_producer.specs.Records.{arguments_of};
 ghost use Rattle.stream_fill.specs.Taken.{IsRecordOf, TakesLines};
 
 use crate::json_records::record_of_json;
@@ -12,7 +12,7 @@ use std::alloc::{AllocError, Global};
 use std::fs::File;
 use std::io::{BufRead, BufReader, Seek, SeekFrom};
 use std::rt::Files;
-use stream_feed::{NotRead, Record, Source};
+use worker_producer::{NotRead, Record, Source};
 
 /// How many bytes of the file are read at once.
 const PIECE: usize = 65_536;

@@ -11,7 +11,7 @@ use command_lines::{
     word_of,
 };
 use std::alloc::{AllocError, Global};
-use stream_feed::{Settings, Wait};
+use worker_producer::{Settings, Wait};
 use stream_options::{StreamTrimStrategy, StreamTrimmingMode};
 
 /// The options of the program.

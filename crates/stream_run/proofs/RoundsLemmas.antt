@@ -1,20 +1,20 @@
 -- Rounds one after the other.
 use Rattle.std.proofs.Common.{refl, inl, inr, ℕ, Bool, true, false, List, ◌++◌}
 use Rattle.redis_connection.specs.Link.{Link}
-use Rattle.stream_group.specs.Worker.{Id}
-use Rattle.stream_jobs.specs.Acknowledged.{Reaches, deleted_told}
-use Rattle.stream_jobs.specs.Acknowledged as jobs
-use Rattle.stream_jobs.specs.Talk.{Talk, committed, talked}
-use Rattle.stream_letters.specs.Besides.{Besides, BreaksBesides}
+use Rattle.model_server.specs.Group.Worker.{Id}
+use Rattle.worker_jobs.specs.Acknowledged.{Reaches, deleted_told}
+use Rattle.worker_jobs.specs.Acknowledged as jobs
+use Rattle.worker_jobs.specs.Talk.{Talk, committed, talked}
+use Rattle.worker.specs.DeadLetters.Besides.{Besides, BreaksBesides}
 use Rattle.stream_run.specs.Rounds.{Breaks, Rounds, RoundsAreReached, Stops, besides, ends, turns}
-use Rattle.stream_worker.specs.Pipelined.{FailsPipelined, WentPipelined}
-use Rattle.stream_worker.specs.Session.{Standing, Turned}
-use Rattle.stream_worker.specs.declared.error.RunError.{RunError}
-use Rattle.stream_worker.specs.declared.state.Asked.{Asked}
-use Rattle.stream_worker.specs.declared.state.Asked.TheVariants.{Acknowledgement}
-use Rattle.stream_worker.specs.declared.state.Settings.{Settings}
-use Rattle.stream_worker.specs.declared.worker.Progress.{Progress}
-use Rattle.stream_worker.specs.declared.worker.Progress.TheVariants.{GoesOn}
+use Rattle.worker.specs.Pipelined.{FailsPipelined, WentPipelined}
+use Rattle.worker.specs.Session.{Standing, Turned}
+use Rattle.worker.specs.declared.error.RunError.{RunError}
+use Rattle.worker.specs.declared.state.Asked.{Asked}
+use Rattle.worker.specs.declared.state.Asked.TheVariants.{Acknowledgement}
+use Rattle.worker.specs.declared.state.Settings.{Settings}
+use Rattle.worker.specs.declared.worker.Progress.{Progress}
+use Rattle.worker.specs.declared.worker.Progress.TheVariants.{GoesOn}
 
 pub rounds_both : (settings : Settings) (l m n : Link) (w x y : Standing Talk) → Rounds settings l w m x
     → Rounds settings m x n y → Rounds settings l w n y

@@ -1,16 +1,16 @@
 -- The rounds of a worker whose handler talks with a child.
 use Rattle.std.specs.Prelude.{◌≡◌, ◌⊎◌, ℕ, List}
 use Rattle.redis_connection.specs.Link.{Link}
-use Rattle.stream_group.specs.Worker.{Id}
-use Rattle.stream_jobs.specs.Acknowledged.{Reaches}
-use Rattle.stream_jobs.specs.Talk.{Talk, committed, talked}
-use Rattle.stream_letters.specs.Besides.{Besides, BreaksBesides}
-use Rattle.stream_worker.specs.Pipelined.{FailsPipelined}
-use Rattle.stream_worker.specs.Session.{Standing, Turned}
-use Rattle.stream_worker.specs.declared.error.RunError.{RunError}
-use Rattle.stream_worker.specs.declared.state.Asked.{Asked}
-use Rattle.stream_worker.specs.declared.state.Settings.{Settings}
-use Rattle.stream_worker.specs.declared.worker.Progress.{Progress}
+use Rattle.model_server.specs.Group.Worker.{Id}
+use Rattle.worker_jobs.specs.Acknowledged.{Reaches}
+use Rattle.worker_jobs.specs.Talk.{Talk, committed, talked}
+use Rattle.worker.specs.DeadLetters.Besides.{Besides, BreaksBesides}
+use Rattle.worker.specs.Pipelined.{FailsPipelined}
+use Rattle.worker.specs.Session.{Standing, Turned}
+use Rattle.worker.specs.declared.error.RunError.{RunError}
+use Rattle.worker.specs.declared.state.Asked.{Asked}
+use Rattle.worker.specs.declared.state.Settings.{Settings}
+use Rattle.worker.specs.declared.worker.Progress.{Progress}
 
 module _ (settings : Settings) where
   -- rounds over a connection, one after the other, and other commands between them

@@ -1,8 +1,8 @@
 //! The loop of the program: it sends commands and takes the replies.
 ghost use Rattle.std.specs.Prelude.{◌≡◌, ◌⊎◌, IfOk, IsTrue, None, OnErr, OnOk, false};
-ghost use Rattle.stream_letters.specs.Besides.{Besides, BreaksBesides};
+ghost use Rattle.worker.specs.DeadLetters.Besides.{Besides, BreaksBesides};
 ghost use Rattle.stream_run.specs.Rounds.{Rounds, Stops};
-ghost use Rattle.stream_worker.specs.Session.{standing_of};
+ghost use Rattle.worker.specs.Session.{standing_of};
 
 use crate::failure::Failure;
 use crate::report::Report;
@@ -11,9 +11,9 @@ use redis_connection::{Connection, ConnectionError};
 use redis_wire::Fault as WireFault;
 use std::alloc::{AllocError, Global};
 use std::io::{Read, Write};
-use stream_jobs::{Fault, Jobs, Note, SteadyRead, SteadyWrite};
-use stream_letters::DeadLetterSearch;
-use stream_worker::{Asked, Handler, Pipelined, Round, RunError, Worker};
+use worker_jobs::{Fault, Jobs, Note, SteadyRead, SteadyWrite};
+use worker::dead_letters::DeadLetterSearch;
+use worker::{Asked, Handler, Pipelined, Round, RunError, Worker};
 
 /// The limit on the buffer of a connection, as in `Limits::default`.
 const LARGEST: &str = "1 GiB";

@@ -2,8 +2,8 @@
 use anyhow::Error;
 use std::alloc::AllocError;
 use std::io;
-use stream_letters::SearchError;
-use stream_worker::RunError;
+use worker::dead_letters::SearchError;
+use worker::RunError;
 use thiserror::Error as AnError;
 
 /// Why the program failed.

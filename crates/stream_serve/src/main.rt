@@ -10,7 +10,7 @@ use std::io::{Read, Write};
 use std::rt::Clock;
 use std::time::{SystemTime, UNIX_EPOCH};
 use std::{env, io};
-use stream_server::{Client, Server};
+use server_commands::{Client, Server};
 
 /// Replies to commands until the input or the connection ends. The replies to what came in one piece
 /// go out in one piece.

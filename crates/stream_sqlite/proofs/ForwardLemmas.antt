@@ -1,18 +1,18 @@
 -- Rounds, and what goes out between them.
 use Rattle.std.proofs.Common.{◌≡◌, sym, subst, inl, inr, Option, Result, Ok, Err, OnErr, OnOk}
 use Rattle.redis_connection.specs.Link.{Link}
-use Rattle.row_table.specs.Posts.{Stored, rows_known}
-use Rattle.stream_loop.specs.Loop.{Loops, Stops}
-use Rattle.stream_table.specs.Forwarded.{HasSent}
-use Rattle.stream_table.specs.Kept.{Kept, committed_with, kept_too}
-use Rattle.stream_table.specs.Lived.{Leads}
-use Rattle.stream_table.specs.declared.sending.SendError.{SendError}
-use Rattle.stream_table.proofs.LivedLemmas.{lived}
-use Rattle.stream_worker.specs.Session.{Standing, Turned}
-use Rattle.stream_worker.specs.declared.state.Asked.{Asked}
-use Rattle.stream_worker.specs.declared.state.Settings.{Settings}
-use Rattle.stream_worker.specs.declared.worker.Progress.{Progress}
-use Rattle.stream_worker.specs.declared.worker.Progress.TheVariants.{GoesOn, Stopped}
+use Rattle.worker_table.specs.RowTable.Posts.{Stored, rows_known}
+use Rattle.model_workers.specs.Loops.Loop.{Loops, Stops}
+use Rattle.worker_table.specs.Forwarded.{HasSent}
+use Rattle.worker_table.specs.Kept.{Kept, committed_with, kept_too}
+use Rattle.worker_table.specs.Lived.{Leads}
+use Rattle.worker_table.specs.declared.sending.SendError.{SendError}
+use Rattle.worker_table.proofs.LivedLemmas.{lived}
+use Rattle.worker.specs.Session.{Standing, Turned}
+use Rattle.worker.specs.declared.state.Asked.{Asked}
+use Rattle.worker.specs.declared.state.Settings.{Settings}
+use Rattle.worker.specs.declared.worker.Progress.{Progress}
+use Rattle.worker.specs.declared.worker.Progress.TheVariants.{GoesOn, Stopped}
 use Rattle.stream_sqlite.specs.Forwards.{AllWent, Ends, Forwards, begins, passes}
 
 -- ---- a round

@@ -1,13 +1,13 @@
 -- Commands between the rounds, by which entries are given up.
 use Rattle.redis_connection.specs.Link.{Link}
-use Rattle.stream_letters.specs.Besides.{Besides, BreaksBesides}
-use Rattle.stream_loop.proofs.ShownLemmas as shown
-use Rattle.stream_loop.specs.Loop.{Loops, Stops}
-use Rattle.stream_table.proofs.LivedLemmas.{leads_both, leads_stop, rows_picture}
-use Rattle.stream_table.specs.Kept.{Kept, committed_with, kept_of, kept_too}
-use Rattle.stream_table.specs.Lived.{Leads}
-use Rattle.stream_worker.specs.Session.{Standing}
-use Rattle.stream_worker.specs.declared.state.Settings.{Settings}
+use Rattle.worker.specs.DeadLetters.Besides.{Besides, BreaksBesides}
+use Rattle.model_workers.proofs.LoopsLemmas.ShownLemmas as shown
+use Rattle.model_workers.specs.Loops.Loop.{Loops, Stops}
+use Rattle.worker_table.proofs.LivedLemmas.{leads_both, leads_stop, rows_picture}
+use Rattle.worker_table.specs.Kept.{Kept, committed_with, kept_of, kept_too}
+use Rattle.worker_table.specs.Lived.{Leads}
+use Rattle.worker.specs.Session.{Standing}
+use Rattle.worker.specs.declared.state.Settings.{Settings}
 
 leads_besides : (settings : Settings) (old new : Link) (w : Standing Kept) → Besides old new
     → Leads (Loops settings) old new w w

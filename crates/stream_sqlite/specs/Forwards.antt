@@ -1,13 +1,13 @@
 -- The rounds of a worker that forwards entries to another stream, and what is sent between them.
 use Rattle.std.specs.Prelude.{◌≡◌, ◌⊎◌, [], Option, IfSome}
 use Rattle.redis_connection.specs.Link.{Link}
-use Rattle.row_table.specs.Posts.{Stored, rows_known}
-use Rattle.stream_loop.specs.Loop.{Loops, Stops}
-use Rattle.stream_table.specs.Forwarded.{Went}
-use Rattle.stream_table.specs.Kept.{Kept}
-use Rattle.stream_table.specs.Lived.{Leads}
-use Rattle.stream_worker.specs.Session.{Standing}
-use Rattle.stream_worker.specs.declared.state.Settings.{Settings}
+use Rattle.worker_table.specs.RowTable.Posts.{Stored, rows_known}
+use Rattle.model_workers.specs.Loops.Loop.{Loops, Stops}
+use Rattle.worker_table.specs.Forwarded.{Went}
+use Rattle.worker_table.specs.Kept.{Kept}
+use Rattle.worker_table.specs.Lived.{Leads}
+use Rattle.worker.specs.Session.{Standing}
+use Rattle.worker.specs.declared.state.Settings.{Settings}
 
 -- each committed post was sent, got a reply and was then removed
 abbrev pub AllWent : Link → Option Stored → Link → Option Stored → Type 0

@@ -4,7 +4,7 @@ use Rattle.std.specs.declared.alloc.Global.{Global}
 use Rattle.clap.specs.Words.{first_value}
 use Rattle.clap.specs.declared.parser.matches.Found.{Found}
 use Rattle.command_lines.specs.Worker.{AreSettings, GivesUp, IsFlag, IsWord, word_in}
-use Rattle.stream_letters.specs.declared.search.GiveUp.{GiveUp}
+use Rattle.worker.specs.declared.dead_letters.search.GiveUp.{GiveUp}
 use Rattle.stream_sqlite.specs.declared.options.Options.{Options}
 
 -- `--forward TARGET` forwards entries to a stream other than KEY

@@ -1,9 +1,9 @@
 //! The loop of the program: it sends commands, and takes the replies.
 ghost use Rattle.std.specs.Prelude.{◌≡◌, IfOk, IsTrue, OnErr, OnOk, false};
-ghost use Rattle.stream_letters.specs.Besides.{Besides, BreaksBesides};
-ghost use Rattle.stream_loop.specs.Loop.{Loops, Stops};
-ghost use Rattle.stream_table.specs.Lived.{Leads};
-ghost use Rattle.stream_worker.specs.Session.{standing_of};
+ghost use Rattle.worker.specs.DeadLetters.Besides.{Besides, BreaksBesides};
+ghost use Rattle.model_workers.specs.Loops.Loop.{Loops, Stops};
+ghost use Rattle.worker_table.specs.Lived.{Leads};
+ghost use Rattle.worker.specs.Session.{standing_of};
 
 pub mod forward;
 
@@ -12,13 +12,13 @@ use crate::report::Report;
 use anyhow::{Error, Result, anyhow, bail};
 use redis_connection::{Connection, ConnectionError};
 use redis_wire::Fault as WireFault;
-use row_table::{Table, TableError};
+use worker_table::row_table::{Table, TableError};
 use std::alloc::Global;
 use std::io::{Read, Write};
 use stream_in_place::FieldError;
-use stream_letters::DeadLetterSearch;
-use stream_table::{Fault, Rows};
-use stream_worker::{Asked, Handler, Pipelined, Progress, RequestError, Round, RunError, Worker};
+use worker::dead_letters::DeadLetterSearch;
+use worker_table::{Fault, Rows};
+use worker::{Asked, Handler, Pipelined, Progress, RequestError, Round, RunError, Worker};
 
 /// The limit on what a connection holds, as `Limits::default` has it.
 const LARGEST: &str = "1 GiB";

@@ -39,18 +39,18 @@ use anyhow::{Context, Error, Result, anyhow};
 use command_lines::tell;
 use redis_connection::Connection;
 use redis_wire::Limits;
-use row_table::{Column, Kind, Table, TableError, WithOutbox};
+use worker_table::row_table::{Column, Kind, Table, TableError, WithOutbox};
 use sqlite::{Alter, File as DatabaseFile, FileStore};
-use sqlite_rows::{Form, OUTBOX, OUTBOX_CREATE, OpenError, SqliteOutbox, SqliteTable};
+use worker_sqlite::{Form, OUTBOX, OUTBOX_CREATE, OpenError, SqliteOutbox, SqliteTable};
 use std::alloc::{AllocError, Global};
 use std::fs::File;
 use std::io::{Read, Write};
 use std::os::unix::fs::FileExt;
 use std::process::ExitCode;
 use std::{env, io};
-use stream_letters::{DeadLetterSearch, GiveUp};
-use stream_table::{Forwarding, Rows, target_of};
-use stream_worker::{Settings, Worker};
+use worker::dead_letters::{DeadLetterSearch, GiveUp};
+use worker_table::{Forwarding, Rows, target_of};
+use worker::{Settings, Worker};
 
 fn main(rt: HostRuntime) -> Result<ExitCode> {
     let words = words_of(&rt)?;

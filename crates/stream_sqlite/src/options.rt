@@ -10,11 +10,11 @@ use command_lines::{
     BLOCK, EVERY, IDLE, Number, command, dead, flag, from, give_up_of, matches_of, name,
     refused_value, settings_of, text, word_of,
 };
-use row_table::{Column, Kind};
-use sqlite_rows::OUTBOX;
+use worker_table::row_table::{Column, Kind};
+use worker_sqlite::OUTBOX;
 use std::alloc::{AllocError, Global};
-use stream_letters::GiveUp;
-use stream_worker::Settings;
+use worker::dead_letters::GiveUp;
+use worker::Settings;
 
 /// The table, if none is named.
 pub const TABLE: &str = "entries";

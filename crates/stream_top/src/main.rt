@@ -36,7 +36,7 @@ use std::io;
 use std::io::{Read, Write};
 use std::process::ExitCode;
 use stream_commands::{AtLeastOne, xinfo_stream_full_count, xread_options};
-use stream_monitor::group_state::{GroupState, group_state};
+use stream_commands::monitor::group_state::{GroupState, group_state};
 use stream_options::StreamReadOptions;
 use unicode_width::UnicodeWidthStr;
 

@@ -22,7 +22,7 @@ use sentences::{RunError, run};
 use std::alloc::AllocError;
 use std::io;
 use std::process::ExitCode;
-use stream_text::row_lines::{PrintError, print_rows};
+use test_notation::row_lines::{PrintError, print_rows};
 use vectors::vector_rows;
 
 /// A text differed.

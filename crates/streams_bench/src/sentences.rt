@@ -1,5 +1,5 @@
 //! The readers of sentences, and of lines of them.
-pub use stream_sentences::{
+pub use stream_option_parsing::{
     RunError, SentenceError, read_add, read_autoclaim, read_claim, read_config, read_nack,
     read_read, read_trim, run,
 };

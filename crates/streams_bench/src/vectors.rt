@@ -13,9 +13,9 @@ use redis_streams::{
     StreamPendingReply, StreamRangeReply, StreamReadReply, XAckDelStatusCode, XDelExStatusCode,
 };
 use std::alloc::{AllocError, Global};
-use stream_text::vectors::config::push_config_rows;
-use stream_text::vectors::options::{add, claim, config, read, trim};
-use stream_text::vectors::{Row, push_options_rows, push_reply_rows};
+use test_notation::vectors::config::push_config_rows;
+use test_notation::vectors::options::{add, claim, config, read, trim};
+use test_notation::vectors::{Row, push_options_rows, push_reply_rows};
 
 /// A row for each vector, in ascending order. It fails only where memory runs out.
 pub fn vector_rows(alloc: Global) -> Result<Vec<Row>, AllocError>

@@ -1,20 +1,20 @@
 //! The loop of the program that forwards entries to another stream.
 ghost use Rattle.std.specs.Prelude.{◌≡◌, IfOk, IsTrue, OnErr, OnOk};
-ghost use Rattle.stream_loop.specs.Loop.{Loops, Stops};
+ghost use Rattle.model_workers.specs.Loops.Loop.{Loops, Stops};
 ghost use Rattle.stream_sqlite.specs.Forwards.{AllWent, Ends, Forwards};
-ghost use Rattle.stream_table.specs.Lived.{Leads};
-ghost use Rattle.stream_worker.specs.Session.{standing_of};
+ghost use Rattle.worker_table.specs.Lived.{Leads};
+ghost use Rattle.worker.specs.Session.{standing_of};
 
 use super::{explain_round_error, goes_on, look, say_left};
 use crate::report::Report;
 use anyhow::{Error, Result, anyhow, bail};
 use redis_connection::Connection;
-use row_table::WithOutbox;
+use worker_table::row_table::WithOutbox;
 use std::alloc::Global;
 use std::io::{Read, Write};
-use stream_letters::DeadLetterSearch;
-use stream_table::{Forwarding, SendError};
-use stream_worker::{Asked, Handler, Worker};
+use worker::dead_letters::DeadLetterSearch;
+use worker_table::{Forwarding, SendError};
+use worker::{Asked, Handler, Worker};
 
 /// Drains until something fails, or until a read finds nothing new with `--until-empty`. Before each round it
 /// forwards what is committed, so nothing is left to send if it ends without an error.

@@ -1,7 +1,7 @@
 //! Vectors of replies to `XAUTOCLAIM`.
 ghost use Rattle.std.specs.Prelude.{◌≡◌, [], ◌∷◌, codes, map};
 
-use stream_text::vectors::ReplyVector;
+use test_notation::vectors::ReplyVector;
 
 /// Automatic claims, v44 to v52.
 pub fn autoclaim_vectors() -> [ReplyVector<'static>; 9]

@@ -1,7 +1,7 @@
 //! Vectors of replies to `XINFO`.
 ghost use Rattle.std.specs.Prelude.{◌≡◌, [], ◌∷◌, codes, map};
 
-use stream_text::vectors::ReplyVector;
+use test_notation::vectors::ReplyVector;
 
 /// A stream, v58.
 pub fn stream_vectors() -> [ReplyVector<'static>; 1]

@@ -1,7 +1,7 @@
 //! Vectors of replies to `XPENDING`.
 ghost use Rattle.std.specs.Prelude.{◌≡◌, [], ◌∷◌, codes, map};
 
-use stream_text::vectors::ReplyVector;
+use test_notation::vectors::ReplyVector;
 
 /// Summaries, v53 to v55.
 pub fn summary_vectors() -> [ReplyVector<'static>; 3]

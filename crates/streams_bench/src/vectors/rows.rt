@@ -1,7 +1,7 @@
 //! Vectors of replies to `XRANGE`, `XCLAIM`, `XREAD` and `XREADGROUP`.
 ghost use Rattle.std.specs.Prelude.{◌≡◌, [], ◌∷◌, codes, map};
 
-use stream_text::vectors::ReplyVector;
+use test_notation::vectors::ReplyVector;
 
 /// Ranges, v36 to v38.
 pub fn range_vectors() -> [ReplyVector<'static>; 3]

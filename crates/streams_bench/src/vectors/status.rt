@@ -1,7 +1,7 @@
 //! Vectors of replies to `XDELEX` and `XACKDEL`.
 ghost use Rattle.std.specs.Prelude.{◌≡◌, [], ◌∷◌, codes, map};
 
-use stream_text::vectors::ReplyVector;
+use test_notation::vectors::ReplyVector;
 
 /// Deletions, v63 and v64.
 pub fn deletion_vectors() -> [ReplyVector<'static>; 2]

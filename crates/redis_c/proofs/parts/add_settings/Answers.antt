@@ -1,5 +1,5 @@
 use Rattle.std.proofs.Common.{codes, refl}
-use Rattle.stream_sentences.specs.Parts.{add_of}
+use Rattle.stream_option_parsing.specs.Parts.{add_of}
 use Rattle.redis_c.specs.declared.settings.AddSettings.{AddSettings}
 use Rattle.redis_c.specs.declared.settings.TrimSettings.{TrimSettings}
 use Rattle.redis_c.proofs.PartLemmas.{add_told}

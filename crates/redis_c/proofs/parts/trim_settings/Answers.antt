@@ -1,4 +1,4 @@
-use Rattle.stream_sentences.specs.Parts.{trim_of}
+use Rattle.stream_option_parsing.specs.Parts.{trim_of}
 use Rattle.redis_c.specs.declared.settings.TrimSettings.{TrimSettings}
 use Rattle.redis_c.proofs.PartLemmas.{trim_told}
 use Rattle.redis_c.proofs.parts.trim_settings.Goals as goal

@@ -1,6 +1,6 @@
 use Rattle.std.proofs.Common.{rules, ◌≡◌, List, ℕ, Some}
-use Rattle.stream_sentences.specs.Parts.{claim_of}
-use Rattle.stream_sentences.specs.Split.{arguments}
+use Rattle.stream_option_parsing.specs.Parts.{claim_of}
+use Rattle.stream_option_parsing.specs.Split.{arguments}
 use Rattle.redis_c.specs.Placed.{texts_at}
 use Rattle.redis_c.proofs.ServerLemmas.{means_claim}
 use Rattle.redis_c.proofs.server.claim_reading.Goals as goal

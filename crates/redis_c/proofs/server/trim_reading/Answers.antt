@@ -1,6 +1,6 @@
 use Rattle.std.proofs.Common.{rules, ◌≡◌, List, ℕ, Some}
-use Rattle.stream_sentences.specs.Parts.{trim_of}
-use Rattle.stream_sentences.specs.Split.{arguments}
+use Rattle.stream_option_parsing.specs.Parts.{trim_of}
+use Rattle.stream_option_parsing.specs.Split.{arguments}
 use Rattle.redis_c.specs.Placed.{texts_at}
 use Rattle.redis_c.proofs.ServerLemmas.{means_trim}
 use Rattle.redis_c.proofs.server.trim_reading.Goals as goal

@@ -1,6 +1,6 @@
 use Rattle.std.proofs.Common.{inl, inr, refl, subst, sym}
-use Rattle.stream_letters.specs.Besides.{OnlyLooks, nothing}
-use Rattle.stream_letters.proofs.BesidesLemmas.{looked, looked_not, one_look}
+use Rattle.worker.specs.DeadLetters.Besides.{OnlyLooks, nothing}
+use Rattle.worker.proofs.DeadLettersLemmas.BesidesLemmas.{looked, looked_not, one_look}
 use Rattle.stream_drain.proofs.drain.backlog_told.Goals as goal
 
 pub returns-in_default-clause-ok : goal.returns-in_default-clause-ok

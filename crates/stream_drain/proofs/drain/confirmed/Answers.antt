@@ -1,4 +1,4 @@
-use Rattle.stream_letters.proofs.DeadLemmas.{on_err}
+use Rattle.worker.proofs.DeadLettersLemmas.DeadLemmas.{on_err}
 use Rattle.stream_drain.proofs.ConfirmedLemmas.{confirmed_fails, confirmed_ok, confirmed_stopped}
 use Rattle.stream_drain.proofs.drain.confirmed.Goals as goal
 

@@ -1,6 +1,6 @@
-use Rattle.stream_letters.specs.Besides.{nothing}
-use Rattle.stream_letters.proofs.BesidesLemmas.{no_more}
-use Rattle.stream_letters.proofs.DeadLemmas.{on_err}
+use Rattle.worker.specs.DeadLetters.Besides.{nothing}
+use Rattle.worker.proofs.DeadLettersLemmas.BesidesLemmas.{no_more}
+use Rattle.worker.proofs.DeadLettersLemmas.DeadLemmas.{on_err}
 use Rattle.stream_drain.proofs.drain.count.Goals as goal
 
 pub returns-then-not-due-clause-ok : goal.returns-then-not-due-clause-ok

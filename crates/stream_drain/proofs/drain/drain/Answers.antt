@@ -1,12 +1,12 @@
 use Rattle.std.proofs.Common.{◌∙◌, refl, subst, ℕ, Bool, List, Option}
-use Rattle.stream_worker.specs.Session.{Standing, standing_of}
-use Rattle.stream_worker.specs.declared.state.Settings.{Settings}
-use Rattle.stream_worker.specs.declared.worker.Worker.{Worker}
+use Rattle.worker.specs.Session.{Standing, standing_of}
+use Rattle.worker.specs.declared.state.Settings.{Settings}
+use Rattle.worker.specs.declared.worker.Worker.{Worker}
 use Rattle.stream_drain.specs.Lived.{Leads}
-use Rattle.stream_loop.specs.Loop.{Loops, Stops}
+use Rattle.model_workers.specs.Loops.Loop.{Loops, Stops}
 use Rattle.stream_drain.specs.Known.{Known, known_by}
 use Rattle.stream_drain.specs.Written.{Written, written_by}
-use Rattle.stream_letters.proofs.DeadLemmas.{on_err}
+use Rattle.worker.proofs.DeadLettersLemmas.DeadLemmas.{on_err}
 use Rattle.stream_drain.proofs.FiledLemmas.{filed_from, with_loops, with_stops}
 use Rattle.stream_drain.proofs.LivedLemmas.{leads_both, leads_end, leads_same, leads_stop}
 use Rattle.stream_drain.proofs.drain.drain.Goals as goal

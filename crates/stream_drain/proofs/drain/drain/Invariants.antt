@@ -1,7 +1,7 @@
 use Rattle.std.proofs.Common.{◌≡◌}
-use Rattle.stream_worker.specs.Session.{standing_of}
+use Rattle.worker.specs.Session.{standing_of}
 use Rattle.stream_drain.specs.Lived.{Leads}
-use Rattle.stream_loop.specs.Loop.{Loops}
+use Rattle.model_workers.specs.Loops.Loop.{Loops}
 use Rattle.stream_drain.specs.Known.{known_by}
 use Rattle.stream_drain.specs.Written.{written_by}
 use Rattle.stream_drain.proofs.drain.drain.Given as goal

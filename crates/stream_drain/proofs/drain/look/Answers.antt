@@ -1,4 +1,4 @@
-use Rattle.stream_letters.specs.Besides.{nothing}
+use Rattle.worker.specs.DeadLetters.Besides.{nothing}
 use Rattle.stream_drain.proofs.drain.look.Goals as goal
 
 pub returns-in_default-clause-ok : goal.returns-in_default-clause-ok

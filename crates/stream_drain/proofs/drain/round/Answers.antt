@@ -1,4 +1,4 @@
-use Rattle.stream_letters.proofs.DeadLemmas.{on_err}
+use Rattle.worker.proofs.DeadLettersLemmas.DeadLemmas.{on_err}
 use Rattle.stream_drain.proofs.LivedLemmas.{pipelined_fails, pipelined_ok, pipelined_stopped, round_fails, round_ok}
 use Rattle.stream_drain.proofs.LivedLemmas.{round_stopped}
 use Rattle.stream_drain.proofs.drain.round.Goals as goal

@@ -1,7 +1,7 @@
 use Rattle.std.proofs.Common.{subst}
-use Rattle.stream_letters.specs.Besides.{LooksNot}
-use Rattle.stream_letters.proofs.BesidesLemmas.{ends_so, look_not_breaks, one_break, one_look}
-use Rattle.stream_letters.proofs.DeadLemmas.{on_err, on_ok}
+use Rattle.worker.specs.DeadLetters.Besides.{LooksNot}
+use Rattle.worker.proofs.DeadLettersLemmas.BesidesLemmas.{ends_so, look_not_breaks, one_break, one_look}
+use Rattle.worker.proofs.DeadLettersLemmas.DeadLemmas.{on_err, on_ok}
 use Rattle.stream_drain.proofs.drain.show.Goals as goal
 
 pub returns-in-Ok-Some-clause-err : goal.returns-in-Ok-Some-clause-err

@@ -1,9 +1,9 @@
 use Rattle.std.proofs.Common.{ℕ, Bool, List, Option}
-use Rattle.stream_worker.specs.Session.{Standing, standing_of}
-use Rattle.stream_worker.specs.declared.worker.Worker.{Worker}
+use Rattle.worker.specs.Session.{Standing, standing_of}
+use Rattle.worker.specs.declared.worker.Worker.{Worker}
 use Rattle.stream_drain.specs.Known.{Known, known_by}
 use Rattle.stream_drain.specs.Written.{Written, written_by}
-use Rattle.stream_letters.proofs.DeadLemmas.{on_err}
+use Rattle.worker.proofs.DeadLettersLemmas.DeadLemmas.{on_err}
 use Rattle.stream_drain.proofs.LivedLemmas.{leads_besides, leads_both, leads_breaks, leads_stop}
 use Rattle.stream_drain.proofs.TurnLemmas.{confirmed_turn}
 use Rattle.stream_drain.proofs.drain.turn.Goals as goal

@@ -2,7 +2,7 @@ use Rattle.std.proofs.Common.{◌≡◌, ◌∙◌, ◌++◌, ℕ, List, ap, []}
 use Rattle.json.specs.Print.{print}
 use Rattle.json.specs.Token.{Token}
 use Rattle.stream_drain.specs.Line.{entry_tokens}
-use Rattle.stream_worker.specs.Handling.{pair_of}
+use Rattle.worker.specs.Handling.{pair_of}
 use Rattle.stream_drain.proofs.JsonLemmas.{entry_texts, no_line_end}
 use Rattle.stream_drain.proofs.json_lines.json_line.Goals as goal
 

@@ -1,4 +1,4 @@
-use Rattle.line_log.proofs.EntryLineLemmas.{line_tells}
+use Rattle.worker_journal.proofs.EntryLineLemmas.{line_tells}
 use Rattle.stream_drain.proofs.SameLineLemmas.{tell}
 use Rattle.stream_drain.proofs.laws.lines_tell_entries.Goals as goal
 

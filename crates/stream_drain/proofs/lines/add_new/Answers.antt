@@ -1,8 +1,8 @@
 use Rattle.std.proofs.Common.{◌≡◌, Some, false, rules}
-use Rattle.known_ids.specs.Known.{has, places_in}
-use Rattle.known_ids.specs.Number.{number_of}
+use Rattle.worker_journal.specs.KnownIds.Known.{has, places_in}
+use Rattle.worker_journal.specs.KnownIds.Number.{number_of}
 use Rattle.stream_drain.proofs.LinesLemmas.{line_added}
-use Rattle.stream_worker.specs.Handling.{pair_of}
+use Rattle.worker.specs.Handling.{pair_of}
 use Rattle.stream_drain.proofs.lines.add_new.Goals as goal
 
 pub returns-clause-ok : goal.returns-clause-ok

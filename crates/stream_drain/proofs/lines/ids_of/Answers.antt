@@ -1,4 +1,4 @@
-use Rattle.known_ids.specs.Known.{places_in}
+use Rattle.worker_journal.specs.KnownIds.Known.{places_in}
 use Rattle.stream_drain.proofs.LinesLemmas.{file_known, places_known}
 use Rattle.stream_drain.proofs.lines.ids_of.Goals as goal
 

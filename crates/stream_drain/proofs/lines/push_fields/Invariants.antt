@@ -1,5 +1,5 @@
 use Rattle.std.proofs.Common.{◌≡◌, ◌++◌, flat_map}
-use Rattle.line_log.specs.EntryLine.{field_text}
+use Rattle.worker_journal.specs.EntryLine.{field_text}
 use Rattle.stream_drain.proofs.lines.push_fields.Given as goal
 
 -- the text so far, and behind it what is left, is all

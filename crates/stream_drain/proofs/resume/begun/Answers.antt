@@ -1,6 +1,6 @@
 use Rattle.std.proofs.Common.{◌∙◌, ap}
-use Rattle.line_log.specs.Holds.{committed_in}
-use Rattle.stream_worker.specs.Machine.{ids_of, machine_of}
+use Rattle.worker_journal.specs.Holds.{committed_in}
+use Rattle.worker.specs.Machine.{ids_of, machine_of}
 use Rattle.stream_drain.specs.declared.resume.TheConstants.{LARGEST_COUNT}
 use Rattle.stream_drain.specs.Counts.{has_any}
 use Rattle.stream_drain.specs.Known.{known_by}

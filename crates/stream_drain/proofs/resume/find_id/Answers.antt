@@ -1,6 +1,6 @@
 use Rattle.std.proofs.Common.{Bool, Some, rules, subst, sym}
-use Rattle.line_log.specs.EntryLine.{IsEntryIn}
-use Rattle.line_log.specs.EntryLineMeaning.{entry_of}
+use Rattle.worker_journal.specs.EntryLine.{IsEntryIn}
+use Rattle.worker_journal.specs.EntryLineMeaning.{entry_of}
 use Rattle.stream_drain.specs.Resumed.{Tells}
 use Rattle.stream_drain.proofs.ResumeLemmas.{told_by}
 use Rattle.stream_drain.proofs.TellLemmas.{json_tells, text_tells}

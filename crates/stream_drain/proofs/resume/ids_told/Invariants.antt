@@ -1,7 +1,7 @@
 use Rattle.std.proofs.Common.{take}
-use Rattle.line_log.specs.LineTexts.{bytes_of}
+use Rattle.worker_journal.specs.LineTexts.{bytes_of}
 use Rattle.stream_drain.specs.Resumed.{TellEach}
-use Rattle.stream_worker.specs.Machine.{ids_of}
+use Rattle.worker.specs.Machine.{ids_of}
 use Rattle.stream_drain.proofs.resume.ids_told.Given as goal
 
 -- the lines so far tell the ids so far

@@ -1,5 +1,5 @@
 use Rattle.std.proofs.Common.{◌≡◌, ◌+◌, ◌≤◌, ◌-◌, Some, ap, arith, length, rules, sym, ◌∙◌}
-use Rattle.line_log.specs.Holds.{committed_in}
+use Rattle.worker_journal.specs.Holds.{committed_in}
 use Rattle.stream_drain.specs.There.{begun, found_in}
 use Rattle.stream_drain.proofs.ThereLemmas.{read_shows}
 use Rattle.stream_drain.proofs.there.what_is_at.Goals as goal

@@ -1,6 +1,6 @@
 use Rattle.std.proofs.Common.{◌≡◌, ◌-◌, ◌^◌, arith, subst, ℕ}
-use Rattle.stream_feed.specs.Confirmed.{ConfirmedRounds}
-use Rattle.stream_feed.specs.Machine.{idle, standing_of}
+use Rattle.worker_producer.specs.Confirmed.{ConfirmedRounds}
+use Rattle.worker_producer.specs.Machine.{idle, standing_of}
 use Rattle.stream_fill.proofs.fill.fill.Goals as goal
 
 pub returns-clause-err : goal.returns-clause-err

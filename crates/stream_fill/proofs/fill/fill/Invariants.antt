@@ -1,6 +1,6 @@
 use Rattle.std.proofs.Common.{◌≡◌}
-use Rattle.stream_feed.specs.Confirmed.{ConfirmedRounds}
-use Rattle.stream_feed.specs.Machine.{idle, standing_of}
+use Rattle.worker_producer.specs.Confirmed.{ConfirmedRounds}
+use Rattle.worker_producer.specs.Machine.{idle, standing_of}
 use Rattle.stream_fill.proofs.fill.fill.Given as goal
 
 -- so many rounds were made

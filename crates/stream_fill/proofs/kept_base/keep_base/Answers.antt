@@ -1,5 +1,5 @@
 use Rattle.std.proofs.Common.{◌∙◌, refl, subst, IfSome, List, [], ℕ}
-use Rattle.line_log.specs.Device.{Only}
+use Rattle.worker_journal.specs.Device.{Only}
 use Rattle.stream_fill.proofs.KeepLemmas.{line_durable}
 use Rattle.stream_fill.proofs.kept_base.keep_base.Goals as goal
 

@@ -1,12 +1,12 @@
 use Rattle.std.proofs.Common.{◌∙◌, refl, subst, ℕ, Bool, List, Option}
 use Rattle.std.specs.Prelude.{string_bytes}
-use Rattle.stream_jobs.specs.Talk.{Talk, talk_of}
-use Rattle.stream_letters.proofs.DeadLemmas.{on_err, on_ok}
+use Rattle.worker_jobs.specs.Talk.{Talk, talk_of}
+use Rattle.worker.proofs.DeadLettersLemmas.DeadLemmas.{on_err, on_ok}
 use Rattle.stream_run.specs.Rounds.{Rounds, Stops, ends}
 use Rattle.stream_run.proofs.RoundsLemmas.{rounds_both, rounds_end, rounds_stop}
-use Rattle.stream_worker.specs.Session.{Standing, standing_of}
-use Rattle.stream_worker.specs.declared.state.Settings.{Settings}
-use Rattle.stream_worker.specs.declared.worker.Worker.{Worker}
+use Rattle.worker.specs.Session.{Standing, standing_of}
+use Rattle.worker.specs.declared.state.Settings.{Settings}
+use Rattle.worker.specs.declared.worker.Worker.{Worker}
 use Rattle.stream_run.proofs.drain.drain.Goals as goal
 
 -- where a worker stands, with what its handler has said and heard

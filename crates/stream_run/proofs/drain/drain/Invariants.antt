@@ -1,8 +1,8 @@
 use Rattle.std.proofs.Common.{◌≡◌}
 use Rattle.std.specs.Prelude.{string_bytes}
-use Rattle.stream_jobs.specs.Talk.{talk_of}
+use Rattle.worker_jobs.specs.Talk.{talk_of}
 use Rattle.stream_run.specs.Rounds.{Rounds}
-use Rattle.stream_worker.specs.Session.{standing_of}
+use Rattle.worker.specs.Session.{standing_of}
 use Rattle.stream_run.proofs.drain.drain.Given as goal
 
 -- the rounds so far lead from where the worker was to where it is

@@ -1,4 +1,4 @@
-use Rattle.stream_letters.proofs.DeadLemmas.{on_err}
+use Rattle.worker.proofs.DeadLettersLemmas.DeadLemmas.{on_err}
 use Rattle.stream_run.proofs.RoundsLemmas.{rounds_besides, rounds_both, rounds_end, rounds_stop, stops_besides}
 use Rattle.stream_run.proofs.drain.turn.Goals as goal
 

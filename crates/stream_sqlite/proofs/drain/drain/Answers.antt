@@ -1,15 +1,15 @@
 use Rattle.std.proofs.Common.{◌∙◌, refl, subst, List, Option}
-use Rattle.row_table.specs.Rows.{Row}
-use Rattle.row_table.specs.declared.cell.Column.{Column}
-use Rattle.row_table.specs.declared.row.Row as memory
-use Rattle.stream_worker.specs.Session.{Standing, standing_of}
-use Rattle.stream_worker.specs.declared.state.Settings.{Settings}
-use Rattle.stream_worker.specs.declared.worker.Worker.{Worker}
-use Rattle.stream_loop.specs.Loop.{Loops, Stops}
-use Rattle.stream_table.specs.Lived.{Leads}
-use Rattle.stream_table.specs.Kept.{Kept, kept_by}
-use Rattle.stream_table.proofs.LivedLemmas.{leads_both, leads_end, leads_same, leads_stop}
-use Rattle.stream_letters.proofs.DeadLemmas.{on_err}
+use Rattle.worker_table.specs.RowTable.Rows.{Row}
+use Rattle.worker_table.specs.declared.row_table.cell.Column.{Column}
+use Rattle.worker_table.specs.declared.row_table.row.Row as memory
+use Rattle.worker.specs.Session.{Standing, standing_of}
+use Rattle.worker.specs.declared.state.Settings.{Settings}
+use Rattle.worker.specs.declared.worker.Worker.{Worker}
+use Rattle.model_workers.specs.Loops.Loop.{Loops, Stops}
+use Rattle.worker_table.specs.Lived.{Leads}
+use Rattle.worker_table.specs.Kept.{Kept, kept_by}
+use Rattle.worker_table.proofs.LivedLemmas.{leads_both, leads_end, leads_same, leads_stop}
+use Rattle.worker.proofs.DeadLettersLemmas.DeadLemmas.{on_err}
 use Rattle.stream_sqlite.proofs.drain.drain.Goals as goal
 
 -- where a worker stands, with what its handler keeps

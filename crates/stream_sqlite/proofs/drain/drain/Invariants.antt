@@ -1,8 +1,8 @@
 use Rattle.std.proofs.Common.{◌≡◌}
-use Rattle.stream_worker.specs.Session.{standing_of}
-use Rattle.stream_loop.specs.Loop.{Loops}
-use Rattle.stream_table.specs.Lived.{Leads}
-use Rattle.stream_table.specs.Kept.{kept_by}
+use Rattle.worker.specs.Session.{standing_of}
+use Rattle.model_workers.specs.Loops.Loop.{Loops}
+use Rattle.worker_table.specs.Lived.{Leads}
+use Rattle.worker_table.specs.Kept.{kept_by}
 use Rattle.stream_sqlite.proofs.drain.drain.Given as goal
 
 -- the rounds so far lead from where the worker was to where it is

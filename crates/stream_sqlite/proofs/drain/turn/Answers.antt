@@ -1,12 +1,12 @@
 use Rattle.std.proofs.Common.{List, Option}
-use Rattle.row_table.specs.Rows.{Row}
-use Rattle.row_table.specs.declared.cell.Column.{Column}
-use Rattle.row_table.specs.declared.row.Row as memory
-use Rattle.stream_table.specs.Kept.{Kept, kept_by}
-use Rattle.stream_letters.proofs.DeadLemmas.{on_err}
-use Rattle.stream_worker.specs.Session.{Standing, standing_of}
-use Rattle.stream_worker.specs.declared.worker.Worker.{Worker}
-use Rattle.stream_table.proofs.LivedLemmas.{leads_end}
+use Rattle.worker_table.specs.RowTable.Rows.{Row}
+use Rattle.worker_table.specs.declared.row_table.cell.Column.{Column}
+use Rattle.worker_table.specs.declared.row_table.row.Row as memory
+use Rattle.worker_table.specs.Kept.{Kept, kept_by}
+use Rattle.worker.proofs.DeadLettersLemmas.DeadLemmas.{on_err}
+use Rattle.worker.specs.Session.{Standing, standing_of}
+use Rattle.worker.specs.declared.worker.Worker.{Worker}
+use Rattle.worker_table.proofs.LivedLemmas.{leads_end}
 use Rattle.stream_sqlite.proofs.LookLemmas.{leads_breaks, looked_on, looked_stops}
 use Rattle.stream_sqlite.proofs.drain.turn.Goals as goal
 

@@ -1,6 +1,6 @@
 use Rattle.std.proofs.Common.{◌≡◌, Some, rules}
-use Rattle.line_log.specs.Holds.{committed_in}
-use Rattle.stream_worker.specs.Handling.{pair_of}
+use Rattle.worker_journal.specs.Holds.{committed_in}
+use Rattle.worker.specs.Handling.{pair_of}
 use Rattle.stream_drain.proofs.ThereLemmas.{explained, if_err, on_ok, still_held, taken}
 use Rattle.stream_drain.proofs.lines.Lines.take.Goals as goal
 

@@ -1,6 +1,6 @@
 use Rattle.std.proofs.Math.Logic.{∥∥₁_elim, ∥∥₁_map}
 use Rattle.std.proofs.Props.{props}
-use Rattle.line_log.specs.Holds.{committed_in}
+use Rattle.worker_journal.specs.Holds.{committed_in}
 use Rattle.stream_drain.specs.Known.{known_by}
 use Rattle.stream_drain.proofs.WrittenLemmas.{committed_now, same_now}
 use Rattle.stream_drain.proofs.lines.LinesHandler.commit.Goals as goal

@@ -1,14 +1,14 @@
 use Rattle.std.proofs.Common.{◌∙◌, refl, subst, List, Option}
-use Rattle.row_table.specs.OfPost.{all_posted}
-use Rattle.row_table.specs.Posts.{Stored}
-use Rattle.row_table.specs.declared.cell.Column.{Column}
-use Rattle.row_table.specs.declared.post.PostedRow.{PostedRow}
-use Rattle.stream_worker.specs.Session.{Standing, standing_of}
-use Rattle.stream_worker.specs.declared.state.Settings.{Settings}
-use Rattle.stream_worker.specs.declared.worker.Worker.{Worker}
-use Rattle.stream_table.specs.Forwarded.{forwarding_kept}
-use Rattle.stream_table.specs.Kept.{Kept}
-use Rattle.stream_letters.proofs.DeadLemmas.{on_err}
+use Rattle.worker_table.specs.RowTable.OfPost.{all_posted}
+use Rattle.worker_table.specs.RowTable.Posts.{Stored}
+use Rattle.worker_table.specs.declared.row_table.cell.Column.{Column}
+use Rattle.worker_table.specs.declared.row_table.post.PostedRow.{PostedRow}
+use Rattle.worker.specs.Session.{Standing, standing_of}
+use Rattle.worker.specs.declared.state.Settings.{Settings}
+use Rattle.worker.specs.declared.worker.Worker.{Worker}
+use Rattle.worker_table.specs.Forwarded.{forwarding_kept}
+use Rattle.worker_table.specs.Kept.{Kept}
+use Rattle.worker.proofs.DeadLettersLemmas.DeadLemmas.{on_err}
 use Rattle.stream_sqlite.specs.Forwards.{Ends, Forwards, begins}
 use Rattle.stream_sqlite.proofs.ForwardLemmas.{forwards_both, forwards_end, stayed}
 use Rattle.stream_sqlite.proofs.drain.forward.forward.Goals as goal

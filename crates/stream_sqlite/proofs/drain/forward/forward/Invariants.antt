@@ -1,7 +1,7 @@
 use Rattle.std.proofs.Common.{◌≡◌}
-use Rattle.row_table.specs.OfPost.{all_posted}
-use Rattle.stream_worker.specs.Session.{standing_of}
-use Rattle.stream_table.specs.Forwarded.{forwarding_kept}
+use Rattle.worker_table.specs.RowTable.OfPost.{all_posted}
+use Rattle.worker.specs.Session.{standing_of}
+use Rattle.worker_table.specs.Forwarded.{forwarding_kept}
 use Rattle.stream_sqlite.specs.Forwards.{Forwards}
 use Rattle.stream_sqlite.proofs.drain.forward.forward.Given as goal
 

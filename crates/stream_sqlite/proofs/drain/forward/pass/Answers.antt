@@ -1,8 +1,8 @@
 use Rattle.std.proofs.Common.{refl, ap}
-use Rattle.row_table.proofs.PostsLemmas.{ok_too}
-use Rattle.stream_letters.proofs.DeadLemmas.{on_err}
-use Rattle.stream_table.specs.Kept.{Kept}
-use Rattle.stream_worker.specs.Session.{standing_of}
+use Rattle.worker_table.proofs.RowTableLemmas.PostsLemmas.{ok_too}
+use Rattle.worker.proofs.DeadLettersLemmas.DeadLemmas.{on_err}
+use Rattle.worker_table.specs.Kept.{Kept}
+use Rattle.worker.specs.Session.{standing_of}
 use Rattle.stream_sqlite.proofs.ForwardLemmas.{err_too, passed, passed_not, stayed}
 use Rattle.stream_sqlite.proofs.drain.forward.pass.Goals as goal
 

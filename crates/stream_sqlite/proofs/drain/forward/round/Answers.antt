@@ -1,5 +1,5 @@
-use Rattle.stream_letters.proofs.DeadLemmas.{on_err}
-use Rattle.stream_table.proofs.LivedLemmas.{lived}
+use Rattle.worker.proofs.DeadLettersLemmas.DeadLemmas.{on_err}
+use Rattle.worker_table.proofs.LivedLemmas.{lived}
 use Rattle.stream_sqlite.proofs.ForwardLemmas.{round_goes, round_stops}
 use Rattle.stream_sqlite.proofs.drain.forward.round.Goals as goal
 

@@ -1,0 +1,46 @@
+-- An order, as mathematics, and which fields say one.
+use Rattle.std.specs.Prelude.{◌≡◌, ◌⊎◌, ℕ, List, Option, Some, IsSome, option_map, option_and_then, option_to_list}
+use Rattle.std.specs.Prelude.{is_some, if◌then◌else◌, [], ◌∷◌, codes, string_bytes}
+use Rattle.redis.specs.Words.{Entry, Fields, RefusesFields, Tree, field_record, fields_reading}
+use Rattle.redis.specs.Words.{text_reading, unsigned_reading}
+use Rattle.redis_resp.specs.declared.value.error.ParsingError.{ParsingError}
+use Rattle.redis_resp.specs.declared.value.error.ParsingError.TheVariants.{NotPairs, Memory}
+use Rattle.examples.specs.declared.order.Order.{Order}
+
+-- an order's number, its customer and how many pieces
+abbrev pub Meant : Type 0
+Meant = ℕ × List ℕ × ℕ
+
+-- what an `Order` holds
+abbrev pub order_meaning : Order → Meant
+order_meaning o = (o.id.0, string_bytes o.customer, o.quantity)
+
+-- the order of fields, all three of which have to be there
+abbrev pub order_of : Fields Tree → Option Meant
+order_of fields = option_and_then (λ id. option_and_then (λ customer. option_map (λ quantity. (id, customer, quantity))
+    (field_record (unsigned_reading 32) fields (codes "quantity")))
+    (field_record text_reading fields (codes "customer")))
+    (field_record (unsigned_reading 64) fields (codes "order"))
+
+-- the order of a value that is a map of fields
+abbrev pub order_reading : Tree → Option Meant
+order_reading t = option_and_then order_of (fields_reading (λ u. Some u) t)
+
+-- what a value is refused with: `NotPairs` if its fields say no order, what its fields are refused with, or out of
+-- memory
+abbrev pub RefusesOrder : Tree → ParsingError → Type 0
+RefusesOrder t error = (error ≡ Memory) ⊎ ((error ≡ NotPairs) ⊎ RefusesFields t error)
+
+-- the number of an order is there, and the text of a customer
+abbrev pub NamesCustomer : Fields Tree → Type 0
+NamesCustomer fields =
+    IsSome (field_record (unsigned_reading 64) fields (codes "order"))
+    × IsSome (field_record text_reading fields (codes "customer"))
+
+-- the order that an entry says, if any
+abbrev pub order_in : Entry → List Meant
+order_in e = option_to_list (order_of e.fields)
+
+-- the id of an entry that says no order
+abbrev pub strange_in : Entry → List (List ℕ)
+strange_in e = if is_some (order_of e.fields) then [] else e.id ∷ []

@@ -1,0 +1,10 @@
+-- Why a producer stays at its entry.
+use Rattle.std.specs.Prelude.{◌≡◌, ◌^◌, ℕ, suc}
+use Rattle.redis.specs.Words.{Refuses, RefusesText, Tree, text_reading}
+use Rattle.examples.specs.declared.producer.ProducerError.{ProducerError}
+use Rattle.examples.specs.declared.producer.ProducerError.TheVariants.{Answer, LastNumber}
+
+-- its number is the last one, or the reply is refused as an id
+abbrev pub Stays : ℕ → Tree → ProducerError → Type 0
+Stays number t (Answer error) = Refuses text_reading RefusesText t error
+Stays number t LastNumber = suc number ≡ 2 ^ 64

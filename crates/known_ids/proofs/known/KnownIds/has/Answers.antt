@@ -1,6 +1,0 @@
-use Rattle.std.proofs.Common.{◌∙◌}
-use Rattle.known_ids.proofs.KnownLemmas.{found_is}
-use Rattle.known_ids.proofs.known.KnownIds.has.Goals as goal
-
-pub returns : goal.returns
-returns c = c.is_ok.ensures.value ∙ found_is c.args.self.now.ids.items c.args.number c.search.result c.search.ensures

@@ -1,8 +1,0 @@
-use Rattle.line_log.proofs.EntryLineLemmas.{line_tells, line_whole}
-use Rattle.line_log.proofs.laws.lines_tell_entries.Goals as goal
-
-pub returns-clause-whole : goal.returns-clause-whole
-returns-clause-whole c = line_whole
-
-pub returns-clause-tell : goal.returns-clause-tell
-returns-clause-tell c = line_tells

@@ -1,8 +1,0 @@
-use Rattle.line_log.proofs.EndLemmas.{NoneFrom}
-use Rattle.line_log.proofs.opening.measure_lines.Given as goal
-
-abbrev pub invariant-loop-at : goal.invariant-loop-at
-invariant-loop-at g l = NoneFrom (g.D.LogFile.seen l.file) l.at
-
-abbrev pub decreases-loop-at : goal.decreases-loop-at
-decreases-loop-at g l = l.at

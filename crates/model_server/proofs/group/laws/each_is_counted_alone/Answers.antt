@@ -1,0 +1,5 @@
+use Rattle.model_server.proofs.GroupLemmas.Alone.{each_is_counted_alone}
+use Rattle.model_server.proofs.group.laws.each_is_counted_alone.Goals as goal
+
+pub returns : goal.returns
+returns g c = each_is_counted_alone

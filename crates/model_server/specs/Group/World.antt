@@ -1,0 +1,206 @@
+-- The server, the workers and what is on the way between them; and what may happen.
+use Rattle.std.specs.Prelude.{ℕ, zero, suc, Bool, ◌&&◌, List, [], ◌∷◌, ◌++◌, map, filter, Option, Some, None}
+use Rattle.std.specs.Prelude.{if◌then◌else◌}
+use Rattle.std.specs.Str.{bytes_eq}
+use Rattle.model_server.specs.Group.Worker.{Id, Entry, Delivered, Verdict, Machine, Answer, acknowledged, own_pending}
+use Rattle.model_server.specs.Group.Worker.{taken_over, news, handled_in, entries_in, start, after, after_commit}
+use Rattle.model_server.specs.Group.Worker.{begins_again, begins_with}
+use Rattle.model_server.specs.Group.Group.{Name, Pending, Numbers, id_text, is_below, fits, raised, listed, ids_of, given}
+use Rattle.model_server.specs.Group.Group.{passed, behind, newly_pending, whole, reread, claimed, claim_answer, pending_after}
+
+-- a reply on the way to a consumer
+pub record Reply (F : Type 0) : Type 0 where
+  pub consumer : Name
+  pub answer : Answer F
+
+pub record World (F : Type 0) : Type 0 where
+  pub seen : List (Entry F)  -- the log up to the last delivered id
+  pub fresh : List (Entry F)  -- the log after it
+  pub last : Numbers  -- the last id that was added
+  pub deleted : List Id  -- of the log, what was deleted
+  pub pending : List Pending
+  pub acknowledged_ids : List Id  -- each id that an acknowledgement named
+  pub replies : List (Reply F)  -- replies on the way
+  pub acks : List (Name × List Id)  -- acknowledgements that were sent
+  pub workers : Name → Machine
+  pub handled : List (Entry F)  -- what handlers did, a crash or not
+  pub loose : Name → List (Entry F)  -- what a handler did and has not committed
+  pub committed : List (Entry F)  -- what handlers did and committed, which no crash undoes
+  pub deliveries : List Id  -- each id, once for each reply that has it with its fields
+
+-- nothing yet
+abbrev pub empty_world : {F : Type 0} → World F
+empty_world = record {
+  seen = [];
+  fresh = [];
+  last = (0, 0);
+  deleted = [];
+  pending = [];
+  acknowledged_ids = [];
+  replies = [];
+  acks = [];
+  workers = λ name. start 1;
+  handled = [];
+  loose = λ name. [];
+  committed = [];
+  deliveries = [];
+}
+
+-- each entry that was ever added and not refused, in order
+abbrev pub log_of : {F : Type 0} → World F → List (Entry F)
+log_of w = w.seen ++ w.fresh
+
+-- what may happen next. A reply that is lost is one that never comes, and so is an acknowledgement
+pub data Event (F : Type 0) : Type 0 where
+  -- XADD; refused if the id is not above the last one
+  Append : (id : Numbers) (fields : F) → Event F
+  -- XDEL, or a trimming, which takes entries that nobody was given
+  Delete : (id : Id) → Event F
+  -- XREADGROUP with `>` and COUNT n
+  Read : (consumer : Name) (n : ℕ) → Event F
+  -- XREADGROUP with an id: some of the consumer's own pending entries
+  Reread : (consumer : Name) (pick : Id → Bool) → Event F
+  -- XAUTOCLAIM: some of all pending entries, and where the next one goes on
+  Claim : (consumer : Name) (pick : Id → Bool) (next : Id) → Event F
+  -- XAUTOCLAIM or XCLAIM with JUSTID, by whom it may be: the ids alone
+  Claim_ids : (consumer : Name) (pick : Id → Bool) → Event F
+  -- the reply of that number comes to its worker, whose handler says this of the entries
+  Comes : (which : ℕ) (verdicts : List Verdict) → Event F
+  -- the worker's handler commits what it did
+  Commit : (consumer : Name) → Event F
+  -- the worker sends an XACK of what is committed
+  Acknowledge : (consumer : Name) → Event F
+  -- an XACK reaches the server
+  Ack_comes : (which : ℕ) → Event F
+  -- the worker goes back to what is pending for it
+  Go_back : (consumer : Name) → Event F
+  -- the worker loses all that it knows, and what its handler did and did not commit, and is started again. If the
+  -- crash cut a commit off, it may keep some of that all the same, which is then committed. The worker begins to
+  -- acknowledge those of these ids that are committed, so only what no crash undoes; or nothing, if there are none
+  Crash : (consumer : Name) (every : ℕ) (keeps : Entry F → Bool) (ids : List Id) → Event F
+
+-- the item of that number
+abbrev pub item : {A : Type 0} → List A → ℕ → Option A
+item [] n = None
+item (x ∷ xs) zero = Some x
+item (x ∷ xs) (suc n) = item xs n
+
+-- the items but the one of that number
+abbrev pub but : {A : Type 0} → List A → ℕ → List A
+but [] n = []
+but (x ∷ xs) zero = xs
+but (x ∷ xs) (suc n) = x ∷ but xs n
+
+-- the same for others, and this for the one
+abbrev pub with_one : {A : Type 0} → (Name → A) → Name → A → Name → A
+with_one each name a other = if bytes_eq name other then a else each other
+
+-- an entry is added, if its id is above the last one
+abbrev pub appended : {F : Type 0} → World F → Numbers → F → World F
+appended w id fields =
+    if is_below w.last id && fits id then record w { fresh = w.fresh ++ (id_text id, fields) ∷ []; last = id } else w
+
+-- an entry is deleted, if it is in the log
+abbrev pub deleted_from : {F : Type 0} → World F → Id → World F
+deleted_from w id = if listed (ids_of (log_of w)) id then record w { deleted = id ∷ w.deleted } else w
+
+-- the ids of the entries that are delivered with their fields
+abbrev pub whole_one : {F : Type 0} → Id → Option F → List Id
+whole_one id None = []
+whole_one id (Some fields) = id ∷ []
+
+-- the same of all
+abbrev pub whole_ids : {F : Type 0} → List (Delivered F) → List Id
+whole_ids [] = []
+whole_ids (d ∷ ds) = whole_one d.0 d.1 ++ whole_ids ds
+
+-- a reply goes on its way
+abbrev pub replied : {F : Type 0} → World F → Name → Answer F → World F
+replied w consumer a = record w {
+  replies = record { consumer = consumer; answer = a } ∷ w.replies;
+  deliveries = whole_ids (entries_in a) ++ w.deliveries;
+}
+
+-- new entries are delivered, and are pending from then on
+abbrev pub read : {F : Type 0} → World F → Name → ℕ → World F
+read w consumer n = record (replied w consumer (news (map whole (given w.deleted n w.fresh)))) {
+  seen = w.seen ++ passed w.deleted n w.fresh;
+  fresh = behind w.deleted n w.fresh;
+  pending = w.pending ++ newly_pending consumer (given w.deleted n w.fresh);
+}
+
+-- own pending entries are redelivered
+abbrev pub read_again : {F : Type 0} → World F → Name → (Id → Bool) → World F
+read_again w consumer pick =
+    record (replied w consumer (own_pending (reread pick consumer w.pending w.deleted w.seen))) {
+      pending = raised pick consumer w.deleted w.pending;
+    }
+
+-- pending entries go to the consumer
+abbrev pub claim : {F : Type 0} → World F → Name → (Id → Bool) → Id → World F
+claim w consumer pick next =
+    record (replied w consumer (taken_over next (claim_answer pick w.pending w.deleted w.seen))) {
+      pending = claimed 1 pick consumer w.deleted w.pending;
+    }
+
+-- a reply comes to its worker, whose handler does what is to be done
+abbrev pub comes : {F : Type 0} → World F → ℕ → Option (Reply F) → List Verdict → World F
+comes w which None verdicts = w
+comes w which (Some r) verdicts = record w {
+  replies = but w.replies which;
+  handled = w.handled ++ handled_in (entries_in r.answer) verdicts;
+  loose = with_one w.loose r.consumer (w.loose r.consumer ++ handled_in (entries_in r.answer) verdicts);
+  workers = with_one w.workers r.consumer (after (w.workers r.consumer) r.answer verdicts);
+}
+
+-- what a handler did is committed
+abbrev pub commits : {F : Type 0} → World F → Name → World F
+commits w consumer = record w {
+  committed = w.committed ++ w.loose consumer;
+  loose = with_one w.loose consumer [];
+  workers = with_one w.workers consumer (after_commit (w.workers consumer));
+}
+
+-- an acknowledgement comes to the server
+abbrev pub ack_comes : {F : Type 0} → World F → Option (Name × List Id) → World F
+ack_comes w None = w
+ack_comes w (Some a) = record (replied w a.0 acknowledged) {
+  pending = pending_after a.1 w.pending;
+  acknowledged_ids = w.acknowledged_ids ++ a.1;
+}
+
+-- what is committed after a crash that keeps these of what the handler did
+abbrev pub committed_after : {F : Type 0} → World F → Name → (Entry F → Bool) → List (Entry F)
+committed_after w consumer keeps = w.committed ++ filter keeps (w.loose consumer)
+
+-- those of these ids that are ids of these entries
+abbrev pub among_ids : {F : Type 0} → List (Entry F) → List Id → List Id
+among_ids es ids = filter (listed (ids_of es)) ids
+
+-- a worker crashes, and is started again
+abbrev pub crashes : {F : Type 0} → World F → Name → ℕ → (Entry F → Bool) → List Id → World F
+crashes w consumer every keeps ids = record w {
+  workers = with_one w.workers consumer (begins_with every (among_ids (committed_after w consumer keeps) ids));
+  loose = with_one w.loose consumer [];
+  committed = committed_after w consumer keeps;
+}
+
+-- what an event makes of the world
+abbrev pub happens : {F : Type 0} → World F → Event F → World F
+happens w (Append id fields) = appended w id fields
+happens w (Delete id) = deleted_from w id
+happens w (Read consumer n) = read w consumer n
+happens w (Reread consumer pick) = read_again w consumer pick
+happens w (Claim consumer pick next) = claim w consumer pick next
+happens w (Claim_ids consumer pick) = record w { pending = claimed 0 pick consumer w.deleted w.pending }
+happens w (Comes which verdicts) = comes w which (item w.replies which) verdicts
+happens w (Commit consumer) = commits w consumer
+happens w (Acknowledge consumer) = record w { acks = (consumer, (w.workers consumer).to_acknowledge) ∷ w.acks }
+happens w (Ack_comes which) = ack_comes w (item w.acks which)
+happens w (Go_back consumer) = record w { workers = with_one w.workers consumer (begins_again (w.workers consumer)) }
+happens w (Crash consumer every keeps ids) = crashes w consumer every keeps ids
+
+-- a whole schedule
+abbrev pub run : {F : Type 0} → List (Event F) → World F → World F
+run [] w = w
+run (e ∷ es) w = run es (happens w e)

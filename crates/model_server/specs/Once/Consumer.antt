@@ -1,0 +1,91 @@
+-- A consumer that writes a line for each entry into a file of its own: a worker, its connection and the file.
+use Rattle.std.specs.Prelude.{ℕ, ◌+◌, ◌-◌, List, [], ◌∷◌, ◌++◌, drop, take, length, map, Bool, true, false, ◌&&◌}
+use Rattle.std.specs.Prelude.{Option, Some, None, if◌then◌else◌}
+use Rattle.std.specs.Option.{is_none}
+use Rattle.model_server.specs.Group.Worker.{Id, Entry, Verdict, Machine, Phase, own, claiming, reading, Answer}
+use Rattle.model_server.specs.Group.Worker.{own_pending, taken_over, news, entries_in, handled_in, start, after, after_commit}
+use Rattle.model_server.specs.Group.Worker.{begins_again, begins_with}
+use Rattle.model_server.specs.Group.Group.{Name, ids_of, given, whole, reread, claim_answer}
+use Rattle.model_server.specs.Group.World.{read, read_again, claim}
+use Rattle.model_server.specs.Group.World as group
+
+-- the consumer, its connection and its file. An entry is there as its line
+pub record Consumer (F : Type 0) : Type 0 where
+  pub machine : Machine
+  pub answer : Option (Answer F)  -- the reply on the way to it
+  pub lines : List (Entry F)  -- lines that it wrote, or will write, and has not synced
+  pub file : List (Entry F)  -- lines that no crash takes back
+  pub last_commit : ℕ  -- how many lines the last commit added
+
+-- one that is started on an empty file
+abbrev pub new_consumer : {F : Type 0} → Consumer F
+new_consumer = record { machine = start 1; answer = None; lines = []; file = []; last_commit = 0 }
+
+-- the list is empty
+abbrev pub is_empty : {A : Type 0} → List A → Bool
+is_empty [] = true
+is_empty (x ∷ xs) = false
+
+-- it asks for entries only if all that it did is committed and acknowledged, and no reply is on the way
+abbrev pub is_idle : {F : Type 0} → Consumer F → Bool
+is_idle c = is_none c.answer && (is_empty c.machine.to_commit && is_empty c.machine.to_acknowledge)
+
+-- it asks for what its phase says, with COUNT n, and of what is pending the server picks these: the stream then
+abbrev pub after_asking : {F : Type 0} → Name → ℕ → (Id → Bool) → Id → Phase → group.World F → group.World F
+after_asking name n pick next (own behind) w = read_again w name pick
+after_asking name n pick next (claiming from) w = claim w name pick next
+after_asking name n pick next (reading rounds) w = read w name n
+
+-- the reply
+abbrev pub answer_for : {F : Type 0} → Name → ℕ → (Id → Bool) → Id → Phase → group.World F → Answer F
+answer_for name n pick next (own behind) w = own_pending (reread pick name w.pending w.deleted w.seen)
+answer_for name n pick next (claiming from) w = taken_over next (claim_answer pick w.pending w.deleted w.seen)
+answer_for name n pick next (reading rounds) w = news (map whole (given w.deleted n w.fresh))
+
+-- a reply comes to it: its handler says this of the entries, and a line is added for each that it did
+abbrev pub takes : {F : Type 0} → List Verdict → Option (Answer F) → Consumer F → Consumer F
+takes verdicts None c = c
+takes verdicts (Some a) c = record c {
+  machine = after c.machine a verdicts;
+  answer = None;
+  lines = c.lines ++ handled_in (entries_in a) verdicts;
+}
+
+-- one write and one sync
+abbrev pub syncs : {F : Type 0} → Consumer F → Consumer F
+syncs c = record c {
+  machine = after_commit c.machine;
+  lines = [];
+  file = c.file ++ c.lines;
+  last_commit = length c.lines;
+}
+
+-- it commits, if no reply is on the way and all that was committed before is acknowledged
+abbrev pub commits : {F : Type 0} → Consumer F → Consumer F
+commits c = if is_none c.answer && is_empty c.machine.to_acknowledge then syncs c else c
+
+-- the last n lines of a file, or all
+abbrev pub last_lines : {F : Type 0} → ℕ → List (Entry F) → List (Entry F)
+last_lines n file = drop (length file - n) file
+
+-- how many lines the last commit added: if a crash cut a commit off, those lines of it that are in the file
+abbrev pub last_added : {F : Type 0} → ℕ → List (Entry F) → ℕ
+last_added before [] = before
+last_added before (e ∷ es) = length (e ∷ es)
+
+-- it crashes and is started again, to claim after `every` reads. The first `kept` lines of a commit that the crash cut
+-- off may be in the file all the same. It acknowledges what the last lines of its file name: those of the last commit,
+-- and `more` before them
+abbrev pub restarts : {F : Type 0} → (every kept more : ℕ) → Consumer F → Consumer F
+restarts every kept more c = record {
+  machine = begins_with every (ids_of
+      (last_lines (last_added c.last_commit (take kept c.lines) + more) (c.file ++ take kept c.lines)));
+  answer = None;
+  lines = [];
+  file = c.file ++ take kept c.lines;
+  last_commit = last_added c.last_commit (take kept c.lines);
+}
+
+-- its connection breaks: no reply comes, and it begins again with what is pending for it
+abbrev pub reconnects : {F : Type 0} → Consumer F → Consumer F
+reconnects c = record c { machine = begins_again c.machine; answer = None }

@@ -1,0 +1,88 @@
+-- A producer that adds numbered records to a stream, as a machine: what it asks, and what it makes of the replies.
+use Rattle.std.specs.Prelude.{ℕ, ◌+◌, ◌-◌, List, [], ◌∷◌, map, take, drop, length, Option, Some, None}
+use Rattle.model_server.specs.Group.Worker.{Entry}
+use Rattle.model_server.specs.Group.Group.{Numbers, id_text}
+
+-- the numbers of an id, and the record that is added with it
+abbrev pub Numbered : Type 0 → Type 0
+Numbered F = Numbers × F
+
+-- the records in order, each with its id: `(base + 1)-0`, `(base + 2)-0` and so on
+abbrev pub numbered : {F : Type 0} → ℕ → List F → List (Numbered F)
+numbered base [] = []
+numbered base (r ∷ rs) = ((base + 1, 0), r) ∷ numbered (base + 1) rs
+
+-- a record as it is in the stream
+abbrev pub as_entry : {F : Type 0} → Numbered F → Entry F
+as_entry r = (id_text r.0, r.1)
+
+-- the entries that the records make
+abbrev pub entries : {F : Type 0} → ℕ → List F → List (Entry F)
+entries base records = map as_entry (numbered base records)
+
+-- what the producer knows of the stream
+pub data Stage : Type 0 where
+  -- nothing: it asks for the last id
+  asking : Stage
+  -- the first `known` records are in the stream
+  knows : (known : ℕ) → Stage
+  -- the same, and it waits for the reply to a batch of the next `sent` records
+  waits : (known sent : ℕ) → Stage
+
+-- what it asks
+pub data Request (F : Type 0) : Type 0 where
+  -- XINFO STREAM, for the last id
+  ask_last : Request F
+  -- MULTI, an XADD of each record with its id, and EXEC
+  batch : (records : List (Numbered F)) → Request F
+
+-- what the server replies
+pub data Answer : Type 0 where
+  -- to a batch: each XADD added its record, or was refused since its id is not above the last one
+  executed : Answer
+  -- to either: it was refused, a batch whole
+  refused : Answer
+  -- to XINFO STREAM: the last id that was added, `0-0` if there is no stream
+  last_is : (last : Numbers) → Answer
+
+-- the next records after the first `known`, at most `count` of them
+abbrev pub next_batch : {F : Type 0} → ℕ → ℕ → List (Numbered F) → List (Numbered F)
+next_batch count known all = take count (drop known all)
+
+-- it asks to add these, and asks nothing if there are none
+abbrev pub adding : {F : Type 0} → List (Numbered F) → Option (Request F)
+adding [] = None
+adding (r ∷ rs) = Some (batch (r ∷ rs))
+
+-- then it waits for the reply, if there is one
+abbrev pub waiting : {F : Type 0} → ℕ → List (Numbered F) → Stage
+waiting known [] = knows known
+waiting known (r ∷ rs) = waits known (length (r ∷ rs))
+
+-- what it asks next, of all records: nothing while it waits, and nothing if all are in
+abbrev pub request : {F : Type 0} → ℕ → List (Numbered F) → Stage → Option (Request F)
+request count all asking = Some ask_last
+request count all (knows known) = adding (next_batch count known all)
+request count all (waits known sent) = None
+
+-- its stage once that was sent
+abbrev pub requested : {F : Type 0} → ℕ → List (Numbered F) → Stage → Stage
+requested count all asking = asking
+requested count all (knows known) = waiting known (next_batch count known all)
+requested count all (waits known sent) = waits known sent
+
+-- its stage once a reply came. The last id says how many records are in; after a refusal it asks for that again
+abbrev pub learns : ℕ → Stage → Answer → Stage
+learns base asking (last_is last) = knows (last.0 - base)
+learns base asking executed = asking
+learns base asking refused = asking
+learns base (waits known sent) executed = knows (known + sent)
+learns base (waits known sent) refused = asking
+learns base (waits known sent) (last_is last) = asking
+learns base (knows known) answer = asking
+
+-- how many records it takes to be in the stream
+abbrev pub known_in : Stage → ℕ
+known_in asking = 0
+known_in (knows known) = known
+known_in (waits known sent) = known

@@ -1,0 +1,51 @@
+-- Which pending entries a server delivers with COUNT n: the first n of them, in the order of the log.
+use Rattle.std.specs.Prelude.{ℕ, zero, suc, Bool, List, [], ◌∷◌, ◌+◌, codes, if◌then◌else◌}
+use Rattle.std.specs.Str.{bytes_eq}
+use Rattle.model_server.specs.Group.Worker.{Id, Entry}
+use Rattle.model_server.specs.Group.Group.{Name, Pending, listed, ids_of, own, pending_ids}
+
+module _ {F : Type 0} where
+  -- the entries from the one of this id on; all of them if none has this id
+  abbrev pub from_id : Id → List (Entry F) → List (Entry F)
+  from_id id [] = []
+  from_id id (e ∷ es) = if listed (ids_of es) id then from_id id es else e ∷ es
+
+  -- the entries after the one of this id; all of them if none has this id
+  abbrev pub behind_id : Id → List (Entry F) → List (Entry F)
+  behind_id id [] = []
+  behind_id id (e ∷ es) =
+      if listed (ids_of es) id then behind_id id es else (if bytes_eq e.0 id then es else e ∷ es)
+
+  -- the first n of those that are meant
+  abbrev pub first_of : ℕ → (Id → Bool) → List (Entry F) → List (Entry F)
+  first_of n meant [] = []
+  first_of zero meant (e ∷ es) = []
+  first_of (suc n) meant (e ∷ es) = if meant e.0 then e ∷ first_of n meant es else first_of (suc n) meant es
+
+  -- all entries from the next one on that is meant
+  abbrev pub beyond : ℕ → (Id → Bool) → List (Entry F) → List (Entry F)
+  beyond n meant [] = []
+  beyond zero meant (e ∷ es) = if meant e.0 then e ∷ es else beyond zero meant es
+  beyond (suc n) meant (e ∷ es) = if meant e.0 then beyond n meant es else beyond (suc n) meant es
+
+  -- how many are meant
+  abbrev pub how_many : (Id → Bool) → List (Entry F) → ℕ
+  how_many meant [] = 0
+  how_many meant (e ∷ es) = if meant e.0 then 1 + how_many meant es else how_many meant es
+
+  -- the id of the first one, and `0-0` if there is none
+  abbrev pub first_id : List (Entry F) → Id
+  first_id [] = codes "0-0"
+  first_id (e ∷ es) = e.0
+
+  -- XREADGROUP after an id: the first n that are pending for the consumer
+  abbrev pub own_page : ℕ → Name → Id → List Pending → List (Entry F) → List (Entry F)
+  own_page n name id pending seen = first_of n (listed (own name pending)) (behind_id id seen)
+
+  -- XAUTOCLAIM from an id on: the first n that are pending, for whomever
+  abbrev pub claim_page : ℕ → Id → List Pending → List (Entry F) → List (Entry F)
+  claim_page n id pending seen = first_of n (listed (pending_ids pending)) (from_id id seen)
+
+  -- and where the next claim goes on: at the next one that is pending, or `0-0` at the end
+  abbrev pub next_claim : ℕ → Id → List Pending → List (Entry F) → Id
+  next_claim n id pending seen = first_id (beyond n (listed (pending_ids pending)) (from_id id seen))

@@ -1,0 +1,122 @@
+-- A stream with its group, the file of each worker, and the letters of what was given up; and what may happen.
+use Rattle.std.specs.Prelude.{◌≡◌, ℕ, List, [], ◌∷◌, ◌++◌, ◌==◌, ◌&&◌, ◌||◌, Bool, true, false, not, filter, flat_map}
+use Rattle.std.specs.Prelude.{if◌then◌else◌}
+use Rattle.worker_journal.specs.EntryLine.{Entry}
+use Rattle.worker_journal.specs.Lines.{HasNoEnd}
+use Rattle.model_server.specs.Group.Worker.{Id}
+use Rattle.model_server.specs.Group.Group.{Name}
+use Rattle.model_server.specs.Group.World.{World, Commit, Crash, empty_world, with_one, committed_after, among_ids}
+use Rattle.model_server.specs.Group.World as group
+
+-- names and values, in order
+abbrev pub Fields : Type 0
+Fields = List (List ℕ × List ℕ)
+
+-- how an entry is written as a line: no line ends within it, and two entries with the same line are the same
+pub record Form : Type 0 where
+  pub line : Entry → List ℕ
+  pub whole : (e : Entry) → HasNoEnd (line e)
+  pub tells : (a b : Entry) → line a ≡ line b → a ≡ b
+
+-- the lines of entries, each with its end
+abbrev pub lines : Form → List Entry → List ℕ
+lines form es = flat_map (λ e. form.line e ++ 10 ∷ []) es
+
+-- a line ends among these bytes
+abbrev pub has_end : List ℕ → Bool
+has_end [] = false
+has_end (b ∷ bs) = b == 10 || has_end bs
+
+-- the bytes up to the last line feed: what is left once a file is opened and repaired
+abbrev pub whole_lines : List ℕ → List ℕ
+whole_lines [] = []
+whole_lines (b ∷ bs) = if has_end (b ∷ bs) then b ∷ whole_lines bs else []
+
+-- these bytes begin with those
+abbrev pub begins : List ℕ → List ℕ → Bool
+begins [] bytes = true
+begins (x ∷ xs) [] = false
+begins (x ∷ xs) (b ∷ bs) = x == b && begins xs bs
+
+-- a line of these bytes is this one; the first line begins at once, or after the next line feed
+abbrev pub has_line_from : Bool → List ℕ → List ℕ → Bool
+has_line_from at_once line [] = false
+has_line_from at_once line (b ∷ bs) =
+    (at_once && begins (line ++ 10 ∷ []) (b ∷ bs)) || has_line_from (b == 10) line bs
+
+-- a line of these bytes is that of the entry
+abbrev pub is_in : Form → List ℕ → Entry → Bool
+is_in form bytes e = has_line_from true (form.line e) bytes
+
+pub record Files : Type 0 where
+  pub stream : World Fields  -- the stream, its group and its workers
+  pub file : Name → List ℕ  -- of each worker's file the bytes that no crash takes back
+  pub letters : List Entry  -- the entries whose letter was added, and the reply to that came
+
+-- nothing was added yet, and each worker has opened its file, which had these bytes before
+abbrev pub first_files : (Name → List ℕ) → Files
+first_files before = record { stream = empty_world; file = λ name. whole_lines (before name); letters = [] }
+
+-- what may happen next. A commit that fails is no event: no byte of it is committed
+pub data Event : Type 0 where
+  -- something of `stream_group`
+  Goes : (event : group.Event Fields) → Event
+  -- a worker commits what its handler did. Each of these entries was given up: its letter was added, and the reply
+  -- came. Of each other entry a line is written and synced
+  Commits : (consumer : Name) (gives_up : Entry → Bool) → Event
+  -- a worker crashes, and is started again. Its file has what was committed and any bytes after it, and is cut after
+  -- its last line feed. What its handler did and is a line of the file is committed. It reads lines of its file back,
+  -- and begins to acknowledge those of these ids that they name
+  Reopens : (consumer : Name) (every : ℕ) (torn : List ℕ) (ids : List Id) → Event
+
+-- the lines that a commit writes
+abbrev pub batch : Form → Files → Name → (Entry → Bool) → List ℕ
+batch form f consumer gives_up = lines form (filter (λ e. not (gives_up e)) (f.stream.loose consumer))
+
+-- a worker's lines are committed, and its letters were added
+abbrev pub commits : Form → Files → Name → (Entry → Bool) → Files
+commits form f consumer gives_up = record {
+  stream = group.happens f.stream (Commit consumer);
+  file = with_one f.file consumer (f.file consumer ++ batch form f consumer gives_up);
+  letters = f.letters ++ filter gives_up (f.stream.loose consumer);
+}
+
+-- the file of a worker after a crash that left these bytes after what is committed
+abbrev pub repaired : Files → Name → List ℕ → List ℕ
+repaired f consumer torn = whole_lines (f.file consumer ++ torn)
+
+-- of all that is committed then, what is a line of that file
+abbrev pub read_back : Form → Files → Name → List ℕ → List Entry
+read_back form f consumer torn =
+    let is_there : Entry → Bool = is_in form (repaired f consumer torn) in
+    filter is_there (committed_after f.stream consumer is_there)
+
+-- the crash of `stream_group` that this is
+abbrev pub crash_of : Form → Files → Name → ℕ → List ℕ → List Id → group.Event Fields
+crash_of form f consumer every torn ids =
+    Crash consumer every (is_in form (repaired f consumer torn)) (among_ids (read_back form f consumer torn) ids)
+
+-- a worker has the whole lines of what a crash left, and begins to acknowledge those of these ids that are in it
+abbrev pub reopens : Form → Files → Name → ℕ → List ℕ → List Id → Files
+reopens form f consumer every torn ids = record {
+  stream = group.happens f.stream (crash_of form f consumer every torn ids);
+  file = with_one f.file consumer (repaired f consumer torn);
+  letters = f.letters;
+}
+
+-- an event of `stream_group`: a commit gives up nothing, and a crash leaves nothing but what is committed
+abbrev pub goes : Form → Files → group.Event Fields → Files
+goes form f (Commit consumer) = commits form f consumer (λ e. false)
+goes form f (Crash consumer every keeps ids) = reopens form f consumer every [] ids
+goes form f event = record f { stream = group.happens f.stream event }
+
+-- what an event makes of the files
+abbrev pub happens : Form → Files → Event → Files
+happens form f (Goes event) = goes form f event
+happens form f (Commits consumer gives_up) = commits form f consumer gives_up
+happens form f (Reopens consumer every torn ids) = reopens form f consumer every torn ids
+
+-- a whole schedule
+abbrev pub run : Form → List Event → Files → Files
+run form [] f = f
+run form (e ∷ es) f = run form es (happens form f e)

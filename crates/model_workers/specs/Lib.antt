@@ -1,0 +1,5 @@
+-- The definitions of this crate, by subject.
+pub mod Failover
+pub mod Files
+pub mod Loops
+pub mod System

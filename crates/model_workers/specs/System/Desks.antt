@@ -1,0 +1,115 @@
+-- What a queue of dead letters does in the code, as moves.
+use Rattle.std.specs.Prelude.{◌≡◌, ◌≢◌, ◌⊎◌, ℕ, List, [], ◌∷◌, ◌++◌, codes, flat_map}
+use Rattle.redis_wire.specs.Packed.{command_bytes}
+use Rattle.worker_journal.specs.EntryLine.{Entry}
+use Rattle.model_server.specs.Group.Worker.{Id}
+use Rattle.model_server.specs.Group.Group.{Name}
+use Rattle.model_workers.specs.Files.Files.{Fields, Form}
+use Rattle.worker.specs.Letters.{after_letter, letter_asks, letter_bytes, letter_sentence}
+use Rattle.worker.specs.Letters as letters
+use Rattle.worker.specs.declared.letters.LetterAsked.{LetterAsked}
+use Rattle.worker.specs.declared.letters.LetterAsked.TheVariants as asked
+use Rattle.worker.specs.declared.state.Settings.{Settings}
+use Rattle.model_workers.specs.System.System.{System, Desk, Move, Posts, Adds_letter}
+use Rattle.model_workers.specs.System.System.{Sends_ack, Settles, Restarts, new_desk, lettered_now, acknowledges_now}
+use Rattle.model_workers.specs.System.System.{moves, run}
+
+-- a stream, its group, and the stream of dead letters
+abbrev pub Names : Type 0
+Names = List ℕ × List ℕ × List ℕ
+
+-- names and values by turns, as a command has them
+abbrev pub words_of : Fields → List (List ℕ)
+words_of fields = flat_map (λ f. f.0 ∷ f.1 ∷ []) fields
+
+-- the bytes of the XADD of an entry's letter, if it was delivered this often
+abbrev pub letter_for : List ℕ → Entry → ℕ → List ℕ
+letter_for dead e deliveries = command_bytes (letter_sentence dead e.0 deliveries (words_of e.1))
+
+-- an id and bytes are those of this entry, and of its letter
+abbrev pub IsLetter : List ℕ → Id × List ℕ → Entry → Type 0
+IsLetter dead l e = (l.0 ≡ e.0) × ((deliveries : ℕ) × (l.1 ≡ letter_for dead e deliveries))
+
+-- so are these, in order
+abbrev pub AreLetters : List ℕ → List (Id × List ℕ) → List Entry → Type 0
+AreLetters dead [] [] = Unit {0}
+AreLetters dead [] (e ∷ es) = ⊥
+AreLetters dead (l ∷ ls) [] = ⊥
+AreLetters dead (l ∷ ls) (e ∷ es) = IsLetter dead l e × AreLetters dead ls es
+
+-- the queue of the contracts is this queue of the system
+pub record IsDesk (dead : List ℕ) (d : letters.Desk) (t : Desk) : Type 0 where
+  pub waiting : AreLetters dead d.waiting t.waiting
+  pub added : d.added ≡ t.added
+
+-- a queue sends this: nothing if it is empty; the XADD of the next letter; or the XACK of just what it acknowledges
+-- in the system
+abbrev pub AsksFor : Names → letters.Desk → Desk → LetterAsked → Type 0
+AsksFor names d t asked.Nothing = (t.waiting ≡ []) × (letter_bytes names d ≡ [])
+AsksFor names d t asked.Add = (e : Entry) × (deliveries : ℕ) × (lettered_now t ≡ e ∷ [])
+    × (letter_bytes names d ≡ letter_for names.2 e deliveries)
+AsksFor names d t asked.Acknowledge = (id : Id) × (acknowledges_now t ≡ id ∷ [])
+    × (letter_bytes names d ≡ command_bytes (codes "XACK" ∷ names.0 ∷ names.1 ∷ acknowledges_now t))
+
+-- so it is of whatever it sends
+abbrev pub AsksAsItDoes : Type 0
+AsksAsItDoes = (names : Names) (d : letters.Desk) (t : Desk) → IsDesk names.2 d t → AsksFor names d t (letter_asks d)
+
+-- the moves of a queue that sent this and got the reply that it wanted
+abbrev pub moves_after : Name → ℕ → LetterAsked → List Move
+moves_after name which asked.Nothing = []
+moves_after name which asked.Add = Adds_letter name ∷ []
+moves_after name which asked.Acknowledge = Sends_ack name ∷ Settles name which ∷ []
+
+-- these moves lead to the queue after such a reply
+abbrev pub LettersAreMoves : Type 0
+LettersAreMoves = (form : Form) (s : System) (name : Name) (which : ℕ) (dead : List ℕ) (d : letters.Desk)
+    → IsDesk dead d (s.desks name)
+    → IsDesk dead (after_letter (letter_asks d) d) ((run form (moves_after name which (letter_asks d)) s).desks name)
+
+-- an entry that the queue has now and had not before was put into it
+abbrev pub PostsAreMoves : Type 0
+PostsAreMoves = (form : Form) (s : System) (name : Name) (which : ℕ) (dead : List ℕ) (d : letters.Desk) (e : Entry)
+    (deliveries : ℕ) → IsDesk dead d (s.desks name)
+    → IsDesk dead (record d { waiting = d.waiting ++ (e.0, letter_for dead e deliveries) ∷ [] })
+    ((moves form s (Posts name which e)).desks name)
+
+-- a worker that is started has a new queue
+abbrev pub StartsWithANewDesk : Type 0
+StartsWithANewDesk = (form : Form) (s : System) (name : Name) (settings : Settings) (torn : List ℕ) (ids : List Id)
+    (before : List Entry) → (moves form s (Restarts name settings torn ids before)).desks name ≡ new_desk
+
+-- the move is one of the queue of this worker
+abbrev pub IsOfDesk : Name → Move → Type 0
+IsOfDesk name (Posts other which e) = other ≡ name
+IsOfDesk name (Adds_letter other) = other ≡ name
+IsOfDesk name (Sends_ack other) = other ≡ name
+IsOfDesk name (Settles other which) = other ≡ name
+IsOfDesk name move = ⊥
+
+-- each of these is
+abbrev pub AreOfDesk : Name → List Move → Type 0
+AreOfDesk name [] = Unit {0}
+AreOfDesk name (m ∷ ms) = IsOfDesk name m × AreOfDesk name ms
+
+-- the move is the server's, or a worker's, or of another queue; no crash of this worker
+abbrev pub IsElsewhere : Name → Move → Type 0
+IsElsewhere name (Posts other which e) = other ≢ name
+IsElsewhere name (Adds_letter other) = other ≢ name
+IsElsewhere name (Sends_ack other) = other ≢ name
+IsElsewhere name (Settles other which) = other ≢ name
+IsElsewhere name (Restarts other settings torn ids before) = other ≢ name
+IsElsewhere name move = Unit {0}
+
+-- these moves of the queue in this order, and between them any moves from elsewhere
+abbrev pub IsMixed : Name → List Move → List Move → Type 0
+IsMixed name [] [] = Unit {0}
+IsMixed name (o ∷ own) [] = ⊥
+IsMixed name [] (m ∷ ms) = IsElsewhere name m × IsMixed name [] ms
+IsMixed name (o ∷ own) (m ∷ ms) =
+    ((m ≡ o) × IsMixed name own ms) ⊎ (IsElsewhere name m × IsMixed name (o ∷ own) ms)
+
+-- moves from elsewhere change nothing of what the queue's own lead to
+abbrev pub OthersLeaveTheDesk : Type 0
+OthersLeaveTheDesk = (form : Form) (name : Name) (own ms : List Move) (s : System) → AreOfDesk name own
+    → IsMixed name own ms → (run form ms s).desks name ≡ (run form own s).desks name

@@ -1,0 +1,87 @@
+-- That each entry is in a file or has a letter, whatever happens.
+use Rattle.std.specs.Prelude.{◌≡◌, ◌⊎◌, ℕ, List, [], ◌∷◌, ◌++◌, Option, Some, None}
+use Rattle.worker_journal.specs.EntryLine.{Entry}
+use Rattle.worker_journal.specs.Lines.{StartsWith}
+use Rattle.model_server.specs.Group.Worker.{Id, taken_over}
+use Rattle.model_server.specs.Group.Group.{Name, pending_ids}
+use Rattle.model_server.specs.Group.World.{item}
+use Rattle.model_server.specs.Group.Law.{Among}
+use Rattle.model_workers.specs.Files.Files.{Fields, Form}
+use Rattle.model_workers.specs.Files.Law.{IsLineIn}
+use Rattle.worker.specs.Answers.{Heard, told, no_group, group_made}
+use Rattle.model_workers.specs.System.System.{System, Move, Hears, Posts, first_system, heard}
+use Rattle.model_workers.specs.System.System.{moves, run}
+
+-- a worker got these entries by the reply of that number, which is on its way to it
+abbrev pub IsReplyTo : System → Name → ℕ → Option Heard → Type 0
+IsReplyTo s name which None = Unit {0}
+IsReplyTo s name which (Some (told answer)) =
+    item s.server.replies which ≡ Some (record { consumer = name; answer = answer })
+IsReplyTo s name which (Some no_group) = Unit {0}
+IsReplyTo s name which (Some group_made) = Unit {0}
+
+-- the reply of that number, which is on its way to the worker, has just this entry
+abbrev pub HasClaimed : System → Name → ℕ → Entry → Type 0
+HasClaimed s name which e = (next : Id)
+    × (item s.server.replies which ≡ Some (record { consumer = name; answer = taken_over next ((e.0, Some e.1) ∷ []) }))
+
+-- a worker takes only a reply that is on its way to it, and so does its queue of dead letters
+abbrev pub HearsTruly : System → Move → Type 0
+HearsTruly s (Hears name settings which reply verdicts) =
+    IsReplyTo s name which (heard settings (s.workers name) reply)
+HearsTruly s (Posts name which e) = HasClaimed s name which e
+HearsTruly s move = Unit {0}
+
+-- so it is in each of these moves, from this system on
+abbrev pub AllHearTruly : Form → System → List Move → Type 0
+AllHearTruly form s [] = Unit {0}
+AllHearTruly form s (m ∷ ms) = HearsTruly s m × AllHearTruly form (moves form s m) ms
+
+-- each entry that was ever added
+abbrev pub log : System → List Entry
+log s = s.server.seen ++ s.server.fresh
+
+-- the entry is a line of some worker's file, whatever a crash leaves of it
+abbrev pub IsInAFile : Form → System → Entry → Type 0
+IsInAFile form s e =
+    (name : Name) × ((bytes : List ℕ) → StartsWith (s.file name) bytes → IsLineIn (form.line e) bytes)
+
+-- the letter of the entry was added, and the reply to that came
+abbrev pub HasLetter : System → Entry → Type 0
+HasLetter s e = Among e s.letters
+
+-- the entry is still to come; or it is pending; or it is in a file; or it has a letter; or it was deleted
+abbrev pub IsKept : Form → System → Entry → Type 0
+IsKept form s e = Among e s.server.fresh
+    ⊎ (Among e.0 (pending_ids s.server.pending) ⊎ (IsInAFile form s e ⊎ (HasLetter s e ⊎ Among e.0 s.server.deleted)))
+
+-- the system after these moves
+abbrev pub after : Form → (Name → List ℕ) → List Move → System
+after form before ms = run form ms (first_system before)
+
+-- each entry that was ever added is kept, whatever happened before and happens after
+abbrev pub EachEntryIsKept : Type 0
+EachEntryIsKept = (form : Form) (before : Name → List ℕ) (ms more : List Move)
+    → AllHearTruly form (first_system before) ms → AllHearTruly form (after form before ms) more → (e : Entry)
+    → Among e (log (after form before ms)) → IsKept form (run form more (after form before ms)) e
+
+-- an entry of this id is in a file or has a letter; or it was deleted
+abbrev pub IsSettled : Form → System → Id → Type 0
+IsSettled form s id =
+    ((fields : Fields) × (IsInAFile form s (id, fields) ⊎ HasLetter s (id, fields))) ⊎ Among id s.server.deleted
+
+-- so is each id that an acknowledgement named
+abbrev pub AcknowledgedIsSettled : Type 0
+AcknowledgedIsSettled = (form : Form) (before : Name → List ℕ) (ms : List Move)
+    → AllHearTruly form (first_system before) ms → (id : Id)
+    → Among id (after form before ms).server.acknowledged_ids → IsSettled form (after form before ms) id
+
+-- a letter stays
+abbrev pub LettersStay : Type 0
+LettersStay = (form : Form) (s : System) (ms : List Move) (e : Entry) → HasLetter s e → HasLetter (run form ms s) e
+
+-- each letter is that of an entry that was added, with its own fields
+abbrev pub LettersAreOfTheLog : Type 0
+LettersAreOfTheLog = (form : Form) (before : Name → List ℕ) (ms : List Move)
+    → AllHearTruly form (first_system before) ms → (e : Entry) → HasLetter (after form before ms) e
+    → Among e (log (after form before ms))

@@ -1,0 +1,345 @@
+-- The code of a worker with its file is the consumer of `stream_once`. Its rounds, failures and starts are events of
+-- that model.
+use Rattle.std.specs.Prelude.{◌≡◌, ◌≤◌, ◌⊎◌, ℕ, ◌-◌, List, [], ◌∷◌, ◌++◌, take, Bool, Option, Some, None}
+use Rattle.std.specs.Prelude.{if◌then◌else◌}
+use mathlib.Core.Logic.{inl, inr}
+use Rattle.redis_connection.specs.Link.{Link}
+use Rattle.redis_resp.specs.Tree.{Tree}
+use Rattle.redis_wire.specs.Reply as wire
+use Rattle.model_server.specs.Group.Worker.{Id, Entry, Verdict, Machine, Answer, acknowledged, Phase}
+use Rattle.model_server.specs.Group.Group.{Name, ids_of, pending_ids}
+use Rattle.model_server.specs.Group.World as group
+use Rattle.model_server.specs.Group.Law.{Among}
+use Rattle.model_server.specs.Once.Consumer.{Consumer, answer_for, last_added, last_lines}
+use Rattle.model_server.specs.Once.Feed.{entries}
+use Rattle.model_server.specs.Once.Law.{Fit, Once, NoOtherAdds, NoOtherAcks, IsDone, IsDrained, AreFirst, after, log}
+use Rattle.model_server.specs.Once.Order.{AllInOrder}
+use Rattle.model_server.specs.Once.Within.{AllWithin}
+use Rattle.model_server.specs.Once.World.{Setting, World, Event, Send, Arrive, Arrive_late, Hear, Break, Ask, Take, Sync}
+use Rattle.model_server.specs.Once.World.{Acknowledge_now, Acknowledge_later, Reconnect, Restart, Else, first_world, run}
+use Rattle.model_workers.specs.Files.Files.{Fields}
+use Rattle.worker.specs.Answered.{Failed, WasCut}
+use Rattle.worker.specs.Answers.{Heard, told, no_group, group_made, hears}
+use Rattle.worker.specs.Gathered.{Doings, done_too, committed_too}
+use Rattle.worker.specs.Life.{done_before}
+use Rattle.worker.specs.Machine.{commits, at_request}
+use Rattle.worker.specs.Questions.{count_asked}
+use Rattle.worker.specs.Session.{Standing, standing_of, Turn, Turned, Fails, Rounds, asking}
+use Rattle.worker.specs.Session.{EndsBy, after_turn}
+use Rattle.worker.specs.declared.error.RequestError.{RequestError}
+use Rattle.worker.specs.declared.error.RequestError.TheVariants.{NotCommitted, TooLong, Memory}
+use Rattle.worker.specs.declared.error.RunError.{RunError}
+use Rattle.worker.specs.declared.error.RunError.TheVariants as causes
+use Rattle.worker.specs.declared.error.WorkerError.{WorkerError}
+use Rattle.worker.specs.declared.error.WorkerError.TheVariants as faults
+use Rattle.worker.specs.declared.state.Asked.{Asked}
+use Rattle.worker.specs.declared.state.Settings.{Settings}
+use Rattle.worker.specs.declared.worker.Progress.{Progress}
+use Rattle.worker.specs.declared.worker.Worker.{Worker}
+use Rattle.model_workers.specs.System.Rounds.{IsStarted}
+
+-- between two rounds the worker is this consumer. Its handler did the consumer's lines and did not commit them, and it
+-- committed the consumer's file
+pub record IsConsumer (v : Standing Doings) (c : Consumer Fields) : Type 0 where
+  pub machine : c.machine ≡ v.machine
+  pub answer : c.answer ≡ None
+  pub lines : c.lines ≡ v.history.loose
+  pub file : c.file ≡ v.history.committed
+
+-- the event is the producer's, or one of the stream and of others: it is none of this consumer
+abbrev pub IsOfOthers : Event Fields → Type 0
+IsOfOthers (Send count) = Unit {0}
+IsOfOthers (Arrive executes) = Unit {0}
+IsOfOthers (Arrive_late which executes) = Unit {0}
+IsOfOthers Hear = Unit {0}
+IsOfOthers Break = Unit {0}
+IsOfOthers (Else event) = Unit {0}
+IsOfOthers event = ⊥
+
+-- so is each of these
+abbrev pub AreOfOthers : List (Event Fields) → Type 0
+AreOfOthers [] = Unit {0}
+AreOfOthers (e ∷ es) = IsOfOthers e × AreOfOthers es
+
+-- ---- a round
+
+-- what becomes of the question of a round
+pub data Fate : Type 0 where
+  -- it comes to the server in this round. Of pending entries the server picks these, and it says from which id the next
+  -- claim goes on
+  comes : (pick : Id → Bool) (next : Id) → Fate
+  -- the server refuses it, or it comes later, or never. A question for entries that comes later is an event of others
+  comes_not : Fate
+
+-- what others do in a round, and what becomes of its question
+pub record Meantime : Type 0 where
+  pub earlier : List (Event Fields)  -- after the commit, before the question comes to the server
+  pub fate : Fate
+  pub later : List (Event Fields)  -- after that, before the worker takes the reply
+  pub earlier_others : AreOfOthers earlier
+  pub later_others : AreOfOthers later
+
+-- a worker commits before it asks, if it commits
+abbrev pub committing : Machine → List (Event Fields)
+committing m = if commits m then Sync ∷ [] else []
+
+-- its question, with COUNT n: an XACK of these ids, and of entries if there are none
+abbrev pub question_events : ℕ → Fate → (to_acknowledge : List Id) → List (Event Fields)
+question_events n (comes pick next) [] = Ask n pick next ∷ []
+question_events n (comes pick next) (i ∷ ids) = Acknowledge_now ∷ []
+question_events n comes_not [] = []
+question_events n comes_not (i ∷ ids) = Acknowledge_later ∷ []
+
+-- the reply of the server to it, if the stream is this
+abbrev pub reply_to : Name → ℕ → Fate → (to_acknowledge : List Id) → Phase → group.World Fields
+    → Option (Answer Fields)
+reply_to name n (comes pick next) [] phase stream = Some (answer_for name n pick next phase stream)
+reply_to name n (comes pick next) (i ∷ ids) phase stream = Some acknowledged
+reply_to name n comes_not ids phase stream = None
+
+-- a worker hears what was sent to it. If nothing was, it hears of the group alone; or it hears nothing that it can use
+abbrev pub IsHeard : Option (Answer Fields) → Option Heard → Type 0
+IsHeard sent None = Unit {0}
+IsHeard sent (Some (told answer)) = sent ≡ Some answer
+IsHeard sent (Some no_group) = sent ≡ None
+IsHeard sent (Some group_made) = sent ≡ None
+
+module _ (settings : Settings) (v : Standing Doings) (m : Meantime) where
+  -- the number after COUNT in its request, if it requests entries
+  abbrev pub count : ℕ
+  count = count_asked settings (at_request v.machine).phase
+
+  -- what happens in a round until its question comes to the server
+  abbrev pub until_asked : List (Event Fields)
+  until_asked = committing v.machine ++ m.earlier
+
+  -- and until the worker has a reply
+  abbrev pub until_replied : List (Event Fields)
+  until_replied =
+      until_asked ++ (question_events count m.fate (at_request v.machine).to_acknowledge ++ m.later)
+
+  -- a round that returns Ok, in which the handler says this of the entries
+  abbrev pub round_events : List Verdict → List (Event Fields)
+  round_events verdicts = until_replied ++ Take verdicts ∷ []
+
+  -- the reply of the server, if the world was this as the round began
+  abbrev pub reply_in : Setting Fields → World Fields → Option (Answer Fields)
+  reply_in s w = reply_to s.name count m.fate (at_request v.machine).to_acknowledge
+      (at_request v.machine).phase (run s until_asked w).stream
+
+  -- the premise: the worker takes the reply of this server to its last question. It is assumed of the server, and of a
+  -- worker that has one connection at a time
+  abbrev pub HearsTheAnswer : Setting Fields → World Fields → wire.Answer → Type 0
+  HearsTheAnswer s w reply = IsHeard (reply_in s w) (hears settings (asking committed_too settings v).asked reply)
+
+-- after a round of the code that returns Ok, the worker is the consumer after these events
+abbrev pub RoundsAreEvents : Type 0
+RoundsAreEvents = (s : Setting Fields) (w : World Fields) (settings : Settings) (old new : Link)
+    (v x : Standing Doings) (asked : Asked) (p : Progress) (m : Meantime)
+    (t : Turned done_too committed_too settings old new v x asked p)
+    → IsConsumer v w.consumer → HearsTheAnswer settings v m s w t.turn.answer
+    → IsConsumer x (run s (round_events settings v m t.turn.verdicts) w).consumer
+
+-- ---- a round that fails
+
+-- if the worker asked nothing, it may have committed
+abbrev pub unasked_events : Machine → RequestError → List (Event Fields)
+unasked_events m NotCommitted = []
+unasked_events m TooLong = committing m
+unasked_events m Memory = committing m
+
+-- memory ran out before the first entry, or after some were handled
+abbrev pub cut_by : {A : Type 0} {settings : Settings} {asked : Asked} {t : Tree} {m n : Machine} {r s : Doings}
+    → A ⊎ WasCut done_too settings asked t m n r s → List (Event Fields)
+cut_by (inl none) = []
+cut_by (inr some) = Take some.took.verdicts ∷ []
+
+module _ (settings : Settings) (asked : Asked) (a : wire.Answer) (m n : Machine) (r s : Doings) where
+  -- what was handled of a reply that did not bring the worker on
+  abbrev pub handled_of : (e : WorkerError) → Failed done_too settings asked a m n r s e → List (Event Fields)
+  handled_of faults.Memory f = cut_by f.2
+  handled_of e f = []
+
+module _ (settings : Settings) (old new : Link) (v x : Standing Doings) (m : Meantime) where
+  -- a round that fails: the worker asked nothing; or it takes nothing of the reply, or a part, and begins again
+  abbrev pub failure_events : (e : RunError) → Fails done_too committed_too settings old new v x e → List (Event Fields)
+  failure_events (causes.Request e) f = unasked_events v.machine e
+  failure_events (causes.Send e) f = until_replied settings v m ++ Reconnect ∷ []
+  failure_events (causes.Receive named e) f = until_replied settings v m ++ Reconnect ∷ []
+  failure_events (causes.Answer e) f =
+      let u : Standing Doings = asking committed_too settings v in
+      until_replied settings v m
+      ++ (handled_of settings u.asked f.1.0 u.machine f.0.machine u.history f.0.history e.error f.1.2 ++ Reconnect ∷ [])
+
+  -- the same premise of the reply, if one came
+  abbrev pub FailsHearing : Setting Fields → World Fields → (e : RunError)
+      → Fails done_too committed_too settings old new v x e → Type 0
+  FailsHearing s w (causes.Request e) f = Unit {0}
+  FailsHearing s w (causes.Send e) f = Unit {0}
+  FailsHearing s w (causes.Receive named e) f = Unit {0}
+  FailsHearing s w (causes.Answer e) f = HearsTheAnswer settings v m s w f.1.0
+
+-- after it the worker is the consumer after these events
+abbrev pub FailuresAreEvents : Type 0
+FailuresAreEvents = (s : Setting Fields) (w : World Fields) (settings : Settings) (old new : Link)
+    (v x : Standing Doings) (e : RunError) (m : Meantime)
+    (f : Fails done_too committed_too settings old new v x e)
+    → IsConsumer v w.consumer → FailsHearing settings old new v x m s w e f
+    → IsConsumer x (run s (failure_events settings old new v x m e f) w).consumer
+
+-- ---- a crash and a start
+
+-- when a crash comes. No contract speaks of a call that does not return, so these moments are a premise
+pub data Moment : Type 0 where
+  -- between two rounds, or before the end of a commit
+  between : Moment
+  -- in a round, after its commit, and before it gave out the reply
+  within : (m : Meantime) → Moment
+
+-- what happened in that round
+abbrev pub events_until : Settings → Standing Doings → Moment → List (Event Fields)
+events_until settings v between = []
+events_until settings v (within m) = until_replied settings v m
+
+-- what the worker and its handler are then
+abbrev pub standing_at : Settings → Standing Doings → Moment → Standing Doings
+standing_at settings v between = v
+standing_at settings v (within m) = asking committed_too settings v
+
+-- the entries whose lines a crash leaves in the file: all that were committed. Of the others the first `kept` are there too,
+-- if the crash cut a commit off
+abbrev pub file_left : Standing Doings → (kept : ℕ) → List (Entry Fields)
+file_left v kept = v.history.committed ++ take kept v.history.loose
+
+-- how many of them the last commit added, in this world
+abbrev pub added_last : World Fields → Standing Doings → (kept : ℕ) → ℕ
+added_last w v kept = last_added w.consumer.last_commit (take kept v.history.loose)
+
+-- a worker is started, and begins to acknowledge the ids of the last `number` lines of its file. These are at least the
+-- lines of the last commit. Its handler says that the entries of the file are committed
+pub record StartsOver (settings : Settings) (w : World Fields) (v x : Standing Doings) : Type 0 where
+  pub kept : ℕ
+  pub number : ℕ
+  pub worker : Worker
+  pub enough : added_last w v kept ≤ number
+  pub started : IsStarted settings (ids_of (last_lines number (file_left v kept))) worker
+  pub stands : x ≡ standing_of worker (done_before (file_left v kept))
+
+-- the crash and the start
+abbrev pub start_events : (settings : Settings) (w : World Fields) (v x : Standing Doings)
+    → StartsOver settings w v x → List (Event Fields)
+start_events settings w v x t = Restart settings.every t.kept (t.number - added_last w v t.kept) ∷ []
+
+module _ (s : Setting Fields) (settings with_settings : Settings) (w : World Fields) (v x : Standing Doings)
+    (moment : Moment) where
+  -- a crash at this moment, and a start with these settings
+  abbrev pub StartsAt : Type 0
+  StartsAt = StartsOver with_settings (run s (events_until settings v moment) w) (standing_at settings v moment) x
+
+  abbrev pub restart_events : StartsAt → List (Event Fields)
+  restart_events t = events_until settings v moment
+      ++ start_events with_settings (run s (events_until settings v moment) w) (standing_at settings v moment) x t
+
+-- after them the worker is the consumer after these events
+abbrev pub StartsAreEvents : Type 0
+StartsAreEvents = (s : Setting Fields) (w : World Fields) (settings with_settings : Settings) (v x : Standing Doings)
+    (moment : Moment) (t : StartsAt s settings with_settings w v x moment) → IsConsumer v w.consumer
+    → IsConsumer x (run s (restart_events s settings with_settings w v x moment t) w).consumer
+
+-- ---- a schedule
+
+-- a worker with these settings may be so after these events of the model. At first it is started over an empty file. Then
+-- others do something, or it makes a round, or a round of it fails, or a crash comes and it is started again
+pub data Runs (s : Setting Fields) : Settings → List (Event Fields) → Standing Doings → Type 0 where
+  begins : (settings : Settings) (worker : Worker) → IsStarted settings [] worker
+      → Runs s settings (Restart settings.every 0 0 ∷ []) (standing_of worker (done_before []))
+  waits : (settings : Settings) (events others : List (Event Fields)) (v : Standing Doings) → AreOfOthers others
+      → Runs s settings events v → Runs s settings (events ++ others) v
+  turns : (settings : Settings) (events : List (Event Fields)) (v : Standing Doings) (m : Meantime) (t : Turn)
+      (p : Progress) → EndsBy (hears settings (asking committed_too settings v).asked t.answer) t.verdicts p
+      → HearsTheAnswer settings v m s (after s events) t.answer → Runs s settings events v
+      → Runs s settings (events ++ round_events settings v m t.verdicts)
+      (after_turn done_too committed_too settings v t)
+  fails : (settings : Settings) (events : List (Event Fields)) (old new : Link) (v x : Standing Doings)
+      (e : RunError) (m : Meantime) (f : Fails done_too committed_too settings old new v x e)
+      → FailsHearing settings old new v x m s (after s events) e f
+      → Runs s settings events v → Runs s settings (events ++ failure_events settings old new v x m e f) x
+  restarts : (settings with_settings : Settings) (events : List (Event Fields)) (v x : Standing Doings)
+      (moment : Moment) (t : StartsAt s settings with_settings (after s events) v x moment) → Runs s settings events v
+      → Runs s with_settings (events ++ restart_events s settings with_settings (after s events) v x moment t) x
+
+-- a round that returns Ok is such a round. `Worker::round` makes one, and `Worker::round_pipelined` one or two
+abbrev pub RoundsRun : Type 0
+RoundsRun = (s : Setting Fields) (settings : Settings) (events : List (Event Fields)) (old new : Link)
+    (v x : Standing Doings) (asked : Asked) (p : Progress) (m : Meantime)
+    (t : Turned done_too committed_too settings old new v x asked p)
+    → HearsTheAnswer settings v m s (after s events) t.turn.answer
+    → Runs s settings events v → Runs s settings (events ++ round_events settings v m t.turn.verdicts) x
+
+module _ (s : Setting Fields) (settings : Settings) where
+  -- in each of these turns the worker takes the reply of this server
+  abbrev pub HearsEach : List (Event Fields) → Standing Doings → List Turn → List Meantime → Type 0
+  HearsEach events v [] ms = Unit {0}
+  HearsEach events v (t ∷ ts) [] = ⊥
+  HearsEach events v (t ∷ ts) (m ∷ ms) = HearsTheAnswer settings v m s (after s events) t.answer
+      × HearsEach (events ++ round_events settings v m t.verdicts) (after_turn done_too committed_too settings v t)
+      ts ms
+
+  -- the events of these turns
+  abbrev pub session_events : Standing Doings → List Turn → List Meantime → List (Event Fields)
+  session_events v [] ms = []
+  session_events v (t ∷ ts) [] = []
+  session_events v (t ∷ ts) (m ∷ ms) = round_events settings v m t.verdicts
+      ++ session_events (after_turn done_too committed_too settings v t) ts ms
+
+-- the rounds of `Worker::run` are such rounds, one after the other
+abbrev pub SessionsRun : Type 0
+SessionsRun = (s : Setting Fields) (settings : Settings) (events : List (Event Fields)) (old new : Link)
+    (v x : Standing Doings) (n : ℕ) (p : Progress) (r : Rounds done_too committed_too settings old new v x n p)
+    (ms : List Meantime) → HearsEach s settings events v r.turns ms
+    → Runs s settings events v → Runs s settings (events ++ session_events s settings v r.turns ms) x
+
+-- after each schedule it is the consumer of the model after these events
+abbrev pub RunsAreEvents : Type 0
+RunsAreEvents = (s : Setting Fields) (settings : Settings) (events : List (Event Fields)) (v : Standing Doings)
+    → Runs s settings events v → IsConsumer v (after s events).consumer
+
+-- a start reads back enough lines, if no reply ever had more entries than it reads lines
+abbrev pub StartsReadEnough : Type 0
+StartsReadEnough = (s : Setting Fields) (settings : Settings) (events : List (Event Fields)) (v : Standing Doings)
+    → Runs s settings events v → (moment : Moment) (number : ℕ)
+    → AllWithin number s first_world (events ++ events_until settings v moment) → (kept : ℕ)
+    → added_last (run s (events_until settings v moment) (after s events)) (standing_at settings v moment) kept ≤ number
+
+-- so no id is twice among the entries of its file, whoever adds to the stream
+abbrev pub CodeWritesOnce : Type 0
+CodeWritesOnce = (s : Setting Fields) (settings : Settings) (events : List (Event Fields)) (v : Standing Doings)
+    → Runs s settings events v → Once (ids_of v.history.committed)
+
+-- and each of them is of the log, with its own fields
+abbrev pub CodeWritesTheLog : Type 0
+CodeWritesTheLog = (s : Setting Fields) (settings : Settings) (events : List (Event Fields)) (v : Standing Doings)
+    → Runs s settings events v → (e : Entry Fields)
+    → Among e v.history.committed → Among e (log (after s events))
+
+-- each entry that was added is still to come, or pending, or in the file, or was deleted, if nobody else acknowledges
+abbrev pub CodeKeepsEach : Type 0
+CodeKeepsEach = (s : Setting Fields) (settings : Settings) (events : List (Event Fields)) (v : Standing Doings)
+    → Runs s settings events v → NoOtherAcks events → (e : Entry Fields)
+    → Among e (log (after s events))
+    → Among e (after s events).stream.fresh
+    ⊎ (Among e.0 (pending_ids (after s events).stream.pending)
+    ⊎ (Among e v.history.committed ⊎ Among e.0 (after s events).stream.deleted))
+
+-- the file is the first of the log, if the worker reads all in order
+abbrev pub CodeWritesInOrder : Type 0
+CodeWritesInOrder = (s : Setting Fields) (settings : Settings) (events : List (Event Fields)) (v : Standing Doings)
+    → Runs s settings events v → AllInOrder s first_world events
+    → AreFirst v.history.committed (log (after s events))
+
+-- and it is the records, once the producer is done and the stream drained, if nobody else adds
+abbrev pub CodeWritesTheRecords : Type 0
+CodeWritesTheRecords = (s : Setting Fields) → Fit s → (settings : Settings) (events : List (Event Fields))
+    (v : Standing Doings) → Runs s settings events v → NoOtherAdds events → AllInOrder s first_world events
+    → IsDone s (after s events) → IsDrained (after s events)
+    → v.history.committed ≡ entries s.base s.records

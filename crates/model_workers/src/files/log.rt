@@ -1,0 +1,29 @@
+//! The calls of `line_log` on a worker's file, in the words of the model.
+ghost use Rattle.std.specs.Prelude.{IfOk, OnErr, OnOk};
+ghost use Rattle.model_workers.specs.Files.Bound.{CommitsSo, KeepsSo, LeavesSo, OpensSo};
+
+use worker_journal::{LineLog, LogError, LogFile};
+use std::alloc::Global;
+
+/// Opens a worker's file. Whatever bytes a crash left after the committed ones, the log holds the
+/// file that the worker has after `Reopens`.
+pub fn open<D: LogFile + Drop>(alloc: Global, file: D) -> Result<LineLog<D>, LogError>
+    ensures { IfOk result (λ log. D.is_sound file
+        → OpensSo D.seen D.may_leave D.is_sound file log.file log.len log.is_broken) }
+{
+    LineLog::open(alloc, file)
+}
+
+/// Commits the lines that were gathered. After an Ok the log holds the file that the worker has
+/// after `Commits`; after an `Err` it holds the file that it held. A crash at any moment of the call
+/// leaves what `MayLeave` says.
+pub fn commit<D: LogFile + Drop>(log: &mut LineLog<D>) -> Result<(), LogError>
+    ensures committed { OnOk result (CommitsSo D.seen D.may_leave D.is_sound log.old.batch.items
+        log.old.file log.old.len log.old.is_broken log.new.file log.new.len log.new.is_broken) }
+    ensures failed { OnErr result (KeepsSo D.seen D.may_leave D.is_sound
+        log.old.file log.old.len log.old.is_broken log.new.file log.new.len log.new.is_broken) }
+    ensures any_moment { LeavesSo D.seen D.may_leave D.is_sound D.moment D.left_since
+        log.old.file log.old.len log.old.is_broken log.new.file }
+{
+    log.commit()
+}

@@ -1,0 +1,18 @@
+//! What a client of Redis Cluster computes by itself: the slot of a key, what an error of a node asks
+//! for, and the names of the partitions of a stream. Nothing here opens a connection.
+
+mod bytes;
+mod crc;
+mod error;
+pub mod laws;
+mod partition;
+mod reading;
+mod slot;
+mod step;
+
+pub use crc::crc16;
+pub use error::ClusterError;
+pub use partition::{partition_name, partition_of};
+pub use reading::cluster_error;
+pub use slot::{hash_tag, key_slot};
+pub use step::NextStep;

@@ -1,0 +1,35 @@
+//! The checksum that decides on the slot.
+ghost use Rattle.std.specs.Prelude.{◌≡◌};
+ghost use Rattle.redis_client.specs.Cluster.Crc.{crc16, with_bit, with_byte};
+
+/// CRC-16/XMODEM of the bytes: the polynomial 0x1021 from 0 on, the highest bit of each byte first.
+pub fn crc16(bytes: &[u8]) -> u16
+    ensures { result ≡ crc16 bytes.now }
+{
+    bytes.iter().fold(0, |crc, byte| with_byte(crc, *byte))
+}
+
+/// The checksum after one more byte.
+#[tactic(auto, unfolding(crate::specs::Cluster::Crc::with_bits))]
+fn with_byte(crc: u16, byte: u8) -> u16
+    ensures { result ≡ with_byte crc byte }
+{
+    let mut crc = crc;
+    for place in 0..8u8 {
+        crc = with_bit(crc, (byte >> (7 - place)) % 2);
+    }
+    crc
+}
+
+/// The checksum after one more bit.
+#[tactic(auto, unfolding(crate::specs::Cluster::Crc::with_bit))]
+fn with_bit(crc: u16, bit: u8) -> u16
+    ensures { result ≡ with_bit crc bit }
+{
+    let shifted = 2 * (crc % 0x8000);
+    if crc / 0x8000 == bit as u16 {
+        shifted
+    } else {
+        shifted ^ 0x1021
+    }
+}

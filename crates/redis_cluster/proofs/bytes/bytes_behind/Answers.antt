@@ -1,5 +1,0 @@
-use Rattle.redis_cluster.proofs.HeadLemmas.{behind_head}
-use Rattle.redis_cluster.proofs.bytes.bytes_behind.Goals as goal
-
-pub returns : goal.returns
-returns c = behind_head c.args.head.now c.args.bytes.now c.strip_prefix.result c.strip_prefix.ensures.cases

@@ -1,8 +1,0 @@
-use Rattle.std.proofs.Common.{◌≡◌, ◌++◌}
-use Rattle.reply_bench.specs.Answer.{entry_bytes, head_bytes}
-use Rattle.reply_bench.specs.Below.{below}
-use Rattle.reply_bench.proofs.answer.made.Given as goal
-
--- the entries so far
-abbrev pub invariant-loop-index : goal.invariant-loop-index
-invariant-loop-index l = l.bytes.items ≡ head_bytes l.fn.form l.fn.entries ++ below entry_bytes l.index

@@ -1,6 +1,0 @@
-use Rattle.std.proofs.Common.{◌≡◌, ◌∙◌}
-use Rattle.redis_resp.proofs.NumberLemmas.{unsigned_told}
-use Rattle.reply_bench.proofs.job.number_in.Goals as goal
-
-pub returns : goal.returns
-returns c = c.ok.ensures.value ∙ unsigned_told 64 c.args.word.now c.parse.result c.parse.ensures.value.0

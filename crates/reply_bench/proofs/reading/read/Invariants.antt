@@ -1,8 +1,0 @@
-use Rattle.std.specs.Option.{is_some}
-use Rattle.redis_resp.specs.Value.{tree}
-use Rattle.reply_bench.specs.Reading.{IsRead}
-use Rattle.reply_bench.proofs.reading.read.Given as goal
-
--- what was read so far has a record
-abbrev pub invariant-loop : goal.invariant-loop
-invariant-loop g l = IsRead l.way l.counter (is_some (g.T.FromRedisValue.reading (tree l.value)))

@@ -1,8 +1,0 @@
-use Rattle.row_table.specs.OfRow.{row_of}
-use Rattle.row_table.proofs.PutLemmas.{put_in}
-use Rattle.row_table.proofs.put.put.Goals as goal
-
-pub returns-then-branch-clause-there : goal.returns-then-branch-clause-there
-returns-then-branch-clause-there g c =
-    put_in (g.T.Table.seen c.args.table.now) (g.T.Table.seen c.insert.new.self) (row_of c.args.row.now)
-    (rw c.if-branch.true at c.in_ok-insert.ensures.told) c.in_ok-insert.ensures.seen

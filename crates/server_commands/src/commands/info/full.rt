@@ -1,0 +1,141 @@
+//! `XINFO STREAM key FULL`.
+ghost use Rattle.std.specs.Prelude.{IfOk};
+ghost use Rattle.server_commands.specs.Kinds.{IsInfo};
+
+use super::{head_rows, lag, maybe, put_rows};
+use crate::answer::Answer;
+use crate::commands::answers::{array, bytes_answer, length, number, put};
+use crate::commands::{entries_up, name_of};
+use std::alloc::{AllocError, Global};
+use server_store::{Consumer, EntryId, Group, Pending, Stream};
+
+/// The stream with its entries and groups, `most` of each kind at most.
+pub(super) fn stream_in_full(
+    alloc: Global,
+    stream: &Stream,
+    most: u64,
+) -> Result<Answer, AllocError>
+    ensures { IfOk result IsInfo }
+{
+    let most = if most == 0 { u64::MAX } else { most };
+    let mut rows = head_rows(alloc, stream)?;
+    let entries = entries_up(alloc, stream, EntryId::ZERO, EntryId::LAST, most)?;
+    let groups = groups_in_full(alloc, stream, most)?;
+    let rest = vec![in alloc;
+        ("entries", Answer::Array(entries)),
+        ("groups", Answer::Array(groups)),
+    ]?;
+    put_rows(alloc, &mut rows, rest)?;
+    Ok(Answer::Map(rows))
+}
+
+/// The groups of the stream.
+fn groups_in_full(alloc: Global, stream: &Stream, most: u64) -> Result<Vec<Answer>, AllocError> {
+    let mut groups = Vec::new(alloc);
+    for group in &stream.groups {
+        put(&mut groups, group_in_full(alloc, stream, group, most)?)?;
+    }
+    Ok(groups)
+}
+
+/// A group with what is pending, for all and for each of its consumers.
+fn group_in_full(
+    alloc: Global,
+    stream: &Stream,
+    group: &Group,
+    most: u64,
+) -> Result<Answer, AllocError> {
+    let name = bytes_answer(alloc, &group.name)?;
+    let pending = pending_rows(alloc, group, None, most)?;
+    let consumers = consumers_in_full(alloc, group, most)?;
+    let told = vec![in alloc;
+        ("name", name),
+        ("last-delivered-id", Answer::Id(group.last_id)),
+        ("entries-read", maybe(group.entries_read)),
+        ("lag", maybe(lag(stream, group))),
+        ("pel-count", length(group.pending.len())),
+        ("pending", Answer::Array(pending)),
+        ("consumers", Answer::Array(consumers)),
+    ]?;
+    let mut rows = Vec::new(alloc);
+    put_rows(alloc, &mut rows, told)?;
+    Ok(Answer::Map(rows))
+}
+
+/// The consumers of the group.
+fn consumers_in_full(alloc: Global, group: &Group, most: u64) -> Result<Vec<Answer>, AllocError> {
+    let mut consumers = Vec::new(alloc);
+    for consumer in &group.consumers {
+        put(
+            &mut consumers,
+            consumer_in_full(alloc, group, consumer, most)?,
+        )?;
+    }
+    Ok(consumers)
+}
+
+/// A consumer with what is pending for it.
+fn consumer_in_full(
+    alloc: Global,
+    group: &Group,
+    consumer: &Consumer,
+    most: u64,
+) -> Result<Answer, AllocError> {
+    let name = bytes_answer(alloc, &consumer.name)?;
+    let pending = pending_rows(alloc, group, Some(consumer.number), most)?;
+    let told = vec![in alloc;
+        ("name", name),
+        ("seen-time", number(consumer.seen_at)),
+        ("pel-count", number(consumer.pending)),
+        ("pending", Answer::Array(pending)),
+    ]?;
+    let mut rows = Vec::new(alloc);
+    put_rows(alloc, &mut rows, told)?;
+    Ok(Answer::Map(rows))
+}
+
+/// What is pending for all, or for the one consumer that is asked for.
+fn pending_rows(
+    alloc: Global,
+    group: &Group,
+    only: Option<u64>,
+    most: u64,
+) -> Result<Vec<Answer>, AllocError> {
+    let mut rows = Vec::new(alloc);
+    let mut left = most;
+    for pending in &group.pending {
+        if left == 0 {
+            break;
+        }
+        let pending = pending.get();
+        let is_wanted = match only {
+            Some(number) => pending.consumer == number,
+            None => true,
+        };
+        if is_wanted {
+            left -= 1;
+            put(
+                &mut rows,
+                pending_row(alloc, group, pending, only.is_some())?,
+            )?;
+        }
+    }
+    Ok(rows)
+}
+
+/// The id, the consumer's name unless one is asked for, when it was given, and how often.
+fn pending_row(
+    alloc: Global,
+    group: &Group,
+    pending: Pending,
+    is_asked_for: bool,
+) -> Result<Answer, AllocError> {
+    let id = Answer::Id(pending.id);
+    let given_at = number(pending.given_at);
+    let deliveries = number(pending.deliveries);
+    if is_asked_for {
+        return array(alloc, [id, given_at, deliveries]);
+    }
+    let name = bytes_answer(alloc, name_of(group, pending.consumer))?;
+    array(alloc, [id, name, given_at, deliveries])
+}

@@ -1,0 +1,86 @@
+//! `XRANGE`, `XREVRANGE`.
+ghost use Rattle.std.specs.Prelude.{IfOk};
+ghost use Rattle.server_commands.specs.Kinds.{IsArray};
+
+use super::answers::{entry_answer, put};
+use super::places::stream_of;
+use super::words::is_word;
+use super::{SYNTAX, count, entries_up, interval_end, interval_start};
+use crate::answer::Answer;
+use crate::refusal::Refusal;
+use std::alloc::{AllocError, Global};
+use server_store::{EntryId, Stream};
+
+/// `XRANGE key start end [COUNT count]`, and `XREVRANGE key end start [COUNT count]`
+pub(super) fn range(
+    alloc: Global,
+    streams: &[Stream],
+    is_reverse: bool,
+    arguments: &[Vec<u8>],
+) -> Result<Answer, Refusal>
+    ensures { IfOk result IsArray }
+{
+    let [key, left, right, options @ ..] = arguments else {
+        return Err(SYNTAX);
+    };
+    let (low, high) = if is_reverse {
+        (right, left)
+    } else {
+        (left, right)
+    };
+    let start = interval_start(low)?;
+    let end = interval_end(high)?;
+    let most = most_in(options)?;
+    let Some(stream) = stream_of(streams, key) else {
+        return Ok(Answer::Array(Vec::new(alloc)));
+    };
+    if most == 0 {
+        return Ok(Answer::NilArray);
+    }
+    if is_reverse {
+        Ok(Answer::Array(entries_down(alloc, stream, start, end, most)?))
+    } else {
+        Ok(Answer::Array(entries_up(alloc, stream, start, end, most)?))
+    }
+}
+
+/// `[COUNT count]`, no limit if it is missing; the last one counts.
+fn most_in(options: &[Vec<u8>]) -> Result<u64, Refusal> {
+    let mut most = u64::MAX;
+    let mut rest = options;
+    for _ in 0..options.len() {
+        match rest {
+            [] => break,
+            [word, text, behind @ ..] if is_word(word, "COUNT") => {
+                most = count(text)?;
+                rest = behind;
+            }
+            _ => return Err(SYNTAX),
+        }
+    }
+    Ok(most)
+}
+
+/// The last entries up to this id and from that one on, `most` at most, the last one first.
+fn entries_down(
+    alloc: Global,
+    stream: &Stream,
+    start: EntryId,
+    end: EntryId,
+    most: u64,
+) -> Result<Vec<Answer>, AllocError> {
+    let mut answers = Vec::new(alloc);
+    let mut left = most;
+    let behind = match stream.place(end) {
+        Ok(index) => index + 1,
+        Err(index) => index,
+    };
+    for entry in stream.entries.range(..behind).rev() {
+        if entry.id < start || left == 0 {
+            break;
+        }
+        left -= 1;
+        put(&mut answers, entry_answer(alloc, entry)?)?;
+    }
+    Ok(answers)
+}

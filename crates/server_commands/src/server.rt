@@ -1,0 +1,68 @@
+//! The server: its streams, and one command at a time.
+ghost use Rattle.std.specs.Prelude.{◌≡◌, [], IfOk, OnErr};
+ghost use Rattle.server_commands.specs.Server.{IsRefused};
+ghost use Rattle.server_commands.specs.Stepping.{XackSteps, XaddSteps, XautoclaimSteps, XdelSteps, XreadgroupSteps};
+ghost use Rattle.server_commands.specs.declared.session.Mode.TheVariants.{AtOnce};
+
+use crate::answer::Reply;
+use crate::session::Session;
+use crate::transaction;
+use std::alloc::{AllocError, Global};
+use std::marker::Model;
+use server_store::Stream;
+
+/// The streams of a server, by their keys.
+///
+/// A contract sees each stream without the capacity of its lists.
+#[derive(Debug, Drop)]
+pub struct Server {
+    streams: Vec<Stream>,
+}
+
+impl Model for Server {
+    ghost use Rattle.std.specs.Prelude.{List};
+    ghost use Rattle.server_store.specs.Stream.{Seen};
+
+    ghost Value = { List Seen };
+
+    ghost use Rattle.server_commands.specs.Streams.{seen_streams};
+
+    ghost view = { λ s. seen_streams s.streams };
+}
+
+impl Server {
+    /// A server without streams.
+    pub fn new(alloc: Global) -> Server
+        ensures { result ≡ [] }
+    {
+        Server {
+            streams: Vec::new(alloc),
+        }
+    }
+
+    /// Executes a command, its name and its arguments, at the time `now`, in milliseconds, and replies as
+    /// redis-server does, without ever blocking. After MULTI it is queued, and EXEC executes what is queued.
+    ///
+    /// A command that is refused changes no stream. An `Err` says that an allocation failed: it changes no
+    /// stream either, nor the session.
+    pub fn step(
+        &mut self,
+        alloc: Global,
+        now: u64,
+        session: &mut Session,
+        command: Vec<Vec<u8>>,
+    ) -> Result<Reply, AllocError>
+        ensures err { OnErr result (self.new ≡ self.old) }
+        ensures session { OnErr result (session.new ≡ session.old) }
+        ensures refused { IfOk result (λ r. IsRefused r → self.new ≡ self.old) }
+        ensures xack { IfOk result (λ r. session.old.mode ≡ AtOnce → XackSteps command.items r self.old self.new) }
+        ensures xdel { IfOk result (λ r. session.old.mode ≡ AtOnce → XdelSteps command.items r self.old self.new) }
+        ensures xadd { IfOk result (λ r. session.old.mode ≡ AtOnce → XaddSteps command.items r self.old self.new) }
+        ensures xautoclaim { IfOk result (λ r. session.old.mode ≡ AtOnce
+            → XautoclaimSteps command.items r self.old self.new) }
+        ensures xreadgroup { IfOk result (λ r. session.old.mode ≡ AtOnce
+            → XreadgroupSteps command.items r self.old self.new) }
+    {
+        transaction::answered(alloc, &mut self.streams, now, session, command)
+    }
+}

@@ -1,0 +1,250 @@
+//! Transactions: `MULTI`, `EXEC`, `DISCARD`, `WATCH`.
+ghost use Rattle.std.specs.Prelude.{◌≡◌, ◌≢◌, ◌<◌, ℕ, length, IfOk, OnErr};
+ghost use Rattle.std.specs.Global.{Vec};
+ghost use Rattle.server_commands.specs.Commands.{IsNamed, PlainReplies, Replies, least_of};
+ghost use Rattle.server_commands.specs.Server.{IsRefused};
+ghost use Rattle.server_commands.specs.Streams.{seen_streams};
+ghost use Rattle.server_commands.specs.declared.commands.Change.{Change};
+ghost use Rattle.server_commands.specs.declared.answer.Reply.TheVariants.{Refused};
+ghost use Rattle.server_commands.specs.declared.refusal.Refusal.TheVariants.{Memory};
+ghost use Rattle.server_commands.specs.declared.session.Mode.TheVariants.{AtOnce};
+
+use crate::answer::{Answer, Reply, Status};
+use crate::commands::{self, Command, Plain, Step};
+use crate::refusal::Refusal;
+use crate::session::{Mode, Queued, Session};
+use std::alloc::{AllocError, Global};
+use std::mem;
+use server_store::Stream;
+
+const NESTED: Refusal = Refusal::Fixed("ERR MULTI calls can not be nested");
+
+const WATCH_INSIDE: Refusal = Refusal::Fixed("ERR WATCH inside MULTI is not allowed");
+
+const NOT_BEGUN: Refusal = Refusal::Fixed("ERR EXEC without MULTI");
+
+const NONE_TO_DISCARD: Refusal = Refusal::Fixed("ERR DISCARD without MULTI");
+
+const ABORTED: Refusal = Refusal::Fixed(
+    "EXECABORT Transaction discarded because of previous errors.",
+);
+
+const WRONG_EXECUTE: Refusal = Refusal::Fixed(
+    "EXECABORT Transaction discarded because of: wrong number of arguments for 'exec' command",
+);
+
+/// The error of a command of a transaction if an allocation failed.
+const OUT_OF_MEMORY: &str = "OOM command not allowed when used memory > 'maxmemory'.";
+
+/// Executes a command, or queues it. If it is refused, no stream is changed.
+pub(crate) fn answered(
+    alloc: Global,
+    streams: &mut Vec<Stream>,
+    now: u64,
+    session: &mut Session,
+    words: Vec<Vec<u8>>,
+) -> Result<Reply, AllocError>
+    ensures done { IfOk result (λ r. session.old.mode ≡ AtOnce → (change : Change) → IsNamed change words.items
+        → least_of change < length words.items
+        → Replies change words.items now streams.old.items streams.new.items r) }
+    ensures err { OnErr result (seen_streams streams.new ≡ seen_streams streams.old) }
+    ensures session { OnErr result (session.new ≡ session.old) }
+    ensures refused { IfOk result (λ r. IsRefused r
+        → seen_streams streams.new ≡ seen_streams streams.old) }
+{
+    match commands::command_in(alloc, &words) {
+        Ok(Command::Transaction(step)) => execute_step(
+            alloc,
+            streams,
+            now,
+            session,
+            step,
+            words.len(),
+        ),
+        Ok(Command::Plain(command)) if session.mode == Mode::AtOnce => {
+            execute_now(alloc, streams, now, session, command, words)
+        }
+        Ok(Command::Plain(command)) => queued(session, command, words),
+        Err(refusal) => reject_command(alloc, session, refusal),
+    }
+}
+
+/// Does a command.
+fn execute_now(
+    alloc: Global,
+    streams: &mut Vec<Stream>,
+    now: u64,
+    session: &mut Session,
+    command: Plain,
+    words: Vec<Vec<u8>>,
+) -> Result<Reply, AllocError>
+    ensures done { IfOk result (PlainReplies command words.items now streams.old.items streams.new.items) }
+    ensures err { OnErr result (seen_streams streams.new ≡ seen_streams streams.old) }
+    ensures session { OnErr result (session.new ≡ session.old) }
+    ensures refused { IfOk result (λ r. IsRefused r
+        → seen_streams streams.new ≡ seen_streams streams.old) }
+{
+    match commands::run(alloc, streams, now, session, command, words) {
+        Ok(answer) => Ok(Reply::Done(answer)),
+        Err(refusal) => refused(alloc, refusal),
+    }
+}
+
+/// Queues a command; after an error in the transaction it is not kept.
+fn queued(session: &mut Session, command: Plain, words: Vec<Vec<u8>>) -> Result<Reply, AllocError>
+    ensures { OnErr result (session.new ≡ session.old) }
+{
+    if session.mode == Mode::Queued {
+        session.queue.push(Queued { command, words })?;
+    }
+    Ok(Reply::Done(Answer::Status(Status::Queued)))
+}
+
+/// Refuses a command before it is executed or queued: then the queued ones are not executed either.
+fn reject_command(
+    alloc: Global,
+    session: &mut Session,
+    refusal: Refusal,
+) -> Result<Reply, AllocError>
+    ensures { OnErr result (session.new ≡ session.old) }
+{
+    let reply = refused(alloc, refusal)?;
+    if session.mode != Mode::AtOnce {
+        session.mode = Mode::Aborted;
+    }
+    Ok(reply)
+}
+
+/// Replies that a command is refused.
+fn refused(alloc: Global, refusal: Refusal) -> Result<Reply, AllocError>
+    ensures { IfOk result (λ r. (refusal ≢ Memory) × (text : Vec ℕ) × (r ≡ Refused text)) }
+{
+    Ok(Reply::Refused(refusal.into_text(alloc)?))
+}
+
+/// Executes a command of a transaction.
+fn execute_step(
+    alloc: Global,
+    streams: &mut Vec<Stream>,
+    now: u64,
+    session: &mut Session,
+    step: Step,
+    words: usize,
+) -> Result<Reply, AllocError>
+    ensures err { OnErr result (seen_streams streams.new ≡ seen_streams streams.old) }
+    ensures session { OnErr result (session.new ≡ session.old) }
+    ensures refused { IfOk result (λ r. IsRefused r
+        → seen_streams streams.new ≡ seen_streams streams.old) }
+{
+    match step {
+        Step::Begin => begun(alloc, session),
+        Step::Execute if words > 1 => drop_queue(alloc, session, WRONG_EXECUTE),
+        Step::Execute => ended(alloc, streams, now, session),
+        Step::Discard => discard_queue(alloc, session),
+        Step::Watch => check_watch(alloc, session.mode),
+    }
+}
+
+/// `MULTI`
+fn begun(alloc: Global, session: &mut Session) -> Result<Reply, AllocError>
+    ensures { OnErr result (session.new ≡ session.old) }
+{
+    if session.mode != Mode::AtOnce {
+        return refused(alloc, NESTED);
+    }
+    session.mode = Mode::Queued;
+    Ok(Reply::Done(Answer::Okay))
+}
+
+/// `WATCH key ..`; changes of the keys are not tracked.
+fn check_watch(alloc: Global, mode: Mode) -> Result<Reply, AllocError> {
+    if mode != Mode::AtOnce {
+        return refused(alloc, WATCH_INSIDE);
+    }
+    Ok(Reply::Done(Answer::Okay))
+}
+
+/// `DISCARD`
+fn discard_queue(alloc: Global, session: &mut Session) -> Result<Reply, AllocError>
+    ensures { OnErr result (session.new ≡ session.old) }
+{
+    if session.mode == Mode::AtOnce {
+        return refused(alloc, NONE_TO_DISCARD);
+    }
+    forget(session);
+    Ok(Reply::Done(Answer::Okay))
+}
+
+/// Drops the queued commands, and returns why.
+fn drop_queue(alloc: Global, session: &mut Session, refusal: Refusal) -> Result<Reply, AllocError>
+    ensures { OnErr result (session.new ≡ session.old) }
+{
+    let reply = refused(alloc, refusal)?;
+    forget(session);
+    Ok(reply)
+}
+
+/// Executes commands as they come, from now on.
+fn forget(session: &mut Session) {
+    session.queue.clear();
+    session.mode = Mode::AtOnce;
+}
+
+/// `EXEC`
+fn ended(
+    alloc: Global,
+    streams: &mut Vec<Stream>,
+    now: u64,
+    session: &mut Session,
+) -> Result<Reply, AllocError>
+    ensures err { OnErr result (seen_streams streams.new ≡ seen_streams streams.old) }
+    ensures session { OnErr result (session.new ≡ session.old) }
+    ensures refused { IfOk result (λ r. IsRefused r
+        → seen_streams streams.new ≡ seen_streams streams.old) }
+{
+    match session.mode {
+        Mode::AtOnce => refused(alloc, NOT_BEGUN),
+        Mode::Aborted => drop_queue(alloc, session, ABORTED),
+        Mode::Queued => {
+            let mut outcomes = fail_for_memory(alloc, session.queue.len())?;
+            let queue = mem::replace(&mut session.queue, Vec::new(alloc));
+            session.mode = Mode::AtOnce;
+            execute(alloc, streams, now, session, queue, &mut outcomes);
+            Ok(Reply::Executed(outcomes))
+        }
+    }
+}
+
+/// The outcomes of `count` commands if an allocation failed.
+fn fail_for_memory(
+    alloc: Global,
+    count: usize,
+) -> Result<Vec<Result<Answer, Vec<u8>>>, AllocError> {
+    let mut outcomes = Vec::with_capacity(alloc, count)?;
+    for _ in 0..count {
+        outcomes.push(Err(Vec::from_slice(alloc, OUT_OF_MEMORY.as_bytes())?))?;
+    }
+    Ok(outcomes)
+}
+
+/// Executes commands one after the other. If an allocation fails for one, its outcome stays the error, and the
+/// streams stay as they are.
+fn execute(
+    alloc: Global,
+    streams: &mut Vec<Stream>,
+    now: u64,
+    session: &mut Session,
+    queue: Vec<Queued>,
+    outcomes: &mut Vec<Result<Answer, Vec<u8>>>,
+) {
+    for (queued, outcome) in queue.into_iter().zip(outcomes.iter_mut()) {
+        match commands::run(alloc, streams, now, session, queued.command, queued.words) {
+            Ok(answer) => *outcome = Ok(answer),
+            Err(refusal) => {
+                if let Ok(text) = refusal.into_text(alloc) {
+                    *outcome = Err(text);
+                }
+            }
+        }
+    }
+}

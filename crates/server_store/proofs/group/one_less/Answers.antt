@@ -1,0 +1,9 @@
+use Rattle.server_store.specs.Pending.{with_less}
+use Rattle.server_store.proofs.CountLemmas.{changed_next}
+use Rattle.server_store.proofs.group.one_less.Goals as goal
+
+pub loop-consumer-preserved : goal.loop-consumer-preserved
+loop-consumer-preserved c =
+    changed_next (with_less c.args.number) c.args.consumers.now c.loop-consumer.consumers
+    c.loop-consumer.consumer-index c.consumer-item.result c.count_less.new.consumer c.loop-consumer-test.true
+    c.loop-consumer.invariant c.count_less.ensures

@@ -1,6 +1,0 @@
-use Rattle.std.proofs.Common.{◌≡◌, ◌++◌, take, flat_map}
-use Rattle.sqlite_rows.specs.Form.{quoted_byte}
-use Rattle.sqlite_rows.proofs.form.push_bytes.Given as goal
-
-abbrev pub invariant-loop-byte : goal.invariant-loop-byte
-invariant-loop-byte l = l.out.items ≡ l.fn.out.items ++ flat_map quoted_byte (take l.byte-index l.name)

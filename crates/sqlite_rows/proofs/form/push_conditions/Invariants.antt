@@ -1,6 +1,0 @@
-use Rattle.std.proofs.Common.{◌≡◌, ◌++◌, take, flat_map}
-use Rattle.sqlite_rows.specs.Form.{condition_text}
-use Rattle.sqlite_rows.proofs.form.push_conditions.Given as goal
-
-abbrev pub invariant-loop-column : goal.invariant-loop-column
-invariant-loop-column l = l.out.items ≡ l.fn.out.items ++ flat_map condition_text (take l.column-index l.columns)

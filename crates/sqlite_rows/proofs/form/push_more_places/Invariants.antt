@@ -1,6 +1,0 @@
-use Rattle.std.proofs.Common.{◌≡◌, ◌++◌}
-use Rattle.sqlite_rows.specs.Form.{more_places_text}
-use Rattle.sqlite_rows.proofs.form.push_more_places.Given as goal
-
-abbrev pub invariant-loop-row : goal.invariant-loop-row
-invariant-loop-row l = l.out.items ≡ l.fn.out.items ++ more_places_text l.width l._row

@@ -1,0 +1,3 @@
+//! For monitoring tools: the state of a group, from one reply to XINFO STREAM FULL.
+
+pub mod group_state;

@@ -1,8 +1,0 @@
-use Rattle.stream_failover.proofs.Many.{each_file_once, none_in_two_files}
-use Rattle.stream_failover.proofs.laws.no_entry_comes_out_in_two_files.Goals as goal
-
-pub returns-clause-once : goal.returns-clause-once
-returns-clause-once g c = each_file_once
-
-pub returns-clause-one : goal.returns-clause-one
-returns-clause-one g c = none_in_two_files

@@ -1,8 +1,0 @@
-use Rattle.stream_failover.proofs.Undeleted.{log_is_kept, producer_loses_nothing}
-use Rattle.stream_failover.proofs.laws.nothing_of_the_log_is_lost.Goals as goal
-
-pub returns-clause-kept : goal.returns-clause-kept
-returns-clause-kept g c = log_is_kept
-
-pub returns-clause-added : goal.returns-clause-added
-returns-clause-added g c = producer_loses_nothing

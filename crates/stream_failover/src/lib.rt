@@ -1,5 +1,0 @@
-//! A failover of the server of `stream_once`, as a pure machine: the server goes back to a state
-//! that a replica has. It runs nothing: its functions are laws.
-#![tactic(auto)]
-
-pub mod laws;

@@ -1,5 +1,0 @@
-use Rattle.stream_files.proofs.BoundLemmas.{held_leaves_so}
-use Rattle.stream_files.proofs.laws.a_log_leaves_what_the_model_says.Goals as goal
-
-pub returns : goal.returns
-returns g c = held_leaves_so g.D.LogFile.seen g.D.LogFile.may_leave g.D.LogFile.is_sound

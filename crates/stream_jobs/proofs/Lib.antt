@@ -1,5 +1,0 @@
--- Lemmas.
-mod TellLemmas
-mod PipesLemmas
-pub mod TalkLemmas
-mod AcknowledgedLemmas

@@ -1,5 +1,0 @@
-use Rattle.stream_jobs.proofs.TellLemmas.{tell}
-use Rattle.stream_jobs.proofs.laws.lines_tell_entries.Goals as goal
-
-pub returns : goal.returns
-returns c = tell

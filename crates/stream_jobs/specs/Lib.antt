@@ -1,8 +1,0 @@
--- The definitions that the contracts use.
-pub mod LineOf
-pub mod VerdictOf
-pub mod Lines
-pub mod Steady
-pub mod Talk
-pub mod Tell
-pub mod Acknowledged

@@ -1,6 +1,0 @@
-use Rattle.stream_letters.proofs.BesidesLemmas.{look_not_breaks, looked_not}
-use Rattle.stream_letters.proofs.search.ask_page.Goals as goal
-
-pub returns-in-Err-clause-err : goal.returns-in-Err-clause-err
-returns-in-Err-clause-err g c only =
-    look_not_breaks _ _ c.in-Err.error (looked_not _ _ _ _ _ c.in-Err.error only c.in-Err.ensures.err)

@@ -1,9 +1,0 @@
-use Rattle.std.proofs.Common.{◌≡◌, map, take, string_bytes}
-use Rattle.redis.specs.Words.{full_pending_meaning}
-use Rattle.stream_monitor.specs.GroupState.{too_often_in}
-use Rattle.stream_monitor.proofs.group_state.too_often.Given as goal
-
--- the ids of those so far that were delivered too often
-abbrev pub invariant-loop-entry : goal.invariant-loop-entry
-invariant-loop-entry l = map string_bytes l.ids.items
-    ≡ too_often_in l.times (map full_pending_meaning (take l.entry-index l.pending))

@@ -1,5 +1,0 @@
-use Rattle.stream_once.proofs.Within.{commits_are_within}
-use Rattle.stream_once.proofs.laws.no_commit_has_more_lines_than_an_answer.Goals as goal
-
-pub returns : goal.returns
-returns g c = commits_are_within

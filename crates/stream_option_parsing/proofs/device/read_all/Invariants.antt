@@ -1,0 +1,10 @@
+use Rattle.std.proofs.Common.{vec_len, ◌-◌, ◌^◌}
+use Rattle.std.specs.Io.KnownBytes.{Consumes}
+use Rattle.stream_option_parsing.proofs.device.read_all.Given as goal
+
+-- what was read so far
+abbrev pub invariant-chunks : goal.invariant-chunks
+invariant-chunks g l = Consumes (g.R.Read.remaining l.initial.input) (g.R.Read.remaining l.input) l.bytes.items
+
+abbrev pub decreases-chunks : goal.decreases-chunks
+decreases-chunks g l = 2 ^ 64 - vec_len l.bytes

@@ -1,0 +1,229 @@
+//! `XADD`.
+ghost use Rattle.std.specs.Prelude.{◌≡◌, None, false, IfOk, IfErr};
+ghost use Rattle.std.specs.Option.{option_map};
+ghost use Rattle.stream_options.specs.Add.{AddFits, add_sentence, add_words};
+ghost use Rattle.stream_options.specs.Laws.{Equal};
+ghost use Rattle.stream_options.specs.ReadBack as reading;
+ghost use Rattle.stream_options.specs.View.{strategy_of, policy_of, idempotency_of};
+ghost use Rattle.stream_option_parsing.specs.Parts.{add_of};
+ghost use Rattle.stream_option_parsing.specs.Split.{arguments, IsOneSplit, HasNoSplit, Gives};
+
+use crate::clauses::flag_clause;
+use crate::error::SentenceError;
+use crate::policy::policy_clause;
+use crate::strategy::strategy_at;
+use crate::values::{begins_with, text_in};
+use std::alloc::Global;
+use stream_options::{
+    StreamAddOptions, StreamDeletionPolicy, StreamIdempotencyMode, StreamTrimStrategy,
+};
+
+/// The settings of `XADD` one by one: `[NOMKSTREAM] [policy] [idempotency] [strategy]`.
+#[derive(Debug, Drop)]
+pub struct AddParts {
+    /// Whether a stream that does not exist is not made.
+    pub nomkstream: bool,
+    /// What becomes of the references that groups hold to trimmed entries.
+    pub policy: Option<StreamDeletionPolicy>,
+    /// How a duplicate entry is recognized.
+    pub idempotency: Option<StreamIdempotencyMode>,
+    /// How the stream is trimmed.
+    pub strategy: Option<StreamTrimStrategy>,
+}
+
+/// The options of `XADD` with these settings. It takes no memory.
+pub fn add_with(parts: AddParts) -> StreamAddOptions
+    ensures { result ≡ add_of parts }
+{
+    let options = with_nomkstream(StreamAddOptions::default(), parts.nomkstream);
+    let options = with_idempotency(with_policy(options, parts.policy), parts.idempotency);
+    with_strategy(options, parts.strategy)
+}
+
+/// The options of `XADD` that the first arguments are the sentence of, and how many arguments that
+/// is: `[NOMKSTREAM] [policy] [idempotency] [strategy]`.
+///
+/// `NotASentence` where there are none, or where what follows begins with a fixed word.
+pub fn read_add(alloc: Global, args: &[Vec<u8>]) -> Result<(StreamAddOptions, usize), SentenceError>
+    ensures split { let list = arguments args.now in IfOk result (λ x.
+        IsOneSplit AddFits add_sentence add_words Equal list x.0 x.1) }
+    ensures none { IfErr result (λ e. e ≡ SentenceError.NotASentence
+        → HasNoSplit AddFits add_sentence add_words (arguments args.now)) }
+{
+    let (parts, count) = read_add_parts(alloc, args)?;
+    Ok((add_with(parts), count))
+}
+
+/// The settings of `XADD` that the first arguments are the sentence of, and how many arguments that
+/// is. `add_with` makes the options of them.
+///
+/// `NotASentence` where there are none, or where what follows begins with a fixed word.
+pub fn read_add_parts(alloc: Global, args: &[Vec<u8>]) -> Result<(AddParts, usize), SentenceError>
+    ensures split { let list = arguments args.now in IfOk result (λ x.
+        IsOneSplit AddFits add_sentence add_words Equal list (add_of x.0) x.1) }
+    ensures none { IfErr result (λ e. e ≡ SentenceError.NotASentence
+        → HasNoSplit AddFits add_sentence add_words (arguments args.now)) }
+{
+    let (parts, rest) = add_at(alloc, args)?;
+    let words = [
+        "NOMKSTREAM",
+        "KEEPREF",
+        "DELREF",
+        "ACKED",
+        "IDMP",
+        "IDMPAUTO",
+        "MAXLEN",
+        "MINID",
+        "LIMIT",
+        "=",
+        "~",
+    ];
+    if begins_with(&words, rest) {
+        return Err(SentenceError::NotASentence);
+    }
+    Ok((parts, args.len() - rest.len()))
+}
+
+/// The settings, and the arguments behind them.
+fn add_at(alloc: Global, args: &[Vec<u8>]) -> Result<(AddParts, &[Vec<u8>]), SentenceError>
+    ensures { Gives (λ x. (add_of x.0, arguments x.1.now)) result (reading.add_at (arguments args.now)) }
+{
+    let Some((nomkstream, rest)) = flag_clause("NOMKSTREAM", args) else {
+        return Err(SentenceError::NotASentence);
+    };
+    let (policy, rest) = policy_clause(rest);
+    let (idempotency, rest) = idempotency_clause(alloc, rest)?;
+    let (strategy, rest) = strategy_clause(alloc, rest)?;
+    let parts = AddParts {
+        nomkstream,
+        policy,
+        idempotency,
+        strategy,
+    };
+    Ok((parts, rest))
+}
+
+/// `[idempotency]`, and the arguments behind it.
+fn idempotency_clause(
+    alloc: Global,
+    args: &[Vec<u8>],
+) -> Result<(Option<StreamIdempotencyMode>, &[Vec<u8>]), SentenceError>
+    ensures { Gives (λ x. (option_map idempotency_of x.0, arguments x.1.now)) result
+        (reading.idempotency_clause (arguments args.now)) }
+{
+    if !begins_with(&["IDMP", "IDMPAUTO"], args) {
+        return Ok((None, args));
+    }
+    let (mode, rest) = idempotency_at(alloc, args)?;
+    Ok((Some(mode), rest))
+}
+
+/// `IDMP producer idempotent` or `IDMPAUTO producer`, and the arguments behind it.
+fn idempotency_at(
+    alloc: Global,
+    args: &[Vec<u8>],
+) -> Result<(StreamIdempotencyMode, &[Vec<u8>]), SentenceError>
+    ensures { Gives (λ x. (idempotency_of x.0, arguments x.1.now)) result
+        (reading.idempotency_at (arguments args.now)) }
+{
+    match args {
+        [] => Err(SentenceError::NotASentence),
+        [_word] => Err(SentenceError::NotASentence),
+        [word, producer] => {
+            if word.as_slice() == b"IDMPAUTO".as_slice() {
+                let producer_id = text_in(alloc, producer)?;
+                Ok((StreamIdempotencyMode::Automatic { producer_id }, &[]))
+            } else {
+                Err(SentenceError::NotASentence)
+            }
+        }
+        [word, producer, idempotent, rest @ ..] => {
+            if word.as_slice() == b"IDMPAUTO".as_slice() {
+                let producer_id = text_in(alloc, producer)?;
+                Ok((StreamIdempotencyMode::Automatic { producer_id }, &args[2..]))
+            } else if word.as_slice() == b"IDMP".as_slice() {
+                let producer_id = text_in(alloc, producer)?;
+                let idempotent_id = text_in(alloc, idempotent)?;
+                let mode = StreamIdempotencyMode::Manual {
+                    producer_id,
+                    idempotent_id,
+                };
+                Ok((mode, rest))
+            } else {
+                Err(SentenceError::NotASentence)
+            }
+        }
+    }
+}
+
+/// `[strategy]`, and the arguments behind it.
+fn strategy_clause(
+    alloc: Global,
+    args: &[Vec<u8>],
+) -> Result<(Option<StreamTrimStrategy>, &[Vec<u8>]), SentenceError>
+    ensures { Gives (λ x. (option_map strategy_of x.0, arguments x.1.now)) result
+        (reading.strategy_clause (arguments args.now)) }
+{
+    if !begins_with(&["MAXLEN", "MINID", "LIMIT", "=", "~"], args) {
+        return Ok((None, args));
+    }
+    let (strategy, rest) = strategy_at(alloc, args)?;
+    Ok((Some(strategy), rest))
+}
+
+/// The flag, where it is wanted.
+fn with_nomkstream(options: StreamAddOptions, wanted: bool) -> StreamAddOptions
+    requires { options.nomkstream ≡ false }
+    ensures { result ≡ record options { nomkstream = wanted } }
+{
+    if wanted {
+        options.nomkstream()
+    } else {
+        options
+    }
+}
+
+/// The policy, where there is one.
+fn with_policy(options: StreamAddOptions, policy: Option<StreamDeletionPolicy>) -> StreamAddOptions
+    requires { options.policy ≡ None }
+    ensures { result ≡ record options { policy = option_map policy_of policy } }
+{
+    match policy {
+        Some(policy) => options.set_deletion_policy(policy),
+        None => options,
+    }
+}
+
+/// The way to recognize a duplicate, where there is one.
+fn with_idempotency(
+    options: StreamAddOptions,
+    mode: Option<StreamIdempotencyMode>,
+) -> StreamAddOptions
+    requires { options.idempotency ≡ None }
+    ensures { result ≡ record options { idempotency = option_map idempotency_of mode } }
+{
+    match mode {
+        Some(
+            StreamIdempotencyMode::Manual {
+                producer_id,
+                idempotent_id,
+            },
+        ) => options.idmp(producer_id, idempotent_id),
+        Some(StreamIdempotencyMode::Automatic { producer_id }) => options.idmpauto(producer_id),
+        None => options,
+    }
+}
+
+/// The strategy, where there is one.
+fn with_strategy(
+    options: StreamAddOptions,
+    strategy: Option<StreamTrimStrategy>,
+) -> StreamAddOptions
+    requires { options.trim ≡ None }
+    ensures { result ≡ record options { trim = option_map strategy_of strategy } }
+{
+    match strategy {
+        Some(strategy) => options.trim(strategy),
+        None => options,
+    }
+}

@@ -1,0 +1,83 @@
+//! `XAUTOCLAIM`.
+ghost use Rattle.std.specs.Prelude.{◌≡◌, IfOk, IfErr};
+ghost use Rattle.std.specs.Option.{option_map};
+ghost use Rattle.stream_options.specs.AutoClaim.{AutoClaimFits, autoclaim_sentence, autoclaim_words};
+ghost use Rattle.stream_options.specs.Laws.{Equal};
+ghost use Rattle.stream_options.specs.ReadBack as reading;
+ghost use Rattle.stream_option_parsing.specs.Parts.{autoclaim_of};
+ghost use Rattle.stream_option_parsing.specs.Split.{arguments, IsOneSplit, HasNoSplit};
+
+use crate::clauses::{flag_clause, number_clause};
+use crate::error::SentenceError;
+use crate::values::begins_with;
+use stream_options::StreamAutoClaimOptions;
+
+/// The settings of `XAUTOCLAIM` one by one: `[COUNT n] [JUSTID]`.
+#[derive(Clone, Copy, Debug, PartialEq, Eq)]
+pub struct AutoClaimParts {
+    /// The most entries that are claimed.
+    pub count: Option<usize>,
+    /// Whether the reply has the ids alone.
+    pub justid: bool,
+}
+
+/// The options of `XAUTOCLAIM` with these settings. It takes no memory.
+pub fn autoclaim_with(parts: AutoClaimParts) -> StreamAutoClaimOptions
+    ensures { result ≡ autoclaim_of parts }
+{
+    let options = StreamAutoClaimOptions::default();
+    let options = match parts.count {
+        Some(n) => options.count(n),
+        None => options,
+    };
+    if parts.justid {
+        options.with_justid()
+    } else {
+        options
+    }
+}
+
+/// The options of `XAUTOCLAIM` that the first arguments are the sentence of, and how many arguments
+/// that is: `[COUNT n] [JUSTID]`. It takes no memory.
+///
+/// `NotASentence` where there are none, or where what follows begins with a fixed word.
+pub fn read_autoclaim(args: &[Vec<u8>]) -> Result<(StreamAutoClaimOptions, usize), SentenceError>
+    ensures split { let list = arguments args.now in IfOk result (λ x.
+        IsOneSplit AutoClaimFits autoclaim_sentence autoclaim_words Equal list x.0 x.1) }
+    ensures none { IfErr result (λ e.
+        HasNoSplit AutoClaimFits autoclaim_sentence autoclaim_words (arguments args.now)) }
+    ensures cause { IfErr result (λ e. e ≡ SentenceError.NotASentence) }
+{
+    let (parts, count) = read_autoclaim_parts(args)?;
+    Ok((autoclaim_with(parts), count))
+}
+
+/// The settings of `XAUTOCLAIM` that the first arguments are the sentence of, and how many
+/// arguments that is. `autoclaim_with` makes the options of them. It takes no memory.
+///
+/// `NotASentence` where there are none, or where what follows begins with a fixed word.
+pub fn read_autoclaim_parts(args: &[Vec<u8>]) -> Result<(AutoClaimParts, usize), SentenceError>
+    ensures split { let list = arguments args.now in IfOk result (λ x.
+        IsOneSplit AutoClaimFits autoclaim_sentence autoclaim_words Equal list (autoclaim_of x.0) x.1) }
+    ensures none { IfErr result (λ e.
+        HasNoSplit AutoClaimFits autoclaim_sentence autoclaim_words (arguments args.now)) }
+    ensures cause { IfErr result (λ e. e ≡ SentenceError.NotASentence) }
+{
+    let Some((parts, rest)) = autoclaim_at(args) else {
+        return Err(SentenceError::NotASentence);
+    };
+    if begins_with(&["COUNT", "JUSTID"], rest) {
+        return Err(SentenceError::NotASentence);
+    }
+    Ok((parts, args.len() - rest.len()))
+}
+
+/// The settings, and the arguments behind them.
+fn autoclaim_at(args: &[Vec<u8>]) -> Option<(AutoClaimParts, &[Vec<u8>])>
+    ensures { option_map (λ x. (autoclaim_of x.0, arguments x.1.now)) result
+        ≡ reading.autoclaim_at (arguments args.now) }
+{
+    let (count, rest) = number_clause("COUNT", args)?;
+    let (justid, rest) = flag_clause("JUSTID", rest)?;
+    Some((AutoClaimParts { count, justid }, rest))
+}

@@ -1,0 +1,182 @@
+//! `XCLAIM`.
+ghost use Rattle.std.specs.Prelude.{◌≡◌, None, false, string_bytes, IfOk, IfErr};
+ghost use Rattle.std.specs.Option.{option_map};
+ghost use Rattle.stream_options.specs.Claim.{ClaimFits, claim_sentence, claim_words};
+ghost use Rattle.stream_options.specs.Laws.{Equal};
+ghost use Rattle.stream_options.specs.ReadBack as reading;
+ghost use Rattle.stream_option_parsing.specs.Parts.{claim_of};
+ghost use Rattle.stream_option_parsing.specs.Split.{arguments, IsOneSplit, HasNoSplit, Gives};
+
+use crate::clauses::{flag_clause, number_clause, text_clause};
+use crate::error::SentenceError;
+use crate::values::begins_with;
+use std::alloc::Global;
+use stream_options::StreamClaimOptions;
+
+/// The settings of `XCLAIM` one by one:
+/// `[IDLE n] [TIME n] [RETRYCOUNT n] [FORCE] [JUSTID] [LASTID id]`.
+#[derive(Debug, Drop)]
+pub struct ClaimParts {
+    /// The entries count as idle for so many milliseconds.
+    pub idle: Option<usize>,
+    /// They count as last delivered so many milliseconds after the start of 1970.
+    pub time: Option<usize>,
+    /// They count as delivered so often.
+    pub retry: Option<usize>,
+    /// Whether an entry that is pending for nobody is claimed too.
+    pub force: bool,
+    /// Whether the reply has the ids alone.
+    pub justid: bool,
+    /// The id that is noted as the one that the group was delivered last.
+    pub lastid: Option<String>,
+}
+
+/// The options of `XCLAIM` with these settings. It takes no memory.
+pub fn claim_with(parts: ClaimParts) -> StreamClaimOptions
+    ensures { result ≡ claim_of parts }
+{
+    let options = with_time(
+        with_idle(StreamClaimOptions::default(), parts.idle),
+        parts.time,
+    );
+    let options = with_force(with_retry(options, parts.retry), parts.force);
+    with_lastid(with_justid(options, parts.justid), parts.lastid)
+}
+
+/// The options of `XCLAIM` that the first arguments are the sentence of, and how many arguments
+/// that is: `[IDLE n] [TIME n] [RETRYCOUNT n] [FORCE] [JUSTID] [LASTID id]`.
+///
+/// `NotASentence` where there are none, or where what follows begins with a fixed word.
+pub fn read_claim(
+    alloc: Global,
+    args: &[Vec<u8>],
+) -> Result<(StreamClaimOptions, usize), SentenceError>
+    ensures split { let list = arguments args.now in IfOk result (λ x.
+        IsOneSplit ClaimFits claim_sentence claim_words Equal list x.0 x.1) }
+    ensures none { IfErr result (λ e. e ≡ SentenceError.NotASentence
+        → HasNoSplit ClaimFits claim_sentence claim_words (arguments args.now)) }
+{
+    let (parts, count) = read_claim_parts(alloc, args)?;
+    Ok((claim_with(parts), count))
+}
+
+/// The settings of `XCLAIM` that the first arguments are the sentence of, and how many arguments
+/// that is. `claim_with` makes the options of them.
+///
+/// `NotASentence` where there are none, or where what follows begins with a fixed word.
+pub fn read_claim_parts(
+    alloc: Global,
+    args: &[Vec<u8>],
+) -> Result<(ClaimParts, usize), SentenceError>
+    ensures split { let list = arguments args.now in IfOk result (λ x.
+        IsOneSplit ClaimFits claim_sentence claim_words Equal list (claim_of x.0) x.1) }
+    ensures none { IfErr result (λ e. e ≡ SentenceError.NotASentence
+        → HasNoSplit ClaimFits claim_sentence claim_words (arguments args.now)) }
+{
+    let (parts, rest) = claim_at(alloc, args)?;
+    let words = ["IDLE", "TIME", "RETRYCOUNT", "FORCE", "JUSTID", "LASTID"];
+    if begins_with(&words, rest) {
+        return Err(SentenceError::NotASentence);
+    }
+    Ok((parts, args.len() - rest.len()))
+}
+
+/// The settings, and the arguments behind them.
+fn claim_at(alloc: Global, args: &[Vec<u8>]) -> Result<(ClaimParts, &[Vec<u8>]), SentenceError>
+    ensures { Gives (λ x. (claim_of x.0, arguments x.1.now)) result
+        (reading.claim_at (arguments args.now)) }
+{
+    let Some((idle, rest)) = number_clause("IDLE", args) else {
+        return Err(SentenceError::NotASentence);
+    };
+    let Some((time, rest)) = number_clause("TIME", rest) else {
+        return Err(SentenceError::NotASentence);
+    };
+    let Some((retry, rest)) = number_clause("RETRYCOUNT", rest) else {
+        return Err(SentenceError::NotASentence);
+    };
+    let Some((force, rest)) = flag_clause("FORCE", rest) else {
+        return Err(SentenceError::NotASentence);
+    };
+    let Some((justid, rest)) = flag_clause("JUSTID", rest) else {
+        return Err(SentenceError::NotASentence);
+    };
+    let (lastid, rest) = text_clause(alloc, "LASTID", rest)?;
+    let parts = ClaimParts {
+        idle,
+        time,
+        retry,
+        force,
+        justid,
+        lastid,
+    };
+    Ok((parts, rest))
+}
+
+/// The idle time, where there is one.
+fn with_idle(options: StreamClaimOptions, idle: Option<usize>) -> StreamClaimOptions
+    requires { options.idle ≡ None }
+    ensures { result ≡ record options { idle = idle } }
+{
+    match idle {
+        Some(n) => options.idle(n),
+        None => options,
+    }
+}
+
+/// The time of delivery, where there is one.
+fn with_time(options: StreamClaimOptions, time: Option<usize>) -> StreamClaimOptions
+    requires { options.time ≡ None }
+    ensures { result ≡ record options { time = time } }
+{
+    match time {
+        Some(n) => options.time(n),
+        None => options,
+    }
+}
+
+/// The number of deliveries, where there is one.
+fn with_retry(options: StreamClaimOptions, retry: Option<usize>) -> StreamClaimOptions
+    requires { options.retry ≡ None }
+    ensures { result ≡ record options { retry = retry } }
+{
+    match retry {
+        Some(n) => options.retry(n),
+        None => options,
+    }
+}
+
+/// The flag, where it is wanted.
+fn with_force(options: StreamClaimOptions, wanted: bool) -> StreamClaimOptions
+    requires { options.force ≡ false }
+    ensures { result ≡ record options { force = wanted } }
+{
+    if wanted {
+        options.with_force()
+    } else {
+        options
+    }
+}
+
+/// The flag, where it is wanted.
+fn with_justid(options: StreamClaimOptions, wanted: bool) -> StreamClaimOptions
+    requires { options.justid ≡ false }
+    ensures { result ≡ record options { justid = wanted } }
+{
+    if wanted {
+        options.with_justid()
+    } else {
+        options
+    }
+}
+
+/// The id, where there is one.
+fn with_lastid(options: StreamClaimOptions, lastid: Option<String>) -> StreamClaimOptions
+    requires { options.lastid ≡ None }
+    ensures { result ≡ record options { lastid = option_map string_bytes lastid } }
+{
+    match lastid {
+        Some(id) => options.with_lastid(id),
+        None => options,
+    }
+}

@@ -1,0 +1,63 @@
+//! Clauses of sentences: a word, and what it names.
+ghost use Rattle.std.specs.Prelude.{◌≡◌, None, IfErr, string_bytes};
+ghost use Rattle.std.specs.Option.{option_map};
+ghost use Rattle.stream_options.specs.ReadBack as reading;
+ghost use Rattle.stream_option_parsing.specs.Split.{arguments, Gives};
+
+use crate::error::SentenceError;
+use crate::values::{number_in, text_in};
+use std::alloc::Global;
+
+/// `[word n]`, and the arguments behind it; None where no number follows the word.
+pub(crate) fn number_clause<'a>(
+    word: &str,
+    args: &'a [Vec<u8>],
+) -> Option<(Option<usize>, &'a [Vec<u8>])>
+    ensures { option_map (λ x. (x.0, arguments x.1.now)) result
+        ≡ reading.number_clause word.now (arguments args.now) }
+{
+    match args {
+        [first, rest @ ..] if first.as_slice() == word.as_bytes() => match rest {
+            [] => None,
+            [number, rest @ ..] => match number_in(number) {
+                Some(n) => Some((Some(n), rest)),
+                None => None,
+            },
+        },
+        _ => Some((None, args)),
+    }
+}
+
+/// `[word]`, and the arguments behind it.
+pub(crate) fn flag_clause<'a>(word: &str, args: &'a [Vec<u8>]) -> Option<(bool, &'a [Vec<u8>])>
+    ensures { option_map (λ x. (x.0, arguments x.1.now)) result
+        ≡ reading.flag_clause word.now (arguments args.now) }
+{
+    match args {
+        [first, rest @ ..] if first.as_slice() == word.as_bytes() => Some((true, rest)),
+        _ => Some((false, args)),
+    }
+}
+
+/// `[word text]`, and the arguments behind it. Memory is asked for only where a text stands there.
+pub(crate) fn text_clause<'a>(
+    alloc: Global,
+    word: &str,
+    args: &'a [Vec<u8>],
+) -> Result<(Option<String>, &'a [Vec<u8>]), SentenceError>
+    ensures clause { Gives (λ x. (option_map string_bytes x.0, arguments x.1.now)) result
+        (reading.text_clause word.now (arguments args.now)) }
+    ensures none { IfErr result (λ e. reading.text_clause word.now (arguments args.now) ≡ None
+        → e ≡ SentenceError.NotASentence) }
+{
+    match args {
+        [first, rest @ ..] if first.as_slice() == word.as_bytes() => match rest {
+            [] => Err(SentenceError::NotASentence),
+            [text, rest @ ..] => {
+                let text = text_in(alloc, text)?;
+                Ok((Some(text), rest))
+            }
+        },
+        _ => Ok((None, args)),
+    }
+}

@@ -1,0 +1,143 @@
+//! Configurations.
+ghost use Rattle.std.specs.Prelude.{◌≡◌, IfSome, IfOk, IfErr};
+ghost use Rattle.std.specs.Option.{option_map};
+ghost use Rattle.stream_options.specs.Config.{IsDuration, IsMaxsize, IsConfig, config_sentence, config_words};
+ghost use Rattle.stream_options.specs.Laws.{Equal};
+ghost use Rattle.stream_options.specs.ReadBack as reading;
+ghost use Rattle.stream_options.specs.ReadBack.{number_of};
+ghost use Rattle.stream_option_parsing.specs.Split.{arguments, IsOneSplit, HasNoSplit};
+
+use crate::error::SentenceError;
+use crate::values::{begins_with, number_in};
+use stream_options::StreamConfigOptions;
+
+/// The options of `XCFGSET` that the first arguments are the sentence of, and how many arguments
+/// that is: `[IDMP-DURATION d] [IDMP-MAXSIZE m]`, at least one of them, and each in its range. It
+/// takes no memory.
+///
+/// `NotASentence` where there are none, or where what follows begins with a fixed word.
+pub fn read_config(args: &[Vec<u8>]) -> Result<(StreamConfigOptions, usize), SentenceError>
+    ensures split { let list = arguments args.now in IfOk result (λ x.
+        IsOneSplit IsConfig config_sentence config_words Equal list x.0 x.1) }
+    ensures none { IfErr result (λ e.
+        HasNoSplit IsConfig config_sentence config_words (arguments args.now)) }
+    ensures cause { IfErr result (λ e. e ≡ SentenceError.NotASentence) }
+{
+    let Some((options, rest)) = config_at(args) else {
+        return Err(SentenceError::NotASentence);
+    };
+    if begins_with(&["IDMP-DURATION", "IDMP-MAXSIZE"], rest) {
+        return Err(SentenceError::NotASentence);
+    }
+    Ok((options, args.len() - rest.len()))
+}
+
+/// The options, and the arguments behind them.
+fn config_at(args: &[Vec<u8>]) -> Option<(StreamConfigOptions, &[Vec<u8>])>
+    ensures { option_map (λ x. (x.0, arguments x.1.now)) result
+        ≡ reading.config_at (arguments args.now) }
+{
+    let (seconds, rest) = duration_clause(args)?;
+    let (maxsize, rest) = maxsize_clause(rest)?;
+    let options = config_of(seconds, maxsize)?;
+    Some((options, rest))
+}
+
+/// `[IDMP-DURATION d]`, and the arguments behind it.
+fn duration_clause(args: &[Vec<u8>]) -> Option<(Option<u32>, &[Vec<u8>])>
+    ensures read { option_map (λ x. (x.0, arguments x.1.now)) result
+        ≡ reading.duration_clause (arguments args.now) }
+    ensures range { IfSome result (λ x. IfSome x.0 IsDuration) }
+{
+    match args {
+        [first, rest @ ..] if first.as_slice() == b"IDMP-DURATION".as_slice() => match rest {
+            [] => None,
+            [number, rest @ ..] => match duration_in(number) {
+                Some(n) => Some((Some(n), rest)),
+                None => None,
+            },
+        },
+        _ => Some((None, args)),
+    }
+}
+
+/// `[IDMP-MAXSIZE m]`, and the arguments behind it.
+fn maxsize_clause(args: &[Vec<u8>]) -> Option<(Option<u16>, &[Vec<u8>])>
+    ensures read { option_map (λ x. (x.0, arguments x.1.now)) result
+        ≡ reading.maxsize_clause (arguments args.now) }
+    ensures range { IfSome result (λ x. IfSome x.0 IsMaxsize) }
+{
+    match args {
+        [first, rest @ ..] if first.as_slice() == b"IDMP-MAXSIZE".as_slice() => match rest {
+            [] => None,
+            [number, rest @ ..] => match maxsize_in(number) {
+                Some(n) => Some((Some(n), rest)),
+                None => None,
+            },
+        },
+        _ => Some((None, args)),
+    }
+}
+
+/// The duration that the bytes write, in its range.
+fn duration_in(bytes: &[u8]) -> Option<u32>
+    ensures read { result ≡ reading.kept reading.in_duration number_of bytes.now }
+    ensures range { IfSome result IsDuration }
+{
+    match number_in(bytes) {
+        Some(n) => {
+            if 1 <= n && n <= 86400 {
+                Some(n as u32)
+            } else {
+                None
+            }
+        }
+        None => None,
+    }
+}
+
+/// The number of entries that the bytes write, in its range.
+fn maxsize_in(bytes: &[u8]) -> Option<u16>
+    ensures read { result ≡ reading.kept reading.in_maxsize number_of bytes.now }
+    ensures range { IfSome result IsMaxsize }
+{
+    match number_in(bytes) {
+        Some(n) => {
+            if 1 <= n && n <= 10000 {
+                Some(n as u16)
+            } else {
+                None
+            }
+        }
+        None => None,
+    }
+}
+
+/// The options of these numbers, where one is there.
+fn config_of(seconds: Option<u32>, maxsize: Option<u16>) -> Option<StreamConfigOptions>
+    requires seconds { IfSome seconds IsDuration }
+    requires maxsize { IfSome maxsize IsMaxsize }
+    ensures { result ≡ reading.if_passes reading.any_set (reading.config_with (seconds, maxsize)) }
+{
+    match seconds {
+        Some(seconds) => {
+            let Ok(options) = StreamConfigOptions::with_idempotency_seconds(seconds) else {
+                return None;
+            };
+            match maxsize {
+                Some(maxsize) => match options.idempotency_maxsize(maxsize) {
+                    Ok(options) => Some(options),
+                    Err(_error) => None,
+                },
+                None => Some(options),
+            }
+        }
+        None => match maxsize {
+            Some(maxsize) => match StreamConfigOptions::with_idempotency_maxsize(maxsize) {
+                Ok(options) => Some(options),
+                Err(_error) => None,
+            },
+            None => None,
+        },
+    }
+}

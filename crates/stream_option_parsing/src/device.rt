@@ -1,0 +1,47 @@
+//! Reading to the end and writing all, with nothing tried again.
+ghost use Rattle.std.specs.Prelude.{◌≡◌, ◌≢◌, ◌<◌, IfOk, IfErr, IfSome, OnOk, length};
+ghost use Rattle.std.specs.Io.KnownBytes.{Appends, Consumes, IsAtEnd};
+ghost use Rattle.stream_option_parsing.specs.Told.{WroteBeginning};
+
+use crate::run_error::RunError;
+use std::alloc::Global;
+use std::io::{Read, Write};
+
+/// All the bytes that the reader has left. Memory is asked for only where there are any.
+pub(crate) fn read_all<R: Read>(alloc: Global, input: &mut R) -> Result<Vec<u8>, RunError>
+    ensures bytes { IfOk result (λ all.
+        Consumes (R.remaining input.old) (R.remaining input.new) all.items) }
+    ensures end { OnOk result (IsAtEnd (R.remaining input.new)) }
+    ensures err { IfErr result (λ e. e ≢ RunError.Write) }
+    ensures memory { IfErr result (λ e. e ≡ RunError.Memory
+        → IfSome (R.remaining input.old) (λ all. 0 < length all)) }
+{
+    let mut bytes = Vec::new(alloc);
+    let mut buffer = [0u8; 4096];
+    'chunks: loop {
+        match input.read(&mut buffer) {
+            Ok(0) => return Ok(bytes),
+            Ok(n) => bytes.extend_from_slice(&buffer[..n])?,
+            Err(_error) => return Err(RunError::Read),
+        }
+    }
+}
+
+/// Writes all the bytes.
+pub(crate) fn write_whole<W: Write>(output: &mut W, bytes: &[u8]) -> Result<(), RunError>
+    ensures ok { OnOk result
+        (Appends (W.contents output.old) (W.contents output.new) bytes.now) }
+    ensures err { IfErr result (λ e. e ≡ RunError.Write) }
+    ensures begun { IfErr result (λ e.
+        WroteBeginning bytes.now (W.contents output.old) (W.contents output.new)) }
+{
+    let mut rest = bytes;
+    'pieces: while !rest.is_empty() {
+        match output.write(rest) {
+            Ok(0) => return Err(RunError::Write),
+            Ok(n) => rest = &rest[n..],
+            Err(_error) => return Err(RunError::Write),
+        }
+    }
+    Ok(())
+}

@@ -1,0 +1,38 @@
+//! Lines in, lines out.
+ghost use Rattle.std.specs.Prelude.{◌≡◌, ◌≢◌, ◌<◌, IfErr, OnOk, IfSome, length};
+ghost use Rattle.std.specs.Io.KnownBytes.{Keeps, IsAtEnd};
+ghost use Rattle.stream_option_parsing.specs.Told.{WroteAnswer, WroteAnswerBeginning};
+
+use crate::answer::answer_to;
+use crate::device::{read_all, write_whole};
+use crate::run_error::RunError;
+use std::alloc::Global;
+use std::io::{Read, Write};
+
+/// Reads the input to its end, and then writes one line for each of its lines.
+///
+/// A line ends at each LF; a last line without LF counts where it has a byte. It is cut at each
+/// single space: the first part is the type word, `trim`, `add`, `config`, `autoclaim`, `claim`,
+/// `read` or `nack`, and the others are the arguments, empty ones included. The line that goes out
+/// is `ok k` where the reader of this type answers Ok with k, `no` where it answers
+/// `NotASentence`, and `unknown` where there is no such type.
+///
+/// Each error of a read or of a write is a failure, `Interrupted` too, and so is a write that takes
+/// no byte; nothing is tried again. After `Read` or `Memory` nothing was written; after `Write` a
+/// beginning of the answer was. An input with no byte takes no memory.
+pub fn run<R: Read, W: Write>(alloc: Global, input: &mut R, output: &mut W) -> Result<(), RunError>
+    ensures answered { OnOk result (IfSome (R.remaining input.old) (λ all.
+        WroteAnswer all (W.contents output.old) (W.contents output.new))) }
+    ensures end { OnOk result (IsAtEnd (R.remaining input.new)) }
+    ensures unwritten { IfErr result (λ e. e ≢ RunError.Write
+        → Keeps (W.contents output.old) (W.contents output.new)) }
+    ensures memory { IfErr result (λ e. e ≡ RunError.Memory
+        → IfSome (R.remaining input.old) (λ all. 0 < length all)) }
+    ensures begun { IfErr result (λ e. e ≡ RunError.Write
+        → IfSome (R.remaining input.old) (λ all.
+        WroteAnswerBeginning all (W.contents output.old) (W.contents output.new))) }
+{
+    let bytes = read_all(alloc, input)?;
+    let answer = answer_to(alloc, &bytes)?;
+    write_whole(output, &answer)
+}

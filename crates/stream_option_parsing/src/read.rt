@@ -1,0 +1,219 @@
+//! `XREAD` and `XREADGROUP`.
+ghost use Rattle.std.specs.Prelude.{◌≡◌, ◌≢◌, Some, None, false, IfOk, IfErr, IfSome};
+ghost use Rattle.std.specs.Option.{option_map};
+ghost use Rattle.stream_options.specs.Read.{default_read, ReadFits, CountAlike, read_sentence, read_words};
+ghost use Rattle.stream_options.specs.ReadBack as reading;
+ghost use Rattle.stream_option_parsing.specs.Parts.{group_of, read_of};
+ghost use Rattle.stream_option_parsing.specs.Split.{arguments, IsOneSplit, HasNoSplit};
+
+use crate::clauses::{flag_clause, number_clause};
+use crate::error::SentenceError;
+use crate::values::begins_with;
+use redis_args::RawBytes;
+use std::alloc::Global;
+use stream_options::StreamReadOptions;
+
+/// The names of a group and of its consumer, each one argument.
+#[derive(Clone, Copy, Debug, PartialEq, Eq)]
+pub struct GroupNames<'a> {
+    /// The name of the group.
+    pub group: &'a [u8],
+    /// The name of the consumer.
+    pub consumer: &'a [u8],
+}
+
+/// The settings of `XREAD` and `XREADGROUP` one by one: `[GROUP g c] [BLOCK n] [COUNT n]`, then only
+/// where a group is set `[NOACK] [CLAIM n]`.
+#[derive(Clone, Copy, Debug, PartialEq, Eq)]
+pub struct ReadParts<'a> {
+    /// For which consumer of which group.
+    pub group: Option<GroupNames<'a>>,
+    /// The read waits so many milliseconds, and 0 without end.
+    pub block: Option<usize>,
+    /// The most entries that are read of a stream.
+    pub count: Option<usize>,
+    /// Whether what is read needs no acknowledgement.
+    pub noack: bool,
+    /// Entries that are idle for so many milliseconds are claimed and read first.
+    pub claim: Option<usize>,
+}
+
+/// The options of `XREAD` and `XREADGROUP` with these settings. Memory is asked for only where a
+/// group is set, and its refusal is the only error.
+pub fn read_with(alloc: Global, parts: ReadParts<'_>) -> Result<StreamReadOptions, SentenceError>
+    ensures ok { IfOk result (λ options. options ≡ read_of parts.entry) }
+    ensures cause { IfErr result (λ e. e ≡ SentenceError.Memory) }
+    ensures none { IfErr result (λ e. parts.entry.group ≢ None) }
+{
+    let options = match parts.group {
+        Some(names) => for_group(alloc, names.group, names.consumer)?,
+        None => StreamReadOptions::default(),
+    };
+    let options = with_count(with_block(options, parts.block), parts.count);
+    Ok(with_claim(with_noack(options, parts.noack), parts.claim))
+}
+
+/// The options of `XREAD` and `XREADGROUP` that the first arguments are the sentence of, and how
+/// many arguments that is: `[GROUP g c] [BLOCK n] [COUNT n]`, then only where a group is set
+/// `[NOACK] [CLAIM n]`. Each name is one argument, of any bytes.
+///
+/// `NotASentence` where there are none, or where what follows begins with a fixed word.
+pub fn read_read(
+    alloc: Global,
+    args: &[Vec<u8>],
+) -> Result<(StreamReadOptions, usize), SentenceError>
+    ensures split { let list = arguments args.now in IfOk result (λ x.
+        IsOneSplit ReadFits read_sentence read_words CountAlike list x.0 x.1) }
+    ensures none { IfErr result (λ e. e ≡ SentenceError.NotASentence
+        → HasNoSplit ReadFits read_sentence read_words (arguments args.now)) }
+{
+    let (parts, count) = read_read_parts(args)?;
+    let options = read_with(alloc, parts)?;
+    Ok((options, count))
+}
+
+/// The settings of `XREAD` and `XREADGROUP` that the first arguments are the sentence of, and how
+/// many arguments that is. `read_with` makes the options of them. It takes no memory.
+///
+/// `NotASentence` where there are none, or where what follows begins with a fixed word.
+pub fn read_read_parts(args: &[Vec<u8>]) -> Result<(ReadParts<'_>, usize), SentenceError>
+    ensures split { let list = arguments args.now in IfOk result (λ x.
+        IsOneSplit ReadFits read_sentence read_words CountAlike list (read_of x.0) x.1) }
+    ensures noack { IfOk result (λ x. x.0.group ≡ None → x.0.noack ≡ false) }
+    ensures claim { IfOk result (λ x. x.0.group ≡ None → x.0.claim ≡ None) }
+    ensures none { IfErr result (λ e.
+        HasNoSplit ReadFits read_sentence read_words (arguments args.now)) }
+    ensures cause { IfErr result (λ e. e ≡ SentenceError.NotASentence) }
+{
+    let Some((parts, rest)) = read_at(args) else {
+        return Err(SentenceError::NotASentence);
+    };
+    if begins_with(&["GROUP", "BLOCK", "COUNT", "NOACK", "CLAIM"], rest) {
+        return Err(SentenceError::NotASentence);
+    }
+    Ok((parts, args.len() - rest.len()))
+}
+
+/// The settings, and the arguments behind them.
+#[tactic(auto, using(crate::proofs::ReadLemmas::forms))]
+fn read_at(args: &[Vec<u8>]) -> Option<(ReadParts<'_>, &[Vec<u8>])>
+    ensures read { option_map (λ x. (read_of x.0, arguments x.1.now)) result
+        ≡ reading.read_at (arguments args.now) }
+    ensures noack { IfSome result (λ x. x.0.group ≡ None → x.0.noack ≡ false) }
+    ensures claim { IfSome result (λ x. x.0.group ≡ None → x.0.claim ≡ None) }
+{
+    if begins_with(&["GROUP"], args) {
+        grouped_at(args)
+    } else {
+        ungrouped_at(args)
+    }
+}
+
+/// `GROUP g c [BLOCK n] [COUNT n] [NOACK] [CLAIM n]`, and the arguments behind it.
+fn grouped_at(args: &[Vec<u8>]) -> Option<(ReadParts<'_>, &[Vec<u8>])>
+    ensures read { option_map (λ x. (read_of x.0, arguments x.1.now)) result
+        ≡ reading.reading_as reading.grouped_with reading.grouped_at (arguments args.now) }
+    ensures grouped { IfSome result (λ x. x.0.group ≢ None) }
+{
+    let (names, rest) = group_at(args)?;
+    let (block, rest) = number_clause("BLOCK", rest)?;
+    let (count, rest) = number_clause("COUNT", rest)?;
+    let (noack, rest) = flag_clause("NOACK", rest)?;
+    let (claim, rest) = number_clause("CLAIM", rest)?;
+    let parts = ReadParts {
+        group: Some(names),
+        block,
+        count,
+        noack,
+        claim,
+    };
+    Some((parts, rest))
+}
+
+/// `GROUP g c`, and the arguments behind it.
+fn group_at(args: &[Vec<u8>]) -> Option<(GroupNames<'_>, &[Vec<u8>])>
+    ensures { option_map (λ x. (group_of x.0, arguments x.1.now)) result
+        ≡ reading.group_at (arguments args.now) }
+{
+    match args {
+        [word, group, consumer, rest @ ..] if word.as_slice() == b"GROUP".as_slice() => {
+            Some((GroupNames { group, consumer }, rest))
+        }
+        _ => None,
+    }
+}
+
+/// `[BLOCK n] [COUNT n]`, and the arguments behind it.
+fn ungrouped_at(args: &[Vec<u8>]) -> Option<(ReadParts<'_>, &[Vec<u8>])>
+    ensures read { option_map (λ x. (read_of x.0, arguments x.1.now)) result
+        ≡ reading.reading_as reading.ungrouped_with reading.ungrouped_at (arguments args.now) }
+    ensures noack { IfSome result (λ x. x.0.noack ≡ false) }
+    ensures claim { IfSome result (λ x. x.0.claim ≡ None) }
+{
+    let (block, rest) = number_clause("BLOCK", args)?;
+    let (count, rest) = number_clause("COUNT", rest)?;
+    let parts = ReadParts {
+        group: None,
+        block,
+        count,
+        noack: false,
+        claim: None,
+    };
+    Some((parts, rest))
+}
+
+/// Options with these names alone.
+fn for_group(
+    alloc: Global,
+    group: &[u8],
+    consumer: &[u8],
+) -> Result<StreamReadOptions, SentenceError>
+    ensures ok { IfOk result (λ options. options
+        ≡ record default_read { group = Some (reading.single_group group.now consumer.now) }) }
+    ensures cause { IfErr result (λ e. e ≡ SentenceError.Memory) }
+{
+    let group = RawBytes(Vec::from_slice(alloc, group)?);
+    let consumer = RawBytes(Vec::from_slice(alloc, consumer)?);
+    Ok(StreamReadOptions::default().group(alloc, group, consumer)?)
+}
+
+/// The time to block, where there is one.
+fn with_block(options: StreamReadOptions, block: Option<usize>) -> StreamReadOptions
+    requires { options.block ≡ None }
+    ensures { result ≡ record options { block = block } }
+{
+    match block {
+        Some(n) => options.block(n),
+        None => options,
+    }
+}
+
+/// The number of entries, where there is one.
+fn with_count(options: StreamReadOptions, count: Option<usize>) -> StreamReadOptions
+    requires { options.count ≡ None }
+    ensures { result ≡ record options { count = count } }
+{
+    match count {
+        Some(n) => options.count(n),
+        None => options,
+    }
+}
+
+/// The flag, where it is wanted.
+fn with_noack(options: StreamReadOptions, wanted: bool) -> StreamReadOptions
+    requires { options.noack ≡ false }
+    ensures { result ≡ record options { noack = wanted } }
+{
+    if wanted { options.noack() } else { options }
+}
+
+/// The time after which entries are claimed, where there is one.
+fn with_claim(options: StreamReadOptions, claim: Option<usize>) -> StreamReadOptions
+    requires { options.claim ≡ None }
+    ensures { result ≡ record options { claim = claim } }
+{
+    match claim {
+        Some(n) => options.claim(n),
+        None => options,
+    }
+}

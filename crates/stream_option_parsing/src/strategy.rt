@@ -1,0 +1,71 @@
+//! Strategies of trimming.
+ghost use Rattle.std.specs.Prelude.{◌≡◌, None, IfErr};
+ghost use Rattle.stream_options.specs.ReadBack as reading;
+ghost use Rattle.stream_options.specs.View.{strategy_of};
+ghost use Rattle.stream_option_parsing.specs.Split.{arguments, Gives, unlimited_at};
+
+use crate::clauses::number_clause;
+use crate::error::SentenceError;
+use crate::values::{mode_in, number_in, text_in};
+use std::alloc::Global;
+use stream_options::StreamTrimStrategy;
+
+/// A strategy, and the arguments behind it. Memory is asked for only where a bound stands there.
+#[tactic(auto, using(crate::proofs::StrategyLemmas::limits))]
+pub(crate) fn strategy_at(
+    alloc: Global,
+    args: &[Vec<u8>],
+) -> Result<(StreamTrimStrategy, &[Vec<u8>]), SentenceError>
+    ensures strategy { Gives (λ x. (strategy_of x.0, arguments x.1.now)) result
+        (reading.strategy_at (arguments args.now)) }
+    ensures none { IfErr result (λ e. unlimited_at (arguments args.now) ≡ None
+        → e ≡ SentenceError.NotASentence) }
+{
+    let (strategy, rest) = bound_at(alloc, args)?;
+    let Some((limit, rest)) = number_clause("LIMIT", rest) else {
+        return Err(SentenceError::NotASentence);
+    };
+    match limit {
+        Some(n) => Ok((strategy.limit(n), rest)),
+        None => Ok((strategy, rest)),
+    }
+}
+
+/// `MAXLEN mode n` or `MINID mode id` as a strategy without a limit, and the arguments behind it.
+/// Memory is asked for only where they stand there.
+fn bound_at(
+    alloc: Global,
+    args: &[Vec<u8>],
+) -> Result<(StreamTrimStrategy, &[Vec<u8>]), SentenceError>
+    ensures bound { Gives (λ x. (strategy_of x.0, arguments x.1.now)) result
+        (unlimited_at (arguments args.now)) }
+    ensures none { IfErr result (λ e. unlimited_at (arguments args.now) ≡ None
+        → e ≡ SentenceError.NotASentence) }
+{
+    match args {
+        [] => Err(SentenceError::NotASentence),
+        [_word] => Err(SentenceError::NotASentence),
+        [_word, _mode] => Err(SentenceError::NotASentence),
+        [word, mode, value, rest @ ..] => {
+            if word.as_slice() == b"MAXLEN".as_slice() {
+                match mode_in(mode) {
+                    Some(mode) => match number_in(value) {
+                        Some(n) => Ok((StreamTrimStrategy::maxlen(mode, n), rest)),
+                        None => Err(SentenceError::NotASentence),
+                    },
+                    None => Err(SentenceError::NotASentence),
+                }
+            } else if word.as_slice() == b"MINID".as_slice() {
+                match mode_in(mode) {
+                    Some(mode) => {
+                        let id = text_in(alloc, value)?;
+                        Ok((StreamTrimStrategy::minid(mode, id), rest))
+                    }
+                    None => Err(SentenceError::NotASentence),
+                }
+            } else {
+                Err(SentenceError::NotASentence)
+            }
+        }
+    }
+}

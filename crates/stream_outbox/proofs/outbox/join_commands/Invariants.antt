@@ -1,8 +1,0 @@
-use Rattle.std.proofs.Common.{◌≡◌, take}
-use Rattle.stream_outbox.specs.Sent.{all_bytes}
-use Rattle.stream_outbox.proofs.SentLemmas.{texts_of}
-use Rattle.stream_outbox.proofs.outbox.join_commands.Given as goal
-
--- the bytes so far are those of the commands so far
-abbrev pub invariant-loop-command : goal.invariant-loop-command
-invariant-loop-command l = l.bytes.items ≡ all_bytes (texts_of (take l.command-index l.commands))

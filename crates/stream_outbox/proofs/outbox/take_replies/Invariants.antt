@@ -1,6 +1,0 @@
-use Rattle.stream_outbox.specs.Sent.{Replied}
-use Rattle.stream_outbox.proofs.outbox.take_replies.Given as goal
-
--- so many replies came
-abbrev pub invariant-loop-count : goal.invariant-loop-count
-invariant-loop-count g l = Replied l.count l.fn.connection l.connection

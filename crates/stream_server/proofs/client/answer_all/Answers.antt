@@ -1,8 +1,0 @@
-use Rattle.std.proofs.Common.{map}
-use Rattle.stream_server.proofs.ServingLemmas.{one_more_turn}
-use Rattle.stream_server.proofs.client.answer_all.Goals as goal
-
-pub commands-preserved : goal.commands-preserved
-commands-preserved c = one_more_turn c.args.bytes.now c.commands.rest.now c.in-Ok.behind.now
-    (map (λ w. w.items) c.in-Ok.words.items) c.args.answers.now.items c.commands.answers.items
-    c.answer_one.new.answers.items c.commands.invariant c.in-Ok.ensures.gives c.in_ok-answer_one-in-Ok.ensures.ok

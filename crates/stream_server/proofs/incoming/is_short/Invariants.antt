@@ -1,9 +1,0 @@
-use Rattle.stream_server.specs.Incoming.{IsScan}
-use Rattle.stream_server.proofs.incoming.is_short.Given as goal
-
--- what was looked through says where the command goes on
-abbrev pub invariant-words : goal.invariant-words
-invariant-words l = IsScan l.scan l.bytes
-
-abbrev pub decreases-words : goal.decreases-words
-decreases-words l = l.scan.left

@@ -1,5 +1,0 @@
-use Rattle.stream_server.proofs.AddModelLemmas.{xadd_is_the_event}
-use Rattle.stream_server.proofs.laws.xadd_is_the_event.Goals as goal
-
-pub returns : goal.returns
-returns c = xadd_is_the_event

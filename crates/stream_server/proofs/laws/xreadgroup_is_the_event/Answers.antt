@@ -1,5 +1,0 @@
-use Rattle.stream_server.proofs.ReadEventLemmas.{xreadgroup_is_the_event}
-use Rattle.stream_server.proofs.laws.xreadgroup_is_the_event.Goals as goal
-
-pub returns : goal.returns
-returns c = xreadgroup_is_the_event

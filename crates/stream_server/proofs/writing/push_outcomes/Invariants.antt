@@ -1,8 +1,0 @@
-use Rattle.std.proofs.Common.{◌≡◌, ◌++◌, take}
-use Rattle.std.specs.List.{flat_map}
-use Rattle.stream_server.specs.Sent.{outcome_bytes}
-use Rattle.stream_server.proofs.writing.push_outcomes.Given as goal
-
-abbrev pub invariant-loop-outcome : goal.invariant-loop-outcome
-invariant-loop-outcome l =
-    l.out.items ≡ l.initial.out.items ++ flat_map (outcome_bytes l.protocol) (take l.outcome-index l.outcome-items)

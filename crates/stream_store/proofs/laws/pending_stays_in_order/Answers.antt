@@ -1,5 +1,0 @@
-use Rattle.stream_store.proofs.LawLemmas.{pending_laws}
-use Rattle.stream_store.proofs.laws.pending_stays_in_order.Goals as goal
-
-pub returns : goal.returns
-returns c = pending_laws

@@ -1,6 +1,0 @@
-use Rattle.std.proofs.Common.{◌≡◌, ◌+◌, sum_by, take}
-use Rattle.stream_store.proofs.stream.node_of.Given as goal
-
--- the nodes so far are before the index
-abbrev pub invariant-loop-place : goal.invariant-loop-place
-invariant-loop-place l = l.before + sum_by (λ node. node.live) (take l.place l.nodes.items) ≡ l.index

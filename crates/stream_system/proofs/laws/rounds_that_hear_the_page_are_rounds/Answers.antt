@@ -1,8 +1,0 @@
-use Rattle.stream_system.proofs.DrainedLemmas.{one_round_is_one, enough_rounds_drain}
-use Rattle.stream_system.proofs.laws.rounds_that_hear_the_page_are_rounds.Goals as goal
-
-pub returns-clause-round : goal.returns-clause-round
-returns-clause-round c = one_round_is_one
-
-pub returns-clause-drains : goal.returns-clause-drains
-returns-clause-drains c = enough_rounds_drain

@@ -1,5 +1,0 @@
-//! Workers that do what the contracts of `stream_worker` say, over one server, each with a file of
-//! lines, and what holds after every schedule. It runs nothing: its functions are laws.
-#![tactic(auto)]
-
-pub mod laws;

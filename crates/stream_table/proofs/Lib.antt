@@ -1,8 +1,0 @@
--- Lemmas.
-mod FieldsLemmas
-mod CellsLemmas
-mod KeptLemmas
-pub mod LivedLemmas
-pub mod AcknowledgedLemmas
-mod ForwardedLemmas
-mod SendLemmas

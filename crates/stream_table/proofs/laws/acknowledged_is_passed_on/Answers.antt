@@ -1,5 +1,0 @@
-use Rattle.stream_table.proofs.ForwardedLemmas.{passed_on}
-use Rattle.stream_table.proofs.laws.acknowledged_is_passed_on.Goals as goal
-
-pub returns : goal.returns
-returns c = passed_on

@@ -1,5 +1,0 @@
-use Rattle.stream_table.proofs.KeptLemmas.{gathers}
-use Rattle.stream_table.proofs.laws.gathers_its_rows.Goals as goal
-
-pub returns : goal.returns
-returns c = gathers

@@ -1,5 +1,0 @@
-use Rattle.stream_table.proofs.LivedLemmas.{lived}
-use Rattle.stream_table.proofs.laws.rounds_are_lived.Goals as goal
-
-pub returns : goal.returns
-returns c = lived

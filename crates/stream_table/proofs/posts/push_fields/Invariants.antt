@@ -1,8 +1,0 @@
-use Rattle.std.proofs.Common.{◌≡◌, ◌++◌, ◌∷◌, [], flat_map}
-use Rattle.stream_table.specs.Forwarded.{field_words}
-use Rattle.stream_table.proofs.posts.push_fields.Given as goal
-
--- the words so far, and behind them those of the fields that are left, are all
-abbrev pub invariant-loop-name : goal.invariant-loop-name
-invariant-loop-name l = flat_map (λ word. word.now ∷ []) l.out.items ++ field_words l.name-iterator
-    ≡ flat_map (λ word. word.now ∷ []) l.fn.out.items ++ field_words l.fn.fields

@@ -1,6 +1,0 @@
-use Rattle.std.proofs.Common.{◌≡◌, ◌++◌, map}
-use Rattle.stream_text.specs.Entry.{pair_of, pairs_of}
-use Rattle.stream_text.proofs.replies.rows.stream_id.fields_in.Given as goal
-
-abbrev pub invariant-loop-name : goal.invariant-loop-name
-invariant-loop-name l = map pair_of l.fields.items ++ pairs_of l.name-iterator ≡ pairs_of l.sorted.entries

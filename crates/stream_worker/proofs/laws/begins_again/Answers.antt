@@ -1,5 +1,0 @@
-use Rattle.stream_worker.proofs.SessionLemmas.{failures_begin_again}
-use Rattle.stream_worker.proofs.laws.begins_again.Goals as goal
-
-pub returns : goal.returns
-returns c = failures_begin_again

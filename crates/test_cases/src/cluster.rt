@@ -1,0 +1,251 @@
+//! Reads cases of Redis Cluster from standard input, one a line, and prints each with its outcome.
+//!
+//! A line is `KIND<tab>INPUT`; what follows a second tab is left out, so what was printed can be read
+//! again.
+//!
+//! ```text
+//! slot             {user1000}.following           3443
+//! slot-of-hex      ff00                           1023
+//! error            MOVED 3999 127.0.0.1:6381      moved slot 3999 host 127.0.0.1 port 6381: connect
+//! partition        12 user1000                    3
+//! partition-name   3 orders                       orders:{3} slot 1584
+//! slots            42 2a310d0a2a330d0a..          10.0.0.1:6379 | 0-99 master 10.0.0.1:6379
+//! shards           42 2a310d0a25320d0a..          none | 0-9 50-99 master 10.0.0.1:6379
+//! ```
+//!
+//! The stored slots of the first two kinds are those that redis-server told; partitions are those of
+//! another implementation of the checksum. The last two kinds have a slot and a reply in hex digits: the
+//! outcome is the master of the slot, and each shard. Most of their replies came from redis-server.
+//!
+//! It ends with 0, or with 2 if memory ran out, or standard input or output failed.
+
+use anyhow::Result;
+use redis_client::topology::{Node, Role, Shard, Topology, TopologyError};
+use hex::FromHexError;
+use redis_client::cluster::{
+    ClusterError, NextStep, cluster_error, key_slot, partition_name, partition_of,
+};
+use redis_resp::Value;
+use redis_wire::{Decoded, Limits, Reply, decode};
+use std::alloc::{AllocError, Global};
+use std::io::{BufRead, BufReader, BufWriter, Write};
+use std::num::NonZeroU16;
+use std::process::ExitCode;
+use std::{io, str};
+
+/// Memory ran out, or standard input or output failed.
+const FAILED: u8 = 2;
+
+fn main(rt: HostRuntime) -> ExitCode {
+    match print_outcomes(&rt) {
+        Ok(()) => ExitCode::SUCCESS,
+        Err(_error) => ExitCode::from(FAILED),
+    }
+}
+
+/// Prints each line of standard input with its outcome.
+fn print_outcomes<R: Input + Print + AllocGlobal>(rt: &R) -> Result<()> {
+    let alloc = rt.alloc();
+    let mut output = BufWriter::new(alloc, io::writer(rt))?;
+    for line in BufReader::new(alloc, rt.reader())?.lines(alloc) {
+        let line = line?;
+        let (kind, rest) = split_at_tab(&line);
+        let (input, _) = split_at_tab(rest);
+        let text = outcome(alloc, kind, input)?;
+        write!(output, "{kind}\t{input}\t{text}\n")?;
+    }
+    output.flush()?;
+    Ok(())
+}
+
+/// What is before the first tab, and what is after it.
+fn split_at_tab(line: &str) -> (&str, &str) {
+    match line.split_once('\t') {
+        Some(parts) => parts,
+        None => (line, ""),
+    }
+}
+
+/// The outcome of a case.
+fn outcome(alloc: Global, kind: &str, input: &str) -> Result<String> {
+    match kind {
+        "slot" => slot_told(alloc, input.as_bytes()),
+        "slot-of-hex" => slot_of_hex_told(alloc, input),
+        "error" => error_told(alloc, input),
+        "partition" => partition_told(alloc, input),
+        "partition-name" => partition_name_told(alloc, input),
+        "slots" => topology_told(alloc, Asked::Slots, input),
+        "shards" => topology_told(alloc, Asked::Shards, input),
+        _ => Ok(String::from_str(alloc, "no such kind")?),
+    }
+}
+
+fn slot_told(alloc: Global, key: &[u8]) -> Result<String> {
+    let slot = key_slot(key);
+    Ok(format!(in alloc; "{slot}")?)
+}
+
+/// The slot of a key in hex digits.
+fn slot_of_hex_told(alloc: Global, input: &str) -> Result<String> {
+    match hex::decode(alloc, input) {
+        Ok(key) => slot_told(alloc, &key),
+        Err(FromHexError::OutOfMemory) => Err(AllocError.into()),
+        Err(_error) => Ok(String::from_str(alloc, "no hex digits")?),
+    }
+}
+
+/// What an error says, and what it asks for.
+fn error_told(alloc: Global, text: &str) -> Result<String> {
+    let Some(error) = cluster_error(text.as_bytes()) else {
+        return Ok(String::from_str(alloc, "none of these")?);
+    };
+    let step = step_word(error.next_step());
+    match error {
+        ClusterError::Moved { slot, host, port } => {
+            place_told(alloc, "moved", slot, host, port, step)
+        }
+        ClusterError::Ask { slot, host, port } => place_told(alloc, "ask", slot, host, port, step),
+        ClusterError::TryAgain => Ok(format!(in alloc; "try again: {step}")?),
+        ClusterError::ClusterDown => Ok(format!(in alloc; "cluster down: {step}")?),
+        ClusterError::Loading => Ok(format!(in alloc; "loading: {step}")?),
+        ClusterError::MasterDown => Ok(format!(in alloc; "master down: {step}")?),
+        ClusterError::ReadOnly => Ok(format!(in alloc; "read only: {step}")?),
+        ClusterError::NoReplicas => Ok(format!(in alloc; "no replicas: {step}")?),
+    }
+}
+
+fn place_told(
+    alloc: Global,
+    word: &str,
+    slot: u16,
+    host: &[u8],
+    port: u16,
+    step: &str,
+) -> Result<String> {
+    let host = str::from_utf8(host).unwrap_or("of other bytes");
+    Ok(format!(in alloc; "{word} slot {slot} host {host} port {port}: {step}")?)
+}
+
+fn step_word(step: NextStep) -> &'static str {
+    match step {
+        NextStep::Connect => "connect",
+        NextStep::AskOnce => "ask once",
+        NextStep::Wait => "wait",
+        NextStep::GiveUp => "give up",
+    }
+}
+
+/// The number at the head of a text, and what is after the blank after it.
+fn number_and_rest(input: &str) -> Option<(u16, &str)> {
+    let (number, rest) = input.split_once(' ')?;
+    let number = number.parse::<u16>().ok()?;
+    Some((number, rest))
+}
+
+/// The partition of the key after the number of partitions.
+fn partition_told(alloc: Global, input: &str) -> Result<String> {
+    match number_and_rest(input) {
+        Some((number, key)) => match NonZeroU16::new(number) {
+            Some(number) => {
+                let partition = partition_of(key.as_bytes(), number);
+                Ok(format!(in alloc; "{partition}")?)
+            }
+            None => Ok(String::from_str(alloc, "no partitions")?),
+        },
+        None => Ok(String::from_str(alloc, "no number")?),
+    }
+}
+
+/// The key of the partition of a stream, and its slot.
+fn partition_name_told(alloc: Global, input: &str) -> Result<String> {
+    match number_and_rest(input) {
+        Some((partition, name)) => {
+            let key = partition_name(alloc, name.as_bytes(), partition)?;
+            let slot = key_slot(&key);
+            let key = str::from_utf8(&key).unwrap_or("other bytes");
+            Ok(format!(in alloc; "{key} slot {slot}")?)
+        }
+        None => Ok(String::from_str(alloc, "no number")?),
+    }
+}
+
+/// Which command the reply is of.
+#[derive(Clone, Copy)]
+enum Asked {
+    Slots,
+    Shards,
+}
+
+/// The master of a slot, and the shards, of a reply in hex digits: its text after the slot and a blank.
+fn topology_told(alloc: Global, asked: Asked, input: &str) -> Result<String> {
+    let Some((slot, digits)) = input.split_once(' ') else {
+        return Ok(String::from_str(alloc, "no slot")?);
+    };
+    let Ok(slot) = slot.parse::<u16>() else {
+        return Ok(String::from_str(alloc, "no slot")?);
+    };
+    let Some(value) = value_of_hex(alloc, digits)? else {
+        return Ok(String::from_str(alloc, "no value")?);
+    };
+    let topology = match asked {
+        Asked::Slots => Topology::from_slots(alloc, value),
+        Asked::Shards => Topology::from_shards(alloc, value),
+    };
+    match topology {
+        Ok(topology) => topology_text(alloc, &topology, slot),
+        Err(TopologyError::Memory) => Err(AllocError.into()),
+        Err(error) => Ok(format!(in alloc; "{error}")?),
+    }
+}
+
+/// The value of a reply in hex digits.
+fn value_of_hex(alloc: Global, digits: &str) -> Result<Option<Value>> {
+    let bytes = match hex::decode(alloc, digits) {
+        Ok(bytes) => bytes,
+        Err(FromHexError::OutOfMemory) => return Err(AllocError.into()),
+        Err(_error) => return Ok(None),
+    };
+    match decode(alloc, &bytes, Limits::default())? {
+        Decoded::Complete {
+            reply: Reply::Value(value),
+            ..
+        } => Ok(Some(value)),
+        _ => Ok(None),
+    }
+}
+
+/// The master of the slot, and the shards.
+fn topology_text(alloc: Global, topology: &Topology, slot: u16) -> Result<String> {
+    let mut text = match topology.master_of(slot) {
+        Some(node) => place_text(alloc, node)?,
+        None => String::from_str(alloc, "none")?,
+    };
+    for shard in &topology.shards {
+        text.push_str(" |")?;
+        push_shard(alloc, &mut text, shard)?;
+    }
+    Ok(text)
+}
+
+/// Adds the ranges and the nodes of a shard.
+fn push_shard(alloc: Global, text: &mut String, shard: &Shard) -> Result<()> {
+    for range in &shard.ranges {
+        let (first, last) = (range.first, range.last);
+        text.push_str(format!(in alloc; " {first}-{last}")?.as_str())?;
+    }
+    for node in &shard.nodes {
+        text.push_str(match node.role {
+            Role::Master => " master ",
+            Role::Replica => " replica ",
+        })?;
+        text.push_str(place_text(alloc, node)?.as_str())?;
+    }
+    Ok(())
+}
+
+/// The host and the port of a node.
+fn place_text(alloc: Global, node: &Node) -> Result<String> {
+    let host = node.host.as_str();
+    let port = node.port;
+    Ok(format!(in alloc; "{host}:{port}")?)
+}

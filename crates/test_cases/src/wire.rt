@@ -1,0 +1,637 @@
+//! Bytes of a server, read in every way that there is.
+//!
+//! | Kind | Input and outcome |
+//! |---|---|
+//! | `wire` | bytes: the reply at their head, after its length, `incomplete`, or the fault that refuses them |
+//! | `limited` | the same with small limits |
+//! | `decoded` | the same as `wire`, of fewer ways: for tools, which try many |
+//! | `pieces` | replies, one after the other: how many there are, and what is after them |
+//! | `nodes` | a reply: its nodes in place |
+//! | `reply-text`, `reply-texts`, `reply-number` | a reply: the record that it is read as, or the caller's error |
+//! | `pack` | words: the bytes of a command with these arguments |
+//!
+//! Bytes are decoded whole, come through a stream byte by byte (so far also for `decoded`) and cut in two
+//! at each place, where they are taken out as values and in place, and each front of them is listed as
+//! nodes. If one of these ways does not find what decoding finds, the outcome says so.
+ghost use Rattle.test_cases.specs.Kinds.{is_wire};
+ghost use Rattle.std.specs.Prelude.{◌≡◌, IfOk, IsSome, IsTrue};
+
+use crate::{INCOMPLETE, bytes_of, fault_text};
+use bstr::BStr;
+use redis_resp::{FromRedisValue, ToRedisArgs};
+use redis_wire::place::Span;
+use redis_wire::{
+    Decoded, Found, Limits, Node, PackError, PackedCommand, RedisError, Reply, ReplyStream,
+    ServerError, WireError, append_command, decode, find_nodes, from_reply, nodes_in, pack_args,
+    pack_command,
+};
+use std::alloc::{AllocError, Global};
+use std::fmt::Debug;
+
+/// Limits that small replies meet.
+const SMALL: Limits = Limits {
+    depth: 4,
+    length: 1000,
+    line: 30,
+    values: 6,
+    bytes: 64,
+};
+
+/// The outcome of a case of this module, or `None` if its kind is another.
+pub fn outcome(alloc: Global, kind: &str, input: &str) -> Result<Option<String>, AllocError>
+    ensures { IfOk result (λ o. IsSome o → IsTrue (is_wire kind.now)) }
+{
+    if !is_kind(kind) {
+        return Ok(None);
+    }
+    match bytes_of(alloc, input)? {
+        Some(bytes) => Ok(Some(outcome_of(alloc, kind, &bytes)?)),
+        None => Ok(Some(String::from_str(alloc, "not the text of bytes")?)),
+    }
+}
+
+/// Whether a kind is one of this module.
+fn is_kind(kind: &str) -> bool
+    ensures { result ≡ is_wire kind.now }
+{
+    matches!(
+        kind,
+        "wire"
+            | "limited"
+            | "decoded"
+            | "pieces"
+            | "nodes"
+            | "reply-text"
+            | "reply-texts"
+            | "reply-number"
+            | "pack"
+    )
+}
+
+/// The outcome of bytes.
+fn outcome_of(alloc: Global, kind: &str, bytes: &[u8]) -> Result<String, AllocError> {
+    match kind {
+        "wire" => compared_ways(alloc, Limits::default(), bytes),
+        "limited" => compared_ways(alloc, SMALL, bytes),
+        "decoded" => one_by_one(alloc, Limits::default(), bytes),
+        "pieces" => pieces_text(alloc, bytes),
+        "nodes" => listed_nodes(alloc, bytes),
+        "reply-text" => read_as::<String>(alloc, bytes),
+        "reply-texts" => read_as::<Vec<String>>(alloc, bytes),
+        "reply-number" => read_as::<usize>(alloc, bytes),
+        _ => packed_text(alloc, bytes),
+    }
+}
+
+// The ways to read a reply at the head of bytes.
+
+/// How bytes are cut: how many are in the first piece, and in each one after it.
+#[derive(Clone, Copy)]
+struct Cut {
+    first: usize,
+    next: usize,
+}
+
+/// What decoding says of bytes, and after it what a stream says of them byte by byte, if it is something
+/// else.
+fn one_by_one(alloc: Global, limits: Limits, bytes: &[u8]) -> Result<String, AllocError> {
+    let told = decoded(alloc, limits, bytes)?;
+    let mut outcome = told.clone()?;
+    let cut = Cut { first: 1, next: 1 };
+    add_streams(alloc, limits, bytes, cut, &told, &mut outcome)?;
+    Ok(outcome)
+}
+
+/// What `one_by_one` says, and what each way says of the bytes cut in two and of each front of them, if it
+/// is something else.
+fn compared_ways(alloc: Global, limits: Limits, bytes: &[u8]) -> Result<String, AllocError> {
+    let told = decoded(alloc, limits, bytes)?;
+    let mut outcome = one_by_one(alloc, limits, bytes)?;
+    for first in 0..=bytes.len() {
+        let cut = Cut {
+            first,
+            next: usize::MAX,
+        };
+        add_streams(alloc, limits, bytes, cut, &told, &mut outcome)?;
+        add_front(alloc, limits, bytes.split_at(first).0, &mut outcome)?;
+        if outcome.len() > told.len() {
+            break;
+        }
+    }
+    Ok(outcome)
+}
+
+/// Adds what streams and nodes say of a front of the bytes, if decoding it says something else.
+fn add_front(
+    alloc: Global,
+    limits: Limits,
+    front: &[u8],
+    outcome: &mut String,
+) -> Result<(), AllocError> {
+    let told = decoded(alloc, limits, front)?;
+    let whole = Cut {
+        first: usize::MAX,
+        next: 0,
+    };
+    add_streams(alloc, limits, front, whole, &told, outcome)?;
+    let other = found_nodes(alloc, limits, front)?;
+    add_other_way(outcome, &told, &other, "as nodes")
+}
+
+/// Adds what a stream says of bytes that come in pieces, as a value and in place, if it is something
+/// else.
+fn add_streams(
+    alloc: Global,
+    limits: Limits,
+    bytes: &[u8],
+    cut: Cut,
+    told: &str,
+    outcome: &mut String,
+) -> Result<(), AllocError> {
+    let other = streamed(alloc, limits, bytes, cut, false)?;
+    add_other_way(outcome, told, &other, "in pieces")?;
+    let other = streamed(alloc, limits, bytes, cut, true)?;
+    add_other_way(outcome, told, &other, "in place")
+}
+
+/// Adds what another way says, if it is something else. A text that ends in a space says the length of a
+/// reply alone.
+fn add_other_way(
+    outcome: &mut String,
+    told: &str,
+    other: &str,
+    way: &str,
+) -> Result<(), AllocError> {
+    if told == other || (other.ends_with(' ') && told.starts_with(other)) {
+        return Ok(());
+    }
+    write!(outcome, "; {way}: {other}")
+}
+
+/// What decoding says of the reply at the head of bytes.
+fn decoded(alloc: Global, limits: Limits, bytes: &[u8]) -> Result<String, AllocError> {
+    match decode(alloc, bytes, limits) {
+        Ok(Decoded::Complete { reply, len }) => reply_text(alloc, len, &reply),
+        Ok(Decoded::Incomplete) => String::from_str(alloc, INCOMPLETE),
+        Err(error) => fault_text(alloc, error),
+    }
+}
+
+/// A reply after its length.
+fn reply_text(alloc: Global, len: usize, reply: &Reply) -> Result<String, AllocError> {
+    format!(in alloc; "{len} {reply:?}")
+}
+
+/// What a stream says of bytes that come in pieces, with the first piece after which it says something.
+fn streamed(
+    alloc: Global,
+    limits: Limits,
+    bytes: &[u8],
+    cut: Cut,
+    in_place: bool,
+) -> Result<String, AllocError> {
+    let mut stream = ReplyStream::new(alloc, limits);
+    let mut rest = bytes;
+    let mut size = cut.first;
+    for _ in 0..=bytes.len() {
+        let (piece, after) = rest.split_at(size.min(rest.len()));
+        rest = after;
+        size = cut.next;
+        if let Err(error) = stream.feed(piece) {
+            return fault_text(alloc, error);
+        }
+        let fed = bytes.len().saturating_sub(rest.len());
+        let text = head_text(alloc, &mut stream, bytes, fed, in_place)?;
+        if text.as_str() != INCOMPLETE || rest.is_empty() {
+            return Ok(text);
+        }
+    }
+    String::from_str(alloc, INCOMPLETE)
+}
+
+/// What a stream says of the reply at its head. It was fed so many of the bytes.
+fn head_text(
+    alloc: Global,
+    stream: &mut ReplyStream,
+    bytes: &[u8],
+    fed: usize,
+    in_place: bool,
+) -> Result<String, AllocError> {
+    if in_place {
+        let (front, _) = bytes.split_at(fed.min(bytes.len()));
+        place_text(alloc, stream, front)
+    } else {
+        next_text(alloc, stream, fed)
+    }
+}
+
+/// What a stream that holds so many bytes says of the reply at its head, as a value.
+fn next_text(alloc: Global, stream: &mut ReplyStream, held: usize) -> Result<String, AllocError> {
+    match stream.next(alloc) {
+        Ok(Some(reply)) => reply_text(alloc, held.saturating_sub(stream.held()), &reply),
+        Ok(None) => String::from_str(alloc, INCOMPLETE),
+        Err(error) => fault_text(alloc, error),
+    }
+}
+
+/// What a stream that was fed these bytes says of the reply at its head, in place: its length and a space,
+/// if all of them are held, and those after it once it is given out.
+fn place_text(alloc: Global, stream: &mut ReplyStream, fed: &[u8]) -> Result<String, AllocError> {
+    if stream.bytes() != fed {
+        return String::from_str(alloc, "other bytes are held");
+    }
+    match stream.next_in_place(alloc) {
+        Ok(Some(len)) => {
+            stream.give_out(len);
+            let (_, after) = fed.split_at(len.min(fed.len()));
+            let held = if stream.bytes() == after {
+                ""
+            } else {
+                "and others"
+            };
+            format!(in alloc; "{len} {held}")
+        }
+        Ok(None) => String::from_str(alloc, INCOMPLETE),
+        Err(error) => fault_text(alloc, error),
+    }
+}
+
+// Replies that come one after the other, in pieces of several sizes.
+
+/// The sizes of pieces that are tried: single bytes, some, and a packet of a network.
+const SIZES: [usize; 3] = [1, 7, 1448];
+
+/// Of so many bytes each size is tried.
+const FEW: usize = 100;
+
+/// How replies are taken out of a stream: in place or as values, and if the two alternate.
+#[derive(Clone, Copy)]
+struct Way {
+    in_place: bool,
+    alternates: bool,
+}
+
+/// Each way.
+const WAYS: [Way; 3] = [
+    Way {
+        in_place: false,
+        alternates: false,
+    },
+    Way {
+        in_place: true,
+        alternates: false,
+    },
+    Way {
+        in_place: false,
+        alternates: true,
+    },
+];
+
+/// How many replies there are, and how many bytes are after them; then each size of pieces in which a
+/// stream finds others.
+fn pieces_text(alloc: Global, bytes: &[u8]) -> Result<String, AllocError> {
+    let mut told = String::new(alloc);
+    let mut outcome = all_replies(alloc, bytes, &mut told)?;
+    for size in SIZES {
+        add_other_pieces(alloc, bytes, size, &told, &mut outcome)?;
+    }
+    if bytes.len() <= FEW {
+        for size in 2..=bytes.len() {
+            add_other_pieces(alloc, bytes, size, &told, &mut outcome)?;
+        }
+    }
+    Ok(outcome)
+}
+
+/// Adds a size of pieces, if a stream finds other replies in one of the ways.
+fn add_other_pieces(
+    alloc: Global,
+    bytes: &[u8],
+    size: usize,
+    told: &str,
+    outcome: &mut String,
+) -> Result<(), AllocError> {
+    for way in WAYS {
+        let other = replies_in_pieces(alloc, bytes, size, way)?;
+        if other.as_str() != told {
+            write!(outcome, "; others in pieces of {size}")?;
+        }
+    }
+    Ok(())
+}
+
+/// How many replies there are, and how many bytes are after them. Adds a line for each reply.
+fn all_replies(alloc: Global, bytes: &[u8], told: &mut String) -> Result<String, AllocError> {
+    let mut rest = bytes;
+    let mut count = 0usize;
+    for _ in 0..bytes.len() {
+        let Some((text, len)) = first_reply(alloc, rest)? else {
+            break;
+        };
+        add_line(told, &text)?;
+        rest = rest.split_at(len.min(rest.len())).1;
+        count = count.saturating_add(1);
+    }
+    let left = rest.len();
+    format!(in alloc; "{count} replies, {left} bytes after them")
+}
+
+/// The reply at the head of bytes, and its length.
+fn first_reply(alloc: Global, bytes: &[u8]) -> Result<Option<(String, usize)>, AllocError> {
+    match decode(alloc, bytes, Limits::default()) {
+        Ok(Decoded::Complete { reply, len }) => {
+            let text = reply_text(alloc, len, &reply)?;
+            Ok(Some((text, len)))
+        }
+        Err(WireError::Memory) => Err(AllocError),
+        Ok(Decoded::Incomplete) | Err(WireError::Fault(_)) => Ok(None),
+    }
+}
+
+/// Adds a line.
+fn add_line(text: &mut String, line: &str) -> Result<(), AllocError> {
+    text.push_str(line)?;
+    text.push('\n')
+}
+
+/// A line for each reply that a stream finds in bytes that come in pieces of this size.
+fn replies_in_pieces(
+    alloc: Global,
+    bytes: &[u8],
+    size: usize,
+    way: Way,
+) -> Result<String, AllocError> {
+    let mut stream = ReplyStream::new(alloc, Limits::default());
+    let mut told = String::new(alloc);
+    let mut in_place = way.in_place;
+    let mut rest = bytes;
+    for _ in 0..bytes.len() {
+        let (piece, after) = rest.split_at(size.min(rest.len()));
+        rest = after;
+        if let Err(error) = stream.feed(piece) {
+            return fault_text(alloc, error);
+        }
+        in_place = take_replies(alloc, &mut stream, &mut told, in_place, way.alternates)?;
+        if rest.is_empty() {
+            break;
+        }
+    }
+    Ok(told)
+}
+
+/// Takes the replies out of a stream, and adds a line for each one. Returns if the next one is taken in
+/// place.
+fn take_replies(
+    alloc: Global,
+    stream: &mut ReplyStream,
+    told: &mut String,
+    in_place: bool,
+    alternates: bool,
+) -> Result<bool, AllocError> {
+    let mut in_place = in_place;
+    for _ in 0..stream.held() {
+        let held = stream.held();
+        let text = taken_text(alloc, stream, held, in_place)?;
+        if text.as_str() == INCOMPLETE || stream.held() == held {
+            break;
+        }
+        add_line(told, &text)?;
+        in_place = in_place != alternates;
+    }
+    Ok(in_place)
+}
+
+/// Takes the reply at the head of a stream out, as a value or in place.
+fn taken_text(
+    alloc: Global,
+    stream: &mut ReplyStream,
+    held: usize,
+    in_place: bool,
+) -> Result<String, AllocError> {
+    if in_place {
+        reply_in_place(alloc, stream)
+    } else {
+        next_text(alloc, stream, held)
+    }
+}
+
+/// Takes the reply at the head of a stream out in place; its text is that of the bytes that it has there.
+fn reply_in_place(alloc: Global, stream: &mut ReplyStream) -> Result<String, AllocError> {
+    match stream.next_in_place(alloc) {
+        Ok(Some(len)) => {
+            let text = decoded(alloc, stream.limits(), &stream.bytes()[..len])?;
+            stream.give_out(len);
+            Ok(text)
+        }
+        Ok(None) => String::from_str(alloc, INCOMPLETE),
+        Err(error) => fault_text(alloc, error),
+    }
+}
+
+// Replies in place as flat lists of nodes.
+
+/// The nodes of a reply, or `none`: the type, the text, how many members, and where they end.
+fn listed_nodes(alloc: Global, bytes: &[u8]) -> Result<String, AllocError> {
+    let mut nodes = node_table(alloc, bytes.len() / 3)?;
+    match nodes_in(Limits::default(), bytes, nodes.as_mut_slice()) {
+        Some(count) => nodes_text(alloc, bytes, &nodes[..count]),
+        None => String::from_str(alloc, "none"),
+    }
+}
+
+/// The nodes in words, with a space between each two.
+fn nodes_text(alloc: Global, bytes: &[u8], nodes: &[Node]) -> Result<String, AllocError> {
+    let mut text = String::new(alloc);
+    for node in nodes {
+        if !text.is_empty() {
+            text.push(' ')?;
+        }
+        add_node(&mut text, bytes, node)?;
+    }
+    Ok(text)
+}
+
+/// Adds a node in words.
+fn add_node(text: &mut String, bytes: &[u8], node: &Node) -> Result<(), AllocError> {
+    let Span { start, len } = node.text;
+    let kind = char::from(node.kind);
+    let shown = BStr::new(part_of(bytes, start, len));
+    let members = node.members;
+    let end = node.end;
+    write!(text, "{kind}{shown} {members}>{end}")
+}
+
+/// So many bytes from that place on, as far as there are so many.
+fn part_of(bytes: &[u8], start: usize, len: usize) -> &[u8] {
+    let (_, behind) = bytes.split_at(start.min(bytes.len()));
+    let (text, _) = behind.split_at(len.min(behind.len()));
+    text
+}
+
+/// What `find_nodes` says of bytes: the length of a reply and a space, or what decoding would say.
+fn found_nodes(alloc: Global, limits: Limits, bytes: &[u8]) -> Result<String, AllocError> {
+    let mut nodes = node_table(alloc, bytes.len() / 3)?;
+    match find_nodes(alloc, limits, bytes, nodes.as_mut_slice()) {
+        Ok(Found::Whole { len, count }) => listed_text(alloc, limits, bytes, len, count),
+        Ok(Found::NoRoom { len }) => format!(in alloc; "no room for {len}"),
+        Ok(Found::Incomplete) => String::from_str(alloc, INCOMPLETE),
+        Err(error) => fault_text(alloc, error),
+    }
+}
+
+/// The length of a reply and a space, if the text of these bytes alone has so many nodes, in a table that
+/// they fill and in none that is smaller.
+fn listed_text(
+    alloc: Global,
+    limits: Limits,
+    bytes: &[u8],
+    len: usize,
+    count: usize,
+) -> Result<String, AllocError> {
+    let (text, after) = bytes.split_at(len.min(bytes.len()));
+    let filled = nodes_with(alloc, limits, text, count)?;
+    let longer = nodes_with(alloc, limits, bytes, count)?;
+    if filled != Some(count) || longer.is_some() != after.is_empty() {
+        return format!(in alloc; "other nodes in {len} bytes");
+    }
+    if has_room(alloc, limits, bytes, count.saturating_sub(1))? {
+        return format!(in alloc; "room for {len} bytes in less");
+    }
+    format!(in alloc; "{len} ")
+}
+
+/// Whether a table of that room holds the nodes of the reply at the head of bytes.
+fn has_room(alloc: Global, limits: Limits, bytes: &[u8], room: usize) -> Result<bool, AllocError> {
+    let mut nodes = node_table(alloc, room)?;
+    match find_nodes(alloc, limits, bytes, nodes.as_mut_slice()) {
+        Ok(Found::NoRoom { len: _ }) => Ok(false),
+        Err(WireError::Memory) => Err(AllocError),
+        _ => Ok(true),
+    }
+}
+
+/// How many nodes a text has, if a table of that room holds them.
+fn nodes_with(
+    alloc: Global,
+    limits: Limits,
+    text: &[u8],
+    room: usize,
+) -> Result<Option<usize>, AllocError> {
+    let mut nodes = node_table(alloc, room)?;
+    Ok(nodes_in(limits, text, nodes.as_mut_slice()))
+}
+
+/// A table of so many nodes.
+fn node_table(alloc: Global, room: usize) -> Result<Vec<Node>, AllocError> {
+    let empty = Node {
+        kind: 0,
+        text: Span { start: 0, len: 0 },
+        members: 0,
+        end: 0,
+    };
+    vec![in alloc; empty; room]
+}
+
+// What a reply is read as, and what a caller is told if it is no such record.
+
+/// The record of the reply at the head of bytes, or the error, each as `Debug` shows it. After an error
+/// is what a caller is told.
+fn read_as<T: FromRedisValue + Debug>(alloc: Global, bytes: &[u8]) -> Result<String, AllocError> {
+    match record_of::<T>(alloc, bytes) {
+        Ok(record) => format!(in alloc; "{record:?}"),
+        Err(error) => error_text(alloc, &error),
+    }
+}
+
+/// The record of the reply at the head of bytes, with every error of a caller in one.
+fn record_of<T: FromRedisValue>(alloc: Global, bytes: &[u8]) -> Result<T, RedisError> {
+    match decode(alloc, bytes, Limits::default())? {
+        Decoded::Complete { reply, len: _ } => Ok(from_reply::<T>(alloc, reply)?),
+        Decoded::Incomplete => Err(RedisError::NotAnAnswer),
+    }
+}
+
+/// An error, and what a caller is told; of an error of the server also its code and its message. That
+/// memory ran out says nothing of the reply.
+fn error_text(alloc: Global, error: &RedisError) -> Result<String, AllocError> {
+    match error {
+        RedisError::Memory => Err(AllocError),
+        RedisError::Server(error) => server_text(alloc, error),
+        _ => format!(in alloc; "{error:?}: {error}"),
+    }
+}
+
+/// An error of the server, its code and its message.
+fn server_text(alloc: Global, error: &ServerError) -> Result<String, AllocError> {
+    let code = BStr::new(error.code());
+    let message = BStr::new(error.message());
+    format!(in alloc; "{error:?}: {error}, code {code:?}, message {message:?}")
+}
+
+// Commands as bytes.
+
+/// What a pipeline holds before a command is added.
+const PIPELINE: &[u8] = b"*1\r\n$4\r\nPING\r\n";
+
+/// The bytes of a command whose arguments are words with a space between each two, or the refusal; then
+/// each way to pack it that gives others.
+fn packed_text(alloc: Global, words: &[u8]) -> Result<String, AllocError> {
+    let args = words_in(alloc, words)?;
+    let told = bytes_text(alloc, pack_args(alloc, &args))?;
+    let mut outcome = told.clone()?;
+    let packed = bytes_text(alloc, pack_command(alloc, &args))?;
+    add_other_bytes(&mut outcome, &told, &packed)?;
+    let written = bytes_text(alloc, written_bytes(alloc, &args))?;
+    add_other_bytes(&mut outcome, &told, &written)?;
+    let added = bytes_text(alloc, added_bytes(alloc, &args))?;
+    add_other_bytes(&mut outcome, &told, &added)?;
+    Ok(outcome)
+}
+
+/// Adds other bytes than those that are told.
+fn add_other_bytes(outcome: &mut String, told: &str, other: &str) -> Result<(), AllocError> {
+    if told == other {
+        return Ok(());
+    }
+    write!(outcome, "; {other}")
+}
+
+/// Bytes as text, or why there are none. That memory ran out says nothing of the arguments.
+fn bytes_text(alloc: Global, packed: Result<Vec<u8>, PackError>) -> Result<String, AllocError> {
+    match packed {
+        Ok(bytes) => {
+            let shown = BStr::new(bytes.as_slice());
+            format!(in alloc; "{shown:?}")
+        }
+        Err(PackError::Memory) => Err(AllocError),
+        Err(error) => format!(in alloc; "refused {error:?}: {error}"),
+    }
+}
+
+/// The bytes that a writer of commands has after these arguments.
+fn written_bytes(alloc: Global, args: &Vec<Vec<u8>>) -> Result<Vec<u8>, PackError> {
+    let mut command = PackedCommand::new(alloc);
+    args.write_redis_args(&mut command)?;
+    command.to_bytes(alloc)
+}
+
+/// The bytes that are added after others in a pipeline; all that it holds if the others are gone.
+fn added_bytes(alloc: Global, args: &Vec<Vec<u8>>) -> Result<Vec<u8>, PackError> {
+    let mut pipeline = Vec::from_slice(alloc, PIPELINE)?;
+    append_command(alloc, &mut pipeline, args)?;
+    let bytes = pipeline.as_slice();
+    let added = bytes.strip_prefix(PIPELINE).unwrap_or(bytes);
+    Ok(Vec::from_slice(alloc, added)?)
+}
+
+/// The words, with a space between each two. There are none in no bytes.
+fn words_in(alloc: Global, words: &[u8]) -> Result<Vec<Vec<u8>>, AllocError> {
+    let mut args = Vec::new(alloc);
+    if words.is_empty() {
+        return Ok(args);
+    }
+    for word in words.split(|byte| *byte == b' ') {
+        args.push(Vec::from_slice(alloc, word)?)?;
+    }
+    Ok(args)
+}

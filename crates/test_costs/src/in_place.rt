@@ -1,0 +1,86 @@
+//! The answer, read where it stands.
+ghost use Rattle.std.specs.Prelude.{IfOk};
+ghost use Rattle.test_costs.specs.Found.{HasStreams, AreInPlace};
+
+use anyhow::anyhow;
+use redis_wire::Limits;
+use stream_in_place::{EntriesRef, EntryTape, FieldsRef, StreamsRef};
+
+/// Both names are fields of every entry.
+const NAMES: [&[u8]; 2] = [b"customer", b"note"];
+
+/// Finds where all stands; how many streams there are.
+pub fn places(tape: &mut EntryTape, bytes: &[u8]) -> Result<usize, anyhow::Error>
+    ensures { IfOk result (λ count. HasStreams bytes.now count) }
+{
+    match tape.read_streams(bytes, Limits::default())? {
+        Some(found) => Ok(found.streams.len()),
+        None => Err(anyhow!("not in place")),
+    }
+}
+
+/// The sum of the lengths of all ids, names and values.
+pub fn fields(tape: &mut EntryTape, bytes: &[u8]) -> Result<usize, anyhow::Error>
+    ensures { IfOk result (λ _. AreInPlace bytes.now) }
+{
+    match tape.read_streams(bytes, Limits::default())? {
+        Some(found) => Ok(sum_streams(found.streams)),
+        None => Err(anyhow!("not in place")),
+    }
+}
+
+/// The sum of the lengths of two values of each entry, which are taken by name.
+pub fn gets(tape: &mut EntryTape, bytes: &[u8]) -> Result<usize, anyhow::Error>
+    ensures { IfOk result (λ _. AreInPlace bytes.now) }
+{
+    match tape.read_streams(bytes, Limits::default())? {
+        Some(found) => Ok(sum_gets(found.streams)),
+        None => Err(anyhow!("not in place")),
+    }
+}
+
+fn sum_streams(streams: StreamsRef<'_>) -> usize {
+    let mut sum = 0usize;
+    for stream in streams {
+        sum = sum.wrapping_add(sum_entries(stream.entries()));
+    }
+    sum
+}
+
+fn sum_entries(entries: EntriesRef<'_>) -> usize {
+    let mut sum = 0usize;
+    for entry in entries {
+        sum = sum
+            .wrapping_add(entry.id().len())
+            .wrapping_add(sum_fields(entry.fields()));
+    }
+    sum
+}
+
+fn sum_fields(fields: FieldsRef<'_>) -> usize {
+    let mut sum = 0usize;
+    for (name, value) in fields {
+        sum = sum.wrapping_add(name.len()).wrapping_add(value.len());
+    }
+    sum
+}
+
+fn sum_gets(streams: StreamsRef<'_>) -> usize {
+    let mut sum = 0usize;
+    for stream in streams {
+        sum = sum.wrapping_add(gets_of(stream.entries()));
+    }
+    sum
+}
+
+fn gets_of(entries: EntriesRef<'_>) -> usize {
+    let mut sum = 0usize;
+    for entry in entries {
+        for name in NAMES {
+            if let Some(value) = entry.get(name) {
+                sum = sum.wrapping_add(value.len());
+            }
+        }
+    }
+    sum
+}

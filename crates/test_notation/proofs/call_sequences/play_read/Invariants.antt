@@ -1,0 +1,14 @@
+use Rattle.std.proofs.Common.{◌≡◌, map, length, ◌++◌}
+use Rattle.std.specs.Vec.Iter.{into_iter_items, into_iter_len}
+use Rattle.stream_options.specs.Read.{default_read}
+use Rattle.stream_options.specs.ReadCalls.{final_read}
+use Rattle.test_notation.specs.CallsMeaning.{read_call_of}
+use Rattle.test_notation.proofs.call_sequences.play_read.Given as goal
+
+-- the settings that the calls so far leave
+abbrev pub invariant-loop-call : goal.invariant-loop-call
+invariant-loop-call l = record {
+  so_far : l.options ≡ final_read default_read (map read_call_of l.yielded);
+  whole : l.yielded ++ into_iter_items l.call-iterator ≡ l.fn.calls.items;
+  count : into_iter_len l.call-iterator ≡ length (into_iter_items l.call-iterator);
+}

@@ -1,0 +1,8 @@
+use Rattle.std.proofs.Common.{append_assoc}
+use Rattle.test_notation.proofs.replies.info.StreamInfoGroupPrintedForm.print.Goals as goal
+
+-- the two steps joined
+pub returns : goal.returns
+returns c =
+    let written = rw c.in_ok-write.ensures.bytes at c.print_progress.ensures in
+    simp append_assoc (simp append_assoc at written)

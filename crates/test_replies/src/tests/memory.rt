@@ -1,0 +1,318 @@
+//! Calls that take memory, each request for which may be refused: each call gives its right answer
+//! or says that memory ran out, and nothing else, and a borrowed value is then as it was.
+//!
+//! `tools/sweep-refused-memory` runs the test whose name says `refused_memory` with each request
+//! refused in turn.
+use indexmap::IndexMap;
+use redis_resp::{FromRedisValue, ParsingError, RawBytes, Value};
+use redis_streams::{
+    StreamAutoClaimReply, StreamClaimReply, StreamId, StreamInfoConsumer,
+    StreamInfoConsumerPending, StreamInfoConsumersReply, StreamInfoFullConsumer,
+    StreamInfoFullEntry, StreamInfoFullGroup, StreamInfoFullPending, StreamInfoFullReply,
+    StreamInfoGroup, StreamInfoGroupsReply, StreamInfoStreamReply,
+    StreamInfoStreamReplyWithIdempotency, StreamKey, StreamPendingCountReply, StreamPendingData,
+    StreamPendingId, StreamPendingReply, StreamRangeReply, StreamReadReply, XAckDelStatusCode,
+    XDelExStatusCode,
+};
+use std::alloc::AllocError;
+use std::collections::{BTreeMap, HashMap};
+use std::process::Abort;
+use test_notation::{NotationError, PrintedForm, read_value};
+
+/// The value that the notation writes.
+fn value_of(rt: &(impl AllocGlobal + Abort), notation: &str) -> Result<Value, ParsingError> {
+    match read_value(rt.alloc(), notation) {
+        Ok(value) => Ok(value),
+        Err(error) => {
+            assert!(rt; error == NotationError::Memory, "{notation}");
+            Err(ParsingError::Memory)
+        }
+    }
+}
+
+/// The record that the value of the notation reads as.
+fn record_of<T: FromRedisValue>(
+    rt: &(impl AllocGlobal + Abort),
+    notation: &str,
+) -> Result<T, ParsingError> {
+    T::from_redis_value(rt.alloc(), value_of(rt, notation)?)
+}
+
+/// Both calls read the value of the notation, and the borrowed call leaves it as it was, also where
+/// memory runs out.
+fn check_read<T: FromRedisValue>(
+    rt: &(impl AllocGlobal + Abort),
+    notation: &str,
+) -> Result<(), ParsingError> {
+    let value = value_of(rt, notation)?;
+    let copy = value.try_clone(rt.alloc())?;
+    let borrowed = T::from_redis_value_ref(rt.alloc(), &value);
+    assert!(rt; value == copy, "{notation} was changed");
+    drop(copy);
+    drop(borrowed?);
+    drop(T::from_redis_value(rt.alloc(), value)?);
+    Ok(())
+}
+
+/// The record has this printed form.
+fn check_printed<T: PrintedForm + Drop>(
+    rt: &(impl AllocGlobal + Abort),
+    record: Result<T, AllocError>,
+    text: &str,
+) -> Result<(), ParsingError> {
+    let printed = record?.printed(rt.alloc())?;
+    assert_eq!(rt; printed.as_str(), text);
+    Ok(())
+}
+
+fn check_plain_values(rt: &(impl AllocGlobal + Abort)) -> Result<(), ParsingError> {
+    check_read::<String>(rt, "Attr(Int 7)")?;
+    check_read::<RawBytes>(rt, "Bytes(255)")?;
+    check_read::<Value>(rt, "Map[k: Array[x]]")?;
+    check_read::<Option<String>>(rt, "x")?;
+    check_read::<Vec<Value>>(rt, "Map[k: v]")?;
+    check_read::<(String, u16)>(rt, "Array[x, 7]")?;
+    check_read::<(String, Option<u16>, String)>(rt, "Array[a, 7, c]")?;
+    check_read::<(String, String, String, String)>(rt, "Array[a, b, c, d]")?;
+    check_read::<BTreeMap<String, String>>(rt, "Map[f: v, a: w, f: x]")?;
+    check_read::<IndexMap<String, String>>(rt, "Map[f: v, a: w, f: x]")?;
+    check_read::<HashMap<String, Value>>(rt, "Map[f: v, g: w]")
+}
+
+fn check_replies(rt: &(impl AllocGlobal + Abort)) -> Result<(), ParsingError> {
+    let rows = "Array[Array[1-0, Array[f, v]], Map[2-0: Nil], Array[4-0, Nil, 3-0, Array[f, v]]]";
+    let delivered = "Array[Array[s, Array[Array[1-0, Array[f, v], Int 5, Int 2]]]]";
+    check_read::<StreamRangeReply>(rt, rows)?;
+    check_read::<StreamClaimReply>(rt, rows)?;
+    check_read::<StreamReadReply>(rt, "Map[s: Map[1-0: Array[f, v]]]")?;
+    check_read::<StreamReadReply>(rt, delivered)?;
+    check_read::<StreamAutoClaimReply>(rt, "Array[0-0, Array[Nil, 1-0], Array[2-0]]")?;
+    check_read::<StreamPendingReply>(rt, "Array[1, 1-0, 2-0, Array[Array[c, 1]]]")?;
+    check_read::<StreamPendingCountReply>(rt, "Array[Array[1-0, c, Int 5, Int 2]]")?;
+    check_read::<StreamInfoStreamReply>(rt, "Map[first-entry: Array[1-0]]")?;
+    check_read::<StreamInfoStreamReplyWithIdempotency>(rt, "Map[idmp-duration: 7]")?;
+    check_read::<StreamInfoConsumersReply>(rt, "Array[Map[name: c]]")?;
+    check_read::<StreamInfoGroupsReply>(rt, "Array[Map[name: g]]")?;
+    check_read::<XDelExStatusCode>(rt, "Int 1")?;
+    check_read::<XAckDelStatusCode>(rt, "Int 1")
+}
+
+/// The fields `f`, 7, `names`, of two texts, and `none`, nil, are got of an entry.
+fn check_fields(rt: &(impl AllocGlobal + Abort), entry: &StreamId) -> Result<(), ParsingError> {
+    let text = entry.get::<String>(rt.alloc(), "f")?;
+    assert!(rt; text.is_some_and(|text| text.as_str() == "7"));
+    let names = entry.get::<Vec<String>>(rt.alloc(), "names")?;
+    assert!(rt; names.is_some_and(|names| names.len() == 2));
+    assert_eq!(rt; entry.get::<u16>(rt.alloc(), "f")?, Some(7));
+    assert_eq!(rt; entry.get::<u16>(rt.alloc(), "names")?, None);
+    let missing = entry.get::<String>(rt.alloc(), "missing")?;
+    assert!(rt; missing.is_none());
+    let none = entry.get::<Option<String>>(rt.alloc(), "none")?;
+    assert!(rt; none.is_some_and(|text| text.is_none()));
+    Ok(())
+}
+
+fn check_an_entry(rt: &(impl AllocGlobal + Abort)) -> Result<(), ParsingError> {
+    let notation = "Array[Array[1-0, Array[f, 7, names, Array[a, b], none, Nil]]]";
+    let reply = record_of::<StreamRangeReply>(rt, notation)?;
+    assert_eq!(rt; reply.ids.len(), 1);
+    match reply.ids.first() {
+        Some(entry) => check_fields(rt, entry),
+        None => Ok(()),
+    }
+}
+
+// The empty record of the type has this printed form, and a copy of a record has the record's.
+macro_rules! check_copies {
+    ($rt:expr, $record:ty, $empty:literal, $notation:literal, $text:literal) => {
+        check_printed($rt, <$record>::empty($rt.alloc()), $empty)?;
+        check_copy!($rt, $record, $notation, $text);
+    };
+}
+
+// A copy of the record has this printed form.
+macro_rules! check_copy {
+    ($rt:expr, $record:ty, $notation:literal, $text:literal) => {{
+        let record = record_of::<$record>($rt, $notation)?;
+        let copy = record.try_clone($rt.alloc());
+        drop(record);
+        check_printed($rt, copy, $text)?;
+    }};
+}
+
+fn check_copied_entries(rt: &(impl AllocGlobal + Abort)) -> Result<(), ParsingError> {
+    check_copies!(
+        rt,
+        StreamRangeReply,
+        "-",
+        "Map[1-0: Array[f, v]]",
+        "1-0(f=v)"
+    );
+    check_copies!(
+        rt,
+        StreamClaimReply,
+        "-",
+        "Map[1-0: Map[f: v, g: Int 2]]",
+        "1-0(f=v,g=2)"
+    );
+    check_copies!(
+        rt,
+        StreamReadReply,
+        "-",
+        "Map[s: Array[Array[1-0, Map[f: v], Int 5, Int 2]]]",
+        "s[1-0(f=v)@5#2]"
+    );
+    check_copies!(
+        rt,
+        StreamAutoClaimReply,
+        "next= claimed=[] deleted=[] invalid=false",
+        "Array[0-0, Array[Nil, 1-0], Array[2-0]]",
+        "next=0-0 claimed=[1-0()] deleted=[2-0] invalid=true"
+    );
+    Ok(())
+}
+
+fn check_copied_pending(rt: &(impl AllocGlobal + Abort)) -> Result<(), ParsingError> {
+    check_printed(rt, Ok(StreamPendingReply::default()), "empty")?;
+    check_copy!(
+        rt,
+        StreamPendingReply,
+        "Array[Int 1, 1-0, 2-0, Array[Array[c, 1]]]",
+        "1 1-0 2-0 [c=1]"
+    );
+    check_copies!(
+        rt,
+        StreamPendingCountReply,
+        "-",
+        "Array[Array[1-0, c, Int 5, Int 2]]",
+        "1-0 c 5 2"
+    );
+    Ok(())
+}
+
+fn check_copied_information(rt: &(impl AllocGlobal + Abort)) -> Result<(), ParsingError> {
+    check_copies!(
+        rt,
+        StreamInfoStreamReply,
+        "last= keys=0 nodes=0 groups=0 length=0 first=() final=()",
+        "Map[length: Int 1, first-entry: Array[1-0, Map[f: v]]]",
+        "last= keys=0 nodes=0 groups=0 length=1 first=1-0(f=v) final=()"
+    );
+    check_copies!(
+        rt,
+        StreamInfoStreamReplyWithIdempotency,
+        "last= keys=0 nodes=0 groups=0 length=0 first=() final=() duration=0 maxsize=0 pids=0 tracked=0 added=0 duplicates=0",
+        "Map[pids-tracked: +3]",
+        "last= keys=0 nodes=0 groups=0 length=0 first=() final=() duration=0 maxsize=0 pids=3 tracked=0 added=0 duplicates=0"
+    );
+    check_copies!(
+        rt,
+        StreamInfoConsumersReply,
+        "-",
+        "Array[Map[name: c, pending: 4]]",
+        "c pending=4 idle=0"
+    );
+    check_copies!(
+        rt,
+        StreamInfoGroupsReply,
+        "-",
+        "Array[Map[name: g, lag: 9]]",
+        "g consumers=0 pending=0 last= read=none lag=9"
+    );
+    Ok(())
+}
+
+fn check_copied_parts(rt: &(impl AllocGlobal + Abort)) -> Result<(), ParsingError> {
+    let alloc = rt.alloc();
+    assert!(rt; StreamId::empty(alloc)?.try_clone(alloc)?.is_empty());
+    assert!(rt; StreamKey::empty(alloc)?.try_clone(alloc)?.ids.is_empty());
+    assert_eq!(rt; StreamPendingData::empty(alloc)?.try_clone(alloc)?.count, 0);
+    assert_eq!(rt;
+        StreamPendingId::empty(alloc)?
+            .try_clone(alloc)?
+            .times_delivered,
+        0
+    );
+    assert_eq!(rt;
+        StreamInfoConsumer::empty(alloc)?.try_clone(alloc)?.pending,
+        0
+    );
+    assert_eq!(rt; StreamInfoGroup::empty(alloc)?.try_clone(alloc)?.lag, None);
+    Ok(())
+}
+
+/// A stream with one entry, and one group with one consumer.
+const FULL: &str = "Map[length: 1, entries: Array[Array[1-0, Array[f, v, f, Int 2]]], \
+                    groups: Array[Map[name: g, pending: Array[Array[1-0, c, 5, 2]], \
+                    consumers: Array[Map[name: c, pending: Array[Array[1-0, 5, 2]]]]]]]";
+
+fn check_full_information(rt: &(impl AllocGlobal + Abort)) -> Result<(), ParsingError> {
+    check_read::<StreamInfoFullReply>(rt, FULL)?;
+    let record = record_of::<StreamInfoFullReply>(rt, FULL)?;
+    let copy = record.try_clone(rt.alloc());
+    drop(record);
+    check_printed(
+        rt,
+        copy,
+        "length=1 keys=0 nodes=0 last= deleted= added=none recorded= entries=[1-0(f=v,f=2)] \
+         groups=[g last= read=none lag=none count=0 pending=[1-0 c 5 2] \
+         consumers=[c seen=0 active=none count=0 pending=[1-0 5 2]]]",
+    )?;
+    check_printed(
+        rt,
+        StreamInfoFullReply::empty(rt.alloc()),
+        "length=0 keys=0 nodes=0 last= deleted= added=none recorded= entries=[] groups=[]",
+    )
+}
+
+fn check_full_parts(rt: &(impl AllocGlobal + Abort)) -> Result<(), ParsingError> {
+    let alloc = rt.alloc();
+    check_printed(
+        rt,
+        StreamInfoFullEntry::empty(alloc)?.try_clone(alloc),
+        "()",
+    )?;
+    check_printed(
+        rt,
+        StreamInfoFullPending::empty(alloc)?.try_clone(alloc),
+        "  0 0",
+    )?;
+    check_printed(
+        rt,
+        StreamInfoConsumerPending::empty(alloc)?.try_clone(alloc),
+        " 0 0",
+    )?;
+    check_printed(
+        rt,
+        StreamInfoFullConsumer::empty(alloc)?.try_clone(alloc),
+        " seen=0 active=none count=0 pending=[]",
+    )?;
+    check_printed(
+        rt,
+        StreamInfoFullGroup::empty(alloc)?.try_clone(alloc),
+        " last= read=none lag=none count=0 pending=[] consumers=[]",
+    )
+}
+
+fn check_all(rt: &(impl AllocGlobal + Abort)) -> Result<(), ParsingError> {
+    check_plain_values(rt)?;
+    check_replies(rt)?;
+    check_an_entry(rt)?;
+    check_copied_entries(rt)?;
+    check_copied_pending(rt)?;
+    check_copied_information(rt)?;
+    check_copied_parts(rt)?;
+    check_full_information(rt)?;
+    check_full_parts(rt)
+}
+
+#[test]
+fn ample_memory_gives_right_answers(rt: HostRuntime) {
+    assert_eq!(rt; check_all(&rt), Ok(()));
+}
+
+#[test]
+fn refused_memory_changes_no_answer(rt: HostRuntime) {
+    let answer = check_all(&rt);
+    assert!(rt; answer == Ok(()) || answer == Err(ParsingError::Memory));
+}

@@ -1,0 +1,42 @@
+//! Texts in the notation that hold a tab or a line feed, that memory ran out, as text, and equality
+//! of refusals. The program `cases` has the texts of one line.
+use std::test::Fail;
+use test_notation::laws::equal_notation_errors;
+use test_notation::{NotationError, read_value};
+
+#[test]
+fn tabs_are_blanks(rt: HostRuntime) -> Result<(), Fail> {
+    let set = read_value(rt.alloc(), "\tSet [ ] ")?;
+    assert_eq!(rt; format!(in rt.alloc(); "{set:?}")?.as_str(), "Set([])");
+    let two = read_value(rt.alloc(), " \t+2 ")?;
+    assert_eq!(rt;
+        format!(in rt.alloc(); "{two:?}")?.as_str(),
+        "BulkString([43, 50])"
+    );
+    Ok(())
+}
+
+#[test]
+fn a_line_feed_is_no_blank(rt: HostRuntime) {
+    let refused = read_value(rt.alloc(), "\n");
+    assert!(rt; matches!(refused, Err(NotationError::NoWord)));
+}
+
+#[test]
+fn that_memory_ran_out_is_printed(rt: HostRuntime) -> Result<(), Fail> {
+    let error = NotationError::Memory;
+    assert_eq!(rt;
+        format!(in rt.alloc(); "{error}")?.as_str(),
+        "out of memory"
+    );
+    Ok(())
+}
+
+#[test]
+fn equal_refusals_are_told(rt: HostRuntime) {
+    let comma = &NotationError::NoMark(',');
+    assert!(rt; equal_notation_errors(comma, &NotationError::NoMark(',')));
+    assert!(rt; !equal_notation_errors(comma, &NotationError::NoMark(':')));
+    let word = &NotationError::NoWord;
+    assert!(rt; !equal_notation_errors(word, &NotationError::NotNumber));
+}

@@ -1,0 +1,49 @@
+//! Values: which of them differ, and the default value.
+use redis_resp::Value;
+use std::process::Abort;
+use std::test::Fail;
+use test_notation::read_value;
+
+/// Values of each kind, no two of them equal.
+const VALUES: [&str; 17] = [
+    "Nil",
+    "Boolean(true)",
+    "Array[Int 1]",
+    "Set[Int 1]",
+    "Map[Int 1: Int 2]",
+    "Push(message)[Int 1]",
+    "Attr(Nil; Okay: Nil)",
+    "Okay",
+    "Int 1",
+    "OK",
+    "Simple(OK)",
+    "Verbatim(txt, OK)",
+    "Boolean(false)",
+    "Array[]",
+    "Set[]",
+    "Map[]",
+    "Attr(Okay; Okay: Nil)",
+];
+
+/// The two values are equal where their notations are the same, and only there.
+fn check_equality(rt: &(impl AllocGlobal + Abort), one: &str, other: &str) -> Result<(), Fail> {
+    let first = read_value(rt.alloc(), one)?;
+    let second = read_value(rt.alloc(), other)?;
+    assert!(rt; (first == second) == (one == other), "{one} and {other}");
+    Ok(())
+}
+
+#[test]
+fn no_two_of_these_values_are_equal(rt: HostRuntime) -> Result<(), Fail> {
+    for one in &VALUES {
+        for other in &VALUES {
+            check_equality(&rt, one, other)?;
+        }
+    }
+    Ok(())
+}
+
+#[test]
+fn the_default_value_is_nil(rt: HostRuntime) {
+    assert!(rt; Value::default() == Value::Nil);
+}

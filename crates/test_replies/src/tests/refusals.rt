@@ -1,0 +1,24 @@
+//! What no value has for its outcome: that memory ran out, as text, and equality of refusals, as a
+//! caller can prove of it.
+use redis_resp::{ParsingError, equal_parsing_errors};
+use std::test::Fail;
+use test_notation::PrintedForm;
+
+#[test]
+fn that_memory_ran_out_is_printed(rt: HostRuntime) -> Result<(), Fail> {
+    let error = ParsingError::Memory;
+    let number = error.printed(rt.alloc())?;
+    let text = format!(in rt.alloc(); "{number} {error:?}: {error}")?;
+    assert_eq!(rt; text.as_str(), "refused 18 Memory: out of memory");
+    Ok(())
+}
+
+#[test]
+fn equal_refusals_are_told(rt: HostRuntime) {
+    let two = &ParsingError::NotTuple(2);
+    assert!(rt; equal_parsing_errors(two, &ParsingError::NotTuple(2)));
+    assert!(rt; !equal_parsing_errors(two, &ParsingError::NotTuple(4)));
+    let list = &ParsingError::NotList;
+    assert!(rt; !equal_parsing_errors(list, &ParsingError::NotPairs));
+    assert!(rt; !equal_parsing_errors(list, &ParsingError::Memory));
+}

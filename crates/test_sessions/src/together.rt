@@ -1,0 +1,718 @@
+//! Workers over a server in memory. Each byte goes through the codec on both sides: commands are
+//! written by the worker and read by the server, replies are written, read and written again, as a
+//! proxy passes them on, and read by the worker, by value and in place in turn.
+//!
+//! A head has many sessions, and each has a fault at another place; after it all entries have to be
+//! handled, and nothing may be pending:
+//!
+//! | Head | The sessions |
+//! |---|---|
+//! | `cuts 2` | the connection breaks after each byte of a session, in either direction |
+//! | `crashes 2 60` | the worker crashes after 0, 1, 2 .. steps |
+//! | `gone 2 30` | one of two workers is gone for good after 0, 1, 2 .. steps |
+//! | `schedules 1000` | two workers, 16 moves at random, faults among them, for each seed |
+//! | `settles 2 3` | one, with no fault but what refuses memory; two workers, so many entries |
+ghost use Rattle.std.specs.Prelude.{◌≡◌, IfOk, IsTrue};
+ghost use Rattle.test_sessions.specs.Scripts.{is_together_script};
+
+use crate::{answered, number_of, parted, protocol_of, push_line, settings_for, told};
+use redis_wire::{Decoded, Limits, ReplyStream, WireError, append_answer, command_words, decode};
+use std::alloc::{AllocError, Global};
+use std::mem;
+use server_commands::{Protocol, Server, Session};
+use worker::{
+    AnswerError, EntryRef, Handler, InPlaceError, MakeGroup, NotCommitted, RequestError, Verdict,
+    Worker, WorkerError,
+};
+
+/// Plays workers over a server in memory; false if the script is another one.
+pub fn play(
+    alloc: Global,
+    name: &str,
+    words: &str,
+    _lines: &str,
+    out: &mut String,
+) -> Result<bool, AllocError>
+    ensures { IfOk result (λ played. IsTrue played → IsTrue (is_together_script name.now)) }
+{
+    match name {
+        "cuts" | "crashes" | "gone" | "schedules" | "settles" => {
+            play_sessions(alloc, name, words, out)?;
+            Ok(true)
+        }
+        _ => Ok(false),
+    }
+}
+
+/// A session whose connection breaks after so many bytes.
+fn cut(alloc: Global, protocol: Protocol, bytes: usize) -> Result<Played, AllocError> {
+    let mut world = world_of(alloc, protocol, &["ann"], 2)?;
+    for line in world.lines.iter_mut() {
+        line.bytes = bytes;
+    }
+    settled(alloc, &mut world)
+}
+
+/// A session whose worker crashes after so many steps.
+fn crash(alloc: Global, protocol: Protocol, steps: usize) -> Result<Played, AllocError> {
+    let mut world = world_of(alloc, protocol, &["ann"], 5)?;
+    for line in world.lines.iter_mut() {
+        line.steps = steps;
+    }
+    settled(alloc, &mut world)
+}
+
+/// A session whose first worker is gone for good after so many steps, and the other one claims what
+/// it left.
+fn gone(alloc: Global, protocol: Protocol, steps: usize) -> Result<Played, AllocError> {
+    let mut world = world_of(alloc, protocol, &["ann", "bob"], 6)?;
+    for line in world.lines.iter_mut().take(1) {
+        line.steps = steps;
+        line.is_gone = true;
+    }
+    for _ in 0..10u8 {
+        if !is_any_down(&world.lines) {
+            round(alloc, &mut world);
+        }
+    }
+    let has_left = left_by_ann(alloc, &mut world)?;
+    let mut played = settled(alloc, &mut world)?;
+    played.has_left = has_left;
+    Ok(played)
+}
+
+/// A session of two workers with so many entries.
+fn settling(alloc: Global, protocol: Protocol, entries: usize) -> Result<Played, AllocError> {
+    let mut world = world_of(alloc, protocol, &["ann", "bob"], entries)?;
+    settled(alloc, &mut world)
+}
+
+/// The session of this number.
+fn session(
+    alloc: Global,
+    name: &str,
+    protocol: Protocol,
+    number: usize,
+) -> Result<Played, AllocError> {
+    match name {
+        "cuts" => cut(alloc, protocol, number),
+        "crashes" => crash(alloc, protocol, number),
+        "gone" => gone(alloc, protocol, number),
+        _ => played_moves(alloc, number),
+    }
+}
+
+/// How many sessions there are: as many as a session has bytes that is not cut, or as the head says.
+fn count_of(
+    alloc: Global,
+    name: &str,
+    protocol: Protocol,
+    word: &str,
+) -> Result<usize, AllocError> {
+    if name == "cuts" {
+        let whole = cut(alloc, protocol, usize::MAX)?;
+        let is_whole = whole.is_settled && whole.breaks == 0;
+        return Ok(if is_whole { whole.bytes } else { 0 });
+    }
+    Ok(number_of(word))
+}
+
+/// Plays sessions, and says what they came to.
+fn play_sessions(
+    alloc: Global,
+    name: &str,
+    words: &str,
+    out: &mut String,
+) -> Result<(), AllocError> {
+    let (number, word) = parted(words, ' ');
+    let protocol = protocol_of(number);
+    if name == "settles" {
+        let played = settling(alloc, protocol, number_of(word))?;
+        return push_line(out, settled_text(played.is_settled));
+    }
+    let word = if name == "schedules" { number } else { word };
+    let mut tally = Tally::new(alloc);
+    for number in 0..count_of(alloc, name, protocol, word)? {
+        let played = session(alloc, name, protocol, number)?;
+        tally.add(alloc, number, played)?;
+    }
+    push_line(out, tally.text(alloc)?.as_str())
+}
+
+/// Whether a session came to its end.
+fn settled_text(is_settled: bool) -> &'static str {
+    if is_settled {
+        "all is handled, and nothing is pending"
+    } else {
+        "not all is handled, or something is pending"
+    }
+}
+
+// What many sessions came to.
+
+/// What a session came to.
+#[derive(Clone, Copy)]
+struct Played {
+    /// Whether all entries were handled, nothing is pending, and no reply was refused.
+    is_settled: bool,
+    /// How often a connection broke or a worker crashed.
+    breaks: usize,
+    /// How many bytes a connection let through that did not break.
+    bytes: usize,
+    /// Whether a worker that is gone left something.
+    has_left: bool,
+}
+
+/// What many sessions came to.
+#[derive(Drop)]
+struct Tally {
+    sessions: usize,
+    breaks: usize,
+    /// How many sessions had just one break.
+    broken_once: usize,
+    left: usize,
+    settled: usize,
+    /// The numbers of those that did not settle.
+    unsettled: String,
+}
+
+impl Tally {
+    /// No session yet.
+    fn new(alloc: Global) -> Tally {
+        Tally {
+            sessions: 0,
+            breaks: 0,
+            broken_once: 0,
+            left: 0,
+            settled: 0,
+            unsettled: String::new(alloc),
+        }
+    }
+
+    /// One session more.
+    fn add(&mut self, alloc: Global, number: usize, played: Played) -> Result<(), AllocError> {
+        self.sessions = self.sessions.saturating_add(1);
+        self.breaks = self.breaks.saturating_add(played.breaks);
+        self.broken_once = self
+            .broken_once
+            .saturating_add(usize::from(played.breaks == 1));
+        self.left = self.left.saturating_add(usize::from(played.has_left));
+        self.settled = self.settled.saturating_add(usize::from(played.is_settled));
+        if !played.is_settled {
+            self.unsettled
+                .push_str(format!(in alloc; "; {number} did not settle")?.as_str())?;
+        }
+        Ok(())
+    }
+
+    /// What they came to, on one line.
+    fn text(&self, alloc: Global) -> Result<String, AllocError> {
+        format!(in alloc;
+            "{} sessions, {} settled; {} breaks, {} sessions with one; {} left something{}",
+            self.sessions,
+            self.settled,
+            self.breaks,
+            self.broken_once,
+            self.left,
+            self.unsettled.as_str()
+        )
+    }
+}
+
+// A server with some entries, and workers.
+
+const ENTRIES: usize = 6;
+
+/// So many turns after the last fault are enough for every entry.
+const TURNS: usize = 60;
+
+/// A server with some entries, and workers.
+#[derive(Drop)]
+struct World {
+    server: Server,
+    now: u64,
+    added: usize,
+    deleted: [bool; ENTRIES],
+    lines: Vec<Line>,
+}
+
+/// A server with so many entries and workers of these names.
+fn world_of(
+    alloc: Global,
+    protocol: Protocol,
+    consumers: &[&'static str],
+    entries: usize,
+) -> Result<World, AllocError> {
+    let mut world = World {
+        server: Server::new(alloc),
+        now: 0,
+        added: 0,
+        deleted: [false; ENTRIES],
+        lines: Vec::new(alloc),
+    };
+    for consumer in consumers {
+        world.lines.push(line_of(alloc, consumer, protocol)?)?;
+    }
+    for _ in 0..entries {
+        add(alloc, &mut world)?;
+    }
+    Ok(world)
+}
+
+/// The reply of the server to a command that no worker asks.
+fn command(alloc: Global, world: &mut World, line: &str) -> Result<Vec<u8>, AllocError> {
+    let mut session = Session::new(alloc, Protocol::Resp2);
+    told(alloc, &mut world.server, &mut session, line)
+}
+
+/// One more entry.
+fn add(alloc: Global, world: &mut World) -> Result<(), AllocError> {
+    let number = world.added;
+    let line = format!(in alloc; "XADD k {number}-1 n {number}")?;
+    let _id = command(alloc, world, line.as_str())?;
+    world.added = number.saturating_add(1);
+    Ok(())
+}
+
+/// An entry is deleted, if it was added.
+fn delete(alloc: Global, world: &mut World, number: usize) -> Result<(), AllocError> {
+    if number < world.added {
+        let line = format!(in alloc; "XDEL k {number}-1")?;
+        let _count = command(alloc, world, line.as_str())?;
+        if let Some(place) = world.deleted.get_mut(number) {
+            *place = true;
+        }
+    }
+    Ok(())
+}
+
+/// Whether something is pending for the worker ann.
+fn left_by_ann(alloc: Global, world: &mut World) -> Result<bool, AllocError> {
+    let left = command(alloc, world, "XPENDING k g - + 10 ann")?;
+    Ok(!left.starts_with(b"*0"))
+}
+
+/// Every worker has a turn.
+fn round(alloc: Global, world: &mut World) {
+    for line in world.lines.iter_mut() {
+        world.now = world.now.saturating_add(1);
+        turn(alloc, &mut world.server, world.now, line);
+    }
+}
+
+/// Whether each entry was committed by a worker or deleted, and nothing is pending.
+fn is_done(alloc: Global, world: &mut World) -> Result<bool, AllocError> {
+    for number in 0..world.added {
+        let is_deleted = world.deleted.get(number) == Some(&true);
+        if !is_deleted && !is_committed(&world.lines, number) {
+            return Ok(false);
+        }
+    }
+    let pending = command(alloc, world, "XPENDING k g")?;
+    Ok(pending.starts_with(b"*4\r\n:0\r\n"))
+}
+
+/// Turns without a fault that is new, until all is done; whether it is.
+fn settles(alloc: Global, world: &mut World) -> Result<bool, AllocError> {
+    for _ in 0..TURNS {
+        if is_done(alloc, world)? {
+            return Ok(!is_any_wrong(&world.lines));
+        }
+        round(alloc, world);
+    }
+    Ok(false)
+}
+
+/// What a session comes to.
+fn settled(alloc: Global, world: &mut World) -> Result<Played, AllocError> {
+    let is_settled = settles(alloc, world)?;
+    let mut breaks = 0usize;
+    let mut bytes = 0usize;
+    for line in &world.lines {
+        breaks = breaks.saturating_add(line.breaks);
+        bytes = usize::MAX - line.bytes;
+    }
+    Ok(Played {
+        is_settled,
+        breaks,
+        bytes,
+        has_left: false,
+    })
+}
+
+// A worker and its connection to the server.
+
+/// What is left for so many milliseconds is claimed; a turn takes one.
+const IDLE: usize = 4;
+
+/// What the handler of a worker did with the entries `n-1`, each of which has the field `n`.
+#[derive(Drop)]
+struct Book {
+    /// Done and not committed: a crash takes it back.
+    loose: [bool; ENTRIES],
+    committed: [bool; ENTRIES],
+    /// Whether it was given what nobody added.
+    is_foreign: bool,
+    /// What it says of the next entry; it does those that follow.
+    says: Verdict,
+    /// Whether the next commit fails.
+    refuses: bool,
+}
+
+impl Handler for Book {
+    ghost History = { Unit {0} };
+
+    ghost with_verdict = { λ history e verdict. history };
+
+    ghost with_commit = { λ history. history };
+
+    ghost history = { λ handler. tt };
+
+    fn handle(&mut self, _alloc: Global, entry: &EntryRef<'_>) -> Verdict {
+        let field = entry.get_u64(b"n");
+        let verdict = mem::replace(&mut self.says, Verdict::Done);
+        let number = number_of_id(entry.id());
+        match self.loose.get_mut(number) {
+            Some(place) if field == Ok(number as u64) => {
+                if verdict == Verdict::Done {
+                    *place = true;
+                }
+            }
+            _ => self.is_foreign = true,
+        }
+        verdict
+    }
+
+    fn commit(&mut self, _alloc: Global) -> Result<(), NotCommitted> {
+        if mem::replace(&mut self.refuses, false) {
+            return Err(NotCommitted);
+        }
+        for (committed, loose) in self.committed.iter_mut().zip(self.loose.iter_mut()) {
+            *committed = *committed || *loose;
+            *loose = false;
+        }
+        Ok(())
+    }
+}
+
+/// The number of the entry with this id.
+fn number_of_id(id: &str) -> usize {
+    match id.split_once('-') {
+        Some((number, "1")) => number.parse::<usize>().unwrap_or(usize::MAX),
+        _ => usize::MAX,
+    }
+}
+
+/// A worker and its connection to the server.
+#[derive(Drop)]
+struct Line {
+    consumer: &'static str,
+    book: Book,
+    worker: Worker,
+    session: Session,
+    /// Bytes of commands that the server has.
+    commands: ReplyStream,
+    /// Bytes of replies that the worker has.
+    answers: ReplyStream,
+    /// After so many bytes, in either direction, the connection breaks.
+    bytes: usize,
+    /// After so many steps the worker crashes.
+    steps: usize,
+    /// How often it broke or crashed.
+    breaks: usize,
+    is_down: bool,
+    /// Whether it comes back.
+    is_gone: bool,
+    /// Whether it asked too much, or a reply of the server was refused.
+    is_refused: bool,
+}
+
+/// Whether something went otherwise than it may, with any of them.
+fn is_any_wrong(lines: &[Line]) -> bool {
+    for line in lines {
+        if line.is_refused || line.book.is_foreign {
+            return true;
+        }
+    }
+    false
+}
+
+/// Whether any of them is down.
+fn is_any_down(lines: &[Line]) -> bool {
+    for line in lines {
+        if line.is_down {
+            return true;
+        }
+    }
+    false
+}
+
+/// Whether any worker committed the entry of this number.
+fn is_committed(lines: &[Line], number: usize) -> bool {
+    for line in lines {
+        if line.book.committed.get(number) == Some(&true) {
+            return true;
+        }
+    }
+    false
+}
+
+/// A worker that begins.
+fn worker_of(alloc: Global, consumer: &str) -> Result<Worker, AllocError> {
+    let mut settings = settings_for(alloc, "k", consumer)?;
+    settings.set_count(2).unwrap_or(());
+    settings.set_every(2);
+    settings.set_min_idle(IDLE);
+    settings.set_make_group(MakeGroup::FromTheFirst);
+    Ok(Worker::new(alloc, settings))
+}
+
+/// A worker of this name, and its connection.
+fn line_of(alloc: Global, consumer: &'static str, protocol: Protocol) -> Result<Line, AllocError> {
+    Ok(Line {
+        consumer,
+        book: Book {
+            loose: [false; ENTRIES],
+            committed: [false; ENTRIES],
+            is_foreign: false,
+            says: Verdict::Done,
+            refuses: false,
+        },
+        worker: worker_of(alloc, consumer)?,
+        session: Session::new(alloc, protocol),
+        commands: ReplyStream::new(alloc, Limits::default()),
+        answers: ReplyStream::new(alloc, Limits::default()),
+        bytes: usize::MAX,
+        steps: usize::MAX,
+        breaks: 0,
+        is_down: false,
+        is_gone: false,
+        is_refused: false,
+    })
+}
+
+/// The worker starts again over a new connection: what it did and did not commit is taken back, and
+/// bytes that were under way are lost.
+fn start_again(alloc: Global, line: &mut Line) -> Result<(), AllocError> {
+    line.worker = worker_of(alloc, line.consumer)?;
+    line.commands = ReplyStream::new(alloc, Limits::default());
+    line.answers = ReplyStream::new(alloc, Limits::default());
+    line.book.loose = [false; ENTRIES];
+    line.bytes = usize::MAX;
+    line.steps = usize::MAX;
+    line.is_down = false;
+    Ok(())
+}
+
+/// The worker asks once, and takes the reply.
+fn turn(alloc: Global, server: &mut Server, now: u64, line: &mut Line) {
+    if line.is_down && (line.is_gone || start_again(alloc, line).is_err()) {
+        return;
+    }
+    if !exchange(alloc, server, now, line) {
+        line.is_down = true;
+        line.breaks = line.breaks.saturating_add(1);
+    }
+}
+
+/// One question and its reply; false if the connection broke or the worker crashed on the way,
+/// or memory was refused to the one or the other.
+fn exchange(alloc: Global, server: &mut Server, now: u64, line: &mut Line) -> bool {
+    let mut question = Vec::new(alloc);
+    if let Err(error) = line.worker.request(alloc, &mut question, &mut line.book) {
+        // it asks the same again
+        line.is_refused = line.is_refused || error == RequestError::TooLong;
+        return true;
+    }
+    if !goes_on(line) || !passes(&mut line.commands, &mut line.bytes, &question) {
+        return false;
+    }
+    let Some(answer) = answer_of(alloc, server, now, line) else {
+        return false;
+    };
+    if !goes_on(line) || !passes(&mut line.answers, &mut line.bytes, &answer) {
+        return false;
+    }
+    hears(alloc, line) && goes_on(line)
+}
+
+/// One step more; false if the worker crashes.
+fn goes_on(line: &mut Line) -> bool {
+    if line.steps == 0 {
+        return false;
+    }
+    line.steps -= 1;
+    true
+}
+
+/// As many of the bytes come as the connection lets through; false if memory is refused.
+fn passes(stream: &mut ReplyStream, left: &mut usize, bytes: &[u8]) -> bool {
+    let len = bytes.len().min(*left);
+    *left -= len;
+    stream.feed(&bytes[..len]).is_ok()
+}
+
+/// The reply of the server, if the command came whole.
+fn answer_of(alloc: Global, server: &mut Server, now: u64, line: &mut Line) -> Option<Vec<u8>> {
+    let Ok(Some(command)) = line.commands.next(alloc) else {
+        return None;
+    };
+    let Ok(Some(words)) = command_words(alloc, command) else {
+        return None;
+    };
+    let bytes = answered(alloc, server, now, &mut line.session, words).ok()?;
+    passed_on(alloc, line.session.protocol, &bytes)
+}
+
+/// The bytes of a reply as a proxy writes them that has read it.
+fn passed_on(alloc: Global, protocol: Protocol, bytes: &[u8]) -> Option<Vec<u8>> {
+    let protocol = match protocol {
+        Protocol::Resp2 => redis_wire::Protocol::Resp2,
+        Protocol::Resp3 => redis_wire::Protocol::Resp3,
+    };
+    match decode(alloc, bytes, Limits::default()) {
+        Ok(Decoded::Complete { reply, len }) if len == bytes.len() => {
+            let mut answer = Vec::new(alloc);
+            append_answer(alloc, &mut answer, protocol, &reply).ok()?;
+            Some(answer)
+        }
+        _ => None,
+    }
+}
+
+/// The worker takes a reply, if one came whole: by value or in place, each in turn, more or less.
+fn hears(alloc: Global, line: &mut Line) -> bool {
+    if line.steps % 2 == 0 {
+        hears_in_place(alloc, line)
+    } else {
+        hears_by_value(alloc, line)
+    }
+}
+
+/// The worker takes a reply by value.
+fn hears_by_value(alloc: Global, line: &mut Line) -> bool {
+    let Ok(Some(reply)) = line.answers.next(alloc) else {
+        return false;
+    };
+    match line.worker.answered(alloc, reply, &mut line.book) {
+        Ok(_) => true,
+        Err(
+            AnswerError {
+                error: WorkerError::Memory,
+                ..
+            },
+        ) => true,
+        Err(_) => {
+            line.is_refused = true;
+            false
+        }
+    }
+}
+
+/// The worker takes a reply in place.
+fn hears_in_place(alloc: Global, line: &mut Line) -> bool {
+    let Ok(Some(len)) = line.answers.next_in_place(alloc) else {
+        return false;
+    };
+    let bytes = line.answers.bytes();
+    let heard = line
+        .worker
+        .answered_in_place(alloc, bytes, Limits::default(), &mut line.book);
+    match heard {
+        Ok(_)
+        | Err(
+            InPlaceError::Answer(
+                AnswerError {
+                    error: WorkerError::Memory,
+                    ..
+                },
+            ),
+        ) => {
+            line.answers.give_out(len);
+            true
+        }
+        Err(InPlaceError::Unread(WireError::Memory)) => false,
+        Err(_) => {
+            line.is_refused = true;
+            false
+        }
+    }
+}
+
+// Two workers of a group over random schedules: they crash, connections break, commits fail,
+// entries are left, deleted and claimed.
+
+const MOVES: usize = 16;
+
+/// The next number of a sequence that looks random.
+fn next(state: u64) -> u64 {
+    state
+        .wrapping_mul(6_364_136_223_846_793_005)
+        .wrapping_add(1_442_695_040_888_963_407)
+}
+
+/// A fault that the worker meets in its next turns.
+fn plant(line: &mut Line, kind: u64, size: usize) {
+    match kind {
+        0 | 1 => line.bytes = size % 300,
+        2 | 3 => line.steps = size % 8,
+        4 => line.book.refuses = true,
+        5 => line.book.says = Verdict::LeavePending,
+        6 => line.book.says = Verdict::Stop,
+        _ => {}
+    }
+}
+
+/// The first worker is gone for good after three steps.
+fn send_away(world: &mut World) {
+    for line in world.lines.iter_mut().take(1) {
+        line.is_gone = true;
+        line.steps = 3;
+    }
+}
+
+/// One of the workers meets a fault, and has a turn.
+fn take_turn(alloc: Global, world: &mut World, who: usize, kind: u64, size: usize) {
+    if let Some(line) = world.lines.get_mut(who) {
+        plant(line, kind, size);
+        turn(alloc, &mut world.server, world.now, line);
+    }
+}
+
+/// The move that a number says.
+fn make_move(alloc: Global, world: &mut World, state: u64) -> Result<(), AllocError> {
+    let choice = (state >> 33) % 16;
+    let size = (state >> 45) % 1_024;
+    world.now = world.now.saturating_add(size % 3);
+    let size = usize::try_from(size).unwrap_or(0);
+    match choice {
+        0..4 if world.added < ENTRIES => add(alloc, world),
+        4 => delete(alloc, world, size % ENTRIES),
+        5 => {
+            send_away(world);
+            Ok(())
+        }
+        _ => {
+            let who = usize::from(choice % 2 == 0);
+            take_turn(alloc, world, who, (state >> 40) % 12, size);
+            Ok(())
+        }
+    }
+}
+
+/// A session with moves in an order that the seed says: RESP2 for an even one, RESP3 else.
+fn played_moves(alloc: Global, seed: usize) -> Result<Played, AllocError> {
+    let protocol = if seed % 2 == 0 {
+        Protocol::Resp2
+    } else {
+        Protocol::Resp3
+    };
+    let mut world = world_of(alloc, protocol, &["ann", "bob"], 0)?;
+    let mut state = next(seed as u64);
+    for _ in 0..MOVES {
+        state = next(state);
+        make_move(alloc, &mut world, state)?;
+    }
+    round(alloc, &mut world);
+    settled(alloc, &mut world)
+}

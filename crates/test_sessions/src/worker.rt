@@ -1,0 +1,482 @@
+//! Sessions of a worker: what it asks, and what its handler sees.
+//!
+//! The words of the head are settings: `count 2`, `block 0`, `idle 4`, `every 2`, `group first` or
+//! `group now`, and `again one` for entries that come again one at a time. A line is one of these:
+//!
+//! | Line | What is done |
+//! |---|---|
+//! | bytes of a reply | it asks, and hears these bytes |
+//! | `ask` | it asks |
+//! | `tell` and bytes | it hears these bytes |
+//! | `fronts` and bytes | it hears each front of them |
+//! | `says done leave stop` | what the handler says of the next entries; `done` after these |
+//! | `refuses yes` | commits fail, until `refuses no` |
+//! | `resumes 1-1 2-1` | in its place comes a worker that acknowledges these first, with no settings |
+//!
+//! All is done twice: by a worker that hears replies by value, and by one that hears them in
+//! place. Where they differ, both are shown.
+ghost use Rattle.std.specs.Prelude.{◌≡◌, IfOk, IsTrue};
+ghost use Rattle.test_sessions.specs.Scripts.{is_worker_script};
+
+pub mod connection;
+pub mod letters;
+pub mod poison;
+pub mod streams;
+
+use crate::{
+    bytes_of, commands_text, number_of, parted, push_bytes, push_exchange, push_line, settings_for,
+};
+use redis_wire::{Decoded, Limits, WireError, decode};
+use std::alloc::{AllocError, Global};
+use worker::{
+    AnswerError, EntryRef, Gathered, Handler, InPlaceError, MakeGroup, NotCommitted, Progress,
+    RequestError, Settings, Verdict, Worker, WorkerError,
+};
+
+/// Plays a session of a worker; false if the script is another one.
+pub fn play(
+    alloc: Global,
+    name: &str,
+    words: &str,
+    lines: &str,
+    out: &mut String,
+) -> Result<bool, AllocError>
+    ensures { IfOk result (λ played. IsTrue played → IsTrue (is_worker_script name.now)) }
+{
+    match name {
+        "worker" => {
+            play_session(alloc, words, lines, out)?;
+            Ok(true)
+        }
+        _ => Ok(false),
+    }
+}
+
+/// The limits of what comes.
+const LIMITS: Limits = Limits {
+    depth: 8,
+    length: 1000,
+    line: 100,
+    values: 1000,
+    bytes: 1000,
+};
+
+/// How a worker takes replies.
+#[derive(Clone, Copy, PartialEq, Eq)]
+enum Way {
+    ByValue,
+    InPlace,
+}
+
+/// A worker, its handler, and how it takes replies.
+#[derive(Drop)]
+struct Side {
+    worker: Worker,
+    doer: Doer,
+    way: Way,
+}
+
+impl Side {
+    /// A worker that begins.
+    fn new(alloc: Global, words: &str, way: Way) -> Result<Side, AllocError> {
+        Ok(Side {
+            worker: Worker::new(alloc, settings_of(alloc, words)?),
+            doer: Doer::new(alloc),
+            way,
+        })
+    }
+}
+
+/// The settings that words say.
+fn settings_of(alloc: Global, words: &str) -> Result<Settings, AllocError> {
+    let mut settings = settings_for(alloc, "k", "c")?;
+    let mut rest = words;
+    for _ in 0..words.len() {
+        let (name, behind) = parted(rest, ' ');
+        let (word, behind) = parted(behind, ' ');
+        set(&mut settings, name, word);
+        rest = behind;
+    }
+    Ok(settings)
+}
+
+/// Sets the setting of this name.
+fn set(settings: &mut Settings, name: &str, word: &str) {
+    match name {
+        "count" => settings.set_count(number_of(word)).unwrap_or(()),
+        "block" => settings.set_block(number_of(word)),
+        "idle" => settings.set_min_idle(number_of(word)),
+        "every" => settings.set_every(number_of(word)),
+        "again" => settings.set_one_at_a_time(word == "one"),
+        "group" if word == "first" => settings.set_make_group(MakeGroup::FromTheFirst),
+        "group" => settings.set_make_group(MakeGroup::FromNow),
+        _ => {}
+    }
+}
+
+/// What a worker asks.
+fn asked(alloc: Global, worker: &mut Worker, doer: &mut Doer) -> Result<String, AllocError> {
+    let mut bytes = Vec::new(alloc);
+    let outcome = worker.request(alloc, &mut bytes, doer);
+    doer.check()?;
+    match outcome {
+        Ok(()) => commands_text(alloc, &bytes),
+        Err(RequestError::Memory) => Err(AllocError),
+        Err(error) => {
+            let len = bytes.len();
+            format!(in alloc; "{error:?}: {error}; {len} bytes")
+        }
+    }
+}
+
+/// What comes of the reply at the head of bytes.
+fn taken(
+    alloc: Global,
+    worker: &mut Worker,
+    doer: &mut Doer,
+    way: Way,
+    bytes: &[u8],
+) -> Result<Progress, InPlaceError> {
+    if way == Way::InPlace {
+        return worker.answered_in_place(alloc, bytes, LIMITS, doer);
+    }
+    match decode(alloc, bytes, LIMITS) {
+        Ok(Decoded::Complete { reply, len: _ }) => Ok(worker.answered(alloc, reply, doer)?),
+        Ok(Decoded::Incomplete) => Err(InPlaceError::Incomplete),
+        Err(error) => Err(InPlaceError::Unread(error)),
+    }
+}
+
+/// The name and the text of an error of a worker.
+fn error_text(alloc: Global, answer: &AnswerError) -> Result<String, AllocError> {
+    match &answer.error {
+        WorkerError::Memory => Err(AllocError),
+        WorkerError::Server(_) => format!(in alloc; "Server: {answer}"),
+        WorkerError::GroupIsGone(_) => format!(in alloc; "GroupIsGone: {answer}"),
+        WorkerError::NilFields(_) => format!(in alloc; "NilFields: {answer}"),
+        error => format!(in alloc; "{error:?}: {answer}"),
+    }
+}
+
+/// What a reply came to.
+fn progress_text(
+    alloc: Global,
+    outcome: &Result<Progress, InPlaceError>,
+) -> Result<String, AllocError> {
+    match outcome {
+        Ok(progress) => format!(in alloc; "{progress:?}"),
+        Err(InPlaceError::Unread(WireError::Memory)) => Err(AllocError),
+        Err(InPlaceError::Answer(error)) => error_text(alloc, error),
+        Err(error) => format!(in alloc; "{error:?}: {error}"),
+    }
+}
+
+/// Has a worker hear bytes: what comes of it, and the phase of the worker then.
+fn told(
+    alloc: Global,
+    worker: &mut Worker,
+    doer: &mut Doer,
+    way: Way,
+    bytes: &[u8],
+) -> Result<String, AllocError> {
+    let result = taken(alloc, worker, doer, way, bytes);
+    let mut text = progress_text(alloc, &result)?;
+    text.push_str(doer.standing(alloc)?.as_str())?;
+    text.push_str(format!(in alloc; "; asked {:?}", worker.asked())?.as_str())?;
+    Ok(text)
+}
+
+/// Tells the worker of a side bytes.
+fn told_side(alloc: Global, side: &mut Side, bytes: &[u8]) -> Result<String, AllocError> {
+    told(alloc, &mut side.worker, &mut side.doer, side.way, bytes)
+}
+
+/// Tells it the bytes that a text is.
+fn told_text(alloc: Global, side: &mut Side, text: &str) -> Result<String, AllocError> {
+    let bytes = bytes_of(alloc, text)?;
+    told_side(alloc, side, &bytes)
+}
+
+/// Tells a worker each front of bytes: what comes of it, and for how many of them.
+fn told_fronts(alloc: Global, side: &mut Side, text: &str) -> Result<String, AllocError> {
+    let bytes = bytes_of(alloc, text)?;
+    let mut spans = Spans::new(alloc);
+    for end in 0..bytes.len() {
+        let text = told_side(alloc, side, &bytes[..end])?;
+        spans.add(alloc, text)?;
+    }
+    spans.finished(alloc)
+}
+
+/// The texts of the numbers from 0 on: each with the first of those in a row that have it.
+#[derive(Drop)]
+struct Spans {
+    text: String,
+    last: String,
+    count: usize,
+}
+
+impl Spans {
+    /// None yet.
+    fn new(alloc: Global) -> Spans {
+        Spans {
+            text: String::new(alloc),
+            last: String::new(alloc),
+            count: 0,
+        }
+    }
+
+    /// One more number, and its text.
+    fn add(&mut self, alloc: Global, text: String) -> Result<(), AllocError> {
+        if self.last.as_str() != text.as_str() {
+            let line = format!(in alloc; "{}: {}\n", self.count, text.as_str())?;
+            self.text.push_str(line.as_str())?;
+            self.last = text;
+        }
+        self.count = self.count.saturating_add(1);
+        Ok(())
+    }
+
+    /// The texts, and how many numbers there are.
+    fn finished(self, alloc: Global) -> Result<String, AllocError> {
+        let mut text = self.text;
+        text.push_str(format!(in alloc; "{} in all", self.count)?.as_str())?;
+        Ok(text)
+    }
+}
+
+/// Instructs a handler.
+fn instructed(
+    alloc: Global,
+    doer: &mut Doer,
+    verb: &str,
+    rest: &str,
+) -> Result<String, AllocError> {
+    match verb {
+        "says" => doer.say(rest)?,
+        "refuses" => doer.refuses = rest == "yes",
+        _ => return String::from_str(alloc, "no line of a worker"),
+    }
+    Ok(String::new(alloc))
+}
+
+/// In place of a side's worker comes one that acknowledges these entries first.
+fn resumed(alloc: Global, side: &mut Side, ids: &str) -> Result<String, AllocError> {
+    let mut committed = Vec::new(alloc);
+    for id in ids.split(' ') {
+        committed.push(String::from_str(alloc, id)?)?;
+    }
+    side.worker = Worker::resumed(alloc, settings_of(alloc, "")?, committed);
+    Ok(String::new(alloc))
+}
+
+/// Does what a line says.
+fn done(alloc: Global, side: &mut Side, verb: &str, rest: &str) -> Result<String, AllocError> {
+    match verb {
+        "ask" => asked(alloc, &mut side.worker, &mut side.doer),
+        "tell" => told_text(alloc, side, rest),
+        "fronts" => told_fronts(alloc, side, rest),
+        "resumes" => resumed(alloc, side, rest),
+        _ => instructed(alloc, &mut side.doer, verb, rest),
+    }
+}
+
+/// What both workers do.
+#[derive(Drop)]
+struct Both {
+    by_value: Side,
+    in_place: Side,
+}
+
+/// Has both workers do what a line says.
+fn both_done(
+    alloc: Global,
+    both: &mut Both,
+    line: &str,
+    out: &mut String,
+) -> Result<(), AllocError> {
+    let (verb, rest) = parted(line, ' ');
+    let one = done(alloc, &mut both.by_value, verb, rest)?;
+    let other = done(alloc, &mut both.in_place, verb, rest)?;
+    if one.as_str() == other.as_str() {
+        return push_exchange(out, line, one.as_str());
+    }
+    push_exchange(out, line, "by value:")?;
+    push_line(out, one.as_str())?;
+    push_line(out, "in place:")?;
+    push_line(out, other.as_str())
+}
+
+/// Whether a line is bytes of a reply.
+fn is_reply(line: &str) -> bool {
+    match line.as_bytes() {
+        [first, ..] => !first.is_ascii_lowercase(),
+        [] => false,
+    }
+}
+
+/// Plays a session by value and in place.
+fn play_session(
+    alloc: Global,
+    words: &str,
+    lines: &str,
+    out: &mut String,
+) -> Result<(), AllocError> {
+    let mut both = Both {
+        by_value: Side::new(alloc, words, Way::ByValue)?,
+        in_place: Side::new(alloc, words, Way::InPlace)?,
+    };
+    for line in lines.lines() {
+        if is_reply(line) {
+            both_done(alloc, &mut both, "ask", out)?;
+            let told = format!(in alloc; "tell {line}")?;
+            both_done(alloc, &mut both, told.as_str(), out)?;
+        } else {
+            both_done(alloc, &mut both, line, out)?;
+        }
+    }
+    Ok(())
+}
+
+// A handler that says of each entry what a script says.
+
+/// Keeps each entry that is done as `Gathered` does, and notes what it was given.
+#[derive(Drop)]
+struct Doer {
+    /// What is done, and what of it is committed.
+    kept: Gathered,
+    /// What it says of the next entries, the last one first; `Done` of those after them.
+    says: Vec<Verdict>,
+    /// Whether commits fail.
+    refuses: bool,
+    /// How often it committed.
+    commits: usize,
+    /// What it was given, and what it said.
+    seen: String,
+    /// Whether memory was refused to it.
+    is_short: bool,
+}
+
+impl Doer {
+    /// One that does everything.
+    fn new(alloc: Global) -> Doer {
+        Doer {
+            kept: Gathered::new(alloc),
+            says: Vec::new(alloc),
+            refuses: false,
+            commits: 0,
+            seen: String::new(alloc),
+            is_short: false,
+        }
+    }
+
+    /// It says this of the next entries.
+    fn say(&mut self, words: &str) -> Result<(), AllocError> {
+        for word in words.split(' ') {
+            self.says.insert(0, verdict_of(word))?;
+        }
+        Ok(())
+    }
+
+    /// Err if memory was refused to it.
+    fn check(&self) -> Result<(), AllocError> {
+        if self.is_short {
+            Err(AllocError)
+        } else {
+            Ok(())
+        }
+    }
+
+    /// What it kept, and what it was given since it was asked last.
+    fn standing(&mut self, alloc: Global) -> Result<String, AllocError> {
+        self.check()?;
+        let text = format!(in alloc;
+            "{}; loose {}, committed {} in {}",
+            self.seen.as_str(),
+            self.kept.loose.len(),
+            self.kept.committed.len(),
+            self.commits
+        )?;
+        self.seen.clear();
+        Ok(text)
+    }
+
+    /// Notes an entry, and keeps it if it is done.
+    fn note(&mut self, alloc: Global, entry: &EntryRef<'_>) -> Result<Verdict, AllocError> {
+        push_entry(&mut self.seen, entry)?;
+        let verdict = self.says.pop().unwrap_or(Verdict::Done);
+        self.seen.push_str(name_of(verdict))?;
+        if verdict == Verdict::Done && self.kept.handle(alloc, entry) != Verdict::Done {
+            return Err(AllocError);
+        }
+        Ok(verdict)
+    }
+}
+
+/// The verdict of this name.
+fn verdict_of(word: &str) -> Verdict {
+    match word {
+        "leave" => Verdict::LeavePending,
+        "stop" => Verdict::Stop,
+        _ => Verdict::Done,
+    }
+}
+
+/// The name of a verdict.
+fn name_of(verdict: Verdict) -> &'static str {
+    match verdict {
+        Verdict::Done => " done",
+        Verdict::LeavePending => " leave",
+        Verdict::Stop => " stop",
+    }
+}
+
+/// Appends a field.
+fn push_field(out: &mut String, name: &[u8], value: &[u8]) -> Result<(), AllocError> {
+    out.push(' ')?;
+    push_bytes(out, name)?;
+    out.push('=')?;
+    push_bytes(out, value)
+}
+
+/// Appends an entry's id and fields, in order and with repeated ones.
+fn push_entry(out: &mut String, entry: &EntryRef<'_>) -> Result<(), AllocError> {
+    out.push_str("; ")?;
+    out.push_str(entry.id())?;
+    for (name, value) in entry.fields() {
+        push_field(out, name, value)?;
+    }
+    Ok(())
+}
+
+impl Handler for Doer {
+    ghost History = { Unit {0} };
+
+    ghost with_verdict = { λ history e verdict. history };
+
+    ghost with_commit = { λ history. history };
+
+    ghost history = { λ handler. tt };
+
+    fn handle(&mut self, alloc: Global, entry: &EntryRef<'_>) -> Verdict {
+        match self.note(alloc, entry) {
+            Ok(verdict) => verdict,
+            Err(AllocError) => {
+                self.is_short = true;
+                Verdict::Stop
+            }
+        }
+    }
+
+    fn commit(&mut self, alloc: Global) -> Result<(), NotCommitted> {
+        if self.refuses {
+            return Err(NotCommitted);
+        }
+        if self.kept.commit(alloc).is_err() {
+            self.is_short = true;
+            return Err(NotCommitted);
+        }
+        self.commits = self.commits.saturating_add(1);
+        Ok(())
+    }
+}

@@ -1,0 +1,525 @@
+//! Connections over readers and writers in memory, and a worker over one.
+//!
+//! The words of the head are sizes: for each of them all is played once, with reads of so many bytes
+//! at most. A line is one of these, or one of a worker:
+//!
+//! | Line | What it says |
+//! |---|---|
+//! | `comes` and bytes | what comes in |
+//! | `reads 3 interrupted 0` | what each read does: so many bytes at most, or an error; then no byte comes |
+//! | `writes 5 broken` | what each write does |
+//! | `send GET k` | a command is sent |
+//! | `text GET k`, `number GET k` | a command is sent, and its reply read as a text, as a number |
+//! | `receive`, `place` | a reply is received, is received in place |
+//! | `any`, `passed` | a reply of any kind is received; how many messages were passed over |
+//! | `show 5`, `give 5` | so many bytes in place are shown, are given out |
+//! | `run 7` | the worker makes so many rounds |
+//! | `pipeline` | it makes a round, or two with one write |
+ghost use Rattle.std.specs.Prelude.{◌≡◌, IfOk, IsTrue};
+ghost use Rattle.test_sessions.specs.Scripts.{is_connection_script};
+
+use crate::worker::{LIMITS, Side, Spans, Way, done, error_text};
+use crate::{bytes_of, commands_text, number_of, parted, push_exchange, push_line, text_of};
+use redis_connection::{AskError, Connection, ConnectionError};
+use redis_resp::FromRedisValue;
+use redis_wire::{Protocol, Reply, append_answer};
+use std::alloc::{AllocError, Global};
+use std::fmt::Display;
+use std::io;
+use std::io::{ErrorKind, Read, Write};
+use worker::{Asked, Pipelined, Progress, RequestError, RunError};
+
+/// Plays a connection; false if the script is another one.
+pub fn play(
+    alloc: Global,
+    name: &str,
+    words: &str,
+    lines: &str,
+    out: &mut String,
+) -> Result<bool, AllocError>
+    ensures { IfOk result (λ played. IsTrue played → IsTrue (is_connection_script name.now)) }
+{
+    match name {
+        "connection" => {
+            play_sizes(alloc, words, lines, out)?;
+            Ok(true)
+        }
+        "ends" => {
+            play_ends(alloc, words, lines, out)?;
+            Ok(true)
+        }
+        _ => Ok(false),
+    }
+}
+
+/// What a call of a reader or writer does.
+#[derive(Clone, Copy)]
+enum Turn {
+    /// It takes or gives so many bytes at most.
+    Moves(usize),
+    Fails(ErrorKind),
+}
+
+/// What the calls of a reader or writer do, one after the other.
+#[derive(Drop)]
+struct Turns {
+    /// What each call does, the last one first.
+    turns: Vec<Turn>,
+    /// How many bytes a call moves if nothing is said of calls.
+    most: usize,
+}
+
+impl Turns {
+    /// The most that the next call moves.
+    fn next(&mut self) -> io::Result<usize> {
+        match self.turns.pop() {
+            Some(Turn::Moves(most)) => Ok(most),
+            Some(Turn::Fails(kind)) => Err(io::Error::from(kind)),
+            None => Ok(self.most),
+        }
+    }
+
+    /// Says what the next calls do; after them nothing is moved.
+    fn say(&mut self, words: &str) -> Result<(), AllocError> {
+        self.most = 0;
+        for word in words.split(' ') {
+            self.turns.insert(0, turn_of(word))?;
+        }
+        Ok(())
+    }
+}
+
+/// The turn of this name.
+fn turn_of(word: &str) -> Turn {
+    match word {
+        "interrupted" => Turn::Fails(ErrorKind::Interrupted),
+        "reset" => Turn::Fails(ErrorKind::ConnectionReset),
+        "broken" => Turn::Fails(ErrorKind::BrokenPipe),
+        _ => Turn::Moves(number_of(word)),
+    }
+}
+
+/// Gives bytes in turns, one a call.
+#[derive(Drop)]
+struct Source {
+    bytes: Vec<u8>,
+    at: usize,
+    turns: Turns,
+}
+
+impl Source {
+    /// These bytes come too.
+    fn come(&mut self, alloc: Global, text: &str) -> Result<(), AllocError> {
+        let mut bytes = bytes_of(alloc, text)?;
+        self.bytes.append(&mut bytes)
+    }
+}
+
+impl Read for Source {
+    fn read(&mut self, buf: &mut [u8]) -> io::Result<usize> {
+        let most = self.turns.next()?;
+        let mut len = 0usize;
+        let from = self.at.min(self.bytes.len());
+        for (place, byte) in buf.iter_mut().take(most).zip(self.bytes[from..].iter()) {
+            *place = *byte;
+            len = len.saturating_add(1);
+        }
+        self.at = self.at.saturating_add(len);
+        Ok(len.min(buf.len()))
+    }
+}
+
+/// Takes bytes in turns, one a call.
+#[derive(Drop)]
+struct Sink {
+    bytes: Vec<u8>,
+    turns: Turns,
+}
+
+impl Write for Sink {
+    fn write(&mut self, buf: &[u8]) -> io::Result<usize> {
+        let len = self.turns.next()?.min(buf.len());
+        self.bytes.extend_from_slice(&buf[..len])?;
+        Ok(len)
+    }
+
+    fn flush(&mut self) -> io::Result<()> {
+        Ok(())
+    }
+}
+
+/// A reader and a writer.
+#[derive(Drop)]
+struct Ends {
+    source: Source,
+    sink: Sink,
+}
+
+impl Ends {
+    /// A reader of nothing that gives so many bytes at most, and a writer that takes all.
+    fn new(alloc: Global, most: usize) -> Ends {
+        Ends {
+            source: Source {
+                bytes: Vec::new(alloc),
+                at: 0,
+                turns: Turns {
+                    turns: Vec::new(alloc),
+                    most,
+                },
+            },
+            sink: Sink {
+                bytes: Vec::new(alloc),
+                turns: Turns {
+                    turns: Vec::new(alloc),
+                    most: usize::MAX,
+                },
+            },
+        }
+    }
+
+    /// What a line says of the reader or the writer.
+    fn say(&mut self, alloc: Global, line: &str) -> Result<(), AllocError> {
+        match parted(line, ' ') {
+            ("comes", rest) => self.source.come(alloc, rest),
+            ("reads", rest) => self.source.turns.say(rest),
+            ("writes", rest) => self.sink.turns.say(rest),
+            _ => Ok(()),
+        }
+    }
+}
+
+/// The name and the text of an error of a connection.
+fn failure_text(alloc: Global, error: &ConnectionError) -> Result<String, AllocError> {
+    match error {
+        ConnectionError::Memory => Err(AllocError),
+        error => format!(in alloc; "{error:?}: {error}"),
+    }
+}
+
+/// The name and the text of an error of a question.
+fn ask_text(alloc: Global, error: &AskError) -> Result<String, AllocError> {
+    match error {
+        AskError::Connection(error) => failure_text(alloc, error),
+        AskError::Server(_) => format!(in alloc; "Server: {error}"),
+        error => format!(in alloc; "{error:?}: {error}"),
+    }
+}
+
+/// Sends a command.
+fn sent<R: Read + Drop, W: Write + Drop>(
+    alloc: Global,
+    link: &mut Connection<R, W>,
+    rest: &str,
+) -> Result<String, AllocError> {
+    match link.send(alloc, &parted(rest, ' ')) {
+        Ok(()) => String::from_str(alloc, "Ok"),
+        Err(error) => failure_text(alloc, &error),
+    }
+}
+
+/// Sends a command, and reads its reply as a `T`.
+fn answered<T: FromRedisValue + Display, R: Read + Drop, W: Write + Drop>(
+    alloc: Global,
+    link: &mut Connection<R, W>,
+    rest: &str,
+) -> Result<String, AllocError> {
+    match link.ask_as::<T, (&str, &str)>(alloc, &parted(rest, ' ')) {
+        Ok(value) => format!(in alloc; "{value}"),
+        Err(error) => ask_text(alloc, &error),
+    }
+}
+
+/// A reply as bytes of RESP3.
+fn reply_text(alloc: Global, reply: &Reply) -> Result<String, AllocError> {
+    let mut bytes = Vec::new(alloc);
+    match append_answer(alloc, &mut bytes, Protocol::Resp3, reply) {
+        Ok(()) => text_of(alloc, &bytes),
+        Err(_error) => Err(AllocError),
+    }
+}
+
+/// What was received.
+fn received_text(
+    alloc: Global,
+    received: &Result<Reply, ConnectionError>,
+) -> Result<String, AllocError> {
+    match received {
+        Ok(reply) => reply_text(alloc, reply),
+        Err(error) => failure_text(alloc, error),
+    }
+}
+
+/// Receives a reply in place.
+fn placed<R: Read + Drop, W: Write + Drop>(
+    alloc: Global,
+    link: &mut Connection<R, W>,
+) -> Result<String, AllocError> {
+    match link.receive_in_place(alloc) {
+        Ok(len) => {
+            let reply = text_of(alloc, link.received(len))?;
+            format!(in alloc; "{len} bytes: {}", reply.as_str())
+        }
+        Err(error) => failure_text(alloc, &error),
+    }
+}
+
+/// What rounds came to.
+fn run_text(alloc: Global, outcome: &Result<Progress, RunError>) -> Result<String, AllocError> {
+    match outcome {
+        Ok(progress) => format!(in alloc; "{progress:?}"),
+        Err(RunError::Request(RequestError::Memory)) => Err(AllocError),
+        Err(RunError::Request(error)) => format!(in alloc; "Request: {error:?}: {error}"),
+        Err(RunError::Send(error)) => kind_text(alloc, "Send: ", error),
+        Err(RunError::Receive { asked, error }) => unanswered_text(alloc, *asked, error),
+        Err(RunError::Answer(error)) => error_text(alloc, error),
+    }
+}
+
+/// An error of a connection, and when it came.
+fn kind_text(alloc: Global, kind: &str, error: &ConnectionError) -> Result<String, AllocError> {
+    let text = failure_text(alloc, error)?;
+    format!(in alloc; "{kind}{}", text.as_str())
+}
+
+/// An error in place of the answer to this.
+fn unanswered_text(
+    alloc: Global,
+    asked: Asked,
+    error: &ConnectionError,
+) -> Result<String, AllocError> {
+    let text = failure_text(alloc, error)?;
+    format!(in alloc; "Receive: {asked}: {}", text.as_str())
+}
+
+/// The worker makes so many rounds.
+fn ran<R: Read + Drop, W: Write + Drop>(
+    alloc: Global,
+    link: &mut Connection<R, W>,
+    side: &mut Side,
+    rounds: u64,
+) -> Result<String, AllocError> {
+    let result = side.worker.run(alloc, link, &mut side.doer, rounds);
+    let mut text = run_text(alloc, &result)?;
+    text.push_str(side.doer.standing(alloc)?.as_str())?;
+    Ok(text)
+}
+
+/// The worker makes a round, or two with one write.
+fn pipelined<R: Read + Drop, W: Write + Drop>(
+    alloc: Global,
+    link: &mut Connection<R, W>,
+    side: &mut Side,
+) -> Result<String, AllocError> {
+    let mut text = match side.worker.round_pipelined(alloc, link, &mut side.doer) {
+        Ok(made) => made_text(alloc, made)?,
+        Err(error) => run_text(alloc, &Err(error))?,
+    };
+    text.push_str(side.doer.standing(alloc)?.as_str())?;
+    Ok(text)
+}
+
+/// What was asked, whether an acknowledgement went before, and how the handler goes on.
+fn made_text(alloc: Global, made: Pipelined) -> Result<String, AllocError> {
+    let round = made.round;
+    if made.acknowledged {
+        format!(in alloc;
+            "Acknowledgement and {:?}, {:?}",
+            round.asked, round.progress
+        )
+    } else {
+        format!(in alloc; "{:?}, {:?}", round.asked, round.progress)
+    }
+}
+
+/// So many rounds as a word says.
+fn rounds_of(word: &str) -> u64 {
+    word.parse::<u64>().unwrap_or(0)
+}
+
+/// What a line speaks of.
+#[derive(Clone, Copy)]
+enum Subject {
+    /// The reader or the writer, of which all is said at the beginning.
+    Ends,
+    Question,
+    Reply,
+    Rounds,
+    Worker,
+}
+
+/// What a line with this word speaks of.
+fn subject_of(verb: &str) -> Subject {
+    match verb {
+        "comes" | "reads" | "writes" => Subject::Ends,
+        "send" | "text" | "number" => Subject::Question,
+        "receive" | "place" | "any" | "passed" | "show" | "give" => Subject::Reply,
+        "run" | "pipeline" => Subject::Rounds,
+        _ => Subject::Worker,
+    }
+}
+
+/// Sends a command, and has the server reply.
+fn ask<R: Read + Drop, W: Write + Drop>(
+    alloc: Global,
+    link: &mut Connection<R, W>,
+    verb: &str,
+    rest: &str,
+) -> Result<String, AllocError> {
+    match verb {
+        "send" => sent(alloc, link, rest),
+        "text" => answered::<String, R, W>(alloc, link, rest),
+        _ => answered::<usize, R, W>(alloc, link, rest),
+    }
+}
+
+/// Receives a reply, shows it or gives it out, or says how many messages were passed over.
+fn take<R: Read + Drop, W: Write + Drop>(
+    alloc: Global,
+    link: &mut Connection<R, W>,
+    verb: &str,
+    len: usize,
+) -> Result<String, AllocError> {
+    match verb {
+        "receive" => received_text(alloc, &link.receive(alloc)),
+        "any" => received_text(alloc, &link.receive_any(alloc)),
+        "passed" => format!(in alloc; "{}", link.passed()),
+        "place" => placed(alloc, link),
+        "show" => text_of(alloc, link.received(len)),
+        _ => {
+            link.give_out(len);
+            Ok(String::new(alloc))
+        }
+    }
+}
+
+/// Does what a line says.
+fn do_line<R: Read + Drop, W: Write + Drop>(
+    alloc: Global,
+    link: &mut Connection<R, W>,
+    side: &mut Side,
+    line: &str,
+) -> Result<String, AllocError> {
+    let (verb, rest) = parted(line, ' ');
+    match subject_of(verb) {
+        Subject::Ends => Ok(String::new(alloc)),
+        Subject::Question => ask(alloc, link, verb, rest),
+        Subject::Reply => take(alloc, link, verb, number_of(rest)),
+        Subject::Rounds if verb == "run" => ran(alloc, link, side, rounds_of(rest)),
+        Subject::Rounds => pipelined(alloc, link, side),
+        Subject::Worker => done(alloc, side, verb, rest),
+    }
+}
+
+/// What comes of the lines, and what was sent, with reads of so many bytes at most.
+fn transcript_of(alloc: Global, lines: &str, most: usize) -> Result<String, AllocError> {
+    let mut ends = Ends::new(alloc, most);
+    for line in lines.lines() {
+        ends.say(alloc, line)?;
+    }
+    let Ends { source, mut sink } = ends;
+    let mut out = String::new(alloc);
+    let mut link = Connection::new(alloc, source, &mut sink, LIMITS)?;
+    do_lines(alloc, &mut link, lines, &mut out)?;
+    drop(link);
+    out.push_str("sent: ")?;
+    push_line(&mut out, commands_text(alloc, &sink.bytes)?.as_str())?;
+    Ok(out)
+}
+
+/// Does what the lines say.
+fn do_lines<R: Read + Drop, W: Write + Drop>(
+    alloc: Global,
+    link: &mut Connection<R, W>,
+    lines: &str,
+    out: &mut String,
+) -> Result<(), AllocError> {
+    let mut side = Side::new(alloc, "", Way::InPlace)?;
+    for line in lines.lines() {
+        let text = do_line(alloc, link, &mut side, line)?;
+        push_exchange(out, line, text.as_str())?;
+    }
+    Ok(())
+}
+
+/// Plays a connection, once for each size.
+fn play_sizes(alloc: Global, words: &str, lines: &str, out: &mut String) -> Result<(), AllocError> {
+    let mut last = String::new(alloc);
+    for word in words.split(' ') {
+        let most = word.parse::<usize>().unwrap_or(usize::MAX);
+        let text = transcript_of(alloc, lines, most)?;
+        if text.as_str() == last.as_str() {
+            out.push_str("the same with reads of ")?;
+            push_line(out, word)?;
+        } else {
+            out.push_str(text.as_str())?;
+            last = text;
+        }
+    }
+    Ok(())
+}
+
+/// What a session over bytes came to, and the commands that were sent.
+#[derive(Drop)]
+struct Outcome {
+    text: String,
+    sent: Vec<u8>,
+}
+
+/// What comes of a session of so many rounds over bytes.
+fn ended(alloc: Global, bytes: &[u8], rounds: u64) -> Result<Outcome, AllocError> {
+    let mut sent = Vec::new(alloc);
+    let mut side = Side::new(alloc, "", Way::InPlace)?;
+    let mut link = Connection::new(alloc, bytes, &mut sent, LIMITS)?;
+    let mut text = ran(alloc, &mut link, &mut side, rounds)?;
+    drop(link);
+    text.push_str("; next: ")?;
+    text.push_str(next_text(alloc, &mut side)?.as_str())?;
+    Ok(Outcome { text, sent })
+}
+
+/// What a worker asks next.
+fn next_text(alloc: Global, side: &mut Side) -> Result<String, AllocError> {
+    let mut bytes = Vec::new(alloc);
+    match side.worker.request(alloc, &mut bytes, &mut side.doer) {
+        Ok(_) => commands_text(alloc, &bytes),
+        Err(RequestError::Memory) => Err(AllocError),
+        Err(error) => format!(in alloc; "{error}"),
+    }
+}
+
+/// What comes of a session whose bytes end too early, beside the commands of the whole one.
+fn front_text(
+    alloc: Global,
+    bytes: &[u8],
+    rounds: u64,
+    whole: &[u8],
+) -> Result<String, AllocError> {
+    let Outcome { mut text, sent } = ended(alloc, bytes, rounds)?;
+    text.push_str(if whole.starts_with(&sent) {
+        "; sent a front: "
+    } else {
+        "; sent otherwise: "
+    })?;
+    text.push_str(commands_text(alloc, &sent)?.as_str())?;
+    Ok(text)
+}
+
+/// Plays a session over a connection that ends after each byte of what comes.
+fn play_ends(alloc: Global, words: &str, lines: &str, out: &mut String) -> Result<(), AllocError> {
+    let mut input = Vec::new(alloc);
+    for line in lines.lines() {
+        input.append(&mut bytes_of(alloc, line)?)?;
+    }
+    let rounds = rounds_of(words);
+    let whole = ended(alloc, &input, rounds)?;
+    let commands = commands_text(alloc, &whole.sent)?;
+    push_exchange(out, commands.as_str(), whole.text.as_str())?;
+    let mut spans = Spans::new(alloc);
+    for end in 0..input.len() {
+        spans.add(
+            alloc,
+            front_text(alloc, &input[..end], rounds, &whole.sent)?,
+        )?;
+    }
+    push_line(out, spans.finished(alloc)?.as_str())
+}

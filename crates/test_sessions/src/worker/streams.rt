@@ -1,0 +1,120 @@
+//! One consumer of several streams: a worker for each, over one connection and with one handler.
+//!
+//! The words of the head are the protocol, how many turns each worker has, and the streams.
+ghost use Rattle.std.specs.Prelude.{◌≡◌, IfOk, IsTrue};
+ghost use Rattle.test_sessions.specs.Scripts.{is_streams_script};
+
+use crate::worker::{Doer, Way, told};
+use crate::{
+    answered, commands_text, number_of, parted, protocol_of, push_exchange, push_line,
+    settings_for, tell_all,
+};
+use redis_wire::{Decoded, Limits, command_words, decode};
+use std::alloc::{AllocError, Global};
+use server_commands::{Server, Session};
+use worker::{MakeGroup, Worker};
+
+/// Plays workers of several streams; false if the script is another one.
+pub fn play(
+    alloc: Global,
+    name: &str,
+    words: &str,
+    lines: &str,
+    out: &mut String,
+) -> Result<bool, AllocError>
+    ensures { IfOk result (λ played. IsTrue played → IsTrue (is_streams_script name.now)) }
+{
+    match name {
+        "streams" => {
+            play_streams(alloc, words, lines, out)?;
+            Ok(true)
+        }
+        _ => Ok(false),
+    }
+}
+
+/// A server and one connection to it.
+#[derive(Drop)]
+struct Peer {
+    server: Server,
+    session: Session,
+}
+
+/// A worker for each stream.
+fn workers_of(alloc: Global, keys: &str) -> Result<Vec<Worker>, AllocError> {
+    let mut workers = Vec::new(alloc);
+    for key in keys.split(' ') {
+        let mut settings = settings_for(alloc, key, "ann")?;
+        settings.set_make_group(MakeGroup::FromTheFirst);
+        workers.push(Worker::new(alloc, settings))?;
+    }
+    Ok(workers)
+}
+
+/// The bytes of the reply to the command that bytes hold, and none if they hold none.
+fn answer_to(alloc: Global, peer: &mut Peer, question: &[u8]) -> Result<Vec<u8>, AllocError> {
+    match decode(alloc, question, Limits::default()) {
+        Ok(Decoded::Complete { reply, len: _ }) => match command_words(alloc, reply)? {
+            Some(words) => answered(alloc, &mut peer.server, 0, &mut peer.session, words),
+            None => Ok(Vec::new(alloc)),
+        },
+        Ok(Decoded::Incomplete) => Ok(Vec::new(alloc)),
+        Err(_error) => Err(AllocError),
+    }
+}
+
+/// A worker asks once, and takes the reply.
+fn turn(
+    alloc: Global,
+    peer: &mut Peer,
+    worker: &mut Worker,
+    doer: &mut Doer,
+    out: &mut String,
+) -> Result<(), AllocError> {
+    let mut question = Vec::new(alloc);
+    if worker.request(alloc, &mut question, doer).is_err() {
+        return Err(AllocError);
+    }
+    let answer = answer_to(alloc, peer, &question)?;
+    let text = told(alloc, worker, doer, Way::ByValue, &answer)?;
+    push_exchange(
+        out,
+        commands_text(alloc, &question)?.as_str(),
+        text.as_str(),
+    )
+}
+
+/// Plays workers of streams, and says what is pending then.
+fn play_streams(
+    alloc: Global,
+    words: &str,
+    lines: &str,
+    out: &mut String,
+) -> Result<(), AllocError> {
+    let (protocol, rest) = parted(words, ' ');
+    let (turns, keys) = parted(rest, ' ');
+    let mut peer = Peer {
+        server: Server::new(alloc),
+        session: Session::new(alloc, protocol_of(protocol)),
+    };
+    tell_all(alloc, &mut peer.server, &mut peer.session, lines, out)?;
+    let mut workers = workers_of(alloc, keys)?;
+    let mut doer = Doer::new(alloc);
+    for _ in 0..number_of(turns) {
+        for worker in workers.iter_mut() {
+            turn(alloc, &mut peer, worker, &mut doer, out)?;
+        }
+    }
+    push_line(out, doer.standing(alloc)?.as_str())?;
+    for key in keys.split(' ') {
+        let line = format!(in alloc; "XPENDING {key} g")?;
+        tell_all(
+            alloc,
+            &mut peer.server,
+            &mut peer.session,
+            line.as_str(),
+            out,
+        )?;
+    }
+    Ok(())
+}

@@ -1,0 +1,74 @@
+//! What the tests of this crate share.
+
+mod copies;
+mod depth;
+mod entry;
+mod many;
+mod values;
+
+use redis_resp::{FromRedisValue, ParsingError, Value, from_redis_value, from_redis_value_ref};
+use std::alloc::{AllocError, Global};
+use std::process::Abort;
+use std::test::Fail;
+use test_notation::PrintedForm;
+
+/// A line of items: what comes before them, one item, what comes between each two, and after
+/// them.
+/// Each `$` in an item is its number, from 10,000 on, so that all numbers have five digits.
+type Line<'a> = (&'a str, &'a str, &'a str, &'a str);
+
+/// So many items as a line.
+fn line_of(alloc: Global, line: Line<'_>, count: usize) -> Result<String, AllocError> {
+    let (before, item, between, behind) = line;
+    let mut text = String::from_str(alloc, before)?;
+    for number in 0..count {
+        if number > 0 {
+            text.push_str(between)?;
+        }
+        for letter in item.chars() {
+            if letter == '$' {
+                write!(text, "{}", number.saturating_add(10_000))?;
+            } else {
+                text.push(letter)?;
+            }
+        }
+    }
+    text.push_str(behind)?;
+    Ok(text)
+}
+
+/// The counts of items that are tried: 0 to 64, 1,000 and 10,000, each by its step from 0 to 66.
+fn count_of(step: usize) -> usize {
+    match step {
+        65 => 1_000,
+        66 => 10_000,
+        count => count,
+    }
+}
+
+/// What both calls answer of the value has this printed form, and the borrowed value stays as it was.
+fn check_value<T: FromRedisValue + PrintedForm>(
+    rt: &(impl AllocGlobal + Abort),
+    value: Value,
+    printed: &str,
+) -> Result<(), Fail> {
+    let copy = value.try_clone(rt.alloc())?;
+    check_answer(rt, from_redis_value_ref::<T>(rt.alloc(), &value), printed)?;
+    assert!(rt; value == copy, "{printed}: the value was changed");
+    drop(copy);
+    check_answer(rt, from_redis_value::<T>(rt.alloc(), value), printed)
+}
+
+/// The answer has this printed form.
+fn check_answer<T: PrintedForm + Drop>(
+    rt: &(impl AllocGlobal + Abort),
+    answer: Result<T, ParsingError>,
+    printed: &str,
+) -> Result<(), Fail> {
+    let told = match answer {
+        Ok(record) => record.printed(rt.alloc())?,
+        Err(error) => error.printed(rt.alloc())?,
+    };
+    assert!(rt; told.as_str() == printed, "{told}, not {printed}");
+    Ok(())
+}

@@ -1,0 +1,12 @@
+use Rattle.worker.proofs.DeadLettersLemmas.DeadMovesLemmas.{claims_are_moves, deliveries_are_moves}
+use Rattle.worker.proofs.DeadLettersLemmas.DeadMovesLemmas as lemmas
+use Rattle.worker.proofs.dead_letters.laws.give_ups_are_moves.Goals as goal
+
+pub returns-clause-claims : goal.returns-clause-claims
+returns-clause-claims c = claims_are_moves
+
+pub returns-clause-letters : goal.returns-clause-letters
+returns-clause-letters c = deliveries_are_moves
+
+pub returns-clause-all : goal.returns-clause-all
+returns-clause-all c = lemmas.give_ups_are_moves

@@ -1,0 +1,55 @@
+-- Commands that are sent between two rounds: those that only read, and those that give entries up.
+use Rattle.std.specs.Prelude.{◌≡◌, ◌⊎◌, ℕ, List, [], ◌∷◌, codes}
+use Rattle.redis_connection.specs.Ask.{Exchanges}
+use Rattle.redis_connection.specs.Link.{Link}
+use Rattle.redis_connection.specs.declared.error.AskError.{AskError}
+use Rattle.redis_connection.specs.declared.error.AskError.TheVariants as errors
+use Rattle.redis_wire.specs.Reply.{Answer}
+use Rattle.worker.specs.DeadLetters.Dead.{BreaksOff, Claimer, GivesUp, GivesUpSome}
+use Rattle.worker.specs.declared.dead_letters.search.Waiting.{Waiting}
+use Rattle.model_workers.specs.System.Desks.{Names}
+
+-- the command changes nothing: it is XPENDING, XINFO or WAIT
+abbrev pub OnlyLooks : List (List ℕ) → Type 0
+OnlyLooks [] = ⊥
+OnlyLooks (word ∷ words) = (word ≡ codes "XPENDING") ⊎ ((word ≡ codes "XINFO") ⊎ (word ≡ codes "WAIT"))
+
+-- such a command was sent, and then this reply was received
+pub record Looks (old new : Link) : Type 0 where
+  pub words : List (List ℕ)
+  pub only : OnlyLooks words
+  pub answer : Answer
+  pub exchanges : Exchanges old new words answer
+
+-- nothing was sent; or a prefix of such a command; or all of it, and no reply was received, or this one
+pub record BreaksLooking (old new : Link) : Type 0 where
+  pub words : List (List ℕ)
+  pub only : OnlyLooks words
+  pub breaks : BreaksOff words old new
+
+-- such a command failed: the reply is an error, or of another kind; or no reply was received
+abbrev pub LooksNot : Link → Link → AskError → Type 0
+LooksNot old new (errors.Connection e) = BreaksLooking old new
+LooksNot old new (errors.Server e) = Looks old new
+LooksNot old new (errors.Parsing e) = Looks old new
+LooksNot old new errors.NotAnAnswer = Looks old new
+
+-- entries were claimed, and the first ones were given up
+pub record BreaksGivingUp (old new : Link) : Type 0 where
+  pub claimer : Claimer
+  pub names : Names
+  pub entries : List Waiting
+  pub breaks : GivesUpSome claimer names entries old new
+
+-- it searched, and gave entries up, one after the other
+pub data Besides : Link → Link → Type 0 where
+  nothing : (l : Link) → Besides l l
+  looks : (l m n : Link) → Besides l m → Looks m n → Besides l n
+  gives_up : (l m n : Link) (c : Claimer) (names : Names) (entries : List Waiting) → Besides l m
+      → GivesUp c names entries m n → Besides l n
+
+-- it did so for a while, and then broke off
+pub record BreaksBesides (old new : Link) : Type 0 where
+  pub between : Link
+  pub besides : Besides old between
+  pub breaks : BreaksLooking between new ⊎ BreaksGivingUp between new

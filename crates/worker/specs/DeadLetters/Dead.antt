@@ -1,0 +1,187 @@
+-- The search for entries that are given up, over a connection: none is acknowledged before the reply to its letter.
+use Rattle.std.specs.Prelude.{◌≡◌, ◌≢◌, ◌⊎◌, ℕ, zero, suc, true, false, List, [], ◌∷◌, ◌++◌, map, Option, Some}
+use Rattle.std.specs.Prelude.{option_map, codes, decimal, String, Vec, string_bytes}
+use Rattle.std.specs.declared.alloc.Global.{Global}
+use Rattle.redis_args.specs.declared.raw_bytes.RawBytes.{RawBytes}
+use Rattle.redis_wire.specs.Packed.{command_bytes}
+use Rattle.redis_wire.specs.Reply.{Answer}
+use Rattle.redis_connection.specs.Ask.{Asks, Exchanges, Fails}
+use Rattle.redis_connection.specs.Link.{Link, Sends}
+use Rattle.redis_connection.specs.Passing.{ReceivesAnswer}
+use Rattle.redis_resp.specs.Bytes.{bytes_reading}
+use Rattle.redis_resp.specs.Reading.{list_reading, option_reading, two_reading}
+use Rattle.redis_resp.specs.Text.{text_reading}
+use Rattle.redis_resp.specs.Tree.{Tree}
+use Rattle.redis_resp.specs.declared.value.Value.{Value}
+use Rattle.worker_journal.specs.EntryLine.{Entry}
+use Rattle.model_workers.specs.Files.Files.{Fields}
+use Rattle.worker.specs.declared.dead_letters.search.DeadLetterSearch.{DeadLetterSearch}
+use Rattle.worker.specs.declared.dead_letters.search.GiveUp.{GiveUp}
+use Rattle.worker.specs.declared.dead_letters.search.Waiting.{Waiting}
+use Rattle.worker.specs.declared.dead_letters.error.SearchSettingsError.{SearchSettingsError}
+use Rattle.worker.specs.declared.dead_letters.error.SearchSettingsError.TheVariants.{NoDeliveries, NoStream, SameStream, Memory}
+use Rattle.model_workers.specs.System.Desks.{Names, letter_for, words_of}
+use Rattle.worker.specs.Letters.{Desk, after_letter, letter_asks, letter_bytes, serves}
+
+-- the settings of a search are accepted: the delivery count is 1 at least, and the dead-letter stream has a name and is
+-- another stream
+pub record IsAllowed (key : List ℕ) (to : GiveUp) : Type 0 where
+  pub deliveries : to.deliveries ≢ 0
+  pub named : string_bytes to.stream ≢ []
+  pub other : string_bytes to.stream ≢ key
+
+-- why they are refused
+abbrev pub IsRefused : List ℕ → GiveUp → SearchSettingsError → Type 0
+IsRefused key to NoDeliveries = to.deliveries ≡ 0
+IsRefused key to NoStream = string_bytes to.stream ≡ []
+IsRefused key to SameStream = string_bytes to.stream ≡ key
+IsRefused key to Memory = Unit {0}
+
+-- the id of a pending entry, and its delivery count
+abbrev pub waiting_of : Waiting → List ℕ × ℕ
+waiting_of w = (string_bytes w.id, w.deliveries)
+
+-- the same of a row
+abbrev pub row_of : String Global × Value × Value × ℕ → List ℕ × ℕ
+row_of r = (string_bytes r.0, r.3)
+
+-- the page ends with an entry, and the next start is a parenthesis and its id
+pub record IsBehind (page : List Waiting) (start : List ℕ) : Type 0 where
+  pub before : List Waiting
+  pub last : Waiting
+  pub page_is : page ≡ before ++ last ∷ []
+  pub start_is : start ≡ codes "(" ++ string_bytes last.id
+
+-- a row of the reply to XCLAIM: the id and the texts of the entry, or nil
+abbrev pub Row : Type 0
+Row = Option (List ℕ × List (List ℕ))
+
+-- the rows that a value is
+abbrev pub rows_reading : Tree → Option (List Row)
+rows_reading = list_reading (option_reading (two_reading text_reading (list_reading bytes_reading)))
+
+-- the same of decoded rows
+abbrev pub rows_of : List (Option (String Global × Vec RawBytes Global)) → List Row
+rows_of rows = map (option_map (λ p. (string_bytes p.0, map (λ (text : RawBytes). text.0.items) p.1.items))) rows
+
+-- whose entries are claimed: the stream, the group, the consumer, and the idle time
+pub record Claimer : Type 0 where
+  pub key : List ℕ
+  pub group : List ℕ
+  pub consumer : List ℕ
+  pub min_idle : ℕ
+
+-- the same of a search, with this idle time
+abbrev pub claimer_of : DeadLetterSearch → ℕ → Claimer
+claimer_of d min_idle = record {
+  key = string_bytes d.key;
+  group = string_bytes d.group;
+  consumer = string_bytes d.consumer;
+  min_idle = min_idle;
+}
+
+-- and its names
+abbrev pub letter_names : DeadLetterSearch → Names
+letter_names d = (string_bytes d.key, string_bytes d.group, string_bytes d.stream)
+
+-- `XCLAIM key group consumer min-idle id`
+abbrev pub claim_words : Claimer → List ℕ → List (List ℕ)
+claim_words c id = codes "XCLAIM" ∷ c.key ∷ c.group ∷ c.consumer ∷ decimal c.min_idle ∷ id ∷ []
+
+-- nothing was sent; or a prefix of the command; or all of it, and no reply was received, or this one
+abbrev pub BreaksOff : List (List ℕ) → Link → Link → Type 0
+BreaksOff words old new = (new ≡ old) ⊎ (Fails old new (command_bytes words) ⊎ ((a : Answer) × Exchanges old new words a))
+
+-- these rows are just this entry
+abbrev pub AreJust : List Row → Entry → Type 0
+AreJust rows e = rows ≡ Some (e.0, words_of e.1) ∷ []
+
+-- the reply is exactly the claimed entry, with fields: its letter is queued after those before it
+pub record PostedOne (dead : List ℕ) (w : Waiting) (rows : List Row) (e : Entry) (desk desk' : Desk) : Type 0 where
+  pub just : AreJust rows e
+  pub claimed : e.0 ≡ string_bytes w.id
+  pub fields : e.1 ≢ []
+  pub waits : desk' ≡ record desk { waiting = desk.waiting ++ (e.0, letter_for dead e w.deliveries) ∷ [] }
+
+-- the reply is not exactly one entry with fields, and the queue is as before
+pub record PostedNone (rows : List Row) (desk desk' : Desk) : Type 0 where
+  pub none : (e : Entry) → AreJust rows e → e.1 ≡ []
+  pub waits : desk' ≡ desk
+
+-- a letter with these texts, names and values by turns, was queued; or there are none, and the queue is as before
+abbrev pub PostedFields : List ℕ → Waiting → List (List ℕ) → Desk → Desk → Type 0
+PostedFields dead w texts desk desk' = ((fields : Fields) × (texts ≡ words_of fields) × (fields ≢ [])
+    × (desk' ≡ record desk {
+      waiting = desk.waiting ++ (string_bytes w.id, letter_for dead (string_bytes w.id, fields) w.deliveries) ∷ [];
+    })) ⊎ ((texts ≡ []) × (desk' ≡ desk))
+
+-- an entry was claimed, and these rows were returned
+abbrev pub Posted : List ℕ → Waiting → List Row → Desk → Desk → Type 0
+Posted dead w rows desk desk' = ((e : Entry) × PostedOne dead w rows e desk desk') ⊎ PostedNone rows desk desk'
+
+-- these were claimed one after the other, and these of the returned entries were queued, in order
+abbrev pub PostsAll : Claimer → List ℕ → List Waiting → List Entry → Link → Desk → Link → Desk → Type 0
+PostsAll c dead [] es old desk new desk' = (es ≡ []) × (new ≡ old) × (desk' ≡ desk)
+PostsAll c dead (w ∷ ws) es old desk new desk' = (m : Link) × (d : Desk) × (rows : List Row)
+    × Asks old m (claim_words c (string_bytes w.id)) rows_reading rows
+    × (((e : Entry) × (more : List Entry) × (es ≡ e ∷ more) × PostedOne dead w rows e desk d
+    × PostsAll c dead ws more m d new desk')
+    ⊎ (PostedNone rows desk d × PostsAll c dead ws es m d new desk'))
+
+-- the first ones were, and the claim of the next one failed, or the entry that it returned was not queued
+pub record PostsSome (c : Claimer) (dead : List ℕ) (ws : List Waiting) (old : Link) (desk : Desk) (new : Link)
+    (desk' : Desk) : Type 0 where
+  pub before : List Waiting
+  pub next : Waiting
+  pub rest : List Waiting
+  pub front : ws ≡ before ++ next ∷ rest
+  pub es : List Entry
+  pub between : Link
+  pub posts : PostsAll c dead before es old desk between desk'
+  pub breaks : BreaksOff (claim_words c (string_bytes next.id)) between new
+
+module _ (names : Names) where
+  -- the next command was sent whole, and then this reply was received, after push messages that were skipped
+  pub record Hears (desk : Desk) (old new : Link) (a : Answer) : Type 0 where
+    pub between : Link
+    pub sends : Sends old between (letter_bytes names desk)
+    pub receives : ReceivesAnswer between new a
+
+  -- this number of commands were sent, and each reply was accepted
+  abbrev pub Goes : ℕ → Link → Desk → Link → Desk → Type 0
+  Goes zero old desk new desk' = (new ≡ old) × (desk' ≡ desk)
+  Goes (suc n) old desk new desk' = (m : Link) × (d : Desk) × (a : Answer) × Goes n old desk m d
+      × Hears d m new a × (serves (letter_asks d) a ≡ true) × (desk' ≡ after_letter (letter_asks d) d)
+
+  -- nothing more was sent; or a prefix of the next command; or all of it, and no reply was received, or one that is
+  -- refused
+  abbrev pub Breaks : Desk → Link → Link → Type 0
+  Breaks desk old new = (new ≡ old) ⊎ Fails old new (letter_bytes names desk)
+      ⊎ ((a : Answer) × Hears desk old new a × (serves (letter_asks desk) a ≡ false))
+
+  -- until the queue is empty
+  abbrev pub Delivers : Link → Desk → Link → Desk → Type 0
+  Delivers old desk new desk' = ((n : ℕ) × Goes n old desk new desk') × (desk'.waiting ≡ [])
+
+  -- for the first replies only
+  abbrev pub DeliversSome : Link → Desk → Link → Desk → Type 0
+  DeliversSome old desk new desk' = (n : ℕ) × (m : Link) × Goes n old desk m desk' × Breaks desk' m new
+
+-- an empty queue
+abbrev pub none_waits : Desk
+none_waits = record { waiting = []; added = false }
+
+-- these were claimed, and their letters were sent
+pub record GivesUp (c : Claimer) (names : Names) (ws : List Waiting) (old new : Link) : Type 0 where
+  pub es : List Entry
+  pub between : Link
+  pub desk : Desk
+  pub left : Desk
+  pub posts : PostsAll c names.2 ws es old none_waits between desk
+  pub delivers : Delivers names between desk new left
+
+-- or they were not all claimed; or they were, and only the first letters were sent
+abbrev pub GivesUpSome : Claimer → Names → List Waiting → Link → Link → Type 0
+GivesUpSome c names ws old new = (new ≡ old) ⊎ (((d : Desk) × PostsSome c names.2 ws old none_waits new d)
+    ⊎ ((es : List Entry) × (m : Link) × (d : Desk) × (d' : Desk) × PostsAll c names.2 ws es old none_waits m d
+    × DeliversSome names m d new d'))

@@ -1,0 +1,99 @@
+-- Entries that are given up, and their letters in a stream of dead letters.
+use Rattle.std.specs.Prelude.{◌≡◌, ◌≢◌, ℕ, Bool, true, false, List, [], ◌∷◌, drop, map, codes, decimal, string_bytes}
+use Rattle.redis_resp.specs.Tree.{Tree, bulk, int}
+use Rattle.redis_wire.specs.Packed.{command_bytes}
+use Rattle.redis_wire.specs.Reply as wire
+use Rattle.model_server.specs.Group.Worker.{Id}
+use Rattle.worker.specs.declared.letters.DeadLetters.{DeadLetters}
+use Rattle.worker.specs.declared.letters.Letter.{Letter}
+use Rattle.worker.specs.declared.letters.LetterAsked.{LetterAsked}
+use Rattle.worker.specs.declared.letters.LetterAsked.TheVariants as asked
+use Rattle.worker.specs.declared.letters.LetterError.{LetterError}
+use Rattle.worker.specs.declared.letters.LetterError.TheVariants as causes
+
+-- the entries that are given up, each with the bytes of its XADD, and whether the first one's letter was added
+pub record Desk : Type 0 where
+  pub waiting : List (Id × List ℕ)
+  pub added : Bool
+
+-- the id of an entry, and the bytes of its XADD
+abbrev pub letter_of : Letter → Id × List ℕ
+letter_of l = (string_bytes l.id, l.command.items)
+
+-- the queued letters, and whether the first one was added
+abbrev pub desk_of : DeadLetters → Desk
+desk_of d = record { waiting = map letter_of d.letters.items; added = d.added }
+
+-- the stream, its group, and the stream of dead letters
+abbrev pub names_of : DeadLetters → List ℕ × List ℕ × List ℕ
+names_of d = (string_bytes d.key, string_bytes d.group, string_bytes d.dead)
+
+-- `XADD dead * entry id deliveries n field value ..`
+abbrev pub letter_sentence : List ℕ → Id → ℕ → List (List ℕ) → List (List ℕ)
+letter_sentence dead id n fields =
+    codes "XADD" ∷ dead ∷ codes "*" ∷ codes "entry" ∷ id ∷ codes "deliveries" ∷ decimal n ∷ fields
+
+-- the command for the first entry: its letter is added, and after that it is acknowledged
+abbrev pub of_first : List ℕ × List ℕ × List ℕ → Id × List ℕ → Bool → List ℕ
+of_first names letter false = letter.1
+of_first names letter true = command_bytes (codes "XACK" ∷ names.0 ∷ names.1 ∷ letter.0 ∷ [])
+
+-- the bytes of that command
+abbrev pub bytes_of_first : List ℕ × List ℕ × List ℕ → List (Id × List ℕ) → Bool → List ℕ
+bytes_of_first names [] added = []
+bytes_of_first names (letter ∷ rest) added = of_first names letter added
+
+-- the bytes of the next command
+abbrev pub letter_bytes : List ℕ × List ℕ × List ℕ → Desk → List ℕ
+letter_bytes names desk = bytes_of_first names desk.waiting desk.added
+
+-- what that command asks
+abbrev pub asks_of_first : List (Id × List ℕ) → Bool → LetterAsked
+asks_of_first [] added = asked.Nothing
+asks_of_first (letter ∷ rest) false = asked.Add
+asks_of_first (letter ∷ rest) true = asked.Acknowledge
+
+-- what the next command asks
+abbrev pub letter_asks : Desk → LetterAsked
+letter_asks desk = asks_of_first desk.waiting desk.added
+
+-- the value is a text, as an id is
+abbrev pub is_text : Tree → Bool
+is_text (bulk bytes) = true
+is_text _ = false
+
+-- the value is a number, as a count is
+abbrev pub is_count : Tree → Bool
+is_count (int z) = true
+is_count _ = false
+
+-- the reply is of the kind that the command returns
+abbrev pub serves : LetterAsked → wire.Answer → Bool
+serves asked.Nothing a = false
+serves asked.Add (wire.value t) = is_text t
+serves asked.Add (wire.refused text) = false
+serves asked.Add (wire.group kind members) = false
+serves asked.Add (wire.pushed kind payload) = false
+serves asked.Acknowledge (wire.value t) = is_count t
+serves asked.Acknowledge (wire.refused text) = false
+serves asked.Acknowledge (wire.group kind members) = false
+serves asked.Acknowledge (wire.pushed kind payload) = false
+
+-- after such a reply: the first letter was added; or the first entry was acknowledged, and is removed
+abbrev pub after_letter : LetterAsked → Desk → Desk
+after_letter asked.Nothing desk = desk
+after_letter asked.Add desk = record desk { added = true }
+after_letter asked.Acknowledge desk = record { waiting = drop 1 desk.waiting; added = false }
+
+-- the reply is not an error
+abbrev pub IsNoError : wire.Answer → Type 0
+IsNoError (wire.value t) = Unit {0}
+IsNoError (wire.refused text) = ⊥
+IsNoError (wire.group kind members) = Unit {0}
+IsNoError (wire.pushed kind payload) = Unit {0}
+
+-- why a reply was refused
+abbrev pub Unserved : LetterAsked → wire.Answer → LetterError → Type 0
+Unserved question a causes.NotAsked = question ≡ asked.Nothing
+Unserved question a (causes.Server e) = (question ≢ asked.Nothing) × (a ≡ wire.refused e.text.items)
+Unserved question a causes.NotAnAnswer = (question ≢ asked.Nothing) × IsNoError a

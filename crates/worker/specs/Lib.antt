@@ -1,0 +1,25 @@
+-- The definitions that a worker's contracts use.
+pub mod Checked
+pub mod Handed
+pub mod Handling
+pub mod Read
+pub mod Taking
+pub mod Questions
+pub mod Errors
+pub mod Answers
+pub mod Machine
+pub mod Answered
+pub mod Requested
+pub mod Parts
+pub mod Step
+pub mod Gathered
+pub mod Letters
+pub mod Session
+pub mod Taken
+pub mod Finish
+pub mod Pipelined
+pub mod InPlace
+pub mod Life
+pub mod Confirm
+pub mod DeadLetters
+pub mod Outbox

@@ -1,0 +1,56 @@
+-- Commands that are sent in one write, each with a reply.
+use Rattle.std.specs.Prelude.{◌≡◌, ◌⊎◌, ℕ, zero, suc, Bool, true, false, ◌||◌, List, [], map, codes, drop, length, take}
+use Rattle.std.specs.Prelude.{Option, Some, None, ◌<◌}
+use Rattle.std.specs.List.{flat_map}
+use Rattle.redis_connection.specs.Link.{Link, Sends, SendsFront}
+use Rattle.redis_connection.specs.Passing.{AwaitsAnswer, ReceivesAnswer}
+use Rattle.redis_wire.specs.Reply.{Answer, value, refused, group, pushed}
+use Rattle.worker.specs.declared.outbox.outbox.Outbox.{Outbox}
+
+-- the bytes of the commands without a reply, in order
+abbrev pub unsent_of : Outbox → List (List ℕ)
+unsent_of o = map (λ c. c.items) o.commands.items
+
+-- one after the other, as they are sent
+abbrev pub all_bytes : List (List ℕ) → List ℕ
+all_bytes commands = flat_map (λ c. c) commands
+
+-- the server executed the command: its reply is not an error
+abbrev pub takes : Answer → Bool
+takes (value t) = true
+takes (refused text) = false
+takes (group kind members) = false
+takes (pushed kind payload) = false
+
+-- this number of replies were received, one after the other, and none is an error
+abbrev pub Replied : ℕ → Link → Link → Type 0
+Replied zero old new = new ≡ old
+Replied (suc n) old new = (m : Link) × (a : Answer) × Replied n old m × ReceivesAnswer m new a × (takes a ≡ true)
+
+-- no reply was received, or one that is an error
+abbrev pub IsNotTaken : Link → Link → Type 0
+IsNotTaken old new = AwaitsAnswer old new ⊎ ((a : Answer) × ReceivesAnswer old new a × (takes a ≡ false))
+
+-- these commands were sent in one write, and then a reply to each was received, none of them an error; or there was no
+-- command
+pub record SendsAll (commands : List (List ℕ)) (old new : Link) : Type 0 where
+  pub between : Link
+  pub sends : Sends old between (all_bytes commands)
+  pub replied : Replied (length commands) between new
+
+-- they were all sent, and this number of replies were received, and then none or an error
+pub record IsRepliedTo (commands left : List (List ℕ)) (old new : Link) : Type 0 where
+  pub between : Link
+  pub count : ℕ
+  pub fewer : count < length commands
+  pub sends : Sends old between (all_bytes commands)
+  pub last : Link
+  pub replied : Replied count between last
+  pub not_taken : IsNotTaken last new
+  pub left_is : left ≡ drop count commands
+
+-- nothing was sent, or a prefix of their bytes, and all of them are left; or the first ones got replies, and the others
+-- are left
+abbrev pub SendsSome : List (List ℕ) → List (List ℕ) → Link → Link → Type 0
+SendsSome commands left old new =
+    ((left ≡ commands) × ((new ≡ old) ⊎ SendsFront old new (all_bytes commands))) ⊎ IsRepliedTo commands left old new

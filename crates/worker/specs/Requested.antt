@@ -1,0 +1,13 @@
+-- The state of a worker after a request that failed.
+use Rattle.std.specs.Prelude.{◌≡◌, true}
+use Rattle.model_server.specs.Group.Worker.{Machine}
+use Rattle.worker.specs.Machine.{commits, at_request, history_at_request}
+use Rattle.worker.specs.declared.error.RequestError.{RequestError}
+use Rattle.worker.specs.declared.error.RequestError.TheVariants.{NotCommitted, TooLong, Memory}
+
+-- if its handler did not commit, nothing changed; if the command was not written, the handler committed before, if
+-- there was anything to commit
+abbrev pub Unasked : {R : Type 0} → (R → R) → Machine → Machine → R → R → RequestError → Type 0
+Unasked with_commit m n r s NotCommitted = (commits m ≡ true) × (n ≡ m) × (s ≡ r)
+Unasked with_commit m n r s TooLong = (n ≡ at_request m) × (s ≡ history_at_request with_commit m r)
+Unasked with_commit m n r s Memory = (n ≡ at_request m) × (s ≡ history_at_request with_commit m r)

@@ -1,8 +1,0 @@
-use Rattle.worker_failover.proofs.ScheduleLemmas.{runs_are_events, runs_wait}
-use Rattle.worker_failover.proofs.laws.rounds_are_those_of_failover.Goals as goal
-
-pub returns-clause-runs : goal.returns-clause-runs
-returns-clause-runs g c = runs_are_events
-
-pub returns-clause-waits : goal.returns-clause-waits
-returns-clause-waits g c = runs_wait

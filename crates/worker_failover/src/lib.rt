@@ -1,5 +1,0 @@
-//! A worker that checks its file and asks WAIT, as the consumer of `stream_failover`, whose server may go back
-//! to an earlier state. It runs nothing: its functions are laws.
-#![tactic(auto)]
-
-pub mod laws;

@@ -1,0 +1,6 @@
+-- Lemmas.
+mod TellLemmas
+mod PipesLemmas
+pub mod TalkLemmas
+mod AcknowledgedLemmas
+pub mod EntryJsonLemmas

@@ -1,0 +1,33 @@
+-- How lines are read.
+use Rattle.std.specs.Prelude.{◌≡◌, ◌≢◌, ◌+◌, ◌≤◌, ℕ, List, [], ◌++◌, Option, length}
+use Rattle.std.specs.List.{AllByRecursion}
+use Rattle.std.specs.Io.KnownBytes.{Consumes, IsAtEnd}
+use Rattle.worker_jobs.specs.declared.fault.Fault.{Fault}
+use Rattle.worker_jobs.specs.declared.fault.Fault.TheVariants.{Write, Read, Ended, TooLong, Unknown, Unasked, Memory}
+
+-- these bytes have no line end
+abbrev pub HasNoEnd : List ℕ → Type 0
+HasNoEnd bytes = AllByRecursion (λ b. b ≢ 10) bytes
+
+-- why no byte was read: the reader is at its end, or has an error
+abbrev pub NoByte : Option (List ℕ) → Option (List ℕ) → Fault → Type 0
+NoByte old new Ended = Consumes old new [] × IsAtEnd new
+NoByte old new (Read e) = Unit {0}
+NoByte old new (Write e) = ⊥
+NoByte old new TooLong = ⊥
+NoByte old new Unknown = ⊥
+NoByte old new Unasked = ⊥
+NoByte old new Memory = ⊥
+
+-- why no line of at most this number of bytes was read: there is no line end in the bytes read, which are one more; or
+-- the reader is at its end
+abbrev pub BreaksOff : ℕ → Option (List ℕ) → Option (List ℕ) → Fault → Type 0
+BreaksOff longest old new TooLong =
+    (bytes : List ℕ) × Consumes old new bytes × HasNoEnd bytes × (length bytes ≡ longest + 1)
+BreaksOff longest old new Ended =
+    (bytes : List ℕ) × Consumes old new bytes × HasNoEnd bytes × (length bytes ≤ longest) × IsAtEnd new
+BreaksOff longest old new Unknown = ⊥
+BreaksOff longest old new Unasked = ⊥
+BreaksOff longest old new (Write e) = ⊥
+BreaksOff longest old new (Read e) = Unit {0}
+BreaksOff longest old new Memory = Unit {0}

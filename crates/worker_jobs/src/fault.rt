@@ -1,0 +1,49 @@
+//! Errors of a child process.
+ghost use Rattle.std.specs.Prelude.{◌≡◌};
+ghost use Rattle.worker_jobs.specs.declared.fault.Fault.TheVariants.{Memory};
+
+use std::alloc::{AllocError, AllocFailed};
+use std::io;
+use thiserror::Error;
+
+/// Why a child has no reply.
+#[derive(Debug, Drop, Error)]
+pub enum Fault {
+    /// The line could not be written to it.
+    #[error("it takes no line: {0}")]
+    Write(io::Error),
+    /// Its reply could not be read.
+    #[error("its reply cannot be read: {0}")]
+    Read(io::Error),
+    /// Its output ended before the end of a reply.
+    #[error("its output ended before a reply")]
+    Ended,
+    /// Its reply is longer than `LONGEST`.
+    #[error("its reply is longer than 65536 bytes")]
+    TooLong,
+    /// Its reply is not one of the known lines.
+    #[error("its reply is not done, later, dead or stop")]
+    Unknown,
+    /// It wrote a line before one was sent to it.
+    #[error("it wrote more than one line for the entry before")]
+    Unasked,
+    /// Memory ran out.
+    #[error("out of memory")]
+    Memory,
+}
+
+impl From<AllocError> for Fault {
+    ghost from_gives = { λ _ fault. fault ≡ Memory };
+
+    fn from(_error: AllocError) -> Fault {
+        Fault::Memory
+    }
+}
+
+impl<T: Drop> From<AllocFailed<T>> for Fault {
+    ghost from_gives = { λ _ fault. fault ≡ Memory };
+
+    fn from(_error: AllocFailed<T>) -> Fault {
+        Fault::Memory
+    }
+}

@@ -1,0 +1,205 @@
+//! A handler that passes entries to a child process.
+ghost use Rattle.std.specs.Prelude.{◌≡◌, ◌∷◌, [], ◌++◌, IfOk, OnOk, Some, string_bytes, true, false};
+ghost use Rattle.worker_jobs.specs.Talk.{Exchanges, Talk, committed, talk_of, talked};
+ghost use Rattle.worker_jobs.specs.VerdictOf.{verdict_of as verdict_of_line};
+ghost use Rattle.worker.specs.Handling.{pair_of, verdict_of};
+
+use crate::fault::Fault;
+use crate::line::entry_line;
+use crate::pipes::{SteadyRead, SteadyWrite, read_line, write_line};
+use crate::reply::{Reply, reply_in, text_in};
+use std::alloc::Global;
+use std::mem;
+use worker::{EntryRef, Handler, NotCommitted, Verdict};
+
+/// A child's reply to an entry that stays pending.
+#[derive(Debug, Drop)]
+pub struct Note {
+    /// The id of the entry.
+    pub id: String,
+    /// Whether it is to be given up.
+    pub dead: bool,
+    /// The text of the reply.
+    pub text: Vec<u8>,
+}
+
+/// A handler that passes entries to a child process: it writes a line for each entry, and reads one line.
+#[derive(Drop)]
+pub struct Jobs<R: SteadyRead + Drop, W: SteadyWrite + Drop> {
+    stream: String,
+    replies: R,
+    lines: W,
+    /// The last reply; its buffer is reused for the next one.
+    reply: Vec<u8>,
+    /// Whether it returned `Stop`, and sends no more lines.
+    over: bool,
+    /// How many entries it received, how many were done, how many of them are committed, and how many stay pending by a
+    /// reply.
+    pub seen: u64,
+    pub done: u64,
+    pub committed: u64,
+    pub left: u64,
+    /// The error of the child; `None` if its reply was `stop`.
+    pub fault: Option<Fault>,
+    /// The id of the entry at which it stopped, if there was memory to keep it.
+    pub undone: Option<String>,
+    notes: Vec<Note>,
+}
+
+impl<R: SteadyRead + Drop, W: SteadyWrite + Drop> Jobs<R, W> {
+    /// A handler for the entries of this stream, over a writer for the lines and a reader for the replies.
+    pub fn new(alloc: Global, stream: String, replies: R, lines: W) -> Jobs<R, W>
+        ensures ends { (result.replies ≡ replies) × (result.lines ≡ lines) }
+        ensures stream { result.stream ≡ stream }
+        ensures begins { (result.over ≡ false) × (result.seen ≡ 0) × (result.done ≡ 0) × (result.committed ≡ 0)
+            × (result.left ≡ 0) × (result.notes.items ≡ []) }
+    {
+        Jobs {
+            stream,
+            replies,
+            lines,
+            reply: Vec::new(alloc),
+            over: false,
+            seen: 0,
+            done: 0,
+            committed: 0,
+            left: 0,
+            fault: None,
+            undone: None,
+            notes: Vec::new(alloc),
+        }
+    }
+
+    /// Whether it returned `Stop`.
+    pub fn is_over(&self) -> bool
+        ensures { result ≡ self.now.over }
+    {
+        self.over
+    }
+
+    /// The last reply.
+    pub fn reply(&self) -> &[u8]
+        ensures { result.now ≡ self.now.reply.items }
+    {
+        &self.reply
+    }
+
+    /// Takes the texts for entries that stay pending, in order, and leaves an empty list.
+    pub fn take_notes(&mut self, alloc: Global) -> Vec<Note>
+        ensures notes { result ≡ self.old.notes }
+        ensures rest { self.new.notes.items ≡ [] }
+        ensures kept { self.new ≡ record self.old { notes = self.new.notes } }
+    {
+        mem::replace(&mut self.notes, Vec::new(alloc))
+    }
+
+    /// Writes the line of an entry, reads the next line, and returns its reply. A line that was received before is an
+    /// error: it would be taken for the reply to this entry.
+    fn exchange(&mut self, alloc: Global, entry: &EntryRef<'_>) -> Result<Reply, Fault>
+        ensures stream { self.new.stream ≡ self.old.stream }
+        ensures over { self.new.over ≡ self.old.over }
+        ensures went { OnOk result (Exchanges (string_bytes self.old.stream) (pair_of entry.now)
+            (W.contents self.old.lines) (W.contents self.new.lines)
+            (R.remaining self.old.replies) (R.remaining self.new.replies) self.new.reply.items) }
+        ensures says { IfOk result (λ reply. verdict_of_line self.new.reply.items ≡ Some reply) }
+        ensures asked { OnOk result (R.ahead self.old.replies ≡ []) }
+    {
+        if self.replies.holds_more() {
+            return Err(Fault::Unasked);
+        }
+        let mut line = entry_line(alloc, &self.stream, entry)?;
+        write_line(&mut self.lines, &mut line)?;
+        read_line(&mut self.replies, &mut self.reply)?;
+        match reply_in(&self.reply) {
+            Some(reply) => Ok(reply),
+            None => Err(Fault::Unknown),
+        }
+    }
+
+    /// Sends an entry to the child and returns its reply. Keeps the text if the entry stays pending.
+    fn ask(&mut self, alloc: Global, entry: &EntryRef<'_>) -> Result<Reply, Fault>
+        ensures stream { self.new.stream ≡ self.old.stream }
+        ensures over { self.new.over ≡ self.old.over }
+        ensures went { OnOk result (Exchanges (string_bytes self.old.stream) (pair_of entry.now)
+            (W.contents self.old.lines) (W.contents self.new.lines)
+            (R.remaining self.old.replies) (R.remaining self.new.replies) self.new.reply.items) }
+        ensures says { IfOk result (λ reply. verdict_of_line self.new.reply.items ≡ Some reply) }
+    {
+        let reply = self.exchange(alloc, entry)?;
+        match reply {
+            Reply::Later => self.keep_note(alloc, entry.id(), false)?,
+            Reply::Dead => self.keep_note(alloc, entry.id(), true)?,
+            Reply::Done | Reply::Stop => {}
+        }
+        Ok(reply)
+    }
+
+    /// Keeps the text of a reply, if it has one.
+    fn keep_note(&mut self, alloc: Global, id: &str, dead: bool) -> Result<(), Fault>
+        ensures kept { self.new ≡ record self.old { notes = self.new.notes } }
+    {
+        let text = text_in(&self.reply);
+        if text.is_empty() {
+            return Ok(());
+        }
+        let note = Note {
+            id: String::from_str(alloc, id)?,
+            dead,
+            text: Vec::from_slice(alloc, text)?,
+        };
+        self.notes.push(note)?;
+        Ok(())
+    }
+
+    /// Stops at an entry, with this fault if there is one.
+    fn stop(&mut self, alloc: Global, id: &str, fault: Option<Fault>) -> Verdict
+        ensures verdict { result ≡ Verdict.Stop }
+        ensures over { self.new.over ≡ true }
+    {
+        self.over = true;
+        self.fault = fault;
+        self.undone = String::from_str(alloc, id).ok();
+        Verdict::Stop
+    }
+}
+
+impl<R: SteadyRead + Drop, W: SteadyWrite + Drop> Handler for Jobs<R, W> {
+    ghost History = { Talk };
+
+    ghost with_verdict = { talked };
+
+    ghost with_commit = { committed };
+
+    ghost history = { λ j. talk_of j.over (string_bytes j.stream) (W.contents j.lines) (R.remaining j.replies) };
+
+    /// Sends the entry to the child; it is done if the reply is `done`. After `stop`, and after a fault, it stops, and
+    /// sends no other one.
+    fn handle(&mut self, alloc: Global, entry: &EntryRef<'_>) -> Verdict {
+        self.seen = self.seen.saturating_add(1);
+        if self.over {
+            return Verdict::Stop;
+        }
+        match self.ask(alloc, entry) {
+            Ok(Reply::Done) => {
+                self.done = self.done.saturating_add(1);
+                Verdict::Done
+            }
+            Ok(Reply::Later) => {
+                self.left = self.left.saturating_add(1);
+                Verdict::LeavePending
+            }
+            Ok(Reply::Dead) => {
+                self.left = self.left.saturating_add(1);
+                Verdict::LeavePending
+            }
+            Ok(Reply::Stop) => self.stop(alloc, entry.id(), None),
+            Err(fault) => self.stop(alloc, entry.id(), Some(fault)),
+        }
+    }
+
+    /// Does nothing, since the replies of a batch were received before.
+    fn commit(&mut self, _alloc: Global) -> Result<(), NotCommitted> {
+        self.committed = self.done;
+        Ok(())
+    }
+}

@@ -1,0 +1,20 @@
+//! A worker's handler that is another program, in any language, at the other end of two pipes.
+//!
+//! For each entry it writes one line of JSON, `{"id":"1-0","fields":[["name","value"],..],"stream":"orders"}`, and
+//! reads one line: `done`, `later`, `later TEXT`, `dead TEXT` or `stop`. The next line is written after that reply. An
+//! entry is done only if the reply to its line is `done`.
+#![tactic(auto)]
+
+pub mod entry_json;
+mod fault;
+mod jobs;
+pub mod laws;
+mod line;
+mod pipes;
+mod reply;
+
+pub use fault::Fault;
+pub use jobs::{Jobs, Note};
+pub use line::entry_line;
+pub use pipes::{LONGEST, SteadyRead, SteadyWrite, read_line, write_line};
+pub use reply::{Reply, reply_in, text_in};

@@ -1,0 +1,13 @@
+-- What a log's contracts speak of.
+pub mod Device
+pub mod Lines
+pub mod Escape
+pub mod EntryLine
+pub mod EntryLineMeaning
+pub mod LineTexts
+pub mod Holds
+pub mod LastLines
+pub mod Log
+pub mod Past
+pub mod Torn
+pub mod KnownIds

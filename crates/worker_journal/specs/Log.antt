@@ -1,0 +1,13 @@
+-- What a log's file has.
+use Rattle.worker_journal.specs.declared.error.LogError.{LogError}
+use Rattle.worker_journal.specs.declared.error.LogError.TheVariants.{Memory, File}
+use Rattle.std.specs.Prelude.{◌≡◌, ◌≤◌, ℕ, List, ◌++◌, length, Option, IfSome}
+
+-- a crash left what the known file had, and after it at most as many bytes as were written
+abbrev pub BeginsWith : Option (List ℕ) → List ℕ → List ℕ → Type 0
+BeginsWith old batch c = IfSome old (λ file. (behind : List ℕ) × (c ≡ file ++ behind) × (length behind ≤ length batch))
+
+-- an error of the system
+abbrev pub IsOfTheSystem : LogError → Type 0
+IsOfTheSystem Memory = ⊥
+IsOfTheSystem (File reason) = Unit {0}

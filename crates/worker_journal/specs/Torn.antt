@@ -1,0 +1,53 @@
+-- A file that tears: what each crash leaves, and what waits to be synced.
+use Rattle.std.specs.Prelude.{◌≡◌, ◌≤◌, ◌+◌, ◌⊎◌, ℕ, List, [], ◌∷◌, ◌++◌, length, take, drop}
+use Rattle.std.proofs.Common.{inl, inr, zero, refl, arith}
+use Rattle.worker_journal.specs.declared.torn.Content.{Content}
+
+-- what a read returns
+abbrev pub all_of : Content → List ℕ
+all_of content = content.front.items ++ content.waits.items
+
+-- how many bytes that were never synced a crash may leave
+abbrev pub room_of : Content → ℕ
+room_of content = length content.waits.items + content.extra
+
+-- a crash leaves the front, perhaps some of what was cut off after it, and any bytes for which there is room
+abbrev pub Leaves : Content → List ℕ → Type 0
+Leaves content c = (uncut : ℕ) × (behind : List ℕ)
+    × (c ≡ content.front.items ++ (take uncut content.cut_off.items ++ behind)) × (length behind ≤ room_of content)
+
+-- all of it is on the disk: nothing waits, and nothing was cut off that a crash could bring back
+pub record IsSynced (content : Content) (bytes : List ℕ) : Type 0 where
+  pub front : content.front.items ≡ bytes
+  pub cut_off : content.cut_off.items ≡ []
+  pub waits : content.waits.items ≡ []
+  pub extra : content.extra ≡ 0
+
+-- the same bytes in the same places
+pub record IsCopy (content copy : Content) : Type 0 where
+  pub front : copy.front.items ≡ content.front.items
+  pub cut_off : copy.cut_off.items ≡ content.cut_off.items
+  pub waits : copy.waits.items ≡ content.waits.items
+  pub extra : copy.extra ≡ content.extra
+
+-- a crash at one of these moments might have left this
+abbrev pub HadLeft : List Content → List ℕ → Type 0
+HadLeft [] c = ⊥
+HadLeft (content ∷ past) c = Leaves content c ⊎ HadLeft past c
+
+-- a crash since the moment t might have left this
+abbrev pub LeftSince : List Content → Content → ℕ → List ℕ → Type 0
+LeftSince past now t c = Leaves now c ⊎ HadLeft (drop t past) c
+
+-- a crash may leave what a read returns
+pub all_is_left : (content : Content) → Leaves content (all_of content)
+all_is_left content = (zero, content.waits.items, refl, omega arith)
+
+none_left : (past : List Content) (c : List ℕ) → HadLeft (drop (length past) past) c → ⊥
+none_left [] c had = had
+none_left (content ∷ past) c had = none_left past c had
+
+-- since the last of these moments there is what there is now
+pub only_now : (past : List Content) (now : Content) (c : List ℕ) → LeftSince past now (length past) c → Leaves now c
+only_now past now c (inl left) = left
+only_now past now c (inr had) = absurd (none_left past c had)

@@ -1,0 +1,49 @@
+//! An id as one number.
+ghost use Rattle.std.specs.Prelude.{◌≡◌, ◌≤◌, length};
+ghost use Rattle.std.specs.List.{prefix_len};
+ghost use Rattle.worker_journal.specs.KnownIds.Cut.{is_other};
+ghost use Rattle.worker_journal.specs.KnownIds.Number.{number_of, part_of, seq_of};
+
+use itoa::Buffer;
+use redis_resp::unsigned_in;
+
+/// The number of an id: its milliseconds times 2^64, plus its sequence number. None if the text is not an id as
+/// servers write it: two numbers of 64 bits with a hyphen between them, with no sign and no leading zero.
+pub fn number_of(text: &[u8]) -> Option<u128>
+    ensures { result ≡ number_of text.now }
+{
+    let (ms, behind) = text.split_at(len_before(text, b'-'));
+    let ms = part_of(ms)?;
+    let seq = seq_of(behind)?;
+    Some(ms as u128 * 18_446_744_073_709_551_616 + seq as u128)
+}
+
+/// The sequence number, from the text after the milliseconds: a hyphen and the number.
+fn seq_of(behind: &[u8]) -> Option<u64>
+    ensures { result ≡ seq_of behind.now }
+{
+    match behind {
+        [] => None,
+        [_, seq @ ..] => part_of(seq),
+    }
+}
+
+/// The number of one part.
+fn part_of(text: &[u8]) -> Option<u64>
+    ensures { result ≡ part_of text.now }
+{
+    let number = unsigned_in(text)?;
+    if Buffer::new().format::<u64>(number).as_bytes() == text {
+        Some(number)
+    } else {
+        None
+    }
+}
+
+/// How many bytes are before the first byte `end`.
+pub(crate) fn len_before(text: &[u8], end: u8) -> usize
+    ensures count { result ≡ prefix_len (is_other end) text.now }
+    ensures within { result ≤ length text.now }
+{
+    text.iter().take_while(|byte| **byte != end).count()
+}

@@ -1,0 +1,11 @@
+use Rattle.std.proofs.Common.{◌≡◌, ◌++◌, drop}
+use Rattle.std.specs.List.{flat_map}
+use Rattle.redis_wire.specs.Packed.{bulk_bytes}
+use Rattle.worker_producer.specs.Records.{arguments_of_field}
+use Rattle.worker_producer.proofs.batch.append_fields.Given as goal
+
+-- what is written, and what is still to be written, are the whole
+abbrev pub invariant-loop-field : goal.invariant-loop-field
+invariant-loop-field l =
+    l.out.items ++ flat_map bulk_bytes (flat_map arguments_of_field (drop l.field-index l.fields))
+    ≡ l.initial.out.items ++ flat_map bulk_bytes (flat_map arguments_of_field l.fields)

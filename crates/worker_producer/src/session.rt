@@ -1,0 +1,216 @@
+//! A producer over a connection.
+ghost use Rattle.std.specs.Prelude.{◌≡◌, ◌<◌, ◌↔◌, ℕ, Ok, IfErr, IfOk, IsTrue, OnOk, OnErr, false, true};
+ghost use Rattle.redis_connection.specs.Passing.{AwaitsAnswer};
+ghost use Rattle.worker_producer.specs.Machine.{idle, standing_of};
+ghost use Rattle.worker_producer.specs.Session.{BeginsAsLine, Breaks, Broke, FailsToHear, HearsAll, HearsOne, IsRound, Ran, Unheard};
+
+use crate::error::RunError;
+use crate::producer::Producer;
+use crate::source::Source;
+use crate::stage::Asked;
+use redis_connection::Connection;
+use std::alloc::Global;
+use std::io::{Read, Write};
+
+impl Producer {
+    /// Takes the replies that are still expected.
+    fn take_replies<R: Read + Drop, W: Write + Drop>(
+        &mut self,
+        alloc: Global,
+        connection: &mut Connection<R, W>,
+        count: u64,
+    ) -> Result<(), RunError>
+        ensures ok { OnOk result (HearsAll self.old.settings.base count connection.old
+            connection.new (standing_of self.old) (standing_of self.new)) }
+        ensures err { IfErr result (FailsToHear self.old.settings.base count connection.old
+            connection.new (standing_of self.old)) }
+        ensures settings { self.new.settings ≡ self.old.settings }
+    {
+        for _reply in 0..self.coming() {
+            self.take_next(alloc, connection, count)?;
+        }
+        Ok(())
+    }
+
+    /// Takes the next reply. It does not decode a simple string that is not the last reply.
+    fn take_next<R: Read + Drop, W: Write + Drop>(
+        &mut self,
+        alloc: Global,
+        connection: &mut Connection<R, W>,
+        count: u64,
+    ) -> Result<(), RunError>
+        ensures ok { OnOk result (HearsOne self.old.settings.base count connection.old
+            connection.new (standing_of self.old) (standing_of self.new)) }
+        ensures err { IfErr result (Unheard self.old.settings.base count connection.old
+            connection.new (standing_of self.old)) }
+        ensures settings { self.new.settings ≡ self.old.settings }
+    {
+        if self.coming() > 1 {
+            return self.take_queued_reply(alloc, connection, count);
+        }
+        self.hear_reply(alloc, connection, count)
+    }
+
+    /// Takes the next reply. At least one more is expected after it.
+    fn take_queued_reply<R: Read + Drop, W: Write + Drop>(
+        &mut self,
+        alloc: Global,
+        connection: &mut Connection<R, W>,
+        count: u64,
+    ) -> Result<(), RunError>
+        requires { 1 < self.old.coming }
+        ensures ok { OnOk result (HearsOne self.old.settings.base count connection.old
+            connection.new (standing_of self.old) (standing_of self.new)) }
+        ensures err { IfErr result (Unheard self.old.settings.base count connection.old
+            connection.new (standing_of self.old)) }
+        ensures settings { self.new.settings ≡ self.old.settings }
+    {
+        match self.hears_line(alloc, connection) {
+            Ok(true) => Ok(()),
+            Ok(false) => self.hear_reply(alloc, connection, count),
+            Err(error) => Err(error),
+        }
+    }
+
+    /// Takes the next reply if it is a simple string such as `+QUEUED`. Returns whether it is; if not, the reply is not
+    /// taken.
+    fn hears_line<R: Read + Drop, W: Write + Drop>(
+        &mut self,
+        alloc: Global,
+        connection: &mut Connection<R, W>,
+    ) -> Result<bool, RunError>
+        requires { 1 < self.old.coming }
+        ensures taken { result ≡ Ok true → (base : ℕ) (count : ℕ) → HearsOne base count
+            connection.old connection.new (standing_of self.old) (standing_of self.new) }
+        ensures held { result ≡ Ok false → AwaitsAnswer connection.old connection.new }
+        ensures same { result ≡ Ok false → self.new ≡ self.old }
+        ensures err { IfErr result (λ e. (base : ℕ) (count : ℕ) → Unheard base count
+            connection.old connection.new (standing_of self.old) e) }
+        ensures settings { self.new.settings ≡ self.old.settings }
+    {
+        match connection.receive_in_place(alloc) {
+            Ok(len) => {
+                if !is_line(connection.received(len)) {
+                    return Ok(false);
+                }
+                connection.give_out(len);
+                self.count_reply();
+                Ok(true)
+            }
+            Err(error) => Err(RunError::Receive(error)),
+        }
+    }
+
+    /// Takes the next reply, whatever it is.
+    fn hear_reply<R: Read + Drop, W: Write + Drop>(
+        &mut self,
+        alloc: Global,
+        connection: &mut Connection<R, W>,
+        count: u64,
+    ) -> Result<(), RunError>
+        ensures ok { OnOk result (HearsOne self.old.settings.base count connection.old
+            connection.new (standing_of self.old) (standing_of self.new)) }
+        ensures err { IfErr result (Unheard self.old.settings.base count connection.old
+            connection.new (standing_of self.old)) }
+        ensures settings { self.new.settings ≡ self.old.settings }
+    {
+        match connection.receive(alloc) {
+            Ok(reply) => {
+                self.answered(alloc, reply, count)?;
+                Ok(())
+            }
+            Err(error) => Err(RunError::Receive(error)),
+        }
+    }
+
+    /// Makes one round. An error leaves the producer as it is.
+    fn try_round<S: Source, R: Read + Drop, W: Write + Drop>(
+        &mut self,
+        alloc: Global,
+        connection: &mut Connection<R, W>,
+        source: &mut S,
+        count: u64,
+    ) -> Result<Asked, RunError>
+        ensures ok { IfOk result (IsRound self.old.settings (S.records source.old) count
+            connection.old connection.new (standing_of self.old) (standing_of self.new)) }
+        ensures err { IfErr result (Breaks self.old.settings (S.records source.old) count
+            connection.old connection.new (standing_of self.old)) }
+        ensures settings { self.new.settings ≡ self.old.settings }
+        ensures records { S.records source.new ≡ S.records source.old }
+    {
+        let mut bytes = Vec::new(alloc);
+        let asked = self.request(alloc, &mut bytes, source)?;
+        if let Err(error) = connection.send_bytes(&bytes) {
+            return Err(RunError::Send(error));
+        }
+        self.announce_next(alloc, source);
+        self.take_replies(alloc, connection, count)?;
+        Ok(asked)
+    }
+
+    /// Makes one round of `run`: it sends commands, and takes all replies. It sends `Nothing` if all records are added.
+    /// `count` is how many records there are. After an `Err` it is disconnected, and replies may still arrive: close
+    /// the connection.
+    pub fn round<S: Source, R: Read + Drop, W: Write + Drop>(
+        &mut self,
+        alloc: Global,
+        connection: &mut Connection<R, W>,
+        source: &mut S,
+        count: u64,
+    ) -> Result<Asked, RunError>
+        ensures ok { IfOk result (IsRound self.old.settings (S.records source.old) count
+            connection.old connection.new (standing_of self.old) (standing_of self.new)) }
+        ensures err { IfErr result (Breaks self.old.settings (S.records source.old) count
+            connection.old connection.new (standing_of self.old)) }
+        ensures err_standing { OnErr result (standing_of self.new ≡ idle) }
+        ensures settings { self.new.settings ≡ self.old.settings }
+        ensures records { S.records source.new ≡ S.records source.old }
+    {
+        match self.try_round(alloc, connection, source, count) {
+            Ok(asked) => Ok(asked),
+            Err(error) => {
+                self.disconnected();
+                Err(error)
+            }
+        }
+    }
+
+    /// Runs for `rounds` rounds, or until all records are added. Returns whether they are. It always begins by reading
+    /// the last id. `count` is how many records there are.
+    ///
+    /// After an `Err` it is disconnected, and replies may still arrive: close the connection, and run it again over a
+    /// new one.
+    pub fn run<S: Source, R: Read + Drop, W: Write + Drop>(
+        &mut self,
+        alloc: Global,
+        connection: &mut Connection<R, W>,
+        source: &mut S,
+        count: u64,
+        rounds: u64,
+    ) -> Result<bool, RunError>
+        ensures ok { IfOk result (Ran self.old.settings (S.records source.old) count rounds
+            connection.old connection.new (standing_of self.new)) }
+        ensures err { IfErr result (Broke self.old.settings (S.records source.old) count
+            connection.old connection.new) }
+        ensures err_standing { OnErr result (standing_of self.new ≡ idle) }
+        ensures settings { self.new.settings ≡ self.old.settings }
+        ensures records { S.records source.new ≡ S.records source.old }
+    {
+        self.disconnected();
+        for _round in 0..rounds {
+            let asked = self.round(alloc, connection, source, count)?;
+            match asked {
+                Asked::Nothing => return Ok(true),
+                Asked::LastId | Asked::Records => {}
+            }
+        }
+        Ok(false)
+    }
+}
+
+/// Whether bytes begin with `+`, as a simple string does.
+fn is_line(bytes: &[u8]) -> bool
+    ensures { IsTrue result ↔ BeginsAsLine bytes.now }
+{
+    matches!(bytes, [b'+', ..])
+}

@@ -1,0 +1,9 @@
+-- Lemmas.
+mod FieldsLemmas
+mod CellsLemmas
+mod KeptLemmas
+pub mod LivedLemmas
+pub mod AcknowledgedLemmas
+mod ForwardedLemmas
+mod SendLemmas
+pub mod RowTableLemmas

@@ -1,0 +1,10 @@
+-- What the contracts speak of.
+pub mod Fields
+pub mod Cells
+pub mod Reasons
+pub mod Kept
+pub mod Lived
+pub mod Acknowledged
+pub mod Forwarded
+pub mod Passed
+pub mod RowTable

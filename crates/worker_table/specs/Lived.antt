@@ -1,0 +1,50 @@
+-- The rounds of a worker whose handler keeps rows, as rounds of its life.
+use Rattle.std.specs.Prelude.{◌≡◌, List, [], ◌++◌}
+use Rattle.redis_connection.specs.Link.{Link}
+use Rattle.model_server.specs.Group.Worker.{Id, start}
+use Rattle.model_workers.specs.Loops.Loop.{Loops, Stops, Drains}
+use Rattle.model_workers.specs.Loops.Shown.{Way, with_doings}
+use Rattle.model_workers.specs.Loops.Shown as loops
+use Rattle.worker.specs.Gathered.{Doings}
+use Rattle.worker.specs.Life.{Lives}
+use Rattle.worker.specs.Session.{Standing, Turned, Fails}
+use Rattle.worker.specs.declared.error.RunError.{RunError}
+use Rattle.worker.specs.declared.state.Asked.{Asked}
+use Rattle.worker.specs.declared.state.Asked.TheVariants.{Nothing}
+use Rattle.worker.specs.declared.state.GroupState.TheVariants.{Unknown}
+use Rattle.worker.specs.declared.state.Settings.{Settings}
+use Rattle.worker.specs.declared.worker.Progress.TheVariants.{GoesOn, Stopped}
+use Rattle.worker_table.specs.Kept.{Beginning, Kept, committed_with, kept_of, kept_too}
+
+-- it is so in its life, with these ids of deleted entries, if its handler has done something, whose rows are those
+-- that it gathered and those that it committed after the first rows
+pub record LivesSo (settings : Settings) (first : Beginning) (w : Standing Kept) (deleted : List Id) : Type 0 where
+  pub doings : Doings
+  pub lives : Lives settings (with_doings w doings) deleted
+  pub kept : w.history ≡ kept_of first doings
+
+-- a new worker, whose handler has gathered nothing, with these rows in its table
+abbrev pub newborn_with : Settings → Beginning → Standing Kept
+newborn_with settings first = record {
+  machine = start settings.every;
+  group = Unknown;
+  asked = Nothing;
+  history = record { columns = first.0; loose = []; committed = first.1 };
+}
+
+-- if what is kept are the rows of some doings, this way leads to what is kept then, the rows of more doings
+abbrev pub Leads : Way → Link → Link → Standing Kept → Standing Kept → Type 0
+Leads way old new w x = loops.Leads kept_of way old new w x
+
+-- the law: so a worker begins; each round is such a way; and if it lives at first, it lives after such rounds, with
+-- just those entries deleted meanwhile that the replies in these rounds reported
+pub record RoundsAreLived : Type 0 where
+  pub begins : (settings : Settings) (first : Beginning) → LivesSo settings first (newborn_with settings first) []
+  pub goes_on : (settings : Settings) (old new : Link) (w x : Standing Kept) (asked : Asked)
+      → Turned kept_too committed_with settings old new w x asked GoesOn → Leads (Loops settings) old new w x
+  pub stops : (settings : Settings) (old new : Link) (w x : Standing Kept) (asked : Asked)
+      → Turned kept_too committed_with settings old new w x asked Stopped → Leads (Stops settings) old new w x
+  pub fails : (settings : Settings) (old new : Link) (w x : Standing Kept) (e : RunError)
+      → Fails kept_too committed_with settings old new w x e → Leads (Stops settings) old new w x
+  pub lives : (settings : Settings) (old new : Link) (v y : Standing Doings) (deleted told : List Id)
+      → Lives settings v deleted → Drains settings old v new y told → Lives settings y (deleted ++ told)

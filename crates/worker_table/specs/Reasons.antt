@@ -1,0 +1,58 @@
+-- Why an entry is no row.
+use Rattle.std.specs.Prelude.{◌≡◌, ◌<◌, ◌≤◌, ◌^◌, ◌⊎◌, ℕ, Bool, true, false, List, length, get_or, None, Result, Err, string_bytes}
+use Rattle.worker_table.specs.RowTable.Rows.{Cell}
+use Rattle.worker_table.specs.declared.row_table.cell.Column.{Column}
+use Rattle.worker_table.specs.declared.row_table.error.TableError.TheVariants.{Memory, KeyTooLarge, OtherText, Refused}
+use Rattle.model_server.specs.Group.Worker.{Entry}
+use Rattle.stream_in_place.specs.IdParts.{id_in}
+use Rattle.stream_in_place.specs.Sent.{Pairs}
+use Rattle.stream_in_place.specs.declared.field_value.FieldError.{FieldError}
+use Rattle.worker_table.specs.Cells.{cell_read}
+use Rattle.worker_table.specs.declared.columns.CellsError.{CellsError}
+use Rattle.worker_table.specs.declared.columns.CellsError.TheVariants as cells
+use Rattle.worker_table.specs.Kept.{key_in}
+use Rattle.worker_table.specs.declared.handler.Fault.{Fault}
+use Rattle.worker_table.specs.declared.handler.Fault.TheVariants as faults
+use Rattle.worker_table.specs.declared.columns.ReadError.{ReadError}
+use Rattle.worker_table.specs.declared.columns.ReadError.TheVariants as reading
+
+-- memory ran out, or it is the error of the reading
+abbrev pub IsWhy : Result Cell FieldError → ReadError → Type 0
+IsWhy read reading.Memory = Unit {0}
+IsWhy read (reading.Field why) = read ≡ Err why
+
+-- memory ran out, or the field of this column is not read for this reason, and it has this name
+abbrev pub IsWhyOf : Column → Pairs → CellsError → Type 0
+IsWhyOf c fields cells.Memory = Unit {0}
+IsWhyOf c fields (cells.Field name why) = (string_bytes name ≡ string_bytes c.name) × (cell_read c fields ≡ Err why)
+
+-- so it is with one of these columns
+abbrev pub IsWhyOfOne : List Column → Pairs → CellsError → Type 0
+IsWhyOfOne columns fields cells.Memory = Unit {0}
+IsWhyOfOne columns fields (cells.Field name why) = (i : ℕ) × (c : Column) × (i < length columns) × (c ≡ get_or columns i c)
+    × (string_bytes name ≡ string_bytes c.name) × (cell_read c fields ≡ Err why)
+
+-- why an entry with these columns is no row: its id is not two numbers, it is too large for a table, memory ran out, or
+-- the field of a column is not read
+abbrev pub IsFaultOf : List Column → Entry Pairs → Fault → Type 0
+IsFaultOf columns e faults.NotAnId = id_in e.0 ≡ None
+IsFaultOf columns e (faults.Table Memory) = Unit {0}
+IsFaultOf columns e (faults.Table (KeyTooLarge first second)) =
+    (key_in e.0 ≡ (first, second)) × ((2 ^ 63 ≤ first) ⊎ (2 ^ 63 ≤ second))
+IsFaultOf columns e (faults.Table (OtherText first second)) = ⊥
+IsFaultOf columns e (faults.Table (Refused why)) = ⊥
+IsFaultOf columns e (faults.Field first second name why) =
+    (key_in e.0 ≡ (first, second)) × IsWhyOfOne columns e.1 (cells.Field name why)
+
+-- the entry itself is no row: its id or a field does not fit the table
+abbrev pub is_unfit : Fault → Bool
+is_unfit faults.NotAnId = true
+is_unfit (faults.Table Memory) = false
+is_unfit (faults.Table (KeyTooLarge first second)) = true
+is_unfit (faults.Table (OtherText first second)) = false
+is_unfit (faults.Table (Refused why)) = false
+is_unfit (faults.Field first second name why) = true
+
+-- the entry itself is no row in these columns, for this reason
+abbrev pub IsUnfitFor : List Column → Entry Pairs → Fault → Type 0
+IsUnfitFor columns e fault = (is_unfit fault ≡ true) × IsFaultOf columns e fault

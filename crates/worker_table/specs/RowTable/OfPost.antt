@@ -1,0 +1,18 @@
+-- The command that is sent for a row in memory.
+use Rattle.std.specs.Prelude.{List, map}
+use Rattle.worker_table.specs.RowTable.OfRow.{row_of}
+use Rattle.worker_table.specs.RowTable.Posts as posts
+use Rattle.worker_table.specs.declared.row_table.post.Post.{Post}
+use Rattle.worker_table.specs.declared.row_table.post.PostedRow.{PostedRow}
+
+-- its key, its command and the query for it
+abbrev pub post_of : Post → posts.Post
+post_of p = record { key = (p.first, p.second); command = p.command.items; question = p.question.items }
+
+-- the row, its command and the query for it
+abbrev pub posted_of : PostedRow → posts.Posted
+posted_of p = (row_of p.row, (p.command.items, p.question.items))
+
+-- these, in order
+abbrev pub all_posted : List PostedRow → List posts.Posted
+all_posted ps = map posted_of ps
