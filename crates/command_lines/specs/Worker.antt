@@ -5,7 +5,7 @@ use Rattle.std.specs.declared.alloc.Global.{Global}
 use Rattle.clap.specs.Words.{first_value, matched_of, one_text, raw_values}
 use Rattle.clap.specs.declared.parser.matches.Found.{Found}
 use Rattle.command_lines.specs.Numbers.{IsNumberIn, number_of}
-use Rattle.worker_producer.specs.declared.wait.Wait.{Wait}
+use Rattle.redis_connection.specs.declared.wait.Wait.{Wait}
 use Rattle.worker.specs.declared.dead_letters.search.GiveUp.{GiveUp}
 use Rattle.worker.specs.declared.state.MakeGroup.{MakeGroup}
 use Rattle.worker.specs.declared.state.MakeGroup.TheVariants.{FromNow, FromTheFirst, Never}

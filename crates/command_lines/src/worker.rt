@@ -4,11 +4,11 @@ ghost use Rattle.clap.specs.Words.{found_of, kind_of, matched_of, new_rule, raw_
 ghost use Rattle.clap.specs.declared.builder.ArgAction.TheVariants.{Set};
 ghost use Rattle.command_lines.specs.Worker.{AreSettings, GivesUp, IsNumber, MakesGroup, Waits, word_in};
 
+use redis_connection::Wait;
 use crate::{BLOCK, EVERY, IDLE, Number, pair, refused, refused_value, wait_of, word_of};
 use clap::error::ErrorKind;
 use clap::{Arg, ArgMatches, Command, Error};
 use std::alloc::Global;
-use worker_producer::Wait;
 use worker::dead_letters::GiveUp;
 use worker::{MakeGroup, Settings};
 

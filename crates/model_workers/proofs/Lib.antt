@@ -1,5 +1,6 @@
 -- The proofs of this crate, by subject.
 pub mod FailoverLemmas
 pub mod FilesLemmas
+pub mod LetterLemmas
 pub mod LoopsLemmas
 pub mod SystemLemmas

@@ -1,5 +1,6 @@
 -- The definitions of this crate, by subject.
 pub mod Failover
 pub mod Files
+pub mod Letters
 pub mod Loops
 pub mod System

@@ -4,5 +4,6 @@
 
 pub mod failover;
 pub mod files;
+pub mod letters;
 pub mod loops;
 pub mod system;

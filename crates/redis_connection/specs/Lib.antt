@@ -4,3 +4,4 @@ pub mod Link
 pub mod Seen
 pub mod Passing
 pub mod Ask
+pub mod Wait

@@ -6,11 +6,15 @@
 //! speak the protocol.
 #![tactic(auto)]
 
+mod confirming;
 mod connection;
 mod error;
 mod incoming;
 mod outgoing;
 mod passing;
+mod wait;
 
+pub use confirming::{ConfirmError, confirm};
 pub use connection::Connection;
 pub use error::{AskError, ConnectionError};
+pub use wait::{Wait, WaitError};

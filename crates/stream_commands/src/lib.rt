@@ -28,6 +28,7 @@ pub mod monitor;
 pub mod pending;
 pub mod range;
 pub mod read;
+pub mod replicas;
 pub mod setid;
 pub mod streams;
 pub mod trim;
@@ -59,6 +60,7 @@ pub use range::{
     xlen, xrange, xrange_all, xrange_count, xrevrange, xrevrange_all, xrevrange_count,
 };
 pub use read::{xread, xread_options};
+pub use replicas::{wait, wait_aof};
 pub use setid::{xsetid, xsetid_entries_added};
 pub use streams::Streams;
 pub use trim::{xtrim, xtrim_options};

@@ -6,10 +6,10 @@ use Rattle.redis_resp.specs.Refusal.{RefusesNumber}
 use Rattle.worker.specs.Confirm.Confirmed.{FailsConfirmed, IsConfirmedRound}
 use Rattle.worker.specs.declared.confirm.error.RoundError.{RoundError}
 use Rattle.worker.specs.declared.confirm.error.RoundError.TheVariants as ends
-use Rattle.worker_producer.specs.Confirmed.{IsConfirmed, IsUnconfirmed, wait_sentence}
-use Rattle.worker_producer.specs.declared.confirming.ConfirmError.{ConfirmError}
-use Rattle.worker_producer.specs.declared.confirming.ConfirmError.TheVariants as causes
-use Rattle.worker_producer.specs.declared.wait.Wait.{Wait}
+use Rattle.redis_connection.specs.Wait.{IsConfirmed, IsUnconfirmed, wait_sentence}
+use Rattle.redis_connection.specs.declared.confirming.ConfirmError.{ConfirmError}
+use Rattle.redis_connection.specs.declared.confirming.ConfirmError.TheVariants as causes
+use Rattle.redis_connection.specs.declared.wait.Wait.{Wait}
 use Rattle.worker.specs.DeadLetters.Besides.{BreaksLooking, Looks}
 use Rattle.worker.proofs.DeadLettersLemmas.BesidesLemmas.{look_not_breaks, looked, looked_not}
 use Rattle.model_workers.specs.Loops.Loop.{Loops, Stops}

@@ -4,7 +4,7 @@ use Rattle.redis_connection.specs.Link.{Link}
 use Rattle.worker.specs.Confirm.Confirmed.{IsConfirmedRound}
 use Rattle.stream_drain.specs.Turn.{IsConfirmedTurn}
 use Rattle.stream_drain.specs.Written.{Written}
-use Rattle.worker_producer.specs.declared.wait.Wait.{Wait}
+use Rattle.redis_connection.specs.declared.wait.Wait.{Wait}
 use Rattle.model_server.specs.Group.Worker.{Verdict}
 use Rattle.stream_in_place.specs.Sent.{Pairs}
 use Rattle.worker.specs.DeadLetters.Besides.{Besides}

@@ -3,7 +3,7 @@ use Rattle.std.specs.Prelude.{◌≡◌, ◌≤◌, ℕ, List, [], ◌++◌, tak
 use Rattle.worker_journal.specs.EntryLine.{Entry}
 use Rattle.model_server.specs.Failover.Law.{after, ProducerAlwaysWaits}
 use Rattle.model_server.specs.Failover.World.{Event}
-use Rattle.worker_producer.specs.declared.wait.Wait.{Wait}
+use Rattle.redis_connection.specs.declared.wait.Wait.{Wait}
 use Rattle.model_server.specs.Group.Group.{ids_of}
 use Rattle.model_server.specs.Group.Law.{Among}
 use Rattle.model_server.specs.Group.Worker.{Id}

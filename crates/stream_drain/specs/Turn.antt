@@ -1,7 +1,7 @@
 -- A turn of the program: a round, with commands that only read or send letters before it and after it.
 use Rattle.redis_connection.specs.Link.{Link}
 use Rattle.worker.specs.Confirm.Confirmed.{IsConfirmedRound}
-use Rattle.worker_producer.specs.declared.wait.Wait.{Wait}
+use Rattle.redis_connection.specs.declared.wait.Wait.{Wait}
 use Rattle.stream_drain.specs.Written.{Written}
 use Rattle.model_server.specs.Group.Worker.{Verdict}
 use Rattle.stream_in_place.specs.Sent.{Pairs}

@@ -15,7 +15,7 @@ use crate::lines::{Fault, Lines};
 use crate::report::Report;
 use anyhow::{Error, Result as AnyResult, anyhow};
 use worker_journal::LogFile;
-use redis_connection::{AskError, Connection, ConnectionError};
+use redis_connection::{AskError, Connection, ConnectionError, Wait};
 use redis_streams::StreamInfoGroupsReply;
 use redis_wire::Fault as WireFault;
 use std::alloc::Global;
@@ -24,7 +24,6 @@ use std::io::{Read, Write};
 use std::rt::Clock;
 use stream_commands::xinfo_groups;
 use worker::confirm::{RoundError, round_confirmed};
-use worker_producer::Wait;
 use worker::dead_letters::DeadLetterSearch;
 use worker::{Asked, Handler, Pipelined, Progress, RequestError, Round, RunError, Worker};
 

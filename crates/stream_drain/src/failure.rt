@@ -1,7 +1,7 @@
 //! Why the program failed.
 use anyhow::Error;
 use redis_connection::AskError;
-use worker_producer::ConfirmError;
+use redis_connection::ConfirmError;
 use worker::dead_letters::SearchError;
 use worker::RunError;
 use thiserror::Error as AnError;

@@ -4,6 +4,7 @@ ghost use Rattle.clap.specs.Words.{found_of, kind_of};
 ghost use Rattle.command_lines.specs.Worker.{Waits};
 ghost use Rattle.stream_drain.specs.Options.{AreOptions};
 
+use redis_connection::Wait;
 use crate::resume::LARGEST_COUNT;
 use clap::error::ErrorKind;
 use clap::{ArgMatches, Command, Error};
@@ -12,7 +13,6 @@ use command_lines::{
     name, refused, settings_of, wait, word_of,
 };
 use std::alloc::{AllocError, Global};
-use worker_producer::Wait;
 use worker::dead_letters::GiveUp;
 use worker::Settings;
 

@@ -5,7 +5,7 @@ use Rattle.worker_producer.specs.Confirmed.{BrokeConfirmed, ConfirmedRounds}
 use Rattle.worker_producer.specs.Machine.{Standing, idle}
 use Rattle.worker_producer.specs.Records.{Fields}
 use Rattle.worker_producer.specs.declared.settings.Settings.{Settings}
-use Rattle.worker_producer.specs.declared.wait.Wait.{Wait}
+use Rattle.redis_connection.specs.declared.wait.Wait.{Wait}
 use Rattle.stream_fill.specs.declared.fill.FillError.{FillError}
 use Rattle.stream_fill.specs.declared.fill.FillError.TheVariants as causes
 

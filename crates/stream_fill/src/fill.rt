@@ -4,10 +4,10 @@ ghost use Rattle.worker_producer.specs.Confirmed.{FinishedConfirmed};
 ghost use Rattle.stream_fill.specs.Filled.{Fails};
 
 use crate::counts::Counts;
-use redis_connection::Connection;
+use redis_connection::{Connection, Wait};
 use std::alloc::Global;
 use std::io::{Read, Write};
-use worker_producer::{Asked, ConfirmedError, Producer, Settings, Source, Wait};
+use worker_producer::{Asked, ConfirmedError, Producer, Settings, Source};
 use thiserror::Error;
 
 /// Why not all records were added.

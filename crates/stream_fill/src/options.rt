@@ -4,6 +4,7 @@ ghost use Rattle.clap.specs.Words.{found_of};
 ghost use Rattle.command_lines.specs.Numbers.{number_of};
 ghost use Rattle.stream_fill.specs.Options.{AreOptions, AreSettings, HasForm, HasMode, TrimsBy};
 
+use redis_connection::Wait;
 use crate::lines::Form;
 use clap::{ArgMatches, Command, Error};
 use command_lines::{
@@ -11,7 +12,7 @@ use command_lines::{
     word_of,
 };
 use std::alloc::{AllocError, Global};
-use worker_producer::{Settings, Wait};
+use worker_producer::Settings;
 use stream_options::{StreamTrimStrategy, StreamTrimmingMode};
 
 /// The options of the program.

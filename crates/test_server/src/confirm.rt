@@ -2,7 +2,7 @@
 use redis_resp::{ParsingError, ToRedisArgs, Value};
 use std::alloc::{AllocError, Global};
 use std::process::Abort;
-use worker::confirm::{wait, wait_aof};
+use stream_commands::{wait, wait_aof};
 
 /// The command is written as the words of this line.
 fn check<T: ToRedisArgs>(rt: &(impl AllocGlobal + Abort), command: &T, line: &str) {

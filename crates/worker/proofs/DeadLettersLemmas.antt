@@ -1,4 +1,3 @@
 -- Lemmas on dead letters, and on commands between two rounds.
 pub mod BesidesLemmas
 pub mod DeadLemmas
-pub mod DeadMovesLemmas

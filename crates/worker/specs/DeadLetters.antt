@@ -1,4 +1,3 @@
 -- The definitions that the contracts of a search for dead letters use.
 pub mod Dead
 pub mod Besides
-pub mod DeadMoves

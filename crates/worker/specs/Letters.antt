@@ -1,5 +1,6 @@
 -- Entries that are given up, and their letters in a stream of dead letters.
-use Rattle.std.specs.Prelude.{◌≡◌, ◌≢◌, ℕ, Bool, true, false, List, [], ◌∷◌, drop, map, codes, decimal, string_bytes}
+use Rattle.std.specs.Prelude.{◌≡◌, ◌≢◌, ℕ, Bool, true, false, List, [], ◌∷◌, drop, map, flat_map, codes, decimal}
+use Rattle.std.specs.Prelude.{string_bytes}
 use Rattle.redis_resp.specs.Tree.{Tree, bulk, int}
 use Rattle.redis_wire.specs.Packed.{command_bytes}
 use Rattle.redis_wire.specs.Reply as wire
@@ -32,6 +33,26 @@ names_of d = (string_bytes d.key, string_bytes d.group, string_bytes d.dead)
 abbrev pub letter_sentence : List ℕ → Id → ℕ → List (List ℕ) → List (List ℕ)
 letter_sentence dead id n fields =
     codes "XADD" ∷ dead ∷ codes "*" ∷ codes "entry" ∷ id ∷ codes "deliveries" ∷ decimal n ∷ fields
+
+-- a stream, its group, and the stream of dead letters
+abbrev pub Names : Type 0
+Names = List ℕ × List ℕ × List ℕ
+
+-- names and values, in order
+abbrev pub Fields : Type 0
+Fields = List (List ℕ × List ℕ)
+
+-- an id, and the fields of its entry
+abbrev pub Entry : Type 0
+Entry = Id × Fields
+
+-- names and values by turns, as a command has them
+abbrev pub words_of : Fields → List (List ℕ)
+words_of fields = flat_map (λ f. f.0 ∷ f.1 ∷ []) fields
+
+-- the bytes of the XADD of an entry's letter, if it was delivered this often
+abbrev pub letter_for : List ℕ → Entry → ℕ → List ℕ
+letter_for dead e deliveries = command_bytes (letter_sentence dead e.0 deliveries (words_of e.1))
 
 -- the command for the first entry: its letter is added, and after that it is acknowledged
 abbrev pub of_first : List ℕ × List ℕ × List ℕ → Id × List ℕ → Bool → List ℕ

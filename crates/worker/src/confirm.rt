@@ -1,12 +1,8 @@
 //! Rounds of a worker that replicas confirm: its handler receives an entry only after the required number of replicas
 //! have its delivery. So no failover to one of these delivers the entry again as new.
-//!
-//! `wait` and `wait_aof` are the commands WAIT and WAITAOF themselves.
 
-mod commands;
 mod error;
 mod round;
 
-pub use commands::{wait, wait_aof};
 pub use error::RoundError;
 pub use round::round_confirmed;

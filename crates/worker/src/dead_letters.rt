@@ -6,7 +6,6 @@
 //! `stream_worker` over the same connection.
 
 mod error;
-pub mod laws;
 mod search;
 
 pub use error::{SearchError, SearchSettingsError};

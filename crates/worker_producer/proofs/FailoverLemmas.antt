@@ -32,7 +32,7 @@ use Rattle.worker_producer.specs.declared.error.RunError.TheVariants as causes
 use Rattle.worker_producer.specs.declared.settings.Settings.{Settings}
 use Rattle.worker_producer.specs.declared.stage.Asked.{Asked}
 use Rattle.worker_producer.specs.declared.stage.Asked.TheVariants as asks
-use Rattle.worker_producer.specs.declared.wait.Wait.{Wait}
+use Rattle.redis_connection.specs.declared.wait.Wait.{Wait}
 use Rattle.worker_producer.proofs.RequestLemmas.{numbered_length}
 use Rattle.worker_producer.proofs.ScheduleLemmas as schedule
 use Rattle.worker_producer.proofs.ScheduleLemmas.{Is, Answered, as_is, nothing_sent}

@@ -1,10 +1,9 @@
 -- WAIT, the meaning of its reply, and rounds with one after each.
-use Rattle.std.specs.Prelude.{◌≡◌, ◌<◌, ◌≤◌, ℕ, zero, suc, List, [], ◌∷◌, codes, decimal, Option, Some, None}
-use Rattle.std.specs.Prelude.{Result, Ok, Err}
-use Rattle.redis_connection.specs.Ask.{Asks, HasNoAnswer}
+use Rattle.std.specs.Prelude.{◌≡◌, ℕ, zero, suc, List, Option, Some, None}
 use Rattle.redis_connection.specs.Link.{Link}
-use Rattle.redis_resp.specs.Number.{unsigned_reading}
-use Rattle.redis_resp.specs.Refusal.{RefusesNumber}
+use Rattle.redis_connection.specs.Wait.{IsConfirmed, IsUnconfirmed}
+use Rattle.redis_connection.specs.declared.confirming.ConfirmError.{ConfirmError}
+use Rattle.redis_connection.specs.declared.wait.Wait.{Wait}
 use Rattle.worker_producer.specs.Machine.{Standing, idle}
 use Rattle.worker_producer.specs.Records.{Fields}
 use Rattle.worker_producer.specs.Session.{IsRound, Breaks, Finished, Broke}
@@ -14,40 +13,6 @@ use Rattle.worker_producer.specs.declared.error.RunError.{RunError}
 use Rattle.worker_producer.specs.declared.settings.Settings.{Settings}
 use Rattle.worker_producer.specs.declared.stage.Asked.{Asked}
 use Rattle.worker_producer.specs.declared.stage.Asked.TheVariants as asked
-use Rattle.worker_producer.specs.declared.confirming.ConfirmError.{ConfirmError}
-use Rattle.worker_producer.specs.declared.confirming.ConfirmError.TheVariants as causes
-use Rattle.worker_producer.specs.declared.wait.Wait.{Wait}
-use Rattle.worker_producer.specs.declared.wait.WaitError.{WaitError}
-use Rattle.worker_producer.specs.declared.wait.WaitError.TheVariants.{NoReplicas, NoTime}
-
--- why a WAIT is refused: the first error that holds
-abbrev pub IsNoWait : ℕ → ℕ → WaitError → Type 0
-IsNoWait replicas milliseconds NoReplicas = replicas ≡ 0
-IsNoWait replicas milliseconds NoTime = (0 < replicas) × (milliseconds ≡ 0)
-
--- a WAIT for this number of replicas and of milliseconds, or the error
-abbrev pub IsMade : ℕ → ℕ → Result Wait WaitError → Type 0
-IsMade replicas milliseconds (Ok w) =
-    (w.replicas ≡ replicas) × (w.milliseconds ≡ milliseconds) × (0 < milliseconds)
-IsMade replicas milliseconds (Err e) = IsNoWait replicas milliseconds e
-
--- `WAIT replicas milliseconds`
-abbrev pub wait_sentence : Wait → List (List ℕ)
-wait_sentence w = codes "WAIT" ∷ decimal w.replicas ∷ decimal w.milliseconds ∷ []
-
--- the server replied that this number of replicas have all earlier writes
-abbrev pub HaveIt : Wait → Link → Link → ℕ → Type 0
-HaveIt w old new n = Asks old new (wait_sentence w) (unsigned_reading 64) n
-
--- the required number, or more
-abbrev pub IsConfirmed : Wait → Link → Link → Type 0
-IsConfirmed w old new = (n : ℕ) × HaveIt w old new n × (w.replicas ≤ n)
-
--- the reply is an error or none was received; or only this number have the writes, which is fewer
-abbrev pub IsUnconfirmed : Wait → Link → Link → ConfirmError → Type 0
-IsUnconfirmed w old new (causes.Ask e) =
-    HasNoAnswer old new (wait_sentence w) (unsigned_reading 64) RefusesNumber e
-IsUnconfirmed w old new (causes.TooFew n) = HaveIt w old new n × (n < w.replicas)
 
 -- after a round with this command, its writes are confirmed, if a WAIT is given and it sent anything
 abbrev pub Confirms : Option Wait → Asked → Link → Link → Type 0

@@ -17,7 +17,7 @@ use Rattle.worker_producer.specs.declared.error.RunError.TheVariants as causes
 use Rattle.worker_producer.specs.declared.settings.Settings.{Settings}
 use Rattle.worker_producer.specs.declared.stage.Asked.{Asked}
 use Rattle.worker_producer.specs.declared.stage.Asked.TheVariants as asked
-use Rattle.worker_producer.specs.declared.wait.Wait.{Wait}
+use Rattle.redis_connection.specs.declared.wait.Wait.{Wait}
 
 -- the event is not one of the producer's connection, and not a failover
 abbrev pub IsBesides : Event Fields → Type 0

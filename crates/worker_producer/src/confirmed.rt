@@ -3,12 +3,12 @@ ghost use Rattle.std.specs.Prelude.{◌≡◌, IfErr, IfOk, OnErr};
 ghost use Rattle.worker_producer.specs.Confirmed.{BreaksConfirmed, Confirms, ConfirmsNot, IsConfirmedRound};
 ghost use Rattle.worker_producer.specs.Machine.{idle, standing_of};
 
-use crate::confirming::ConfirmError;
+use redis_connection::ConfirmError;
 use crate::error::RunError;
 use crate::producer::Producer;
 use crate::source::Source;
 use crate::stage::Asked;
-use crate::wait::Wait;
+use redis_connection::Wait;
 use redis_connection::Connection;
 use std::alloc::Global;
 use std::io::{Read, Write};

@@ -18,14 +18,11 @@ mod session;
 mod settings;
 mod source;
 mod stage;
-mod wait;
 
 pub use confirmed::ConfirmedError;
-pub use confirming::{ConfirmError, confirm};
 pub use error::{FeedError, RequestError, RunError};
 pub use last_id::ask_last_id;
 pub use producer::Producer;
 pub use settings::{Settings, SettingsError};
 pub use source::{Field, NotRead, Record, Source};
 pub use stage::{Asked, OnTheWay, Stage};
-pub use wait::{Wait, WaitError};

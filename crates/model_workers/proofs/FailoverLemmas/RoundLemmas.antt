@@ -11,7 +11,7 @@ use Rattle.worker.specs.declared.confirm.error.RoundError.TheVariants as ends
 use Rattle.model_server.specs.Failover.Lookup.{looks_up}
 use Rattle.model_server.specs.Failover.World.{World, Event, Plain, Arrive_waits, Ask_waits, Failover, happens, run, plainly, fails_over}
 use Rattle.model_server.specs.Failover.World.{is_confirmed}
-use Rattle.worker_producer.specs.declared.wait.Wait.{Wait}
+use Rattle.redis_connection.specs.declared.wait.Wait.{Wait}
 use Rattle.model_workers.specs.Files.Files.{Fields}
 use Rattle.model_server.specs.Group.Group.{ids_of}
 use Rattle.model_server.specs.Group.Worker.{Id, Verdict, Machine, Phase, own, Answer, entries_in, told_in, after}

@@ -10,7 +10,7 @@ use Rattle.redis_resp.specs.Tree.{Tree, array, bulk, trees}
 use Rattle.redis_wire.specs.Reply as wire
 use Rattle.model_server.specs.Failover.Law.{after}
 use Rattle.model_server.specs.Failover.World.{Event, Plain, Arrive_waits, Failover, run, first_world}
-use Rattle.worker_producer.specs.declared.wait.Wait.{Wait}
+use Rattle.redis_connection.specs.declared.wait.Wait.{Wait}
 use Rattle.model_workers.specs.Files.Files.{Fields}
 use Rattle.model_server.specs.Group.Worker.{Entry, done, own_pending, begins_with}
 use Rattle.model_server.specs.Group.World.{Read}

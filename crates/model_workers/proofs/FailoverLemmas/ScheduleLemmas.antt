@@ -11,7 +11,7 @@ use Rattle.model_server.proofs.FailoverLemmas.Looked.{file_once}
 use Rattle.model_server.proofs.FailoverLemmas.Safe.{nothing_confirmed_is_lost, each_comes_out_once}
 use Rattle.model_server.proofs.FailoverLemmas.Undeleted.{producer_loses_nothing}
 use Rattle.model_server.proofs.FailoverLemmas.Stays.{file_is_of_log, handled_is_not_new}
-use Rattle.worker_producer.specs.declared.wait.Wait.{Wait}
+use Rattle.redis_connection.specs.declared.wait.Wait.{Wait}
 use Rattle.model_workers.specs.Files.Files.{Fields}
 use Rattle.model_server.specs.Group.Worker.{Id, Machine}
 use Rattle.model_server.specs.Once.Consumer.{Consumer}

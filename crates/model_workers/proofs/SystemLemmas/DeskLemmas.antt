@@ -13,9 +13,11 @@ use Rattle.worker.specs.Letters.{after_letter, letter_asks, asks_of_first}
 use Rattle.worker.specs.Letters as letters
 use Rattle.model_workers.specs.System.System.{System, Desk, Move, Serves, Commits, Sends, Hears, Breaks, Posts, Adds_letter}
 use Rattle.model_workers.specs.System.System.{Sends_ack, Settles, Restarts, with_letter, without_first, new_desk, moves, run}
-use Rattle.model_workers.specs.System.Desks.{Names, IsDesk, AreLetters, AsksFor, AsksAsItDoes, LettersAreMoves, PostsAreMoves}
+use Rattle.worker.specs.Letters.{Names}
+use Rattle.model_workers.specs.System.Desks.{IsDesk, AreLetters, AsksFor, AsksAsItDoes, LettersAreMoves, PostsAreMoves}
 use Rattle.model_workers.specs.System.Desks.{StartsWithANewDesk, IsOfDesk, AreOfDesk, IsElsewhere, IsMixed, OthersLeaveTheDesk}
-use Rattle.model_workers.specs.System.Desks.{moves_after, letter_for}
+use Rattle.worker.specs.Letters.{letter_for}
+use Rattle.model_workers.specs.System.Desks.{moves_after}
 
 -- ---- what a desk asks
 

@@ -8,7 +8,7 @@ use Rattle.worker.specs.Confirm.Confirmed.{FailsConfirmed, IsConfirmedRound}
 use Rattle.worker.specs.declared.confirm.error.RoundError.{RoundError}
 use Rattle.worker.specs.declared.confirm.error.RoundError.TheVariants as ends
 use Rattle.model_server.specs.Failover.World.{World, Event, Plain, Arrive_waits, Ask_waits, Failover, run}
-use Rattle.worker_producer.specs.declared.wait.Wait.{Wait}
+use Rattle.redis_connection.specs.declared.wait.Wait.{Wait}
 use Rattle.model_workers.specs.Files.Files.{Fields}
 use Rattle.model_server.specs.Group.Group.{ids_of}
 use Rattle.model_server.specs.Group.Worker.{Id, Entry, Machine, begins_again}

@@ -5,7 +5,7 @@ use Rattle.redis_connection.specs.Link.{Link}
 use Rattle.worker.specs.declared.confirm.error.RoundError.{RoundError}
 use Rattle.model_server.specs.Failover.Law.{after, AllWait, ProducerAlwaysWaits, NoOtherAdds, NoOtherAcks, NoDeletes}
 use Rattle.model_server.specs.Failover.World.{World, Event, Plain, run}
-use Rattle.worker_producer.specs.declared.wait.Wait.{Wait}
+use Rattle.redis_connection.specs.declared.wait.Wait.{Wait}
 use Rattle.model_workers.specs.Files.Files.{Fields}
 use Rattle.model_server.specs.Group.Group.{ids_of}
 use Rattle.model_server.specs.Group.Law.{Among}

@@ -1,11 +1,11 @@
 -- What a queue of dead letters does in the code, as moves.
-use Rattle.std.specs.Prelude.{◌≡◌, ◌≢◌, ◌⊎◌, ℕ, List, [], ◌∷◌, ◌++◌, codes, flat_map}
+use Rattle.std.specs.Prelude.{◌≡◌, ◌≢◌, ◌⊎◌, ℕ, List, [], ◌∷◌, ◌++◌, codes}
 use Rattle.redis_wire.specs.Packed.{command_bytes}
 use Rattle.worker_journal.specs.EntryLine.{Entry}
 use Rattle.model_server.specs.Group.Worker.{Id}
 use Rattle.model_server.specs.Group.Group.{Name}
-use Rattle.model_workers.specs.Files.Files.{Fields, Form}
-use Rattle.worker.specs.Letters.{after_letter, letter_asks, letter_bytes, letter_sentence}
+use Rattle.model_workers.specs.Files.Files.{Form}
+use Rattle.worker.specs.Letters.{Names, after_letter, letter_asks, letter_bytes, letter_for}
 use Rattle.worker.specs.Letters as letters
 use Rattle.worker.specs.declared.letters.LetterAsked.{LetterAsked}
 use Rattle.worker.specs.declared.letters.LetterAsked.TheVariants as asked
@@ -13,18 +13,6 @@ use Rattle.worker.specs.declared.state.Settings.{Settings}
 use Rattle.model_workers.specs.System.System.{System, Desk, Move, Posts, Adds_letter}
 use Rattle.model_workers.specs.System.System.{Sends_ack, Settles, Restarts, new_desk, lettered_now, acknowledges_now}
 use Rattle.model_workers.specs.System.System.{moves, run}
-
--- a stream, its group, and the stream of dead letters
-abbrev pub Names : Type 0
-Names = List ℕ × List ℕ × List ℕ
-
--- names and values by turns, as a command has them
-abbrev pub words_of : Fields → List (List ℕ)
-words_of fields = flat_map (λ f. f.0 ∷ f.1 ∷ []) fields
-
--- the bytes of the XADD of an entry's letter, if it was delivered this often
-abbrev pub letter_for : List ℕ → Entry → ℕ → List ℕ
-letter_for dead e deliveries = command_bytes (letter_sentence dead e.0 deliveries (words_of e.1))
 
 -- an id and bytes are those of this entry, and of its letter
 abbrev pub IsLetter : List ℕ → Id × List ℕ → Entry → Type 0

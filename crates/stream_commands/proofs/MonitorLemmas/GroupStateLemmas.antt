@@ -1,6 +1,6 @@
 -- The oldest of pending entries.
 use Rattle.std.proofs.Common.{◌≡◌, ℕ, List, [], ◌∷◌, Some, None, map, length, refl, arith}
-use Rattle.redis.specs.Words.{full_pending_meaning}
+use Rattle.redis_streams.specs.InfoFullMeaning.{full_pending_meaning}
 use Rattle.redis_streams.specs.declared.info.full.pending.StreamInfoFullPending.{StreamInfoFullPending}
 use Rattle.stream_commands.specs.Monitor.GroupState.{longest_in, oldest_in}
 

@@ -1,7 +1,7 @@
 -- What a tool shows of a group, by the reply to XINFO STREAM FULL and the time of the server's clock.
 use Rattle.std.specs.Prelude.{ℕ, ◌-◌, ◌&&◌, Bool, List, [], ◌∷◌, Option, Some, None, map, filter, fold, max, nat_le}
 use Rattle.std.specs.Prelude.{nat_lt, string_bytes}
-use Rattle.redis.specs.Words.{FullConsumer, FullGroup, FullPending}
+use Rattle.redis_streams.specs.InfoFull.{FullConsumer, FullGroup, FullPending}
 use Rattle.stream_commands.specs.declared.monitor.group_state.GroupState.{GroupState}
 
 -- how many entries the group has still to read and how many are pending, for how long the oldest of these has been

@@ -1,10 +1,10 @@
 //! The state of a group as a tool shows it, from one reply to XINFO STREAM FULL.
 ghost use Rattle.std.specs.Prelude.{◌≡◌, map, string_bytes, IfOk};
-ghost use Rattle.redis.specs.Words.{full_consumer_meaning, full_group_meaning};
-ghost use Rattle.redis.specs.Words.{full_pending_meaning};
+ghost use Rattle.redis_streams.specs.InfoFullMeaning.{full_consumer_meaning, full_group_meaning};
+ghost use Rattle.redis_streams.specs.InfoFullMeaning.{full_pending_meaning};
 ghost use Rattle.stream_commands.specs.Monitor.GroupState.{dead_in, longest_in, oldest_in, state_meaning, state_of, too_often_in};
 
-use redis::streams::{StreamInfoFullConsumer, StreamInfoFullGroup, StreamInfoFullPending};
+use redis_streams::{StreamInfoFullConsumer, StreamInfoFullGroup, StreamInfoFullPending};
 use std::alloc::{AllocError, Global};
 
 /// What a tool shows of a group. Its pending entries are those of the reply: send XINFO with a `COUNT` of 0 for

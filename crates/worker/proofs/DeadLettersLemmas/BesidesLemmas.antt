@@ -11,7 +11,7 @@ use Rattle.worker.specs.DeadLetters.Besides.{Besides, BreaksBesides, BreaksLooki
 use Rattle.worker.specs.DeadLetters.Besides.{nothing, looks, gives_up}
 use Rattle.worker.specs.DeadLetters.Dead.{Claimer, GivesUp, GivesUpSome}
 use Rattle.worker.specs.declared.dead_letters.search.Waiting.{Waiting}
-use Rattle.model_workers.specs.System.Desks.{Names}
+use Rattle.worker.specs.Letters.{Names}
 
 -- ---- a question
 

@@ -10,12 +10,12 @@ use Rattle.redis_connection.specs.Link.{Link, Sends, SendsFront}
 use Rattle.redis_connection.specs.Passing.{AwaitsAnswer, ReceivesAnswer}
 use Rattle.redis_wire.specs.Packed.{command_bytes}
 use Rattle.redis_wire.specs.Reply.{Answer}
-use Rattle.worker_journal.specs.EntryLine.{Entry}
-use Rattle.model_workers.specs.Files.Files.{Fields}
+use Rattle.worker.specs.Letters.{Entry}
+use Rattle.worker.specs.Letters.{Fields}
 use Rattle.worker.specs.DeadLetters.Dead.{Goes, DeliversSome, Row, rows_of, rows_reading, Claimer, claim_words, BreaksOff}
 use Rattle.worker.specs.DeadLetters.Dead.{PostedFields, Posted, PostsAll, PostsSome, GivesUpSome, none_waits}
 use Rattle.worker.specs.declared.dead_letters.search.Waiting.{Waiting}
-use Rattle.model_workers.specs.System.Desks.{Names, words_of}
+use Rattle.worker.specs.Letters.{Names, words_of}
 use Rattle.worker.specs.Letters.{Desk, after_letter, letter_asks, letter_bytes, letter_sentence, serves}
 use Rattle.worker.specs.declared.letters.LetterAsked.{LetterAsked}
 

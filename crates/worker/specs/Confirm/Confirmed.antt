@@ -2,9 +2,9 @@
 use Rattle.std.specs.Prelude.{◌≡◌, ◌⊎◌, ℕ, List}
 use Rattle.redis_connection.specs.Link.{Link}
 use Rattle.redis_wire.specs.Reply as wire
-use Rattle.worker_producer.specs.Confirmed.{IsConfirmed, IsUnconfirmed}
-use Rattle.worker_producer.specs.declared.confirming.ConfirmError.{ConfirmError}
-use Rattle.worker_producer.specs.declared.wait.Wait.{Wait}
+use Rattle.redis_connection.specs.Wait.{IsConfirmed, IsUnconfirmed}
+use Rattle.redis_connection.specs.declared.confirming.ConfirmError.{ConfirmError}
+use Rattle.redis_connection.specs.declared.wait.Wait.{Wait}
 use Rattle.model_server.specs.Group.Worker.{Verdict, begins_again}
 use Rattle.stream_in_place.specs.Sent.{Pairs}
 use Rattle.worker.specs.Answered.{Failed, Went}

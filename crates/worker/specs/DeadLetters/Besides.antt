@@ -7,7 +7,7 @@ use Rattle.redis_connection.specs.declared.error.AskError.TheVariants as errors
 use Rattle.redis_wire.specs.Reply.{Answer}
 use Rattle.worker.specs.DeadLetters.Dead.{BreaksOff, Claimer, GivesUp, GivesUpSome}
 use Rattle.worker.specs.declared.dead_letters.search.Waiting.{Waiting}
-use Rattle.model_workers.specs.System.Desks.{Names}
+use Rattle.worker.specs.Letters.{Names}
 
 -- the command changes nothing: it is XPENDING, XINFO or WAIT
 abbrev pub OnlyLooks : List (List ℕ) → Type 0

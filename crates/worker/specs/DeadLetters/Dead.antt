@@ -13,14 +13,14 @@ use Rattle.redis_resp.specs.Reading.{list_reading, option_reading, two_reading}
 use Rattle.redis_resp.specs.Text.{text_reading}
 use Rattle.redis_resp.specs.Tree.{Tree}
 use Rattle.redis_resp.specs.declared.value.Value.{Value}
-use Rattle.worker_journal.specs.EntryLine.{Entry}
-use Rattle.model_workers.specs.Files.Files.{Fields}
+use Rattle.worker.specs.Letters.{Entry}
+use Rattle.worker.specs.Letters.{Fields}
 use Rattle.worker.specs.declared.dead_letters.search.DeadLetterSearch.{DeadLetterSearch}
 use Rattle.worker.specs.declared.dead_letters.search.GiveUp.{GiveUp}
 use Rattle.worker.specs.declared.dead_letters.search.Waiting.{Waiting}
 use Rattle.worker.specs.declared.dead_letters.error.SearchSettingsError.{SearchSettingsError}
 use Rattle.worker.specs.declared.dead_letters.error.SearchSettingsError.TheVariants.{NoDeliveries, NoStream, SameStream, Memory}
-use Rattle.model_workers.specs.System.Desks.{Names, letter_for, words_of}
+use Rattle.worker.specs.Letters.{Names, letter_for, words_of}
 use Rattle.worker.specs.Letters.{Desk, after_letter, letter_asks, letter_bytes, serves}
 
 -- the settings of a search are accepted: the delivery count is 1 at least, and the dead-letter stream has a name and is

@@ -1,5 +1,5 @@
 //! Errors of a confirmed round.
-use worker_producer::ConfirmError;
+use redis_connection::ConfirmError;
 use crate::RunError;
 use thiserror::Error;
 

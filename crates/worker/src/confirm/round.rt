@@ -5,11 +5,10 @@ ghost use Rattle.worker.specs.Confirm.Confirmed.{FailsConfirmed, IsConfirmedRoun
 ghost use Rattle.worker.specs.Session.{standing_of};
 
 use crate::confirm::error::RoundError;
-use redis_connection::Connection;
+use redis_connection::{Connection, Wait, confirm};
 use redis_wire::Reply;
 use std::alloc::Global;
 use std::io::{Read, Write};
-use worker_producer::{Wait, confirm};
 use crate::{Handler, Round, RunError, Worker};
 
 /// Makes one round, as `Worker::round` does, and sends WAIT before its reply is taken. So the handler receives entries

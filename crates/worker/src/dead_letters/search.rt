@@ -2,7 +2,7 @@
 ghost use Rattle.std.specs.Prelude.{◌≡◌, ◌<◌, ◌≤◌, ◌%◌, ◌∷◌, [], IfErr, IfOk, IsTrue, MatchOption, Ok, OnErr, OnOk, Some, false, true};
 ghost use Rattle.std.specs.Prelude.{List, filter, length, map, nat_le, string_bytes};
 ghost use Rattle.std.specs.List.{flat_map};
-ghost use Rattle.worker_journal.specs.EntryLine.{Entry};
+ghost use Rattle.worker.specs.Letters.{Entry};
 ghost use Rattle.redis_connection.specs.Ask.{Asks};
 ghost use Rattle.worker.specs.DeadLetters.Besides.{Besides, BreaksBesides, BreaksLooking, Looks, OnlyLooks};
 ghost use Rattle.worker.specs.DeadLetters.Dead.{AreJust, BreaksOff, Delivers, DeliversSome, GivesUp, GivesUpSome, IsBehind};

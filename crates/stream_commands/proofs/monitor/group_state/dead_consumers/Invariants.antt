@@ -1,5 +1,5 @@
 use Rattle.std.proofs.Common.{◌≡◌, map, take, string_bytes}
-use Rattle.redis.specs.Words.{full_consumer_meaning}
+use Rattle.redis_streams.specs.InfoFullMeaning.{full_consumer_meaning}
 use Rattle.stream_commands.specs.Monitor.GroupState.{dead_in}
 use Rattle.stream_commands.proofs.monitor.group_state.dead_consumers.Given as goal
 

@@ -3,7 +3,7 @@ use Rattle.std.proofs.lemmas.List.{take_more}
 use Rattle.redis_wire.specs.Reply.{value}
 use Rattle.redis_connection.specs.Ask.{Asks}
 use Rattle.worker.specs.DeadLetters.Dead.{BreaksOff, Posted, PostsAll, claim_words, claimer_of, rows_of, rows_reading}
-use Rattle.model_workers.specs.System.Desks.{Names}
+use Rattle.worker.specs.Letters.{Names}
 use Rattle.worker.specs.Letters.{desk_of}
 use Rattle.worker.proofs.DeadLettersLemmas.DeadLemmas.{on_err, posts_break, posts_on}
 use Rattle.worker.proofs.dead_letters.search.DeadLetterSearch.post_all.Goals as goal

@@ -1,5 +1,5 @@
 use Rattle.std.proofs.Common.{◌≡◌, List, take}
-use Rattle.worker_journal.specs.EntryLine.{Entry}
+use Rattle.worker.specs.Letters.{Entry}
 use Rattle.worker.specs.DeadLetters.Dead.{PostsAll, claimer_of}
 use Rattle.worker.specs.Letters.{desk_of, names_of}
 use Rattle.worker.proofs.dead_letters.search.DeadLetterSearch.post_all.Given as goal

@@ -1,5 +1,5 @@
 //! Laws of entries that are given up over a connection.
-ghost use Rattle.worker.specs.DeadLetters.DeadMoves.{ClaimsAreMoves, DeliveriesAreMoves, GiveUpsAreMoves};
+ghost use Rattle.model_workers.specs.Letters.{ClaimsAreMoves, DeliveriesAreMoves, GiveUpsAreMoves};
 
 /// Entries that are given up are moves of the model `stream_system`. Each entry that is queued after its claim is a
 /// move. So is each letter or acknowledgement that gets its reply, whether all do or only the first ones. After all of

@@ -1,7 +1,7 @@
 //! The commands that ask replicas: WAIT and WAITAOF.
 ghost use Rattle.std.specs.Prelude.{◌≡◌, ◌∷◌, [], codes, decimal};
 
-use stream_commands::{Command, Word};
+use crate::command::{Command, Word};
 
 /// `WAIT replicas milliseconds`: waits until this number of replicas acknowledged all earlier writes of this
 /// connection, or until the milliseconds elapsed; 0 is no limit. The reply is the number of replicas that acknowledged

@@ -2,19 +2,20 @@
 use Rattle.std.proofs.Common.{◌≡◌, inl, inr, refl, sym, ap, subst, ◌∙◌, ℕ, zero, suc, Bool, true, false, List, [], ◌∷◌}
 use Rattle.std.proofs.Common.{◌++◌}
 use Rattle.redis_connection.specs.Link.{Link}
-use Rattle.worker_journal.specs.EntryLine.{Entry}
+use Rattle.worker.specs.Letters.{Entry}
 use Rattle.model_server.specs.Group.Group.{Name}
 use Rattle.model_workers.specs.Files.Files.{Form}
 use Rattle.model_workers.specs.System.System.{System, Move, Posts, Adds_letter, Sends_ack, Settles, new_desk, moves, run}
 use Rattle.model_workers.specs.System.System as system
-use Rattle.model_workers.specs.System.Desks.{Names, IsDesk, AreLetters, AreOfDesk, moves_after, letter_for}
+use Rattle.worker.specs.Letters.{Names, letter_for}
+use Rattle.model_workers.specs.System.Desks.{IsDesk, AreLetters, AreOfDesk, moves_after}
 use Rattle.model_workers.proofs.SystemLemmas.DeskLemmas.{letters_are_moves, posts_are_moves}
 use Rattle.worker.specs.Letters.{Desk, after_letter, letter_asks, asks_of_first}
 use Rattle.worker.specs.declared.letters.LetterAsked.{LetterAsked}
 use Rattle.worker.specs.declared.letters.LetterAsked.TheVariants as asked
 use Rattle.worker.specs.DeadLetters.Dead.{Claimer, Goes, PostedOne, PostsAll, none_waits}
-use Rattle.worker.specs.DeadLetters.DeadMoves.{posting, desk_after, delivering, ClaimsAreMoves, DeliveriesAreMoves}
-use Rattle.worker.specs.DeadLetters.DeadMoves.{GiveUpsAreMoves}
+use Rattle.model_workers.specs.Letters.{posting, desk_after, delivering, ClaimsAreMoves, DeliveriesAreMoves}
+use Rattle.model_workers.specs.Letters.{GiveUpsAreMoves}
 use Rattle.worker.specs.declared.dead_letters.search.Waiting.{Waiting}
 
 run_both : (form : Form) (ms more : List Move) (s : System) → run form (ms ++ more) s ≡ run form more (run form ms s)

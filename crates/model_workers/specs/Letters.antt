@@ -1,11 +1,12 @@
 -- Entries that are given up over a connection are moves of the model `stream_system`.
 use Rattle.std.specs.Prelude.{◌≡◌, ℕ, zero, suc, List, [], ◌∷◌, ◌++◌}
 use Rattle.redis_connection.specs.Link.{Link}
-use Rattle.worker_journal.specs.EntryLine.{Entry}
+use Rattle.worker.specs.Letters.{Entry}
 use Rattle.model_server.specs.Group.Group.{Name}
 use Rattle.model_workers.specs.Files.Files.{Form}
 use Rattle.model_workers.specs.System.System.{System, Move, Posts, new_desk, run}
-use Rattle.model_workers.specs.System.Desks.{Names, IsDesk, AreOfDesk, moves_after}
+use Rattle.worker.specs.Letters.{Names}
+use Rattle.model_workers.specs.System.Desks.{IsDesk, AreOfDesk, moves_after}
 use Rattle.worker.specs.Letters.{Desk, after_letter, letter_asks}
 use Rattle.worker.specs.DeadLetters.Dead.{Claimer, Goes, PostsAll, GivesUp}
 use Rattle.worker.specs.declared.dead_letters.search.Waiting.{Waiting}

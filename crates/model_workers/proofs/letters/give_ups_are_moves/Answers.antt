@@ -1,6 +1,6 @@
-use Rattle.worker.proofs.DeadLettersLemmas.DeadMovesLemmas.{claims_are_moves, deliveries_are_moves}
-use Rattle.worker.proofs.DeadLettersLemmas.DeadMovesLemmas as lemmas
-use Rattle.worker.proofs.dead_letters.laws.give_ups_are_moves.Goals as goal
+use Rattle.model_workers.proofs.LetterLemmas.{claims_are_moves, deliveries_are_moves}
+use Rattle.model_workers.proofs.LetterLemmas as lemmas
+use Rattle.model_workers.proofs.letters.give_ups_are_moves.Goals as goal
 
 pub returns-clause-claims : goal.returns-clause-claims
 returns-clause-claims c = claims_are_moves
