@@ -1,7 +1,4 @@
-//! Reads cases of Redis Cluster from standard input, one a line, and prints each with its outcome.
-//!
-//! A line is `KIND<tab>INPUT`; what follows a second tab is left out, so what was printed can be read
-//! again.
+//! Cases of Redis Cluster: slots, errors, partitions, and replies with slots.
 //!
 //! ```text
 //! slot             {user1000}.following           3443
@@ -16,8 +13,6 @@
 //! The stored slots of the first two kinds are those that redis-server told; partitions are those of
 //! another implementation of the checksum. The last two kinds have a slot and a reply in hex digits: the
 //! outcome is the master of the slot, and each shard. Most of their replies came from redis-server.
-//!
-//! It ends with 0, or with 2 if memory ran out, or standard input or output failed.
 
 use anyhow::Result;
 use redis_client::topology::{Node, Role, Shard, Topology, TopologyError};
@@ -28,83 +23,49 @@ use redis_client::cluster::{
 use redis_resp::Value;
 use redis_wire::{Decoded, Limits, Reply, decode};
 use std::alloc::{AllocError, Global};
-use std::io::{BufRead, BufReader, BufWriter, Write};
 use std::num::NonZeroU16;
-use std::process::ExitCode;
-use std::{io, str};
+use std::str;
 
-/// Memory ran out, or standard input or output failed.
-const FAILED: u8 = 2;
-
-fn main(rt: HostRuntime) -> ExitCode {
-    match print_outcomes(&rt) {
-        Ok(()) => ExitCode::SUCCESS,
-        Err(_error) => ExitCode::from(FAILED),
-    }
+/// The outcome of a case, if its kind is one of these.
+pub fn outcome(alloc: Global, kind: &str, input: &str) -> Result<Option<String>> {
+    let text = match kind {
+        "slot" => slot_text(alloc, input.as_bytes())?,
+        "slot-of-hex" => slot_of_hex(alloc, input)?,
+        "error" => error_text(alloc, input)?,
+        "partition" => partition_text(alloc, input)?,
+        "partition-name" => partition_name_text(alloc, input)?,
+        "slots" => topology_of(alloc, Asked::Slots, input)?,
+        "shards" => topology_of(alloc, Asked::Shards, input)?,
+        _ => return Ok(None),
+    };
+    Ok(Some(text))
 }
 
-/// Prints each line of standard input with its outcome.
-fn print_outcomes<R: Input + Print + AllocGlobal>(rt: &R) -> Result<()> {
-    let alloc = rt.alloc();
-    let mut output = BufWriter::new(alloc, io::writer(rt))?;
-    for line in BufReader::new(alloc, rt.reader())?.lines(alloc) {
-        let line = line?;
-        let (kind, rest) = split_at_tab(&line);
-        let (input, _) = split_at_tab(rest);
-        let text = outcome(alloc, kind, input)?;
-        write!(output, "{kind}\t{input}\t{text}\n")?;
-    }
-    output.flush()?;
-    Ok(())
-}
-
-/// What is before the first tab, and what is after it.
-fn split_at_tab(line: &str) -> (&str, &str) {
-    match line.split_once('\t') {
-        Some(parts) => parts,
-        None => (line, ""),
-    }
-}
-
-/// The outcome of a case.
-fn outcome(alloc: Global, kind: &str, input: &str) -> Result<String> {
-    match kind {
-        "slot" => slot_told(alloc, input.as_bytes()),
-        "slot-of-hex" => slot_of_hex_told(alloc, input),
-        "error" => error_told(alloc, input),
-        "partition" => partition_told(alloc, input),
-        "partition-name" => partition_name_told(alloc, input),
-        "slots" => topology_told(alloc, Asked::Slots, input),
-        "shards" => topology_told(alloc, Asked::Shards, input),
-        _ => Ok(String::from_str(alloc, "no such kind")?),
-    }
-}
-
-fn slot_told(alloc: Global, key: &[u8]) -> Result<String> {
+fn slot_text(alloc: Global, key: &[u8]) -> Result<String> {
     let slot = key_slot(key);
     Ok(format!(in alloc; "{slot}")?)
 }
 
 /// The slot of a key in hex digits.
-fn slot_of_hex_told(alloc: Global, input: &str) -> Result<String> {
+fn slot_of_hex(alloc: Global, input: &str) -> Result<String> {
     match hex::decode(alloc, input) {
-        Ok(key) => slot_told(alloc, &key),
+        Ok(key) => slot_text(alloc, &key),
         Err(FromHexError::OutOfMemory) => Err(AllocError.into()),
         Err(_error) => Ok(String::from_str(alloc, "no hex digits")?),
     }
 }
 
 /// What an error says, and what it asks for.
-fn error_told(alloc: Global, text: &str) -> Result<String> {
+fn error_text(alloc: Global, text: &str) -> Result<String> {
     let Some(error) = cluster_error(text.as_bytes()) else {
         return Ok(String::from_str(alloc, "none of these")?);
     };
     let step = step_word(error.next_step());
     match error {
         ClusterError::Moved { slot, host, port } => {
-            place_told(alloc, "moved", slot, host, port, step)
+            print_place(alloc, "moved", slot, host, port, step)
         }
-        ClusterError::Ask { slot, host, port } => place_told(alloc, "ask", slot, host, port, step),
+        ClusterError::Ask { slot, host, port } => print_place(alloc, "ask", slot, host, port, step),
         ClusterError::TryAgain => Ok(format!(in alloc; "try again: {step}")?),
         ClusterError::ClusterDown => Ok(format!(in alloc; "cluster down: {step}")?),
         ClusterError::Loading => Ok(format!(in alloc; "loading: {step}")?),
@@ -114,7 +75,7 @@ fn error_told(alloc: Global, text: &str) -> Result<String> {
     }
 }
 
-fn place_told(
+fn print_place(
     alloc: Global,
     word: &str,
     slot: u16,
@@ -143,7 +104,7 @@ fn number_and_rest(input: &str) -> Option<(u16, &str)> {
 }
 
 /// The partition of the key after the number of partitions.
-fn partition_told(alloc: Global, input: &str) -> Result<String> {
+fn partition_text(alloc: Global, input: &str) -> Result<String> {
     match number_and_rest(input) {
         Some((number, key)) => match NonZeroU16::new(number) {
             Some(number) => {
@@ -157,7 +118,7 @@ fn partition_told(alloc: Global, input: &str) -> Result<String> {
 }
 
 /// The key of the partition of a stream, and its slot.
-fn partition_name_told(alloc: Global, input: &str) -> Result<String> {
+fn partition_name_text(alloc: Global, input: &str) -> Result<String> {
     match number_and_rest(input) {
         Some((partition, name)) => {
             let key = partition_name(alloc, name.as_bytes(), partition)?;
@@ -177,7 +138,7 @@ enum Asked {
 }
 
 /// The master of a slot, and the shards, of a reply in hex digits: its text after the slot and a blank.
-fn topology_told(alloc: Global, asked: Asked, input: &str) -> Result<String> {
+fn topology_of(alloc: Global, asked: Asked, input: &str) -> Result<String> {
     let Some((slot, digits)) = input.split_once(' ') else {
         return Ok(String::from_str(alloc, "no slot")?);
     };

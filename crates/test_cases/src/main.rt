@@ -9,15 +9,16 @@
 //! u8       256                                 refused 2 NotNumber: not a number of this type
 //! ```
 //!
-//! The kinds are those of the modules `replies`, `readings`, `notation`, `wire` and `refs`.
+//! The kinds are those of the modules `replies`, `readings`, `notation`, `wire`, `refs`, `cluster` and `callers`.
 //! Another implementation can be compared line by line.
 //!
-//! It ends with 0, or with 2 if memory ran out, or standard input or output failed.
+//! It ends with 0, or with 2 if memory ran out, a line of `callers` is no case, or standard input or output failed.
 #![tactic(auto)]
 
 ghost use Rattle.std.specs.Prelude.{◌≡◌, ◌==◌, ◌<◌, IfSome};
 ghost use Rattle.std.specs.List.{after_first, before_first};
 
+mod callers;
 mod cluster;
 mod notation;
 mod plain_line;
@@ -87,7 +88,13 @@ fn outcome(alloc: Global, kind: &str, input: &str) -> Result<String> {
     if let Some(text) = readings::outcome(alloc, kind, input)? {
         return Ok(text);
     }
-    match notation::outcome(alloc, kind, input)? {
+    if let Some(text) = notation::outcome(alloc, kind, input)? {
+        return Ok(text);
+    }
+    if let Some(text) = cluster::outcome(alloc, kind, input)? {
+        return Ok(text);
+    }
+    match callers::outcome(alloc, kind, input)? {
         Some(text) => Ok(text),
         None => Ok(String::from_str(alloc, "no such kind")?),
     }

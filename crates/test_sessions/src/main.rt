@@ -10,26 +10,28 @@
 //! |---|---|
 //! | `server 2` | a command; 3 for RESP3 |
 //! | `bytes` | all that a client of a server of its own sends |
-//! | `worker` and settings | what a worker is asked or hears, see `worker` |
+//! | `worker` and settings | what a worker is asked or hears, see `workers` |
 //! | `letters` | `give` and an entry, or bytes that reply to what is asked |
-//! | `poison 3 5 3 4` | none, see `worker::poison` |
-//! | `connection` and sizes | what a connection does, see `worker::connection`; once for reads of each size |
+//! | `poison 3 5 3 4` | none, see `workers::poison` |
+//! | `connection` and sizes | what a connection does, see `workers::connection`; once for reads of each size |
 //! | `ends 7` | bytes that come; a worker makes so many rounds, wherever they end |
 //! | `streams 3 8 a b` | a command; then a worker for each stream, so many turns each |
 //! | `cuts 2`, `crashes 2 60`, `gone 2 30`, `schedules 1000` | none, see `together` |
 //! | `settles 2 3` | none; two workers take so many entries |
 //! | `outbox` | what a worker with an outbox does, or a command to its server, see `outbox` |
 //! | `producer 100 2 3` | what a producer is asked or hears, see `producer` |
+//! | `both-ends` | runs of a producer and a worker over one server, see `both_ends` |
 //!
 //! It ends with 0, or with 2 if memory ran out, or standard input or output failed.
 #![tactic(auto)]
 
+mod both_ends;
 mod outbox;
 mod producer;
 mod together;
-mod worker;
+mod workers;
 
-use crate::worker::{connection, letters, poison, streams};
+use crate::workers::{connection, letters, poison, streams};
 use redis_wire::{Decoded, Limits, Reply, WireError, command_words, decode};
 use std::alloc::{AllocError, Global};
 use std::io;
@@ -84,14 +86,15 @@ fn play(alloc: Global, script: &str, out: &mut String) -> Result<(), AllocError>
     if name == "bytes" {
         return play_bytes(alloc, lines, out);
     }
-    let is_played = worker::play(alloc, name, words, lines, out)?
+    let is_played = workers::play(alloc, name, words, lines, out)?
         || letters::play(alloc, name, words, lines, out)?
         || poison::play(alloc, name, words, out)?
         || connection::play(alloc, name, words, lines, out)?
         || streams::play(alloc, name, words, lines, out)?
         || together::play(alloc, name, words, lines, out)?
         || outbox::play(alloc, name, words, lines, out)?
-        || producer::play(alloc, name, words, lines, out)?;
+        || producer::play(alloc, name, words, lines, out)?
+        || both_ends::play(alloc, name, lines, out)?;
     if is_played {
         return Ok(());
     }

@@ -18,7 +18,7 @@
 ghost use Rattle.std.specs.Prelude.{◌≡◌, IfOk, IsTrue};
 ghost use Rattle.test_sessions.specs.Scripts.{is_connection_script};
 
-use crate::worker::{LIMITS, Side, Spans, Way, done, error_text};
+use crate::workers::{LIMITS, Side, Spans, Way, done, error_text};
 use crate::{bytes_of, commands_text, number_of, parted, push_exchange, push_line, text_of};
 use redis_connection::{AskError, Connection, ConnectionError};
 use redis_resp::FromRedisValue;

@@ -3,7 +3,7 @@
 ghost use Rattle.std.specs.Prelude.{◌≡◌, IfOk, IsTrue};
 ghost use Rattle.test_sessions.specs.Scripts.{is_letters_script};
 
-use crate::worker::LIMITS;
+use crate::workers::LIMITS;
 use crate::{bytes_of, commands_text, number_of, parted, push_exchange};
 use redis_wire::{Decoded, WireError, decode};
 use std::alloc::{AllocError, Global};

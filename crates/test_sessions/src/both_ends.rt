@@ -1,7 +1,7 @@
 //! Plays both ends of a stream over a server in memory, and compares what went in with what is in the
 //! file: a producer adds records, and a worker writes them into a file of lines.
 //!
-//! A line of standard input is played as many runs, and printed with what came of them after a tab:
+//! A line is played as many runs, and printed with what came of them after a tab:
 //!
 //! | Line | The runs |
 //! |---|---|
@@ -23,31 +23,22 @@
 //! | `guesses` | wrong: after its connection broke the producer does not ask what is in the stream |
 //!
 //! A worker that is started again first acknowledges the last lines of its file, as many as it asks for
-//! at once. Lines that begin with `#`, and empty ones, are printed as they are.
+//! at once.
 //!
 //! Of a line is printed how many runs it had and what happened in them. Then how many files differ from
 //! what went in, and how many of these have a line twice, lack one, or have one of no record. If none of
 //! that is so, the lines are in another order.
-//!
-//! It ends with 0, or with 2 if memory ran out, an end refused a reply, or standard input or output
-//! failed.
-#![tactic(auto)]
-
 use worker_journal::{LineLog, LogFile, TornFile, entry_in, push_escaped, push_field};
 use redis_wire::{Decoded, Limits, Reply, ReplyStream, WireError, decode};
+use crate::push_line;
 use std::alloc::{AllocError, Global};
-use std::io::{Read, Write};
-use std::process::ExitCode;
-use std::{io, mem};
+use std::mem;
 use worker_producer::{FeedError, Producer, Record, Settings as FeedSettings, Stage};
 use server_commands::{Client, Server};
 use worker::{
     AnswerError, EntryRef, Handler, InPlaceError, MakeGroup, NotCommitted, Progress, RequestError,
     Settings, Verdict, Worker, WorkerError,
 };
-
-/// Memory ran out, an end refused a reply, or standard input or output failed.
-const FAILED: u8 = 2;
 
 /// What the words of a line say of its runs.
 #[derive(Clone, Copy)]
@@ -63,38 +54,26 @@ struct Plan {
     guesses: bool,
 }
 
-fn main(rt: HostRuntime) -> ExitCode {
-    match play_all(&rt) {
-        Ok(()) => ExitCode::SUCCESS,
-        Err(_error) => ExitCode::from(FAILED),
+/// Plays each line of a script of this name, and prints it with what came of it. Returns whether the script is one.
+pub fn play(alloc: Global, name: &str, lines: &str, out: &mut String) -> Result<bool, AllocError> {
+    if name != "both-ends" {
+        return Ok(false);
     }
+    for line in lines.lines() {
+        out.push_str(line)?;
+        out.push('\t')?;
+        push_line(out, play_line(alloc, line)?.as_str())?;
+    }
+    Ok(true)
 }
 
-/// Plays each line, and prints it with what came of it.
-fn play_all(rt: &HostRuntime) -> io::Result<()> {
-    let alloc = rt.alloc();
-    let mut input = String::new(alloc);
-    let _len = rt.reader().read_to_string(&mut input)?;
-    let mut output = io::writer(rt);
-    for line in input.as_str().lines() {
-        let text = played(alloc, line)?;
-        output.write_all(text.as_str().as_bytes())?;
-    }
-    output.flush()
-}
-
-/// A line with what came of it.
-fn played(alloc: Global, line: &str) -> Result<String, AllocError> {
-    if line.is_empty() || line.starts_with('#') {
-        return format!(in alloc; "{line}\n");
-    }
+/// Plays the runs of a line, and returns what came of them.
+fn play_line(alloc: Global, line: &str) -> Result<String, AllocError> {
     let (name, words) = parted(line);
-    let text = if name == "calm" {
-        String::from_str(alloc, calm_text(plays_calmly(alloc, plan_of(words))?))?
-    } else {
-        play(alloc, name, words)?.text(alloc)?
-    };
-    format!(in alloc; "{line}\t{}\n", text.as_str())
+    if name == "calm" {
+        return String::from_str(alloc, calm_text(plays_calmly(alloc, plan_of(words))?));
+    }
+    play_runs(alloc, name, words)?.text(alloc)
 }
 
 /// What came of a run with no fault.
@@ -107,7 +86,7 @@ fn calm_text(is_same: bool) -> &'static str {
 }
 
 /// Plays the runs of a line.
-fn play(alloc: Global, name: &str, words: &str) -> Result<Tally, AllocError> {
+fn play_runs(alloc: Global, name: &str, words: &str) -> Result<Tally, AllocError> {
     let (end, rest) = parted(words);
     let plan = plan_of(rest);
     match name {

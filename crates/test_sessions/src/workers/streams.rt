@@ -4,7 +4,7 @@
 ghost use Rattle.std.specs.Prelude.{◌≡◌, IfOk, IsTrue};
 ghost use Rattle.test_sessions.specs.Scripts.{is_streams_script};
 
-use crate::worker::{Doer, Way, told};
+use crate::workers::{Doer, Way, told};
 use crate::{
     answered, commands_text, number_of, parted, protocol_of, push_exchange, push_line,
     settings_for, tell_all,

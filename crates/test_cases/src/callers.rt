@@ -1,18 +1,12 @@
-//! Runs the callers of `uses`, and the file of lines of `line_log`, on cases from standard input, one
-//! a line, and prints each case with what came of it after a tab.
+//! Cases of the callers of `examples`, and of the file of lines of `worker_journal`.
 //!
 //! ```text
-//! customer Array[Array[1-0, Array[customer, bob]]]        gives        Some("bob")
+//! caller    customer Array[Array[1-0, Array[customer, bob]]]        Some("bob")
 //! ```
 //!
-//! A case is a word that says what is run, and a value in the notation of `test_notation::notation`:
-//! the reply of a server, bytes of a server, or what the call is handed. Commands are printed as
+//! The input is a word that says what is run, and a value in the notation of `test_notation::notation`:
+//! the reply of a server, bytes of a server, or what the call is passed. Commands are printed as
 //! their arguments with a space between two, records as `Debug` shows them.
-//!
-//! It ends with 0, or with 2 if memory ran out, a line is no case, or standard input or output
-//! failed.
-#![tactic(auto)]
-
 ghost use Rattle.std.specs.Prelude.{ℕ, List, None};
 
 use anyhow::{Result, bail};
@@ -27,8 +21,7 @@ use redis::{ParsingError, RawBytes, ToRedisArgs, Value, from_redis_value};
 use std::alloc::{AllocError, Global};
 use std::fmt::Debug;
 use std::io;
-use std::io::{BufRead, BufReader, BufWriter, ErrorKind, Write};
-use std::process::ExitCode;
+use std::io::{ErrorKind, Write};
 use model_workers::files::log;
 use stream_commands::monitor::group_state::group_state;
 use test_notation::read_value;
@@ -44,32 +37,13 @@ use examples::wire::{AnswerError, streams_answered, streams_of_both};
 use examples::worker::{acknowledge_arguments, ids_answered, ids_to_acknowledge};
 use examples::{readme, worker};
 
-/// Memory ran out, a line is no case, or standard input or output failed.
-const FAILED: u8 = 2;
-
-fn main(rt: HostRuntime) -> ExitCode {
-    match answer_lines(&rt) {
-        Ok(()) => ExitCode::SUCCESS,
-        Err(_error) => ExitCode::from(FAILED),
+/// The outcome of a case, if its kind is `caller`.
+pub fn outcome(alloc: Global, kind: &str, input: &str) -> Result<Option<String>> {
+    if kind != "caller" {
+        return Ok(None);
     }
-}
-
-/// Answers each line of standard input on standard output.
-fn answer_lines<R: Input + Print + AllocGlobal>(rt: &R) -> Result<()> {
-    let alloc = rt.alloc();
-    let mut output = BufWriter::new(alloc, io::writer(rt))?;
-    for line in BufReader::new(alloc, rt.reader())?.lines(alloc) {
-        let case = line?;
-        let text = answer(alloc, &case)?;
-        write!(output, "{case}\t{text}\n")?;
-    }
-    Ok(output.flush()?)
-}
-
-/// What comes of a case.
-fn answer(alloc: Global, case: &str) -> Result<String> {
-    match case.split_once(' ') {
-        Some((word, notation)) => answer_of(alloc, word, read_value(alloc, notation)?),
+    match input.split_once(' ') {
+        Some((word, notation)) => Ok(Some(answer_of(alloc, word, read_value(alloc, notation)?)?)),
         None => bail!("no value"),
     }
 }
