@@ -1,4 +1,4 @@
-/* Tells the slots of keys and the partitions of records, as the rows of crates/cluster_cases have them.
+/* Tells the slots of keys and the partitions of records, as the rows of crates/test_cases have them.
 
    usage: cluster <ROWS      a row is KIND, a tab and its input, which is up to the next tab or the end. It is printed
                              with its outcome after a tab. Rows of other kinds are left out.

@@ -1,3 +1,3 @@
 -- What the clauses of this crate cite.
 pub mod Numbers
-pub mod Worker
+pub mod WorkerSettings

@@ -14,7 +14,7 @@ ghost use Rattle.clap.specs.declared.builder.ArgAction.TheVariants.{Set, SetTrue
 ghost use Rattle.clap.specs.declared.builder.value_parser.ValueParser.TheVariants as vp;
 ghost use Rattle.command_lines.specs.Numbers.{IsNumberIn, number_of};
 
-mod worker;
+mod worker_settings;
 
 use clap::builder::ValueParser;
 use clap::error::ErrorKind;
@@ -23,7 +23,7 @@ use std::alloc::{AllocError, Global};
 use std::fmt::Display;
 use std::io;
 use std::process::ExitCode;
-pub use worker::{confirmation_of, dead, give_up_of, settings_of};
+pub use worker_settings::{confirmation_of, dead, give_up_of, settings_of};
 
 /// The version of the programs, which `--version` shows.
 pub const VERSION: &str = "0.9.0";

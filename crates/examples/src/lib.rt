@@ -1,5 +1,5 @@
 //! Callers of the stream layer to copy from, each proved from the public contracts and run on stored
-//! cases by the program `caller_cases`.
+//! cases by the program `test_cases::callers`.
 //!
 //! `caller` is a first file of a repository of one's own. `worker` and `batch` are the pure part of a consumer-group worker, `stalled` takes over what
 //! others left, `deletion` reads what XDELEX and XACKDEL say, `monitoring` reads XPENDING and XINFO,

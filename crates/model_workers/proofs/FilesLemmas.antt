@@ -6,6 +6,6 @@ pub mod Step
 pub mod Kept
 pub mod OfLog
 pub mod Started
-mod BoundLemmas
-mod Sample
-mod Wrong
+pub mod BoundLemmas
+pub mod Sample
+pub mod Wrong

@@ -9,6 +9,6 @@ pub mod DeskLemmas
 pub mod DrainedLemmas
 pub mod OnceLemmas
 pub mod AloneLemmas
-mod Sample
-mod OnceSample
-mod Wrong
+pub mod Sample
+pub mod OnceSample
+pub mod Wrong

@@ -1,4 +1,4 @@
--- Entries that are given up over a connection are moves of the model `stream_system`.
+-- Entries that are given up over a connection are moves of the model `model_workers::system`.
 use Rattle.std.specs.Prelude.{◌≡◌, ℕ, zero, suc, List, [], ◌∷◌, ◌++◌}
 use Rattle.redis_connection.specs.Link.{Link}
 use Rattle.worker.specs.Letters.{Entry}

@@ -1,5 +1,5 @@
 //! Workers of a group, each with a file of lines of its own, as a pure machine, and what holds of
-//! the files after every schedule. Its functions are laws, and two calls of `line_log` of which the
+//! the files after every schedule. Its functions are laws, and two calls of `worker_journal` of which the
 //! contracts speak of the machine.
 
 pub mod laws;

@@ -16,10 +16,10 @@ pub use redis_wire::laws::{
 pub use stream_commands::laws::{
     ids_are_apart, unique_xadd, unique_xautoclaim, unique_xclaim, unique_xread, unique_xtrim,
 };
+pub use stream_option_parsing::laws::{equal_run_errors, equal_sentence_errors};
 pub use stream_options::laws::{
     copied_maxlen, copied_nack_mode, copied_policy, equal_config_errors, equal_maxlens,
     equal_nack_modes, last_call_wins, setters_commute, unique_add, unique_autoclaim, unique_claim,
     unique_config, unique_idempotency, unique_maxlen, unique_mode, unique_nack, unique_policy,
     unique_read, unique_strategy, unique_trim,
 };
-pub use stream_option_parsing::laws::{equal_run_errors, equal_sentence_errors};

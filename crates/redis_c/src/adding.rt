@@ -6,8 +6,8 @@ ghost use Rattle.redis_c.specs.Settings.{idempotency_in, add_in, Makes};
 use crate::settings::{AddSettings, Unset};
 use crate::trimming::{any_strategy_in, policy_by, utf8_at};
 use std::alloc::Global;
-use stream_options::{StreamAddOptions, StreamIdempotencyMode};
 use stream_option_parsing::{AddParts, add_with};
+use stream_options::{StreamAddOptions, StreamIdempotencyMode};
 
 /// How the server detects duplicates, if it does.
 fn idempotency_in(

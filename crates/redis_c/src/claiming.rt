@@ -5,8 +5,8 @@ ghost use Rattle.redis_c.specs.Settings.{if_set, lastid_in, claim_in, autoclaim_
 use crate::settings::{AutoClaimSettings, ClaimSettings, Unset};
 use crate::trimming::utf8_at;
 use std::alloc::Global;
-use stream_options::{StreamAutoClaimOptions, StreamClaimOptions};
 use stream_option_parsing::{AutoClaimParts, ClaimParts, autoclaim_with, claim_with};
+use stream_options::{StreamAutoClaimOptions, StreamClaimOptions};
 
 /// The number, if it is set.
 fn if_set(is_set: bool, n: usize) -> Option<usize>

@@ -22,10 +22,12 @@ use crate::commands::ReadSettings;
 use crate::server::GroupPlace;
 use crate::settings::{AddSettings, AutoClaimSettings, ClaimSettings, TrimSettings};
 use redis_wire::place::Span;
+use stream_option_parsing::{
+    AddParts, AutoClaimParts, ClaimParts, GroupNames, ReadParts, TrimParts,
+};
 use stream_options::{
     StreamDeletionPolicy, StreamIdempotencyMode, StreamTrimStrategy, StreamTrimmingMode,
 };
-use stream_option_parsing::{AddParts, AutoClaimParts, ClaimParts, GroupNames, ReadParts, TrimParts};
 
 /// The empty place, for no text.
 fn nowhere() -> Span

@@ -1,6 +1,6 @@
 //! The options of commands, parsed from arguments at places in bytes of the caller: for a server.
 //!
-//! The settings are those that `stream_sentences` parses, with the places of their texts.
+//! The settings are those that `stream_option_parsing` parses, with the places of their texts.
 ghost use Rattle.std.specs.Prelude.{◌≡◌, Some};
 ghost use Rattle.stream_options.specs.Add.{AddFits, add_sentence, add_words};
 ghost use Rattle.stream_options.specs.AutoClaim.{AutoClaimFits, autoclaim_sentence, autoclaim_words};

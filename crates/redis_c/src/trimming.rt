@@ -9,10 +9,10 @@ use crate::placed::text_at;
 use crate::settings::{TrimSettings, Unset};
 use redis_wire::place::Span;
 use std::alloc::Global;
+use stream_option_parsing::{TrimParts, trim_with};
 use stream_options::{
     StreamDeletionPolicy, StreamTrimOptions, StreamTrimStrategy, StreamTrimmingMode,
 };
-use stream_option_parsing::{TrimParts, trim_with};
 
 /// The text at a place, if it is within the bytes and UTF-8.
 pub fn utf8_at(alloc: Global, bytes: &[u8], place: Span) -> Result<String, Unset>

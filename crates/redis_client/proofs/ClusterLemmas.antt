@@ -1,7 +1,7 @@
 -- Lemmas on slots and errors.
-mod DivisionLemmas
-mod HeadLemmas
-mod PlaceLemmas
-mod SentenceLemmas
-mod SplitLemmas
-mod TagLemmas
+pub mod DivisionLemmas
+pub mod HeadLemmas
+pub mod PlaceLemmas
+pub mod SentenceLemmas
+pub mod SplitLemmas
+pub mod TagLemmas

@@ -1,1 +1,1 @@
-mod ReplyLemmas
+pub mod ReplyLemmas

@@ -2,9 +2,9 @@
 ghost use Rattle.std.specs.Prelude.{IfErr, OnOk};
 ghost use Rattle.redis_connection.specs.Wait.{IsConfirmed, IsMade, IsUnconfirmed, wait_sentence};
 
-use crate::wait::{Wait, WaitError};
 use crate::connection::Connection;
 use crate::error::AskError;
+use crate::wait::{Wait, WaitError};
 use redis_resp::{RedisWrite, ToRedisArgs, WriteError};
 use std::alloc::Global;
 use std::io::{Read, Write};

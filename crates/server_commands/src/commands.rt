@@ -36,8 +36,8 @@ use id_words::strict_id;
 pub(crate) use names::command_in;
 use places::{group_of, place_of, place_of_group, stream_of};
 use report::Report;
-use std::alloc::{AllocError, Global};
 use server_store::{EntryId, Group, Room, Stream};
+use std::alloc::{AllocError, Global};
 use words::{before_nul, lower, shown};
 
 const SYNTAX: Refusal = Refusal::Fixed("ERR syntax error");

@@ -12,26 +12,26 @@ pub fn replies_are_read()
     ensures { RepliesAreRead }
 {}
 
-/// If the entries and a group of a stream are those of a world of `stream_group`, they are so after XACK, of
+/// If the entries and a group of a stream are those of a world of `model_server::group`, they are so after XACK, of
 /// the world to which the acknowledgement came. The reply is how many were pending.
 pub fn xack_is_the_event()
     ensures { XackIsTheEvent }
 {}
 
-/// If the entries and a group of a stream are those of a world of `stream_group`, they are so after
+/// If the entries and a group of a stream are those of a world of `model_server::group`, they are so after
 /// XDEL, of the world in which each of the entries is deleted.
 pub fn xdel_is_the_events()
     ensures { XdelIsTheEvents }
 {}
 
-/// If the entries and a group of a stream are those of a world of `stream_group`, they are so after XADD of an
+/// If the entries and a group of a stream are those of a world of `model_server::group`, they are so after XADD of an
 /// id alone, of the world in which the entry is added: with that id, or for `*` with the id that is the reply.
 /// Its fields are the words after the id, in order.
 pub fn xadd_is_the_event()
     ensures { XaddIsTheEvent }
 {}
 
-/// If the entries and a group of a stream are those of a world of `stream_group`, they are so after
+/// If the entries and a group of a stream are those of a world of `model_server::group`, they are so after
 /// `XREADGROUP` with `>` has delivered entries of it, of the world in which the consumer reads as many. The
 /// entries are those that the world gives. It is about what `deliver_new` ensures, without `NOACK`, if the group
 /// has made fewer than 2 ^ 64 - 1 consumers.
@@ -45,14 +45,14 @@ pub fn reading_news_is_the_event()
     ensures { ReadingNewsIsTheEvent }
 {}
 
-/// If the entries and a group of a stream are those of a world of `stream_group`, they are so after XREADGROUP
+/// If the entries and a group of a stream are those of a world of `model_server::group`, they are so after XREADGROUP
 /// of one key with `>`, of the world in which the consumer reads as many. It is of what `read_one` ensures,
 /// without `NOACK`. `BLOCK` does not wait. `COUNT` is the number that `options_in` parses.
 pub fn xreadgroup_is_the_event()
     ensures { XreadgroupIsTheEvent }
 {}
 
-/// If the entries and a group of a stream are those of a world of `stream_group`, they are so after XREADGROUP
+/// If the entries and a group of a stream are those of a world of `model_server::group`, they are so after XREADGROUP
 /// of one key with an id, of the world in which the consumer reads its own pending entries again. The reply has
 /// those that the world gives, with nil for the fields of one that was deleted. It is of what `read_one`
 /// ensures, with `NOACK` or without. It has three premises more: the names of the group's consumers ascend,
@@ -61,7 +61,7 @@ pub fn xreadgroup_with_an_id_is_the_event()
     ensures { XreadgroupWithAnIdIsTheEvent }
 {}
 
-/// If the entries and a group of a stream are those of a world of `stream_group`, they are so after XAUTOCLAIM,
+/// If the entries and a group of a stream are those of a world of `model_server::group`, they are so after XAUTOCLAIM,
 /// of the world in which the consumer claimed the entries that are picked. The reply has the entries that the
 /// model replies, with JUSTID their ids, and the ids that were deleted.
 pub fn xautoclaim_is_the_event()

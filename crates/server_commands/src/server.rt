@@ -7,9 +7,9 @@ ghost use Rattle.server_commands.specs.declared.session.Mode.TheVariants.{AtOnce
 use crate::answer::Reply;
 use crate::session::Session;
 use crate::transaction;
+use server_store::Stream;
 use std::alloc::{AllocError, Global};
 use std::marker::Model;
-use server_store::Stream;
 
 /// The streams of a server, by their keys.
 ///

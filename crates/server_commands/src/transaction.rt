@@ -13,9 +13,9 @@ use crate::answer::{Answer, Reply, Status};
 use crate::commands::{self, Command, Plain, Step};
 use crate::refusal::Refusal;
 use crate::session::{Mode, Queued, Session};
+use server_store::Stream;
 use std::alloc::{AllocError, Global};
 use std::mem;
-use server_store::Stream;
 
 const NESTED: Refusal = Refusal::Fixed("ERR MULTI calls can not be nested");
 

@@ -11,8 +11,8 @@ ghost use Rattle.server_commands.specs.Sent.{turns_bytes, refused_bytes, outcome
 use crate::answer::{Answer, Reply};
 use itoa::Buffer;
 use redis_wire::{Protocol, push_bulk, push_count, push_error, push_line, push_text};
-use std::alloc::{AllocError, Global};
 use server_store::EntryId;
+use std::alloc::{AllocError, Global};
 
 /// Appends the bytes of a reply: one RESP reply, whatever is in it. An `Err` changes nothing.
 ///

@@ -1,2 +1,2 @@
 -- Lemmas on a group's state.
-mod GroupStateLemmas
+pub mod GroupStateLemmas

@@ -1,4 +1,4 @@
--- The lines of entries are a form of `stream_files`.
+-- The lines of entries are a form of `model_workers::files`.
 use Rattle.std.proofs.Common.{◌≡◌, ◌<◌, ◌∙◌, refl, sym, ap, ℕ, Bool, true, false, List, [], ◌∷◌, arith}
 use Rattle.std.proofs.Common.{if◌then◌else◌}
 use Rattle.std.specs.Prelude.{◌&&◌, nat_lt}

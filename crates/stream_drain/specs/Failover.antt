@@ -1,4 +1,4 @@
--- The program with `--look-up` is the consumer of `stream_failover`, whose server may go back to an earlier state.
+-- The program with `--look-up` is the consumer of `model_server::failover`, whose server may go back to an earlier state.
 use Rattle.std.specs.Prelude.{◌≡◌, ◌≤◌, ℕ, List, [], ◌++◌, take, Bool, Option, Some}
 use Rattle.worker_journal.specs.EntryLine.{Entry}
 use Rattle.model_server.specs.Failover.Law.{after, ProducerAlwaysWaits}
@@ -34,7 +34,7 @@ keeps_lines json = record {
 abbrev pub LinesLookUp : Type 0
 LinesLookUp = (json : Bool) → LooksUp (keeps_lines json)
 
--- the law: the start of the program after a crash is a start of `worker_failover`. The premises are that the file is
+-- the law: the start of the program after a crash is a start of `model_workers::failover`. The premises are that the file is
 -- the lines of the entries that the crash leaves, that the ids of the file are known, and that it reads back the lines
 -- of the last commit
 abbrev pub StartsOverTheModel : Type 0

@@ -54,7 +54,7 @@ StartsLookingUp = (number : ℕ) (settings : Settings) (json : Bool) (known : Id
     → KnowsItsFile json (lines_in json es) (Some known)
     → BeginsWithLast number settings json (Some known) (lines_in json es) w → w.history ≡ over_file json es
 
--- the state of a handler that gathered the lines of this consumer of `stream_failover`, over its file
+-- the state of a handler that gathered the lines of this consumer of `model_server::failover`, over its file
 abbrev pub written_as : Bool → Consumer Pairs → Written
 written_as json c = record {
   json = json;
@@ -64,7 +64,7 @@ written_as json c = record {
 }
 
 -- the law: the entries of a reply, a commit, and a crash with the start after it change the handler's lines as they
--- change the consumer of `stream_failover`
+-- change the consumer of `model_server::failover`
 pub record LooksUpAsTheModel : Type 0 where
   pub reply : (json : Bool) (c : Consumer Pairs) (a : Answer Pairs) (verdicts : List Verdict)
       → with_all written_too (written_as json c) (told_in (entries_in a) verdicts)

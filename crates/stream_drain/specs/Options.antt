@@ -1,7 +1,7 @@
 -- The options of the program, by the matches of clap in its command line.
 use Rattle.std.specs.Prelude.{◌≡◌, ◌≢◌, None, codes}
 use Rattle.clap.specs.declared.parser.matches.Found.{Found}
-use Rattle.command_lines.specs.Worker.{AreSettings, GivesUp, IsFlag, IsWord, Waits}
+use Rattle.command_lines.specs.WorkerSettings.{AreSettings, GivesUp, IsFlag, IsWord, Waits}
 use Rattle.stream_drain.specs.declared.options.Options.{Options}
 
 -- the worker's settings are those of the command line, and it writes to FILE; each flag is that of its name; entries

@@ -75,7 +75,7 @@ abbrev pub ResumedIsLived : Type 0
 ResumedIsLived = (settings : Settings) (json : Bool) (first : List ℕ) (es : List Entry)
     → LivesSo settings (with_bytes json None first) (resumed_so settings json None (ids_in es) (first ++ lines_in json es)) []
 
--- the law: over a file that is the lines of entries, the start of the worker is that of `stream_system`, with the ids
+-- the law: over a file that is the lines of entries, the start of the worker is that of `model_workers::system`, with the ids
 -- of the last ones
 abbrev pub StartsOverItsFile : Type 0
 StartsOverItsFile = (number : ℕ) (settings : Settings) (json : Bool) (known : Known) (es : List Entry) (worker : Worker)

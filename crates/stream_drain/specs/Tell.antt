@@ -17,6 +17,6 @@ IsOfBytes e = AllByRecursion (λ p. AreBytes p.0 × AreBytes p.1) e.1
 abbrev pub LinesTellEntries : Type 0
 LinesTellEntries = (json : Bool) (a b : Entry) → IsOfBytes a → IsOfBytes b → line_in json a ≡ line_in json b → a ≡ b
 
--- so they are a form of `stream_files`: its line of an entry whose names and values are bytes is this line
+-- so they are a form of `model_workers::files`: its line of an entry whose names and values are bytes is this line
 abbrev pub LinesAreAForm : Type 0
 LinesAreAForm = (json : Bool) → (form : Form) × ((e : Entry) → IsOfBytes e → form.line e ≡ line_in json e)

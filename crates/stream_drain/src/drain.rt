@@ -14,7 +14,6 @@ use crate::failure::Failure;
 use crate::lines::{Fault, Lines};
 use crate::report::Report;
 use anyhow::{Error, Result as AnyResult, anyhow};
-use worker_journal::LogFile;
 use redis_connection::{AskError, Connection, ConnectionError, Wait};
 use redis_streams::StreamInfoGroupsReply;
 use redis_wire::Fault as WireFault;
@@ -26,6 +25,7 @@ use stream_commands::xinfo_groups;
 use worker::confirm::{RoundError, round_confirmed};
 use worker::dead_letters::DeadLetterSearch;
 use worker::{Asked, Handler, Pipelined, Progress, RequestError, Round, RunError, Worker};
+use worker_journal::LogFile;
 
 /// The limit on the buffer of a connection, as in `Limits::default`.
 const LARGEST: &str = "1 GiB";

@@ -1,10 +1,9 @@
 //! Why the program failed.
 use anyhow::Error;
-use redis_connection::AskError;
-use redis_connection::ConfirmError;
-use worker::dead_letters::SearchError;
-use worker::RunError;
+use redis_connection::{AskError, ConfirmError};
 use thiserror::Error as AnError;
+use worker::RunError;
+use worker::dead_letters::SearchError;
 
 /// Why the program failed.
 #[derive(Debug, Drop, AnError)]

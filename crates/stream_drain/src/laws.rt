@@ -15,7 +15,7 @@ pub fn gathers_its_lines()
     ensures { GathersItsLines }
 {}
 
-/// Each round over the lines is a round of a worker that did the entries of these lines. So the laws of `stream_worker`
+/// Each round over the lines is a round of a worker that did the entries of these lines. So the laws of `worker`
 /// hold for it: before an id is acknowledged its entry was done and committed, or the server reported that it was
 /// deleted. The loop reports exactly the deleted entries that the replies of its rounds report.
 pub fn rounds_are_lived()
@@ -34,7 +34,7 @@ pub fn resumed_is_lived()
     ensures { ResumedIsLived }
 {}
 
-/// The start of the program over the lines of entries is a start of `stream_system`, with the ids of the last of them.
+/// The start of the program over the lines of entries is a start of `model_workers::system`, with the ids of the last of them.
 /// For such starts its law says that no id is in a file twice.
 pub fn starts_over_its_file()
     ensures { StartsOverItsFile }
@@ -46,7 +46,7 @@ pub fn lines_tell_entries()
     ensures { LinesTellEntries }
 {}
 
-/// So the lines are a form of `stream_files`, in text and in JSON. The laws of `stream_files` and of `stream_system`
+/// So the lines are a form of `model_workers::files`, in text and in JSON. The laws of `model_workers::files` and of `model_workers::system`
 /// hold for them, for entries whose names and values are bytes, as all are.
 pub fn lines_are_a_form()
     ensures { LinesAreAForm }
@@ -60,21 +60,21 @@ pub fn no_id_is_twice()
     ensures starts { StartsLookingUp }
 {}
 
-/// The consumer of `stream_failover` searches its file too. The entries of a reply, a commit, and a crash with the
+/// The consumer of `model_server::failover` searches its file too. The entries of a reply, a commit, and a crash with the
 /// start after it change the handler's lines as they change that file. Its law says that no id is twice in that file,
 /// with any server.
 pub fn looks_up_as_the_model()
     ensures { LooksUpAsTheModel }
 {}
 
-/// With `--look-up` the worker and its file are the consumer of `stream_failover` after each schedule (`Runs` of
-/// `worker_failover`): of rounds, failures, crashes with the start after them, and failovers. So no id has two lines. A
+/// With `--look-up` the worker and its file are the consumer of `model_server::failover` after each schedule (`Runs` of
+/// `model_workers::failover`): of rounds, failures, crashes with the start after them, and failovers. So no id has two lines. A
 /// start over a file whose ids are known is one of those.
 ///
 /// With `--wait`, and a producer that sends WAIT too, each entry of the file is in the log after any failover, and is
 /// delivered to nobody as new. Each record that the producer counted as added is not yet delivered, or pending, or a
 /// line, or was deleted. After a stream is drained, the file has each record once. The premises are those of
-/// `worker_failover`.
+/// `model_workers::failover`.
 pub fn is_the_consumer_of_failover()
     ensures looks_up { LinesLookUp }
     ensures starts { StartsOverTheModel }

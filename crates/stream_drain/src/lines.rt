@@ -21,12 +21,12 @@ use crate::json_lines::json_line;
 use crate::resume::ids_told;
 use crate::there::{There, what_is_at};
 use anyhow::Result as AnyResult;
-use worker_journal::known_ids::{FileError, KnownIds, number_of, numbers_of_file};
-use worker_journal::{LineLog, LogError, LogFile, push_escaped, push_field};
 use std::alloc::{AllocError, Global};
 use stream_in_place::FieldsRef;
-use worker::{EntryRef, Handler, NotCommitted, Verdict};
 use thiserror::Error;
+use worker::{EntryRef, Handler, NotCommitted, Verdict};
+use worker_journal::known_ids::{FileError, KnownIds, number_of, numbers_of_file};
+use worker_journal::{LineLog, LogError, LogFile, push_escaped, push_field};
 
 /// Why a line was not gathered, or not committed.
 #[derive(Debug, Drop, Error)]

@@ -42,15 +42,15 @@ use crate::report::Report;
 use crate::resume::{Start, begun};
 use anyhow::{Context, Error, Result, anyhow};
 use command_lines::{remedy_of, tell};
-use worker_journal::{LogError, SystemFile};
 use redis_connection::Connection;
 use redis_wire::Limits;
 use std::alloc::{AllocError, Global};
 use std::io::ErrorKind;
 use std::process::ExitCode;
 use std::{env, io};
-use worker::dead_letters::{DeadLetterSearch, GiveUp};
 use worker::Settings;
+use worker::dead_letters::{DeadLetterSearch, GiveUp};
+use worker_journal::{LogError, SystemFile};
 
 fn main(rt: HostRuntime) -> Result<ExitCode> {
     let words = read_arguments(&rt)?;

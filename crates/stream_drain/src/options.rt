@@ -1,10 +1,9 @@
 //! The arguments of the program.
 ghost use Rattle.std.specs.Prelude.{◌≡◌, ◌≤◌, ◌⊎◌, length, IfErr, IfOk, IsTrue, None};
 ghost use Rattle.clap.specs.Words.{found_of, kind_of};
-ghost use Rattle.command_lines.specs.Worker.{Waits};
+ghost use Rattle.command_lines.specs.WorkerSettings.{Waits};
 ghost use Rattle.stream_drain.specs.Options.{AreOptions};
 
-use redis_connection::Wait;
 use crate::resume::LARGEST_COUNT;
 use clap::error::ErrorKind;
 use clap::{ArgMatches, Command, Error};
@@ -12,9 +11,10 @@ use command_lines::{
     BLOCK, EVERY, IDLE, Number, command, confirmation_of, dead, flag, from, give_up_of, matches_of,
     name, refused, settings_of, wait, word_of,
 };
+use redis_connection::Wait;
 use std::alloc::{AllocError, Global};
-use worker::dead_letters::GiveUp;
 use worker::Settings;
+use worker::dead_letters::GiveUp;
 
 /// The options of the program.
 #[derive(Drop)]

@@ -12,9 +12,9 @@ ghost use Rattle.worker.specs.Session.{standing_of};
 
 use crate::lines::Lines;
 use anyhow::{Result, bail};
-use worker_journal::{LogFile, entry_in};
 use std::alloc::{AllocError, Global};
 use worker::{Handler, Settings, Worker};
+use worker_journal::{LogFile, entry_in};
 
 /// The largest `COUNT`, so no commit has more lines.
 pub const LARGEST_COUNT: usize = 10_000;

@@ -4,8 +4,8 @@ ghost use Rattle.worker_journal.specs.KnownIds.Told.{begins};
 ghost use Rattle.worker_journal.specs.Holds.{committed_in};
 ghost use Rattle.stream_drain.specs.There.{OfAll, begun, ends, ends_text, found_in, has_id, has_line, there};
 
-use worker_journal::{LineLog, LogError, LogFile};
 use std::alloc::Global;
+use worker_journal::{LineLog, LogError, LogFile};
 
 const JSON_HEAD: &[u8] = b"{\"id\":\"";
 

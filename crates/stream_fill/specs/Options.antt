@@ -3,7 +3,7 @@ use Rattle.std.specs.Prelude.{◌≡◌, ◌-◌, ◌^◌, ℕ, List, None, Opti
 use Rattle.clap.specs.Words.{first_value, one_text}
 use Rattle.clap.specs.declared.parser.matches.Found.{Found}
 use Rattle.command_lines.specs.Numbers.{number_of}
-use Rattle.command_lines.specs.Worker.{IsFlag, IsNumber, IsWord, Waits, word_in}
+use Rattle.command_lines.specs.WorkerSettings.{IsFlag, IsNumber, IsWord, Waits, word_in}
 use Rattle.stream_options.specs.Trim.{max_len, min_id, unlimited}
 use Rattle.stream_options.specs.View.{mode_of, strategy_of}
 use Rattle.stream_options.specs.declared.options.trim.StreamTrimmingMode.{StreamTrimmingMode}

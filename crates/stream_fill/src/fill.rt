@@ -7,8 +7,8 @@ use crate::counts::Counts;
 use redis_connection::{Connection, Wait};
 use std::alloc::Global;
 use std::io::{Read, Write};
-use worker_producer::{Asked, ConfirmedError, Producer, Settings, Source};
 use thiserror::Error;
+use worker_producer::{Asked, ConfirmedError, Producer, Settings, Source};
 
 /// Why not all records were added.
 #[derive(Debug, Drop, Error)]

@@ -5,8 +5,8 @@ use base64::DecodeAllocError;
 use base64::engine::general_purpose::STANDARD;
 use json::{Scratch, Value};
 use std::alloc::{AllocError, AllocFailed, Global};
-use worker_producer::{Field, Record};
 use thiserror::Error;
+use worker_producer::{Field, Record};
 
 /// Why a line is not a record.
 #[derive(Clone, Copy, Debug, Error)]

@@ -8,13 +8,13 @@ ghost use Rattle.stream_fill.specs.Base.{BeginsWithNumber, FindsBase, HasNoBase,
 
 use crate::split::split_at_byte;
 use itoa::Buffer;
-use worker_journal::{LogError, LogFile};
 use redis_connection::Connection;
 use std::alloc::{AllocError, Global};
 use std::io::{Read, Write};
 use std::str;
-use worker_producer::{RunError, ask_last_id};
 use thiserror::Error;
+use worker_journal::{LogError, LogFile};
+use worker_producer::{RunError, ask_last_id};
 
 /// Why no base was found.
 #[derive(Debug, Drop, Error)]

@@ -34,13 +34,13 @@ use crate::lines::Lines;
 use crate::options::{Options, options_of};
 use anyhow::{Error, Result, anyhow, bail};
 use command_lines::tell;
-use worker_journal::{LogError, SystemFile};
 use redis_connection::Connection;
 use redis_wire::Limits;
 use std::alloc::{AllocError, Global};
 use std::io::{ErrorKind, Read, Write};
 use std::process::ExitCode;
 use std::{env, io};
+use worker_journal::{LogError, SystemFile};
 use worker_producer::{ConfirmedError, RequestError, RunError, Settings};
 
 fn main(rt: HostRuntime) -> Result<ExitCode> {

@@ -4,16 +4,16 @@ ghost use Rattle.clap.specs.Words.{found_of};
 ghost use Rattle.command_lines.specs.Numbers.{number_of};
 ghost use Rattle.stream_fill.specs.Options.{AreOptions, AreSettings, HasForm, HasMode, TrimsBy};
 
-use redis_connection::Wait;
 use crate::lines::Form;
 use clap::{ArgMatches, Command, Error};
 use command_lines::{
     Number, command, confirmation_of, flag, matches_of, name, refused, refused_value, text, wait,
     word_of,
 };
+use redis_connection::Wait;
 use std::alloc::{AllocError, Global};
-use worker_producer::Settings;
 use stream_options::{StreamTrimStrategy, StreamTrimmingMode};
+use worker_producer::Settings;
 
 /// The options of the program.
 #[derive(Drop)]

@@ -1,7 +1,7 @@
 -- The options of the program, by the matches of clap in its command line.
 use Rattle.std.specs.Prelude.{codes}
 use Rattle.clap.specs.declared.parser.matches.Found.{Found}
-use Rattle.command_lines.specs.Worker.{AreSettings, GivesUp, IsFlag, IsWord}
+use Rattle.command_lines.specs.WorkerSettings.{AreSettings, GivesUp, IsFlag, IsWord}
 use Rattle.stream_run.specs.declared.options.Options.{Options}
 
 -- the worker's settings are those of the command line, it ends by `--until-empty` and gives up by `--dead`; the child

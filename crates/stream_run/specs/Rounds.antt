@@ -32,7 +32,7 @@ module _ (settings : Settings) where
     pub rounds : Rounds old w between before
     pub breaks : Breaks between new before x
 
--- the law: the state of a worker after such rounds is one of the law of `stream_jobs`
+-- the law: the state of a worker after such rounds is one of the law of `worker_jobs`
 abbrev pub RoundsAreReached : Type 0
 RoundsAreReached = (settings : Settings) (stream sent coming : List ℕ) (old new : Link) (w x : Standing Talk)
     (deleted : List Id) → Reaches settings stream sent coming w deleted → Rounds settings old w new x

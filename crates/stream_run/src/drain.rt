@@ -11,9 +11,9 @@ use redis_connection::{Connection, ConnectionError};
 use redis_wire::Fault as WireFault;
 use std::alloc::{AllocError, Global};
 use std::io::{Read, Write};
-use worker_jobs::{Fault, Jobs, Note, SteadyRead, SteadyWrite};
 use worker::dead_letters::DeadLetterSearch;
 use worker::{Asked, Handler, Pipelined, Round, RunError, Worker};
+use worker_jobs::{Fault, Jobs, Note, SteadyRead, SteadyWrite};
 
 /// The limit on the buffer of a connection, as in `Limits::default`.
 const LARGEST: &str = "1 GiB";

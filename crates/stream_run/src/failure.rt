@@ -2,9 +2,9 @@
 use anyhow::Error;
 use std::alloc::AllocError;
 use std::io;
-use worker::dead_letters::SearchError;
-use worker::RunError;
 use thiserror::Error as AnError;
+use worker::RunError;
+use worker::dead_letters::SearchError;
 
 /// Why the program failed.
 #[derive(Debug, Drop, AnError)]

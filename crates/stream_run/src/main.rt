@@ -39,9 +39,9 @@ use std::env;
 use std::fs::{File, OpenOptions};
 use std::io::{self, BufReader};
 use std::process::ExitCode;
-use worker_jobs::Jobs;
 use worker::dead_letters::{DeadLetterSearch, GiveUp};
 use worker::{Settings, Worker};
+use worker_jobs::Jobs;
 
 /// The exit status if the child sends no valid reply.
 const CHILD_FAILED: u8 = 4;

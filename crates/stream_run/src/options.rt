@@ -10,8 +10,8 @@ use command_lines::{
     settings_of, text, word_of,
 };
 use std::alloc::{AllocError, Global};
-use worker::dead_letters::GiveUp;
 use worker::Settings;
+use worker::dead_letters::GiveUp;
 
 /// The options of the program.
 #[derive(Drop)]

@@ -5,12 +5,12 @@
 #![tactic(auto)]
 
 use anyhow::{Result, bail};
+use server_commands::{Client, Server};
 use std::alloc::Global;
 use std::io::{Read, Write};
 use std::rt::Clock;
 use std::time::{SystemTime, UNIX_EPOCH};
 use std::{env, io};
-use server_commands::{Client, Server};
 
 /// Replies to commands until the input or the connection ends. The replies to what came in one piece
 /// go out in one piece.

@@ -3,7 +3,7 @@ use Rattle.std.specs.Prelude.{◌≡◌, ◌≢◌, [], ℕ, IfSome, List, None,
 use Rattle.std.specs.declared.alloc.Global.{Global}
 use Rattle.clap.specs.Words.{first_value}
 use Rattle.clap.specs.declared.parser.matches.Found.{Found}
-use Rattle.command_lines.specs.Worker.{AreSettings, GivesUp, IsFlag, IsWord, word_in}
+use Rattle.command_lines.specs.WorkerSettings.{AreSettings, GivesUp, IsFlag, IsWord, word_in}
 use Rattle.worker.specs.declared.dead_letters.search.GiveUp.{GiveUp}
 use Rattle.stream_sqlite.specs.declared.options.Options.{Options}
 

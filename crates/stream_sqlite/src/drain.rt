@@ -12,13 +12,13 @@ use crate::report::Report;
 use anyhow::{Error, Result, anyhow, bail};
 use redis_connection::{Connection, ConnectionError};
 use redis_wire::Fault as WireFault;
-use worker_table::row_table::{Table, TableError};
 use std::alloc::Global;
 use std::io::{Read, Write};
 use stream_in_place::FieldError;
 use worker::dead_letters::DeadLetterSearch;
-use worker_table::{Fault, Rows};
 use worker::{Asked, Handler, Pipelined, Progress, RequestError, Round, RunError, Worker};
+use worker_table::row_table::{Table, TableError};
+use worker_table::{Fault, Rows};
 
 /// The limit on what a connection holds, as `Limits::default` has it.
 const LARGEST: &str = "1 GiB";

@@ -39,9 +39,7 @@ use anyhow::{Context, Error, Result, anyhow};
 use command_lines::tell;
 use redis_connection::Connection;
 use redis_wire::Limits;
-use worker_table::row_table::{Column, Kind, Table, TableError, WithOutbox};
 use sqlite::{Alter, File as DatabaseFile, FileStore};
-use worker_sqlite::{Form, OUTBOX, OUTBOX_CREATE, OpenError, SqliteOutbox, SqliteTable};
 use std::alloc::{AllocError, Global};
 use std::fs::File;
 use std::io::{Read, Write};
@@ -49,8 +47,10 @@ use std::os::unix::fs::FileExt;
 use std::process::ExitCode;
 use std::{env, io};
 use worker::dead_letters::{DeadLetterSearch, GiveUp};
-use worker_table::{Forwarding, Rows, target_of};
 use worker::{Settings, Worker};
+use worker_sqlite::{Form, OUTBOX, OUTBOX_CREATE, OpenError, SqliteOutbox, SqliteTable};
+use worker_table::row_table::{Column, Kind, Table, TableError, WithOutbox};
+use worker_table::{Forwarding, Rows, target_of};
 
 fn main(rt: HostRuntime) -> Result<ExitCode> {
     let words = words_of(&rt)?;

@@ -1,7 +1,7 @@
 //! The arguments of the program.
 ghost use Rattle.std.specs.Prelude.{◌≡◌, ◌≤◌, [], length, IfOk, None, codes};
 ghost use Rattle.clap.specs.Words.{first_value, found_of};
-ghost use Rattle.command_lines.specs.Worker.{GivesUp, IsWord};
+ghost use Rattle.command_lines.specs.WorkerSettings.{GivesUp, IsWord};
 ghost use Rattle.stream_sqlite.specs.Options.{AreOptions, ForwardsTo, IsOtherThan};
 
 use clap::builder::ValueParser;
@@ -10,11 +10,11 @@ use command_lines::{
     BLOCK, EVERY, IDLE, Number, command, dead, flag, from, give_up_of, matches_of, name,
     refused_value, settings_of, text, word_of,
 };
-use worker_table::row_table::{Column, Kind};
-use worker_sqlite::OUTBOX;
 use std::alloc::{AllocError, Global};
-use worker::dead_letters::GiveUp;
 use worker::Settings;
+use worker::dead_letters::GiveUp;
+use worker_sqlite::OUTBOX;
+use worker_table::row_table::{Column, Kind};
 
 /// The table, if none is named.
 pub const TABLE: &str = "entries";

@@ -35,8 +35,8 @@ use std::env::{Env, FillError};
 use std::io;
 use std::io::{Read, Write};
 use std::process::ExitCode;
-use stream_commands::{AtLeastOne, xinfo_stream_full_count, xread_options};
 use stream_commands::monitor::group_state::{GroupState, group_state};
+use stream_commands::{AtLeastOne, xinfo_stream_full_count, xread_options};
 use stream_options::StreamReadOptions;
 use unicode_width::UnicodeWidthStr;
 

@@ -10,21 +10,6 @@
 ghost use Rattle.std.specs.Prelude.{ℕ, List, None};
 
 use anyhow::{Result, bail};
-use worker_journal::{LineLog, LogError, LogFile, MemoryFile, TornFile, entry_in, push_escaped, repair};
-use redis::sentences::SentenceError;
-use redis::streams::{
-    StreamInfoFullReply, StreamInfoGroupsReply, StreamPendingCountReply, StreamRangeReply,
-    StreamReadOptions, StreamReadReply,
-};
-use redis::wire::{Decoded, Limits, Reply, decode};
-use redis::{ParsingError, RawBytes, ToRedisArgs, Value, from_redis_value};
-use std::alloc::{AllocError, Global};
-use std::fmt::Debug;
-use std::io;
-use std::io::{ErrorKind, Write};
-use model_workers::files::log;
-use stream_commands::monitor::group_state::group_state;
-use test_notation::read_value;
 use examples::batch::sort_out;
 use examples::caller::{order_bytes, order_id};
 use examples::deletion::{acknowledgement_of, deletion_of, is_left, was_pending};
@@ -36,6 +21,23 @@ use examples::stalled::{claim_arguments, stalled_in};
 use examples::wire::{AnswerError, streams_answered, streams_of_both};
 use examples::worker::{acknowledge_arguments, ids_answered, ids_to_acknowledge};
 use examples::{readme, worker};
+use model_workers::files::log;
+use redis::sentences::SentenceError;
+use redis::streams::{
+    StreamInfoFullReply, StreamInfoGroupsReply, StreamPendingCountReply, StreamRangeReply,
+    StreamReadOptions, StreamReadReply,
+};
+use redis::wire::{Decoded, Limits, Reply, decode};
+use redis::{ParsingError, RawBytes, ToRedisArgs, Value, from_redis_value};
+use std::alloc::{AllocError, Global};
+use std::fmt::Debug;
+use std::io;
+use std::io::{ErrorKind, Write};
+use stream_commands::monitor::group_state::group_state;
+use test_notation::read_value;
+use worker_journal::{
+    LineLog, LogError, LogFile, MemoryFile, TornFile, entry_in, push_escaped, repair,
+};
 
 /// The outcome of a case, if its kind is `caller`.
 pub fn outcome(alloc: Global, kind: &str, input: &str) -> Result<Option<String>> {

@@ -15,11 +15,11 @@
 //! outcome is the master of the slot, and each shard. Most of their replies came from redis-server.
 
 use anyhow::Result;
-use redis_client::topology::{Node, Role, Shard, Topology, TopologyError};
 use hex::FromHexError;
 use redis_client::cluster::{
     ClusterError, NextStep, cluster_error, key_slot, partition_name, partition_of,
 };
+use redis_client::topology::{Node, Role, Shard, Topology, TopologyError};
 use redis_resp::Value;
 use redis_wire::{Decoded, Limits, Reply, decode};
 use std::alloc::{AllocError, Global};

@@ -13,7 +13,7 @@
 //! | `consumers`, `groups` | XINFO CONSUMERS, XINFO GROUPS |
 //! | `xdelex`, `xackdel` | a status code of XDELEX, of XACKDEL |
 //!
-//! The outcome is the text of the record, or the refusal. The text is the printed form of `stream_text`.
+//! The outcome is the text of the record, or the refusal. The text is the printed form of `test_notation`.
 //! `pending` is the printed form and `Debug`, as the printed form leaves out for how long a consumer has
 //! been idle. `justid` is `Debug` alone, as the record has no printed form.
 ghost use Rattle.test_cases.specs.Kinds.{is_info, is_other, is_reply, is_row};

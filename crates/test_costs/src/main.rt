@@ -2,9 +2,9 @@
 //! on a value, or a reading of the bytes of an XREADGROUP's answer.
 //!
 //! ```text
-//! reply_bench range owned 100 1000      # reads a range of 1000 entries, a hundred times, by value
-//! reply_bench fields 100 1000 array     # all ids and fields of 1000 entries in place, a hundred times
-//! reply_bench print 1 1000 map          # writes the answer itself to standard output
+//! test_costs range owned 100 1000      # reads a range of 1000 entries, a hundred times, by value
+//! test_costs fields 100 1000 array     # all ids and fields of 1000 entries in place, a hundred times
+//! test_costs print 1 1000 map          # writes the answer itself to standard output
 //! ```
 //!
 //! Four words are a job, and further fours are further jobs. The words of an operation are its name,

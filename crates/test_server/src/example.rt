@@ -2,9 +2,9 @@
 mod loopback;
 
 use redis_wire::{Decoded, Limits, Reply, command_words, decode};
+use server_commands::{Protocol, Server, Session, append_reply};
 use std::alloc::{AllocError, Global};
 use std::test::Fail;
-use server_commands::{Protocol, Server, Session, append_reply};
 use worker::{
     EntryRef, Handler, MakeGroup, NotCommitted, Settings, SettingsError, Verdict, Worker,
 };

@@ -1,8 +1,8 @@
 //! Numbers of ids, what is known, and what files tell. Each outcome is worked out by hand.
-use worker_journal::known_ids::{FileError, KnownId, KnownIds, number_of, numbers_of_file};
-use worker_journal::{LogError, MemoryFile};
 use std::alloc::AllocError;
 use std::process::Abort;
+use worker_journal::known_ids::{FileError, KnownId, KnownIds, number_of, numbers_of_file};
+use worker_journal::{LogError, MemoryFile};
 
 /// The number of an id.
 fn id(ms: u64, seq: u64) -> u128 {

@@ -28,17 +28,17 @@
 //! Of a line is printed how many runs it had and what happened in them. Then how many files differ from
 //! what went in, and how many of these have a line twice, lack one, or have one of no record. If none of
 //! that is so, the lines are in another order.
-use worker_journal::{LineLog, LogFile, TornFile, entry_in, push_escaped, push_field};
-use redis_wire::{Decoded, Limits, Reply, ReplyStream, WireError, decode};
 use crate::push_line;
+use redis_wire::{Decoded, Limits, Reply, ReplyStream, WireError, decode};
+use server_commands::{Client, Server};
 use std::alloc::{AllocError, Global};
 use std::mem;
-use worker_producer::{FeedError, Producer, Record, Settings as FeedSettings, Stage};
-use server_commands::{Client, Server};
 use worker::{
     AnswerError, EntryRef, Handler, InPlaceError, MakeGroup, NotCommitted, Progress, RequestError,
     Settings, Verdict, Worker, WorkerError,
 };
+use worker_journal::{LineLog, LogFile, TornFile, entry_in, push_escaped, push_field};
+use worker_producer::{FeedError, Producer, Record, Settings as FeedSettings, Stage};
 
 /// What the words of a line say of its runs.
 #[derive(Clone, Copy)]

@@ -33,11 +33,11 @@ mod workers;
 
 use crate::workers::{connection, letters, poison, streams};
 use redis_wire::{Decoded, Limits, Reply, WireError, command_words, decode};
+use server_commands::{Client, Protocol, Server, Session, append_reply};
 use std::alloc::{AllocError, Global};
 use std::io;
 use std::io::{Read, Write};
 use std::process::ExitCode;
-use server_commands::{Client, Protocol, Server, Session, append_reply};
 use worker::Settings;
 
 /// Memory ran out, or standard input or output failed.

@@ -22,10 +22,10 @@ use crate::outbox::work::Tells;
 use crate::{number_of, parted, push_exchange, settings_for, text_of};
 use redis_connection::{Connection, ConnectionError};
 use redis_wire::Limits;
+use server_commands::{Loopback, Server};
 use std::alloc::{AllocError, Global};
 use std::io::{ErrorKind, Read, Write};
 use worker::outbox::{OutboxError, PostError, Posting};
-use server_commands::{Loopback, Server};
 use worker::{Handler, MakeGroup, NotCommitted, RequestError, RunError, Worker};
 
 /// Plays a worker with an outbox; false if the script is another one.

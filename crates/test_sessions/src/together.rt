@@ -17,9 +17,9 @@ ghost use Rattle.test_sessions.specs.Scripts.{is_together_script};
 
 use crate::{answered, number_of, parted, protocol_of, push_line, settings_for, told};
 use redis_wire::{Decoded, Limits, ReplyStream, WireError, append_answer, command_words, decode};
+use server_commands::{Protocol, Server, Session};
 use std::alloc::{AllocError, Global};
 use std::mem;
-use server_commands::{Protocol, Server, Session};
 use worker::{
     AnswerError, EntryRef, Handler, InPlaceError, MakeGroup, NotCommitted, RequestError, Verdict,
     Worker, WorkerError,

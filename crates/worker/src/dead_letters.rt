@@ -3,7 +3,7 @@
 //!
 //! `DeadLetterSearch::turn` is called before each command of a worker. It sends XPENDING before the first command and
 //! before each claim. It claims entries that were delivered too often with XCLAIM, and moves them with `DeadLetters` of
-//! `stream_worker` over the same connection.
+//! `worker` over the same connection.
 
 mod error;
 mod search;

@@ -6,7 +6,7 @@ ghost use Rattle.worker.specs.Life.{OnlyCommittedIsAcknowledged, SessionsAreLive
 ghost use Rattle.worker.specs.Session.{FailuresBeginAgain};
 ghost use Rattle.worker.specs.Step.{AnswersStayInStep, CutsStayInStep, RequestsStayInStep};
 
-/// The laws of `stream_group`, for entries with fields. Each entry that was ever added is not yet delivered, or
+/// The laws of `model_server::group`, for entries with fields. Each entry that was ever added is not yet delivered, or
 /// pending, or handled and committed, or deleted.
 pub fn nothing_is_lost()
     ensures kept { EachEntryIsKept Pairs }

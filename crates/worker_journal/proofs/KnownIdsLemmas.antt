@@ -1,4 +1,4 @@
 -- Lemmas on known ids, and on the lines of a file.
-mod KnownLemmas
-mod FileLemmas
+pub mod KnownLemmas
+pub mod FileLemmas
 pub mod NumberLemmas

@@ -1,4 +1,4 @@
--- The confirmed rounds, breaks and starts of a producer's code are events of `stream_failover`.
+-- The confirmed rounds, breaks and starts of a producer's code are events of `model_server::failover`.
 use Rattle.std.proofs.Common.{◌≡◌, ◌<◌, ◌≤◌, refl, sym, ap, subst, ◌∙◌, arith, true, false, ℕ, List, [], ◌∷◌, ◌++◌}
 use Rattle.std.proofs.Common.{length, take, drop, append-nil, Option, Some, None}
 use Rattle.std.proofs.lemmas.Bool.{false≢true, and_from, not_from_false, lt-ltb, le-ltb}

@@ -1,4 +1,4 @@
--- The rounds, breaks and starts of a producer's code are events of `stream_once`.
+-- The rounds, breaks and starts of a producer's code are events of `model_server::once`.
 use Rattle.std.proofs.Common.{◌≡◌, ◌+◌, ◌<◌, ◌≤◌, refl, sym, ap, subst, ◌∙◌, arith, true, false, ℕ, zero, suc, List, [], ◌∷◌, ◌++◌}
 use Rattle.std.proofs.Common.{length, take, drop, append_assoc, append-nil, Option, Some, None}
 use Rattle.std.proofs.lemmas.List.{length-append, length-map}

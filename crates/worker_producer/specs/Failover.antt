@@ -1,4 +1,4 @@
--- A producer's code whose rounds are confirmed by WAIT is the producer of `stream_failover`, whose server may go back
+-- A producer's code whose rounds are confirmed by WAIT is the producer of `model_server::failover`, whose server may go back
 -- to an earlier state.
 use Rattle.std.specs.Prelude.{◌≡◌, ◌≤◌, ◌<◌, ℕ, Bool, List, [], ◌∷◌, ◌++◌, length, Option, Some}
 use Rattle.redis_connection.specs.Link.{Link}

@@ -1,4 +1,4 @@
--- A producer's code is the producer of `stream_once`. Its rounds, those that break off, and its starts are events of
+-- A producer's code is the producer of `model_server::once`. Its rounds, those that break off, and its starts are events of
 -- that model.
 use Rattle.std.specs.Prelude.{◌≡◌, ◌≤◌, ◌<◌, ℕ, zero, suc, Bool, List, [], ◌∷◌, ◌++◌, length, Option, Some, None}
 use Rattle.std.specs.Prelude.{string_bytes}

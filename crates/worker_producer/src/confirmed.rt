@@ -3,13 +3,11 @@ ghost use Rattle.std.specs.Prelude.{◌≡◌, IfErr, IfOk, OnErr};
 ghost use Rattle.worker_producer.specs.Confirmed.{BreaksConfirmed, Confirms, ConfirmsNot, IsConfirmedRound};
 ghost use Rattle.worker_producer.specs.Machine.{idle, standing_of};
 
-use redis_connection::ConfirmError;
 use crate::error::RunError;
 use crate::producer::Producer;
 use crate::source::Source;
 use crate::stage::Asked;
-use redis_connection::Wait;
-use redis_connection::Connection;
+use redis_connection::{ConfirmError, Connection, Wait};
 use std::alloc::Global;
 use std::io::{Read, Write};
 use thiserror::Error;

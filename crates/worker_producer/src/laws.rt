@@ -8,7 +8,7 @@ ghost use Rattle.worker_producer.specs.Schedule.{RunsAreEvents, SessionsRun, Sta
 ghost use Rattle.worker_producer.specs.Step.{AnswersStayInStep, BreaksStayInStep, RequestsStayInStep};
 ghost use Rattle.model_server.specs.Once.Law.{DoneIsAll, KnownIsIn, LogGrows, LogIsFirstRecords, LogOnce};
 
-/// The laws of `stream_once`, for records with fields: the stream has the first records, in order, each once, with its
+/// The laws of `model_server::once`, for records with fields: the stream has the first records, in order, each once, with its
 /// own fields. As many records as the producer knows to be added are in the stream. Nobody else adds to the stream.
 pub fn nothing_twice()
     ensures first { LogIsFirstRecords Fields }
@@ -26,7 +26,7 @@ pub fn stays_in_step()
     ensures breaks { BreaksStayInStep }
 {}
 
-/// The contracts of `Producer::round`, `disconnected` and `new` are events of the producer of `stream_once`: a round
+/// The contracts of `Producer::round`, `disconnected` and `new` are events of the producer of `model_server::once`: a round
 /// that returns Ok, one that breaks off, and a crash with the start after it. So after each schedule of them (`Runs`)
 /// the producer is that of the model, and each round sends the bytes of the model's commands. The rounds of a session
 /// are such rounds, and so are those of one that breaks off.
@@ -62,7 +62,7 @@ pub fn rounds_without_wait_are_rounds()
     ensures none { NoneIsUnconfirmed }
 {}
 
-/// A producer whose rounds are confirmed by WAIT (`Producer::round_confirmed`) is that of `stream_failover`, in which
+/// A producer whose rounds are confirmed by WAIT (`Producer::round_confirmed`) is that of `model_server::failover`, in which
 /// the server may go back to an earlier state. It is so after each schedule of such rounds, of rounds that break off or
 /// are not confirmed, of crashes and of failovers. So as many records as it counts as added are in the log, and stay
 /// there. If a round sends nothing, the log is all records, and stays so. Nobody else adds to the stream.

@@ -3,9 +3,9 @@ ghost use Rattle.std.specs.Prelude.{◌≡◌};
 ghost use Rattle.worker_table.specs.declared.row_table.error.TableError.TheVariants.{Memory};
 ghost use Rattle.worker_sqlite.specs.declared.error.OpenError.TheVariants.{Table};
 
-use worker_table::row_table::TableError;
 use std::alloc::AllocError;
 use thiserror::Error;
+use worker_table::row_table::TableError;
 
 /// Why a table was not opened.
 #[derive(Debug, Drop, Error)]

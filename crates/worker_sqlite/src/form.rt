@@ -3,8 +3,8 @@ ghost use Rattle.std.specs.Prelude.{◌≡◌, ◌++◌, ◌-◌, codes, flat_ma
 ghost use Rattle.worker_sqlite.specs.Form.{IsFormOf, IsUsual, column_text, condition_text, create_text, holds_text, insert_many_text, insert_text};
 ghost use Rattle.worker_sqlite.specs.Form.{kind_text, more_places_text, null_text, places_text, quoted, quoted_byte, usual_create, usual_holds, usual_insert, value_text};
 
-use worker_table::row_table::{Column, Kind, ROWS_AT_ONCE, TableError};
 use std::alloc::Global;
+use worker_table::row_table::{Column, Kind, ROWS_AT_ONCE, TableError};
 
 const CREATE: &str =
     "CREATE TABLE entries (milliseconds INTEGER NOT NULL, sequence INTEGER NOT NULL, fields TEXT NOT NULL, PRIMARY KEY (milliseconds, sequence)) STRICT";

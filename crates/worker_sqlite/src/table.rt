@@ -11,11 +11,11 @@ ghost use Rattle.worker_sqlite.specs.Statements.{Found, IsMade, IsNamed, IsNamed
 use crate::error::OpenError;
 use crate::form::Form;
 use crate::values::{values_of, values_of_all};
-use worker_table::row_table::{ROWS_AT_ONCE, Row, Table, TableError};
 use sqlite::types::ValueRef;
 use sqlite::{Alter, Connection, Error, ErrorCode, File, FileStore};
 use sqlite_resolve::CompileError;
 use std::alloc::Global;
+use worker_table::row_table::{ROWS_AT_ONCE, Row, Table, TableError};
 
 mod outbox;
 

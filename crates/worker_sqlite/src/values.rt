@@ -8,9 +8,9 @@ ghost use Rattle.worker_table.specs.RowTable.Posts.{post_for};
 ghost use Rattle.worker_sqlite.specs.Outbox.{post_values};
 ghost use Rattle.worker_sqlite.specs.Statements.{key_values, row_values, value_of, values_of};
 
-use worker_table::row_table::{Cell, PostedRow, Row, TableError};
 use sqlite::types::ValueRef;
 use std::alloc::{AllocError, Global};
+use worker_table::row_table::{Cell, PostedRow, Row, TableError};
 
 /// The key of a row and its values.
 pub fn values_of<'a>(alloc: Global, row: &'a Row) -> Result<Vec<ValueRef<'a>>, TableError>

@@ -1,4 +1,4 @@
 pub mod RowsLemmas
-mod PutLemmas
+pub mod PutLemmas
 pub mod PostsLemmas
 pub mod SentLemmas

@@ -10,10 +10,10 @@ ghost use Rattle.worker.specs.Handling.{pair_of, verdict_of};
 
 use crate::handler::{Fault, row_of_entry};
 use crate::posts::posted_row;
+use crate::row_table::{Column, PostedRow, TableError, WithOutbox, put_all_posted};
 use crate::sending::{SendError, send_posts};
 use redis_connection::Connection;
 use redis_wire::PackError;
-use crate::row_table::{Column, PostedRow, TableError, WithOutbox, put_all_posted};
 use std::alloc::Global;
 use std::io::{Read, Write};
 use worker::{EntryRef, Handler, NotCommitted, Verdict};

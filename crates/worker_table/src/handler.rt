@@ -10,8 +10,8 @@ use crate::columns::{CellsError, entry_cells};
 use crate::row_table::{Column, Row, Table, TableError, put_all};
 use std::alloc::Global;
 use stream_in_place::{FieldError, StreamIdParts};
-use worker::{EntryRef, Handler, NotCommitted, Verdict};
 use thiserror::Error;
+use worker::{EntryRef, Handler, NotCommitted, Verdict};
 
 /// A number of a key is below this one.
 const KEYS_END: u64 = 1 << 63;

@@ -13,7 +13,7 @@ pub fn gathers_its_rows()
 
 /// Each round over the rows is a round of a worker's life. In it some entries were done, and the rows of those
 /// that are not committed are what is gathered. The deleted entries are just those that the replies in its
-/// rounds reported. So the laws of `stream_worker` hold of it: before an id is acknowledged its entry was done
+/// rounds reported. So the laws of `worker` hold of it: before an id is acknowledged its entry was done
 /// and that was committed, or the server said that it was deleted.
 pub fn rounds_are_lived()
     ensures { RoundsAreLived }

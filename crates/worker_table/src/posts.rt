@@ -6,8 +6,8 @@ ghost use Rattle.worker_table.specs.RowTable.OfRow.{row_of};
 ghost use Rattle.worker_table.specs.Forwarded.{add_words, field_words, look_words};
 ghost use Rattle.worker.specs.Handling.{pair_of};
 
-use redis_wire::{PackError, pack_command};
 use crate::row_table::{PostedRow, Row};
+use redis_wire::{PackError, pack_command};
 use std::alloc::{AllocError, Global};
 use stream_in_place::FieldsRef;
 use worker::EntryRef;

@@ -7,10 +7,10 @@ ghost use Rattle.worker_table.specs.RowTable.OfPost.{post_of};
 ghost use Rattle.worker_table.specs.RowTable.Rows.{LeavesNoOther};
 ghost use Rattle.worker_table.specs.Forwarded.{AsksBy, HasSent, IsAdded, LeavesSent, has_entry, is_taken, is_too_small, look_words, shows_one};
 
+use crate::row_table::{Post, TableError, WithOutbox};
 use redis_connection::{Connection, ConnectionError};
 use redis_resp::Value;
 use redis_wire::{Reply, ServerError, pack_command};
-use crate::row_table::{Post, TableError, WithOutbox};
 use std::alloc::Global;
 use std::io::{Read, Write};
 use thiserror::Error;

@@ -13,7 +13,7 @@ unwritten ids (e ∷ es) = if listed ids e.0 then unwritten ids es else e ∷ un
 abbrev pub lines_of : {F : Type 0} → Consumer F → List (Entry F)
 lines_of c = c.file ++ c.lines
 
--- a reply comes to it. It is as in stream_once, but an entry whose id has a line is acknowledged without a second
+-- a reply comes to it. It is as in model_server::once, but an entry whose id has a line is acknowledged without a second
 abbrev pub looks_up : {F : Type 0} → List Verdict → Option (Answer F) → Consumer F → Consumer F
 looks_up verdicts None c = c
 looks_up verdicts (Some a) c = record (takes verdicts (Some a) c) {
@@ -30,7 +30,7 @@ pub data Move (F : Type 0) : Type 0 where
   Commits : Move F
   -- its connection breaks
   Reconnects : Move F
-  -- it crashes and is started again, as in stream_once
+  -- it crashes and is started again, as in model_server::once
   Restarts : (every kept more : ℕ) → Move F
 
 -- the consumer after it

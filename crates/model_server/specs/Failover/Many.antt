@@ -39,7 +39,7 @@ abbrev pub run_many : {F : Type 0} → Setting F → List (Name × Event F) → 
 run_many s [] m = m
 run_many s (e ∷ es) m = run_many s es (happens_to s m e.0 e.1)
 
--- the event claims nothing that another consumer has, as in stream_once
+-- the event claims nothing that another consumer has, as in model_server::once
 abbrev pub IsFair : {F : Type 0} → Many F → Name → Event F → Type 0
 IsFair m name (Plain event) = once.IsFair m.now name event
 IsFair m name (Arrive_waits executes asked said) = Unit {0}

@@ -20,7 +20,7 @@ first_world = record { now = once.first_world; kept = empty_world ∷ [] }
 
 -- what may happen next
 pub data Event (F : Type 0) : Type 0 where
-  -- an event of stream_once, but the consumer checks its file for each entry that it takes. An `Arrive` or an `Ask`
+  -- an event of model_server::once, but the consumer checks its file for each entry that it takes. An `Arrive` or an `Ask`
   -- of this kind comes without WAIT
   Plain : (event : once.Event F) → Event F
   -- what the producer sent comes to the server, with a WAIT for `asked` replicas after it; `said` of them confirm
@@ -69,7 +69,7 @@ waited s asked said kept break w = remembers
     (if is_confirmed asked said then [] else kept)
     (if is_confirmed asked said then w else once.happens s w break)
 
--- what an event of stream_once makes of its world, with a consumer that checks its file first
+-- what an event of model_server::once makes of its world, with a consumer that checks its file first
 abbrev pub plainly : {F : Type 0} → Setting F → once.World F → once.Event F → once.World F
 plainly s w (Take verdicts) = record w { consumer = looks_up verdicts w.consumer.answer w.consumer }
 plainly s w event = once.happens s w event

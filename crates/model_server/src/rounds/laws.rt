@@ -8,7 +8,7 @@ pub fn all_is_drained<F>()
     ensures { AllIsDrained F }
 {}
 
-/// Rounds are a schedule of `stream_group`, so each of its laws holds of them.
+/// Rounds are a schedule of `model_server::group`, so each of its laws holds of them.
 pub fn rounds_are_a_schedule<F>()
     ensures { RoundsAreASchedule F }
 {}

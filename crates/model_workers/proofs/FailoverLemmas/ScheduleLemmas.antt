@@ -1,4 +1,4 @@
--- After each schedule the worker is the consumer of `stream_failover`, and what holds of that holds of it.
+-- After each schedule the worker is the consumer of `model_server::failover`, and what holds of that holds of it.
 use Rattle.std.proofs.Common.{◌≡◌, ◌⊎◌, refl, sym, subst, ◌∙◌, ℕ, List, [], ◌∷◌, ◌++◌, Bool, true, false, Option, Some, map}
 use Rattle.std.proofs.Common.{if◌then◌else◌}
 use Rattle.redis_connection.specs.Link.{Link}

@@ -1,4 +1,4 @@
--- The calls of `line_log` in the words of the model.
+-- The calls of `worker_journal` in the words of the model.
 use Rattle.std.proofs.Common.{◌≡◌, ◌≤◌, sym, ap, subst, ◌∙◌, ℕ, Bool, true, false, List, ◌++◌, length, take, arith}
 use Rattle.std.proofs.Common.{Option, Some, IfSome, Result, Ok, Err, IfOk}
 use Rattle.worker_journal.specs.Device.{LeavesOnly}

@@ -198,7 +198,7 @@ module _ (form : Form) where
   settled_at f i id (inl h) = inl (h.0, placed_at f i (id, h.0) h.1)
   settled_at f i id (inr deleted) = inr deleted
 
--- the stream after these events is one of `stream_group`
+-- the stream after these events is one of `model_server::group`
 pub stream_after : (form : Form) (before : Name → List ℕ) (es : List Event)
     → (after form before es).stream ≡ group.run (of_all form (first_files before) es) empty_world
 stream_after form before es = alone form es (first_files before)

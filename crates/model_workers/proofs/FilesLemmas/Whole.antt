@@ -73,7 +73,7 @@ whole_behind ls torn are =
     ap whole_lines all ∙ whole_of (ls ++ s.lines) s.torn (lines_join ls s.lines are s.is.whole) s.is.torn_line
     ∙ ap (λ xs. ls ++ xs) (sym rest)
 
--- ---- as `line_log` has it
+-- ---- as `worker_journal` has it
 
 pub repairs_to_whole_lines : RepairsToWholeLines
 repairs_to_whole_lines bytes new r =

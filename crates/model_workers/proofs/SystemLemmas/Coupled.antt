@@ -1,4 +1,4 @@
--- Each move of a worker or of the server is some events of `stream_files`, and leaves the desks as they are.
+-- Each move of a worker or of the server is some events of `model_workers::files`, and leaves the desks as they are.
 use Rattle.std.proofs.Common.{◌≡◌, inl, inr, refl, sym, ap, subst, ◌∙◌, ℕ, Bool, true, false, List, [], ◌∷◌, ◌++◌, filter}
 use Rattle.std.proofs.Common.{append-nil, Option, Some, None, if◌then◌else◌}
 use Rattle.std.proofs.lemmas.Slice.Eq.{bytes_eq-Decides}

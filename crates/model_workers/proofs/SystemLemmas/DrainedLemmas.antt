@@ -1,4 +1,4 @@
--- The rounds of a worker's code are rounds of `stream_rounds`, if the server hands out its page.
+-- The rounds of a worker's code are rounds of `model_server::rounds`, if the server hands out its page.
 use Rattle.std.proofs.Common.{◌≡◌, refl, sym, ap, ◌∙◌, ℕ, zero, suc, Bool, not, ◌&&◌, List, [], ◌∷◌, Some, if◌then◌else◌}
 use Rattle.model_server.specs.Group.Worker.{Id, Verdict, Machine, Answer, Phase, own, claiming, reading, entries_in, after}
 use Rattle.model_server.specs.Group.Worker.{after_commit}

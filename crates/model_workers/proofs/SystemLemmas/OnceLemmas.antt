@@ -1,4 +1,4 @@
--- The rounds, failures and starts of a worker's code are events of `stream_once`.
+-- The rounds, failures and starts of a worker's code are events of `model_server::once`.
 use Rattle.std.proofs.Common.{◌≡◌, ◌⊎◌, inl, inr, refl, sym, ap, subst, ◌∙◌, ℕ, ◌+◌, ◌-◌, ◌≤◌, arith, List, [], ◌∷◌, ◌++◌}
 use Rattle.std.proofs.Common.{take, append-nil, append_assoc, Option, Some, None}
 use Rattle.redis_connection.specs.Link.{Link}

@@ -1,4 +1,4 @@
--- Each move keeps what the laws rest on: files of `stream_files` go with the system, and its laws hold of them.
+-- Each move keeps what the laws rest on: files of `model_workers::files` go with the system, and its laws hold of them.
 use Rattle.std.proofs.Common.{◌≡◌, inl, inr, refl, sym, ap, subst, ◌∙◌, ℕ, Bool, true, false, not, List, [], ◌∷◌, ◌++◌}
 use Rattle.std.proofs.Common.{Some, if◌then◌else◌}
 use Rattle.std.specs.Prelude.{drop}

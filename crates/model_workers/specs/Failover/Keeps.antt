@@ -13,7 +13,7 @@ pub record Keeps (R : Type 0) : Type 0 where
   pub with_commit : R → R
   pub written : (lines file : List (Entry Fields)) → R
 
--- it checks its file as the consumer of `stream_failover` does: an entry whose id has a line gets no second one. A
+-- it checks its file as the consumer of `model_server::failover` does: an entry whose id has a line gets no second one. A
 -- commit puts the lines at the end of the file
 pub record LooksUp {R : Type 0} (k : Keeps R) : Type 0 where
   pub reply : (lines file : List (Entry Fields)) (es : List (Delivered Fields)) (verdicts : List Verdict)

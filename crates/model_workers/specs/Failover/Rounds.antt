@@ -1,4 +1,4 @@
--- The rounds of a worker that checks its file, as events of `stream_failover`.
+-- The rounds of a worker that checks its file, as events of `model_server::failover`.
 use Rattle.std.specs.Prelude.{◌≡◌, ◌≤◌, ◌⊎◌, ℕ, ◌-◌, List, [], ◌∷◌, ◌++◌, map, take, Bool, false, Option, Some, None}
 use mathlib.Core.Logic.{inl, inr}
 use Rattle.redis_connection.specs.Link.{Link}

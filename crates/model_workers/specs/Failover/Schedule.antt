@@ -1,4 +1,4 @@
--- The code of a worker that checks its file is the consumer of `stream_failover`, whose server may go back to an
+-- The code of a worker that checks its file is the consumer of `model_server::failover`, whose server may go back to an
 -- earlier state.
 use Rattle.std.specs.Prelude.{◌≡◌, List, [], ◌∷◌, ◌++◌, take, true, false, Option, Some}
 use Rattle.redis_connection.specs.Link.{Link}

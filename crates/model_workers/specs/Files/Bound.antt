@@ -1,4 +1,4 @@
--- What the calls of `line_log` do to a worker's file, in the words of the model.
+-- What the calls of `worker_journal` do to a worker's file, in the words of the model.
 use Rattle.std.specs.Prelude.{◌≡◌, ℕ, List, ◌++◌, Bool, Option, Some}
 use Rattle.worker_journal.specs.Device.{LeavesOnly}
 use Rattle.worker_journal.specs.Holds.{Holds}

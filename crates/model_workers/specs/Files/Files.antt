@@ -59,7 +59,7 @@ first_files before = record { stream = empty_world; file = λ name. whole_lines 
 
 -- what may happen next. A commit that fails is no event: no byte of it is committed
 pub data Event : Type 0 where
-  -- something of `stream_group`
+  -- something of `model_server::group`
   Goes : (event : group.Event Fields) → Event
   -- a worker commits what its handler did. Each of these entries was given up: its letter was added, and the reply
   -- came. Of each other entry a line is written and synced
@@ -91,7 +91,7 @@ read_back form f consumer torn =
     let is_there : Entry → Bool = is_in form (repaired f consumer torn) in
     filter is_there (committed_after f.stream consumer is_there)
 
--- the crash of `stream_group` that this is
+-- the crash of `model_server::group` that this is
 abbrev pub crash_of : Form → Files → Name → ℕ → List ℕ → List Id → group.Event Fields
 crash_of form f consumer every torn ids =
     Crash consumer every (is_in form (repaired f consumer torn)) (among_ids (read_back form f consumer torn) ids)
@@ -104,7 +104,7 @@ reopens form f consumer every torn ids = record {
   letters = f.letters;
 }
 
--- an event of `stream_group`: a commit gives up nothing, and a crash leaves nothing but what is committed
+-- an event of `model_server::group`: a commit gives up nothing, and a crash leaves nothing but what is committed
 abbrev pub goes : Form → Files → group.Event Fields → Files
 goes form f (Commit consumer) = commits form f consumer (λ e. false)
 goes form f (Crash consumer every keeps ids) = reopens form f consumer every [] ids

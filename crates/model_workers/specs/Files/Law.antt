@@ -127,11 +127,11 @@ BeginsWithAllItReads = (form : Form) (before : Name → List ℕ) (events : List
     → IsLineIn (form.line e) ((restarted form before events name every torn (ids_of es)).file name))
     → (restarted form before events name every torn (ids_of es)).stream.workers name ≡ begins_with every (ids_of es)
 
--- a file that `line_log` says it repaired has the whole lines of what it had
+-- a file that `worker_journal` says it repaired has the whole lines of what it had
 abbrev pub RepairsToWholeLines : Type 0
 RepairsToWholeLines = (bytes : List ℕ) (new : Option (List ℕ)) → IsRepaired (Some bytes) new
     → new ≡ Some (whole_lines bytes)
 
--- the lines of `line_log` are a form
+-- the lines of `worker_journal` are a form
 abbrev pub TextIsAForm : Type 0
 TextIsAForm = (form : Form) × (form.line ≡ line_of)

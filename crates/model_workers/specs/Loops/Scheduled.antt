@@ -1,4 +1,4 @@
--- The rounds of the loop are rounds of a schedule of `stream_system`, in the world of `stream_once`.
+-- The rounds of the loop are rounds of a schedule of `model_workers::system`, in the world of `model_server::once`.
 use Rattle.std.specs.Prelude.{List, [], ◌∷◌, ◌++◌}
 use Rattle.redis_connection.specs.Link.{Link}
 use Rattle.model_workers.specs.Files.Files.{Fields}

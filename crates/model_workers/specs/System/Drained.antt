@@ -1,4 +1,4 @@
--- The rounds of a worker's code are rounds of `stream_rounds`, if the server delivers its page.
+-- The rounds of a worker's code are rounds of `model_server::rounds`, if the server delivers its page.
 use Rattle.std.specs.Prelude.{◌≡◌, ℕ, zero, suc, ◌≤◌, List, [], ◌∷◌, map, Some}
 use Rattle.redis_connection.specs.Link.{Link}
 use Rattle.model_server.specs.Group.Worker.{Id, Answer, acknowledged, own_pending, taken_over, news, entries_in}

@@ -1,4 +1,4 @@
--- The code of a worker with its file is the consumer of `stream_once`. Its rounds, failures and starts are events of
+-- The code of a worker with its file is the consumer of `model_server::once`. Its rounds, failures and starts are events of
 -- that model.
 use Rattle.std.specs.Prelude.{◌≡◌, ◌≤◌, ◌⊎◌, ℕ, ◌-◌, List, [], ◌∷◌, ◌++◌, take, Bool, Option, Some, None}
 use Rattle.std.specs.Prelude.{if◌then◌else◌}

@@ -31,7 +31,7 @@ pub record Server : Type 0 where
   pub replies : List (Reply Fields)
   pub acks : List (Name × List Id)
 
--- the server of a world of `stream_group`
+-- the server of a world of `model_server::group`
 abbrev pub server_of : World Fields → Server
 server_of w = record {
   seen = w.seen;

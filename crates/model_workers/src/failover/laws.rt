@@ -5,12 +5,12 @@ ghost use Rattle.model_workers.specs.Failover.Schedule.{CodeWritesOnce, CodeWrit
 ghost use Rattle.model_workers.specs.Failover.Schedule.{RunsAreEvents, RunsWait};
 
 /// A handler that keeps entries, and adds none whose id it has, does with a reply and with a commit what the
-/// consumer of `stream_failover` does.
+/// consumer of `model_server::failover` does.
 pub fn entries_are_looked_up()
     ensures { EntriesLookUp }
 {}
 
-/// A worker whose handler checks its file (`LooksUp`) is the consumer of `stream_failover`, in which the server
+/// A worker whose handler checks its file (`LooksUp`) is the consumer of `model_server::failover`, in which the server
 /// may go back to an earlier state. It is so after each schedule (`Runs`) of rounds, of rounds that fail or are
 /// not confirmed, of breaks, of crashes with the start after them, and of failovers. If its rounds are those of
 /// `round_confirmed`, a WAIT comes with each of its questions for entries.

@@ -43,7 +43,7 @@ pub fn a_started_worker_acknowledges_its_lines()
     ensures all { BeginsWithAllItReads }
 {}
 
-/// The model's file is one of `line_log`: it is repaired to the same lines, and its lines of text
+/// The model's file is one of `worker_journal`: it is repaired to the same lines, and its lines of text
 /// are a form.
 pub fn files_are_those_of_line_log()
     ensures repaired { RepairsToWholeLines }

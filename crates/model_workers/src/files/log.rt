@@ -1,9 +1,9 @@
-//! The calls of `line_log` on a worker's file, in the words of the model.
+//! The calls of `worker_journal` on a worker's file, in the words of the model.
 ghost use Rattle.std.specs.Prelude.{IfOk, OnErr, OnOk};
 ghost use Rattle.model_workers.specs.Files.Bound.{CommitsSo, KeepsSo, LeavesSo, OpensSo};
 
-use worker_journal::{LineLog, LogError, LogFile};
 use std::alloc::Global;
+use worker_journal::{LineLog, LogError, LogFile};
 
 /// Opens a worker's file. Whatever bytes a crash left after the committed ones, the log holds the
 /// file that the worker has after `Reopens`.

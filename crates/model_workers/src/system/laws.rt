@@ -54,7 +54,7 @@ pub fn starts_are_moves()
     ensures { StartsAreMoves }
 {}
 
-/// A worker's round that returns Ok is a round of `stream_rounds`, if the server delivers its page and the
+/// A worker's round that returns Ok is a round of `model_server::rounds`, if the server delivers its page and the
 /// handler says `done` of each entry. Enough of such rounds, with nothing between them, lead to a world where
 /// nothing is pending and nothing is still to come.
 pub fn rounds_that_hear_the_page_are_rounds()
@@ -63,7 +63,7 @@ pub fn rounds_that_hear_the_page_are_rounds()
 {}
 
 /// What `Worker::round`, `Worker::new` and `Worker::resumed` promise are events of the consumer of
-/// `stream_once`: a round that returns Ok, one that fails, and a crash with the start after it. So
+/// `model_server::once`: a round that returns Ok, one that fails, and a crash with the start after it. So
 /// after each schedule of them (`Runs`) the worker and its file are that consumer. The rounds of
 /// `Worker::run` are such rounds too.
 ///

@@ -13,8 +13,8 @@ use super::places::place_of;
 use super::retention::{Retention, retention_in};
 use crate::answer::Answer;
 use crate::refusal::Refusal;
-use std::alloc::Global;
 use server_store::{EntryId, Stream};
+use std::alloc::Global;
 
 const NOT_ABOVE: Refusal = Refusal::Fixed(
     "ERR The ID specified in XADD is equal or smaller than the target stream top item",

@@ -6,8 +6,8 @@ ghost use Rattle.server_commands.specs.Claiming.{sent_claimed, sent_entry, sent_
 ghost use Rattle.server_commands.specs.Sent.{array_of, item_list, plain, sent};
 
 use crate::answer::Answer;
-use std::alloc::{AllocError, Global};
 use server_store::Entry;
+use std::alloc::{AllocError, Global};
 
 /// A count as a reply.
 pub(super) fn number(n: u64) -> Answer

@@ -9,8 +9,8 @@ use super::words::{is_word, shown};
 use super::{SYNTAX, group_for, integer_in, refusal_of, room_of, settle, stream_for};
 use crate::answer::Answer;
 use crate::refusal::Refusal;
-use std::alloc::{AllocError, Global};
 use server_store::{EntryId, Group, Pending, Stream};
+use std::alloc::{AllocError, Global};
 
 /// The options of XCLAIM.
 #[derive(Clone, Copy)]

@@ -14,8 +14,8 @@ use super::{
 };
 use crate::answer::Answer;
 use crate::refusal::Refusal;
-use std::alloc::Global;
 use server_store::{EntryId, Group, Stream};
+use std::alloc::Global;
 
 /// The subcommands of XGROUP.
 #[derive(Clone, Copy, PartialEq, Eq)]

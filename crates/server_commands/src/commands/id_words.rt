@@ -9,9 +9,9 @@ ghost use Rattle.server_store.specs.declared.entry_id.EntryId.{EntryId};
 use super::words::before_nul;
 use super::{INVALID_ID, integer_in};
 use crate::refusal::Refusal;
+use server_store::EntryId;
 use std::alloc::Global;
 use std::str;
-use server_store::EntryId;
 
 /// The sequence number in the text of an id.
 #[derive(Clone, Copy)]

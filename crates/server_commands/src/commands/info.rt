@@ -12,8 +12,8 @@ use super::{
 };
 use crate::answer::Answer;
 use crate::refusal::Refusal;
-use std::alloc::{AllocError, Global};
 use server_store::{Consumer, Entry, Group, Stream};
+use std::alloc::{AllocError, Global};
 
 const NO_KEY: Refusal = Refusal::Fixed("ERR no such key");
 

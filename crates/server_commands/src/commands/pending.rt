@@ -8,8 +8,8 @@ use super::{SYNTAX, count, group_for, interval_end, interval_start, name_of, str
 use crate::answer::Answer;
 use crate::refusal::Refusal;
 use itoa::Buffer;
-use std::alloc::{AllocError, Global};
 use server_store::{Consumer, EntryId, Group, Pending, Stream};
+use std::alloc::{AllocError, Global};
 
 /// Which pending entries are asked for.
 #[derive(Clone, Copy)]

@@ -8,8 +8,8 @@ use super::words::is_word;
 use super::{SYNTAX, count, entries_up, interval_end, interval_start};
 use crate::answer::Answer;
 use crate::refusal::Refusal;
-use std::alloc::{AllocError, Global};
 use server_store::{EntryId, Stream};
+use std::alloc::{AllocError, Global};
 
 /// `XRANGE key start end [COUNT count]`, and `XREVRANGE key end start [COUNT count]`
 pub(super) fn range(

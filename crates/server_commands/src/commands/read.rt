@@ -26,8 +26,8 @@ use super::{SYNTAX, count, integer_in, refusal_of, room_of, settle};
 use crate::answer::Answer;
 use crate::refusal::Refusal;
 use own::{deliver_again, read_own};
-use std::alloc::{AllocError, Global};
 use server_store::{EntryId, Group, Held, Pending, Room, Stream};
+use std::alloc::{AllocError, Global};
 
 /// Where the reading of a stream begins.
 #[derive(Clone, Copy)]

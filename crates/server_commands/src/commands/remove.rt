@@ -11,8 +11,8 @@ use super::words::is_word;
 use super::{SYNTAX, integer};
 use crate::answer::Answer;
 use crate::refusal::Refusal;
-use std::alloc::Global;
 use server_store::{EntryId, Group, Stream};
+use std::alloc::Global;
 
 /// `DEL key ..`: how many of the streams were there.
 pub(super) fn remove_keys(streams: &mut Vec<Stream>, keys: &[Vec<u8>]) -> usize

@@ -16,8 +16,8 @@ use super::words::is_word;
 use super::{SYNTAX, integer_in, interval_start, no_group};
 use crate::answer::Answer;
 use crate::refusal::Refusal;
-use std::alloc::{AllocError, Global};
 use server_store::{EntryId, Group, Pending, Room, Stream};
+use std::alloc::{AllocError, Global};
 
 /// Which entries are claimed, and by whom.
 #[derive(Clone, Copy)]

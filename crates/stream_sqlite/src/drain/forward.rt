@@ -9,12 +9,12 @@ use super::{explain_round_error, goes_on, look, say_left};
 use crate::report::Report;
 use anyhow::{Error, Result, anyhow, bail};
 use redis_connection::Connection;
-use worker_table::row_table::WithOutbox;
 use std::alloc::Global;
 use std::io::{Read, Write};
 use worker::dead_letters::DeadLetterSearch;
-use worker_table::{Forwarding, SendError};
 use worker::{Asked, Handler, Worker};
+use worker_table::row_table::WithOutbox;
+use worker_table::{Forwarding, SendError};
 
 /// Drains until something fails, or until a read finds nothing new with `--until-empty`. Before each round it
 /// forwards what is committed, so nothing is left to send if it ends without an error.

@@ -1,4 +1,4 @@
-//! Readings of a user's own types, by both calls, and values. The program `cases` has those of plain types.
+//! Readings of a user's own types, by both calls, and values. The program `test_cases` has those of plain types.
 mod user;
 mod value;
 

@@ -3,11 +3,11 @@ use crate::example::{Count, worker_of};
 use redis_connection::Connection;
 use redis_resp::Value;
 use redis_wire::Limits;
+use server_commands::{Loopback, LoopbackReader, LoopbackWriter, Server};
 use std::alloc::Global;
 use std::io;
 use std::io::{ErrorKind, Read, Write};
 use std::test::Fail;
-use server_commands::{Loopback, LoopbackReader, LoopbackWriter, Server};
 
 /// A connection to the server.
 fn connected(

@@ -12,10 +12,10 @@ use crate::{number_of, parted, push_exchange, push_line, settings_for};
 use redis_connection::Connection;
 use redis_resp::{FromRedisValue, ToRedisArgs, Value};
 use redis_wire::Limits;
+use server_commands::{Loopback, LoopbackReader, LoopbackWriter, Server};
 use std::alloc::{AllocError, Global};
 use std::io::{Read, Write};
 use worker::dead_letters::{DeadLetterSearch, GiveUp};
-use server_commands::{Loopback, LoopbackReader, LoopbackWriter, Server};
 use worker::{
     Asked, EntryRef, Handler, MakeGroup, NotCommitted, Progress, Settings, Verdict, Worker,
 };

@@ -10,8 +10,8 @@ use crate::{
     settings_for, tell_all,
 };
 use redis_wire::{Decoded, Limits, command_words, decode};
-use std::alloc::{AllocError, Global};
 use server_commands::{Server, Session};
+use std::alloc::{AllocError, Global};
 use worker::{MakeGroup, Worker};
 
 /// Plays workers of several streams; false if the script is another one.

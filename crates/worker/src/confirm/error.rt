@@ -1,6 +1,6 @@
 //! Errors of a confirmed round.
-use redis_connection::ConfirmError;
 use crate::RunError;
+use redis_connection::ConfirmError;
 use thiserror::Error;
 
 /// Why a worker with confirmed rounds stopped using a connection.

@@ -5,11 +5,11 @@ ghost use Rattle.worker.specs.Confirm.Confirmed.{FailsConfirmed, IsConfirmedRoun
 ghost use Rattle.worker.specs.Session.{standing_of};
 
 use crate::confirm::error::RoundError;
+use crate::{Handler, Round, RunError, Worker};
 use redis_connection::{Connection, Wait, confirm};
 use redis_wire::Reply;
 use std::alloc::Global;
 use std::io::{Read, Write};
-use crate::{Handler, Round, RunError, Worker};
 
 /// Makes one round, as `Worker::round` does, and sends WAIT before its reply is taken. So the handler receives entries
 /// only after the required number of replicas have their delivery, and acknowledgements are confirmed too.

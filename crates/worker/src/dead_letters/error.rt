@@ -3,9 +3,9 @@ ghost use Rattle.std.specs.Prelude.{◌≡◌};
 ghost use Rattle.worker.specs.declared.dead_letters.error.SearchError.TheVariants as causes;
 ghost use Rattle.worker.specs.declared.dead_letters.error.SearchSettingsError.TheVariants as refusals;
 
+use crate::LetterError;
 use redis_connection::{AskError, ConnectionError};
 use std::alloc::AllocError;
-use crate::LetterError;
 use thiserror::Error;
 
 /// Why the settings of a search were refused.

@@ -11,13 +11,13 @@ ghost use Rattle.worker.specs.DeadLetters.Dead.{IsAllowed, IsRefused, letter_nam
 ghost use Rattle.worker.specs.Letters.{desk_of, names_of};
 
 use crate::dead_letters::error::{SearchError, SearchSettingsError};
+use crate::{Asked, DeadLetters, LetterAsked, Settings};
 use redis_connection::{AskError, Connection, ConnectionError};
 use redis_resp::{RawBytes, ToRedisArgs, Value, WriteError};
 use std::alloc::{AllocError, Global};
 use std::io::{Read, Write};
 use std::mem;
 use stream_commands::{AtLeastOne, xclaim, xpending_consumer_count, xpending_idle_count};
-use crate::{Asked, DeadLetters, LetterAsked, Settings};
 
 /// The `COUNT` of XPENDING.
 const PAGE: usize = 100;

@@ -3,10 +3,10 @@ ghost use Rattle.std.specs.Prelude.{◌≡◌};
 ghost use Rattle.worker.specs.declared.outbox.error.OutboxError.TheVariants as causes;
 ghost use Rattle.worker.specs.declared.outbox.error.PostError.TheVariants as posts;
 
+use crate::RunError;
 use redis_connection::ConnectionError;
 use redis_wire::ServerError;
 use std::alloc::AllocError;
-use crate::RunError;
 use thiserror::Error;
 
 /// Why a command got no reply. Commands without a reply stay in the outbox. After any of these errors but `Memory`

@@ -9,10 +9,10 @@ ghost use Rattle.worker.specs.Session.{standing_of};
 
 use crate::outbox::error::{OutboxError, PostError};
 use crate::outbox::outbox::Outbox;
+use crate::{EntryRef, Handler, NotCommitted, Round, Verdict, Worker};
 use redis_connection::Connection;
 use std::alloc::Global;
 use std::io::{Read, Write};
-use crate::{EntryRef, Handler, NotCommitted, Round, Verdict, Worker};
 
 /// The work on entries, and the commands that are sent for them.
 pub trait Work {

@@ -11,10 +11,10 @@ ghost use Rattle.worker_sqlite.specs.Statements.{IsMade, IsNamedAtOpening, Leave
 use super::{SqliteTable, definition, make, malformed_error, refused};
 use crate::error::OpenError;
 use crate::values::{values_of_key, values_of_post};
-use worker_table::row_table::{Post, PostedRow, Row, Table, TableError, WithOutbox};
 use sqlite::types::ValueRef;
 use sqlite::{Alter, Connection, Error, Row as Shown};
 use std::alloc::Global;
+use worker_table::row_table::{Post, PostedRow, Row, Table, TableError, WithOutbox};
 
 /// The name of the outbox.
 pub const OUTBOX: &str = "outbox";

@@ -6,8 +6,8 @@ use super::{head_rows, lag, maybe, put_rows};
 use crate::answer::Answer;
 use crate::commands::answers::{array, bytes_answer, length, number, put};
 use crate::commands::{entries_up, name_of};
-use std::alloc::{AllocError, Global};
 use server_store::{Consumer, EntryId, Group, Pending, Stream};
+use std::alloc::{AllocError, Global};
 
 /// The stream with its entries and groups, `most` of each kind at most.
 pub(super) fn stream_in_full(

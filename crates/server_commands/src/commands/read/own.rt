@@ -14,8 +14,8 @@ use super::{Reader, row_answer};
 use crate::answer::Answer;
 use crate::commands::answers::{array, entry_answer, put};
 use crate::commands::places::place_of_consumer;
-use std::alloc::{AllocError, Global};
 use server_store::{EntryId, Group, Pending, Room, Stream};
+use std::alloc::{AllocError, Global};
 
 /// The pending entries that a consumer reads again, before the group is changed.
 #[derive(Drop)]

@@ -1,4 +1,4 @@
-//! A writer of a user's own, and a writer with little room. `reply_tests` has a value of a user's own.
+//! A writer of a user's own, and a writer with little room. `test_replies` has a value of a user's own.
 ghost use Rattle.std.specs.Prelude.{◌≡◌, ◌⊎◌, codes};
 ghost use Rattle.redis_args.specs.Room.{MayRefuse};
 ghost use Rattle.redis_args.specs.declared.writer.WriteError.TheVariants.{Full};

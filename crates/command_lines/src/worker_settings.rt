@@ -2,12 +2,12 @@
 ghost use Rattle.std.specs.Prelude.{◌≡◌, ◌<◌, ◌∷◌, ◌⊎◌, [], ℕ, List, IfErr, IfOk, IfSome, None, Some, codes, false, option_map, string_bytes};
 ghost use Rattle.clap.specs.Words.{found_of, kind_of, matched_of, new_rule, raw_values, rule_of};
 ghost use Rattle.clap.specs.declared.builder.ArgAction.TheVariants.{Set};
-ghost use Rattle.command_lines.specs.Worker.{AreSettings, GivesUp, IsNumber, MakesGroup, Waits, word_in};
+ghost use Rattle.command_lines.specs.WorkerSettings.{AreSettings, GivesUp, IsNumber, MakesGroup, Waits, word_in};
 
-use redis_connection::Wait;
 use crate::{BLOCK, EVERY, IDLE, Number, pair, refused, refused_value, wait_of, word_of};
 use clap::error::ErrorKind;
 use clap::{Arg, ArgMatches, Command, Error};
+use redis_connection::Wait;
 use std::alloc::Global;
 use worker::dead_letters::GiveUp;
 use worker::{MakeGroup, Settings};
