@@ -148,7 +148,7 @@ class RepliesTest(unittest.TestCase):
         self.assertEqual((raised.exception.code, str(raised.exception)), ("NOGROUP", "NOGROUP no such group"))
 
     def test_which_errors_are_worth_another_try(self) -> None:
-        # As docs/CALLING.md says of redis_client.
+        # As docs/WORKER.md says of redis_client.
         for code in ("READONLY", "UNBLOCKED", "LOADING", "MASTERDOWN", "CLUSTERDOWN", "TRYAGAIN", "BUSY", "OOM", "MISCONF",
                      "NOREPLICAS"):
             self.assertTrue(errors.ServerError(f"{code} it says".encode()).is_transient, code)
