@@ -1,4 +1,4 @@
-#!/usr/bin/env python3
+#!/usr/bin/env -S python3 -B
 """Both ends of a stream over redis-py's cluster client, as one writes them with nothing of this repository.
 
 usage: cluster_by_hand.py fill NODES NAME PARTITIONS FILE SKIP      adds the lines of FILE behind the first SKIP ones
@@ -16,7 +16,7 @@ import time
 import redis
 from redis.cluster import ClusterNode, RedisCluster
 
-sys.path.insert(0, os.path.join(os.path.dirname(os.path.dirname(os.path.abspath(__file__))), "python"))
+import shared  # (it says where the package is)
 from jagyerti import cluster
 
 GROUP, CONSUMER, BATCH, PAUSE = "packers", "ann", 50, 0.1

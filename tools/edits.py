@@ -11,7 +11,7 @@ import sys
 import tempfile
 import threading
 
-sys.dont_write_bytecode = True
+from shared import text_of as read, write
 from unproved import KIT, ROOT
 
 PARTS = ("src", "specs", "proofs")
@@ -32,11 +32,6 @@ def shelves(name):
         if os.path.isdir(folder):
             found[crate] = sorted(f"{folder}/{name}" for name in os.listdir(folder))
     return found
-
-
-def read(path):
-    with open(path, encoding="utf-8") as file:
-        return file.read()
 
 
 def edited(crate, edit, texts=None):
@@ -88,8 +83,7 @@ def checked(crate, texts, functions, kept):
             if os.path.isdir(f"{ROOT}/crates/{crate}/{part}"):
                 shutil.copytree(f"{ROOT}/crates/{crate}/{part}", f"{copy}/{part}")
         for path, text in texts.items():
-            with open(f"{copy}/{path}", "w", encoding="utf-8") as file:
-                file.write(text)
+            write(f"{copy}/{path}", text)
         only = [word for function in functions for word in ("--only", function)]
         words = [*words_of(crate), "--incremental", kept, *only]
         ran = subprocess.run(words, cwd=copy, stdin=subprocess.DEVNULL, stdout=subprocess.PIPE, stderr=subprocess.STDOUT,

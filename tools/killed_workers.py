@@ -1,11 +1,11 @@
 """The workers that tools/compare-kills kills: their programs, how their jobs are added, and where a broker has jobs."""
 import json
-import os
 import socket
 import sys
 from typing import Callable, NamedTuple
 
-ROOT = os.path.dirname(os.path.dirname(os.path.abspath(__file__)))
+from shared import JAGYERTI, ROOT
+
 PYTHON = "/usr/bin/python3"
 WORK = '''
 import os, time
@@ -169,7 +169,7 @@ def celery(title, *late):
 
 def run_words(broker):
     """Returns the words of 'jagyerti run', with the handler."""
-    return [sys.executable, "-I", f"{ROOT}/bin/jagyerti", "run", f"redis://127.0.0.1:{broker.port}", "jobs", "g", "c", "--",
+    return [sys.executable, "-I", JAGYERTI, "run", f"redis://127.0.0.1:{broker.port}", "jobs", "g", "c", "--",
             sys.executable, "handle.py"]
 
 

@@ -14,10 +14,8 @@ import time as clock
 from concurrent.futures import ThreadPoolExecutor
 from typing import Callable, Dict, Iterator, List, NamedTuple, Sequence, TypeVar
 
-sys.dont_write_bytecode = True
-from unproved import KIT, ROOT, words_of_sources
-
-sys.path.insert(0, f"{ROOT}/python")
+from shared import ROOT, content
+from unproved import KIT, words_of_sources
 import man_pages
 from jagyerti.cli import completions, make_parser
 
@@ -150,8 +148,7 @@ def step(done: str) -> Iterator[None]:
 
 def read(path: str) -> bytes:
     """Returns the bytes of a file of the repository."""
-    with open(os.path.join(ROOT, path), "rb") as file:
-        return file.read()
+    return content(os.path.join(ROOT, path)) or b""
 
 
 def describe_build(is_proved: bool) -> Build:

@@ -1,0 +1,430 @@
+"""What the tools share: their words and their ends, clocks, tables, processes, connections, and sessions of programs."""
+from __future__ import annotations
+
+import argparse
+import base64
+import contextlib
+import dataclasses
+import itertools
+import os
+import re
+import resource
+import shutil
+import socket
+import subprocess
+import sys
+import tempfile
+import threading
+import time
+from typing import Any, Callable, Dict, Iterable, Iterator, List, NamedTuple, Optional, Sequence, Tuple, Union
+
+sys.dont_write_bytecode = True
+ROOT = os.path.dirname(os.path.dirname(os.path.abspath(__file__)))
+sys.path.insert(0, f"{ROOT}/python")
+from jagyerti import connect, process, resp, server as servers
+
+TOOL = os.path.basename(sys.argv[0])
+TOOLS, JAGYERTI = f"{ROOT}/tools", f"{ROOT}/bin/jagyerti"
+Place = Union[str, Tuple[str, int]]
+SIMPLE, SIZED = (b"+", b"-", b"_", b":", b",", b"#", b"("), (b"$", b"=", b"!", b"*", b"~", b">", b"%", b"|")
+
+
+# Words, and what a tool wants.
+
+
+def words_of(doc: Optional[str], *places: Place, **options: Any) -> argparse.Namespace:
+    """Reads the words of a tool, whose `doc` is printed at --help, and at other words, with which it ends with 2.
+
+    A place is a name, with ? if it may be left out and with * for any number of words, or a name and the number that it
+    is without a word. The usual value of an option says what it takes: False takes nothing, None and '' a text, a number a
+    number, a list of one number some numbers, and an empty list all words after it.
+    """
+    parser = argparse.ArgumentParser()
+    parser.format_help = parser.format_usage = lambda: f"{(doc or '').strip()}\n"  # type: ignore[method-assign]
+    for place in places:
+        name = place.rstrip("?*+") if isinstance(place, str) else place[0]
+        more = {"nargs": place[len(name):] or None} if isinstance(place, str) else {"nargs": "?", "default": place[1], "type": natural}
+        parser.add_argument(name, **more)  # type: ignore[arg-type]
+    for name, usual in options.items():
+        kind = {"action": "store_true"} if usual is False else {"default": usual, "type": str if usual is None else type(usual)}
+        if isinstance(usual, list):
+            kind = {"default": [], "nargs": "+", "type": int} if usual else {"nargs": argparse.REMAINDER}
+        parser.add_argument(f"--{name.replace('_', '-')}", **kind)
+    return parser.parse_args()
+
+
+def natural(text: str) -> int:
+    """A number without a sign."""
+    if not text.isdigit():
+        raise ValueError
+    return int(text)
+
+
+def fail(text: object) -> Any:
+    """Says on standard error why the tool does nothing, and ends it with 2."""
+    print(f"{TOOL}: {text}", file=sys.stderr)
+    sys.exit(2)
+
+
+def want(*names: str) -> None:
+    """Ends with 2 if one of these programs is not there."""
+    lacking = [name for name in names if shutil.which(name) is None]
+    if lacking:
+        fail(f"not there: {', '.join(lacking)}")
+
+
+def program_of(crate: str, given: Optional[str] = None) -> str:
+    """The given program, or the one of this name in JAGYERTI_PROGRAMS, or that 'rt run' builds; ends with 2 if there is none."""
+    folder = os.environ.get("JAGYERTI_PROGRAMS") or f"{ROOT}/crates/{crate}/out"
+    path = os.path.abspath(given or f"{folder}/{crate}")
+    return path if os.path.isfile(path) else fail(f"{path} is not there: 'rt run' in crates/{crate} makes it")
+
+
+def find_program(name: str, given: Optional[str] = None) -> str:
+    """A program as the command jagyerti finds it; ends with 2 if there is none."""
+    try:
+        return process.find_program(name, given)
+    except connect.Failed as failed:
+        return fail(failed)
+
+
+def compiled(folder: str, source: str, *words: str) -> Optional[str]:
+    """The path of what cc makes of a file of tools/, None if it makes nothing."""
+    path = f"{folder}/{os.path.basename(source)}.out"
+    ran = subprocess.run(["cc", "-O2", "-o", path, os.path.join(TOOLS, source), *words], stderr=subprocess.DEVNULL, check=False)
+    return path if ran.returncode == 0 else None
+
+
+def python_with(module: str) -> Optional[str]:
+    """An interpreter that has this module, None if there is none."""
+    for python in (sys.executable, "/usr/bin/python3"):
+        if os.path.exists(python) and not subprocess.run([python, "-c", f"import {module}"], stderr=subprocess.DEVNULL, check=False).returncode:
+            return python
+    return None
+
+
+# Files.
+
+
+def content(path: str) -> Optional[bytes]:
+    """The bytes of a file, None if there is none."""
+    if not os.path.exists(path):
+        return None
+    with open(path, "rb") as file:
+        return file.read()
+
+
+def text_of(path: str) -> str:
+    """The text of a file, whose path begins at the root of the repository if it is not absolute."""
+    with open(os.path.join(ROOT, path), encoding="utf-8", errors="replace") as file:
+        return file.read()
+
+
+def write(path: str, data: Union[str, bytes], mode: int = 0) -> str:
+    """Writes a file, with this mode if one is given, and returns its path."""
+    with open(path, "wb") as file:
+        file.write(data.encode() if isinstance(data, str) else data)
+    if mode:
+        os.chmod(path, mode)
+    return path
+
+
+# Clocks and tables.
+
+
+def worked() -> float:
+    """The seconds of a processor that the children took which ended."""
+    used = resource.getrusage(resource.RUSAGE_CHILDREN)
+    return used.ru_utime + used.ru_stime
+
+
+def taken(work: Callable[[], object]) -> Tuple[float, float]:
+    """Does some work. Returns the seconds of the clock, and those of a processor in children, that it took."""
+    before, begun = worked(), time.monotonic()
+    work()
+    return time.monotonic() - begun, worked() - before
+
+
+def figures(command: Sequence[str], pattern: str, preload: str = "") -> List[int]:
+    """The numbers that standard error of a run has at this pattern, with a library preloaded; ChildProcessError if it has none."""
+    env = {**os.environ, "LD_PRELOAD": preload} if preload else None
+    ran = subprocess.run(command, env=env, capture_output=True, text=True, check=False)
+    found = re.search(pattern, ran.stderr)
+    if ran.returncode or found is None:
+        raise ChildProcessError(f"{' '.join(command)}: ended with {ran.returncode}\n{ran.stderr[-2000:]}")
+    return [int(number.replace(",", "")) for number in found.groups()]
+
+
+def requests_of(command: Sequence[str], shim: str) -> List[int]:
+    """How often a run asks for memory, and for more of it, as count_requests.c counts it."""
+    return figures(command, r"requests (\d+) (\d+)", shim)
+
+
+def instructions_of(command: Sequence[str]) -> int:
+    """How many instructions a run takes, by valgrind."""
+    cachegrind = ["valgrind", "--tool=cachegrind", "--cache-sim=no", "--cachegrind-out-file=/dev/null"]
+    return figures([*cachegrind, *command], r"I +refs: +([\d,]+)")[0]
+
+
+def in_turn(ways: Dict[str, Callable[[], Sequence[float]]], runs: int, fold: Callable[[Any], float] = min) -> Dict[str, List[float]]:
+    """Goes these ways in turn, so often, from the other end each second time. Returns what each took at best, or folded otherwise."""
+    took: Dict[str, List[Sequence[float]]] = {name: [] for name in ways}
+    for turn in range(runs):
+        for name in list(ways)[::-1] if turn % 2 else list(ways):
+            took[name].append(ways[name]())
+    return {name: [fold(column) for column in zip(*each)] for name, each in took.items()}
+
+
+def row(*cells: object) -> None:
+    """Prints a row of a table, with a comma in each number of four digits and more."""
+    print(f"| {' | '.join(f'{cell:,}' if isinstance(cell, int) else str(cell) for cell in cells)} |", flush=True)
+
+
+def head(*names: str) -> None:
+    """Prints the head of a table."""
+    row(*names)
+    print("|" + "---|" * len(names), flush=True)
+
+
+def until(holds: Callable[[], object], seconds: float, what: str) -> None:
+    """Waits until this holds."""
+    end = time.monotonic() + seconds
+    while time.monotonic() < end:
+        with contextlib.suppress(OSError, resp.ReplyError):
+            if holds():
+                return
+        time.sleep(0.1)
+    raise TimeoutError(f"{what}: not within {seconds} seconds")
+
+
+# Processes and threads.
+
+
+class Process(NamedTuple):
+    """A process: its parent, the seconds of a processor that it and its ended children took, and its words."""
+
+    parent: int
+    seconds: float
+    words: List[str]
+
+
+def processes() -> Dict[int, Process]:
+    """All processes that are not over."""
+    found = {}
+    for name in filter(str.isdigit, os.listdir("/proc")):
+        with contextlib.suppress(OSError):
+            state, *fields = text_of(f"/proc/{name}/stat").rpartition(")")[2].split()
+            if state != "Z":
+                seconds = sum(map(int, fields[10:14])) / os.sysconf("SC_CLK_TCK")
+                found[int(name)] = Process(int(fields[0]), seconds, text_of(f"/proc/{name}/cmdline").split("\0"))
+    return found
+
+
+def below(top: int, found: Dict[int, Process]) -> List[int]:
+    """The processes below this one."""
+    pids = [top]
+    for pid in pids:
+        pids += [one for one, it in found.items() if it.parent == pid and one not in pids]
+    return pids[1:]
+
+
+def child_of(ran: "subprocess.Popen[bytes]") -> Optional[int]:
+    """The first process that a command has begun, once it has; None if the command ended before."""
+    while ran.poll() is None:
+        with contextlib.suppress(OSError):
+            if found := text_of(f"/proc/{ran.pid}/task/{ran.pid}/children").split():
+                return int(found[0])
+        time.sleep(0.001)
+    return None
+
+
+def begin(*works: Callable[[], object]) -> List[threading.Thread]:
+    """Does each work in a thread of its own, which ends with the process."""
+    threads = [threading.Thread(target=work, daemon=True) for work in works]
+    for thread in threads:
+        thread.start()
+    return threads
+
+
+def join(threads: Iterable[threading.Thread]) -> None:
+    """Waits for all."""
+    for thread in threads:
+        thread.join()
+
+
+# Connections.
+
+
+def named(reply: Sequence[Any]) -> Dict[Any, Any]:
+    """A reply of names and values, or the fields of an entry, as a dict."""
+    return dict(zip(reply[::2], reply[1::2]))
+
+
+def shown(text: bytes) -> Union[str, Dict[str, str]]:
+    """A text as the programs' JSON has it: one that is not UTF-8 is an object of its Base64."""
+    try:
+        return text.decode()
+    except UnicodeDecodeError:
+        return {"base64": base64.b64encode(text).decode()}
+
+
+def ask_all(server: servers.Server, commands: Iterable[Sequence[resp.Word]]) -> List[Any]:
+    """Sends commands over a connection of their own, and returns all replies."""
+    with server.open() as connection:
+        return resp.ask_all(connection, commands)
+
+
+def over(port: int, command: str) -> List[str]:
+    """The words that run a command of the shell whose standard input and output are a connection to this port."""
+    return ["bash", "-c", f"exec 3<>/dev/tcp/127.0.0.1/{port}; exec {command} <&3 >&3"]
+
+
+def listen(take: Callable[[socket.socket], object]) -> int:
+    """Has each connection to a port of its own taken, one after the other; returns the port."""
+    listener = socket.create_server(("127.0.0.1", 0))
+
+    def accept() -> None:
+        while True:
+            take(listener.accept()[0])
+
+    begin(accept)
+    return int(listener.getsockname()[1])
+
+
+def says(replies: bytes, ends: bool = True, asked: Optional[bytearray] = None) -> Callable[[socket.socket], None]:
+    """Takes a connection: says this, whatever is asked, and adds that to `asked`. Its own side is over then if it ends."""
+    def take(client: socket.socket) -> None:
+        client.sendall(replies)
+        if ends:
+            client.shutdown(socket.SHUT_WR)
+        while piece := client.recv(65536):
+            if asked is not None:
+                asked.extend(piece)
+    return take
+
+
+def reply_at(data: bytes, at: int = 0) -> Tuple[Tuple[bytes, Any], int]:
+    """The reply that begins there, as its kind and its text or its parts, and where it ends. It is read by its type and length
+    alone, by none of the package's readers. The text of nil is None, and
+    an attribute is passed over. ValueError if no whole reply begins there."""
+    end = data.index(b"\r\n", at)
+    kind, text, at = data[at:at + 1], data[at + 1:end], end + 2
+    if kind not in SIMPLE + SIZED:
+        raise ValueError(f"no kind of a reply: {kind!r}")
+    if kind in SIMPLE or int(text) < 0:
+        return (kind, text if kind in SIMPLE else None), at
+    if kind in (b"$", b"=", b"!"):
+        end = at + int(text)
+        if data[end:end + 2] != b"\r\n":
+            raise ValueError("a text without its end")
+        return (kind, data[at:end]), end + 2
+    parts = []
+    for _ in range(int(text) * (2 if kind in (b"%", b"|") else 1)):
+        part, at = reply_at(data, at)
+        parts.append(part)
+    return reply_at(data, at) if kind == b"|" else ((kind, parts), at)
+
+
+def replies_in(data: bytes) -> List[bytes]:
+    """The bytes of each reply, one after the other; ValueError if they are no whole ones."""
+    found, at = [], 0
+    while at < len(data):
+        end = reply_at(data, at)[1]
+        found.append(data[at:end])
+        at = end
+    return found
+
+
+# Sessions of programs.
+
+
+@dataclasses.dataclass
+class Session:
+    """A session: the words that a program is called with, and what it asks its server, each with the reply to it.
+
+    After the last question there may be no reply. All replies are at the standard input of the program from the start,
+    which ends after them. Texts of words are as a line, or one by one; bytes are a reply as it is sent.
+    """
+
+    name: str
+    words: Union[str, List[str]]
+    talk: List[Any]
+    said: str = ""  # the whole of standard error
+    status: int = 0
+    unasked: Sequence[Any] = ()  # replies that are there too, after the others
+
+    def replies(self, protocol: int = 3) -> bytes:
+        """What the server sends."""
+        return as_sent([*self.talk[1::2], *self.unasked], protocol)
+
+    def asked(self) -> bytes:
+        """What the program has to send."""
+        return b"".join(resp.encode(words_in(command)) for command in self.talk[::2])
+
+    def run(self, program: str, **more: Any) -> List[str]:
+        """Runs it. Returns what goes otherwise in what is sent and said, and in the status."""
+        ran = subprocess.run([program, *words_in(self.words)], input=self.replies(), capture_output=True, timeout=60, **more)
+        return differences(sent=(ran.stdout, self.asked()), status=(ran.returncode, self.status), said=(ran.stderr.decode(), self.said))
+
+
+def weave(asked: Sequence[Any], replies: Sequence[Any]) -> List[Any]:
+    """Questions, each with the reply to it, and with none if they are more."""
+    return [part for pair in itertools.zip_longest(asked, replies, fillvalue=b"") for part in pair]
+
+
+def words_in(line: Union[str, List[Any]]) -> List[Any]:
+    """The words of a line."""
+    return line.split() if isinstance(line, str) else line
+
+
+def as_sent(replies: Iterable[Any], protocol: int = 3) -> bytes:
+    """Replies as the server sends them: bytes are one as it is."""
+    return b"".join(reply if isinstance(reply, bytes) else resp.encode_reply(reply, protocol) for reply in replies)
+
+
+def differences(**pairs: Tuple[Any, Any]) -> List[str]:
+    """What was got otherwise than it has to be; of what is long the end is shown."""
+    end = lambda value: repr(value[-2000:] if isinstance(value, (bytes, str)) else value)
+    return [f"{what}: {end(got)}, not {end(right)}" for what, (got, right) in pairs.items() if got != right]
+
+
+def judge(checks: Iterable[Tuple[str, Sequence[str]]]) -> int:
+    """Prints what went otherwise in sessions, each a name and lines. Returns the status of the tool."""
+    run = failed = 0
+    for name, wrong in checks:
+        run, failed = run + 1, failed + bool(wrong)
+        for line in wrong:
+            print(f"{TOOL}: {name}: {line}")
+    print(f"{TOOL}: {run} sessions, {failed} went otherwise")
+    return 1 if failed else 0
+
+
+def error(text: str, cause: Optional[str] = None, most: int = 120) -> str:
+    """How an error is told, of which no more than so many bytes are shown."""
+    told = f"Error: {text if len(text) <= most else text[:most - 3] + '...'}\n"
+    return told if cause is None else f"{told}\nCaused by:\n    {cause}\n"
+
+
+def refusals(program: str, places: str, rows: Iterable[Tuple[str, str]]) -> Iterator[Tuple[str, str]]:
+    """Words that are refused, and what is said, as the crate clap tells it; of that USAGE and USED:OPTION are written short."""
+    for words, told in rows:
+        told = told.replace("USAGE", f"\n\nUsage: {program} [OPTIONS] {places}")
+        before, used, option = told.partition("USED")
+        told = f"{before}\n\nUsage: {program} {option.removeprefix(':')}{' ' * bool(option)}{places}" if used else told
+        yield words, f"error: {told}\n\nFor more information, try '--help'.\n"
+
+
+def version(program: str) -> str:
+    """What a program that is built from a checkout says of its version."""
+    return f"{program} {text_of('VERSION').strip()} (unproved, built from a checkout)\n"
+
+
+def calls_of_system(program: str, words: Sequence[str], coming: bytes) -> List[Tuple[str, str, bool]]:
+    """Runs a program under strace. Returns its calls that write, or have the disk take in what was written: each as its name,
+    its file, and whether it has an XACK in it."""
+    with tempfile.TemporaryDirectory() as folder:
+        subprocess.run(["strace", "-f", "-y", "-s", "999", "-e", "trace=write,writev,pwrite64,pwritev,fdatasync,fsync", "-o", "calls",
+                        program, *words], input=coming, capture_output=True, timeout=60, cwd=folder)
+        lines = text_of(f"{folder}/calls").splitlines()
+    return [(call, os.path.basename(file), "XACK" in rest)
+            for line in lines for call, file, rest in re.findall(r"(\w+)\(\d+<([^>]*)>(.*)", line)]
