@@ -4,6 +4,7 @@ from __future__ import annotations
 import contextlib
 import dataclasses
 import os
+import re
 import select
 import shutil
 import signal
@@ -21,6 +22,7 @@ CLOSING = 5.0  # seconds that a handler has to end after its lines have ended
 PIECE = 65536  # bytes that are passed on at once, and the longest reply
 HANDLER_FAILED = 4  # the status of stream_run if the handler ended or gave a wrong reply
 FINISH = signal.SIGWINCH  # 'finish the job in hand', as nginx and Apache take it; ignored by other programs
+CANNOT_OPEN = re.compile("no such file|cannot find|can(no|')t open", re.I)  # as interpreters say it of their script
 SHARED = ("site-packages", "dist-packages")  # folders that Python finds by itself
 
 
@@ -41,6 +43,12 @@ def handler_environment() -> Dict[str, str]:
     if PACKAGES not in paths and os.path.basename(PACKAGES) not in SHARED:
         paths.append(PACKAGES)
     return {**os.environ, **({"PYTHONPATH": os.pathsep.join(paths)} if paths else {})}
+
+
+def missing_script(command: Sequence[str]) -> Optional[str]:
+    """Returns the first argument that looks like a file, as the script of an interpreter, if no such file is there."""
+    script = next((word for word in command[1:] if not word.startswith("-") and re.search("[./]", word)), None)
+    return None if script is None or os.path.exists(script) else script
 
 
 def find_command(command: Sequence[str]) -> str:
@@ -125,6 +133,7 @@ class Child:
         self.handling, self.prefix, self.desk = handling, prefix, desk
         self.begun, self.lasted, self.is_late, self.last_line = time.monotonic(), 0.0, False, ""
         self.broken: Optional[str] = None
+        self.missing: Optional[str] = None
         self.run: Optional[Run] = None
         desk.in_hand = None
         find_command(handling.command)
@@ -156,6 +165,9 @@ class Child:
     def _show(self, line: str) -> bool:
         if line.strip():
             self.last_line = line.strip()
+        if CANNOT_OPEN.search(line):
+            script = missing_script(self.handling.command)
+            self.missing = script if script and os.path.basename(script) in line else self.missing
         os.write(2, f"{self.prefix}{line}\n".encode(errors="replace"))
         return False
 

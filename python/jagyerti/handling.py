@@ -160,6 +160,9 @@ class Pair(Tries):
             self.ends_at_once = 0
             self.rests.reset()
             return True
+        if child.missing:
+            self.say(f"there is no file {child.missing}: it cannot be started")
+            return False
         self.ends_at_once += 1
         if self.ends_at_once >= MOST_ENDS:
             last = f": {child.last_line}" if child.last_line else ""

@@ -2,18 +2,24 @@
 from __future__ import annotations
 
 import contextlib
+import math
+import select
 import shlex
 import socket
 import subprocess
 import threading
 import time
-from typing import IO, List, Optional
+from typing import IO, List, Optional, Tuple
 
 from . import resp
 from .connect import Failed
 
 # A command of these changes no stream, so nobody has to look again after it.
 READS = (b"XREAD", b"XRANGE", b"XREVRANGE", b"XLEN", b"XINFO", b"XPENDING", b"PING", b"HELLO", b"CLIENT", b"TIME")
+LOOK_EACH = 0.1  # seconds between two looks whether a client that waits is still there
+# What redis-server replies to a client that waits in a group.
+NO_STREAM = b"-UNBLOCKED the stream key no longer exists\r\n"
+NO_GROUP = b"-NOGROUP the consumer group this client was blocked on no longer exists\r\n"
 
 
 class Recorder:
@@ -41,7 +47,7 @@ class Program:
     def __init__(self, words: List[str]) -> None:
         self.process = subprocess.Popen(words, stdin=subprocess.PIPE, stdout=subprocess.PIPE)
         self.changed = threading.Condition()
-        self.protocol = 2
+        self.protocol, self.waiting = 2, 0
 
     def ask(self, protocol: int, words: List[bytes]) -> bytes:
         """Sends a command, and returns the bytes of its reply. Raises ConnectionError if the program has ended."""
@@ -94,6 +100,9 @@ class Session:
         with self.program.changed:
             block = None if self.is_alone else block_of(words)
             reply = self._answer_blocked(words, block) if block is not None else self.program.ask(self.protocol, words)
+            if name == b"INFO" and reply.startswith(b"$"):
+                text = reply.partition(b"\r\n")[2][:-2]
+                reply = resp.encode_reply(text.replace(b"blocked_clients:0", b"blocked_clients:%d" % self.program.waiting))
             if name == b"HELLO" and not reply.startswith(b"-"):
                 self.protocol = self.program.protocol = int(words[1]) if len(words) > 1 else self.protocol
             if name not in READS:
@@ -104,20 +113,38 @@ class Session:
     def _answer_blocked(self, words: List[bytes], block: float) -> bytes:
         """Asks again after each change, until there is something or the time is over; 0 for no end."""
         words = self._with_ids(words)
-        end = time.monotonic() + block if block else None
-        while True:
-            reply = self.program.ask(self.protocol, words)
-            left = None if end is None else end - time.monotonic()
-            if reply not in (b"*-1\r\n", b"_\r\n") or left is not None and left <= 0:
-                return reply
-            self.program.changed.wait(left)
+        end = time.monotonic() + block if block else math.inf
+        reply = self.program.ask(self.protocol, words)
+        if reply.startswith(b"-"):
+            return reply
+        self.program.waiting += 1
+        try:
+            while reply in (b"*-1\r\n", b"_\r\n") and self._sees_change(end):
+                reply = self.program.ask(self.protocol, words)
+        finally:
+            self.program.waiting -= 1
+        return self._what_is_gone(words) if reply.startswith(b"-NOGROUP") else reply
+
+    def _sees_change(self, end: float) -> bool:
+        """Waits for a change, and returns whether one came before the end. Raises ConnectionError if the client has gone."""
+        while (left := end - time.monotonic()) > 0:
+            has_changed = self.program.changed.wait(min(left, LOOK_EACH))
+            if select.select([self.connection], [], [], 0)[0] and not self.connection.recv(1, socket.MSG_PEEK):
+                raise ConnectionResetError
+            if has_changed:
+                return True
+        return False
+
+    def _what_is_gone(self, words: List[bytes]) -> bytes:
+        """Returns the error for a client that waited in a group which is no longer there."""
+        keys, _ = keys_and_ids(words)
+        return NO_GROUP if self.program.ask(2, [b"EXISTS", *keys]) == b":%d\r\n" % len(keys) else NO_STREAM
 
     def _with_ids(self, words: List[bytes]) -> List[bytes]:
         """Returns XREAD with the last id of each stream in place of `$`, which would be another one at the next look."""
         if words[0].upper() != b"XREAD" or b"$" not in words:
             return words
-        keys = words[[word.upper() for word in words].index(b"STREAMS") + 1:]
-        keys, ids = keys[:len(keys) // 2], keys[len(keys) // 2:]
+        keys, ids = keys_and_ids(words)
         return words[:len(words) - len(ids)] + [self._last_id(key) if id == b"$" else id for key, id in zip(keys, ids)]
 
     def _last_id(self, key: bytes) -> bytes:
@@ -137,6 +164,12 @@ class Session:
                 self.answer([b"DISCARD" if self.in_multi else b"UNWATCH"])
         if self.is_alone:
             self.program.changed.release()
+
+
+def keys_and_ids(words: List[bytes]) -> Tuple[List[bytes], List[bytes]]:
+    """Returns the keys of a read, and its ids."""
+    both = words[[word.upper() for word in words].index(b"STREAMS") + 1:]
+    return both[:len(both) // 2], both[len(both) // 2:]
 
 
 def block_of(words: List[bytes]) -> Optional[float]:

@@ -165,6 +165,21 @@ class Command(Running):
             running.communicate(timeout=60)
         self.assertEqual(running.returncode, 5)
 
+    def test_without_words_it_lists_the_commands(self):
+        running = self.start()
+        self.assertIn("Drains a stream", running.communicate(timeout=60)[1].decode())
+        self.assertEqual(running.returncode, 2)
+
+    def test_an_error_begins_with_the_command(self):
+        with socket.socket() as closed:
+            closed.bind(("127.0.0.1", 0))
+            url = f"redis://127.0.0.1:{closed.getsockname()[1]}"
+            for words in (["drain", "k", "g", "c", "f"], ["fill", "k", "f"], ["sqlite", "k", "g", "c", "f"]):
+                running = self.start(words[0], "--program", self.fake(""), url, *words[1:])
+                said = running.communicate(timeout=60)[1].decode()
+                self.assertRegex(said, f"^jagyerti {words[0]}: no connection with ")
+                self.assertEqual(running.returncode, 1)
+
     def test_wrong_words(self):
         rows = (
             (["drain", "http://h", "k"], 2, "wanted redis://"),

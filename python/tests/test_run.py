@@ -135,6 +135,18 @@ class Run(Running):
             running = self.start("run", self.url, "k", "g", "--program", self.fake(""), "--", command)
             self.assertEqual(f"jagyerti run: cannot run {command}: {why}\n", self.said(running, 4))
 
+    def test_a_script_that_is_missing_is_said_once(self):
+        script = os.path.join(self.folder, "nosuch.py")
+        for command in ((sys.executable, "-u", script), ("sh", script)):
+            said = self.said(self.of_command(*command), 4)
+            self.assertEqual(said.count("the handler ended with "), 1, said)
+            self.assertTrue(said.endswith(f"jagyerti run: there is no file {script}: it cannot be started\n"), said)
+
+    def test_a_file_that_the_script_misses_is_no_script(self):
+        handler = "import sys\nopen(sys.argv[1] if sys.argv[1:] else 'no.such')\n"
+        said = self.said(self.begin(handler, "--pause", "0.02"), 4)
+        self.assertIn("it ended 5 times in a row before any reply", said)
+
     def test_a_handler_that_worked_is_started_again_at_once(self):
         handler = ("import os, sys, time\nmark = sys.argv[0] + '.mark'\nsys.stdin.readline()\n"
                    "if not os.path.exists(mark):\n    open(mark, 'w')\n    time.sleep(1.2)\n    os.kill(os.getpid(), 9)\n"

@@ -53,6 +53,32 @@ class Serving(unittest.TestCase):
         self.assertIsNone(resp.ask(self.one, "XREAD", "BLOCK", "300", "STREAMS", "k", "0"))
         self.assertGreaterEqual(time.monotonic() - begun, 0.29)
 
+    def wait_until(self, count):
+        """Waits until so many clients wait, as INFO tells it."""
+        line, end = b"blocked_clients:%d\r\n" % count, time.monotonic() + 10
+        while line not in resp.ask(self.other, "INFO", "clients"):
+            self.assertLess(time.monotonic(), end)
+
+    def test_what_a_group_waits_for_goes_away(self):
+        for words, error in ((("DEL", "k"), "UNBLOCKED the stream key no longer exists"),
+                             (("FLUSHALL",), "UNBLOCKED the stream key no longer exists"),
+                             (("XGROUP", "DESTROY", "k", "g"), "NOGROUP the consumer group this client was blocked on no longer exists")):
+            resp.ask(self.other, "XGROUP", "CREATE", "k", "g", "$", "MKSTREAM")
+            self.one.sendall(resp.encode(["XREADGROUP", "GROUP", "g", "c", "BLOCK", "0", "STREAMS", "k", ">"]))
+            self.wait_until(1)
+            resp.ask(self.other, *words)
+            self.assertEqual(self.one.recv(100), f"-{error}\r\n".encode())
+            self.wait_until(0)
+
+    def test_nothing_goes_to_a_client_that_has_gone(self):
+        resp.ask(self.other, "XGROUP", "CREATE", "k", "g", "$", "MKSTREAM")
+        self.one.sendall(resp.encode(["XREADGROUP", "GROUP", "g", "c", "BLOCK", "0", "STREAMS", "k", ">"]))
+        self.wait_until(1)
+        self.one.close()
+        resp.ask(self.other, "XADD", "k", "5-1", "a", "b")
+        self.wait_until(0)
+        self.assertEqual(resp.ask(self.other, "XPENDING", "k", "g")[0], 0)
+
     def test_transactions_do_not_mix(self):
         resp.ask(self.one, "MULTI")
         self.assertEqual(resp.ask(self.one, "XADD", "k", "1-1", "a", "b"), b"QUEUED")

@@ -228,7 +228,7 @@ class ListenTest(unittest.TestCase):
     def listening(self, url: str, *words: str):
         """The command, and the port at which it listens."""
         env = dict(os.environ, PYTHONPATH=PACKAGES)
-        command = [sys.executable, "-m", "jagyerti", "top", url, "orders", "--listen", "127.0.0.1:0", *words]
+        command = [sys.executable, "-m", "jagyerti", "top", url, *words, "orders", "--listen", "127.0.0.1:0"]
         with subprocess.Popen(command, stdout=subprocess.PIPE, stderr=subprocess.PIPE, env=env, text=True) as one:
             try:
                 assert one.stdout is not None

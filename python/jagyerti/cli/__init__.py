@@ -62,6 +62,9 @@ def main(argv: Optional[List[str]] = None) -> int:
     """Runs the subcommand that these words say, or those of the process, and returns the exit status."""
     hide.passwords()
     argv = sys.argv[1:] if argv is None else argv
+    if not argv:
+        make_parser().print_help(sys.stderr)
+        return USAGE
     end = argv.index("--") if "--" in argv else len(argv)
     # Only the module of the subcommand is loaded, so that it starts soon.
     arguments, rest = make_parser(argv[:1] if argv[0:1] and argv[0] in NAMES else NAMES).parse_known_args(argv[:end])
