@@ -14,16 +14,19 @@ import time
 from typing import Callable, Dict, List, Optional, Sequence
 
 from .connect import Failed
-from .desk import LATER, Desk
-from .process import PACKAGES, Listener, Run, die_with_parent, do_nothing
+from .desk import LATER, Desk, id_of
+from .process import HELD, PACKAGES, Listener, Run, die_with_parent, do_nothing
 
 LOOK_EACH = 0.1  # seconds between two looks at a job's time
+IN_HAND = 1.0  # seconds in which stream_run ends by itself if the handler ended with a job in hand
 CLOSING = 5.0  # seconds that a handler has to end after its lines have ended
 PIECE = 65536  # bytes that are passed on at once, and the longest reply
 HANDLER_FAILED = 4  # the status of stream_run if the handler ended or gave a wrong reply
 FINISH = signal.SIGWINCH  # 'finish the job in hand', as nginx and Apache take it; ignored by other programs
-CANNOT_OPEN = re.compile("no such file|cannot find|can(no|')t open", re.I)  # as interpreters say it of their script
 SHARED = ("site-packages", "dist-packages")  # folders that Python finds by itself
+ENDS_AT_ONCE = 10.0  # seconds: a handler that ended sooner, with no reply, is broken or has a job that ends it
+KILLS = (-signal.SIGKILL, -signal.SIGTERM)  # statuses of what was ended by another process, or for want of memory
+NO_FILE = re.compile("no such file|cannot find module|could not open|can(no|')t open", re.I)
 
 
 @dataclasses.dataclass(frozen=True)
@@ -35,6 +38,7 @@ class Handling:
     grace: float = 25.0
     retry_after: Optional[float] = None
     retry_most: float = 3600.0
+    is_direct: bool = False
 
 
 def handler_environment() -> Dict[str, str]:
@@ -45,12 +49,6 @@ def handler_environment() -> Dict[str, str]:
     return {**os.environ, **({"PYTHONPATH": os.pathsep.join(paths)} if paths else {})}
 
 
-def missing_script(command: Sequence[str]) -> Optional[str]:
-    """Returns the first argument that looks like a file, as the script of an interpreter, if no such file is there."""
-    script = next((word for word in command[1:] if not word.startswith("-") and re.search("[./]", word)), None)
-    return None if script is None or os.path.exists(script) else script
-
-
 def find_command(command: Sequence[str]) -> str:
     """Returns the path of a command. Raises Failed if it is no program."""
     path = shutil.which(command[0])
@@ -58,6 +56,12 @@ def find_command(command: Sequence[str]) -> str:
         why = "it is no program" if os.path.exists(command[0]) else "there is no such program"
         raise Failed(f"cannot run {command[0]}: {why}", HANDLER_FAILED)
     return path
+
+
+def names(line: str, path: str) -> bool:
+    """Returns whether a line names this path, as it is or from the root."""
+    whole = os.path.join(os.getcwd(), path)
+    return any(re.search(rf"(?<![\w./-]){re.escape(one)}(?![\w/-])", line) for one in (path, whole))
 
 
 class Relay(threading.Thread):
@@ -71,7 +75,9 @@ class Relay(threading.Thread):
         super().__init__(daemon=True)
         self.lines, self.to_handler, self.from_handler, self.replies = self.pipes = tuple(pipes)
         self.desk, self.later, self.broken = desk, later, broken
-        self.count = 0
+        self.count, self.poll = 0, select.poll()
+        for pipe in (self.lines, self.from_handler):
+            self.poll.register(pipe, select.POLLIN)
 
     def run(self) -> None:
         """Passes on until one of both ends."""
@@ -86,10 +92,10 @@ class Relay(threading.Thread):
 
     def _pass_line(self) -> bool:
         """Waits for a line and passes it on. Returns whether it came and the handler is there."""
-        ready, _, _ = select.select([self.lines, self.from_handler], [], [])
-        if self.lines not in ready:
-            is_end = not os.read(self.from_handler, PIECE)
-            self.broken("" if is_end else "the handler wrote a line before it was asked")
+        ready = dict(self.poll.poll())
+        is_unasked = ready.get(self.from_handler, 0) & select.POLLIN
+        if is_unasked or self.lines not in ready:
+            self.broken("the handler wrote a line before it was asked" if is_unasked else "")
             return False
         piece = os.read(self.lines, PIECE)
         if piece:
@@ -103,7 +109,7 @@ class Relay(threading.Thread):
 
     def _pass_reply(self) -> bool:
         """Waits for a reply and passes it on. Returns whether it was one."""
-        reply, job = b"", self.desk.in_hand
+        reply, line = b"", self.desk.line
         while b"\n" not in reply and len(reply) <= PIECE:
             piece = os.read(self.from_handler, PIECE)
             if not piece:
@@ -111,40 +117,43 @@ class Relay(threading.Thread):
             reply += piece
         said = self.desk.end(reply)
         self.count += said is not None
-        if said == LATER and job is not None:
-            self.later(job)
+        if said == LATER and line is not None:
+            self.later(id_of(line))
         _write_all(self.replies, reply)
         return said is not None
 
 
 def _write_all(pipe: int, piece: bytes) -> None:
-    left = memoryview(piece)
-    while left:
-        left = left[os.write(pipe, left):]
+    while piece:
+        piece = piece[os.write(pipe, piece):]
 
 
 class Child:
     """A handler that runs: a process in a session of its own, with a relay between its pipes and those of stream_run.
 
     `lines` and `replies` are the ends for stream_run. What the process prints on standard error is shown with a prefix.
+    If it is direct there is no relay, and `count`, the replies, is what stream_run says in the end.
     """
 
     def __init__(self, handling: Handling, prefix: str, desk: Desk, later: Callable[[str], None]) -> None:
         self.handling, self.prefix, self.desk = handling, prefix, desk
         self.begun, self.lasted, self.is_late, self.last_line = time.monotonic(), 0.0, False, ""
+        self.status, self.is_killed, self.missing, self.count = 0, False, "", 0
+        self.absent = [word for word in handling.command[1:] if word[:1] not in ("", "-") and not os.path.exists(word)]
         self.broken: Optional[str] = None
-        self.missing: Optional[str] = None
         self.run: Optional[Run] = None
-        desk.in_hand = None
+        desk.line = None
         find_command(handling.command)
-        from_program, self.lines = os.pipe()
-        self.replies, to_program = os.pipe()
-        given, to_handler = os.pipe()
-        from_handler, taken = os.pipe()
+        given, self.lines = os.pipe()
+        self.replies, taken = os.pipe()
+        inner = []
+        if not handling.is_direct:
+            (from_program, to_program), (given, to_handler), (from_handler, taken) = (given, taken), os.pipe(), os.pipe()
+            inner = [from_program, to_handler, from_handler, to_program]
         try:
             self.process = self._start(handling.command, given, taken)
         except OSError as error:
-            for pipe in (from_program, self.lines, self.replies, to_program, to_handler, from_handler):
+            for pipe in (self.lines, self.replies, *inner):
                 os.close(pipe)
             raise Failed(f"cannot run {handling.command[0]}: {error}", HANDLER_FAILED) from None
         finally:
@@ -153,21 +162,26 @@ class Child:
         assert self.process.stderr is not None
         self.listener = Listener(self.process.stderr, self._show, do_nothing)
         self.listener.start()
-        self.relay = Relay((from_program, to_handler, from_handler, to_program), desk, later, self._break)
-        self.relay.start()
+        self.relay = Relay(inner, desk, later, self._break) if inner else None
+        if self.relay is not None:
+            self.relay.start()
 
     @staticmethod
     def _start(command: Sequence[str], given: int, taken: int) -> subprocess.Popen[bytes]:
         parent = os.getpid()
+
+        def prepare() -> None:
+            die_with_parent(parent)
+            signal.pthread_sigmask(signal.SIG_UNBLOCK, HELD)
+
         return subprocess.Popen(command, stdin=given, stdout=taken, stderr=subprocess.PIPE, env=handler_environment(),
-                                start_new_session=True, preexec_fn=lambda: die_with_parent(parent))
+                                start_new_session=True, preexec_fn=prepare)
 
     def _show(self, line: str) -> bool:
         if line.strip():
             self.last_line = line.strip()
-        if CANNOT_OPEN.search(line):
-            script = missing_script(self.handling.command)
-            self.missing = script if script and os.path.basename(script) in line else self.missing
+        if NO_FILE.search(line):
+            self.missing = self.missing or next((word for word in self.absent if names(line, word)), "")
         os.write(2, f"{self.prefix}{line}\n".encode(errors="replace"))
         return False
 
@@ -195,23 +209,35 @@ class Child:
 
     def kill(self) -> None:
         """Ends it at once, and all that it started in its session."""
+        self.is_killed = self.is_killed or self.process.poll() is None
         with contextlib.suppress(ProcessLookupError, PermissionError):
             os.killpg(self.process.pid, signal.SIGKILL)
 
-    def end(self) -> int:
-        """Waits for its end, now that its lines have ended. Returns its status."""
+    def end(self) -> None:
+        """Waits for its end, now that its lines have ended, and keeps its status."""
         try:
-            status = self.process.wait(CLOSING)
+            self.status = self.process.wait(CLOSING)
         except subprocess.TimeoutExpired:
             self.kill()
-            status = self.process.wait()
+            self.status = self.process.wait()
         self.lasted = time.monotonic() - self.begun
         self.kill()
-        self.relay.join(CLOSING)
+        if self.relay is not None:
+            self.relay.join(CLOSING)
+            self.count = self.relay.count
         self.listener.join()
         assert self.process.stderr is not None
         self.process.stderr.close()
-        return status
+
+    @property
+    def has_worked(self) -> bool:
+        """Whether it replied to a job, or ran for a while."""
+        return self.count > 0 or self.lasted >= ENDS_AT_ONCE
+
+    @property
+    def was_killed(self) -> bool:
+        """Whether something else than this killed it."""
+        return self.status in KILLS and not self.is_killed
 
     def _watch(self) -> None:
         """Kills it if a job takes too long. If it ended, ends what it left, so that its replies end too."""
@@ -219,21 +245,24 @@ class Child:
         while self.process.poll() is None:
             time.sleep(LOOK_EACH)
             since = desk.since
-            if most is not None and time.monotonic() - since > most and desk.in_hand is not None and desk.since == since:
+            if most is not None and time.monotonic() - since > most and desk.line is not None and desk.since == since:
                 self.is_late = True
                 break
         self.kill()
+        if self.relay is None and self.run is not None and self.run.lasts(IN_HAND):
+            self.broken = ""
+            self.run.stop()
 
-    def outcome(self, status: int) -> str:
+    def outcome(self) -> str:
         """Returns how it ended, in words."""
         if self.is_late:
             return f"the job took more than {self.handling.job_timeout:g} seconds"
         if self.broken:
             return self.broken
         last = f": {self.last_line}" if self.last_line else ""
-        if status < 0:
-            return f"the handler was ended by {signal.Signals(-status).name}{last}"
-        return f"the handler ended with {status}{last}"
+        if self.status < 0:
+            return f"the handler was ended by {signal.Signals(-self.status).name}{last}"
+        return f"the handler ended with {self.status}{last}"
 
 
 def arguments_of(words: Sequence[str], name: str, number: int = 1) -> Optional[List[str]]:

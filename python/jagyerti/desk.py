@@ -1,6 +1,7 @@
 """The jobs of one handler after the other: the one in hand, counts of replies, seconds of each job, and why jobs failed."""
 from __future__ import annotations
 
+import bisect
 import itertools
 import re
 import time
@@ -14,6 +15,12 @@ REPLY = re.compile(rb"(done|stop|later|later (.*)|dead (.*))\n", re.S)
 LATER, DEAD, DONE, STOP = "later", "dead", "done", "stop"
 
 
+def id_of(line: bytes) -> str:
+    """Returns the id of the job that has this line, or a line that begins so."""
+    found = ID.match(line)
+    return found[1].decode() if found else "?"
+
+
 class Spread:
     """How many jobs took at most so many seconds, for each bucket, and the seconds of all."""
 
@@ -22,8 +29,7 @@ class Spread:
 
     def add(self, seconds: float) -> None:
         """Counts a job."""
-        at = next((at for at, most in enumerate(BUCKETS) if seconds <= most), len(BUCKETS))
-        self.counts[at] += 1
+        self.counts[bisect.bisect_left(BUCKETS, seconds)] += 1
         self.sum += seconds
 
     def figure(self) -> List[float]:
@@ -37,10 +43,15 @@ class Desk:
     def __init__(self) -> None:
         self.counts = dict.fromkeys((DONE, LATER, DEAD, STOP), 0)
         self.timeouts, self.handlers = 0, 0
-        self.in_hand: Optional[str] = None
+        self.line: Optional[bytes] = None
         self.since, self.last_done = 0.0, 0.0
         self.spread = Spread()
         self.reasons: Dict[str, str] = {}
+
+    @property
+    def in_hand(self) -> Optional[str]:
+        """The id of the job in hand."""
+        return None if self.line is None else id_of(self.line)
 
     @property
     def replies(self) -> int:
@@ -51,31 +62,33 @@ class Desk:
         """Returns what the metrics say of jobs."""
         last = {"last_entry_timestamp_seconds": f"{self.last_done:.3f}"} if self.last_done else {}
         return {"done": self.counts[DONE], "later": self.counts[LATER], "dead": self.counts[DEAD], "timeouts": self.timeouts,
-                "restarts": max(0, self.handlers - 1), "in_hand": int(self.in_hand is not None),
+                "restarts": max(0, self.handlers - 1), "in_hand": int(self.line is not None),
                 "job_seconds": self.spread.figure(), **last}
 
     def begin(self, line: bytes) -> None:
         """Takes a line, or the beginning of a long one: its job is in hand."""
-        found = ID.match(line)
         self.since = time.monotonic()
-        self.in_hand = found[1].decode() if found else "?"
+        self.line = line
 
     def end(self, reply: bytes) -> Optional[str]:
         """Takes the reply to the job in hand, and returns what it says. After None, no reply, the job is still in hand."""
-        found = REPLY.match(reply[:reply.find(b"\n") + 1])
-        if found is None or self.in_hand is None:
+        line, kind, text = self.line, DONE, ""
+        if reply != b"done\n":
+            found = REPLY.match(reply[:reply.find(b"\n") + 1])
+            kind = found[1].partition(b" ")[0].decode() if found else ""
+            text = (found[2] or found[3] or b"").decode(errors="replace").strip() if found else ""
+        if not kind or line is None:
             return None
-        kind = found[1].partition(b" ")[0].decode()
         self.counts[kind] += 1
         if kind != STOP:
             self.spread.add(time.monotonic() - self.since)
         if kind == DONE:
             self.last_done = time.time()
-            self.reasons.pop(self.in_hand, None)
+            if self.reasons:
+                self.reasons.pop(id_of(line), None)
         elif kind != STOP:
-            text = (found[2] or found[3] or b"").decode(errors="replace").strip()
-            self.note(self.in_hand, f"{kind}: {text}" if text else f"it replied {kind}")
-        self.in_hand = None
+            self.note(id_of(line), f"{kind}: {text}" if text else f"it replied {kind}")
+        self.line = None
         return kind
 
     def note(self, job: str, why: str) -> None:

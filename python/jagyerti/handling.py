@@ -22,10 +22,11 @@ from .url import Address
 
 Report = Callable[[Dict[str, Value]], None]
 
-ENDS_AT_ONCE = 10.0  # seconds: a handler that ended sooner, with no reply, is broken or has a job that ends it
-MOST_ENDS = 5  # of such ends in a row
+MOST_ENDS = 5  # of handlers in a row that had not worked
 IDLE = 60_000  # milliseconds: the default of --idle of stream_run
 COUNTS = re.compile(r"done ([0-9]+), batches ([0-9]+), left pending ([0-9]+)(?:, dead letters ([0-9]+))?")
+FAILED_JOB = re.compile(r"the child(?:'s reply| has no reply) to the entry ([0-9]+-[0-9]+)")
+NOTE = re.compile("([0-9]+-[0-9]+) ((?:later|dead): .*)")
 NO_GROUP = "the server answers NOGROUP"
 
 
@@ -41,7 +42,7 @@ class Pair(Tries):
         self.handling, self.tell_figures = handling, report
         self.child: Optional[Child] = None
         self.desk, self.place = Desk(), None
-        self.status_of_child, self.ends_at_once = 0, 0
+        self.ends_at_once = 0
         self.rests = Pauses(self.plan.pause)
         self.link = Link(lambda: self.place, self.plan.options, self.say)
         self.keeper, self.beat = self._make_keeper(), None
@@ -130,7 +131,10 @@ class Pair(Tries):
             return super().run_once(find_server)
         finally:
             if self.child is not None:
-                self.status_of_child = self.child.end()
+                self.child.end()
+                if self.child.has_worked:
+                    self.ends_at_once = 0
+                    self.rests.reset()
             self.tell_figures(self.figures_of_jobs())
 
     def _outcome(self, status: int, silent: float, has_asked: bool) -> Tuple[int, bool]:
@@ -149,21 +153,22 @@ class Pair(Tries):
         return True
 
     def _may_go_on(self) -> bool:
-        """Says how the handler ended, and waits if it replied to nothing. Returns whether it may be started again."""
+        """Says how the handler ended, and waits if it replied to nothing. Returns whether it may be started again.
+
+        One that was killed from outside is not broken: so it is not counted, but the pauses grow.
+        """
         child = self.child
         assert child is not None
-        why = child.outcome(self.status_of_child)
+        why = child.outcome()
         self.say(why)
         self.desk.timeouts += child.is_late
         self._take_failed(why)
-        if child.relay.count or child.lasted >= ENDS_AT_ONCE:
-            self.ends_at_once = 0
-            self.rests.reset()
+        if child.has_worked:
             return True
         if child.missing:
-            self.say(f"there is no file {child.missing}: it cannot be started")
+            self.say(f"cannot run {self.handling.command[0]}: there is no file {child.missing}")
             return False
-        self.ends_at_once += 1
+        self.ends_at_once += not child.was_killed
         if self.ends_at_once >= MOST_ENDS:
             last = f": {child.last_line}" if child.last_line else ""
             self.say(f"it ended {MOST_ENDS} times in a row before any reply{last}")
@@ -173,7 +178,8 @@ class Pair(Tries):
 
     def _take_failed(self, why: str) -> None:
         """Keeps why the job in hand failed, and holds it back."""
-        job, self.desk.in_hand = self.desk.in_hand, None
+        named = FAILED_JOB.search(self.error) if self.handling.is_direct else None
+        job, self.desk.line = self.desk.in_hand or (named[1] if named else None), None
         if job is None:
             return
         self.desk.note(job, "its reply was none" if "'s reply to the entry" in self.error else why)
@@ -182,9 +188,13 @@ class Pair(Tries):
 
     def hear(self, line: str) -> bool:
         """Takes a line of stream_run. Its counts are told, and shown unless --quiet is given."""
-        found = COUNTS.fullmatch(line)
+        note, found = NOTE.fullmatch(line), COUNTS.fullmatch(line)
+        if note is not None and self.handling.is_direct:
+            self.desk.note(note[1], note[2])
         if found is None:
             return super().hear(line)
+        if self.child is not None and self.handling.is_direct:
+            self.child.count = int(found[1]) + int(found[3])
         self.entries = int(found[1])
         self.figures.set({"entries": self.entries, "batches": int(found[2]), "dead_letters": int(found[4] or 0)})
         self.tell_figures(self.figures_of_jobs())
@@ -208,7 +218,7 @@ class Crew:
     """Pairs of stream_run and a handler, each in a process of its own if there are several."""
 
     def __init__(self, plan: Plan, handling: Handling, number: int) -> None:
-        self.plan, self.handling, self.number = plan, handling, number
+        self.plan, self.handling, self.number, self.is_ending = plan, handling, number, False
         self.team = Team(range(1, number + 1), self._serve)
         self.metrics = MetricsFile(plan.metrics, plan.metrics_prefix, plan.say) if plan.metrics else None
 
@@ -217,16 +227,23 @@ class Crew:
         if self.number == 1:
             return Pair(self.plan, self.handling).run_to_the_end()
         for held in HELD:
-            signal.signal(held, lambda *_: self.team.pass_on())
+            signal.signal(held, lambda *_: self._end_all())
         self.team.start()
         while self.team.children:
             self.team.take_rows(1)
             self.team.reap()
+            if any(self.team.ended.values()) and not self.is_ending:
+                self._end_all()
             self._write_metrics()
         while self.team.take_rows(0):
             pass
         self._write_metrics()
         return self.team.worst()
+
+    def _end_all(self) -> None:
+        """Has all end cleanly: after a signal, and if one of them has failed, so that it is not one less for long."""
+        self.is_ending = True
+        self.team.pass_on()
 
     def _serve(self, at: int, tell: Tell) -> int:
         """Runs one pair, in the process of its own."""

@@ -172,6 +172,15 @@ class Run:
         if self.process is not None:
             self.process.kill()
 
+    def lasts(self, seconds: float) -> bool:
+        """Waits so long for its end. Returns whether it still runs."""
+        assert self.process is not None
+        try:
+            self.process.wait(seconds)
+        except subprocess.TimeoutExpired:
+            return True
+        return False
+
     def wait(self) -> int:
         """Waits for its end. Returns its status, or the negative number of the signal that ended it."""
         assert self.process is not None

@@ -34,7 +34,7 @@ class ReadJob(unittest.TestCase):
         self.assertEqual(jobs.read_job(b'{"id":"1-0","fields":[],"stream":"s","deliveries":3}').deliveries, 3)
 
     def test_other_lines_are_refused(self):
-        for line in (b"", b"done\n", b"[]", b'{"id":1,"fields":[]}', b'{"id":"1-0"}'):
+        for line in (b"", b"done\n", b"[]", b'{"id":1,"fields":[]}', b'{"id":"1-0"}', LINE.strip() + b" {}\n", b"\xff\n"):
             with self.assertRaises(ValueError, msg=line):
                 jobs.read_job(line)
 

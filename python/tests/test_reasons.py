@@ -29,6 +29,14 @@ class Reasons(Live):
             self.assertRegex(said, rf"\njagyerti run: {job} was given up after [2-9] deliveries: {why}\n")
         self.assertEqual(said.count("was given up"), 5)
 
+    def test_why_a_job_failed_without_a_relay(self):
+        self.add(("later no item", 99), ("exit", 99), ("dead no order", 99), ("done", 0))
+        running = self.begin("c", "--direct", "--dead", "2", "lost", "--idle", "300", "--every", "1", "--block", "100", "--pause", "0.02")
+        self.until(lambda: self.server.ask("XLEN", "lost") == 3 and self.pending() == 0, 120)
+        said = self.stop(running)
+        for job, why in (("1-0", "later: no item"), ("2-0", "the handler ended with 3"), ("3-0", "dead: no order")):
+            self.assertRegex(said, rf"\njagyerti run: {job} was given up after [2-9] deliveries: {why}\n")
+
 
 class Jobs(unittest.TestCase):
     """The desk of a pair."""

@@ -5,9 +5,12 @@ import shutil
 import signal
 import subprocess
 import sys
+import threading
 import time
 import unittest
 
+from jagyerti.child import Relay
+from jagyerti.desk import Desk
 from jagyerti.process import PACKAGES
 
 from .test_command import Running
@@ -83,6 +86,10 @@ class Run(Running):
         said = self.said(self.begin(DONE + "print('ends', file=sys.stderr)\n"), 0)
         self.assertIn(f"{os.uname().nodename}: ends\n", said)
 
+    def test_no_signal_is_blocked_in_a_handler(self):
+        handler = "import signal, sys\nprint('blocked', *signal.pthread_sigmask(signal.SIG_BLOCK, []), file=sys.stderr)\n"
+        self.assertIn(": blocked\n", self.said(self.begin(handler + DONE), 0))
+
     def test_a_handler_that_ends_at_once_is_started_five_times(self):
         said = self.said(self.begin("import sys\nsys.stdin.readline()\nsys.exit(3)\n", "--pause", "0.02"), 4)
         self.assertEqual(said.count("the handler ended with 3"), 5)
@@ -135,17 +142,73 @@ class Run(Running):
             running = self.start("run", self.url, "k", "g", "--program", self.fake(""), "--", command)
             self.assertEqual(f"jagyerti run: cannot run {command}: {why}\n", self.said(running, 4))
 
-    def test_a_script_that_is_missing_is_said_once(self):
-        script = os.path.join(self.folder, "nosuch.py")
-        for command in ((sys.executable, "-u", script), ("sh", script)):
-            said = self.said(self.of_command(*command), 4)
-            self.assertEqual(said.count("the handler ended with "), 1, said)
-            self.assertTrue(said.endswith(f"jagyerti run: there is no file {script}: it cannot be started\n"), said)
-
     def test_a_file_that_the_script_misses_is_no_script(self):
         handler = "import sys\nopen(sys.argv[1] if sys.argv[1:] else 'no.such')\n"
         said = self.said(self.begin(handler, "--pause", "0.02"), 4)
         self.assertIn("it ended 5 times in a row before any reply", said)
+
+    def test_direct(self):
+        script = "while read line; do echo done; done; echo ends >&2"
+        said = self.said(self.of_command("sh", "-c", script, options=["--direct"]), 0)
+        self.assertIn("reply 1 b'done\\n'\nreply 2 b'done\\n'\ndone 2, batches 1, left pending 0\n", said)
+        self.assertIn(": ends\n", said)
+        for words in (["--job-timeout", "1"], ["--retry-after", "1"], ["--metrics", "x"]):
+            self.assertIn("--direct excludes", self.said(self.of_command("true", options=["--direct", *words]), 2))
+
+    def test_direct_with_a_handler_that_ends(self):
+        said = self.said(self.of_command("sh", "-c", "read line; exit 3", options=["--direct", "--pause", "0.02"]), 4)
+        self.assertEqual(said.count("the handler ended with 3"), 5)
+        mark = os.path.join(self.folder, "mark")
+        script = f"read line; if mkdir {mark}; then echo done; read line; exit 3; fi; echo done; read line; echo done"
+        said = self.said(self.of_command("sh", "-c", script, options=["--direct", "--pause", "60"]), 0)
+        self.assertEqual((said.count("the handler ended with 3"), said.count("words k g")), (1, 2))
+
+    def test_direct_with_a_handler_that_ends_before_any_job(self):
+        running = self.begin("import no_such_module\n", "--direct", "--pause", "0.02", "--timeout", "60", waits=True, jobs=0)
+        self.assertEqual(self.said(running, 4).count("the handler ended with 1: ModuleNotFoundError"), 5)
+
+    def test_a_handler_file_that_is_missing(self):
+        path = os.path.join(self.folder, "no_such")
+        for command in (["python3", "-u", path], ["sh", path], ["bash", path], ["node", path], ["perl", path]):
+            if shutil.which(command[0]):
+                with self.subTest(command[0]):
+                    said = self.said(self.of_command(*command), 4)
+                    self.assertEqual((said.count("words k g"), said.count("the handler ended with")), (1, 1), said)
+                    self.assertTrue(said.endswith(f"jagyerti run: cannot run {command[0]}: there is no file {path}\n"), said)
+
+    def test_another_file_that_a_handler_wants(self):
+        handler = "import sys\nsys.stdin.readline()\nopen('/no/' + sys.argv[1] + '/such')\n"
+        said = self.said(self.of_command(sys.executable, "-c", handler, "red", options=["--pause", "0.02"]), 4)
+        self.assertEqual(said.count("the handler ended with 1"), 5)
+
+    def killed(self, times, then, status):
+        """Returns what is said if a handler is killed so often before any reply, and then does something else."""
+        mark = os.path.join(self.folder, f"killed-{times}")
+        script = f"read line; echo x >> {mark}; if [ $(wc -l < {mark}) -le {times} ]; then kill -9 $$; fi; {then}"
+        return self.said(self.of_command("sh", "-c", script, options=["--pause", "0.02"]), status)
+
+    def test_a_handler_that_is_killed_from_outside_is_not_broken(self):
+        said = self.killed(5, "echo done; while read line; do echo done; done", 0)
+        self.assertEqual(said.count("the handler was ended by SIGKILL"), 5)
+
+    def test_a_handler_that_was_killed_may_be_broken_too(self):
+        said = self.killed(1, "exit 3", 4)
+        self.assertEqual((said.count("ended by SIGKILL"), said.count("the handler ended with 3")), (1, 5))
+
+    def test_jobs_that_take_too_long_are_counted(self):
+        handler = "import sys, time\nsys.stdin.readline()\ntime.sleep(60)\n"
+        said = self.said(self.begin(handler, "--pause", "0.02", "--job-timeout", "0.1"), 4)
+        self.assertEqual(said.count("the job took more than 0.1 seconds"), 5)
+
+    def test_if_one_of_several_fails_all_end(self):
+        handler = ("import sys, time\nmark = sys.argv[0] + '.mark'\nsys.stdin.readline()\n"
+                   "try:\n    open(mark, 'x')\nexcept FileExistsError:\n    sys.exit(3)\nprint('done', flush=True)\n" + DONE)
+        running = self.begin(handler, "--pause", "0.02", "--processes", "2", "--timeout", "60", waits=True)
+        accepted = []
+        threading.Thread(target=lambda: accepted.extend(self.listener.accept() for _ in range(9)), daemon=True).start()
+        said = self.said(running, 4)
+        self.assertIn("it ended 5 times in a row before any reply", said)
+        self.assertIn("done 2, batches 1", said)
 
     def test_a_handler_that_worked_is_started_again_at_once(self):
         handler = ("import os, sys, time\nmark = sys.argv[0] + '.mark'\nsys.stdin.readline()\n"
@@ -275,6 +338,55 @@ class Run(Running):
         begun = time.monotonic()
         running.communicate(timeout=60)
         self.assertLess(time.monotonic() - begun, 10)
+
+
+class Relays(unittest.TestCase):
+    """The relay alone, between four pipes."""
+
+    def setUp(self):
+        (given, self.line), (self.lines, to_handler), (from_handler, self.reply), (self.replies, taken) = (os.pipe() for _ in range(4))
+        self.ends = [self.line, self.lines, self.reply, self.replies]
+        self.addCleanup(lambda: [os.close(end) for end in self.ends])
+        self.desk, self.said = Desk(), []
+        self.relay = Relay((given, to_handler, from_handler, taken), self.desk, self.said.append, self.said.append)
+
+    def close(self, end):
+        self.ends.remove(end)
+        os.close(end)
+
+    def test_lines_and_replies_are_passed_on(self):
+        self.relay.start()
+        for line, reply in ((b'{"id":"1-0"}\n', b"done\n"), (b'{"id":"2-0"' + b"x" * 300_000 + b"\n", b"later\n")):
+            writing = threading.Thread(target=lambda: os.write(self.line, line))
+            writing.start()
+            got = b""
+            while not got.endswith(b"\n"):
+                got += os.read(self.lines, 1 << 20)
+            writing.join()
+            self.assertEqual((got == line, self.desk.in_hand), (True, line[7:10].decode()))
+            for at in range(len(reply)):
+                os.write(self.reply, reply[at:at + 1])
+            self.assertEqual(os.read(self.replies, 100), reply)
+        self.close(self.line)
+        self.assertEqual((os.read(self.lines, 9), os.read(self.replies, 9)), (b"", b""))
+        self.assertEqual((self.said, self.relay.count, self.desk.in_hand), (["2-0"], 2, None))
+
+    def run_to_its_end(self):
+        self.relay.start()
+        self.relay.join(20)
+        self.assertFalse(self.relay.is_alive())
+
+    def test_a_reply_that_was_there_before_the_line_is_none(self):
+        os.write(self.reply, b"done\n")
+        os.write(self.line, b'{"id":"1-0"}\n')
+        self.run_to_its_end()
+        self.assertEqual(self.said, ["the handler wrote a line before it was asked"])
+        self.assertEqual((os.read(self.lines, 99), os.read(self.replies, 99), self.desk.in_hand), (b"", b"", None))
+
+    def test_a_handler_that_ends_before_the_line(self):
+        self.close(self.reply)
+        self.run_to_its_end()
+        self.assertEqual(self.said, [""])
 
 
 if __name__ == "__main__":

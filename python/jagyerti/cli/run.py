@@ -31,7 +31,8 @@ With --retry-after a job that failed is pending for CONSUMER.later during its pa
 if this is gone. When a job is given up by --dead, it is told why it failed last.
 
 A command that ends is started again, after a growing pause if it replied to nothing. After five such ends in a row, each
-within ten seconds, this ends. So a job that ends each command needs --dead with a number up to 4.
+within ten seconds, this ends. So a job that ends each command needs --dead with a number up to 4. A command that another
+process killed is not counted. If one of --processes ends with an error, the others finish their batches and end too.
 After a connection that broke it connects again, without end unless --retry says how often.
 
 With --cluster there is a stream_run and a COMMAND for each partition k of N, on KEY:{k}. URL names one node or more, and
@@ -42,7 +43,7 @@ SIGWINCH: one that takes it may reply 'stop' to the next line. Then all ends wit
 once; jobs that were in hand come again.
 
 exit status: 0 after --until-empty, 'stop' or a signal; 1 if the server is not there, takes no login or, without --from, has
-no such group; 2 if words are wrong; 4 if COMMAND cannot be started, ends again and again, or gives a reply that is none.
+no such group; 2 if words are wrong; 4 if COMMAND or its file is not there, or if it ends again and again.
 
 example: jagyerti run redis://127.0.0.1:6379 orders packers -- python3 pack.py
 """
@@ -70,6 +71,9 @@ def add_parser(subparsers: Any) -> None:
                        "delivery, and up to a quarter more by chance; else after --idle, or at once if the command ended")
     group.add_argument("--retry-most", metavar="SECONDS", type=seconds, default=None,
                        help="--retry-after grows up to so long (3600)")
+    group.add_argument("--direct", action="store_true",
+                       help="the command and stream_run share two pipes: a job costs less, but nothing sees a reply that comes "
+                       "before its line, which is taken for the reply to it; not with --job-timeout, --retry-after, --metrics")
     group.add_argument("--line-buffered", action="store_true",
                        help="the command is started with 'stdbuf -oL', so that a program of C prints each line at once")
     group.add_argument("--grace", metavar="SECONDS", type=seconds, default=25.0,
@@ -105,13 +109,16 @@ def handling_of(arguments: argparse.Namespace) -> Handling:
     after, most = arguments.retry_after, arguments.retry_most
     if most is not None and (after is None or most < after):
         raise Failed("--retry-most is for --retry-after, and not below it", USAGE)
+    if arguments.direct and (arguments.job_timeout is not None or after is not None or arguments.metrics):
+        raise Failed("--direct excludes --job-timeout, --retry-after and --metrics, which want each reply seen", USAGE)
+    find_command(arguments.after)
     command = line_buffered(arguments.after) if arguments.line_buffered else arguments.after
-    return Handling(command, arguments.job_timeout, arguments.grace, after, max(3600.0, after or 0) if most is None else most)
+    return Handling(command, arguments.job_timeout, arguments.grace, after, max(3600.0, after or 0) if most is None else most,
+                    arguments.direct)
 
 
 def line_buffered(command: List[str]) -> List[str]:
     """Returns a command that has a C library print each line at once."""
-    find_command(command)
     if shutil.which("stdbuf") is None:
         raise Failed("--line-buffered wants the program stdbuf, of GNU coreutils, which is not installed", USAGE)
     return ["stdbuf", "-oL", *command]
