@@ -302,7 +302,7 @@ class Run(Running):
         path = os.path.join(self.folder, "metrics")
         handler = ("import os, sys, time\nmark = sys.argv[0] + '.mark'\nsys.stdin.readline()\n"
                    "if not os.path.exists(mark):\n    open(mark, 'w')\n    time.sleep(50)\nprint('done', flush=True)\n" + DONE)
-        self.said(self.begin(handler, "--metrics", path, "--job-timeout", "0.4", "--pause", "0.02"), 0)
+        self.said(self.begin(handler, "--metrics", path, "--job-timeout", "3", "--pause", "0.02"), 0)
         samples = self.metrics(path)
         names = "stream_run_timeouts_total", "stream_run_restarts_total", "stream_run_starts_total"
         self.assertEqual([samples[name] for name in names], [[1], [1], [2]])

@@ -80,9 +80,10 @@ pub record IsFilledAt (texts : List ℕ) (p : SummaryRecord) (ps : List Consumer
   pub end_id : IsCopyAt texts p.end_id s.end_id
   pub consumers : AreAt (IsConsumerAt texts) ps s.consumers
 
--- the records tell of what is pending, or that nothing is
+-- the records tell of what is pending; or that nothing is, and then their places are empty
 abbrev pub IsSummaryAt : List ℕ → SummaryRecord → List ConsumerRecord → Option PendingSummary → Type 0
-IsSummaryAt texts p consumers None = (p.count ≡ 0) × (consumers ≡ [])
+IsSummaryAt texts p consumers None =
+    (p ≡ record { count = 0; start_id = nowhere; end_id = nowhere }) × (consumers ≡ [])
 IsSummaryAt texts p consumers (Some s) = IsFilledAt texts p consumers s
 
 -- the texts of what is pending

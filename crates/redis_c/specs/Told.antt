@@ -130,10 +130,12 @@ IsRoom In bytes room (outcomes.InPlace len counts) = ⊥
 IsRoom In bytes room (outcomes.Room len counts) = IsWanted In bytes room len counts
 IsRoom In bytes room o = IsOther bytes o
 
--- that more places are needed than one of the tables has room for; or that memory ran out
+-- that more places are needed than one of the tables has room for; or, if each table has room for all places, that
+-- memory ran out
 abbrev pub IsWanting : ℕ → Counts → Counts → Outcome → Type 0
 IsWanting len counts room (outcomes.Room l c) = (l ≡ len) × (c ≡ counts) × IsTooMuch counts room
-IsWanting len counts room outcomes.Memory = Unit {0}
+IsWanting len counts room outcomes.Memory =
+    (counts.streams ≤ room.streams) × (counts.entries ≤ room.entries) × (counts.fields ≤ room.fields)
 IsWanting len counts room o = ⊥
 
 -- no more places are returned than the tables have

@@ -2,6 +2,7 @@
 ghost use Rattle.std.specs.Prelude.{◌≡◌, ◌++◌, flat_map, map, IfOk};
 ghost use Rattle.redis_streams.specs.InfoMeaning.{consumer_meaning, group_meaning};
 ghost use Rattle.redis_streams.specs.PendingMeaning.{pending_id_meaning, pending_meaning};
+ghost use Rattle.redis_c.specs.Outcome.{nowhere};
 ghost use Rattle.redis_c.specs.Records.{IsCopyAt, AreAt, IsGroupAt, IsPendingAt, IsConsumerAt, IsSummaryAt};
 ghost use Rattle.redis_c.specs.Records.{group_text, pending_text, consumer_text, summary_text};
 
@@ -155,7 +156,7 @@ pub fn put_summary(
 
 /// The summary if nothing is pending.
 fn nothing_pending() -> SummaryRecord
-    ensures { result.count ≡ 0 }
+    ensures { result ≡ record { count = 0; start_id = nowhere; end_id = nowhere } }
 {
     let nowhere = Span { start: 0, len: 0 };
     SummaryRecord {

@@ -33,6 +33,22 @@ const LARGEST: &str = "1 GiB";
 /// The limit on the values of a reply, as in `Limits::default`.
 const MOST: &str = "16,777,216";
 
+/// How a drain ended: with a read that returned no new entries. Only `drain` makes one.
+#[derive(Clone, Copy)]
+pub struct Drained {
+    /// The last turn.
+    last: TurnMade,
+}
+
+/// A turn of the loop.
+#[derive(Clone, Copy)]
+struct TurnMade {
+    /// The command that was sent last in it.
+    asked: Asked,
+    /// How many entries the handler had seen before it.
+    before: u64,
+}
+
 /// Drains until something fails, or, with `until_empty`, until a read returns no new entries.
 pub fn drain<R: Read + Drop, W: Write + Drop, D: LogFile + Drop, T: Clock + Eprint + AllocGlobal>(
     rt: &T,
@@ -43,8 +59,10 @@ pub fn drain<R: Read + Drop, W: Write + Drop, D: LogFile + Drop, T: Clock + Epri
     dead: &mut Option<DeadLetterSearch>,
     wait: Option<Wait>,
     until_empty: bool,
-) -> Result<(), Failure>
+) -> Result<Drained, Failure>
     ensures ended { IfOk result (λ _. IsTrue until_empty) }
+    ensures read { IfOk result (λ drained. drained.last.asked ≡ Asked.New) }
+    ensures empty { IfOk result (λ drained. drained.last.before ≡ lines.new.seen) }
     ensures ok { OnOk result (Leads (Loops worker.old.settings) connection.old connection.new
         (standing_of worker.old (⟦<Lines<D> as Handler>⟧.history lines.old))
         (standing_of worker.new (⟦<Lines<D> as Handler>⟧.history lines.new))) }
@@ -58,17 +76,16 @@ pub fn drain<R: Read + Drop, W: Write + Drop, D: LogFile + Drop, T: Clock + Epri
 {
     let mut asked = Asked::Nothing;
     for _ in 0..u64::MAX {
-        let seen = lines.seen;
-        asked = turn(rt, connection, worker, lines, report, dead, wait, asked)?;
-        if until_empty && asked == Asked::New && lines.seen == seen {
-            return Ok(());
+        let last = turn(rt, connection, worker, lines, report, dead, wait, asked)?;
+        asked = last.asked;
+        if until_empty && asked == Asked::New && lines.seen == last.before {
+            return Ok(Drained { last });
         }
     }
     Err(anyhow!("the last turn came").into())
 }
 
-/// Searches for entries to give up, makes a round, or two in one write, and counts. Returns the command that was sent
-/// last.
+/// Searches for entries to give up, makes a round, or two in one write, and counts.
 fn turn<R: Read + Drop, W: Write + Drop, D: LogFile + Drop, T: Clock + Eprint + AllocGlobal>(
     rt: &T,
     connection: &mut Connection<R, W>,
@@ -78,7 +95,8 @@ fn turn<R: Read + Drop, W: Write + Drop, D: LogFile + Drop, T: Clock + Eprint + 
     dead: &mut Option<DeadLetterSearch>,
     wait: Option<Wait>,
     asked: Asked,
-) -> Result<Asked, Failure>
+) -> Result<TurnMade, Failure>
+    ensures before { IfOk result (λ turn. turn.before ≡ lines.old.seen) }
     ensures settings { worker.new.settings ≡ worker.old.settings }
     ensures ok { OnOk result (Leads (Loops worker.old.settings) connection.old connection.new
         (standing_of worker.old (⟦<Lines<D> as Handler>⟧.history lines.old))
@@ -86,18 +104,22 @@ fn turn<R: Read + Drop, W: Write + Drop, D: LogFile + Drop, T: Clock + Eprint + 
     ensures err { OnErr result (Leads (Stops worker.old.settings) connection.old connection.new
         (standing_of worker.old (⟦<Lines<D> as Handler>⟧.history lines.old))
         (standing_of worker.new (⟦<Lines<D> as Handler>⟧.history lines.new))) }
-    ensures confirmed { IfOk result (λ asked. IfSome wait (λ w. IsConfirmedTurn
+    ensures confirmed { IfOk result (λ turn. IfSome wait (λ w. IsConfirmedTurn
         ⟦<Lines<D> as Handler>⟧.with_verdict ⟦<Lines<D> as Handler>⟧.with_commit worker.old.settings w
         connection.old connection.new
         (standing_of worker.old (⟦<Lines<D> as Handler>⟧.history lines.old))
-        (standing_of worker.new (⟦<Lines<D> as Handler>⟧.history lines.new)) asked)) }
+        (standing_of worker.new (⟦<Lines<D> as Handler>⟧.history lines.new)) turn.asked)) }
 {
+    let before = lines.seen;
     look(rt.alloc(), connection, lines, dead, asked)?;
     let alone = dead.is_some() || report.is_due(rt);
     let made = any_round(rt.alloc(), connection, worker, lines, wait, alone)?;
     let due = made.acknowledged || made.round.asked == Asked::Acknowledgement;
     count(rt, connection, report, lines.committed, due)?;
-    Ok(made.round.asked)
+    Ok(TurnMade {
+        asked: made.round.asked,
+        before,
+    })
 }
 
 /// Searches for entries that were delivered too often, if they are given up.

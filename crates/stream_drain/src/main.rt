@@ -34,7 +34,7 @@ mod resume;
 mod there;
 
 use crate::backlog::Watched;
-use crate::drain::drain;
+use crate::drain::{Drained, drain};
 use crate::failure::Failure;
 use crate::lines::Lines;
 use crate::options::{Options, options_of};
@@ -61,7 +61,7 @@ fn main(rt: HostRuntime) -> Result<ExitCode> {
 }
 
 /// The exit status: 0, or 1 after a failure, which is shown on standard error.
-fn end_with<T: Eprint + AllocGlobal>(rt: &T, ended: Result<(), Failure>) -> Result<ExitCode>
+fn end_with<T: Eprint + AllocGlobal>(rt: &T, ended: Result<Drained, Failure>) -> Result<ExitCode>
     ensures ok { OnOk ended (IfOk result (λ code. exit_status code ≡ 0)) }
     ensures err { OnErr ended (IfOk result (λ code. exit_status code ≡ 1)) }
 {
@@ -119,7 +119,7 @@ fn read_arguments(rt: &HostRuntime) -> Result<Vec<String>> {
 }
 
 /// Drains by these options, over standard input and output.
-fn drain_by(rt: &HostRuntime, options: Options) -> Result<(), Failure> {
+fn drain_by(rt: &HostRuntime, options: Options) -> Result<Drained, Failure> {
     let Options {
         mut settings,
         path,

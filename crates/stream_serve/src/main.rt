@@ -4,6 +4,8 @@
 //! An argument that is a number of milliseconds is its clock, which then does not move.
 #![tactic(auto)]
 
+ghost use Rattle.std.specs.Prelude.{◌≡◌, [], OnOk};
+
 use anyhow::{Result, bail};
 use server_commands::{Client, Server};
 use std::alloc::Global;
@@ -12,8 +14,7 @@ use std::rt::Clock;
 use std::time::{SystemTime, UNIX_EPOCH};
 use std::{env, io};
 
-/// Replies to commands until the input or the connection ends. The replies to what came in one piece
-/// go out in one piece.
+/// Replies to commands until the input or the connection ends.
 fn serve<R: Read, W: Write, C: Clock>(
     alloc: Global,
     clock: &C,
@@ -35,13 +36,21 @@ fn serve<R: Read, W: Write, C: Clock>(
             None => moment(clock)?,
         };
         client.answer(alloc, &mut server, now, &piece[..len], &mut answers)?;
-        output.write_all(&answers)?;
-        output.flush()?;
-        answers.clear();
+        send(&mut answers, output)?;
         if client.has_ended() {
             return Ok(());
         }
     }
+    Ok(())
+}
+
+/// Sends the replies to what came in one piece, in one piece. None of them is left, so none is sent twice.
+fn send<W: Write>(answers: &mut Vec<u8>, output: &mut W) -> Result<()>
+    ensures { OnOk result (answers.new.items ≡ []) }
+{
+    output.write_all(answers)?;
+    output.flush()?;
+    answers.clear();
     Ok(())
 }
 

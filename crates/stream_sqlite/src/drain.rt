@@ -26,7 +26,23 @@ const LARGEST: &str = "1 GiB";
 /// The limit on the values of a reply, as `Limits::default` has it.
 const MOST: &str = "16,777,216";
 
-/// Drains until something fails, or until a read finds nothing new with `--until-empty`.
+/// How a drain ended: with a read that returned no new entries. Only `drain` and `forward` make one.
+#[derive(Clone, Copy)]
+pub struct Drained {
+    /// The last turn.
+    last: TurnMade,
+}
+
+/// A turn of the loop.
+#[derive(Clone, Copy)]
+struct TurnMade {
+    /// The command that was sent last in it.
+    asked: Asked,
+    /// How many entries the handler had seen before it.
+    before: u64,
+}
+
+/// Drains until something fails, or, with `until_empty`, until a read returns no new entries.
 pub fn drain<R: Read + Drop, W: Write + Drop, T: Table + Drop, P: Eprint + AllocGlobal>(
     rt: &P,
     connection: &mut Connection<R, W>,
@@ -35,8 +51,10 @@ pub fn drain<R: Read + Drop, W: Write + Drop, T: Table + Drop, P: Eprint + Alloc
     report: &mut Report,
     dead: &mut Option<DeadLetterSearch>,
     until_empty: bool,
-) -> Result<()>
+) -> Result<Drained>
     ensures ended { IfOk result (λ _. IsTrue until_empty) }
+    ensures read { IfOk result (λ drained. drained.last.asked ≡ Asked.New) }
+    ensures empty { IfOk result (λ drained. drained.last.before ≡ rows.new.seen) }
     ensures ok { OnOk result (Leads (Loops worker.old.settings) connection.old connection.new
         (standing_of worker.old (⟦<Rows<T> as Handler>⟧.history rows.old))
         (standing_of worker.new (⟦<Rows<T> as Handler>⟧.history rows.new))) }
@@ -46,16 +64,16 @@ pub fn drain<R: Read + Drop, W: Write + Drop, T: Table + Drop, P: Eprint + Alloc
 {
     let mut asked = Asked::Nothing;
     for _ in 0..u64::MAX {
-        let seen = rows.seen;
-        asked = turn(rt, connection, worker, rows, report, dead, asked)?;
-        if until_empty && asked == Asked::New && rows.seen == seen {
-            return Ok(());
+        let last = turn(rt, connection, worker, rows, report, dead, asked)?;
+        asked = last.asked;
+        if until_empty && asked == Asked::New && rows.seen == last.before {
+            return Ok(Drained { last });
         }
     }
     bail!("the last turn came")
 }
 
-/// Looks for entries to give up, makes a round, or two with one write, and counts. Returns the last request.
+/// Searches for entries to give up, makes a round, or two in one write, and counts.
 fn turn<R: Read + Drop, W: Write + Drop, T: Table + Drop, P: Eprint + AllocGlobal>(
     rt: &P,
     connection: &mut Connection<R, W>,
@@ -64,7 +82,8 @@ fn turn<R: Read + Drop, W: Write + Drop, T: Table + Drop, P: Eprint + AllocGloba
     report: &mut Report,
     dead: &mut Option<DeadLetterSearch>,
     asked: Asked,
-) -> Result<Asked>
+) -> Result<TurnMade>
+    ensures before { IfOk result (λ turn. turn.before ≡ rows.old.seen) }
     ensures settings { worker.new.settings ≡ worker.old.settings }
     ensures ok { OnOk result (Leads (Loops worker.old.settings) connection.old connection.new
         (standing_of worker.old (⟦<Rows<T> as Handler>⟧.history rows.old))
@@ -74,6 +93,7 @@ fn turn<R: Read + Drop, W: Write + Drop, T: Table + Drop, P: Eprint + AllocGloba
         (standing_of worker.new (⟦<Rows<T> as Handler>⟧.history rows.new))) }
 {
     let left = rows.left;
+    let before = rows.seen;
     look(
         rt.alloc(),
         connection,
@@ -86,7 +106,10 @@ fn turn<R: Read + Drop, W: Write + Drop, T: Table + Drop, P: Eprint + AllocGloba
         report.count(rows.committed);
     }
     say_left(rt, left, rows.left, &rows.fault, &rows.undone)?;
-    Ok(made.round.asked)
+    Ok(TurnMade {
+        asked: made.round.asked,
+        before,
+    })
 }
 
 /// Looks for entries that were delivered too often, if they are given up.

@@ -30,8 +30,8 @@ mod masked;
 mod options;
 mod report;
 
-use crate::drain::drain;
 use crate::drain::forward::forward;
+use crate::drain::{Drained, drain};
 use crate::masked::Masked;
 use crate::options::{Options, TABLE, options_of};
 use crate::report::Report;
@@ -61,13 +61,13 @@ fn main(rt: HostRuntime) -> Result<ExitCode> {
 }
 
 /// The exit status 0, or the failure, whose exit status is 1.
-fn end_with(alloc: Global, ended: Result<()>) -> Result<ExitCode>
+fn end_with(alloc: Global, ended: Result<Drained>) -> Result<ExitCode>
     ensures ok { OnOk ended (IfOk result (λ code. exit_status code ≡ 0)) }
     ensures given { OnOk ended (IsOk result) }
     ensures failed { OnErr ended (IsErr result) }
 {
     match ended {
-        Ok(()) => Ok(ExitCode::SUCCESS),
+        Ok(_drained) => Ok(ExitCode::SUCCESS),
         Err(error) => Err(mask_error(alloc, error)),
     }
 }
@@ -99,7 +99,7 @@ fn words_of(rt: &HostRuntime) -> Result<Vec<String>> {
 }
 
 /// Drains as these options say, over standard input and output.
-fn drain_by(rt: &HostRuntime, options: Options) -> Result<()> {
+fn drain_by(rt: &HostRuntime, options: Options) -> Result<Drained> {
     let Options {
         settings,
         path,
@@ -125,9 +125,10 @@ fn drain_by(rt: &HostRuntime, options: Options) -> Result<()> {
         say_what_waits(rt, &mut table)
     };
     let closed = table.close();
-    ended?;
+    let drained = ended?;
     said?;
-    closed.context(format_args!("cannot close {path}"))
+    closed.context(format_args!("cannot close {path}"))?;
+    Ok(drained)
 }
 
 /// Drains into this table, and returns it.
@@ -138,7 +139,7 @@ fn drain_into<S: Alter + Drop>(
     columns: Vec<Column>,
     dead: Option<GiveUp>,
     until_empty: bool,
-) -> (SqliteTable<S>, Result<()>) {
+) -> (SqliteTable<S>, Result<Drained>) {
     let mut rows = Rows::with_columns(rt.alloc(), table, columns);
     let ended = drain_over(
         rt,
@@ -161,7 +162,7 @@ fn forward_into<S: Alter + Drop>(
     target: String,
     dead: Option<GiveUp>,
     until_empty: bool,
-) -> (SqliteTable<S>, Result<()>) {
+) -> (SqliteTable<S>, Result<Drained>) {
     let mut rows = Forwarding::new(rt.alloc(), outbox, columns, target);
     let ended = forward_over(
         rt,
@@ -184,7 +185,7 @@ fn drain_over<R: Read + Drop, W: Write + Drop, T: Table + Drop, P: Eprint + Allo
     rows: &mut Rows<T>,
     dead: Option<GiveUp>,
     until_empty: bool,
-) -> Result<()> {
+) -> Result<Drained> {
     let alloc = rt.alloc();
     let mut settings = settings;
     let mut connection = Connection::new(alloc, reader, writer, Limits::default())?;
@@ -228,7 +229,7 @@ fn forward_over<R: Read + Drop, W: Write + Drop, T: WithOutbox + Drop, P: Eprint
     rows: &mut Forwarding<T>,
     dead: Option<GiveUp>,
     until_empty: bool,
-) -> Result<()> {
+) -> Result<Drained> {
     let alloc = rt.alloc();
     let mut settings = settings;
     let mut connection = Connection::new(alloc, reader, writer, Limits::default())?;

@@ -1,4 +1,5 @@
 -- What the program's contracts speak of.
 pub mod Figures
 pub mod Json
+pub mod Measured
 pub mod Metrics

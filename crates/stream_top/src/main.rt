@@ -15,6 +15,11 @@
 //! it or, with status 1, only the reason. For a wrong argument it ends with 2. `--help` lists its arguments.
 #![tactic(auto)]
 
+ghost use Rattle.std.specs.Prelude.{◌≡◌, string_bytes, IfOk};
+ghost use Rattle.std.specs.List.{list_any};
+ghost use Rattle.redis_wire.specs.Reply.{answer};
+ghost use Rattle.stream_top.specs.Measured.{is_no_such_key, is_of, milliseconds};
+
 mod figures;
 mod json_text;
 mod open_metrics;
@@ -55,7 +60,7 @@ fn ask<R: Read + Drop, W: Write + Drop>(
     connection.send(alloc, &"TIME")?;
     connection.send(alloc, &xinfo_stream_full_count(key, COUNT))?;
     let (seconds, micros): (usize, usize) = receive_as(alloc, connection)?;
-    let now = seconds.saturating_mul(1000).saturating_add(micros / 1000);
+    let now = milliseconds_of(seconds, micros);
     let Some(reply) = receive_of_key(alloc, connection)? else {
         return Ok((None, now));
     };
@@ -164,13 +169,11 @@ fn measure<R: Read + Drop, W: Write + Drop>(
     Ok(streams)
 }
 
-fn is_measured(streams: &[StreamFigures], key: &str) -> bool {
-    for stream in streams {
-        if stream.key.as_str() == key {
-            return true;
-        }
-    }
-    false
+/// Whether there are figures of this key.
+fn is_measured(streams: &[StreamFigures], key: &str) -> bool
+    ensures { result ≡ list_any (is_of key.now) streams.now }
+{
+    streams.iter().any(|stream| key == stream.key.as_str())
 }
 
 /// The figures of a stream. If there is none, it has no entries and no groups.
@@ -178,7 +181,9 @@ fn measure_one<R: Read + Drop, W: Write + Drop>(
     alloc: Global,
     connection: &mut Connection<R, W>,
     key: &Key,
-) -> Result<StreamFigures> {
+) -> Result<StreamFigures>
+    ensures { IfOk result (λ figures. string_bytes figures.key ≡ string_bytes key.now.name) }
+{
     let (found, now) = ask(alloc, connection, &key.bytes)?;
     let stream = match found {
         Some(stream) => stream,
@@ -224,6 +229,13 @@ fn receive_as<M: FromRedisValue, R: Read + Drop, W: Write + Drop>(
     Ok(from_reply::<M>(alloc, reply)?)
 }
 
+/// The milliseconds of a reply to TIME, or the largest number, if there are more.
+fn milliseconds_of(seconds: usize, micros: usize) -> usize
+    ensures { result ≡ milliseconds seconds micros }
+{
+    seconds.saturating_mul(1000).saturating_add(micros / 1000)
+}
+
 /// Receives the next reply, that to a command on a key; None if there is no such key.
 fn receive_of_key<R: Read + Drop, W: Write + Drop>(
     alloc: Global,
@@ -239,7 +251,10 @@ fn receive_of_key<R: Read + Drop, W: Write + Drop>(
 /// The error of a server for a key that does not exist.
 const NO_SUCH_KEY: &str = "ERR no such key";
 
-fn is_no_such_key(reply: &Reply) -> bool {
+/// Whether the reply is this error.
+fn is_no_such_key(reply: &Reply) -> bool
+    ensures { result ≡ is_no_such_key (answer reply.now) }
+{
     match reply {
         Reply::Error(error) => error.text.as_slice() == NO_SUCH_KEY.as_bytes(),
         _ => false,

@@ -140,3 +140,19 @@ is_refs kind =
     else if bytes_eq kind (codes "id") then true
     else if bytes_eq kind (codes "ids") then true
     else false
+
+-- the kinds of the module `cluster`
+abbrev pub is_cluster : List ℕ → Bool
+is_cluster kind =
+    if bytes_eq kind (codes "slot") then true
+    else if bytes_eq kind (codes "slot-of-hex") then true
+    else if bytes_eq kind (codes "error") then true
+    else if bytes_eq kind (codes "partition") then true
+    else if bytes_eq kind (codes "partition-name") then true
+    else if bytes_eq kind (codes "slots") then true
+    else if bytes_eq kind (codes "shards") then true
+    else false
+
+-- the kind of the module `callers`
+abbrev pub is_caller : List ℕ → Bool
+is_caller kind = if bytes_eq kind (codes "caller") then true else false

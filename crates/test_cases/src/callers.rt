@@ -7,7 +7,8 @@
 //! The input is a word that says what is run, and a value in the notation of `test_notation::notation`:
 //! the reply of a server, bytes of a server, or what the call is passed. Commands are printed as
 //! their arguments with a space between two, records as `Debug` shows them.
-ghost use Rattle.std.specs.Prelude.{ℕ, List, None};
+ghost use Rattle.std.specs.Prelude.{ℕ, List, None, IfOk, IsSome, IsTrue};
+ghost use Rattle.test_cases.specs.Kinds.{is_caller};
 
 use anyhow::{Result, bail};
 use examples::batch::sort_out;
@@ -40,12 +41,19 @@ use worker_journal::{
 };
 
 /// The outcome of a case, if its kind is `caller`.
-pub fn outcome(alloc: Global, kind: &str, input: &str) -> Result<Option<String>> {
-    if kind != "caller" {
-        return Ok(None);
+pub fn outcome(alloc: Global, kind: &str, input: &str) -> Result<Option<String>>
+    ensures { IfOk result (λ o. IsSome o → IsTrue (is_caller kind.now)) }
+{
+    match kind {
+        "caller" => Ok(Some(answer(alloc, input)?)),
+        _ => Ok(None),
     }
-    match input.split_once(' ') {
-        Some((word, notation)) => Ok(Some(answer_of(alloc, word, read_value(alloc, notation)?)?)),
+}
+
+/// What comes of a case.
+fn answer(alloc: Global, case: &str) -> Result<String> {
+    match case.split_once(' ') {
+        Some((word, notation)) => answer_of(alloc, word, read_value(alloc, notation)?),
         None => bail!("no value"),
     }
 }

@@ -14,6 +14,9 @@
 //! another implementation of the checksum. The last two kinds have a slot and a reply in hex digits: the
 //! outcome is the master of the slot, and each shard. Most of their replies came from redis-server.
 
+ghost use Rattle.std.specs.Prelude.{IfOk, IsSome, IsTrue};
+ghost use Rattle.test_cases.specs.Kinds.{is_cluster};
+
 use anyhow::Result;
 use hex::FromHexError;
 use redis_client::cluster::{
@@ -27,18 +30,28 @@ use std::num::NonZeroU16;
 use std::str;
 
 /// The outcome of a case, if its kind is one of these.
-pub fn outcome(alloc: Global, kind: &str, input: &str) -> Result<Option<String>> {
-    let text = match kind {
-        "slot" => slot_text(alloc, input.as_bytes())?,
-        "slot-of-hex" => slot_of_hex(alloc, input)?,
-        "error" => error_text(alloc, input)?,
-        "partition" => partition_text(alloc, input)?,
-        "partition-name" => partition_name_text(alloc, input)?,
-        "slots" => topology_of(alloc, Asked::Slots, input)?,
-        "shards" => topology_of(alloc, Asked::Shards, input)?,
-        _ => return Ok(None),
-    };
-    Ok(Some(text))
+pub fn outcome(alloc: Global, kind: &str, input: &str) -> Result<Option<String>>
+    ensures { IfOk result (λ o. IsSome o → IsTrue (is_cluster kind.now)) }
+{
+    match kind {
+        "slot" | "slot-of-hex" | "error" | "partition" | "partition-name" | "slots" | "shards" => {
+            Ok(Some(outcome_of(alloc, kind, input)?))
+        }
+        _ => Ok(None),
+    }
+}
+
+/// The outcome of a case of one of these kinds.
+fn outcome_of(alloc: Global, kind: &str, input: &str) -> Result<String> {
+    match kind {
+        "slot" => slot_text(alloc, input.as_bytes()),
+        "slot-of-hex" => slot_of_hex(alloc, input),
+        "error" => error_text(alloc, input),
+        "partition" => partition_text(alloc, input),
+        "partition-name" => partition_name_text(alloc, input),
+        "slots" => topology_of(alloc, Asked::Slots, input),
+        _ => topology_of(alloc, Asked::Shards, input),
+    }
 }
 
 fn slot_text(alloc: Global, key: &[u8]) -> Result<String> {

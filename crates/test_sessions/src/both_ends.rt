@@ -28,6 +28,9 @@
 //! Of a line is printed how many runs it had and what happened in them. Then how many files differ from
 //! what went in, and how many of these have a line twice, lack one, or have one of no record. If none of
 //! that is so, the lines are in another order.
+ghost use Rattle.std.specs.Prelude.{IfOk, IsTrue};
+ghost use Rattle.test_sessions.specs.Scripts.{is_both_ends_script};
+
 use crate::push_line;
 use redis_wire::{Decoded, Limits, Reply, ReplyStream, WireError, decode};
 use server_commands::{Client, Server};
@@ -54,17 +57,27 @@ struct Plan {
     guesses: bool,
 }
 
-/// Plays each line of a script of this name, and prints it with what came of it. Returns whether the script is one.
-pub fn play(alloc: Global, name: &str, lines: &str, out: &mut String) -> Result<bool, AllocError> {
-    if name != "both-ends" {
-        return Ok(false);
+/// Plays a script of this name. Returns whether the script is one.
+pub fn play(alloc: Global, name: &str, lines: &str, out: &mut String) -> Result<bool, AllocError>
+    ensures { IfOk result (λ played. IsTrue played → IsTrue (is_both_ends_script name.now)) }
+{
+    match name {
+        "both-ends" => {
+            play_lines(alloc, lines, out)?;
+            Ok(true)
+        }
+        _ => Ok(false),
     }
+}
+
+/// Plays each line, and prints it with what came of it.
+fn play_lines(alloc: Global, lines: &str, out: &mut String) -> Result<(), AllocError> {
     for line in lines.lines() {
         out.push_str(line)?;
         out.push('\t')?;
         push_line(out, play_line(alloc, line)?.as_str())?;
     }
-    Ok(true)
+    Ok(())
 }
 
 /// Plays the runs of a line, and returns what came of them.

@@ -5,7 +5,7 @@ ghost use Rattle.stream_sqlite.specs.Forwards.{AllWent, Ends, Forwards};
 ghost use Rattle.worker_table.specs.Lived.{Leads};
 ghost use Rattle.worker.specs.Session.{standing_of};
 
-use super::{explain_round_error, goes_on, look, say_left};
+use super::{Drained, TurnMade, explain_round_error, goes_on, look, say_left};
 use crate::report::Report;
 use anyhow::{Error, Result, anyhow, bail};
 use redis_connection::Connection;
@@ -26,8 +26,10 @@ pub fn forward<R: Read + Drop, W: Write + Drop, T: WithOutbox + Drop, P: Eprint 
     report: &mut Report,
     dead: &mut Option<DeadLetterSearch>,
     until_empty: bool,
-) -> Result<()>
+) -> Result<Drained>
     ensures ended { IfOk result (λ _. IsTrue until_empty) }
+    ensures read { IfOk result (λ drained. drained.last.asked ≡ Asked.New) }
+    ensures empty { IfOk result (λ drained. drained.last.before ≡ rows.new.seen) }
     ensures ok { OnOk result (Forwards worker.old.settings connection.old (T.committed rows.old.table)
         (standing_of worker.old (⟦<Forwarding<T> as Handler>⟧.history rows.old)) connection.new
         (T.committed rows.new.table)
@@ -42,7 +44,10 @@ pub fn forward<R: Read + Drop, W: Write + Drop, T: WithOutbox + Drop, P: Eprint 
         let seen = rows.seen;
         asked = pass(rt, connection, worker, rows, report, dead, asked)?;
         if until_empty && asked == Asked::New && rows.seen == seen {
-            return Ok(());
+            let before = seen;
+            return Ok(Drained {
+                last: TurnMade { asked, before },
+            });
         }
     }
     bail!("the last turn came")
@@ -105,7 +110,7 @@ fn explain_send_error(error: SendError, target: &str) -> Error {
     }
 }
 
-/// Looks for entries to give up, makes a round, and counts. Returns the request.
+/// Searches for entries to give up, makes a round, and counts. Returns the request.
 fn turn<R: Read + Drop, W: Write + Drop, T: WithOutbox + Drop, P: Eprint + AllocGlobal>(
     rt: &P,
     connection: &mut Connection<R, W>,

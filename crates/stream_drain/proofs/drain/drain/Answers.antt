@@ -15,8 +15,8 @@ use Rattle.stream_drain.proofs.drain.drain.Goals as goal
 abbrev stands : Worker → Bool → Known → List ℕ → Option (List ℕ) → ℕ → Standing Written
 stands w json known loose file len = standing_of w (written_by json known loose file len)
 
-pub returns-in_err-asked-clause-err : goal.returns-in_err-asked-clause-err
-returns-in_err-asked-clause-err g c =
+pub returns-in_err-last-clause-err : goal.returns-in_err-last-clause-err
+returns-in_err-last-clause-err g c =
     let settings = c.args.worker.now.settings in
     let w = stands c.args.worker.now c.args.lines.now.json (known_by c.args.lines.now.known) c.args.lines.now.log.batch.items
     (g.D.LogFile.seen c.args.lines.now.log.file) c.args.lines.now.log.len in
@@ -27,10 +27,10 @@ returns-in_err-asked-clause-err g c =
     on_err c.from_residual.result
     (leads_stop settings c.args.connection.now c.loop.connection c.turn.new.connection w x y c.loop.invariant.leads
     (subst (λ (s : Settings). Leads (Stops s) c.loop.connection c.turn.new.connection x y)
-    c.loop.invariant.settings c.in_err-asked.ensures.err))
+    c.loop.invariant.settings c.in_err-last.ensures.err))
 
-pub returns-in_err-asked-clause-filed : goal.returns-in_err-asked-clause-filed
-returns-in_err-asked-clause-filed g c =
+pub returns-in_err-last-clause-filed : goal.returns-in_err-last-clause-filed
+returns-in_err-last-clause-filed g c =
     let settings = c.args.worker.now.settings in
     let w = stands c.args.worker.now c.args.lines.now.json (known_by c.args.lines.now.known) c.args.lines.now.log.batch.items
     (g.D.LogFile.seen c.args.lines.now.log.file) c.args.lines.now.log.len in
@@ -44,10 +44,10 @@ returns-in_err-asked-clause-filed g c =
     (with_stops settings c.args.connection.now c.turn.new.connection w y
     (leads_stop settings c.args.connection.now c.loop.connection c.turn.new.connection w x y c.loop.invariant.leads
     (subst (λ (s : Settings). Leads (Stops s) c.loop.connection c.turn.new.connection x y)
-    c.loop.invariant.settings c.in_err-asked.ensures.err)))
+    c.loop.invariant.settings c.in_err-last.ensures.err)))
 
-pub returns-then-lines-seen-clause-ok : goal.returns-then-lines-seen-clause-ok
-returns-then-lines-seen-clause-ok g c =
+pub returns-then-lines-last-clause-ok : goal.returns-then-lines-last-clause-ok
+returns-then-lines-last-clause-ok g c =
     let settings = c.args.worker.now.settings in
     let w = stands c.args.worker.now c.args.lines.now.json (known_by c.args.lines.now.known) c.args.lines.now.log.batch.items
     (g.D.LogFile.seen c.args.lines.now.log.file) c.args.lines.now.log.len in
@@ -57,10 +57,10 @@ returns-then-lines-seen-clause-ok g c =
     (g.D.LogFile.seen c.turn.new.lines.log.file) c.turn.new.lines.log.len in
     leads_both settings c.args.connection.now c.loop.connection c.turn.new.connection w x y c.loop.invariant.leads
     (subst (λ (s : Settings). Leads (Loops s) c.loop.connection c.turn.new.connection x y)
-    c.loop.invariant.settings c.in_ok-asked.ensures.ok)
+    c.loop.invariant.settings c.in_ok-last.ensures.ok)
 
-pub returns-then-lines-seen-clause-filed : goal.returns-then-lines-seen-clause-filed
-returns-then-lines-seen-clause-filed g c =
+pub returns-then-lines-last-clause-filed : goal.returns-then-lines-last-clause-filed
+returns-then-lines-last-clause-filed g c =
     let settings = c.args.worker.now.settings in
     let w = stands c.args.worker.now c.args.lines.now.json (known_by c.args.lines.now.known) c.args.lines.now.log.batch.items
     (g.D.LogFile.seen c.args.lines.now.log.file) c.args.lines.now.log.len in
@@ -69,7 +69,7 @@ returns-then-lines-seen-clause-filed g c =
     filed_from g.D.LogFile.seen g.D.LogFile.may_leave g.D.LogFile.is_sound settings c.args.connection.now
     c.turn.new.connection w c.turn.new.worker c.turn.new.lines.json (known_by c.turn.new.lines.known) c.turn.new.lines.log.batch.items
     c.turn.new.lines.log.file c.turn.new.lines.log.len c.turn.new.lines.log.is_broken c.turn.new.lines.held
-    (with_loops settings c.args.connection.now c.turn.new.connection w y (returns-then-lines-seen-clause-ok g c))
+    (with_loops settings c.args.connection.now c.turn.new.connection w y (returns-then-lines-last-clause-ok g c))
 
 pub returns-clause-err : goal.returns-clause-err
 returns-clause-err g c =
@@ -111,5 +111,5 @@ loop-preserved g c =
       leads = leads_both settings c.args.connection.now c.loop.connection c.turn.new.connection w x y
           c.loop.invariant.leads
           (subst (λ (s : Settings). Leads (Loops s) c.loop.connection c.turn.new.connection x y)
-          c.loop.invariant.settings c.in_ok-asked.ensures.ok);
+          c.loop.invariant.settings c.in_ok-last.ensures.ok);
     }

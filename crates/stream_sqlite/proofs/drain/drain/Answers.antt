@@ -16,8 +16,8 @@ use Rattle.stream_sqlite.proofs.drain.drain.Goals as goal
 abbrev stands : Worker → List Column → List memory.Row → Option (List Row) → Standing Kept
 stands w columns loose known = standing_of w (kept_by columns loose known)
 
-pub returns-in_err-asked-clause-err : goal.returns-in_err-asked-clause-err
-returns-in_err-asked-clause-err g c =
+pub returns-in_err-last-clause-err : goal.returns-in_err-last-clause-err
+returns-in_err-last-clause-err g c =
     let settings = c.args.worker.now.settings in
     let w = stands c.args.worker.now c.args.rows.now.columns.items c.args.rows.now.loose.items
     (g.T.Table.committed c.args.rows.now.table) in
@@ -28,10 +28,10 @@ returns-in_err-asked-clause-err g c =
     on_err c.from_residual.result
     (leads_stop settings c.args.connection.now c.loop.connection c.turn.new.connection w x y c.loop.invariant.leads
     (subst (λ (s : Settings). Leads (Stops s) c.loop.connection c.turn.new.connection x y)
-    c.loop.invariant.settings c.in_err-asked.ensures.err))
+    c.loop.invariant.settings c.in_err-last.ensures.err))
 
-pub returns-then-rows-seen-clause-ok : goal.returns-then-rows-seen-clause-ok
-returns-then-rows-seen-clause-ok g c =
+pub returns-then-rows-last-clause-ok : goal.returns-then-rows-last-clause-ok
+returns-then-rows-last-clause-ok g c =
     let settings = c.args.worker.now.settings in
     let w = stands c.args.worker.now c.args.rows.now.columns.items c.args.rows.now.loose.items
     (g.T.Table.committed c.args.rows.now.table) in
@@ -41,7 +41,7 @@ returns-then-rows-seen-clause-ok g c =
     (g.T.Table.committed c.turn.new.rows.table) in
     leads_both settings c.args.connection.now c.loop.connection c.turn.new.connection w x y c.loop.invariant.leads
     (subst (λ (s : Settings). Leads (Loops s) c.loop.connection c.turn.new.connection x y)
-    c.loop.invariant.settings c.in_ok-asked.ensures.ok)
+    c.loop.invariant.settings c.in_ok-last.ensures.ok)
 
 pub returns-clause-err : goal.returns-clause-err
 returns-clause-err g c =
@@ -71,5 +71,5 @@ loop-preserved g c =
       leads = leads_both settings c.args.connection.now c.loop.connection c.turn.new.connection w x y
           c.loop.invariant.leads
           (subst (λ (s : Settings). Leads (Loops s) c.loop.connection c.turn.new.connection x y)
-          c.loop.invariant.settings c.in_ok-asked.ensures.ok);
+          c.loop.invariant.settings c.in_ok-last.ensures.ok);
     }
