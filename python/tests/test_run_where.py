@@ -73,7 +73,7 @@ class Where(Live):
             self.assertEqual(len(self.times("2-0")), 1)
 
     def test_over_a_cluster(self):
-        with server.start_redis("--cluster-enabled", "yes") as self.server:
+        with server.start_redis("--cluster-enabled", "yes", "--cluster-port", str(server.free_port())) as self.server:
             self.server.ask("CLUSTER", "ADDSLOTSRANGE", 0, 16383)
             self.until(lambda: b"cluster_state:ok" in self.server.ask("CLUSTER", "INFO"))
             for at in range(3):
