@@ -1,4 +1,4 @@
-//! How doubles and big numbers are written.
+//! The text form of doubles and big numbers.
 ghost use Rattle.std.specs.Prelude.{◌≡◌, option_map};
 ghost use Rattle.std.specs.List.{prefix_len};
 ghost use Rattle.std.specs.Char.{is_ascii_digit};
@@ -13,7 +13,7 @@ fn is_sign(byte: u8) -> bool
     byte == b'+' || byte == b'-'
 }
 
-/// Whether a sign stands at the head.
+/// Whether the text begins with a sign.
 #[tactic(auto, unfolding(crate::specs::Decimal::is_signed))]
 pub fn is_signed(text: &[u8]) -> bool
     ensures { result ≡ is_signed text.now }
@@ -24,7 +24,7 @@ pub fn is_signed(text: &[u8]) -> bool
     }
 }
 
-/// The text without the sign at its head, if there is one.
+/// Returns the text without its leading sign, if there is one.
 #[tactic(auto, unfolding(crate::specs::Decimal::without_sign))]
 fn without_sign(text: &[u8]) -> &[u8]
     ensures { result.now ≡ without_sign text.now }
@@ -35,14 +35,14 @@ fn without_sign(text: &[u8]) -> &[u8]
     }
 }
 
-/// How many digits stand at the head.
+/// Returns the number of digits at the start of the text.
 fn digits_len(text: &[u8]) -> usize
     ensures { result ≡ prefix_len is_ascii_digit text.now }
 {
     text.iter().take_while(|byte| byte.is_ascii_digit()).count()
 }
 
-/// What stands behind the digits at the head, where there is one at least.
+/// Returns the rest after the leading digits, or `None` if there is no leading digit.
 #[tactic(auto, unfolding(crate::specs::Decimal::behind_digits))]
 fn behind_digits(text: &[u8]) -> Option<&[u8]>
     ensures { option_map (λ rest. rest.now) result ≡ behind_digits text.now }
@@ -54,7 +54,7 @@ fn behind_digits(text: &[u8]) -> Option<&[u8]>
     Some(bytes_behind(text, len))
 }
 
-/// Whether this is a big number: one sign or none, and one digit or more.
+/// Whether the text is a big number: an optional sign, then one digit or more.
 #[tactic(auto, unfolding(crate::specs::Decimal::is_integer, crate::specs::Decimal::are_all))]
 pub fn is_integer(text: &[u8]) -> bool
     ensures { result ≡ is_integer text.now }
@@ -65,7 +65,7 @@ pub fn is_integer(text: &[u8]) -> bool
     }
 }
 
-/// Whether this is nothing, or `e` or `E` and a number.
+/// Whether the text is empty, or is `e` or `E` and then an integer.
 #[tactic(auto, unfolding(crate::specs::Decimal::is_exponent))]
 fn is_exponent(text: &[u8]) -> bool
     ensures { result ≡ is_exponent text.now }
@@ -82,7 +82,7 @@ fn is_exponent(text: &[u8]) -> bool
     }
 }
 
-/// Whether this is `.` and one digit or more, or nothing; and then an exponent or none.
+/// Whether the text is an optional `.` with one digit or more, and then an optional exponent.
 #[tactic(auto, unfolding(crate::specs::Decimal::is_fraction, crate::specs::Decimal::exponent_behind))]
 fn is_fraction(text: &[u8]) -> bool
     ensures { result ≡ is_fraction text.now }
@@ -102,7 +102,7 @@ fn is_fraction(text: &[u8]) -> bool
     }
 }
 
-/// Whether this is infinite, or no number.
+/// Whether the text is `inf`, `-inf`, `nan` or `-nan`.
 #[tactic(auto, unfolding(crate::specs::Decimal::is_named))]
 fn is_named(text: &[u8]) -> bool
     ensures { result ≡ is_named text.now }
@@ -113,7 +113,7 @@ fn is_named(text: &[u8]) -> bool
         || text == b"-nan".as_slice()
 }
 
-/// Whether this is digits, a fraction or none and an exponent or none.
+/// Whether the text is digits, then an optional fraction and an optional exponent.
 #[tactic(auto, unfolding(crate::specs::Decimal::fraction_behind))]
 fn is_decimal(text: &[u8]) -> bool
     ensures { result ≡ fraction_behind (behind_digits text.now) }
@@ -124,7 +124,7 @@ fn is_decimal(text: &[u8]) -> bool
     }
 }
 
-/// Whether this is a double.
+/// Whether the text is a double.
 #[tactic(auto, unfolding(crate::specs::Decimal::is_double))]
 pub fn is_double(text: &[u8]) -> bool
     ensures { result ≡ is_double text.now }

@@ -1,4 +1,4 @@
-//! One error of all that may go wrong between a command and the record of its answer.
+//! One error for all failures between a command and the record of its reply.
 ghost use Rattle.std.specs.Prelude.{◌≡◌};
 ghost use Rattle.redis_wire.specs.Failure.{wire_failure, write_failure, pack_failure, parsing_failure, reply_failure};
 ghost use Rattle.redis_wire.specs.declared.error.RedisError.TheVariants.{Memory};
@@ -10,30 +10,30 @@ use redis_resp::{ParsingError, WriteError};
 use std::alloc::{AllocError, AllocFailed};
 use thiserror::Error;
 
-/// Why a command was not written, or its answer not read as what was asked for: one error for a
-/// caller that goes through all of it with `?`.
+/// Why a command was not written, or its reply was not read as the requested type. It is one error
+/// for a caller that uses `?` on every step.
 #[derive(Debug, Drop, PartialEq, Eq, Error)]
 pub enum RedisError {
-    /// A growth was refused. It says nothing of the bytes.
+    /// An allocation was refused. Nothing is known of the bytes.
     #[error("out of memory")]
     Memory,
-    /// There is no room for an argument: the writer is of a fixed size, or the protocol's count or
+    /// There is no room for an argument: the writer has a fixed size, or the protocol's count or
     /// length is too small for it.
     #[error("no room for an argument")]
     Full,
     /// The command has no arguments.
     #[error("a command of no arguments")]
     NoArguments,
-    /// The bytes are no reply, however they go on.
+    /// The bytes are not a reply, whatever bytes follow.
     #[error("{0}")]
     Fault(Fault),
-    /// The server answers this error.
+    /// The server returned this error.
     #[error("{0}")]
     Server(ServerError),
-    /// The value has no record of the type asked for. It is never `Memory`.
+    /// The value cannot be read as the requested type. The inner error is never `Memory`.
     #[error("{0}")]
     Parsing(ParsingError),
-    /// The reply is a message that was pushed, or its only errors stand inside attributes.
+    /// The reply is a pushed message, or its only errors are inside attributes.
     #[error("no answer of a command")]
     NotAnAnswer,
 }

@@ -10,14 +10,14 @@ use thiserror::Error;
 /// Why a command was not packed.
 #[derive(Clone, Copy, Debug, PartialEq, Eq, Error)]
 pub enum PackError {
-    /// A growth was refused. It says nothing of the arguments.
+    /// An allocation was refused. Nothing is known of the arguments.
     #[error("out of memory")]
     Memory,
-    /// An argument is of 2^32 bytes or more, or there are as many.
+    /// An argument has 2^32 bytes or more, or there are 2^32 arguments or more.
     #[error("no room for an argument")]
     Full,
-    /// There is no argument. A server gives no answer to such a command, and each answer that came
-    /// behind it would be taken for that of another.
+    /// There is no argument. A server sends no reply to such a command, and each later reply would be
+    /// taken for that of another command.
     #[error("a command of no arguments")]
     NoArguments,
 }

@@ -1,4 +1,4 @@
-//! Where values stand in bytes, found with no copy.
+//! The positions of values in bytes, found without copying.
 ghost use Rattle.std.specs.Prelude.{◌≡◌, ◌≤◌, ℕ, List, [], drop, pos, IfSome, IsSomeAnd, Option, Some, None, length};
 ghost use Rattle.redis_wire.specs.Scalar.{number_of};
 ghost use Rattle.redis_wire.specs.Place.{IsHeadAt, IsLineAt, IsTextAt, IsArrayAt, IsMapAt, IsNilAt, IsIntAt};
@@ -9,18 +9,18 @@ use crate::limits::Limits;
 use crate::line::{blob_at, line_at};
 use crate::number::{length_at, number_of};
 
-/// Where a text stands in bytes.
+/// The position of a text in bytes.
 #[repr(C)]
 #[derive(Clone, Copy, Debug, PartialEq, Eq)]
 pub struct Span {
-    /// So many bytes stand before it.
+    /// The number of bytes before it.
     pub start: usize,
-    /// How many bytes it has.
+    /// The number of its bytes.
     pub len: usize,
 }
 
-/// The length on the line behind the first byte of a value, or None for -1, and how many bytes end
-/// with the line, where the value behind `at` bytes has that first byte.
+/// Reads the header of the value at offset `at`, if its first byte is `first`. Returns the length, or `None`
+/// for -1, and the offset after the line.
 #[inline(always)]
 pub(crate) fn head_at(
     limits: Limits,
@@ -44,8 +44,8 @@ pub(crate) fn head_at(
     }
 }
 
-/// The line behind the first byte of a value, and how many bytes end with it, where the value behind
-/// `at` bytes has that first byte.
+/// Reads the line of the value at offset `at`, if its first byte is `first`. Returns the line without that
+/// byte, and the offset after it.
 pub(crate) fn line_behind(
     limits: Limits,
     bytes: &[u8],
@@ -68,8 +68,8 @@ pub(crate) fn line_behind(
     }
 }
 
-/// The text of the bulk string behind `at` bytes, and how many bytes end with it, where a whole one
-/// stands there.
+/// Finds the text of the bulk string at offset `at`, if a whole one is there. Returns its position, and
+/// the offset after the bulk string.
 #[inline(always)]
 pub fn text_at(limits: Limits, bytes: &[u8], at: usize) -> Option<(Span, usize)>
     requires { at ≤ length bytes.now }
@@ -93,8 +93,8 @@ pub fn text_at(limits: Limits, bytes: &[u8], at: usize) -> Option<(Span, usize)>
     }
 }
 
-/// How many members the array has whose head stands behind `at` bytes, and how many bytes end with
-/// the head.
+/// Reads the header of the array at offset `at`. Returns the number of its members, and the offset after
+/// the header.
 pub fn array_at(limits: Limits, bytes: &[u8], at: usize) -> Option<(u32, usize)>
     requires { at ≤ length bytes.now }
     ensures is { IfSome result (λ x. IsArrayAt limits bytes.now at x.0 x.1) }
@@ -107,8 +107,8 @@ pub fn array_at(limits: Limits, bytes: &[u8], at: usize) -> Option<(u32, usize)>
     }
 }
 
-/// How many pairs the map has whose head stands behind `at` bytes, and how many bytes end with the
-/// head.
+/// Reads the header of the map at offset `at`. Returns the number of its pairs, and the offset after the
+/// header.
 pub fn map_at(limits: Limits, bytes: &[u8], at: usize) -> Option<(u32, usize)>
     requires { at ≤ length bytes.now }
     ensures is { IfSome result (λ x. IsMapAt limits bytes.now at x.0 x.1) }
@@ -121,7 +121,7 @@ pub fn map_at(limits: Limits, bytes: &[u8], at: usize) -> Option<(u32, usize)>
     }
 }
 
-/// How many bytes end with the array of length -1 behind `at` bytes.
+/// Returns the offset after the array of length -1 at offset `at`, if there is one.
 fn no_array_at(limits: Limits, bytes: &[u8], at: usize) -> Option<usize>
     requires { at ≤ length bytes.now }
     ensures is { IfSome result (λ after. IsNilAt limits bytes.now at after) }
@@ -134,7 +134,7 @@ fn no_array_at(limits: Limits, bytes: &[u8], at: usize) -> Option<usize>
     }
 }
 
-/// How many bytes end with the bulk string of length -1 behind `at` bytes.
+/// Returns the offset after the bulk string of length -1 at offset `at`, if there is one.
 fn no_text_at(limits: Limits, bytes: &[u8], at: usize) -> Option<usize>
     requires { at ≤ length bytes.now }
     ensures is { IfSome result (λ after. IsNilAt limits bytes.now at after) }
@@ -147,7 +147,7 @@ fn no_text_at(limits: Limits, bytes: &[u8], at: usize) -> Option<usize>
     }
 }
 
-/// How many bytes end with the null behind `at` bytes.
+/// Returns the offset after the null at offset `at`, if there is one.
 fn null_at(limits: Limits, bytes: &[u8], at: usize) -> Option<usize>
     requires { at ≤ length bytes.now }
     ensures is { IfSome result (λ after. IsNilAt limits bytes.now at after) }
@@ -160,7 +160,7 @@ fn null_at(limits: Limits, bytes: &[u8], at: usize) -> Option<usize>
     }
 }
 
-/// How many bytes end with the nil behind `at` bytes: an array or a bulk string of length -1, or a null.
+/// Returns the offset after the nil at offset `at`: an array or a bulk string of length -1, or a null.
 pub fn nil_at(limits: Limits, bytes: &[u8], at: usize) -> Option<usize>
     requires { at ≤ length bytes.now }
     ensures is { IfSome result (λ after. IsNilAt limits bytes.now at after) }
@@ -176,7 +176,7 @@ pub fn nil_at(limits: Limits, bytes: &[u8], at: usize) -> Option<usize>
     null_at(limits, bytes, at)
 }
 
-/// The number that a line writes, where it is not negative.
+/// Parses the number on a line, if it is not negative.
 fn unsigned_of(line: &[u8]) -> Option<u64>
     ensures is { IfSome result (λ n. number_of line.now ≡ Some (pos n)) }
     ensures found { (n : ℕ) → number_of line.now ≡ Some (pos n) → result ≡ Some n }
@@ -184,7 +184,7 @@ fn unsigned_of(line: &[u8]) -> Option<u64>
     u64::try_from(number_of(line)?).ok()
 }
 
-/// The number behind `at` bytes, where it is one that is not negative, and how many bytes end with it.
+/// Parses the integer at offset `at`, if it is not negative, and returns it with the offset after it.
 pub fn int_at(limits: Limits, bytes: &[u8], at: usize) -> Option<(u64, usize)>
     requires { at ≤ length bytes.now }
     ensures is { IfSome result (λ x. IsIntAt limits bytes.now at x.0 x.1) }

@@ -1,4 +1,4 @@
-//! The words of commands that were read.
+//! The words of decoded commands.
 ghost use Rattle.std.specs.Prelude.{◌≡◌, IfOk, map, option_map};
 ghost use Rattle.redis_resp.specs.Reading.{traverse};
 ghost use Rattle.redis_resp.specs.Value.{tree};
@@ -9,13 +9,13 @@ use crate::reply::Reply;
 use redis_resp::Value;
 use std::alloc::{AllocError, Global};
 
-/// The words of a command, as `pack_args` takes them; None if the reply is no array of bulk strings.
-/// The bytes of the words are moved. It fails only if memory runs out.
+/// Returns the words of a command, as `pack_args` takes them; `None` if the reply is not an array of bulk
+/// strings. The bytes of the words are moved. It fails only if memory runs out.
 pub fn command_words(alloc: Global, command: Reply) -> Result<Option<Vec<Vec<u8>>>, AllocError>
-    // They are the words of just the command that the reply is, and None if it is no command.
+    // They are exactly the words of the command that the reply is, and `None` if it is no command.
     ensures words { IfOk result (λ words. AreWordsOf (answer command)
         (option_map (λ v. map (λ word. word.items) v.items) words)) }
-    // Of a reply that was decoded of the bytes that `pack_args` makes of words, they are those words.
+    // For a reply decoded from the bytes that `pack_args` writes, they are the words that were packed.
     ensures packed { IfOk result (λ words. AreUnpacked (answer command)
         (option_map (λ v. map (λ word. word.items) v.items) words)) }
 {
@@ -25,7 +25,7 @@ pub fn command_words(alloc: Global, command: Reply) -> Result<Option<Vec<Vec<u8>
     }
 }
 
-/// The bytes of each member of an array of bulk strings, None if the value is another one.
+/// Returns the bytes of each member of an array of bulk strings; `None` for any other value.
 fn texts_in(alloc: Global, v: Value) -> Result<Option<Vec<Vec<u8>>>, AllocError>
     ensures { IfOk result (λ words. option_map (λ v. map (λ word. word.items) v.items) words
         ≡ words_in (value (tree v))) }
@@ -36,7 +36,7 @@ fn texts_in(alloc: Global, v: Value) -> Result<Option<Vec<Vec<u8>>>, AllocError>
     }
 }
 
-/// The bytes of each value, None if one of them is no bulk string.
+/// Returns the bytes of each value; `None` if one of them is not a bulk string.
 fn texts_of(alloc: Global, values: Vec<Value>) -> Result<Option<Vec<Vec<u8>>>, AllocError>
     ensures { IfOk result (λ words. option_map (λ v. map (λ word. word.items) v.items) words
         ≡ traverse bulk_text (map tree values.items)) }
