@@ -1,4 +1,4 @@
-//! Any reply in place, as a flat list of its values.
+//! Replies in place: the values of a reply as a flat list of positions.
 ghost use Rattle.std.specs.Prelude.{◌≡◌, ◌≤◌, ◌+◌, IfSome, Some, length, take, drop, map};
 ghost use Rattle.redis_wire.specs.Grammar.{IsReply};
 ghost use Rattle.redis_wire.specs.Kind.{kind_of};
@@ -16,22 +16,22 @@ use crate::stream::reply_len;
 use crate::value::member_count;
 use std::alloc::Global;
 
-/// A value of a reply, where it stands in the reply's bytes.
+/// A value of a reply, with its position in the reply's bytes.
 #[repr(C)]
 #[derive(Clone, Copy, Debug, PartialEq, Eq)]
 pub struct Node {
-    /// The first byte of its type, and `_` where it is a null of any form.
+    /// The first byte of its type; `_` for a null of any form.
     pub kind: u8,
-    /// What its line or its bulk bytes say. A group and a null have no bytes.
+    /// The bytes of its line or its length-prefixed bytes. A group and a null have none.
     pub text: Span,
-    /// How many values its members are: a key and its value are two, and what has attributes is one
-    /// more. The kind of a message is the first of its members.
+    /// The number of values that are its members: a key and its value are two, and the value that has
+    /// attributes is one more. The kind of a message is the first of its members.
     pub members: u64,
-    /// The index of the node behind its last member.
+    /// The index of the node after its last member.
     pub end: usize,
 }
 
-/// What a line says, and how many bytes end with it.
+/// Reads the node of a line, and returns it with the offset after the line.
 fn line_node(limits: Limits, bytes: &[u8], at: usize, first: u8) -> Option<(Node, usize)>
     requires { at ≤ length bytes.now }
     ensures { IfSome result (λ x. IsLineNode limits bytes.now at first x.0 x.1) }
@@ -49,7 +49,7 @@ fn line_node(limits: Limits, bytes: &[u8], at: usize, first: u8) -> Option<(Node
     Some((node, after))
 }
 
-/// A null.
+/// Returns the node of a null.
 fn null_node() -> Node
     ensures { IsNull result }
 {
@@ -61,7 +61,7 @@ fn null_node() -> Node
     }
 }
 
-/// What bulk bytes say, and how many bytes end with them.
+/// Reads the node of length-prefixed bytes, and returns it with the offset after them.
 fn blob_node(
     limits: Limits,
     bytes: &[u8],
@@ -95,7 +95,7 @@ fn blob_node(
     }
 }
 
-/// A group of this type with so many members.
+/// Returns the node of a group of this type with `members` members.
 fn head_node(first: u8, members: u64) -> Node
     ensures kind { result.kind ≡ first }
     ensures none { result.text.len ≡ 0 }
@@ -109,7 +109,7 @@ fn head_node(first: u8, members: u64) -> Node
     }
 }
 
-/// A group, and how many bytes end with its head.
+/// Reads the node of a group, and returns it with the offset after its header.
 fn group_node(
     limits: Limits,
     bytes: &[u8],
@@ -128,7 +128,7 @@ fn group_node(
     }
 }
 
-/// The value behind `at` bytes, and how many bytes end with it, but for its members.
+/// Reads the node at offset `at`, and returns it with the offset after it and before its members.
 fn node_at(limits: Limits, bytes: &[u8], at: usize) -> Option<(Node, usize)>
     requires { at ≤ length bytes.now }
     ensures { IfSome result (λ x. IsNodeAt limits bytes.now at x.0 x.1) }
@@ -141,7 +141,7 @@ fn node_at(limits: Limits, bytes: &[u8], at: usize) -> Option<(Node, usize)>
     }
 }
 
-/// The first node of a reply, and how many bytes end with it, but for its members.
+/// Reads the first node of a reply, and returns it with the offset after it and before its members.
 fn first_node(limits: Limits, bytes: &[u8]) -> Option<(Node, usize)>
     ensures begins { IfSome result (λ x. Begins limits bytes.now x.0 x.1) }
     ensures end { IfSome result (λ x. x.1 ≤ length bytes.now) }
@@ -155,7 +155,7 @@ fn first_node(limits: Limits, bytes: &[u8]) -> Option<(Node, usize)>
     }
 }
 
-/// Fills the table behind its first node, which begins the reply, and says how many nodes there are.
+/// Fills the table with the first node of the reply and all later ones, and returns their number.
 fn fill(
     limits: Limits,
     bytes: &[u8],
@@ -188,7 +188,7 @@ fn fill(
     if at == bytes.len() { Some(count) } else { None }
 }
 
-/// The index of the node behind so many values, the first of which has the index `from`.
+/// Returns the index of the node after `members` values, the first of which has the index `from`.
 fn end_of(nodes: &[Node], from: usize, members: u64) -> usize
     requires within { from ≤ length nodes.now }
     requires ends { AreEnds from (drop from nodes.now) }
@@ -204,7 +204,7 @@ fn end_of(nodes: &[Node], from: usize, members: u64) -> usize
     end
 }
 
-/// Says of each node where its members end.
+/// Sets the end of the members of each node.
 fn set_ends(nodes: &mut [Node])
     ensures same { map plain nodes.new ≡ map plain nodes.old }
     ensures ends { AreEnds 0 nodes.new }
@@ -217,11 +217,11 @@ fn set_ends(nodes: &mut [Node])
     }
 }
 
-/// Fills the table with the values of the reply whose text this is, each in front of its members, and
-/// says how many they are. None where the table has too little room, or the text is no reply.
+/// Fills the table with the values of the reply `text`, each before its members, and returns their
+/// number. Returns `None` if the table is too small, or if the text is not a reply.
 ///
-/// No memory is taken. No value has fewer than three bytes, so a table of a third of the text's length
-/// has room.
+/// It allocates no memory. No value has fewer than three bytes, so a table of a third of the text's
+/// length is large enough.
 pub fn nodes_in(limits: Limits, text: &[u8], nodes: &mut [Node]) -> Option<usize>
     ensures few { IfSome result (λ count. count ≤ length nodes.new) }
     ensures are { IfSome result (λ count. AreNodes limits text.now (take count nodes.new) (length text.now) 0) }
@@ -235,22 +235,22 @@ pub fn nodes_in(limits: Limits, text: &[u8], nodes: &mut [Node]) -> Option<usize
     Some(count)
 }
 
-/// What stands at the head of bytes.
+/// The result of `find_nodes`, if it is no error.
 #[derive(Clone, Copy, Debug, PartialEq, Eq)]
 pub enum Found {
-    /// A reply of so many bytes, and so many nodes.
+    /// A reply of `len` bytes and `count` nodes.
     Whole { len: usize, count: usize },
-    /// A reply of so many bytes, for whose nodes the table has too little room.
+    /// A reply of `len` bytes, for whose nodes the table is too small.
     NoRoom { len: usize },
-    /// The bytes may go on to be a reply.
+    /// More bytes are needed: these may be the prefix of a reply.
     Incomplete,
 }
 
-/// Finds the reply at the head of bytes, and fills the table with its values as `nodes_in` does. Other
-/// bytes may stand behind it.
+/// Finds the reply at the start of `bytes`, and fills the table with its values as `nodes_in` does. Other
+/// bytes may follow it.
 ///
-/// A `Fault` is the one that `decode` says of the same bytes. No memory is taken but by the walk that
-/// finds where the reply ends.
+/// A `Fault` is the one that `decode` returns for the same bytes. Only the scan that finds the end of the
+/// reply allocates memory.
 pub fn find_nodes(
     alloc: Global,
     limits: Limits,

@@ -1,4 +1,4 @@
-//! Messages that a server pushes, and whole replies.
+//! Pushed messages, and whole replies.
 ghost use Rattle.std.specs.Prelude.{◌≡◌, ◌<◌, ◌-◌, IfOk, IfErr, map};
 ghost use Rattle.redis_wire.specs.declared.fault.Stop.TheVariants.{Memory};
 ghost use Rattle.redis_wire.specs.Reading.{Gives};
@@ -14,7 +14,7 @@ use crate::reply::{Members, Reply};
 use crate::value::{members_at, replies_in, value_at};
 use std::alloc::Global;
 
-/// The kind of a message, which is a text.
+/// Returns the kind of a message, which is UTF-8 text.
 fn kind_text(text: &[u8]) -> Result<&str, Stop>
     ensures { Gives (λ kind. kind.now) result (kind_text text.now) }
 {
@@ -24,7 +24,7 @@ fn kind_text(text: &[u8]) -> Result<&str, Stop>
     }
 }
 
-/// The kind that bulk bytes of this length are.
+/// Reads the kind of a message as a bulk string of this length.
 #[tactic(auto, unfolding(crate::specs::Push::kind_body_at))]
 fn kind_body_at(len: Option<u32>, bytes: &[u8]) -> Result<(&str, &[u8]), Stop>
     ensures { Gives (λ x. (x.0.now, x.1.now)) result (kind_body_at len bytes.now) }
@@ -38,7 +38,7 @@ fn kind_body_at(len: Option<u32>, bytes: &[u8]) -> Result<(&str, &[u8]), Stop>
     }
 }
 
-/// The kind behind a first byte.
+/// Reads the kind of a message after its first byte.
 #[tactic(auto, unfolding(crate::specs::Push::kind_by))]
 fn kind_by(limits: Limits, kind: Option<Kind>, bytes: &[u8]) -> Result<(&str, &[u8]), Stop>
     ensures { Gives (λ x. (x.0.now, x.1.now)) result (kind_by limits kind bytes.now) }
@@ -56,7 +56,7 @@ fn kind_by(limits: Limits, kind: Option<Kind>, bytes: &[u8]) -> Result<(&str, &[
     }
 }
 
-/// The kind of a message, which is a simple string or a bulk string, and the bytes behind it.
+/// Reads the kind of a message, a simple string or a bulk string, and returns it with the rest.
 #[tactic(auto, unfolding(crate::specs::Push::kind_at))]
 pub fn kind_at(limits: Limits, bytes: &[u8]) -> Result<(&str, &[u8]), Stop>
     ensures { Gives (λ x. (x.0.now, x.1.now)) result (kind_at limits bytes.now) }
@@ -67,7 +67,7 @@ pub fn kind_at(limits: Limits, bytes: &[u8]) -> Result<(&str, &[u8]), Stop>
     }
 }
 
-/// The message whose count was read, and the bytes behind it.
+/// Reads the message whose count was read, and returns it with the rest.
 #[tactic(auto, unfolding(crate::specs::Push::push_body_at))]
 fn push_body_at(
     alloc: Global,
@@ -90,7 +90,7 @@ fn push_body_at(
     }
 }
 
-/// A message of this kind, with these members.
+/// Builds a message of this kind with these members.
 fn push_of(alloc: Global, kind: &str, members: Members) -> Result<Reply, Stop>
     ensures is { IfOk result (λ reply.
         answer reply ≡ pushed kind.now (answer_list (one_by_one (answers members)))) }
@@ -102,7 +102,7 @@ fn push_of(alloc: Global, kind: &str, members: Members) -> Result<Reply, Stop>
     })
 }
 
-/// The message behind its first byte, and the bytes behind it.
+/// Reads the message after its first byte, and returns it with the rest.
 #[tactic(auto, unfolding(crate::specs::Push::push_at))]
 fn push_at(alloc: Global, limits: Limits, bytes: &[u8]) -> Result<(Reply, &[u8]), Stop>
     ensures { Gives (λ x. (answer x.0, x.1.now)) result (push_at limits bytes.now) }
@@ -114,7 +114,7 @@ fn push_at(alloc: Global, limits: Limits, bytes: &[u8]) -> Result<(Reply, &[u8])
     push_body_at(alloc, limits, count, rest)
 }
 
-/// The reply at the head of bytes, and the bytes behind it: a message, or a value.
+/// Reads the reply at the start of `bytes`, a message or a value, and returns it with the rest.
 #[tactic(auto, unfolding(crate::specs::Push::reply_at))]
 pub fn reply_at(alloc: Global, limits: Limits, bytes: &[u8]) -> Result<(Reply, &[u8]), Stop>
     ensures { Gives (λ x. (answer x.0, x.1.now)) result (reply_at limits bytes.now) }

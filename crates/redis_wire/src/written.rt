@@ -17,7 +17,7 @@ use std::alloc::AllocError;
 /// A version of the protocol, which a client chooses with `HELLO`.
 #[derive(Clone, Copy, Debug, PartialEq, Eq)]
 pub enum Protocol {
-    /// `HELLO 2`, and what is spoken before any `HELLO`.
+    /// `HELLO 2`, and the protocol before any `HELLO`.
     Resp2,
     /// `HELLO 3`.
     Resp3,
@@ -40,7 +40,7 @@ pub fn push_count(out: &mut Vec<u8>, mark: u8, count: usize) -> Result<(), Alloc
     push_line(out, mark, Buffer::new().format::<usize>(count).as_bytes())
 }
 
-/// Appends what stands for no value.
+/// Appends a null.
 fn push_nil(out: &mut Vec<u8>, protocol: Protocol) -> Result<(), AllocError>
     ensures { OnOk result (out.new.items ≡ out.old.items ++ nil_bytes protocol) }
 {
@@ -50,14 +50,14 @@ fn push_nil(out: &mut Vec<u8>, protocol: Protocol) -> Result<(), AllocError>
     }
 }
 
-/// Whether neither CR nor LF stands in a text.
+/// Whether a text contains neither CR nor LF.
 pub fn is_one_line(text: &[u8]) -> bool
     ensures { result ≡ list_all is_inner text.now }
 {
     text.iter().all(|byte| !(*byte == b'\r' || *byte == b'\n'))
 }
 
-/// Appends a short text, as bulk bytes where CR or LF stands in it.
+/// Appends a short text, as a bulk string if it contains CR or LF.
 #[tactic(auto, unfolding(crate::specs::Written::text_bytes))]
 pub fn push_text(out: &mut Vec<u8>, text: &[u8]) -> Result<(), AllocError>
     ensures { OnOk result (out.new.items ≡ out.old.items ++ text_bytes text.now) }
@@ -69,7 +69,7 @@ pub fn push_text(out: &mut Vec<u8>, text: &[u8]) -> Result<(), AllocError>
     }
 }
 
-/// Appends a truth value.
+/// Appends a boolean.
 fn push_boolean(out: &mut Vec<u8>, protocol: Protocol, is_true: bool) -> Result<(), AllocError>
     ensures { OnOk result (out.new.items ≡ out.old.items ++ boolean_bytes protocol is_true) }
 {
@@ -81,7 +81,7 @@ fn push_boolean(out: &mut Vec<u8>, protocol: Protocol, is_true: bool) -> Result<
     }
 }
 
-/// Appends a text behind its format.
+/// Appends a verbatim string; a bulk string in RESP2, or if the format has not three bytes.
 #[tactic(auto, unfolding(crate::specs::Written::verbatim_bytes))]
 fn push_verbatim(
     out: &mut Vec<u8>,
@@ -103,7 +103,7 @@ fn push_verbatim(
     Ok(())
 }
 
-/// Appends the head of a set.
+/// Appends the header of a set.
 fn push_set_head(out: &mut Vec<u8>, protocol: Protocol, count: usize) -> Result<(), AllocError>
     ensures { OnOk result (out.new.items ≡ out.old.items ++ set_head protocol count) }
 {
@@ -113,7 +113,7 @@ fn push_set_head(out: &mut Vec<u8>, protocol: Protocol, count: usize) -> Result<
     }
 }
 
-/// Appends the head of a map.
+/// Appends the header of a map.
 fn push_map_head(out: &mut Vec<u8>, protocol: Protocol, count: usize) -> Result<(), AllocError>
     requires { 2 * count ≤ usize.MAX }
     ensures { OnOk result (out.new.items ≡ out.old.items ++ map_head protocol count) }
@@ -182,7 +182,7 @@ pub fn push_values(
     Ok(())
 }
 
-/// Appends keys and values in turn.
+/// Appends keys and values, in turn.
 #[cycle(written)]
 fn push_pairs(
     out: &mut Vec<u8>,

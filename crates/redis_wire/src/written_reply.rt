@@ -11,15 +11,15 @@ use crate::reply::Reply;
 use crate::written::{Protocol, is_one_line, push_count, push_line, push_value};
 use std::alloc::{AllocError, Global};
 
-/// Appends the bytes of a reply behind others, as a server sends it. An `Err` changes nothing.
+/// Appends the bytes of a reply, as a server sends it. An `Err` changes nothing.
 ///
-/// RESP2 has no maps, sets, truth values, verbatim strings, attributes and messages: a map is the
-/// array of its keys and values in turn, a set and a message are arrays, a truth value is 1 or 0, a
-/// verbatim string is its text, and attributes are left out. No value is `$-1` in RESP2 and `_` in
+/// RESP2 has no maps, sets, booleans, verbatim strings, attributes and messages. A map becomes the
+/// array of its keys and values in turn; a set and a message become arrays; a boolean becomes 1 or 0.
+/// A verbatim string becomes its text, and attributes are left out. A null is `$-1` in RESP2 and `_` in
 /// RESP3.
 ///
-/// What a line cannot hold, because CR or LF stands in it, goes into bulk bytes; of an error that
-/// is so in RESP3, and RESP2 has blanks in their place, as a server does.
+/// A text with CR or LF becomes a bulk string, since a line cannot hold it. Such an error becomes a bulk
+/// error in RESP3; in RESP2 each CR and LF becomes a space, as in a server.
 pub fn append_answer(
     alloc: Global,
     out: &mut Vec<u8>,
@@ -106,7 +106,7 @@ pub fn push_error(
     }
 }
 
-/// The text with a blank in place of each CR and LF.
+/// Returns the text with a space instead of each CR and LF.
 fn with_blanks(alloc: Global, text: &[u8]) -> Result<Vec<u8>, AllocError>
     ensures { IfOk result (λ line. line.items ≡ map blank_end text.now) }
 {
@@ -121,7 +121,7 @@ fn with_blanks(alloc: Global, text: &[u8]) -> Result<Vec<u8>, AllocError>
         .collect(alloc)
 }
 
-/// Appends the head of a group of so many members.
+/// Appends the header of a group of `count` members.
 fn push_group_head(
     out: &mut Vec<u8>,
     protocol: Protocol,
@@ -150,7 +150,7 @@ fn push_group_head(
     }
 }
 
-/// Appends the head of a message with so many members.
+/// Appends the header of a message of `count` members.
 fn push_push_head(out: &mut Vec<u8>, protocol: Protocol, count: usize) -> Result<(), AllocError>
     ensures { OnOk result (out.new.items ≡ out.old.items ++ push_head protocol count) }
 {
