@@ -1,4 +1,4 @@
--- How many values a reply has, those inside others among them.
+-- The number of values in a reply, with nested values counted.
 use Rattle.std.specs.Prelude.{ℕ, suc, ◌+◌}
 use Rattle.redis_resp.specs.Tree.{Tree, nil, int, bulk, array, simple, okay, map_of_pairs, attribute, set, boolean}
 use Rattle.redis_resp.specs.Tree.{verbatim, push, Trees, no_trees, more_trees, Pairs, no_pairs, more_pairs}
@@ -31,7 +31,7 @@ abbrev mutual
   values_of_pairs (more_pairs k x ps) = values_of k + (values_of x + values_of_pairs ps)
 
 abbrev mutual
-  -- those of a reply: an error is one; of a message, those that are sent with it
+  -- those of a reply: an error is one; a message has those that are sent with it
   pub value_count : Answer → ℕ
   value_count (value t) = values_of t
   value_count (refused text) = 1

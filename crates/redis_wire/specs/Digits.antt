@@ -1,4 +1,4 @@
--- Digits at the head of bytes.
+-- Digits at the start of bytes.
 use Rattle.std.specs.Prelude.{◌≡◌, ℕ, List, ◌++◌, true}
 use Rattle.std.specs.Str.{all_ascii_digits}
 use Rattle.redis_resp.specs.Number.{number_of_digits}
@@ -8,7 +8,7 @@ pub record AreDigits (digits : List ℕ) (number : ℕ) : Type 0 where
   pub each : all_ascii_digits digits ≡ true
   pub weighs : number_of_digits digits ≡ number
 
--- digits that write this number stand at the head, if any, and this behind them
+-- the bytes are the digits of this number, or none for 0, and then the rest
 pub record DigitsAt (bytes : List ℕ) (number : ℕ) (rest : List ℕ) : Type 0 where
   pub digits : List ℕ
   pub is : bytes ≡ digits ++ rest

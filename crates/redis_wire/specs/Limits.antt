@@ -1,4 +1,4 @@
--- How much a reply may ask for where nothing else is said.
+-- The default limits on the size of a reply.
 use Rattle.redis_wire.specs.declared.limits.Limits.{Limits}
 
 -- 128 levels, lengths of 512 MiB, lines of 64 KiB, 16,777,216 values in a reply, and 1 GiB in a stream

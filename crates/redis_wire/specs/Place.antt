@@ -1,4 +1,4 @@
--- Where values stand in bytes.
+-- The positions of values in bytes.
 use Rattle.std.specs.Prelude.{◌≡◌, ◌≤◌, ◌+◌, ◌⊎◌, ℕ, suc, List, [], ◌∷◌, length, take, drop, pos, Option, Some, None}
 use Rattle.std.specs.Prelude.{Ok, IsSomeAnd}
 use Rattle.redis_resp.specs.Tree.{nil, int, bulk}
@@ -10,7 +10,7 @@ use Rattle.redis_wire.specs.Scalar.{number_of}
 use Rattle.redis_wire.specs.Reply.{value}
 use Rattle.redis_wire.specs.Level.{length_at, group_body_at, value_at}
 
--- the text that stands there
+-- the text at this position
 abbrev pub text_in : List ℕ → Span → List ℕ
 text_in bytes span = take span.len (drop span.start bytes)
 
@@ -18,78 +18,78 @@ text_in bytes span = take span.len (drop span.start bytes)
 abbrev pub IsSpan : List ℕ → Span → Type 0
 IsSpan bytes span = span.start + span.len ≤ length bytes
 
--- Behind `at` bytes stands that first byte, and behind it a line with a length, or with the -1 that
--- stands for none; it ends with the first `after` bytes.
+-- At offset `at` there is this first byte, and after it a line with a length, or with the -1 of a
+-- null. The line ends at offset `after`.
 pub record IsHeadAt (limits : Limits) (bytes : List ℕ) (at first : ℕ) (n : Option ℕ) (after : ℕ) : Type 0 where
   pub behind : List ℕ
   pub is : drop at bytes ≡ first ∷ behind
   pub len : length_at limits behind ≡ Ok (n, drop after bytes)
   pub end : after ≤ length bytes
 
--- The same of a line.
+-- The same for a line.
 pub record IsLineAt (limits : Limits) (bytes : List ℕ) (at first : ℕ) (line : List ℕ) (after : ℕ) : Type 0 where
   pub behind : List ℕ
   pub is : drop at bytes ≡ first ∷ behind
   pub reads : line_at limits.line behind ≡ Ok (line, drop after bytes)
   pub end : after ≤ length bytes
 
--- Behind `at` bytes stands a bulk string of that text, at whatever depth, and it ends with the first
--- `after` bytes.
+-- At offset `at` there is a bulk string of this text, at whatever depth. It ends at offset
+-- `after`.
 pub record IsTextAt (limits : Limits) (bytes : List ℕ) (at : ℕ) (span : Span) (after : ℕ) : Type 0 where
   pub within : IsSpan bytes span
   pub end : after ≤ length bytes
   pub reads : (d : ℕ) → value_at limits (suc d) (drop at bytes)
       ≡ Ok (value (bulk (text_in bytes span)), drop after bytes)
 
--- Behind `at` bytes stands the head of an array of so many members, which ends with the first `after`
--- bytes.
+-- At offset `at` there is the header of an array of `count` members, which ends at offset
+-- `after`.
 pub record IsArrayAt (limits : Limits) (bytes : List ℕ) (at count after : ℕ) : Type 0 where
   pub end : after ≤ length bytes
   pub reads : (d : ℕ) → value_at limits (suc d) (drop at bytes)
       ≡ group_body_at (value_at limits d) Array (Some count) (drop after bytes)
 
--- The same of a map of so many pairs.
+-- The same for a map of `count` pairs.
 pub record IsMapAt (limits : Limits) (bytes : List ℕ) (at count after : ℕ) : Type 0 where
   pub end : after ≤ length bytes
   pub reads : (d : ℕ) → value_at limits (suc d) (drop at bytes)
       ≡ group_body_at (value_at limits d) Map (Some count) (drop after bytes)
 
--- Behind `at` bytes stands nil, which ends with the first `after` bytes.
+-- At offset `at` there is a nil, which ends at offset `after`.
 pub record IsNilAt (limits : Limits) (bytes : List ℕ) (at after : ℕ) : Type 0 where
   pub end : after ≤ length bytes
   pub reads : (d : ℕ) → value_at limits (suc d) (drop at bytes) ≡ Ok (value nil, drop after bytes)
 
--- Behind `at` bytes stands that number, which ends with the first `after` bytes.
+-- At offset `at` there is this number, which ends at offset `after`.
 pub record IsIntAt (limits : Limits) (bytes : List ℕ) (at number after : ℕ) : Type 0 where
   pub end : after ≤ length bytes
   pub reads : (d : ℕ) → value_at limits (suc d) (drop at bytes) ≡ Ok (value (int (pos number)), drop after bytes)
 
--- ---- what bytes begin with, so that it has to be found
+-- ---- prefixes of bytes that must be found
 
--- that first byte, behind it a line with a length, or with the -1 that stands for none, and then the rest
+-- this first byte, then a line with a length, or with the -1 of a null, and then the rest
 pub record BeginsWithHead (limits : Limits) (bytes : List ℕ) (first : ℕ) (n : Option ℕ) (rest : List ℕ) : Type 0 where
   pub behind : List ℕ
   pub is : bytes ≡ first ∷ behind
   pub len : length_at limits behind ≡ Ok (n, rest)
 
--- the same of a line
+-- the same for a line
 pub record BeginsWithLine (limits : Limits) (bytes : List ℕ) (first : ℕ) (line rest : List ℕ) : Type 0 where
   pub behind : List ℕ
   pub is : bytes ≡ first ∷ behind
   pub reads : line_at limits.line behind ≡ Ok (line, rest)
 
--- a bulk string of that text
+-- a bulk string of this text
 pub record BeginsWithText (limits : Limits) (bytes text rest : List ℕ) : Type 0 where
   pub len : ℕ
   pub body : List ℕ
   pub head : BeginsWithHead limits bytes 36 (Some len) body
   pub reads : blob_at len body ≡ Ok (text, rest)
 
--- the head of an array of so many members
+-- the header of an array of `count` members
 abbrev pub BeginsWithArray : Limits → List ℕ → ℕ → List ℕ → Type 0
 BeginsWithArray limits bytes count rest = BeginsWithHead limits bytes 42 (Some count) rest
 
--- the head of a map of so many pairs
+-- the header of a map of `count` pairs
 abbrev pub BeginsWithMap : Limits → List ℕ → ℕ → List ℕ → Type 0
 BeginsWithMap limits bytes count rest = BeginsWithHead limits bytes 37 (Some count) rest
 
@@ -104,6 +104,6 @@ pub record BeginsWithInt (limits : Limits) (bytes : List ℕ) (number : ℕ) (re
   pub at : BeginsWithLine limits bytes 58 line rest
   pub says : number_of line ≡ Some (pos number)
 
--- what was found ends where the rest begins
+-- the offset `after` is where the rest begins
 abbrev pub EndsBefore : List ℕ → List ℕ → ℕ → Type 0
 EndsBefore bytes rest after = drop after bytes ≡ rest

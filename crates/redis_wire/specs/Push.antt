@@ -1,4 +1,4 @@
--- A message that a server pushes, and a whole reply: such a message, or a value.
+-- A pushed message, and a whole reply: such a message, or a value.
 use Rattle.std.specs.Prelude.{ℕ, zero, suc, ◌==◌, ◌-◌, List, [], ◌∷◌, Option, Some, None, Result, Ok, Err}
 use Rattle.std.specs.Prelude.{if◌then◌else◌}
 use Rattle.std.specs.Str.{is_utf8}
@@ -14,16 +14,16 @@ use Rattle.redis_wire.specs.Reply.{Answer, pushed, answer_list, one_by_one}
 use Rattle.redis_wire.specs.Group.{many}
 use Rattle.redis_wire.specs.Level.{length_at, value_at}
 
--- the kind of a message is a text
+-- the kind of a message is UTF-8 text
 abbrev pub kind_text : List ℕ → Result (List ℕ) Halt
 kind_text text = if is_utf8 text then Ok text else Err (bad NotUtf8)
 
--- the kind that bulk bytes of this length are
+-- the kind of a message as a bulk string of this length
 unfoldable pub kind_body_at : Option ℕ → List ℕ → Read (List ℕ)
 kind_body_at None bytes = Err (bad BadPush)
 kind_body_at (Some n) bytes = blob_at n bytes >>= λ x. kind_text x.0 >>= λ k. Ok (k, x.1)
 
--- the kind behind a first byte of this sort: a simple string or a bulk string
+-- the kind of a message after a first byte of this type: a simple string or a bulk string
 unfoldable pub kind_by : Limits → Option Kind → List ℕ → Read (List ℕ)
 kind_by limits (Some (kinds.Line lines.Status)) bytes =
     line_at limits.line bytes >>= λ x. kind_text x.0 >>= λ k. Ok (k, x.1)
@@ -36,7 +36,7 @@ unfoldable pub kind_at : Limits → List ℕ → Read (List ℕ)
 kind_at limits [] = Err short
 kind_at limits (b ∷ bytes) = kind_by limits (kind_of b) bytes
 
--- a message with so many members: its kind, and what is sent with it
+-- a message with this number of members: its kind, and the values sent with it
 unfoldable pub push_body_at : Limits → Option ℕ → List ℕ → Read Answer
 push_body_at limits None bytes = Err (bad BadLength)
 push_body_at limits (Some zero) bytes = Err (bad BadPush)
@@ -44,12 +44,12 @@ push_body_at limits (Some (suc n)) bytes = kind_at limits bytes >>= λ x.
     many (value_at limits (limits.depth - 1)) n x.1 >>= λ y.
     Ok (pushed x.0 (answer_list (one_by_one y.0)), y.1)
 
--- a count, and the message behind it; it is a level of its own
+-- a count, and the message that follows it; it is a level of its own
 unfoldable pub push_at : Limits → List ℕ → Read Answer
 push_at limits bytes = if limits.depth == 0 then Err (bad TooDeep)
     else length_at limits bytes >>= λ x. push_body_at limits x.0 x.1
 
--- a reply: a message behind `>`, which stands in no value, or a value
+-- a reply: a message after `>`, which no value contains, or a value
 unfoldable pub reply_at : Limits → List ℕ → Read Answer
 reply_at limits [] = Err short
 reply_at limits (b ∷ bytes) = if b == 62 then push_at limits bytes

@@ -1,4 +1,4 @@
--- Which replies are read back of the bytes that they are written as.
+-- Which replies are read back from the bytes that they are written as.
 use Rattle.std.specs.Prelude.{◌≡◌, ◌≤◌, ◌<◌, ◌^◌, ℕ, zero, suc, pos, negsuc, List, length, codes, true, false}
 use Rattle.std.specs.List.{list_all}
 use Rattle.std.specs.Str.{is_utf8, bytes_eq}
@@ -14,20 +14,20 @@ use Rattle.redis_wire.specs.Grammar.{IsReply}
 use Rattle.redis_wire.specs.Written.{tree_count, pair_count}
 use Rattle.redis_wire.specs.WrittenReply.{answer_bytes}
 
--- a text that a line holds within the limits
+-- a text that fits a line within the limits
 pub record FitsLine (limits : Limits) (text : List ℕ) : Type 0 where
   pub inner : list_all is_inner text ≡ true
   pub within : length text ≤ limits.line
 
--- a short text other than `OK`, which is a value of its own
+-- a UTF-8 text other than `OK`, which is a value of its own
 pub record IsStatus (limits : Limits) (text : List ℕ) : Type 0 where
   pub fits : FitsLine limits text
   pub is_text : is_utf8 text ≡ true
   pub other : bytes_eq text (codes "OK") ≡ false
 
 abbrev mutual
-  -- A value of the kinds that answers are made of, within the limits and with so many levels at most: no
-  -- value, a number of 64 bits, a short text, bulk bytes, an array, and in RESP3 a map.
+  -- A value of the kinds that replies are made of, within the limits and of at most this depth: a null,
+  -- a 64-bit integer, a simple string, a bulk string, an array, and in RESP3 a map.
   pub IsWritable : Protocol → Limits → ℕ → Tree → Type 0
   IsWritable p limits zero t = ⊥
   IsWritable p limits (suc d) nil = Unit {0}
@@ -53,14 +53,14 @@ abbrev mutual
   ArePairsWritable p limits d (more_pairs k x ps) =
       IsWritable p limits d k × IsWritable p limits d x × ArePairsWritable p limits d ps
 
--- such a value, or an error that a line holds
+-- such a value, or an error that fits a line
 abbrev pub IsSendable : Protocol → Limits → Answer → Type 0
 IsSendable p limits (value t) = IsWritable p limits limits.depth t
 IsSendable p limits (refused text) = (0 < limits.depth) × FitsLine limits text
 IsSendable p limits a = ⊥
 
--- where lines of 20 bytes are allowed, the bytes of such a reply of so many values are that reply, and
--- nothing else
+-- if lines of 20 bytes are allowed and the values are within the limit, the bytes of such a reply are
+-- that reply, and nothing else
 abbrev pub AnswersAreRead : Type 0
 AnswersAreRead = (p : Protocol) (limits : Limits) (a : Answer) → limits.length < 2 ^ 32 → 20 ≤ limits.line
     → IsSendable p limits a → value_count a ≤ limits.values → IsReply limits (answer_bytes p a) a

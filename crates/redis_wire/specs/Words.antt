@@ -1,4 +1,4 @@
--- The words of a command, which a server is sent as an array of bulk strings.
+-- The words of a command, which is sent to a server as an array of bulk strings.
 use Rattle.std.specs.Prelude.{◌≡◌, ◌↔◌, ◌<◌, ◌≤◌, ◌^◌, ℕ, List, length, Option, Some, None}
 use Rattle.std.specs.List.{AllByRecursion}
 use Rattle.redis_resp.specs.Tree.{Tree, bulk, array, list_of_trees}
@@ -13,16 +13,16 @@ abbrev pub bulk_text : Tree → Option (List ℕ)
 bulk_text (bulk text) = Some text
 bulk_text _ = None
 
--- the bytes of each in an array of bulk strings, and None of any other answer
+-- the bytes of each member of an array of bulk strings, and None for any other reply
 abbrev pub words_in : Answer → Option (List (List ℕ))
 words_in (value (array ts)) = traverse bulk_text (list_of_trees ts)
 words_in _ = None
 
--- these are the words of the command that an answer is, and None if it is no command
+-- these are the words of the command that a reply is, and None if it is no command
 abbrev pub AreWordsOf : Answer → Option (List (List ℕ)) → Type 0
 AreWordsOf a words = (args : List (List ℕ)) → (words ≡ Some args) ↔ (a ≡ value (command_tree args))
 
--- If the bytes of a command are read as the answer, these are the words of the command. Lines of ten bytes and
+-- If the bytes of a command are read as the reply, these are the words of the command. Lines of ten bytes and
 -- two levels are allowed, and the count and the lengths are within the limits.
 abbrev pub AreUnpacked : Answer → Option (List (List ℕ)) → Type 0
 AreUnpacked a words = (limits : Limits) (args : List (List ℕ))

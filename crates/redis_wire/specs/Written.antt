@@ -17,50 +17,50 @@ line_bytes mark line = mark ∷ (line ++ crlf)
 abbrev pub count_bytes : ℕ → ℕ → List ℕ
 count_bytes mark n = line_bytes mark (decimal n)
 
--- a first byte, a length, and so many bytes
+-- a first byte, a length, and this number of bytes
 abbrev pub blob_bytes : ℕ → List ℕ → List ℕ
 blob_bytes mark body = count_bytes mark (length body) ++ (body ++ crlf)
 
--- how many trees these are
+-- the number of trees in a list
 abbrev pub tree_count : Trees → ℕ
 tree_count no_trees = 0
 tree_count (more_trees t ts) = suc (tree_count ts)
 
--- how many pairs these are
+-- the number of pairs in a list
 abbrev pub pair_count : Pairs → ℕ
 pair_count no_pairs = 0
 pair_count (more_pairs k x ps) = suc (pair_count ps)
 
--- ---- what stands in lines and in bulk bytes
+-- ---- lines and length-prefixed bytes
 
--- no value
+-- a null
 abbrev pub nil_bytes : Protocol → List ℕ
 nil_bytes Resp2 = line_bytes 36 (codes "-1")
 nil_bytes Resp3 = line_bytes 95 []
 
--- a short text; bulk bytes where no line can hold it
+-- a simple string, or a bulk string if no line can hold it
 unfoldable pub text_bytes : List ℕ → List ℕ
 text_bytes text = if list_all is_inner text then line_bytes 43 text else bulk_bytes text
 
--- a truth value, which RESP2 has as a number
+-- a boolean, which is a number in RESP2
 abbrev pub boolean_bytes : Protocol → Bool → List ℕ
 boolean_bytes Resp2 b = line_bytes 58 (if b then codes "1" else codes "0")
 boolean_bytes Resp3 b = line_bytes 35 (if b then codes "t" else codes "f")
 
--- a text behind the three bytes of its format, which RESP2 leaves out
+-- a text after the three bytes of its format, which RESP2 leaves out
 unfoldable pub verbatim_bytes : Protocol → List ℕ → List ℕ → List ℕ
 verbatim_bytes Resp2 format text = bulk_bytes text
 verbatim_bytes Resp3 format text =
     if length format == 3 then blob_bytes 61 (format ++ 58 ∷ text) else bulk_bytes text
 
--- ---- values that hold others
+-- ---- values with members
 
--- the head of a set, which RESP2 has as an array
+-- the header of a set, which is an array in RESP2
 abbrev pub set_head : Protocol → ℕ → List ℕ
 set_head Resp2 n = count_bytes 42 n
 set_head Resp3 n = count_bytes 126 n
 
--- the head of a map, which RESP2 has as an array of keys and values in turn
+-- the header of a map, which is an array of keys and values, in turn, in RESP2
 abbrev pub map_head : Protocol → ℕ → List ℕ
 map_head Resp2 n = count_bytes 42 (2 * n)
 map_head Resp3 n = count_bytes 37 n
@@ -71,8 +71,8 @@ attributes_bytes Resp2 n bytes = []
 attributes_bytes Resp3 n bytes = count_bytes 124 n ++ bytes
 
 abbrev mutual
-  -- A value. A message that was pushed is none, and inside one it is the array of its kind and what was
-  -- sent with it.
+  -- A value. A pushed message is not one; inside a value it is the array of its kind and the values sent
+  -- with it.
   pub tree_bytes : Protocol → Tree → List ℕ
   tree_bytes p nil = nil_bytes p
   tree_bytes p (int z) = line_bytes 58 (signed_decimal z)
@@ -92,7 +92,7 @@ abbrev mutual
   trees_bytes p no_trees = []
   trees_bytes p (more_trees t ts) = tree_bytes p t ++ trees_bytes p ts
 
-  -- keys and values in turn
+  -- keys and values, in turn
   pub pairs_bytes : Protocol → Pairs → List ℕ
   pairs_bytes p no_pairs = []
   pairs_bytes p (more_pairs k x ps) = tree_bytes p k ++ (tree_bytes p x ++ pairs_bytes p ps)

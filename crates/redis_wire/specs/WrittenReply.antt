@@ -1,4 +1,4 @@
--- A whole reply as bytes: a value, an error, a group with errors in it, or a message that is pushed.
+-- A whole reply as bytes: a value, an error, a group with errors in it, or a pushed message.
 use Rattle.std.specs.Prelude.{ℕ, ◌/◌, ◌%◌, ◌==◌, suc, List, [], ◌++◌, map, if◌then◌else◌}
 use Rattle.std.specs.List.{list_all}
 use Rattle.redis_wire.specs.declared.written.Protocol.{Protocol}
@@ -10,11 +10,11 @@ use Rattle.redis_wire.specs.Reply.{Answer, value, refused, group, pushed, Answer
 use Rattle.redis_wire.specs.Packed.{bulk_bytes}
 use Rattle.redis_wire.specs.Written.{line_bytes, count_bytes, blob_bytes, tree_bytes}
 
--- a blank in place of CR and of LF
+-- a space instead of CR and of LF
 abbrev pub blank_end : ℕ → ℕ
 blank_end b = if is_inner b then b else 32
 
--- an error that no line can hold: RESP3 has bulk bytes for it, and in RESP2 blanks stand in it
+-- an error that no line can hold: a bulk error in RESP3; in RESP2 spaces replace CR and LF
 abbrev pub long_error_bytes : Protocol → List ℕ → List ℕ
 long_error_bytes Resp2 text = line_bytes 45 (map blank_end text)
 long_error_bytes Resp3 text = blob_bytes 33 text
@@ -23,8 +23,8 @@ long_error_bytes Resp3 text = blob_bytes 33 text
 unfoldable pub error_bytes : Protocol → List ℕ → List ℕ
 error_bytes p text = if list_all is_inner text then line_bytes 45 text else long_error_bytes p text
 
--- The head of a group of so many members: RESP2 has arrays alone, and so has a number of members that
--- no group of the kind has. A map and attributes count pairs.
+-- The header of a group of n members: an array in RESP2, and also if no group of the kind has n
+-- members. A map and attributes count pairs.
 abbrev pub group_head : Protocol → GroupKind → ℕ → List ℕ
 group_head Resp2 k n = count_bytes 42 n
 group_head Resp3 groups.Array n = count_bytes 42 n
@@ -32,12 +32,12 @@ group_head Resp3 groups.Set n = count_bytes 126 n
 group_head Resp3 groups.Map n = if n % 2 == 0 then count_bytes 37 (n / 2) else count_bytes 42 n
 group_head Resp3 groups.Attribute n = if n % 2 == 1 then count_bytes 124 (n / 2) else count_bytes 42 n
 
--- the head of a message with so many members, its kind among them
+-- the header of a message with n members, its kind included
 abbrev pub push_head : Protocol → ℕ → List ℕ
 push_head Resp2 n = count_bytes 42 n
 push_head Resp3 n = count_bytes 62 n
 
--- how many answers these are
+-- the number of replies in a list
 abbrev pub answer_count : AnswerList → ℕ
 answer_count no_answers = 0
 answer_count (more_answers a xs) = suc (answer_count xs)
