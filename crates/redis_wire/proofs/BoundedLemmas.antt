@@ -1,4 +1,4 @@
--- A reply with at most so many values: more bytes change nothing that is settled, it is a reply of the grammar, and no
+-- A reply with at most `limits.values` values: appended bytes change no definite result, it is in the grammar, and no
 -- value has fewer than three bytes.
 use Rattle.std.proofs.Common.{◌≡◌, ℕ, zero, suc, ◌+◌, ◌*◌, ◌/◌, ◌≤◌, ◌<◌, Bool, true, false, cond, ltb, List, [], ◌∷◌}
 use Rattle.std.proofs.Common.{◌++◌, length, Option, Some, None, Result, Ok, Err, refl, sym, ap, ◌∙◌, subst, arith, le-ltb}
@@ -29,9 +29,9 @@ use Rattle.redis_wire.proofs.CountLemmas.{reply_counted}
 use Rattle.redis_wire.proofs.ItemLemmas.{read_as, item_steady, begins_steady, many_rest, value_part, is_run, alone_rest}
 use Rattle.redis_wire.proofs.ItemLemmas.{reply_part, begins_ends, blob_ends, end_le}
 
--- ---- more bytes
+-- ---- appended bytes
 
--- what more bytes change of a count: nothing, but where the bytes ended too early
+-- appended bytes do not change a count, unless the bytes ended too early
 abbrev Grown : Result (List ℕ) Halt → ℕ → ℕ → Type 0
 Grown (Ok rest) n m = m ≡ n
 Grown (Err short) n m = n ≤ m
@@ -118,7 +118,7 @@ value_grown limits (suc d) bytes more =
     (item_at limits bytes) (item_at limits (bytes ++ more)) (item_steady limits bytes more))
 
 module _ (limits : Limits) where
-  -- one open group, and nothing behind it
+  -- one open group, and no others after it
   one_passed : (o : Open) (bytes : List ℕ)
       → passed limits (o ∷ []) bytes ≡ rest_of (many (value_at limits o.depth) o.left bytes)
   one_passed o bytes = is_run limits o [] bytes
@@ -199,7 +199,7 @@ module _ (limits : Limits) where
         rw within read;
   }
 
-  -- within the limit, it is the reply that stands there
+  -- within the limit, it is the reply that is read without a limit
   pub within_is : (bytes : List ℕ) → reply_begun limits bytes ≤ limits.values
       → bounded_at limits bytes ≡ reply_at limits bytes
   unfolding bounded_at
@@ -214,9 +214,9 @@ module _ (limits : Limits) where
       let over : ltb limits.values (reply_begun limits bytes) ≡ true = lt-ltb _ _ lt in
       rw over refl
 
--- ---- three bytes and more
+-- ---- at least three bytes
 
--- so many values took three bytes each at least, but for one that is cut
+-- n values took at least three bytes each, except one that is cut
 abbrev Small : Result (List ℕ) Halt → ℕ → ℕ → Type 0
 Small (Ok rest) n len = 3 * n + length rest ≤ len
 Small (Err e) n len = 3 * n ≤ len + 3
@@ -270,7 +270,7 @@ length_shorter limits bytes x e =
     let same : (n.0, l.0.1) ≡ x = cc in
     subst (λ (y : Option ℕ × List ℕ). length y.1 + 2 ≤ length bytes) same s
 
--- a step leaves the bytes where they are
+-- a step does not change the rest of the bytes
 step_left : {A B : Type 0} (s : Result A Halt) (g : A → B) (rest : List ℕ) (x : B × List ℕ)
     → (s >>= λ a. read_as (g a) rest) ≡ Ok x → rest ≡ x.1
 step_left {B = B} (Ok a) g rest x e = let same : (g a, rest) ≡ x = cc in ap (λ (y : B × List ℕ). y.1) same
@@ -369,7 +369,7 @@ reply_part_small limits bytes =
         x.0.left x.1))
     by (Err e) h = no_small (length bytes)
 
--- a whole reply has three bytes for each of its values
+-- a whole reply has at least three bytes for each of its values
 pub whole_small : (limits : Limits) (text : List ℕ) (a : Answer) → length text ≤ 3 * limits.values
     → IsAnyReply limits text a → IsReply limits text a
 whole_small limits text a le reply = record { reply = reply; few = few }

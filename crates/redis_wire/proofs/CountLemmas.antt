@@ -1,4 +1,4 @@
--- Reading a reply begins as many values as the reply has.
+-- Reading a reply starts as many values as the reply has.
 use Rattle.std.proofs.Common.{◌≡◌, ℕ, zero, suc, ◌+◌, ◌-◌, ◌==◌, ◌&&◌, Bool, true, false, cond, ltb, ℤ, List, [], ◌∷◌}
 use Rattle.std.proofs.Common.{◌++◌, length, take, drop, map, codes, Option, Some, None, Result, Ok, Err, refl, sym, ap}
 use Rattle.std.proofs.Common.{◌∙◌, arith}
@@ -49,7 +49,7 @@ none_plus n = omega arith
 plus_group : (a b c : ℕ) → a + (b + c) ≡ (a + b) + c
 plus_group a b c = omega arith
 
--- how many values stand one after the other
+-- the number of values in a sequence
 abbrev all_values : Answers → ℕ
 all_values ms = values_among (answer_list (one_by_one ms))
 
@@ -66,18 +66,18 @@ all_joined a b = ap (λ (xs : List Answer). values_among (answer_list xs)) (one_
 all_one : (a : Answer) → all_values (one a) ≡ value_count a
 all_one a = ap (λ (xs : List Answer). values_among (answer_list xs)) (one_alone a) ∙ plus_none (value_count a)
 
--- a list of trees as answers
+-- a list of trees as replies
 trees_among : (ts : List Tree) → values_among (answer_list (map value ts)) ≡ values_of_trees (trees ts)
 trees_among [] = refl
 trees_among (t ∷ ts) = ap (λ (n : ℕ). values_of t + n) (trees_among ts)
 
 -- ---- groups
 
--- what was made
+-- the result of a step
 abbrev made_of : Answer → Result Answer Halt
 made_of a = Ok a
 
--- an answer is as many values as another one that was made
+-- a reply has as many values as the one that it was made of
 same_count : (a b : Answer) (n : ℕ) → made_of a ≡ Ok b → value_count a ≡ n → value_count b ≡ n
 same_count a b n e h = let same : a ≡ b = cc in ap value_count (sym same) ∙ h
 
@@ -153,7 +153,7 @@ group_counted : (k : GroupKind) (ms : Answers) (a : Answer) → group_answer k m
 group_counted k (values ts) a e = tree_counted k ts a e ∙ ap (λ (n : ℕ). suc n) (sym (trees_among ts))
 group_counted k (mixed xs) a e = same_count (group k (answer_list xs)) a _ e refl
 
--- ---- what has no values inside
+-- ---- values with no members
 
 text_one : (line : List ℕ) (a : Answer) → text_answer line ≡ Ok a → value_count a ≡ 1
 text_one line a e = by (is_utf8 line) e
@@ -232,7 +232,7 @@ no_group_one groups.Attribute a e = absurd cc
 abbrev read_as : {A : Type 0} → A → List ℕ → Read A
 read_as a rest = Ok (a, rest)
 
--- what a step made, with the bytes behind it
+-- the result of a step, with the rest of the bytes
 step_made : (s : Result Answer Halt) (rest : List ℕ) (x : Answer × List ℕ) → (s >>= λ a. read_as a rest) ≡ Ok x
     → (a : Answer) × (s ≡ Ok a) × (value_count a ≡ value_count x.0)
 step_made s rest x e =
@@ -260,7 +260,7 @@ module _ (inner : List ℕ → Read Answer) (begun : List ℕ → ℕ)
       ∙ sym (all_joined (one a.0.0) b.0.0)
       ∙ ap (λ (y : Answers × List ℕ). all_values y.0) same
 
-  -- an item is one value, and those inside it are those that it asks for
+  -- an item is one value, and the values inside it are its members
   abbrev Counts : Read ℕ → Answer → Type 0
   Counts item a = suc (inside_begun inner begun item) ≡ value_count a
 

@@ -1,4 +1,4 @@
--- Digits at the head of bytes, and the lengths and numbers that they write.
+-- Digits at the start of bytes, and the lengths and numbers that they write.
 use Rattle.std.proofs.Common.{◌≡◌, ◌==◌, ◌+◌, ◌-◌, ◌*◌, ◌<◌, ◌≤◌, ◌^◌, ℕ, pos, true, false, List, [], ◌∷◌, ◌++◌, length}
 use Rattle.std.proofs.Common.{Some, Ok, codes, refl, sym, ap, ◌∙◌, arith, append_assoc, append-nil}
 use Rattle.std.specs.Str.{all_ascii_digits, bytes_eq}
@@ -55,7 +55,7 @@ one_digit_more bytes rest behind n d h is r = record {
 apart : (c k : ℕ) → IsInRange 48 57 c → (c ≡ k → ⊥) → (c == k) ≡ false
 apart c k r h = false_from_ne_true _ (λ e. h (eqb-true c k e))
 
--- digits are no sign and no line end
+-- digits are neither signs nor line ends
 pub inner_digits : (ds : List ℕ) → all_ascii_digits ds ≡ true → list_all is_inner ds ≡ true
 inner_digits [] h = refl
 inner_digits (c ∷ cs) h =
@@ -65,7 +65,7 @@ inner_digits (c ∷ cs) h =
     let b : (c == 10) ≡ false = apart c 10 r (λ e. omega arith) in
     rw (a, b, inner_digits cs p.1) refl
 
--- digits, one at least, write their number
+-- digits, at least one, write their number
 numeral_is : (ds : List ℕ) (n : ℕ) → 0 < length ds → AreDigits ds n → numeral ds ≡ Some n
 unfolding numeral
 numeral_is ds n some h = rw (lt-ltb 0 (length ds) some, h.each, h.weighs) refl
@@ -123,7 +123,7 @@ length_of_digits limit ds n some h le small =
       le-ltb limit n le,
     ) refl
 
--- a line of digits alone is their number
+-- a line of only digits is their number
 pub number_is : (line : List ℕ) (n : ℕ) → DigitsAt line n [] → 0 < length line → n < 2 ^ 63
     → number_of line ≡ Some (pos n)
 number_is line n h some small =
@@ -131,7 +131,7 @@ number_is line n h some small =
     let more : 0 < length h.digits = omega (arith, some, ap length same) in
     rw same (number_of_digits_is h.digits n more h.are small)
 
--- a line of digits alone is a length
+-- a line of only digits is a length
 pub length_is : (limits : Limits) (bytes behind rest : List ℕ) (n : ℕ) → DigitsAt bytes n behind
     → behind ≡ 13 ∷ 10 ∷ rest
     → length behind < length bytes → length bytes ≤ limits.line + length behind → n ≤ limits.length → n < 2 ^ 63
@@ -147,7 +147,7 @@ length_is limits bytes behind rest n h is some within le small =
     (record { is = refl; inner = inner_digits h.digits h.are.each; within = omega (arith, within, long) }) in
     rw (text, line, length_of_digits limits.length h.digits n more h.are le small) refl
 
--- ---- one digit or two
+-- ---- one or two digits
 
 module _ (limits : Limits) (bytes rest : List ℕ) (length_fits : 99 ≤ limits.length) (line_fits : 2 ≤ limits.line) where
   pub one_digit_is : (a : ℕ) → bytes ≡ a ∷ 13 ∷ 10 ∷ rest → IsInRange 48 57 a

@@ -1,4 +1,4 @@
--- Items one by one: what they are of a value, and where they end.
+-- Items one by one: their relation to values, and where they end.
 use Rattle.std.proofs.Common.{◌≡◌, ◌==◌, ◌&&◌, ◌+◌, ◌-◌, ◌*◌, ◌<◌, ◌≤◌, Bool, true, cond, ℕ, zero, suc, List, [], ◌∷◌}
 use Rattle.std.proofs.Common.{◌++◌, length, take, drop, Option, Some, None, Result, Ok, Err, ltb, false, refl, sym, ap}
 use Rattle.std.proofs.Common.{subst, ◌∙◌, arith, append_assoc}
@@ -35,7 +35,7 @@ use Rattle.redis_wire.proofs.FitsLemmas.{Fits, bind_ok, blob_fits, line_fits, le
 use Rattle.redis_wire.proofs.AttributeLemmas.{last_of}
 use Rattle.redis_wire.proofs.ManyLemmas.{one_by_one_joined, one_alone}
 
--- ---- one step behind another
+-- ---- one step after another
 
 then_then : {A B C : Type 0} (r : Result A Halt) (f : A → Result B Halt) (g : B → Result C Halt)
     → ((r >>= f) >>= g) ≡ (r >>= λ x. f x >>= g)
@@ -50,14 +50,14 @@ pub then_err : {A B : Type 0} (r : Result A Halt) (f : A → B) (h : Halt) → (
 then_err (Ok x) f h e = absurd cc
 then_err (Err d) f h e = let same : d ≡ h = cc in ap (λ (k : Halt). Err k) same
 
--- what a step gives, with the bytes behind it
+-- the result of a step, with the rest of the bytes
 abbrev pub read_as : {A : Type 0} → A → List ℕ → Read A
 read_as a rest = Ok (a, rest)
 
 abbrev no_more : Result ℕ Halt
 no_more = Ok 0
 
--- ---- more bytes
+-- ---- appended bytes
 
 blob_passed_steady : (k : BlobKind) (n : Option ℕ) → IsSteady (blob_passed k n)
 unfolding blob_passed
@@ -127,7 +127,7 @@ begins_again limits bytes rest more o read =
 
 -- ---- items that are cut
 
--- the text before does not change whether CR and LF are cut
+-- whether CR and LF are cut does not depend on the text before them
 cut_alike : (s t rest : List ℕ) → before_crlf s rest ≡ Err short → before_crlf t rest ≡ Err short
 unfolding before_crlf
 cut_alike s t [] e = refl
@@ -153,7 +153,7 @@ kind_short limits (kinds.Line k) rest e = rw e refl
 kind_short limits (kinds.Blob k) rest e = rw e refl
 kind_short limits (kinds.Group k) rest e = rw e refl
 
--- a line that may go on
+-- a line that may continue
 pub cut_short : (limits : Limits) (b len : ℕ) (k : Kind) (rest : List ℕ) → kind_of b ≡ Some k
     → len ≡ prefix_len is_inner rest → before_crlf [] (drop len rest) ≡ Err short → len ≤ limits.line
     → item_at limits (b ∷ rest) ≡ Err short
@@ -177,7 +177,7 @@ blob_cut : (k : BlobKind) (n : ℕ) (bytes : List ℕ) → length bytes < n → 
 unfolding blob_passed blob_at
 blob_cut k n bytes few = rw (lt-ltb (length bytes) n few) refl
 
--- a bulk string that is not all there
+-- a bulk string that is not whole
 pub few_short : (limits : Limits) (b len : ℕ) (k : BlobKind) (line body more : List ℕ) → kind_of b ≡ Some (kinds.Blob k)
     → length_at limits line ≡ Ok (Some len, body)
     → length (line ++ more) < length line - length body + len → item_at limits (b ∷ line ++ more) ≡ Err short
@@ -190,7 +190,7 @@ few_short limits b len k line body more kind read few =
     let cut : length (body ++ more) < len = omega (arith, few, le, length-append line more, length-append body more) in
     rw (kind, again) (blob_cut k len (body ++ more) cut)
 
--- ---- a group has as many members as its count says, and so it is a value
+-- ---- a group has as many members as its count requires, and so it is a value
 
 even_pairs : (n : ℕ) (ts : List Tree) → length ts ≡ 2 * n → (ps : List (Tree × Tree)) × (two_by_two ts ≡ Some ps)
 even_pairs zero [] e = ([], refl)
@@ -339,11 +339,11 @@ abbrev opened : ℕ → ℕ → Open
 opened d l = record { depth = d; left = l }
 
 module _ (limits : Limits) where
-  -- passes so many values of so many levels, and then what other groups ask for
+  -- passes l values of at most d levels, and then the values that other groups still expect
   abbrev run : ℕ → ℕ → List Open → List ℕ → Result (List ℕ) Halt
   run d l os bytes = rest_of (many (value_at limits d) l bytes) >>= λ rest. passed limits os rest
 
-  -- the item at the head, where a level and a value are left
+  -- the item at the start, if a level and a value are left
   run_item : (d l : ℕ) (os : List Open) (bytes : List ℕ) (item : Read ℕ) → item_at limits bytes ≡ item
       → run (suc d) (suc l) os bytes
       ≡ (((item >>= λ y. rest_of (many (value_at limits d) y.0 y.1))
@@ -405,7 +405,7 @@ module _ (limits : Limits) where
   passed_none o os bytes none = is_run o os bytes ∙ ap (λ (l : ℕ). run o.depth l os bytes) none
       ∙ run_none o.depth os bytes
 
-  -- ---- how a reply begins
+  -- ---- the start of a reply
 
   pub alone_rest : (r : Result (List ℕ) Halt) → (r >>= λ rest. passed limits [] rest) ≡ r
   unfolding passed
@@ -465,7 +465,7 @@ module _ (limits : Limits) where
       by true = push_part bytes
       by false = one_value limits.depth (b ∷ bytes)
 
--- ---- what is left is the end of the bytes
+-- ---- the unread bytes are a suffix of the bytes
 
 pub end_then : (a b c : List ℕ) → IsEnd a b → IsEnd b c → IsEnd a c
 end_then a b c p q = record {
@@ -485,7 +485,7 @@ drop_end left bytes e =
 pub end_le : (left bytes : List ℕ) → IsEnd left bytes → length left ≤ length bytes
 end_le left bytes e = omega (arith, ap length e.is, length-append e.done left)
 
--- where a reader comes to is the end of what it reads
+-- the rest after a reader is a suffix of what it reads
 ends_then : {A B : Type 0} (f : List ℕ → Read A) (g : A → List ℕ → Read B)
     → ((bytes : List ℕ) (x : A × List ℕ) → f bytes ≡ Ok x → IsEnd x.1 bytes)
     → ((a : A) (bytes : List ℕ) (x : B × List ℕ) → g a bytes ≡ Ok x → IsEnd x.1 bytes)

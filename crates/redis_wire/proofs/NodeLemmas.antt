@@ -23,7 +23,7 @@ use Rattle.redis_wire.proofs.PlaceLemmas.{end_is, end_within, end_of_end, end_of
 use Rattle.redis_wire.specs.Nodes.{IsLineNode, IsBlobNode, IsNodeOf, IsNodeAt, Leads, Begins, AreNodes, AreEnds, taken, plain}
 use Rattle.redis_wire.specs.Nodes.{Say, Finds}
 
--- ---- lines and bulk bytes
+-- ---- lines and length-prefixed bytes
 
 module _ (limits : Limits) (bytes : List ℕ) (at first after : ℕ) (line : List ℕ)
     (h : IsLineAt limits bytes at first line after) where
@@ -192,7 +192,7 @@ module _ (limits : Limits) (bytes : List ℕ) where
             (leads_same ns ms p.0 n.members end left others p.2),
       )
 
--- ---- how many nodes values are
+-- ---- the number of nodes of values
 
 taken_none : (b : ℕ) → taken b [] ≡ 0
 taken_none zero = refl
@@ -233,7 +233,7 @@ ends_at (n ∷ ns) ms i (suc j) m e is = ends_at ns ms (i + 1) j m e.1 is ∙ ne
     next : (a b c : ℕ) → (a + 1) + b + 1 + c ≡ a + suc b + 1 + c
     next a b c = omega arith
 
--- one more value of a table is passed
+-- one more value of a table was passed
 pub ends_on : (nodes ms : List Node) (from k end : ℕ) (m : Node) → AreEnds from (drop from nodes)
     → end ≡ from + taken k (drop from nodes) → drop end nodes ≡ m ∷ ms → m.end ≡ from + taken (k + 1) (drop from nodes)
 ends_on nodes ms from k end m ends is here =
@@ -265,7 +265,7 @@ ends_all nodes from k all end is over le =
     split : (a b : ℕ) → a ≤ b → b ≡ a + (b - a)
     split a b le = omega (arith, le)
 
--- one more end is said
+-- one more end is set
 module _ (nodes olds : List Node) (at end : ℕ) (d : Node) (some : 0 < at) (within : at ≤ length nodes)
     (ends : AreEnds at (drop at nodes)) (same : map plain nodes ≡ map plain olds)
     (is : end ≡ at + taken (get_or nodes (at - 1) d).members (drop at nodes)) where
@@ -286,7 +286,7 @@ module _ (nodes olds : List Node) (at end : ℕ) (d : Node) (some : 0 < at) (wit
         subst (AreEnds i) (sym (drop-set nodes i said lt)) (here, behind),
       )
 
--- a table that is filled
+-- the first node of a table is set
 pub fills_first : (limits : Limits) (bytes : List ℕ) (nodes : List Node) (first : Node) (after : ℕ)
     → Begins limits bytes first after → 0 < length nodes
     → AreNodes limits bytes (take 1 (set nodes 0 first)) after first.members
@@ -319,7 +319,7 @@ filled limits bytes nodes ends count end few same are =
     subst (λ ns. AreNodes limits bytes ns end 0) (sym (take_at ends (drop count nodes) count len))
     (nodes_same limits bytes (take count nodes) ends end 0 (sym same) are)
 
--- the nodes of a text that is the first so many bytes
+-- the nodes of a text that is the first `len` bytes
 of_front : (limits : Limits) (bytes text : List ℕ) (nodes : List Node) (len : ℕ) → text ≡ take len bytes
     → len ≤ length bytes → AreNodes limits text nodes (length text) 0 → AreNodes limits (take len bytes) nodes len 0
 of_front limits bytes text nodes len is le are =
@@ -327,7 +327,7 @@ of_front limits bytes text nodes len is le are =
     subst (λ n. AreNodes limits (take len bytes) nodes n 0) size
     (subst (λ t. AreNodes limits t nodes (length text) 0) is are)
 
--- what was found
+-- the result of a search that found a reply
 pub found : (limits : Limits) (bytes text : List ℕ) (nodes : List Node) (len count : ℕ) → text ≡ take len bytes
     → LenIs limits bytes (Ok (Some len)) → count ≤ length nodes
     → AreNodes limits text (take count nodes) (length text) 0 → AreEnds 0 (take count nodes)

@@ -1,4 +1,4 @@
--- Where values stand in bytes.
+-- The positions of values in bytes.
 use Rattle.std.proofs.Common.{◌≡◌, ◌≤◌, ◌+◌, ◌-◌, ◌∙◌, ℕ, suc, List, [], ◌∷◌, ◌++◌, length, take, drop, pos, Option}
 use Rattle.std.proofs.Common.{Some, None, Ok, inl, inr, refl, sym, ap, arith, append_assoc}
 use Rattle.std.proofs.lemmas.List.{length-append, length-drop, take-append-drop, drop_at, take_at}
@@ -19,7 +19,7 @@ use Rattle.redis_wire.proofs.FitsLemmas.{line_fits, length_fits, blob_fits}
 use Rattle.redis_wire.proofs.ItemLemmas.{fits_end}
 use Rattle.redis_wire.proofs.LevelLemmas.{bulk_is, one_level}
 
--- the end of bytes is what stands behind as many as come before it
+-- a suffix of bytes begins after as many bytes as come before it
 pub end_is : (bytes left : List ℕ) → IsEnd left bytes → left ≡ drop (length bytes - length left) bytes
 end_is bytes left e =
     let n : length bytes - length left ≡ length e.done = omega (arith, ap length e.is, length-append e.done left) in
@@ -42,7 +42,7 @@ end_behind at b bytes behind left is e =
     end_of_end bytes (drop at bytes) left (end_of_drop at bytes)
     (end_of_end (drop at bytes) behind left (record { done = b ∷ []; is = is }) e)
 
--- ---- heads and lines
+-- ---- headers and lines
 
 module _ (limits : Limits) (bytes behind left : List ℕ) (at first : ℕ) (n : Option ℕ)
     (is : drop at bytes ≡ first ∷ behind) (len : length_at limits behind ≡ Ok (n, left)) where
@@ -80,7 +80,7 @@ module _ (limits : Limits) (bytes behind line left : List ℕ) (at first : ℕ) 
     end = omega arith;
   }
 
--- the head with which the bytes begin is the one that stands there
+-- the header that was read is the one that the bytes begin with
 pub head_same : (limits : Limits) (bytes : List ℕ) (at first : ℕ) (n : Option ℕ) (after : ℕ)
     → IsHeadAt limits bytes at first n after → (m : Option ℕ) (rest : List ℕ)
     → BeginsWithHead limits (drop at bytes) first m rest → (n ≡ m) × (drop after bytes ≡ rest)
@@ -119,7 +119,7 @@ module _ (limits : Limits) (bytes text left : List ℕ) (at n start : ℕ)
       sym (ap (take n) (t.is ∙ ap (λ (xs : List ℕ). xs ++ left) t.said.is ∙ append_assoc text crlf left)
       ∙ take_at text (crlf ++ left) n t.said.len)
 
-  -- the bulk string with which the bytes begin is that one
+  -- the bulk string that was read is the one that the bytes begin with
   pub text_found : (other rest : List ℕ) → BeginsWithText limits (drop at bytes) other rest
       → (take n (drop start bytes) ≡ other) × (drop (length bytes - length left) bytes ≡ rest)
   text_found other rest b =
@@ -201,7 +201,7 @@ module _ (limits : Limits) (bytes : List ℕ) (at after : ℕ) where
   int_place line n h number =
       record { end = h.end; reads = λ d. rw (h.is, one_level limits (suc d) (omega arith), h.reads, number) refl }
 
--- ---- nil with which the bytes begin
+-- ---- a nil at the start of the bytes
 
 module _ (limits : Limits) (d : ℕ) (bytes rest : List ℕ) where
   no_array_reads : BeginsWithHead limits bytes 42 None rest → value_at limits (suc d) bytes ≡ Ok (value nil, rest)

@@ -129,7 +129,7 @@ pub pairs_again : (ps : Pairs) → pairs (list_of_pairs ps) ≡ ps
 pairs_again no_pairs = refl
 pairs_again (more_pairs k x ps) = ap (λ (z : Pairs). more_pairs k x z) (pairs_again ps)
 
--- keys and values in turn
+-- keys and values, in turn
 unfoldable pub in_turn : Pairs → List Tree
 in_turn no_pairs = []
 in_turn (more_pairs k x ps) = k ∷ x ∷ in_turn ps
@@ -253,7 +253,7 @@ unfolding IsValue
 no_value limits zero a s = s
 no_value limits (suc d) a s = s
 
--- a value does not begin as a message does
+-- a value does not begin with the first byte of a message
 no_message : (limits : Limits) (d b : ℕ) (text : List ℕ) (a : Answer) → (b == 62) ≡ true
     → IsValue limits d (b ∷ text) a → ⊥
 unfolding IsValue

@@ -11,7 +11,7 @@ use Rattle.redis_wire.specs.Reply.{Answer, answer, value, answer_list, first_err
 pub answer-Value : (v : Value) → answer (replies.Value v) ≡ value (tree v)
 answer-Value v = search (rules, the_lemmas)
 
--- what says that value says that reply
+-- a result that is a value is the reply of that value
 pub says_value : (r : Result Answer Halt) (v : Value) → r ≡ Ok (value (tree v)) → r ≡ Ok (answer (replies.Value v))
 says_value r v e = e ∙ ap (λ (a : Answer). Ok a) (sym (answer-Value v))
 

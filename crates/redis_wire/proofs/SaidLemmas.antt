@@ -1,4 +1,4 @@
--- The nodes of a reply say what the reply says.
+-- The nodes of a reply have the value of the reply.
 use Rattle.std.proofs.Common.{◌≡◌, ◌==◌, ◌+◌, ◌∙◌, inl, inr, Bool, true, false, ℕ, zero, suc, List, [], ◌∷◌}
 use Rattle.std.proofs.Common.{length, take, drop, Option, Some, None, Result, Ok, cond, refl, sym, ap, subst, arith, append-nil}
 use Rattle.std.proofs.lemmas.Bool.{eqb-true}
@@ -45,7 +45,7 @@ unfolding line_answer
 null_said line none = rw none refl
 
 module _ (limits : Limits) (bytes : List ℕ) where
-  -- what was read of the nodes, and where those stand that are behind it
+  -- what was read from the nodes, and the position of the nodes after it
   abbrev Behind : {A : Type 0} → Listed A → A → List ℕ → ℕ → ℕ → Type 0
   Behind l a rest k end = (ms : List Node) × (after : ℕ) × (l ≡ Ok (a, ms)) × (rest ≡ drop after bytes)
       × Leads limits bytes after k ms end 0
@@ -205,7 +205,7 @@ module _ (limits : Limits) (bytes : List ℕ) where
   begins_with at first after n (Some (kinds.Group k)) (inl q) = (q.head.behind, q.head.is)
   begins_with at first after n (Some (kinds.Group k)) (inr q) = (q.0.behind, q.0.is)
 
-  -- no value begins as a message does
+  -- no value begins with the first byte of a message
   no_push : (at first after : ℕ) (n : Node) (c : Bool) → (first == 62) ≡ c
       → IsNodeOf limits bytes at first n after (kind_of first) → (first == 62) ≡ false
   no_push at first after n false is q = is
@@ -236,7 +236,7 @@ module _ (limits : Limits) (bytes : List ℕ) where
       (after, q, subst (λ k. Leads limits bytes after k ns end 0) none p) in
       inr (m.2 ∙ ap (λ (ms : List Node). Ok (a, ms)) (no_more m.0 m.1 end m.4))
 
-  -- the nodes of a reply say it
+  -- the nodes of a reply have its value
   pub say : (ns : List Node) (a : Answer) (end : ℕ) → AreNodes limits bytes ns end 0 → IsReply limits bytes a
       → Say limits bytes ns a
   say [] a end p s = absurd p

@@ -1,4 +1,4 @@
--- The words of commands that were read are those that were packed.
+-- The words of decoded commands are those that were packed.
 use Rattle.std.proofs.Common.{◌≡◌, ℕ, List, [], ◌∷◌, ◌++◌, map, Option, Some, None, option_map, option_and_then, Vec, Global, refl, sym, ap}
 use Rattle.std.proofs.Common.{◌∙◌, ◌-◌, suc, subst, arith}
 use Rattle.redis_resp.specs.Tree.{Tree, nil, int, bulk, array, simple, okay, map_of_pairs, attribute, set, boolean}
@@ -80,18 +80,18 @@ are_words a words is args = (
   λ e. is ∙ ap words_in e ∙ ap (traverse bulk_text) (listed_trees (map bulk args)) ∙ packed_words args,
 )
 
--- of an array, the bytes of its members
+-- the words of an array are the bytes of its members
 pub words_of_array : (v : Value) (vs : Vec Value Global) → v ≡ Array vs
     → traverse bulk_text (map tree vs.items) ≡ words_in (value (tree v))
 words_of_array v vs is =
     ap (traverse bulk_text) (sym (listed_trees (map tree vs.items)))
     ∙ ap (λ (t : Tree). words_in (value t)) (sym (tree-Array vs) ∙ ap tree (sym is))
 
--- and of a reply that is a value, those of the value
+-- the words of a reply that is a value are those of the value
 pub words_of_value : (r : Reply) (v : Value) → r ≡ replies.Value v → words_in (value (tree v)) ≡ words_in (answer r)
 words_of_value r v is = ap words_in (sym (answer-Value v)) ∙ ap (λ (x : Reply). words_in (answer x)) (sym is)
 
--- bytes of a command are read as the array of its words, and as nothing else
+-- the bytes of a command are read as the array of its words, and as nothing else
 pub are_unpacked : (a : Answer) (words : Option (List (List ℕ))) → AreWordsOf a words → AreUnpacked a words
 are_unpacked a words are limits args small line depth le each said =
     let d : ℕ = limits.depth - 2 in

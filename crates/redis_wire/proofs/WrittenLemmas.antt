@@ -39,7 +39,7 @@ pairs_push p (y ∷ ps) x =
     ∙ ap (λ (z : List ℕ). tree_bytes p y.0 ++ z) (sym (append_assoc (tree_bytes p y.1) rest new))
     ∙ sym (append_assoc (tree_bytes p y.0) (tree_bytes p y.1 ++ rest) new)
 
--- the first i of some are written behind the start, and the next one behind them
+-- the first i of some values were written after the start, and the next one is written after them
 module _ {A B : Type 0} (f : A → B) (bytes : List B → List ℕ) (one : B → List ℕ)
     (push : (bs : List B) (b : B) → bytes (bs ++ b ∷ []) ≡ bytes bs ++ one b) where
   pub written_more : (from : List A) (start to new : List ℕ) (x : A) (i : ℕ) → i < length from → x ≡ get_or from i x
@@ -53,7 +53,7 @@ module _ {A B : Type 0} (f : A → B) (bytes : List B → List ℕ) (one : B →
       ap bytes (map_more f from i x lt ∙ ap (λ (y : A). map f (take i from) ++ f y ∷ []) (sym is))
       ∙ push (map f (take i from)) (f x)))
 
--- one text behind another
+-- one text after another
 pub two_more : (a b c x y : List ℕ) → b ≡ a ++ x → c ≡ b ++ y → c ≡ a ++ (x ++ y)
 two_more a b c x y p q = q ∙ ap (λ (z : List ℕ). z ++ y) p ∙ append_assoc a x y
 
@@ -61,7 +61,7 @@ pub on_two : {T E : Type 0} (r : Result T E) (a b c x y z : List ℕ) → b ≡ 
     → OnOk r (c ≡ a ++ z)
 on_two r a b c x y z p q same = on_ok_weaker r (λ s. two_more a b c x y p s ∙ ap (λ (w : List ℕ). a ++ w) same) q
 
--- ---- a count, and what stands behind it
+-- ---- a count, and what follows it
 
 count_trees : (vs : List Value) (n : ℕ) → n ≡ length vs → n ≡ tree_count (trees (map tree vs))
 count_trees vs n len = len ∙ sym (length-map vs tree) ∙ sym (tree_count_is (map tree vs))

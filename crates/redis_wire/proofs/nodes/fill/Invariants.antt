@@ -2,7 +2,7 @@ use Rattle.std.proofs.Common.{◌≤◌, ◌-◌, take, length}
 use Rattle.redis_wire.specs.Nodes.{AreNodes}
 use Rattle.redis_wire.proofs.nodes.fill.Given as goal
 
--- so many nodes were found, and so many values are left
+-- `count` nodes were written, and `left` values are still expected
 abbrev pub invariant-loop-left : goal.invariant-loop-left
 invariant-loop-left l = record {
   within : l.count ≤ length l.nodes;

@@ -3,7 +3,7 @@ use Rattle.std.specs.Prelude.{map}
 use Rattle.redis_wire.specs.Nodes.{AreEnds, plain}
 use Rattle.redis_wire.proofs.nodes.set_ends.Given as goal
 
--- the ends of the last ones are said
+-- the ends of the nodes from `at` on are set
 abbrev pub invariant-loop-at : goal.invariant-loop-at
 invariant-loop-at l = record {
   within : l.at ≤ length l.nodes;
