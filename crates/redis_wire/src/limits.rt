@@ -17,7 +17,7 @@ pub struct Limits {
     /// for a while. The default of 16,777,216 values takes 0.9 GiB, or 1.8 GiB for a while. This number
     /// of values comes in at least 48 MiB of bytes.
     pub values: u32,
-    /// The maximum number of bytes that a `ReplyStream` holds and that were not consumed.
+    /// The maximum number of unconsumed bytes in a `ReplyStream`.
     pub bytes: usize,
 }
 
