@@ -10,23 +10,23 @@ use crate::stream_id::{StreamId, copy_ids};
 use redis_resp::{FromRedisValue, ParsingError, Source, Value};
 use std::alloc::{AllocError, Global};
 
-/// What XAUTOCLAIM answers.
+/// The reply of XAUTOCLAIM.
 #[derive(Debug, Drop)]
 pub struct StreamAutoClaimReply {
-    /// The id from which the next XAUTOCLAIM goes on; `0-0` where all pending entries were seen.
+    /// The id from which the next XAUTOCLAIM continues; `0-0` once all pending entries were scanned.
     pub next_stream_id: String,
-    /// The entries that were claimed, in order; without fields where `JUSTID` asked for ids alone.
+    /// The entries that were claimed, in order. With `JUSTID` they have no fields.
     pub claimed: Vec<StreamId>,
-    /// The ids of entries that were pending and are no longer in the stream; a server tells them
+    /// The ids of entries that were pending and are no longer in the stream. Servers send them
     /// from 7.0 on.
     pub deleted_ids: Vec<String>,
-    /// Whether the list of claimed entries had more items than entries: a server up to 6.2 answers
+    /// Whether the list of claimed entries had more items than entries. A server up to 6.2 sends
     /// nil in place of an entry that was deleted meanwhile.
     pub invalid_entries: bool,
 }
 
 impl StreamAutoClaimReply {
-    /// The reply without ids and entries. It takes no memory and is always Ok.
+    /// Creates an empty reply. It allocates nothing and is always Ok.
     pub fn empty(alloc: Global) -> Result<StreamAutoClaimReply, AllocError>
         ensures ok { IsOk result }
         ensures reply { IfOk result (λ r. autoclaim_meaning r ≡ empty_autoclaim) }
@@ -39,7 +39,7 @@ impl StreamAutoClaimReply {
         })
     }
 
-    /// Copies the reply. It fails only if memory is refused.
+    /// Copies the reply. It fails only if it is out of memory.
     pub fn try_clone(&self, alloc: Global) -> Result<StreamAutoClaimReply, AllocError>
         ensures { IfOk result (λ r. autoclaim_meaning r ≡ autoclaim_meaning self.now) }
     {
@@ -52,10 +52,10 @@ impl StreamAutoClaimReply {
     }
 }
 
-/// An array of two or three: the next id, the claimed list and the deleted ids, of which a reply of
-/// two has none. `NotArray` for any other kind, attributes included, `WrongItemCount` for another
-/// length, and `WrongClaimedType` where the claimed list is no array, or its first item that is not
-/// nil is neither a bulk string nor an array. A part that is unreadable is told by its own refusal.
+/// Parses an array of two or three: the next id, the claimed list and, in an array of three, the deleted
+/// ids. `NotArray` for any other kind, attributes included; `WrongItemCount` for another length.
+/// `WrongClaimedType` if the claimed list is not an array, or its first item that is not nil is neither
+/// a bulk string nor an array. An unreadable part is refused with its own error.
 impl FromRedisValue for StreamAutoClaimReply {
     ghost Meaning = { AutoClaim };
 
@@ -77,7 +77,7 @@ impl FromRedisValue for StreamAutoClaimReply {
     }
 }
 
-/// The reply that the parts of a value make.
+/// Reads the parts of a value as a reply.
 #[tactic(auto, using(crate::proofs::AutoClaimLemmas::autoclaim_read))]
 fn read_autoclaim<S: Source>(alloc: Global, v: S) -> Result<StreamAutoClaimReply, ParsingError>
     ensures ok { IfOk result (λ r. autoclaim_reading (S.seen v) ≡ Some (autoclaim_meaning r)) }
@@ -95,8 +95,8 @@ fn read_autoclaim<S: Source>(alloc: Global, v: S) -> Result<StreamAutoClaimReply
     })
 }
 
-/// The next id, the claimed list and, where there is a third item, the deleted ids. It takes no
-/// memory.
+/// Returns the next id, the claimed list and, if there is a third item, the deleted ids. It allocates
+/// nothing.
 pub(crate) fn into_parts<S: Source>(v: S) -> Result<(S, S, Option<S>), ParsingError>
     ensures ok { IfOk result (λ parts. parts_in (S.seen v) ≡ Some (trees_of_parts S.seen parts)) }
     ensures err { IfErr result (Refuses parts_in (RefusesParts (λ _ _. ⊥)) (S.seen v)) }
@@ -107,7 +107,7 @@ pub(crate) fn into_parts<S: Source>(v: S) -> Result<(S, S, Option<S>), ParsingEr
     }
 }
 
-/// The parts of a list of two or three items.
+/// Returns the parts of a list of two or three items.
 fn two_or_three_of<S: Source>(mut items: S::Values) -> Result<(S, S, Option<S>), ParsingError>
     ensures ok { IfOk result (λ parts. two_or_three (S.values_left items)
         ≡ Some (trees_of_parts S.seen parts)) }
@@ -128,7 +128,7 @@ fn two_or_three_of<S: Source>(mut items: S::Values) -> Result<(S, S, Option<S>),
     Ok((next, claimed, deleted))
 }
 
-/// The deleted ids, and none where the reply has no such item.
+/// Reads the deleted ids. There are none if the reply has no such item.
 pub(crate) fn read_deleted<S: Source>(
     alloc: Global,
     deleted: Option<S>,
@@ -144,7 +144,7 @@ pub(crate) fn read_deleted<S: Source>(
     }
 }
 
-/// Copies the texts, in order. It fails only if memory is refused.
+/// Copies the texts, in order. It fails only if it is out of memory.
 pub(crate) fn copy_texts(alloc: Global, texts: &[String]) -> Result<Vec<String>, AllocError>
     ensures { IfOk result (λ v. text_bytes_of v ≡ map string_bytes texts.now) }
 {

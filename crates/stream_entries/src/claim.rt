@@ -10,8 +10,8 @@ use crate::stream_id::{StreamId, copy_ids};
 use redis_resp::{FromRedisValue, ParsingError, Value};
 use std::alloc::{AllocError, Global};
 
-/// The entries that XCLAIM answers, in order. With `JUSTID` it answers ids alone, which are read as
-/// a list of texts.
+/// The entries of a reply of XCLAIM, in order. With `JUSTID` the reply has ids without fields, which
+/// are read as a list of strings.
 #[derive(Debug, Drop)]
 pub struct StreamClaimReply {
     /// The entries that passed to the consumer, in order.
@@ -19,7 +19,7 @@ pub struct StreamClaimReply {
 }
 
 impl StreamClaimReply {
-    /// The reply without entries. It takes no memory and is always Ok.
+    /// Creates an empty reply. It allocates nothing and is always Ok.
     pub fn empty(alloc: Global) -> Result<StreamClaimReply, AllocError>
         ensures ok { IsOk result }
         ensures entries { IfOk result (λ r. entries_of r.ids ≡ []) }
@@ -29,7 +29,7 @@ impl StreamClaimReply {
         })
     }
 
-    /// A reply of the same entries. It fails only where it is out of memory.
+    /// Copies the reply. It fails only if it is out of memory.
     pub fn try_clone(&self, alloc: Global) -> Result<StreamClaimReply, AllocError>
         ensures { IfOk result (λ r. entries_of r.ids ≡ entries_of self.now.ids) }
     {
@@ -38,8 +38,8 @@ impl StreamClaimReply {
     }
 }
 
-/// A list of rows; each pair of a row's table is an entry. It is refused as a list is, as pairs and
-/// as texts are, or where it is out of memory.
+/// Parses a list of rows. Each pair of a row is an entry. The errors are those of a list, of pairs and
+/// of texts, and out of memory.
 impl FromRedisValue for StreamClaimReply {
     ghost Meaning = { List Entry };
 

@@ -12,19 +12,19 @@ use crate::stream_id::StreamId;
 use redis_resp::{ParsingError, Source, Value};
 use std::alloc::Global;
 
-/// What a list of claimed entries holds.
+/// The kind of the items in a list of claimed entries.
 #[derive(Clone, Copy, Debug, PartialEq, Eq)]
 pub(crate) enum ClaimedKind {
-    /// Nothing but nil.
+    /// All items are nil.
     Nils,
-    /// Ids, where only ids were asked for.
+    /// Ids, as with `JUSTID`.
     Ids,
     /// Rows of ids and fields.
     Rows,
 }
 
-/// The entries of a list of claimed entries, and whether they are fewer than its items.
-/// `WrongClaimedType` where the value is no array, or the first item that is not nil is neither a
+/// Reads the entries of a list of claimed entries. Also returns whether they are fewer than its items.
+/// `WrongClaimedType` if the value is not an array, or the first item that is not nil is neither a
 /// bulk string nor an array.
 #[tactic(auto, using(crate::proofs::AutoClaimLemmas::claimed_read, crate::proofs::AutoClaimLemmas::claimed_refused))]
 pub(crate) fn read_claimed<S: Source>(
@@ -42,7 +42,7 @@ pub(crate) fn read_claimed<S: Source>(
     Ok((ids, invalid))
 }
 
-/// The kind of a list of claimed entries and the number of its items, and None where it has none.
+/// The kind of a list of claimed entries and the number of its items. `None` if it is of no kind.
 #[tactic(auto, using(crate::proofs::AutoClaimLemmas::shape_there, crate::proofs::AutoClaimLemmas::shape_missing))]
 fn shape_of(v: &Value) -> Option<(ClaimedKind, usize)>
     ensures { option_map shape_meaning result ≡ claimed_shape (tree v.now) }
@@ -56,8 +56,8 @@ fn shape_of(v: &Value) -> Option<(ClaimedKind, usize)>
     }
 }
 
-/// The kind that the first item which is not nil decides, and None where that is neither a bulk
-/// string nor an array.
+/// The kind of the first item that is not nil. `None` if that item is neither a bulk string nor
+/// an array.
 #[tactic(auto, using(crate::proofs::AutoClaimLemmas::kind_of_array, crate::proofs::AutoClaimLemmas::kind_of_bulk))]
 fn kind_of(items: &[Value]) -> Option<ClaimedKind>
     ensures { option_map kind_meaning result ≡ kind_of_items (map tree items.now) }
@@ -73,7 +73,7 @@ fn kind_of(items: &[Value]) -> Option<ClaimedKind>
     Some(ClaimedKind::Nils)
 }
 
-/// The entries of a list of that kind.
+/// Reads the entries of a list of that kind.
 #[tactic(auto, using(crate::proofs::AutoClaimLemmas::ids_read, crate::proofs::AutoClaimLemmas::ids_refused))]
 fn read_list_of_kind<S: Source>(
     alloc: Global,

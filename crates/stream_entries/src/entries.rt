@@ -1,4 +1,4 @@
-//! The entries of a list, in each form of a read that the list has.
+//! The entries of a list, in each form of a read reply that the list has.
 ghost use Rattle.std.specs.Prelude.{◌≡◌, ◌≢◌, ◌++◌, List, Some, None, IfOk, IfErr, OnOk, option_map};
 ghost use Rattle.std.specs.Option.{is_some};
 ghost use Rattle.stream_entries.specs.Entry.{Entry};
@@ -19,14 +19,14 @@ use crate::stream_id::StreamId;
 use redis_resp::{FromRedisValue, ParsingError, Source, Value};
 use std::alloc::{AllocError, Global};
 
-/// The entries of a list, in each form of a read that the list has.
+/// The entries of a list, in each form of a read reply that the list has.
 #[derive(Drop)]
 pub(crate) enum Entries {
-    /// In the standard form alone.
+    /// In the standard form only.
     Standard(Vec<StreamId>),
-    /// In the claim form alone.
+    /// In the claim form only.
     Claim(Vec<StreamId>),
-    /// In both, since no item has ruled one out.
+    /// In both forms: no item has ruled one out.
     Both(Vec<Overlap>),
 }
 
@@ -49,7 +49,7 @@ impl Entries {
         }
     }
 
-    /// The entries in the form, and none where the list does not have it.
+    /// Returns the entries in the form. There are none if the list does not have it.
     #[tactic(auto, using(crate::proofs::InFormsLemmas::settled_listed))]
     pub(crate) fn into_form(self, alloc: Global, form: Form) -> Result<Vec<StreamId>, AllocError>
         ensures { IfOk result (λ ids. entries_of ids
@@ -71,8 +71,8 @@ impl Entries {
         }
     }
 
-    /// The entries with those of one more item, of a list that has so many items. An item that
-    /// rules out a form closes it.
+    /// Appends the entries of one more item, of a list with `count` items. An item that rules out
+    /// a form closes it.
     fn with<S: Source>(
         self,
         alloc: Global,
@@ -98,7 +98,7 @@ impl Entries {
     }
 }
 
-/// Entries of the standard form, with those of a row.
+/// Appends a row to entries of the standard form.
 fn with_row<S: Source>(
     alloc: Global,
     mut ids: Vec<StreamId>,
@@ -119,7 +119,7 @@ fn with_row<S: Source>(
     Ok(Entries::Standard(ids))
 }
 
-/// Entries of the claim form, with a delivery.
+/// Appends a delivery to entries of the claim form.
 #[tactic(auto, using(crate::proofs::NumbersLemmas::delivery_told))]
 fn with_delivery<S: Source>(
     alloc: Global,
@@ -142,7 +142,7 @@ fn with_delivery<S: Source>(
     Ok(Entries::Claim(ids))
 }
 
-/// Entries of both forms, with those of one more item, which may rule out a form.
+/// Appends an item to entries of both forms. It may rule out a form.
 #[tactic(auto, using(crate::proofs::NumbersLemmas::numbers_told))]
 fn with_either<S: Source>(
     alloc: Global,
@@ -168,7 +168,7 @@ fn with_either<S: Source>(
     }
 }
 
-/// Entries of both forms, with those of an item that is no delivery.
+/// Appends an item that is not a delivery to entries of both forms.
 fn rule_out_claim<S: Source>(
     alloc: Global,
     overlaps: Vec<Overlap>,
@@ -186,7 +186,7 @@ fn rule_out_claim<S: Source>(
     with_row(alloc, ids, item)
 }
 
-/// Entries of both forms, with those of an item that is no row.
+/// Appends an item that is not a row to entries of both forms.
 fn rule_out_standard<S: Source>(
     alloc: Global,
     overlaps: Vec<Overlap>,
@@ -204,7 +204,7 @@ fn rule_out_standard<S: Source>(
     with_delivery(alloc, ids, Item::Whole(v))
 }
 
-/// Reads the entries of a list by both forms, each as long as no item has ruled it out.
+/// Reads the entries of a list in both forms, each until an item has ruled it out.
 #[tactic(auto, using(crate::proofs::InFormsLemmas::list_forms))]
 pub(crate) fn read_in_forms<S: Source>(alloc: Global, v: S) -> Result<Entries, ParsingError>
     ensures ok { IfOk result (λ r. entries_in_forms (S.seen v) ≡ entries_held r) }

@@ -1,4 +1,4 @@
-//! How an item of a list of entries is read.
+//! Ways to read an item of a list of entries.
 ghost use Rattle.std.specs.Prelude.{◌≡◌, ◌++◌, ◌∷◌, [], IfErr, List, OnOk, Option, Some, option_map};
 ghost use Rattle.redis_resp.specs.Reading.{option_reading};
 ghost use Rattle.redis_resp.specs.Refusal.{Refuses, MemoryOr, RefusesEntry};
@@ -19,12 +19,12 @@ use redis_resp::{ParsingError, Source, Value};
 use std::alloc::Global;
 use std::collections::HashMap;
 
-/// A way to read an item of a list: the entries that it holds are put behind those that are there.
+/// A way to read an item of a list: it appends the entries that the item holds.
 pub(crate) trait ItemForm {
-    /// The entries that an item holds, and None where it cannot be read.
+    /// The entries that an item holds. `None` if it cannot be read.
     ghost form: { Tree → Option (List Entry) };
 
-    /// What an item may be refused with.
+    /// The errors with which an item may be refused.
     ghost refuses: { Tree → ParsingError → Type 0 };
 
     /// Appends the entries of an item.
@@ -99,7 +99,7 @@ fn push_entry<S: Source>(
     Ok(())
 }
 
-/// Appends the entries of a row of any number of pairs, of which equal ids are one entry.
+/// Appends the entries of a row of any number of pairs. Pairs with equal ids are one entry.
 fn push_table<S: Source>(alloc: Global, row: S, ids: &mut Vec<StreamId>) -> Result<(), ParsingError>
     ensures ok { OnOk result (appended (entries_of ids.old) (standard_entries (S.seen row))
         ≡ Some (entries_of ids.new)) }
@@ -111,7 +111,7 @@ fn push_table<S: Source>(alloc: Global, row: S, ids: &mut Vec<StreamId>) -> Resu
     Ok(())
 }
 
-/// Ids, each of which is an entry without fields, and nil, which is none.
+/// Ids, each an entry without fields. Nil is no entry.
 pub(crate) struct Ids;
 
 impl ItemForm for Ids {

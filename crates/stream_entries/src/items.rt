@@ -1,4 +1,4 @@
-//! What stands in a list of entries.
+//! The items of a list of entries.
 ghost use Rattle.std.specs.Prelude.{◌≡◌, ◌++◌, ◌∷◌, [], List, map, flat_map, Some, IfOk, IfErr, OnOk, option_map, string_bytes};
 ghost use Rattle.redis_resp.specs.Refusal.{Refuses, OneRefused, RefusesList};
 ghost use Rattle.redis_resp.specs.Tree.{single};
@@ -16,12 +16,12 @@ use redis_resp::{Contents, ParsingError, Source, Value};
 use std::alloc::{AllocError, Global};
 use std::collections::HashMap;
 
-/// An item of a list of entries, which holds none, one or several of them.
+/// An item of a list of entries. It holds none, one or several of them.
 pub(crate) trait ListItem: Drop {
     /// The entries that it holds, in order.
     ghost entries: { Self → List Entry };
 
-    /// Appends its entries. It fails only where it is out of memory.
+    /// Appends its entries. It fails only if it is out of memory.
     fn push_to(self, ids: &mut Vec<StreamId>) -> Result<(), AllocError>
         ensures { OnOk result (entries_of ids.new ≡ entries_of ids.old ++ entries self) };
 }
@@ -45,7 +45,7 @@ impl ListItem for Row {
     }
 }
 
-/// An id with its fields, how many milliseconds ago it was delivered and how often: one entry.
+/// An id with its fields, the milliseconds since its last delivery and its delivery count: one entry.
 pub(crate) type Delivery = (String, HashMap<String, Value>, Option<usize>, Option<usize>);
 
 impl ListItem for Delivery {
@@ -63,7 +63,7 @@ impl ListItem for Delivery {
     }
 }
 
-/// An id, which is an entry without fields, or none.
+/// An id, which is an entry without fields, or no entry.
 impl ListItem for Option<String> {
     ghost entries = { λ id. id_entries (option_map string_bytes id) };
 
@@ -82,7 +82,7 @@ impl ListItem for Option<String> {
     }
 }
 
-/// The entries of a list of items, joined in order. It fails only where it is out of memory.
+/// Joins the entries of a list of items, in order. It fails only if it is out of memory.
 pub(crate) fn join<T: ListItem>(alloc: Global, items: Vec<T>) -> Result<Vec<StreamId>, AllocError>
     ensures { IfOk result (λ ids. entries_of ids ≡ flat_map T.entries items.items) }
 {
@@ -93,7 +93,7 @@ pub(crate) fn join<T: ListItem>(alloc: Global, items: Vec<T>) -> Result<Vec<Stre
     Ok(ids)
 }
 
-/// The entries of the items of a list, each appended as it is read to a list with room for as many.
+/// Reads the entries of the items of a list. The result has capacity for one entry per item.
 fn read_items<F: ItemForm, S: Source>(
     alloc: Global,
     mut values: S::Values,
@@ -110,7 +110,7 @@ fn read_items<F: ItemForm, S: Source>(
     Ok(ids)
 }
 
-/// Reads pairs, each of which is an item as a map of its own.
+/// Reads pairs. Each of them is read as an item that is a map of this one pair.
 fn read_singles<F: ItemForm, S: Source>(
     alloc: Global,
     mut pairs: S::Pairs,
@@ -127,7 +127,7 @@ fn read_singles<F: ItemForm, S: Source>(
     Ok(ids)
 }
 
-/// The entries of a value that is a list of items of one form.
+/// Reads the entries of a list of items of one form.
 pub(crate) fn read_list_of<F: ItemForm, S: Source>(
     alloc: Global,
     v: S,
@@ -145,7 +145,7 @@ pub(crate) fn read_list_of<F: ItemForm, S: Source>(
     }
 }
 
-/// The entries of a value that is a list of rows.
+/// Reads the entries of a list of rows.
 pub(crate) fn read_rows<S: Source>(alloc: Global, v: S) -> Result<Vec<StreamId>, ParsingError>
     ensures ok { IfOk result (λ ids. rows_reading (S.seen v) ≡ Some (entries_of ids)) }
     ensures err { IfErr result (Refuses rows_reading RefusesRows (S.seen v)) }
@@ -153,7 +153,7 @@ pub(crate) fn read_rows<S: Source>(alloc: Global, v: S) -> Result<Vec<StreamId>,
     read_list_of::<Rows, S>(alloc, v)
 }
 
-/// The entries of a value that is a list of ids and nil.
+/// Reads the entries of a list of ids and nil.
 pub(crate) fn read_ids<S: Source>(alloc: Global, v: S) -> Result<Vec<StreamId>, ParsingError>
     ensures ok { IfOk result (λ entries. entries_by_kind id_kind (S.seen v)
         ≡ Some (entries_of entries)) }

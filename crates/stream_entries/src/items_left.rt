@@ -10,23 +10,23 @@ use redis_resp::{Contents, Source};
 pub(crate) enum Item<S> {
     /// A value.
     Whole(S),
-    /// A pair of a map, which stands for a map of its own.
+    /// A pair of a map, which is read as a map of this one pair.
     Pair(S, S),
 }
 
-/// Items of which those at the front may be taken already.
+/// The items of a list that are left to take.
 #[derive(Drop)]
 pub(crate) enum ItemsLeft<V, P> {
     /// None.
     Nothing,
     /// These values.
     Values(V),
-    /// These pairs, each a map of its own.
+    /// These pairs, each a map of one pair.
     Pairs(P),
 }
 
-/// The items of an `Array` or a `Set`, the pairs of a `Map`, or none of `Nil`; None for any other
-/// kind.
+/// Returns the items of an `Array` or a `Set`, the pairs of a `Map`, or no items for `Nil`. `None` for
+/// any other kind.
 pub(crate) fn into_items<S: Source>(v: S) -> Option<ItemsLeft<S::Values, S::Pairs>>
     ensures { option_map (trees_left S.values_left S.pairs_left) result ≡ items (S.seen v) }
 {
@@ -39,7 +39,7 @@ pub(crate) fn into_items<S: Source>(v: S) -> Option<ItemsLeft<S::Values, S::Pair
     }
 }
 
-/// The number of items that are left.
+/// Returns the number of items that are left.
 #[tactic(auto, using(crate::proofs::ItemsLeftLemmas::counted))]
 pub(crate) fn count_items<S: Source>(left: &ItemsLeft<S::Values, S::Pairs>) -> usize
     ensures { result ≡ length (trees_left S.values_left S.pairs_left left.now) }
@@ -51,7 +51,7 @@ pub(crate) fn count_items<S: Source>(left: &ItemsLeft<S::Values, S::Pairs>) -> u
     }
 }
 
-/// Takes the next item, and None where none is left.
+/// Takes the next item. `None` if none is left.
 #[inline(always)]
 pub(crate) fn next_item<S: Source>(left: &mut ItemsLeft<S::Values, S::Pairs>) -> Option<Item<S>>
     ensures { MatchOption result (trees_left S.values_left S.pairs_left left.old ≡ [])

@@ -1,4 +1,4 @@
-//! The reply of XAUTOCLAIM where it is asked for ids alone.
+//! The reply of XAUTOCLAIM with `JUSTID`.
 ghost use Rattle.std.specs.Prelude.{◌≡◌, Some, IsOk, IfOk, IfErr};
 ghost use Rattle.redis_resp.specs.Refusal.{Refuses};
 ghost use Rattle.stream_entries.specs.JustId.{JustId, RefusesJustId, empty_justid, justid_reading};
@@ -8,10 +8,10 @@ use crate::autoclaim::{copy_texts, into_parts, read_deleted};
 use redis_resp::{FromRedisValue, ParsingError, Source, Value};
 use std::alloc::{AllocError, Global};
 
-/// What XAUTOCLAIM answers where it is asked for ids alone.
+/// The reply of XAUTOCLAIM with `JUSTID`.
 #[derive(Debug, Drop)]
 pub struct StreamAutoClaimJustIdReply {
-    /// The id with which to go on.
+    /// The id from which the next XAUTOCLAIM continues.
     pub next_stream_id: String,
     /// The ids of the entries that were claimed, in order.
     pub claimed: Vec<String>,
@@ -20,7 +20,7 @@ pub struct StreamAutoClaimJustIdReply {
 }
 
 impl StreamAutoClaimJustIdReply {
-    /// The reply without ids. It takes no memory and is always Ok.
+    /// Creates an empty reply. It allocates nothing and is always Ok.
     pub fn empty(alloc: Global) -> Result<StreamAutoClaimJustIdReply, AllocError>
         ensures ok { IsOk result }
         ensures reply { IfOk result (λ r. justid_meaning r ≡ empty_justid) }
@@ -32,7 +32,7 @@ impl StreamAutoClaimJustIdReply {
         })
     }
 
-    /// Copies the reply. It fails only if memory is refused.
+    /// Copies the reply. It fails only if it is out of memory.
     pub fn try_clone(&self, alloc: Global) -> Result<StreamAutoClaimJustIdReply, AllocError>
         ensures { IfOk result (λ r. justid_meaning r ≡ justid_meaning self.now) }
     {
@@ -44,10 +44,10 @@ impl StreamAutoClaimJustIdReply {
     }
 }
 
-/// An array of two or three: the next id, the claimed ids and the deleted ids, of which a reply of
-/// two has none. `NotArray` for any other kind, attributes included, and `WrongItemCount` for
-/// another length. A part that is unreadable is told by its own refusal: `NotText` for what is no
-/// id, as nil or an entry with fields, and `NotList` for what is no list of ids.
+/// Parses an array of two or three: the next id, the claimed ids and, in an array of three, the deleted
+/// ids. `NotArray` for any other kind, attributes included; `WrongItemCount` for another length. An
+/// unreadable part is refused with its own error: `NotText` for what is not an id, as nil or an
+/// entry with fields, and `NotList` for what is not a list of ids.
 impl FromRedisValue for StreamAutoClaimJustIdReply {
     ghost Meaning = { JustId };
 
@@ -72,7 +72,7 @@ impl FromRedisValue for StreamAutoClaimJustIdReply {
     }
 }
 
-/// The reply that the parts of a value make.
+/// Reads the parts of a value as a reply.
 #[tactic(auto, using(crate::proofs::JustIdLemmas::justid_read))]
 fn read_justid<S: Source>(alloc: Global, v: S) -> Result<StreamAutoClaimJustIdReply, ParsingError>
     ensures ok { IfOk result (λ r. justid_reading (S.seen v) ≡ Some (justid_meaning r)) }

@@ -5,7 +5,7 @@ ghost use Rattle.stream_entries.specs.ItemsLeft.{pair_in};
 
 use redis_resp::{Source, count_left, into_pairs, next_left};
 
-/// The pair of a value that has exactly one, and None for any other value.
+/// Returns the pair of a value that has exactly one. `None` for any other value.
 #[tactic(auto, using(crate::proofs::ItemsLeftLemmas::one_pair))]
 fn into_pair<S: Source>(v: S) -> Option<(S, S)>
     ensures { option_map (both S.seen) result ≡ pair_in (S.seen v) }
@@ -19,8 +19,8 @@ fn into_pair<S: Source>(v: S) -> Option<(S, S)>
     }
 }
 
-/// The pair of a value that has exactly one, and any other value as it is. The pairs of a value can
-/// only be had by giving it away, so it is looked at first.
+/// Returns the pair of a value that has exactly one, and any other value as it is. Taking the pairs
+/// consumes the value, so the number of pairs is checked first.
 pub(crate) fn into_one_pair<S: Source>(v: S) -> Result<(S, S), S>
     ensures pair { IfOk result (λ p. pair_in (S.seen v) ≡ Some (both S.seen p)) }
     ensures other { IfErr result (λ w. S.seen w ≡ S.seen v) }

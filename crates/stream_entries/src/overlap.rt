@@ -1,4 +1,4 @@
-//! Entries that both forms of a read have.
+//! Entries that have both forms of a read reply.
 ghost use Rattle.std.specs.Prelude.{◌≡◌, ◌≢◌, ◌++◌, ◌∷◌, [], Some, None, IfOk, IfErr, OnOk};
 ghost use Rattle.std.specs.Prelude.{string_bytes};
 ghost use Rattle.redis_resp.specs.FieldsMeaning.{fields_of};
@@ -17,17 +17,17 @@ use redis_resp::{ParsingError, Source, Value, into_four, is_nil};
 use std::alloc::{AllocError, Global};
 use std::collections::HashMap;
 
-/// A form of a read.
+/// A form of a read reply.
 #[derive(Clone, Copy, Debug, PartialEq, Eq)]
 pub(crate) enum Form {
     /// Each item of each list is a row of ids and fields.
     Standard,
-    /// Each is an id, fields and the two numbers of its delivery.
+    /// Each item is an id, fields and the two numbers of its delivery.
     Claim,
 }
 
-/// An array of a text, fields, a number and nil: a row of two ids, the second of which is the
-/// text of the number and has no fields, and also a delivery.
+/// An array of a text, fields, a number and nil. It is a delivery, and also a row of two ids: the second
+/// id is the text of the number, without fields.
 #[derive(Debug, Drop)]
 pub(crate) struct Overlap {
     id: String,
@@ -36,8 +36,8 @@ pub(crate) struct Overlap {
     text: String,
 }
 
-/// The two numbers of a delivery, and None where the value is no array of four or has no such
-/// numbers. It takes no memory.
+/// The two numbers of a delivery. `None` if the value is not an array of four or has no such
+/// numbers. It allocates nothing.
 #[tactic(auto, using(crate::proofs::NumbersLemmas::four_numbers, crate::proofs::NumbersLemmas::no_four))]
 pub(crate) fn numbers_of(v: &Value) -> Option<(Option<usize>, Option<usize>)>
     ensures { result ≡ numbers_in (tree v.now) }
@@ -48,7 +48,7 @@ pub(crate) fn numbers_of(v: &Value) -> Option<(Option<usize>, Option<usize>)>
     Some((elapsed, delivered))
 }
 
-/// The number of a value, where it is not nil, and None where it is neither.
+/// Returns the number of a value, or no number for nil. `None` if the value is neither.
 fn number_or_nil(v: &Value) -> Option<Option<usize>>
     ensures { result ≡ option_reading (unsigned_reading 64) (tree v.now) }
 {
@@ -58,7 +58,7 @@ fn number_or_nil(v: &Value) -> Option<Option<usize>>
     Some(Some(usize_of(v)?))
 }
 
-/// Reads an entry that both forms have, by the number that was found in it.
+/// Reads an entry that has both forms, given the number that was found in it.
 #[tactic(auto, using(crate::proofs::NumbersLemmas::overlap_parts))]
 pub(crate) fn read_overlap<S: Source>(
     alloc: Global,
@@ -85,7 +85,7 @@ pub(crate) fn read_overlap<S: Source>(
     })
 }
 
-/// The entries in one form, in a list with room for so many.
+/// Returns the entries in one form, in a list with capacity `room`.
 pub(crate) fn settle(
     alloc: Global,
     overlaps: Vec<Overlap>,
@@ -101,7 +101,7 @@ pub(crate) fn settle(
     Ok(ids)
 }
 
-/// Appends the entries that it is in a form.
+/// Appends the entries of an overlap in a form.
 fn push_overlap(overlap: Overlap, form: Form, ids: &mut Vec<StreamId>) -> Result<(), AllocError>
     ensures { OnOk result (entries_of ids.new
         ≡ entries_of ids.old ++ given_in form (overlap_of overlap)) }
@@ -112,7 +112,7 @@ fn push_overlap(overlap: Overlap, form: Form, ids: &mut Vec<StreamId>) -> Result
     }
 }
 
-/// Appends the two entries of the standard form, or the second alone where their ids are one.
+/// Appends the two entries of the standard form, or only the second if their ids are equal.
 fn push_standard(overlap: Overlap, ids: &mut Vec<StreamId>) -> Result<(), AllocError>
     ensures { OnOk result (entries_of ids.new
         ≡ entries_of ids.old ++ in_standard (overlap_of overlap)) }
@@ -126,7 +126,7 @@ fn push_standard(overlap: Overlap, ids: &mut Vec<StreamId>) -> Result<(), AllocE
     push_undelivered(text, HashMap::new(alloc), ids)
 }
 
-/// Appends an entry of which no delivery is said.
+/// Appends an entry without a delivery.
 fn push_undelivered(
     id: String,
     map: HashMap<String, Value>,

@@ -10,15 +10,15 @@ use crate::stream_id::{StreamId, copy_ids};
 use redis_resp::{FromRedisValue, ParsingError, Value};
 use std::alloc::{AllocError, Global};
 
-/// The entries that XRANGE or XREVRANGE answers, in order.
+/// The entries of a reply of XRANGE or XREVRANGE, in order.
 #[derive(Debug, Drop)]
 pub struct StreamRangeReply {
-    /// The entries, in order: from the last to the first where XREVRANGE answered.
+    /// The entries, in order: for XREVRANGE from the last to the first.
     pub ids: Vec<StreamId>,
 }
 
 impl StreamRangeReply {
-    /// The reply without entries. It takes no memory and is always Ok.
+    /// Creates an empty reply. It allocates nothing and is always Ok.
     pub fn empty(alloc: Global) -> Result<StreamRangeReply, AllocError>
         ensures ok { IsOk result }
         ensures entries { IfOk result (λ r. entries_of r.ids ≡ []) }
@@ -28,7 +28,7 @@ impl StreamRangeReply {
         })
     }
 
-    /// A reply of the same entries. It fails only where it is out of memory.
+    /// Copies the reply. It fails only if it is out of memory.
     pub fn try_clone(&self, alloc: Global) -> Result<StreamRangeReply, AllocError>
         ensures { IfOk result (λ r. entries_of r.ids ≡ entries_of self.now.ids) }
     {
@@ -37,8 +37,8 @@ impl StreamRangeReply {
     }
 }
 
-/// A list of rows; each pair of a row's table is an entry. It is refused as a list is, as pairs and
-/// as texts are, or where it is out of memory.
+/// Parses a list of rows. Each pair of a row is an entry. The errors are those of a list, of pairs and
+/// of texts, and out of memory.
 impl FromRedisValue for StreamRangeReply {
     ghost Meaning = { List Entry };
 

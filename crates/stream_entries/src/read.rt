@@ -14,15 +14,15 @@ use crate::streams::{OpenStreams, read_streams};
 use redis_resp::{FromRedisValue, ParsingError, Source, Value};
 use std::alloc::{AllocError, Global};
 
-/// The streams that XREAD or XREADGROUP answers, in order.
+/// The streams of a reply of XREAD or XREADGROUP, in order.
 #[derive(Debug, Drop)]
 pub struct StreamReadReply {
-    /// The streams that have entries, in order; none where nil was answered.
+    /// The streams that have entries, in order. There are none if the reply is nil.
     pub keys: Vec<StreamKey>,
 }
 
 impl StreamReadReply {
-    /// The reply without streams. It takes no memory and is always Ok.
+    /// Creates an empty reply. It allocates nothing and is always Ok.
     pub fn empty(alloc: Global) -> Result<StreamReadReply, AllocError>
         ensures ok { IsOk result }
         ensures streams { IfOk result (λ r. streams_of r.keys ≡ []) }
@@ -32,7 +32,7 @@ impl StreamReadReply {
         })
     }
 
-    /// A reply of the same streams. It fails only where it is out of memory.
+    /// Copies the reply. It fails only if it is out of memory.
     pub fn try_clone(&self, alloc: Global) -> Result<StreamReadReply, AllocError>
         ensures { IfOk result (λ r. streams_of r.keys ≡ streams_of self.now.keys) }
     {
@@ -44,10 +44,10 @@ impl StreamReadReply {
     }
 }
 
-/// A list of rows: the standard form where each item of each list is a row of ids and fields, else
-/// the claim form, where each is an id, fields and the two numbers of its delivery. One form holds
-/// for the whole value, and the refusal is `UnknownReadFormat` where it has neither. A value that
-/// is no list is refused without taking memory, and one of no rows takes none.
+/// Parses a list of rows. In the standard form each item of each list is a row of ids and fields; in the
+/// claim form each is an id, fields and the two numbers of its delivery. One form holds for the whole
+/// value, the standard form first, and the error is `UnknownReadFormat` if it has neither. A value that
+/// is not a list is refused without allocating, and a list of no rows allocates nothing.
 impl FromRedisValue for StreamReadReply {
     ghost Meaning = { Streams };
 
@@ -66,8 +66,8 @@ impl FromRedisValue for StreamReadReply {
     }
 }
 
-/// The streams of a value in the standard form, else in the claim form. Each list is read by both
-/// forms, as long as none of its items has ruled one out.
+/// Reads the streams of a value in the standard form, else in the claim form. Each list is read in both
+/// forms, until one of its items has ruled a form out.
 #[tactic(auto, using(crate::proofs::StreamsLemmas::reply_read, crate::proofs::StreamsLemmas::no_reply, crate::proofs::StreamsLemmas::no_rows))]
 fn read_reply<S: Source>(alloc: Global, v: S) -> Result<StreamReadReply, ParsingError>
     ensures ok { IfOk result (λ r. read_reading (S.seen v) ≡ Some (streams_of r.keys)) }
@@ -87,8 +87,8 @@ fn read_reply<S: Source>(alloc: Global, v: S) -> Result<StreamReadReply, Parsing
     }
 }
 
-/// With what a read is refused where a part of it is: out of memory stays what it is, and any other
-/// cause is that the value has neither form.
+/// The error of a read reply, from the error of a part. Out of memory stays as it is. Any other
+/// error means that the value has neither form.
 fn refusal_of(error: ParsingError) -> ParsingError
     ensures { ((error ≡ ParsingError.Memory) × (result ≡ ParsingError.Memory))
         ⊎ ((error ≢ ParsingError.Memory) × (result ≡ ParsingError.UnknownReadFormat)) }
@@ -99,7 +99,7 @@ fn refusal_of(error: ParsingError) -> ParsingError
     }
 }
 
-/// The reply of the form that counts: the standard form where all lists have it, else the claim
+/// Returns the reply in the standard form if all lists have it, else in the claim
 /// form.
 fn reply_of(alloc: Global, streams: OpenStreams) -> Result<StreamReadReply, ParsingError>
     ensures ok { IfOk result (λ r. option_or (streams_held streams).0 (streams_held streams).1

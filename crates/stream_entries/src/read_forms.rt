@@ -1,4 +1,4 @@
-//! Which forms of a read a value has, told with no memory.
+//! Finds the forms of a read reply that a value has, without allocating.
 ghost use Rattle.std.specs.Prelude.{◌≡◌, ◌&&◌, Bool, map};
 ghost use Rattle.std.specs.List.{list_all};
 ghost use Rattle.std.specs.Option.{is_some};
@@ -16,18 +16,18 @@ use redis_resp::{
 };
 use std::marker::PhantomData;
 
-/// Which forms of the reply of XREAD and XREADGROUP a value has.
+/// The forms of the reply of XREAD and XREADGROUP that a value has.
 #[derive(Clone, Copy, Debug, PartialEq, Eq)]
 pub struct ReadForms {
     /// Each item of each list is a row of ids and fields.
     pub standard: bool,
-    /// Each is an id, fields and the two numbers of its delivery.
+    /// Each item is an id, fields and the two numbers of its delivery.
     pub claim: bool,
 }
 
 impl StreamReadReply {
-    /// Which forms the whole value has; the reply is read by the standard form where it has both.
-    /// It takes no memory.
+    /// Returns the forms that the whole value has. The reply is read in the standard form if it has both.
+    /// It allocates nothing.
     #[tactic(auto, using(crate::proofs::ReadableLemmas::standard_there, crate::proofs::ReadableLemmas::claim_there))]
     pub fn forms(v: &Value) -> ReadForms
         ensures standard { result.standard ≡ is_some (standard_reading (tree v.now)) }
@@ -41,7 +41,7 @@ impl StreamReadReply {
 }
 
 impl ReadForms {
-    /// The forms that are among these and among the others.
+    /// Returns the forms that are in both.
     pub(crate) fn and(self, other: ReadForms) -> ReadForms
         ensures standard { result.standard ≡ (self.standard && other.standard) }
         ensures claim { result.claim ≡ (self.claim && other.claim) }
@@ -53,16 +53,16 @@ impl ReadForms {
     }
 }
 
-/// What a value can be told to be by looking at it.
+/// A shape of values that can be checked without reading the value.
 pub(crate) trait Readable {
-    /// Whether a tree is it.
+    /// Whether a tree has the shape.
     ghost readable: { Tree → Bool };
 
-    /// Whether the value is it.
+    /// Whether the value has the shape.
     fn reads(v: &Value) -> bool
         ensures { result ≡ readable (tree v.now) };
 
-    /// Whether the map of this one pair is it.
+    /// Whether the map of this one pair has the shape.
     fn reads_single(key: &Value, value: &Value) -> bool
         ensures { result ≡ readable (single (tree key.now, tree value.now)) };
 }
@@ -119,7 +119,7 @@ fn is_number_or_nil(v: &Value) -> bool
     is_nil(v) || is_usize(v)
 }
 
-/// A table whose values are one thing.
+/// A table whose values have one shape.
 pub(crate) struct TableOf<T>(PhantomData<T>);
 
 #[tactic(auto, using(crate::proofs::ReadableLemmas::table_told))]
@@ -146,17 +146,17 @@ impl<T: Readable> Readable for TableOf<T> {
     }
 }
 
-/// A list whose items are one thing.
+/// A list whose items have one shape.
 pub(crate) struct ListOf<T>(PhantomData<T>);
 
-/// Whether each value is it.
+/// Whether each value has the shape.
 fn items_read<T: Readable>(values: &[Value]) -> bool
     ensures { result ≡ list_all (λ v. T.readable (tree v)) values.now }
 {
     values.iter().all(|value| T::reads(value))
 }
 
-/// Whether each pair is it, as a map of its own.
+/// Whether each pair, as a map of one pair, has the shape.
 fn singles_read<T: Readable>(entries: &[(Value, Value)]) -> bool
     ensures { result ≡ list_all (λ e. T.readable (single (tree_of_pair e))) entries.now }
 {

@@ -13,7 +13,7 @@ use redis_resp::{FromRedisValue, ParsingError, Value, field_of};
 use std::alloc::{AllocError, Global};
 use std::collections::HashMap;
 
-/// An entry of a stream, as XRANGE, XREAD, XREADGROUP, XCLAIM and XAUTOCLAIM answer it: its id and
+/// An entry of a stream in a reply of XRANGE, XREAD, XREADGROUP, XCLAIM or XAUTOCLAIM: its id and
 /// its fields.
 #[derive(Debug, Drop)]
 pub struct StreamId {
@@ -21,14 +21,14 @@ pub struct StreamId {
     pub id: String,
     /// The fields by name, each value as the server sent it.
     pub map: HashMap<String, Value>,
-    /// How many milliseconds ago it was last delivered: XREADGROUP with `CLAIM` says so.
+    /// The milliseconds since it was last delivered, which XREADGROUP with `CLAIM` returns.
     pub milliseconds_elapsed_from_delivery: Option<usize>,
-    /// How many times it was delivered: XREADGROUP with `CLAIM` says so.
+    /// The number of times it was delivered, which XREADGROUP with `CLAIM` returns.
     pub delivered_count: Option<usize>,
 }
 
 impl StreamId {
-    /// The entry without id, fields or delivery. It takes no memory and is always Ok.
+    /// Creates an empty entry, without a delivery. It allocates nothing and is always Ok.
     pub fn empty(alloc: Global) -> Result<StreamId, AllocError>
         ensures ok { IsOk result }
         ensures entry { IfOk result (λ s. entry_meaning s ≡ empty_entry) }
@@ -41,9 +41,9 @@ impl StreamId {
         })
     }
 
-    /// The record that the field of this name reads as, and None where there is no such field or it
-    /// has no record of the type. It fails only where the field is there, its reading takes memory
-    /// and there is none.
+    /// Reads the field of this name as a record. `None` if there is no such field or it cannot be read as
+    /// the type. It fails only if the field exists, and reading it
+    /// is out of memory.
     pub fn get<T: FromRedisValue>(&self, alloc: Global, key: &str) -> Result<Option<T>, AllocError>
         ensures record { IfOk result (λ r. option_map T.meaning r
             ≡ field_record T.reading (fields_of self.now.map) key.now) }
@@ -61,7 +61,7 @@ impl StreamId {
         self.map.contains_key(key)
     }
 
-    /// The number of fields.
+    /// Returns the number of fields.
     #[tactic(auto, using(crate::proofs::FieldsLemmas::count_fields))]
     pub fn len(&self) -> usize
         ensures { result ≡ fin.len (fields_of self.now.map) }
@@ -69,14 +69,14 @@ impl StreamId {
         self.map.len()
     }
 
-    /// Whether there is no field.
+    /// Whether there are no fields.
     pub fn is_empty(&self) -> bool
         ensures { IsTrue result ↔ (fin.len (fields_of self.now.map) ≡ 0) }
     {
         self.len() == 0
     }
 
-    /// A `StreamId` of the same entry. It fails only where it is out of memory.
+    /// Copies the entry. It fails only if it is out of memory.
     pub fn try_clone(&self, alloc: Global) -> Result<StreamId, AllocError>
         ensures { IfOk result (λ s. entry_meaning s ≡ entry_meaning self.now) }
     {
@@ -89,7 +89,7 @@ impl StreamId {
     }
 }
 
-/// Two entries are equal if they have one id, the same fields as a finite map and one delivery.
+/// Two entries are equal if they have equal ids, the same fields as a finite map and the same delivery.
 impl PartialEq for StreamId {
     ghost use Rattle.std.specs.Cmp.{partial_equiv_from_equiv};
     ghost use Rattle.stream_entries.specs.SameEntryLaws.{same_entry_laws};
@@ -98,7 +98,7 @@ impl PartialEq for StreamId {
 
     ghost laws = { partial_equiv_from_equiv same_entry_laws };
 
-    /// Whether the two are the same entry; the order of their fields plays no part.
+    /// Whether the two are the same entry. The order of their fields does not matter.
     #[tactic(auto, using(crate::specs::SameEntryLaws::same_entry_Decides))]
     fn eq(&self, other: &StreamId) -> bool
         ensures by_parts { result ≡ same_entry self.now other.now }
@@ -123,7 +123,7 @@ fn alike(a: &StreamId, b: &StreamId) -> bool
         && a.delivered_count == b.delivered_count
 }
 
-/// Copies the fields. It fails only if memory is refused.
+/// Copies the fields. It fails only if it is out of memory.
 fn copy_fields(
     alloc: Global,
     fields: &HashMap<String, Value>,
@@ -137,7 +137,7 @@ fn copy_fields(
     Ok(copies)
 }
 
-/// Puts a copy of a field. It fails only where it is out of memory.
+/// Inserts a copy of a field. It fails only if it is out of memory.
 #[tactic(auto, using(crate::proofs::FieldsLemmas::fields_put))]
 fn put_copy(
     alloc: Global,
@@ -154,7 +154,7 @@ fn put_copy(
     Ok(())
 }
 
-/// Copies the entries, in order. It fails only if memory is refused.
+/// Copies the entries, in order. It fails only if it is out of memory.
 pub(crate) fn copy_ids(alloc: Global, ids: &[StreamId]) -> Result<Vec<StreamId>, AllocError>
     ensures { IfOk result (λ v. entries_of v ≡ map entry_meaning ids.now) }
 {

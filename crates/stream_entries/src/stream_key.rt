@@ -15,7 +15,7 @@ pub struct StreamKey {
 }
 
 impl StreamKey {
-    /// The stream without a name and without entries. It takes no memory and is always Ok.
+    /// Creates a stream with an empty name and no entries. It allocates nothing and is always Ok.
     pub fn empty(alloc: Global) -> Result<StreamKey, AllocError>
         ensures ok { IsOk result }
         ensures stream { IfOk result (λ k. stream_key_meaning k ≡ ([], [])) }
@@ -26,7 +26,7 @@ impl StreamKey {
         })
     }
 
-    /// A copy of the stream. It fails only where it is out of memory.
+    /// Copies the stream. It fails only if it is out of memory.
     pub fn try_clone(&self, alloc: Global) -> Result<StreamKey, AllocError>
         ensures { IfOk result (λ k. stream_key_meaning k ≡ stream_key_meaning self.now) }
     {

@@ -1,4 +1,4 @@
-//! The streams of a read, in each form that all their lists have.
+//! The streams of a read reply, in each form that all their lists have.
 ghost use Rattle.std.specs.Prelude.{◌≡◌, ◌≢◌, ◌++◌, None, IfOk, IfErr, OnOk};
 ghost use Rattle.std.specs.List.{list_all};
 ghost use Rattle.std.specs.Option.{is_some};
@@ -20,14 +20,14 @@ use std::alloc::{AllocError, Global};
 /// The streams that were read so far.
 #[derive(Drop)]
 pub(crate) struct OpenStreams {
-    /// The forms that all lists have, those too of a name that came again.
+    /// The forms that all lists have, also those of a name that is repeated.
     pub(crate) forms: ReadForms,
     /// The streams, in order.
     pub(crate) keys: Vec<(String, Entries)>,
 }
 
 impl OpenStreams {
-    /// The streams in the form, in order.
+    /// Returns the streams in the form, in order.
     pub(crate) fn into_form(self, alloc: Global, form: Form) -> Result<Vec<StreamKey>, AllocError>
         ensures { IfOk result (λ keys. streams_of keys ≡ keys_in form self.keys) }
     {
@@ -39,7 +39,7 @@ impl OpenStreams {
         Ok(keys)
     }
 
-    /// The streams with those of one more row.
+    /// Appends the streams of one more row.
     #[tactic(auto, using(crate::proofs::StreamsLemmas::one_of_row))]
     fn with<S: Source>(self, alloc: Global, row: Item<S>) -> Result<OpenStreams, ParsingError>
         ensures ok { IfOk result (λ r. streams_held r
@@ -56,7 +56,7 @@ impl OpenStreams {
         }
     }
 
-    /// The streams with one more.
+    /// Appends one stream.
     #[tactic(auto, using(crate::proofs::StreamsLemmas::one_stream))]
     fn with_one<S: Source>(
         self,
@@ -81,7 +81,7 @@ impl OpenStreams {
         Ok(OpenStreams { forms, keys })
     }
 
-    /// The streams with those of a row of several.
+    /// Appends the streams of a row with any number of pairs.
     #[tactic(auto, using(crate::proofs::StreamsLemmas::several_streams))]
     fn with_many<S: Source>(self, alloc: Global, row: S) -> Result<OpenStreams, ParsingError>
         ensures ok { IfOk result (λ r. streams_held r

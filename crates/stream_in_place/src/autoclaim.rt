@@ -1,4 +1,4 @@
-//! The reply of XAUTOCLAIM, where it stands.
+//! The reply of XAUTOCLAIM, read in place.
 ghost use Rattle.std.specs.Prelude.{◌≡◌, ◌≤◌, ◌+◌, ◌++◌, ℕ, suc, Bool, List, Some, IfErr, IfOk, IfSome, IsOk, IsSomeAnd, OnOk};
 ghost use Rattle.std.specs.Prelude.{drop, length};
 ghost use Rattle.redis_wire.specs.Written.{count_bytes};
@@ -28,37 +28,37 @@ use redis_wire::place::{Span, array_at};
 use std::alloc::{AllocError, Global};
 use stream_entries::{StreamAutoClaimJustIdReply, StreamAutoClaimReply};
 
-/// What XAUTOCLAIM answers, where it stands, and how many bytes the reply has.
+/// The reply of XAUTOCLAIM, read in place, and its length in bytes.
 #[derive(Debug, Drop)]
 pub struct AutoClaimRef<'a> {
-    /// The id from which the next XAUTOCLAIM goes on; `0-0` where all pending entries were seen.
+    /// The id from which the next XAUTOCLAIM continues; `0-0` once all pending entries were scanned.
     pub next_stream_id: &'a str,
     /// The entries that were claimed, in order.
     pub claimed: EntriesRef<'a>,
-    /// The ids of entries that were pending and are no longer in the stream; a server tells them
+    /// The ids of entries that were pending and are no longer in the stream. Servers send them
     /// from 7.0 on.
     pub deleted_ids: IdsRef<'a>,
-    /// How many bytes the reply has.
+    /// The length of the reply in bytes.
     pub len: usize,
 }
 
-/// What XAUTOCLAIM answers where it is asked for ids alone, and how many bytes the reply has.
+/// The reply of XAUTOCLAIM with `JUSTID`, and its length in bytes.
 #[derive(Debug, Drop)]
 pub struct AutoClaimJustIdRef<'a> {
-    /// The id from which the next XAUTOCLAIM goes on; `0-0` where all pending entries were seen.
+    /// The id from which the next XAUTOCLAIM continues; `0-0` once all pending entries were scanned.
     pub next_stream_id: &'a str,
     /// The ids of the entries that were claimed, in order.
     pub claimed: IdsRef<'a>,
-    /// The ids of entries that were pending and are no longer in the stream; a server tells them
+    /// The ids of entries that were pending and are no longer in the stream. Servers send them
     /// from 7.0 on.
     pub deleted_ids: IdsRef<'a>,
-    /// How many bytes the reply has.
+    /// The length of the reply in bytes.
     pub len: usize,
 }
 
 impl<'a> AutoClaimRef<'a> {
-    /// The record of the copying path, where all entries and ids are left. `NotText` if a name of a field is
-    /// no UTF-8.
+    /// Copies the reply, with the entries and ids that are left. While all are left, it is the record of the
+    /// copying path. `NotText` if a field name is not UTF-8.
     pub fn to_owned(&self, alloc: Global) -> Result<StreamAutoClaimReply, ParsingError>
         ensures ok { IfOk result (λ r. autoclaim_meaning r ≡ copied_autoclaim (record {
           next = self.now.next_stream_id.now;
@@ -78,7 +78,7 @@ impl<'a> AutoClaimRef<'a> {
 }
 
 impl<'a> AutoClaimJustIdRef<'a> {
-    /// The record of the copying path, where all ids are left.
+    /// Copies the reply, with the ids that are left. While all are left, it is the record of the copying path.
     pub fn to_owned(&self, alloc: Global) -> Result<StreamAutoClaimJustIdReply, AllocError>
         ensures { IfOk result (λ r. justid_meaning r ≡ record {
           next = self.now.next_stream_id.now;
@@ -94,20 +94,20 @@ impl<'a> AutoClaimJustIdRef<'a> {
     }
 }
 
-/// How the reply of XAUTOCLAIM begins.
+/// The first part of a reply of XAUTOCLAIM.
 #[derive(Drop)]
 struct ClaimHead {
-    /// Whether deleted ids are told.
+    /// Whether the reply has the deleted ids.
     told: bool,
     /// The next id.
     next: Span,
-    /// How many entries or ids were claimed.
+    /// The number of entries or ids that were claimed.
     count: u32,
-    /// How many bytes end with the head.
+    /// The offset of the end of the header.
     at: usize,
 }
 
-/// Whether an array of so many members tells deleted ids.
+/// Whether an array of `members` elements has the deleted ids. `None` if a reply has no such length.
 fn tells_deleted(members: u32) -> Option<bool>
     ensures is { IfSome result (λ told. members ≡ suc (suc (deleted_count told))) }
     ensures found { (told : Bool) → members ≡ suc (suc (deleted_count told)) → result ≡ Some told }
@@ -119,7 +119,7 @@ fn tells_deleted(members: u32) -> Option<bool>
     }
 }
 
-/// How the reply of XAUTOCLAIM at the head of bytes begins.
+/// Parses the first part of the reply of XAUTOCLAIM at the start of the bytes.
 fn claim_head(limits: Limits, bytes: &[u8]) -> Option<ClaimHead>
     ensures is { IfSome result (λ head. IsClaimHead limits bytes.now head.told head.next head.count head.at) }
     ensures found { (told : Bool) (next : List ℕ) (count : ℕ) (rest : List ℕ) → AllowsRows limits
@@ -139,8 +139,8 @@ fn claim_head(limits: Limits, bytes: &[u8]) -> Option<ClaimHead>
     })
 }
 
-/// Holds the deleted ids from `at` on, where the reply tells them, and returns how many bytes end with
-/// them.
+/// Adds the places of the deleted ids at `at`, if the reply has them. Returns the offset of their
+/// end.
 fn add_deleted<P: Places>(
     limits: Limits,
     bytes: &[u8],
@@ -168,10 +168,10 @@ fn add_deleted<P: Places>(
     add_ids(limits, bytes, behind, count, places)
 }
 
-/// Holds the places of the entries that XAUTOCLAIM claimed, and behind them those of the deleted ids,
-/// where the reply at the head of bytes has the shape in which servers send it: an array of the next
-/// id, the rows of the entries and, from 7.0 on, the deleted ids. With tables of the caller no memory
-/// is asked for.
+/// Finds the entries that XAUTOCLAIM claimed and, after them, the deleted ids. The reply at the start
+/// of the bytes must have the shape that servers send, else the result is `None`. That shape is an array of
+/// the next id, the rows of the entries and, from 7.0 on, the deleted ids. With tables of the caller no
+/// memory is allocated.
 pub fn find_autoclaim<P: Places>(
     limits: Limits,
     bytes: &[u8],
@@ -209,8 +209,8 @@ pub fn find_autoclaim<P: Places>(
     Ok(Some(AutoClaimPlace { next, claimed, len }))
 }
 
-/// Holds the places of the ids that XAUTOCLAIM claimed where it was asked for ids alone, and behind
-/// them those of the deleted ids, as `find_autoclaim` does.
+/// Finds the ids that XAUTOCLAIM with `JUSTID` claimed and, after them, the deleted ids, as
+/// `find_autoclaim` does.
 pub fn find_justid<P: Places>(
     limits: Limits,
     bytes: &[u8],
@@ -246,7 +246,7 @@ pub fn find_justid<P: Places>(
     Ok(Some(AutoClaimPlace { next, claimed, len }))
 }
 
-/// The reply that stands there.
+/// The reply at that place.
 pub fn autoclaim_at<'a>(
     bytes: &'a [u8],
     place: AutoClaimPlace,
@@ -270,7 +270,7 @@ pub fn autoclaim_at<'a>(
     }
 }
 
-/// The ids that stand there.
+/// The reply of ids at that place.
 pub fn justid_at<'a>(
     bytes: &'a [u8],
     place: AutoClaimPlace,

@@ -1,4 +1,4 @@
-//! Replies of XAUTOCLAIM of any shape: where they stand, or by the copying path.
+//! Replies of XAUTOCLAIM of any shape: read in place, or by the copying path.
 ghost use Rattle.std.specs.Prelude.{ℕ};
 ghost use Rattle.stream_entries.specs.JustId.{JustId};
 ghost use Rattle.stream_in_place.specs.Sent.{SentAutoClaim};
@@ -12,38 +12,38 @@ use redis_wire::{Decoded, Limits, ReplyError, WireError, decode, from_reply};
 use std::alloc::Global;
 use stream_entries::{StreamAutoClaimJustIdReply, StreamAutoClaimReply};
 
-/// What reading the reply of XAUTOCLAIM comes to.
+/// The result of reading the reply of XAUTOCLAIM.
 #[derive(Debug, Drop)]
 pub enum AutoClaimOutcome<'a> {
-    /// The reply has the shape that servers send: its entries and ids where they stand.
+    /// The reply has the shape that servers send: its entries and ids, in place.
     InPlace(AutoClaimRef<'a>),
-    /// The reply has another shape: its record, why it has none, or the server's error.
+    /// The reply has another shape: its record, why it was refused, or the server's error.
     Copied {
         reply: Result<StreamAutoClaimReply, ReplyError>,
-        /// How many bytes the reply has.
+        /// The length of the reply in bytes.
         len: usize,
     },
     /// The bytes end before the reply does.
     Incomplete,
 }
 
-/// What reading the reply of XAUTOCLAIM comes to where it was asked for ids alone.
+/// The result of reading the reply of XAUTOCLAIM with `JUSTID`.
 #[derive(Debug, Drop)]
 pub enum JustIdOutcome<'a> {
-    /// The reply has the shape that servers send: its ids where they stand.
+    /// The reply has the shape that servers send: its ids, in place.
     InPlace(AutoClaimJustIdRef<'a>),
-    /// The reply has another shape: its record, why it has none, or the server's error.
+    /// The reply has another shape: its record, why it was refused, or the server's error.
     Copied {
         reply: Result<StreamAutoClaimJustIdReply, ReplyError>,
-        /// How many bytes the reply has.
+        /// The length of the reply in bytes.
         len: usize,
     },
     /// The bytes end before the reply does.
     Incomplete,
 }
 
-/// Reads the reply of XAUTOCLAIM at the head of bytes, whatever its shape, as `read_any_range` does. A
-/// server up to 6.2 answers nil in place of an entry that was deleted meanwhile; such a reply is copied.
+/// Reads the reply of XAUTOCLAIM of any shape at the start of the bytes, as `read_any_range` does. A server
+/// up to 6.2 sends nil in place of an entry that was deleted meanwhile. Such a reply is copied.
 pub fn read_any_autoclaim<'a>(
     alloc: Global,
     tape: &'a mut EntryTape,
@@ -61,7 +61,7 @@ pub fn read_any_autoclaim<'a>(
     }
 }
 
-/// Reads a reply to XAUTOCLAIM by way of a decoded value.
+/// Reads a reply of XAUTOCLAIM by way of a decoded value.
 fn copied_autoclaim<'a>(
     alloc: Global,
     bytes: &[u8],
@@ -79,8 +79,8 @@ fn copied_autoclaim<'a>(
     }
 }
 
-/// Reads the reply of XAUTOCLAIM at the head of bytes where it was asked for ids alone, whatever its
-/// shape, as `read_any_range` does.
+/// Reads the reply of XAUTOCLAIM with `JUSTID` of any shape at the start of the bytes, as
+/// `read_any_range` does.
 pub fn read_any_justid<'a>(
     alloc: Global,
     tape: &'a mut EntryTape,
@@ -98,7 +98,7 @@ pub fn read_any_justid<'a>(
     }
 }
 
-/// Reads a reply to XAUTOCLAIM with JUSTID by way of a decoded value.
+/// Reads a reply of XAUTOCLAIM with `JUSTID` by way of a decoded value.
 fn copied_justid<'a>(
     alloc: Global,
     bytes: &[u8],

@@ -1,4 +1,4 @@
-//! An entry, where it stands.
+//! An entry, read in place.
 ghost use Rattle.std.specs.Prelude.{◌≡◌, [], Ok, Err, IfErr, IfOk, MatchResult, OnOk, option_map};
 ghost use Rattle.redis_resp.specs.Table.{last_with};
 ghost use Rattle.stream_in_place.specs.Sent.{AreTextFields, is_none};
@@ -15,16 +15,16 @@ use std::fmt;
 use std::marker::Model;
 use stream_entries::StreamId;
 
-/// When an entry was delivered, and how often.
+/// When an entry was last delivered, and how many times.
 #[derive(Clone, Copy, Debug, PartialEq, Eq)]
 pub struct Delivery {
-    /// How many milliseconds ago it was last delivered.
+    /// The milliseconds since it was last delivered.
     pub elapsed: u64,
-    /// How often it was delivered.
+    /// The number of times it was delivered.
     pub count: u64,
 }
 
-/// An entry of a stream, where it stands.
+/// An entry of a stream, read in place.
 #[derive(Drop)]
 pub struct EntryRef<'a> {
     id: &'a str,
@@ -55,14 +55,14 @@ impl<'a> EntryRef<'a> {
         self.id
     }
 
-    /// Whether the entry was deleted: nil stands in place of its fields. An entry without fields was not.
+    /// Whether the entry was deleted: the reply has nil in place of its fields. An entry with no fields was not.
     pub fn is_deleted(&self) -> bool
         ensures { result ≡ is_none self.now.fields }
     {
         self.deleted
     }
 
-    /// The fields, in order; none where the entry was deleted.
+    /// Returns the fields, in order. There are none if the entry was deleted.
     pub fn fields(&self) -> FieldsRef<'a>
         ensures { result ≡ pairs_or_none self.now.fields }
     {
@@ -73,7 +73,7 @@ impl<'a> EntryRef<'a> {
         }
     }
 
-    /// The value of the last field of that name, which is the one that a record keeps.
+    /// Returns the value of the last field of that name. A record keeps the same one.
     pub fn get(&self, name: &[u8]) -> Option<&'a [u8]>
         ensures { option_map (λ v. v.now) result ≡ last_with name.now (pairs_or_none self.now.fields) }
     {
@@ -84,7 +84,7 @@ impl<'a> EntryRef<'a> {
         }
     }
 
-    /// The value of the last field of that name as text.
+    /// Returns the value of the last field of that name as text.
     pub fn get_str(&self, name: &[u8]) -> Result<&'a str, FieldError>
         ensures { MatchResult result
             (λ t. text_value (last_with name.now (pairs_or_none self.now.fields)) ≡ Ok t.now)
@@ -93,24 +93,24 @@ impl<'a> EntryRef<'a> {
         str_of(self.get(name))
     }
 
-    /// The value of the last field of that name as a number: digits behind one `+` or none, within
-    /// 64 bits.
+    /// Returns the value of the last field of that name as a number within 64 bits: digits after an
+    /// optional `+`.
     pub fn get_u64(&self, name: &[u8]) -> Result<u64, FieldError>
         ensures { result ≡ unsigned_value (last_with name.now (pairs_or_none self.now.fields)) }
     {
         u64_of(self.get(name))
     }
 
-    /// The value of the last field of that name as a number: digits behind one sign or none, that
-    /// fit an `i64`.
+    /// Returns the value of the last field of that name as a number that fits an `i64`: digits after an
+    /// optional sign.
     pub fn get_i64(&self, name: &[u8]) -> Result<i64, FieldError>
         ensures { result ≡ signed_value (last_with name.now (pairs_or_none self.now.fields)) }
     {
         i64_of(self.get(name))
     }
 
-    /// The entry as a record has it: of fields with one name the last, and none where it was deleted.
-    /// `NotText` if a name is no UTF-8.
+    /// Copies the entry into a record. It keeps the last of fields with one name, and no fields of a deleted entry.
+    /// `NotText` if a name is not UTF-8.
     pub fn to_owned(&self, alloc: Global) -> Result<StreamId, ParsingError>
         ensures ok { IfOk result (λ s. entry_meaning s ≡ copied self.now) }
         ensures named { OnOk result (AreTextFields self.now.fields) }
@@ -124,14 +124,14 @@ impl<'a> EntryRef<'a> {
         })
     }
 
-    /// When and how often the entry was delivered, where the reply says so.
+    /// Returns when the entry was last delivered, and how many times, if the reply has it.
     pub fn delivery(&self) -> Option<Delivery>
         ensures { option_map (λ d. (d.elapsed, d.count)) result ≡ self.now.delivery }
     {
         self.delivery
     }
 
-    /// How often the entry was delivered, where the reply says so.
+    /// Returns the number of times the entry was delivered, if the reply has it.
     pub fn delivered_count(&self) -> Option<u64>
         ensures { result ≡ option_map (λ d. d.1) self.now.delivery }
     {
@@ -141,7 +141,7 @@ impl<'a> EntryRef<'a> {
         }
     }
 
-    /// How many milliseconds ago the entry was last delivered, as a record has it.
+    /// The milliseconds since the entry was last delivered, as a record has them.
     fn elapsed(&self) -> Option<usize>
         ensures { result ≡ option_map (λ d. d.0) self.now.delivery }
     {
@@ -151,7 +151,7 @@ impl<'a> EntryRef<'a> {
         }
     }
 
-    /// How often the entry was delivered, as a record has it.
+    /// The number of times the entry was delivered, as a record has it.
     fn count(&self) -> Option<usize>
         ensures { result ≡ option_map (λ d. d.1) self.now.delivery }
     {

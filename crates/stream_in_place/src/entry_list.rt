@@ -1,4 +1,4 @@
-//! Entries, where they stand.
+//! Entries, read in place.
 ghost use Rattle.std.specs.Prelude.{◌≡◌, ◌∷◌, [], length, map, nat_eq, option_map, IfErr, IfOk, MatchOption, OnOk};
 ghost use Rattle.std.specs.List.{AllByRecursion};
 ghost use Rattle.stream_entries.specs.EntryMeaning.{entries_of};
@@ -40,7 +40,7 @@ impl<'a> Model for EntriesRef<'a> {
 }
 
 impl<'a> EntriesRef<'a> {
-    /// How many entries are left.
+    /// Returns the number of entries that are left.
     pub fn len(&self) -> usize
         ensures { result ≡ length self.now }
     {
@@ -54,7 +54,7 @@ impl<'a> EntriesRef<'a> {
         self.places.is_empty()
     }
 
-    /// The entries once more, from the first one that is left.
+    /// Returns an iterator over the entries that are left, from the first of them.
     pub fn again(&self) -> EntriesRef<'a>
         ensures { result ≡ self.now }
     {
@@ -65,7 +65,7 @@ impl<'a> EntriesRef<'a> {
         }
     }
 
-    /// The entries that are left, as records. `NotText` if a name is no UTF-8.
+    /// Copies the entries that are left into records. `NotText` if a name is not UTF-8.
     pub fn to_owned(&self, alloc: Global) -> Result<Vec<StreamId>, ParsingError>
         ensures ok { IfOk result (λ ids. entries_of ids ≡ map copied self.now) }
         ensures named { OnOk result (AreNamed self.now) }
@@ -89,7 +89,7 @@ impl<'a> EntriesRef<'a> {
     }
 }
 
-/// The entry that stands there.
+/// The entry at that place.
 fn entry_at<'a>(bytes: &'a [u8], place: EntryPlace, fields: &'a [FieldPlace]) -> EntryRef<'a>
     requires entry { IsEntry bytes.now (length fields.now) place }
     requires fields { AllByRecursion (IsField bytes.now) fields.now }
@@ -100,7 +100,7 @@ fn entry_at<'a>(bytes: &'a [u8], place: EntryPlace, fields: &'a [FieldPlace]) ->
     entry_of(id, own, place.deleted, delivery_of(place))
 }
 
-/// The delivery of an entry, where it has one.
+/// The delivery of an entry, if it has one.
 fn delivery_of(place: EntryPlace) -> Option<Delivery>
     ensures { option_map (λ d. (d.elapsed, d.count)) result
         ≡ delivery_if place.delivered place.elapsed place.count }
@@ -141,7 +141,7 @@ impl<'a> fmt::Debug for EntriesRef<'a> {
     }
 }
 
-/// The entries that stand there.
+/// The entries at those places.
 pub fn entries_at<'a>(
     bytes: &'a [u8],
     places: &'a [EntryPlace],
@@ -158,17 +158,17 @@ pub fn entries_at<'a>(
     }
 }
 
-/// The entries of a range, where they stand, and how many bytes the reply has.
+/// The entries of a range, read in place, and the length of the reply in bytes.
 #[derive(Debug, Drop)]
 pub struct RangeRef<'a> {
     /// The entries, in order.
     pub entries: EntriesRef<'a>,
-    /// How many bytes the reply has.
+    /// The length of the reply in bytes.
     pub len: usize,
 }
 
 impl<'a> RangeRef<'a> {
-    /// The record of the copying path, where all entries are left. `NotText` if a name is no UTF-8.
+    /// Copies what is left; while all is left, as the copying path does. `NotText` if a name is not UTF-8.
     pub fn to_owned(&self, alloc: Global) -> Result<StreamRangeReply, ParsingError>
         ensures ok { IfOk result (λ r. entries_of r.ids ≡ map copied self.now.entries) }
         ensures named { OnOk result (AreNamed self.now.entries) }

@@ -6,16 +6,16 @@ use crate::rows::is_text;
 use redis_resp::{signed_in, unsigned_in};
 use thiserror::Error;
 
-/// Why a field has no value of the type asked for.
+/// Why a field has no value of the requested type.
 #[derive(Clone, Copy, Debug, PartialEq, Eq, Error)]
 pub enum FieldError {
-    /// No field has that name.
+    /// There is no field of that name.
     #[error("no field has that name")]
     Missing,
     /// The value is not UTF-8.
     #[error("the value is not UTF-8")]
     NotText,
-    /// The value is no number, or none that fits the type.
+    /// The value is not a number, or does not fit the type.
     #[error("the value is no number of that type")]
     NotNumber,
 }

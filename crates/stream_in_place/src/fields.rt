@@ -1,4 +1,4 @@
-//! The fields of an entry, where they stand.
+//! The fields of an entry, read in place.
 ghost use Rattle.std.specs.Prelude.{◌≡◌, ◌∷◌, [], length, map, nat_eq, true, MatchOption, MatchResult};
 ghost use Rattle.std.specs.Prelude.{Ok, Err, Some, option_map, IfErr, IfOk, OnOk, false, string_bytes};
 ghost use Rattle.std.specs.FinMap as fin;
@@ -25,7 +25,7 @@ use std::fmt;
 use std::iter::ExactSizeIterator;
 use std::marker::Model;
 
-/// The fields of an entry, in order and with repeated ones: names and values, which are any bytes. As an
+/// The fields of an entry, in order and with repeated ones. Names and values are any bytes. As an
 /// iterator it returns those that are left.
 #[derive(Drop)]
 pub struct FieldsRef<'a> {
@@ -47,7 +47,7 @@ impl<'a> Model for FieldsRef<'a> {
 }
 
 impl<'a> FieldsRef<'a> {
-    /// How many fields are left.
+    /// Returns the number of fields that are left.
     pub fn len(&self) -> usize
         ensures { result ≡ length self.now }
     {
@@ -61,7 +61,7 @@ impl<'a> FieldsRef<'a> {
         self.places.is_empty()
     }
 
-    /// The value of the last field of that name, which is the one that a record keeps.
+    /// Returns the value of the last field of that name. A record keeps the same one.
     pub fn get(&self, name: &[u8]) -> Option<&'a [u8]>
         ensures { option_map (λ v. v.now) result ≡ last_with name.now self.now }
     {
@@ -74,7 +74,7 @@ impl<'a> FieldsRef<'a> {
         found
     }
 
-    /// The value of the last field of that name as text.
+    /// Returns the value of the last field of that name as text.
     pub fn get_str(&self, name: &[u8]) -> Result<&'a str, FieldError>
         ensures { MatchResult result (λ t. text_value (last_with name.now self.now) ≡ Ok t.now)
             (λ e. text_value (last_with name.now self.now) ≡ Err e) }
@@ -82,24 +82,24 @@ impl<'a> FieldsRef<'a> {
         str_of(self.get(name))
     }
 
-    /// The value of the last field of that name as a number: digits behind one `+` or none, within
-    /// 64 bits.
+    /// Returns the value of the last field of that name as a number within 64 bits: digits after an
+    /// optional `+`.
     pub fn get_u64(&self, name: &[u8]) -> Result<u64, FieldError>
         ensures { result ≡ unsigned_value (last_with name.now self.now) }
     {
         u64_of(self.get(name))
     }
 
-    /// The value of the last field of that name as a number: digits behind one sign or none, that
-    /// fit an `i64`.
+    /// Returns the value of the last field of that name as a number that fits an `i64`: digits after an
+    /// optional sign.
     pub fn get_i64(&self, name: &[u8]) -> Result<i64, FieldError>
         ensures { result ≡ signed_value (last_with name.now self.now) }
     {
         i64_of(self.get(name))
     }
 
-    /// The fields by name, as a record keeps them: of those with one name the last. `NotText` if a name
-    /// is no UTF-8.
+    /// Copies the fields into a map by name, as a record does. It keeps the last of those with one name.
+    /// `NotText` if a name is not UTF-8.
     pub fn to_owned(&self, alloc: Global) -> Result<HashMap<String, Value>, ParsingError>
         ensures ok { IfOk result (λ fields. fields_of fields
             ≡ from_entries (table_of (on_values bulk self.now))) }
@@ -114,7 +114,7 @@ impl<'a> FieldsRef<'a> {
         Ok(copies)
     }
 
-    /// The fields in order and with repeated ones, for who keeps them so. `NotText` if a name is no UTF-8.
+    /// Copies the fields in order, with repeated ones. `NotText` if a name is not UTF-8.
     pub fn to_pairs(&self, alloc: Global) -> Result<PairList<Value>, ParsingError>
         ensures ok { IfOk result (λ list. entries_meaning tree list.0.items ≡ on_values bulk self.now) }
         ensures named { OnOk result (AreTextFields (Some self.now)) }
@@ -127,7 +127,7 @@ impl<'a> FieldsRef<'a> {
         Ok(PairList(pairs))
     }
 
-    /// The fields once more, from the first one that is left.
+    /// Returns an iterator over the fields that are left, from the first of them.
     pub fn again(&self) -> FieldsRef<'a>
         ensures { result ≡ self.now }
     {
@@ -137,7 +137,7 @@ impl<'a> FieldsRef<'a> {
         }
     }
 
-    /// No fields.
+    /// Returns an empty list of fields.
     pub fn none(&self) -> FieldsRef<'a>
         ensures { result ≡ [] }
     {
@@ -181,7 +181,7 @@ impl<'a> ExactSizeIterator for FieldsRef<'a> {
     }
 }
 
-/// The fields that are left, as texts; bytes that are no UTF-8 are escaped.
+/// Shows the fields that are left as text. Bytes that are not UTF-8 are escaped.
 impl<'a> fmt::Debug for FieldsRef<'a> {
     fn fmt<W: fmt::Write>(&self, f: &mut fmt::Formatter<W>) -> fmt::Result {
         let mut shown = f.debug_map();
@@ -192,7 +192,7 @@ impl<'a> fmt::Debug for FieldsRef<'a> {
     }
 }
 
-/// The bytes as text, which a name of a record has to be.
+/// The bytes as text, as the name of a record must be.
 fn text_of(bytes: &[u8]) -> Result<&str, ParsingError>
     ensures ok { IfOk result (λ t. (t.now ≡ bytes.now) × (is_utf8 bytes.now ≡ true)) }
     ensures err { IfErr result (λ e. (e ≡ ParsingError.NotText) × (is_utf8 bytes.now ≡ false)) }
@@ -203,7 +203,7 @@ fn text_of(bytes: &[u8]) -> Result<&str, ParsingError>
     }
 }
 
-/// A copy of the field that stands there.
+/// A copy of the field at that place.
 fn pair_at(alloc: Global, bytes: &[u8], place: FieldPlace) -> Result<(String, Value), ParsingError>
     requires { IsField bytes.now place }
     ensures name { IfOk result (λ p. string_bytes p.0 ≡ (field_in bytes.now place).0) }
@@ -216,7 +216,7 @@ fn pair_at(alloc: Global, bytes: &[u8], place: FieldPlace) -> Result<(String, Va
     Ok((name, Value::BulkString(value)))
 }
 
-/// Puts a field.
+/// Inserts a field.
 #[tactic(auto, using(stream_entries::proofs::FieldsLemmas::fields_put))]
 fn put(copies: &mut HashMap<String, Value>, name: String, value: Value) -> Result<(), AllocError>
     ensures { OnOk result (fields_of copies.new
@@ -226,7 +226,7 @@ fn put(copies: &mut HashMap<String, Value>, name: String, value: Value) -> Resul
     Ok(())
 }
 
-/// The fields that stand there.
+/// The fields at those places.
 pub fn fields_at<'a>(bytes: &'a [u8], places: &'a [FieldPlace]) -> FieldsRef<'a>
     requires { AllByRecursion (IsField bytes.now) places.now }
     ensures { result ≡ map (field_in bytes.now) places.now }

@@ -1,4 +1,4 @@
-//! Finds where the entries of a reply stand, in tables of any kind.
+//! Finds the places of the entries of a reply, in tables of any kind.
 ghost use Rattle.std.specs.Prelude.{◌≡◌, ◌≤◌, ◌++◌, ℕ, Bool, List, IfOk, IfSome, IsOk, IsSome, IsSomeAnd, length, map};
 ghost use Rattle.std.specs.Prelude.{Ok, None, true, false};
 ghost use Rattle.stream_in_place.specs.Counted.{HoldSoMany};
@@ -19,9 +19,9 @@ use crate::streams::add_streams;
 use redis_wire::Limits;
 use redis_wire::place::{array_at, map_at, nil_at};
 
-/// Holds the places of the entries of the reply at the head of bytes, and returns how many bytes it
-/// has, where it has the shape in which servers answer XRANGE, XREVRANGE and XCLAIM. With tables of
-/// the caller no memory is asked for. No value is made, so `Limits::values` bounds nothing here.
+/// Finds the entries of the reply at the start of the bytes, and returns its length. The result is `None`
+/// unless it has the shape that servers send for XRANGE, XREVRANGE and XCLAIM. With tables of the caller
+/// no memory is allocated. No value is made, so `Limits::values` bounds nothing here.
 pub fn find_range<P: Places>(
     limits: Limits,
     bytes: &[u8],
@@ -49,8 +49,8 @@ pub fn find_range<P: Places>(
     add_entries(limits, bytes, at, Form::Standard, count, places)
 }
 
-/// Holds the streams of the array at the head of bytes, where nothing is held, and returns how many
-/// bytes it has.
+/// Adds the streams of the array at the start of the bytes to empty tables, and returns its
+/// length in bytes.
 fn find_array<P: Places>(
     limits: Limits,
     bytes: &[u8],
@@ -77,8 +77,8 @@ fn find_array<P: Places>(
     add_streams(limits, bytes, at, Spelling::Array, form, count, places)
 }
 
-/// Holds the streams of the map at the head of bytes, where nothing is held, and returns how many
-/// bytes it has.
+/// Adds the streams of the map at the start of the bytes to empty tables, and returns its
+/// length in bytes.
 fn find_map<P: Places>(
     limits: Limits,
     bytes: &[u8],
@@ -104,7 +104,7 @@ fn find_map<P: Places>(
     add_streams(limits, bytes, at, Spelling::Map, form, count, places)
 }
 
-/// Holds the streams of the reply at the head of bytes, and returns how many bytes it has.
+/// Finds the streams of the reply at the start of the bytes, and returns its length in bytes.
 pub fn find_form<P: Places>(
     limits: Limits,
     bytes: &[u8],
@@ -134,9 +134,9 @@ pub fn find_form<P: Places>(
     find_map(limits, bytes, form, places)
 }
 
-/// Holds the places of the streams of the reply at the head of bytes, and returns how many bytes it
-/// has, where it has the shape in which servers answer XREAD and XREADGROUP. With tables of the caller
-/// no memory is asked for. No value is made, so `Limits::values` bounds nothing here.
+/// Finds the streams of the reply at the start of the bytes, and returns its length. The result is `None`
+/// unless it has the shape that servers send for XREAD and XREADGROUP. With tables of the caller no
+/// memory is allocated. No value is made, so `Limits::values` bounds nothing here.
 pub fn find_streams<P: Places>(
     limits: Limits,
     bytes: &[u8],
@@ -161,9 +161,9 @@ pub fn find_streams<P: Places>(
     find_form(limits, bytes, Form::Standard, places)
 }
 
-/// Holds the places of the streams of the reply at the head of bytes, as `find_streams` does, where each
-/// row has the claim form: behind its fields the milliseconds since the entry was delivered, and how
-/// often it was. So servers answer XREADGROUP with CLAIM.
+/// Finds the streams of the reply at the start of the bytes, as `find_streams` does, if each row has the
+/// claim form. After the fields such a row has the milliseconds since the last delivery, and the delivery
+/// count. Servers send this form for XREADGROUP with `CLAIM`.
 pub fn find_claimed_streams<P: Places>(
     limits: Limits,
     bytes: &[u8],
@@ -188,8 +188,8 @@ pub fn find_claimed_streams<P: Places>(
     find_form(limits, bytes, Form::Claim, places)
 }
 
-/// Holds the streams of the reply at the head of bytes, in the standard form or else in the claim form,
-/// and returns which of them it is, and how many bytes it has.
+/// Finds the streams of the reply at the start of the bytes, in the standard form or else in the claim form.
+/// Returns the form and the length in bytes.
 pub fn find_either_form<P: Places>(
     limits: Limits,
     bytes: &[u8],

@@ -1,17 +1,17 @@
-//! The forms in which streams and rows are told.
+//! The forms of streams and rows in a reply.
 ghost use Rattle.std.specs.Prelude.{◌≡◌};
 ghost use Rattle.stream_in_place.specs.Forms.{is_claim};
 
-/// How streams are told.
+/// The form of the streams in a reply.
 #[derive(Clone, Copy)]
 pub enum Spelling {
-    /// In an array of arrays, each of a name and rows.
+    /// An array of arrays, each of a name and rows.
     Array,
-    /// In a map of names to rows, as in RESP3.
+    /// A map of names to rows, as in RESP3.
     Map,
 }
 
-/// How rows are told.
+/// The form of the rows in a reply.
 #[derive(Clone, Copy)]
 pub enum Form {
     /// Each row is an id and fields.
@@ -21,7 +21,7 @@ pub enum Form {
 }
 
 impl Form {
-    /// Whether a row tells its delivery.
+    /// Whether a row has the delivery.
     pub fn tells_delivery(self) -> bool
         ensures { result ≡ is_claim self }
     {

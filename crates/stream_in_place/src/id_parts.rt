@@ -8,19 +8,19 @@ use itoa::Buffer;
 use redis_resp::unsigned_in;
 use std::alloc::{AllocError, Global};
 
-/// The id of an entry in its two parts, such as `1526919030474-55`. Ids are in the order in which a
-/// stream holds its entries: by the milliseconds, and of one millisecond by the sequence number.
+/// The id of an entry in its two parts, such as `1526919030474-55`. Ids have the order in which a
+/// stream holds its entries: by the milliseconds, then by the sequence number.
 #[derive(Clone, Copy, Debug, PartialEq, Eq, PartialOrd, Ord)]
 pub struct StreamIdParts {
-    /// Milliseconds, as a rule since 1970.
+    /// The milliseconds, usually since 1970.
     pub ms: u64,
-    /// The sequence number: which entry of that millisecond it is.
+    /// The sequence number among the entries of that millisecond.
     pub seq: u64,
 }
 
 impl StreamIdParts {
-    /// The id that a text writes: the milliseconds, `-` and the sequence number, each in digits
-    /// behind one `+` or none, within 64 bits.
+    /// Parses an id: the milliseconds, `-` and the sequence number. Each part is digits after an
+    /// optional `+`, within 64 bits.
     pub fn parse(text: &[u8]) -> Option<StreamIdParts>
         ensures { result ≡ id_in text.now }
     {
@@ -34,14 +34,14 @@ impl StreamIdParts {
         }
     }
 
-    /// Whether the entry stands before the other one in a stream.
+    /// Whether an entry with this id comes before one with the other id in a stream.
     pub fn is_before(self, other: StreamIdParts) -> bool
         ensures { result ≡ nat_lt (id_number self) (id_number other) }
     {
         self.ms < other.ms || (self.ms == other.ms && self.seq < other.seq)
     }
 
-    /// The id as replies and commands write it: the milliseconds, `-` and the sequence number.
+    /// Returns the id as replies and commands write it: the milliseconds, `-` and the sequence number.
     pub fn to_text(self, alloc: Global) -> Result<Vec<u8>, AllocError>
         ensures { IfOk result (λ text. text.items ≡ id_text self) }
     {
@@ -52,8 +52,8 @@ impl StreamIdParts {
         Ok(text)
     }
 
-    /// The id as XRANGE takes it where it is itself left out: `(` and the id. As a start it stands
-    /// for the entries behind this one.
+    /// Returns the id as an exclusive bound of XRANGE: `(` and the id. As a start it selects
+    /// the entries after this id.
     pub fn to_exclusive_text(self, alloc: Global) -> Result<Vec<u8>, AllocError>
         ensures { IfOk result (λ text. text.items ≡ behind_text self) }
     {
@@ -66,7 +66,7 @@ impl StreamIdParts {
     }
 }
 
-/// How many bytes stand before the first `-`.
+/// The number of bytes before the first `-`.
 fn part_len(text: &[u8]) -> usize
     ensures { result ≡ prefix_len is_of_part text.now }
 {

@@ -1,4 +1,4 @@
-//! Ids alone, where they stand.
+//! Ids without fields, read in place.
 ghost use Rattle.std.specs.Prelude.{◌≡◌, ◌≤◌, ◌+◌, ◌∷◌, ◌++◌, ℕ, List, [], IfOk, IfSome, IsOk, IsSomeAnd};
 ghost use Rattle.std.specs.Prelude.{MatchOption, drop, flat_map, false, length, map, nat_eq};
 ghost use Rattle.std.specs.List.{AllByRecursion};
@@ -39,7 +39,7 @@ impl<'a> Model for IdsRef<'a> {
 }
 
 impl<'a> IdsRef<'a> {
-    /// How many ids are left.
+    /// Returns the number of ids that are left.
     pub fn len(&self) -> usize
         ensures { result ≡ length self.now }
     {
@@ -53,7 +53,7 @@ impl<'a> IdsRef<'a> {
         self.places.is_empty()
     }
 
-    /// The ids once more, from the first one that is left.
+    /// Returns an iterator over the ids that are left, from the first of them.
     pub fn again(&self) -> IdsRef<'a>
         ensures { result ≡ self.now }
     {
@@ -63,7 +63,7 @@ impl<'a> IdsRef<'a> {
         }
     }
 
-    /// The ids that are left, as records have them.
+    /// Copies the ids that are left, as records have them.
     pub fn to_owned(&self, alloc: Global) -> Result<Vec<String>, AllocError>
         ensures { IfOk result (λ ids. text_bytes_of ids ≡ self.now) }
     {
@@ -85,7 +85,7 @@ impl<'a> IdsRef<'a> {
     }
 }
 
-/// The id that stands there.
+/// The id at that place.
 fn id_of(bytes: &[u8], place: EntryPlace) -> &str
     requires { IsId bytes.now place }
     ensures { result.now ≡ id_at bytes.now place }
@@ -119,7 +119,7 @@ impl<'a> fmt::Debug for IdsRef<'a> {
     }
 }
 
-/// The ids that stand there.
+/// The ids at those places.
 pub fn ids_at<'a>(bytes: &'a [u8], places: &'a [EntryPlace]) -> IdsRef<'a>
     requires { AllByRecursion (IsId bytes.now) places.now }
     ensures { result ≡ map (id_at bytes.now) places.now }
@@ -127,7 +127,7 @@ pub fn ids_at<'a>(bytes: &'a [u8], places: &'a [EntryPlace]) -> IdsRef<'a>
     IdsRef { bytes, places }
 }
 
-/// The place of an id, as that of an entry without fields.
+/// The place of an id, as the place of an entry without fields.
 fn id_place(id: Span) -> EntryPlace
     ensures { result ≡ record {
       id = id;
@@ -150,7 +150,7 @@ fn id_place(id: Span) -> EntryPlace
     }
 }
 
-/// Holds so many ids from `at` on, as entries without fields, and returns how many bytes end with them.
+/// Adds the `count` ids at `at`, as entries without fields, and returns the offset of their end.
 pub fn add_ids<P: Places>(
     limits: Limits,
     bytes: &[u8],

@@ -1,4 +1,4 @@
-//! Copies of entries that stand somewhere, with their fields in order.
+//! Copies of entries that were read in place, with their fields in order.
 ghost use Rattle.std.specs.Prelude.{◌≡◌, IfOk, option_map};
 ghost use Rattle.stream_in_place.specs.SentMeaning.{octet_pairs, sent_of};
 
@@ -8,7 +8,7 @@ use crate::sent::{OctetPairs, Octets, SentRow};
 use std::alloc::{AllocError, Global};
 
 impl<'a> EntryRef<'a> {
-    /// A copy of the entry, with its fields in order and with repeated ones.
+    /// Copies the entry, with its fields in order and with repeated ones.
     pub fn to_row(&self, alloc: Global) -> Result<SentRow, AllocError>
         ensures { IfOk result (λ r. sent_of r ≡ self.now) }
     {
@@ -19,7 +19,7 @@ impl<'a> EntryRef<'a> {
         })
     }
 
-    /// A copy of the fields, and None where the entry was deleted.
+    /// Copies the fields. `None` if the entry was deleted.
     fn copy_fields(&self, alloc: Global) -> Result<Option<OctetPairs>, AllocError>
         ensures { IfOk result (λ f. option_map octet_pairs f ≡ self.now.fields) }
     {
@@ -31,7 +31,7 @@ impl<'a> EntryRef<'a> {
 }
 
 impl<'a> FieldsRef<'a> {
-    /// A copy of the fields that are left, in order and with repeated ones.
+    /// Copies the fields that are left, in order and with repeated ones.
     pub fn to_octets(&self, alloc: Global) -> Result<OctetPairs, AllocError>
         ensures { IfOk result (λ ps. octet_pairs ps ≡ self.now) }
     {

@@ -1,4 +1,4 @@
-//! Room in which a decoded entry is laid out, so that it is given in the form of one read where it stands.
+//! A buffer into which a decoded entry is written, so that it has the type of an entry read in place.
 ghost use Rattle.std.specs.Prelude.{◌≡◌, [], IfOk, OnOk, flat_map, map, option_map};
 ghost use Rattle.std.specs.List.{AllByRecursion};
 ghost use Rattle.stream_in_place.specs.Copied.{pairs_or_none};
@@ -12,7 +12,7 @@ use crate::sent::{Octets, SentRow};
 use redis_wire::place::Span;
 use std::alloc::{AllocError, Global};
 
-/// Room for the fields of one decoded entry. It is kept for the next one.
+/// A buffer for the fields of one decoded entry. The next entry reuses it.
 #[derive(Debug, Drop)]
 pub struct EntryRoom {
     bytes: Vec<u8>,
@@ -20,7 +20,7 @@ pub struct EntryRoom {
 }
 
 impl EntryRoom {
-    /// Room for nothing yet.
+    /// Creates an empty buffer. It has no memory yet.
     pub fn new(alloc: Global) -> EntryRoom
         ensures bytes { result.bytes.items ≡ [] }
         ensures fields { result.fields.items ≡ [] }
@@ -31,7 +31,7 @@ impl EntryRoom {
         }
     }
 
-    /// Holds these names and values, and nothing else.
+    /// Writes these names and values, and drops what was there before.
     fn lay(&mut self, pairs: &[(Octets, Octets)]) -> Result<(), AllocError>
         ensures fields { OnOk result (map (field_in self.new.bytes.items) self.new.fields.items
             ≡ map octet_pair pairs.now) }
@@ -41,7 +41,7 @@ impl EntryRoom {
         self.place(pairs)
     }
 
-    /// Holds the bytes of these names and values.
+    /// Writes the bytes of these names and values.
     fn copy(&mut self, pairs: &[(Octets, Octets)]) -> Result<(), AllocError>
         ensures { OnOk result (self.new.bytes.items ≡ flat_map joined_pair (map octet_pair pairs.now)) }
     {
@@ -53,7 +53,7 @@ impl EntryRoom {
         Ok(())
     }
 
-    /// Holds the places of these names and values, whose bytes are held.
+    /// Writes the places of these names and values, whose bytes are written already.
     fn place(&mut self, pairs: &[(Octets, Octets)]) -> Result<(), AllocError>
         requires { self.old.bytes.items ≡ flat_map joined_pair (map octet_pair pairs.now) }
         ensures fields { OnOk result (map (field_in self.new.bytes.items) self.new.fields.items
@@ -82,7 +82,7 @@ impl EntryRoom {
 }
 
 impl SentRow {
-    /// The names and values; none where nil stands for them.
+    /// Returns the names and values. There are none if the reply had nil in their place.
     pub fn pairs(&self) -> &[(Octets, Octets)]
         ensures { map octet_pair result.now ≡ pairs_or_none (option_map octet_pairs self.now.fields) }
     {
@@ -92,7 +92,7 @@ impl SentRow {
         }
     }
 
-    /// The entry in the form of one read where it stands, out of this room.
+    /// Returns the entry as one that was read in place, out of this buffer.
     pub fn entry_in<'a>(&'a self, room: &'a mut EntryRoom) -> Result<EntryRef<'a>, AllocError>
         ensures { IfOk result (λ e. e ≡ sent_of self.now) }
     {

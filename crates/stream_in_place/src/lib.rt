@@ -1,5 +1,5 @@
-//! The entries of streams, read where they stand in the bytes of a reply: nothing is copied, and the
-//! tables of places keep their room for the next reply.
+//! The entries of streams, read in place in the bytes of a reply. Nothing is copied, and the
+//! tables of places keep their memory for the next reply.
 #![tactic(auto)]
 
 mod autoclaim;

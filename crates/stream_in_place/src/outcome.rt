@@ -1,4 +1,4 @@
-//! Replies of any shape: where they stand, or by the copying path.
+//! Replies of any shape: read in place, or by the copying path.
 ghost use Rattle.std.specs.Prelude.{◌≡◌, ℕ, Bool, List, IfOk, IfSome};
 ghost use Rattle.stream_in_place.specs.Outcome.{IsRangeOutcome, IsReadOutcome, IsRangeInPlace, IsReadInPlace};
 ghost use Rattle.stream_in_place.specs.Sent.{SentEntry, SentStream};
@@ -11,39 +11,39 @@ use redis_wire::{Decoded, Limits, ReplyError, WireError, decode, from_reply};
 use std::alloc::Global;
 use stream_entries::{StreamRangeReply, StreamReadReply};
 
-/// What reading the entries of a reply comes to.
+/// The result of reading the entries of a reply.
 #[derive(Debug, Drop)]
 pub enum RangeOutcome<'a> {
-    /// The reply has the shape that servers send: its entries where they stand.
+    /// The reply has the shape that servers send: its entries, in place.
     InPlace(RangeRef<'a>),
-    /// The reply has another shape: its record, why it has none, or the server's error.
+    /// The reply has another shape: its record, why it was refused, or the server's error.
     Copied {
         reply: Result<StreamRangeReply, ReplyError>,
-        /// How many bytes the reply has.
+        /// The length of the reply in bytes.
         len: usize,
     },
     /// The bytes end before the reply does.
     Incomplete,
 }
 
-/// What reading the streams of a reply comes to.
+/// The result of reading the streams of a reply.
 #[derive(Debug, Drop)]
 pub enum ReadOutcome<'a> {
-    /// The reply has the shape that servers send: its streams where they stand.
+    /// The reply has the shape that servers send: its streams, in place.
     InPlace(ReadRef<'a>),
-    /// The reply has another shape: its record, why it has none, or the server's error.
+    /// The reply has another shape: its record, why it was refused, or the server's error.
     Copied {
         reply: Result<StreamReadReply, ReplyError>,
-        /// How many bytes the reply has.
+        /// The length of the reply in bytes.
         len: usize,
     },
     /// The bytes end before the reply does.
     Incomplete,
 }
 
-/// Reads the reply of XRANGE, XREVRANGE or XCLAIM at the head of bytes, whatever its shape: where it
-/// stands if it has the shape that servers send, and else by the copying path. An Err is that of
-/// `decode`: out of memory, or the first fault of bytes that are no reply.
+/// Reads the reply of XRANGE, XREVRANGE or XCLAIM of any shape at the start of the bytes. It is read in
+/// place if it has the shape that servers send, and else by the copying path. The errors are those of
+/// `decode`: out of memory, or the first fault of bytes that are not a reply.
 pub fn read_any_range<'a>(
     alloc: Global,
     tape: &'a mut EntryTape,
@@ -79,8 +79,8 @@ fn copied_range<'a>(
     }
 }
 
-/// Reads the reply of XREAD or XREADGROUP at the head of bytes, whatever its shape, as
-/// `read_any_range` does: its rows in the standard form or in the claim form.
+/// Reads the reply of XREAD or XREADGROUP of any shape at the start of the bytes, as
+/// `read_any_range` does. Its rows have the standard form or the claim form.
 pub fn read_any_streams<'a>(
     alloc: Global,
     tape: &'a mut EntryTape,

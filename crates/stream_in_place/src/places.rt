@@ -1,11 +1,11 @@
-//! Where entries stand in the bytes of a reply, as plain numbers, and room for such places.
+//! The places of entries in the bytes of a reply, as plain numbers, and tables of such places.
 ghost use Rattle.std.specs.Prelude.{◌≡◌, ◌∷◌, ◌++◌, [], suc, IfOk, IsOk, Option, length};
 ghost use Rattle.stream_in_place.specs.Held.{Held, none_held};
 ghost use Rattle.stream_in_place.specs.Lent.{Lent, StreamsFit, EntriesFit, FieldsFit};
 
 use redis_wire::place::Span;
 
-/// Where a field stands.
+/// The place of a field.
 #[repr(C)]
 #[derive(Clone, Copy, Debug, PartialEq, Eq)]
 pub struct FieldPlace {
@@ -15,80 +15,80 @@ pub struct FieldPlace {
     pub value: Span,
 }
 
-/// Where an entry stands, and which of the fields are its own.
+/// The place of an entry, and the range of its fields.
 #[repr(C)]
 #[derive(Clone, Copy, Debug, PartialEq, Eq)]
 pub struct EntryPlace {
     /// The id.
     pub id: Span,
-    /// How many fields stand before its own.
+    /// The index of its first field among all fields.
     pub from: usize,
-    /// How many fields there are with its own.
+    /// The index after its last field.
     pub to: usize,
-    /// Whether nil stands in place of the fields, as servers send it of an entry that was deleted.
+    /// Whether the reply has nil in place of the fields, as servers send for an entry that was deleted.
     pub deleted: bool,
-    /// Whether the reply says when and how often the entry was delivered.
+    /// Whether the reply has the time and the count of deliveries.
     pub delivered: bool,
-    /// How many milliseconds ago it was last delivered, where the reply says so, and else 0.
+    /// The milliseconds since it was last delivered, or 0 if the reply does not have them.
     pub elapsed: u64,
-    /// How often it was delivered, where the reply says so, and else 0.
+    /// The number of times it was delivered, or 0 if the reply does not have it.
     pub count: u64,
 }
 
-/// Where a stream stands, and which of the entries are its own.
+/// The place of a stream, and the range of its entries.
 #[repr(C)]
 #[derive(Clone, Copy, Debug, PartialEq, Eq)]
 pub struct StreamPlace {
     /// The name.
     pub name: Span,
-    /// How many entries stand before its own.
+    /// The index of its first entry among all entries.
     pub from: usize,
-    /// How many entries there are with its own.
+    /// The index after its last entry.
     pub to: usize,
 }
 
-/// Where the reply of XAUTOCLAIM stands: its next id, and how many of the entries were claimed. The
-/// entries behind those are the deleted ids, of which only `id` says something.
+/// The place of a reply of XAUTOCLAIM: its next id, and the number of entries that were claimed. The
+/// entries after those are the deleted ids, of which only `id` has a meaning.
 #[repr(C)]
 #[derive(Clone, Copy, Debug, PartialEq, Eq)]
 pub struct AutoClaimPlace {
-    /// The id from which the next XAUTOCLAIM goes on.
+    /// The id from which the next XAUTOCLAIM continues.
     pub next: Span,
-    /// How many of the entries were claimed.
+    /// The number of entries that were claimed.
     pub claimed: usize,
-    /// How many bytes the reply has.
+    /// The length of the reply in bytes.
     pub len: usize,
 }
 
-/// Room for the places of what is found in a reply: tables that grow, or slices of the caller.
+/// Tables for the places that are found in a reply: they grow, or are slices of the caller.
 pub trait Places {
-    /// Why a place is not held.
+    /// Why a place was not added.
     type Refusal: Drop;
 
-    /// The places that are held, in order.
+    /// The places in the tables, in order.
     ghost held: { Self → Held };
 
-    /// The slices of the caller that are filled, where there are any.
+    /// The slices of the caller that are filled, if there are any.
     ghost lent: { Self → Option Lent };
 
-    /// Forgets all places.
+    /// Removes all places.
     fn clear(&mut self)
         ensures holds { held self.new ≡ none_held }
         ensures kept { lent self.new ≡ lent self.old };
 
-    /// How many streams are held.
+    /// Returns the number of streams.
     fn count_streams(&self) -> usize
         ensures { result ≡ length (held self.now).streams };
 
-    /// How many entries are held.
+    /// Returns the number of entries.
     fn count_entries(&self) -> usize
         ensures { result ≡ length (held self.now).entries };
 
-    /// How many fields are held.
+    /// Returns the number of fields.
     fn count_fields(&self) -> usize
         ensures { result ≡ length (held self.now).fields };
 
-    /// Holds one more field.
+    /// Appends a field.
     fn push_field(&mut self, place: FieldPlace) -> Result<(), Self::Refusal>
         ensures holds { IfOk result (λ _. held self.new ≡ record (held self.old) {
           fields = (held self.old).fields ++ place ∷ [];
@@ -96,7 +96,7 @@ pub trait Places {
         ensures kept { lent self.new ≡ lent self.old }
         ensures fits { FieldsFit (lent self.old) (suc (length (held self.old).fields)) → IsOk result };
 
-    /// Holds one more entry.
+    /// Appends an entry.
     fn push_entry(&mut self, place: EntryPlace) -> Result<(), Self::Refusal>
         ensures holds { IfOk result (λ _. held self.new ≡ record (held self.old) {
           entries = (held self.old).entries ++ place ∷ [];
@@ -104,7 +104,7 @@ pub trait Places {
         ensures kept { lent self.new ≡ lent self.old }
         ensures fits { EntriesFit (lent self.old) (suc (length (held self.old).entries)) → IsOk result };
 
-    /// Holds one more stream.
+    /// Appends a stream.
     fn push_stream(&mut self, place: StreamPlace) -> Result<(), Self::Refusal>
         ensures holds { IfOk result (λ _. held self.new ≡ record (held self.old) {
           streams = (held self.old).streams ++ place ∷ [];

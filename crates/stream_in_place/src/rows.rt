@@ -1,4 +1,4 @@
-//! Finds where rows stand: entries with their fields.
+//! Finds the places of rows: entries with their fields.
 ghost use Rattle.std.specs.Prelude.{◌≡◌, ◌≤◌, ◌+◌, ◌++◌, ℕ, Bool, List, Option, IfOk, IfSome, IsOk, IsSomeAnd, IsTrue};
 ghost use Rattle.std.specs.Prelude.{drop, flat_map, length, true};
 ghost use Rattle.std.specs.List.{AllByRecursion};
@@ -17,7 +17,7 @@ use crate::short::{bulk_at, count_at};
 use redis_wire::Limits;
 use redis_wire::place::{Span, int_at, nil_at};
 
-/// The text that stands there.
+/// The text at that place.
 #[inline(always)]
 pub fn text_in(bytes: &[u8], span: Span) -> &[u8]
     requires { IsSpan bytes.now span }
@@ -26,7 +26,7 @@ pub fn text_in(bytes: &[u8], span: Span) -> &[u8]
     &bytes[span.start..span.start + span.len]
 }
 
-/// Whether bytes are UTF-8.
+/// Whether the bytes are UTF-8.
 pub fn is_text(bytes: &[u8]) -> bool
     ensures { result ≡ is_utf8 bytes.now }
 {
@@ -39,7 +39,7 @@ pub fn is_text(bytes: &[u8]) -> bool
     }
 }
 
-/// The UTF-8 text of the bulk string behind `at` bytes, and how many bytes end with it.
+/// Returns the UTF-8 text of the bulk string at offset `at`, and the offset of its end.
 pub fn name_at(limits: Limits, bytes: &[u8], at: usize) -> Option<(Span, usize)>
     requires { at ≤ length bytes.now }
     ensures is { IfSome result (λ x. IsTextAt limits bytes.now at x.0 x.1) }
@@ -56,8 +56,8 @@ pub fn name_at(limits: Limits, bytes: &[u8], at: usize) -> Option<(Span, usize)>
     }
 }
 
-/// Holds so many fields from `at` on, and returns how many bytes end with them, where they are names
-/// and values in bulk strings.
+/// Adds the `count` fields at `at`, and returns the offset of their end. `None` unless they are names and
+/// values in bulk strings.
 fn add_fields<P: Places>(
     limits: Limits,
     bytes: &[u8],
@@ -90,8 +90,8 @@ fn add_fields<P: Places>(
     Ok(Some(behind))
 }
 
-/// Holds the fields of an entry from `at` on, and returns whether nil stands there, as it does where
-/// the entry was deleted, and how many bytes end with them.
+/// Adds the fields of the entry at `at`. Returns whether nil is in their place, as it is if the entry
+/// was deleted, and the offset of their end.
 fn add_own_fields<P: Places>(
     limits: Limits,
     bytes: &[u8],
@@ -127,7 +127,7 @@ fn add_own_fields<P: Places>(
     }
 }
 
-/// When and how often the entry was delivered, where the form says so, and how many bytes end with it.
+/// When the entry was last delivered, and how many times, if the form has it, and the offset of the end.
 fn delivery_at(limits: Limits, bytes: &[u8], at: usize, form: Form) -> Option<(u64, u64, usize)>
     requires { at ≤ length bytes.now }
     ensures is { IfSome result (λ x. IsDeliveryAt limits bytes.now at (is_claim form) x.0 x.1 x.2) }
@@ -143,14 +143,14 @@ fn delivery_at(limits: Limits, bytes: &[u8], at: usize, form: Form) -> Option<(u
     Some((elapsed, count, after))
 }
 
-/// How many values a row has: an id and fields, and in the claim form a time and a count.
+/// The number of values of a row: an id and fields, and in the claim form a time and a count.
 fn row_len(form: Form) -> u32
     ensures { result ≡ row_count (is_claim form) }
 {
     if form.tells_delivery() { 4 } else { 2 }
 }
 
-/// Holds the fields of the entry from `at` on, and returns the entry and how many bytes end with it.
+/// Adds the fields of the entry at `at`, and returns the entry and the offset of its end.
 fn add_entry<P: Places>(
     limits: Limits,
     bytes: &[u8],
@@ -201,7 +201,7 @@ fn add_entry<P: Places>(
     Ok(Some((entry, after)))
 }
 
-/// Holds so many entries from `at` on, with their fields, and returns how many bytes end with them.
+/// Adds the `count` entries at `at`, with their fields, and returns the offset of their end.
 pub fn add_entries<P: Places>(
     limits: Limits,
     bytes: &[u8],

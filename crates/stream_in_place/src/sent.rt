@@ -1,4 +1,4 @@
-//! Entries of decoded replies, with their fields in order, repeated ones too, each name and each value any bytes.
+//! Entries of decoded replies, with their fields in order, also repeated ones. Names and values are any bytes.
 ghost use Rattle.std.specs.Prelude.{◌≡◌, IfOk, IfErr, List, None, Option, Some, map, option_map, string_bytes, ℕ};
 ghost use Rattle.std.specs.Option.{is_some};
 ghost use Rattle.redis_resp.specs.Bytes.{bytes_reading};
@@ -20,7 +20,7 @@ use redis_resp::{
 };
 use std::alloc::Global;
 
-/// Bytes: those of a bulk string, whatever they are, or else the text of the value; `NotText` for a value that
+/// Bytes: those of any bulk string, or else the text of the value. `NotText` for a value that
 /// has no text.
 #[derive(Debug, Drop)]
 pub struct Octets(pub Vec<u8>);
@@ -66,8 +66,8 @@ impl FromRedisValue for Octets {
     }
 }
 
-/// Names and values, in order and with repeated ones: the pairs of a `Map`, or of an `Array` of even length two
-/// by two; `NotPairs` for any other kind or an odd length.
+/// Names and values, in order and with repeated ones. They are the pairs of a `Map`, or of an `Array` of even
+/// length. `NotPairs` for any other kind or an odd length.
 #[derive(Debug, Drop)]
 pub struct OctetPairs(pub Vec<(Octets, Octets)>);
 
@@ -138,20 +138,20 @@ impl FromRedisValue for OctetPairs {
 pub struct SentRow {
     /// The id.
     pub id: String,
-    /// The fields, in order and with repeated ones; None where nil stands for them.
+    /// The fields, in order and with repeated ones. `None` if the reply has nil in their place.
     pub fields: Option<OctetPairs>,
-    /// When and how often it was delivered, where the reply says so.
+    /// When it was last delivered, and how many times, if the reply has it.
     pub delivery: Option<Delivery>,
 }
 
-/// Whether the value is an array of four.
+/// Whether the value is an array of four elements.
 fn has_four(v: &Value) -> bool
     ensures { result ≡ is_some (four_in (tree v.now)) }
 {
     into_four(v).is_some()
 }
 
-/// Reads a row: an array of an id and fields, behind which the two numbers of a delivery may stand.
+/// Reads a row: an array of an id and fields, optionally followed by the two numbers of a delivery.
 fn read_row<S: Source>(alloc: Global, v: S) -> Result<SentRow, ParsingError>
     ensures ok { IfOk result (λ r. sent_row_reading (S.seen v) ≡ Some (sent_of r)) }
     ensures err { IfErr result (Refuses sent_row_reading RefusesSentRow (S.seen v)) }
@@ -190,18 +190,18 @@ impl FromRedisValue for SentRow {
     }
 }
 
-/// What XAUTOCLAIM answers, decoded, with its entries as the server sent them.
+/// The decoded reply of XAUTOCLAIM, with its entries as the server sent them.
 #[derive(Debug, Drop)]
 pub struct SentClaim {
-    /// The id from which the next XAUTOCLAIM goes on; `0-0` where all pending entries were seen.
+    /// The id from which the next XAUTOCLAIM continues; `0-0` once all pending entries were scanned.
     pub next: String,
-    /// The entries that were claimed, in order, without those that nil stands for.
+    /// The entries that were claimed, in order, without those that are nil.
     pub claimed: Vec<SentRow>,
     /// The ids of entries that were pending and are no longer in the stream.
     pub deleted: Vec<String>,
 }
 
-/// The rows that are there, in order.
+/// The rows that are not `None`, in order.
 fn rows_there(alloc: Global, rows: Vec<Option<SentRow>>) -> Result<Vec<SentRow>, ParsingError>
     ensures ok { IfOk result (λ r. map sent_of r.items ≡ there (map (option_map sent_of) rows.items)) }
     ensures err { IfErr result (λ e. e ≡ ParsingError.Memory) }
@@ -215,14 +215,14 @@ fn rows_there(alloc: Global, rows: Vec<Option<SentRow>>) -> Result<Vec<SentRow>,
     Ok(found)
 }
 
-/// Whether the value is an array of two.
+/// Whether the value is an array of two elements.
 fn has_two(v: &Value) -> bool
     ensures { result ≡ is_some (two_in (tree v.now)) }
 {
     into_two(v).is_some()
 }
 
-/// Reads what XAUTOCLAIM answers.
+/// Reads the reply of XAUTOCLAIM.
 fn read_claim<S: Source>(alloc: Global, v: S) -> Result<SentClaim, ParsingError>
     ensures ok { IfOk result (λ r. sent_autoclaim_reading (S.seen v) ≡ Some (claim_of r)) }
     ensures err { IfErr result (Refuses sent_autoclaim_reading RefusesSentAutoClaim (S.seen v)) }

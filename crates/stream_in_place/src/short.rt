@@ -1,4 +1,4 @@
-//! Short bulk strings and short heads of arrays, as most are, found in few steps.
+//! Finds short bulk strings and short array headers, the usual case, in few steps.
 ghost use Rattle.std.specs.Prelude.{◌≡◌, ◌≤◌, ◌+◌, ◌∷◌, ℕ, List, IfSome, IsSomeAnd, Some, drop, length, true};
 ghost use Rattle.redis_wire.specs.Place.{text_in, IsHeadAt, IsTextAt, IsArrayAt, BeginsWithHead, BeginsWithText};
 ghost use Rattle.redis_wire.specs.Place.{BeginsWithArray, EndsBefore};
@@ -6,7 +6,7 @@ ghost use Rattle.redis_wire.specs.Place.{BeginsWithArray, EndsBefore};
 use redis_wire::Limits;
 use redis_wire::place::{Span, array_at, text_at};
 
-/// Whether the bytes are CR and LF, asked at once.
+/// Whether the bytes are CR and LF, in one comparison.
 #[inline(always)]
 fn is_crlf(first: u8, second: u8) -> bool
     ensures { result ≡ true → (first ≡ 13) × (second ≡ 10) }
@@ -14,7 +14,7 @@ fn is_crlf(first: u8, second: u8) -> bool
     first as u32 + 256 * second as u32 == 2573
 }
 
-/// Whether CR LF stands at the head of the bytes.
+/// Whether the bytes start with CR LF.
 #[inline(always)]
 fn begins_with_crlf(bytes: &[u8]) -> bool
     ensures { result ≡ true → bytes.now ≡ 13 ∷ 10 ∷ drop 2 bytes.now }
@@ -25,7 +25,7 @@ fn begins_with_crlf(bytes: &[u8]) -> bool
     }
 }
 
-/// The length behind the first byte of a value, if it is one digit.
+/// The length after the first byte of a value, if it is one digit.
 #[inline(always)]
 fn one_digit_at(limits: Limits, bytes: &[u8], first: u8) -> Option<u32>
     requires length { 99 ≤ limits.length }
@@ -44,7 +44,7 @@ fn one_digit_at(limits: Limits, bytes: &[u8], first: u8) -> Option<u32>
     }
 }
 
-/// The length behind the first byte of a value, if it is two digits.
+/// The length after the first byte of a value, if it is two digits.
 #[inline(always)]
 fn two_digits_at(limits: Limits, bytes: &[u8], first: u8) -> Option<u32>
     requires length { 99 ≤ limits.length }
@@ -63,8 +63,8 @@ fn two_digits_at(limits: Limits, bytes: &[u8], first: u8) -> Option<u32>
     }
 }
 
-/// The text of so many bytes from `start` on, whose head stands behind `at` bytes, and how many bytes
-/// end with its CR LF.
+/// Returns the text of `len` bytes at `start`, whose header is at offset `at`, and the offset after its
+/// CR LF.
 #[inline(always)]
 fn text_from(
     limits: Limits,
@@ -86,8 +86,8 @@ fn text_from(
     Some((Span { start, len }, start + len + 2))
 }
 
-/// The text of the bulk string behind `at` bytes, and how many bytes end with it, if its length has one
-/// digit or two and 106 bytes are left. The longest such string has so many, so no end is looked for.
+/// Returns the text of the bulk string at offset `at`, and the offset of its end, if its length has one or
+/// two digits and 106 bytes are left. The longest such string has 106 bytes, so its end is never missing.
 #[inline(always)]
 fn short_text_at(limits: Limits, bytes: &[u8], at: usize) -> Option<(Span, usize)>
     requires { at ≤ length bytes.now }
@@ -108,7 +108,7 @@ fn short_text_at(limits: Limits, bytes: &[u8], at: usize) -> Option<(Span, usize
     }
 }
 
-/// The text of the bulk string behind `at` bytes, whatever its length is, and how many bytes end with it.
+/// Returns the text of the bulk string of any length at offset `at`, and the offset of its end.
 #[inline(never)]
 fn any_text_at(limits: Limits, bytes: &[u8], at: usize) -> Option<(Span, usize)>
     requires { at ≤ length bytes.now }
@@ -119,8 +119,8 @@ fn any_text_at(limits: Limits, bytes: &[u8], at: usize) -> Option<(Span, usize)>
     text_at(limits, bytes, at)
 }
 
-/// The text of the bulk string behind `at` bytes, and how many bytes end with it, as `text_at` finds
-/// them. The parts of a span are named, so that they stay in registers.
+/// Returns the text of the bulk string at offset `at`, and the offset of its end, as `text_at` does.
+/// The parts of a span are named, so that they stay in registers.
 #[inline(always)]
 pub fn bulk_at(limits: Limits, bytes: &[u8], at: usize) -> Option<(Span, usize)>
     requires { at ≤ length bytes.now }
@@ -135,8 +135,8 @@ pub fn bulk_at(limits: Limits, bytes: &[u8], at: usize) -> Option<(Span, usize)>
     Some((Span { start, len }, after))
 }
 
-/// How many members the array has whose head stands behind `at` bytes, and how many bytes end with
-/// the head, if the count is one digit and 106 bytes are left.
+/// Returns the number of elements of the array at offset `at`, and the offset of the end of its header,
+/// if the count is one digit and 106 bytes are left.
 #[inline(always)]
 fn short_count_at(limits: Limits, bytes: &[u8], at: usize) -> Option<(u32, usize)>
     requires { at ≤ length bytes.now }
@@ -154,8 +154,8 @@ fn short_count_at(limits: Limits, bytes: &[u8], at: usize) -> Option<(u32, usize
     }
 }
 
-/// How many members the array has whose head stands behind `at` bytes, and how many bytes end with
-/// the head, as `array_at` finds them.
+/// Returns the number of elements of the array at offset `at`, and the offset of the end of its header,
+/// as `array_at` does.
 #[inline(always)]
 pub fn count_at(limits: Limits, bytes: &[u8], at: usize) -> Option<(u32, usize)>
     requires { at ≤ length bytes.now }

@@ -1,4 +1,4 @@
-//! Streams with their entries, where they stand.
+//! Streams with their entries, read in place.
 ghost use Rattle.std.specs.Prelude.{◌≡◌, ◌∷◌, [], length, map, nat_eq, IfErr, IfOk, MatchOption, OnOk};
 ghost use Rattle.std.specs.List.{AllByRecursion};
 ghost use Rattle.stream_entries.specs.ReadMeaning.{stream_key_meaning, streams_of};
@@ -16,7 +16,7 @@ use std::iter::ExactSizeIterator;
 use std::marker::Model;
 use stream_entries::{StreamKey, StreamReadReply};
 
-/// A stream, where it stands.
+/// A stream, read in place.
 #[derive(Debug, Drop)]
 pub struct StreamRef<'a> {
     name: &'a str,
@@ -32,14 +32,14 @@ impl<'a> Model for StreamRef<'a> {
 }
 
 impl<'a> StreamRef<'a> {
-    /// The name: the key under which the stream is stored.
+    /// Returns the name: the key under which the stream is stored.
     pub fn name(&self) -> &'a str
         ensures { result.now ≡ self.now.name }
     {
         self.name
     }
 
-    /// The entries, in order.
+    /// Returns the entries, in order.
     pub fn entries(&self) -> EntriesRef<'a>
         ensures { result ≡ self.now.entries }
     {
@@ -48,7 +48,7 @@ impl<'a> StreamRef<'a> {
 }
 
 impl<'a> StreamRef<'a> {
-    /// The stream as a record has it. `NotText` if a name of a field is no UTF-8.
+    /// Copies the stream into a record. `NotText` if the name of a field is not UTF-8.
     pub fn to_owned(&self, alloc: Global) -> Result<StreamKey, ParsingError>
         ensures ok { IfOk result (λ k. stream_key_meaning k ≡ copied_stream self.now) }
         ensures named { OnOk result (AreNamed self.now.entries) }
@@ -86,7 +86,7 @@ impl<'a> Model for StreamsRef<'a> {
 }
 
 impl<'a> StreamsRef<'a> {
-    /// How many streams are left.
+    /// Returns the number of streams that are left.
     pub fn len(&self) -> usize
         ensures { result ≡ length self.now }
     {
@@ -100,7 +100,7 @@ impl<'a> StreamsRef<'a> {
         self.places.is_empty()
     }
 
-    /// The streams once more, from the first one that is left.
+    /// Returns an iterator over the streams that are left, from the first of them.
     pub fn again(&self) -> StreamsRef<'a>
         ensures { result ≡ self.now }
     {
@@ -112,7 +112,7 @@ impl<'a> StreamsRef<'a> {
         }
     }
 
-    /// The streams that are left, as records. `NotText` if a name of a field is no UTF-8.
+    /// Copies the streams that are left into records. `NotText` if the name of a field is not UTF-8.
     pub fn to_owned(&self, alloc: Global) -> Result<Vec<StreamKey>, ParsingError>
         ensures ok { IfOk result (λ keys. streams_of keys ≡ copied_streams self.now) }
         ensures named { OnOk result (AreAllNamed self.now) }
@@ -136,7 +136,7 @@ impl<'a> StreamsRef<'a> {
     }
 }
 
-/// The stream that stands there.
+/// The stream at that place.
 fn stream_at<'a>(
     bytes: &'a [u8],
     place: StreamPlace,
@@ -180,7 +180,7 @@ impl<'a> fmt::Debug for StreamsRef<'a> {
     }
 }
 
-/// The streams that stand there.
+/// The streams at those places.
 pub fn streams_at<'a>(
     bytes: &'a [u8],
     places: &'a [StreamPlace],
@@ -200,18 +200,18 @@ pub fn streams_at<'a>(
     }
 }
 
-/// The streams of a read, where they stand, and how many bytes the reply has.
+/// The streams of a read, in place, and the length of the reply in bytes.
 #[derive(Debug, Drop)]
 pub struct ReadRef<'a> {
     /// The streams, in order.
     pub streams: StreamsRef<'a>,
-    /// How many bytes the reply has.
+    /// The length of the reply in bytes.
     pub len: usize,
 }
 
 impl<'a> ReadRef<'a> {
-    /// The record of the copying path, where all streams are left. `NotText` if a name of a field is no
-    /// UTF-8.
+    /// Copies the streams that are left. While all are left, it is the record of the copying path. `NotText` if
+    /// the name of a field is not UTF-8.
     pub fn to_owned(&self, alloc: Global) -> Result<StreamReadReply, ParsingError>
         ensures ok { IfOk result (λ r. streams_of r.keys ≡ copied_streams self.now.streams) }
         ensures named { OnOk result (AreAllNamed self.now.streams) }

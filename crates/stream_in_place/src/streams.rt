@@ -1,4 +1,4 @@
-//! Finds where streams stand, with their entries.
+//! Finds the places of streams, with their entries.
 ghost use Rattle.std.specs.Prelude.{◌≡◌, ◌≤◌, ◌+◌, ◌++◌, ℕ, List, IfOk, IfSome, IsOk, IsSomeAnd, drop, flat_map};
 ghost use Rattle.std.specs.Prelude.{length};
 ghost use Rattle.stream_in_place.specs.Counted.{HoldSoMany};
@@ -17,8 +17,8 @@ use crate::rows::{add_entries, name_at};
 use redis_wire::Limits;
 use redis_wire::place::array_at;
 
-/// How many bytes end with the head of a stream: none in a map, and in an array that of the array of
-/// its name and its rows.
+/// Returns the offset after what precedes the name of a stream. In a map that is nothing. In an array it
+/// is the header of the array of the name and the rows.
 fn head_end(limits: Limits, bytes: &[u8], at: usize, spelling: Spelling) -> Option<usize>
     requires { at ≤ length bytes.now }
     ensures is { IfSome result (λ behind. IsStreamHead limits bytes.now at (is_map spelling) behind) }
@@ -34,7 +34,7 @@ fn head_end(limits: Limits, bytes: &[u8], at: usize, spelling: Spelling) -> Opti
     }
 }
 
-/// Holds the entries of the stream from `at` on, and returns the stream and how many bytes end with it.
+/// Adds the entries of the stream at `at`, and returns the stream and the offset of its end.
 fn add_stream<P: Places>(
     limits: Limits,
     bytes: &[u8],
@@ -78,8 +78,8 @@ fn add_stream<P: Places>(
     Ok(Some((StreamPlace { name, from, to }, after)))
 }
 
-/// Holds so many streams from `at` on, with their entries and fields, where nothing is held, and
-/// returns how many bytes end with them.
+/// Adds the `count` streams at `at`, with their entries and fields, to empty tables. Returns
+/// the offset of their end.
 pub fn add_streams<P: Places>(
     limits: Limits,
     bytes: &[u8],

@@ -4,13 +4,13 @@ ghost use Rattle.stream_in_place.specs.Held.{none_held};
 
 use crate::places::{EntryPlace, FieldPlace, Places, StreamPlace};
 
-/// A table of fixed length has no room for one more place.
+/// A table of fixed length is full.
 #[derive(Clone, Copy, Debug, PartialEq, Eq)]
 pub struct Full;
 
-/// Places in slices of the caller, for who has no allocator. What stands behind the counts is not
-/// read. Each slice has a lifetime of its own, so that a caller can say of each what it holds in the
-/// end.
+/// Tables of places in slices of the caller, for use without an allocator. Elements after the counts are
+/// not read. Each slice has a lifetime of its own, so that a caller can state what each of them
+/// holds in the end.
 #[derive(Drop)]
 pub struct EntryTables<'s, 'e, 'f> {
     streams: &'s mut [StreamPlace],
@@ -22,7 +22,7 @@ pub struct EntryTables<'s, 'e, 'f> {
 }
 
 impl<'s, 'e, 'f> EntryTables<'s, 'e, 'f> {
-    /// Tables that hold nothing yet.
+    /// Creates empty tables.
     pub fn new(
         streams: &'s mut [StreamPlace],
         entries: &'e mut [EntryPlace],

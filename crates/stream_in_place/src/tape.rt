@@ -1,4 +1,4 @@
-//! The tables of places of a reply.
+//! Growing tables of the places in a reply.
 ghost use Rattle.std.specs.Prelude.{◌≡◌, ℕ, Bool, true, false, List, IfOk, IfSome, IsSomeAnd};
 ghost use Rattle.stream_in_place.specs.Held.{none_held};
 ghost use Rattle.stream_in_place.specs.Range.{IsRange, IsRead};
@@ -22,8 +22,8 @@ use redis_wire::Limits;
 use redis_wire::place::array_at;
 use std::alloc::{AllocError, Global};
 
-/// Where the entries of a reply stand: three tables of plain numbers. They keep their room for the next
-/// reply, so that replies no larger than those before ask for no memory.
+/// The places of the entries of a reply: three tables of plain numbers. They keep their memory for the next
+/// reply, so replies no larger than earlier ones allocate nothing.
 #[derive(Debug, Drop)]
 pub struct EntryTape {
     streams: Vec<StreamPlace>,
@@ -32,7 +32,7 @@ pub struct EntryTape {
 }
 
 impl EntryTape {
-    /// Tables with no room yet.
+    /// Creates empty tables. They have no memory yet.
     pub fn new(alloc: Global) -> EntryTape
         ensures { ⟦<EntryTape as Places>⟧.held result ≡ none_held }
     {
@@ -43,30 +43,30 @@ impl EntryTape {
         }
     }
 
-    /// Where the streams stand that were found last.
+    /// Returns the places of the streams that were found last.
     pub fn stream_places(&self) -> &[StreamPlace]
         ensures { result.now ≡ (⟦<EntryTape as Places>⟧.held self.now).streams }
     {
         &self.streams
     }
 
-    /// Where the entries stand, of all streams.
+    /// Returns the places of the entries of all streams.
     pub fn entry_places(&self) -> &[EntryPlace]
         ensures { result.now ≡ (⟦<EntryTape as Places>⟧.held self.now).entries }
     {
         &self.entries
     }
 
-    /// Where the fields stand, of all entries.
+    /// Returns the places of the fields of all entries.
     pub fn field_places(&self) -> &[FieldPlace]
         ensures { result.now ≡ (⟦<EntryTape as Places>⟧.held self.now).fields }
     {
         &self.fields
     }
 
-    /// Reads the entries of the reply at the head of bytes where they stand, where it has the shape in
-    /// which servers answer XRANGE, XREVRANGE and XCLAIM: an array of rows, each of an id and an array
-    /// of names and values, or nil for the fields of an entry that was deleted. No value is made, so
+    /// Reads the entries of the reply at the start of the bytes in place. `None` unless it has the shape that
+    /// servers send for XRANGE, XREVRANGE and XCLAIM. That is an array of rows, each of an id and an array of
+    /// names and values, or nil for the fields of an entry that was deleted. No value is made, so
     /// `Limits::values` bounds nothing here.
     pub fn read_range<'a>(
         &'a mut self,
@@ -93,9 +93,9 @@ impl EntryTape {
         }
     }
 
-    /// Reads the streams of the reply at the head of bytes where they stand, where it has the shape in
-    /// which servers answer XREAD and XREADGROUP: an array of streams, each of its name and its rows, in
-    /// RESP3 a map of names to rows, or nil. No value is made, so `Limits::values` bounds nothing here.
+    /// Reads the streams of the reply at the start of the bytes in place. `None` unless it has the shape that
+    /// servers send for XREAD and XREADGROUP: an array of streams, each of its name and its rows, in RESP3 a
+    /// map of names to rows, or nil. No value is made, so `Limits::values` bounds nothing here.
     pub fn read_streams<'a>(
         &'a mut self,
         bytes: &'a [u8],
@@ -117,9 +117,9 @@ impl EntryTape {
         }
     }
 
-    /// Reads the streams of the reply at the head of bytes where they stand, as `read_streams` does, where
-    /// each row has the claim form: behind its fields the milliseconds since the entry was delivered,
-    /// and how often it was. So servers answer XREADGROUP with CLAIM.
+    /// Reads the streams of the reply at the start of the bytes in place, as `read_streams` does, if each row
+    /// has the claim form. After the fields such a row has the milliseconds since the last delivery, and the
+    /// delivery count. Servers send this form for XREADGROUP with `CLAIM`.
     pub fn read_claimed_streams<'a>(
         &'a mut self,
         bytes: &'a [u8],
@@ -141,8 +141,8 @@ impl EntryTape {
         }
     }
 
-    /// Reads the streams of the reply at the head of bytes where they stand, in the standard form or else
-    /// in the claim form.
+    /// Reads the streams of the reply at the start of the bytes in place, in the standard form or else in
+    /// the claim form.
     pub fn read_either_form<'a>(
         &'a mut self,
         bytes: &'a [u8],
@@ -165,9 +165,9 @@ impl EntryTape {
         }
     }
 
-    /// Reads the reply of XAUTOCLAIM at the head of bytes where it stands, where it has the shape in
-    /// which servers send it: an array of the next id, the rows of the entries that were claimed and,
-    /// from 7.0 on, the deleted ids.
+    /// Reads the reply of XAUTOCLAIM at the start of the bytes in place. `None` unless it has the shape that
+    /// servers send: an array of the next id, the rows of the entries that were claimed and, from 7.0 on,
+    /// the deleted ids.
     pub fn read_autoclaim<'a>(
         &'a mut self,
         bytes: &'a [u8],
@@ -188,8 +188,8 @@ impl EntryTape {
         }
     }
 
-    /// Reads the reply of XAUTOCLAIM where it was asked for ids alone, as `read_autoclaim` does: an
-    /// array of the next id, the ids that were claimed and, from 7.0 on, the deleted ids.
+    /// Reads the reply of XAUTOCLAIM with `JUSTID`, as `read_autoclaim` does: an array of the next id, the
+    /// ids that were claimed and, from 7.0 on, the deleted ids.
     pub fn read_justid<'a>(
         &'a mut self,
         bytes: &'a [u8],
