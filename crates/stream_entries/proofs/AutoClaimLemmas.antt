@@ -76,7 +76,7 @@ module _ (t : Tree) (parts : Parts) (there : parts_in t ≡ Some parts) where
       (record { next = next; claimed = claimed; deleted = deleted; invalid = invalid })
   autoclaim_read claimed deleted next invalid c d n = by_parts ∙ rw (c, d, n) refl
 
-  -- a reply whose parts are there is refused with what one of them is refused with
+  -- if the parts of a reply are there, its error is that of one of them
   module _ (error : ParsingError) where
     told : RefusesPart parts error → RefusesAutoClaim t error
     told p = in_parts (array_of_plain t) there

@@ -32,7 +32,7 @@ pub contains_field : {S : Type 0} (m : HashMap (String Global) Value S) (q : Lis
     → contains_key (fields_of m) q ≡ is_some (get_by_text m q)
 contains_field m q = ap is_some (get_field m q) ∙ some_mapped tree (get_by_text m q)
 
--- a key that is none of the list's has no field
+-- a key that is not in the list has no field
 other_keys : (k : String Global) (es : List (String Global × Value))
     → AllByRecursion (λ y. string_eq k y ≡ false) (keys_of es)
     → find (slice_cmp nat_cmp) (string_bytes k) (entries_meaning tree es) ≡ None
@@ -84,7 +84,7 @@ fields_put m n k v name t updates named valued = at_bytes ∙ ap (λ b. insert (
         (flipped (string_bytes k) q ∙ sym (is_eq-slice_cmp q (string_bytes k)))
         ∙ sym (get-insert nat_list_cmp_total (fields_of m) (string_bytes k) (tree v) q))
 
--- the fields copied so far, behind those that are left, are all the fields; no two of those left have one name
+-- the fields copied so far, after those that are left, are all the fields; no two of those left have equal names
 pub record Copied (all rest : List (String Global × Value)) (done : Fields Tree) : Type 0 where
   pub agrees : (q : List ℕ) → option_or (find by_order q (entries_meaning tree rest)) (get done q)
       ≡ find by_order q (entries_meaning tree all)

@@ -1,4 +1,4 @@
--- What is read in both forms of a read at once.
+-- Reading in both forms of a read reply at once.
 use Rattle.std.proofs.Common.{◌≡◌, ◌++◌, true, Vec, Global, List, [], ◌∷◌, Option, Some, None, option_map}
 use Rattle.std.proofs.Common.{option_and_then, append_assoc, refl, sym, ◌∙◌, ap, flat_map}
 use Rattle.std.proofs.lemmas.List.{append-nil}
@@ -25,7 +25,7 @@ in_both {A} {B} a b c d e f =
     let right : B → A × B = λ y. (b, y) in
     ap left e ∙ ap right f
 
--- One list behind another.
+-- One list after another.
 
 pub behind_none : {A : Type 0} (o : Option (List A)) → behind o None ≡ None
 behind_none None = refl
@@ -71,7 +71,7 @@ module _ {A : Type 0} (f : Tree → Option (List A)) where
       → behind done (f x) ≡ None → behind done (all_joined f rest) ≡ all_joined f all → all_joined f all ≡ None
   joined_refused all rest more x done steps is r = sym (joined_next all rest more x done None steps (sym is) r)
 
--- what was read so far in each form, before what the rest reads as, is what the whole reads as
+-- the results so far in each form, followed by the result of the rest, are the result of the whole
 module _ {A : Type 0} (f g : Tree → Option (List A)) (all : List Tree) where
   pub record FormsSoFar (rest : List Tree) (done : InForms (List A)) : Type 0 where
     pub standard : behind done.0 (all_joined f rest) ≡ all_joined f all
@@ -150,7 +150,7 @@ pub settled_listed : (form : Form) (overlaps : Vec Overlap Global)
 settled_listed Standard overlaps = refl
 settled_listed Claim overlaps = refl
 
--- An item that rules out a form, behind entries of both.
+-- An item that rules out a form, after entries of both.
 
 module _ (t : Tree) (ids standard claim : List Entry) where
   pub claim_ruled_out : ids ≡ standard → claim_entries t ≡ None
@@ -169,7 +169,7 @@ module _ (t : Tree) (ids standard claim : List Entry) where
       (sym (ap (option_map (λ es. standard ++ es)) none))
       (ap (λ (xs : List Entry). option_map (λ es. xs ++ es) (claim_entries t)) e)
 
--- the same item behind the same entries
+-- the same item after the same entries
 pub same_item : {S : Type 0} (seen : S → Tree) (held taken : Entries) (item i : Item S) → held ≡ taken → item ≡ i
     → behind_in_forms (entries_held taken) (item_in_forms (item_tree seen i))
     ≡ behind_in_forms (entries_held held) (item_in_forms (item_tree seen item))

@@ -24,7 +24,7 @@ joined_more : {A : Type 0} (done : List (List A)) (es : List A) → joined (done
 joined_more [] es = append-nil es
 joined_more (d ∷ done) es = ap (λ r. d ++ r) (joined_more done es) ∙ sym (append_assoc d (joined done) es)
 
--- what was read so far, whose entries stand there in order
+-- what was read so far; its entries are there in order
 pub record EntriesSoFar (form : Tree → Option (List Entry)) (all rest : List Tree) (entries : List Entry) : Type 0 where
   pub done : List (List Entry)
   pub read : ReadSoFar form all rest done

@@ -1,4 +1,4 @@
--- The answer of an automatic claim that asks for ids alone is read from its parts, and copied.
+-- The reply of an automatic claim with `JUSTID` is read from its parts, and copied.
 use Rattle.std.proofs.Common.{◌≡◌, inl, ℕ, List, [], ◌∷◌, length, map, Option, Some, None, option_and_then, refl, ◌∙◌}
 use Rattle.std.proofs.Common.{ap}
 use Rattle.std.specs.Prelude.{MatchOption, String, Vec, string_bytes}
@@ -25,7 +25,7 @@ module _ (t : Tree) (parts : Parts) (there : parts_in t ≡ Some parts) where
       ≡ Some (record { next = next; claimed = claimed; deleted = deleted })
   justid_read claimed deleted next c d n = by_parts ∙ rw (c, d, n) refl
 
-  -- an answer whose parts are there is refused with what one of them is refused with
+  -- if the parts of a reply are there, its error is that of one of them
   module _ (error : ParsingError) where
     told : RefusesIds parts error → RefusesJustId t error
     told p = in_parts (array_of_plain t) there

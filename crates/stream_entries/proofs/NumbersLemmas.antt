@@ -1,4 +1,4 @@
--- What the third and the fourth member of an array of four tell of the forms of a read.
+-- The forms of a read reply, by the third and the fourth element of an array of four.
 use Rattle.std.proofs.Common.{◌≡◌, ◌++◌, ℕ, List, [], ◌∷◌, Bool, true, false, true≢false, if◌then◌else◌, Option, Some}
 use Rattle.std.proofs.Common.{None, option_map, option_and_then, refl, sym, ◌∙◌, ap}
 use Rattle.std.proofs.lemmas.Option.{none-some, same_Some}
@@ -24,7 +24,7 @@ four_numbers t q is = ap (option_and_then numbers_of_four) is
 pub no_four : (t : Tree) → four_in t ≡ None → numbers_in t ≡ None
 no_four t is = ap (option_and_then numbers_of_four) is
 
--- The members of a delivery.
+-- The elements of a delivery.
 
 delivery_from : Option (List ℕ) → Option (Fields Tree) → Option (Option ℕ) → Option (Option ℕ) → Option Delivery
 delivery_from i f e d = option_and_then
@@ -75,7 +75,7 @@ no_numbers t h = by (four_in t) refl
         (option_reading (unsigned_reading 64) q.2) (option_reading (unsigned_reading 64) q.3)
         (sym (four_numbers t q is) ∙ h))
 
--- the two numbers that four have
+-- the two numbers of an array of four
 numbers_with : (t : Tree) (q : Tree × Tree × Tree × Tree) (e d : Option ℕ) → four_in t ≡ Some q
     → numbers_in t ≡ Some (e, d)
     → (option_of_plain (plain q.2) ≡ Some e) × (option_of_plain (plain q.3) ≡ Some d)
@@ -114,7 +114,7 @@ no_standard : (t : Tree) (q : Tree × Tree × Tree × Tree) → four_in t ≡ So
     → standard_entries t ≡ None
 no_standard t q is none = standard_of_four t q is ∙ none_there (standard_of q) none
 
--- where the third is nil, it is no id of a row
+-- if the third is nil, it is no id of a row
 pub nil_is_no_id : (t : Tree) (d : Option ℕ) → numbers_in t ≡ Some (None, d) → standard_entries t ≡ None
 nil_is_no_id t d h = by (four_in t) refl
   where
@@ -125,7 +125,7 @@ nil_is_no_id t d h = by (four_in t) refl
         ap text_of_plain (none_is_nil (plain q.2) (numbers_with t q None d is h).0) in
         no_standard t q is (λ s. true≢false (sym (standard_parts q s).2 ∙ ap is_some no_text))
 
--- where the fourth is a number, it is no fields of a row
+-- if the fourth is a number, it is no fields of a row
 pub number_is_no_fields : (t : Tree) (e : Option ℕ) (d : ℕ) → numbers_in t ≡ Some (e, Some d)
     → standard_entries t ≡ None
 number_is_no_fields t e d h = by (four_in t) refl
@@ -166,7 +166,7 @@ overlap_read t q o is h id fields text =
     (standard_of_four t q is ∙ standard_given q m)
     (ap (λ r. option_map (λ d. delivered_entry d ∷ []) (option_and_then delivery_of r)) is ∙ claim_given q m)
 
--- what lacks an id or fields has neither form
+-- a value without an id or fields has neither form
 pub no_id : (t : Tree) (q : Tree × Tree × Tree × Tree) → four_in t ≡ Some q → text_reading q.0 ≡ None
     → item_in_forms t ≡ (None, None)
 no_id t q is e =
@@ -183,7 +183,7 @@ no_fields t q is e =
     (no_claim t q is (without_fields (text_reading q.0) (field_reading q.1) (option_reading (unsigned_reading 64) q.2)
     (option_reading (unsigned_reading 64) q.3) e))
 
--- the text of a number is always there
+-- a number always has a text
 pub number_has_text : (t : Tree) (q : Tree × Tree × Tree × Tree) (n : ℕ) → four_in t ≡ Some q
     → numbers_in t ≡ Some (Some n, None) → text_reading q.2 ≡ None → item_in_forms t ≡ (None, None)
 number_has_text t q n is h e =
@@ -195,7 +195,7 @@ pub four_of_numbers : (t : Tree) (n : ℕ) → numbers_in t ≡ Some (Some n, No
     → item_in_forms t ≡ (None, None)
 four_of_numbers t n h e = absurd (none-some (Some n, None) (sym (no_four t e) ∙ h))
 
--- a delivery behind entries
+-- a delivery after entries
 pub delivery_behind : (t : Tree) (d : Delivery) (ids new : List Entry) → delivery_reading t ≡ Some d
     → new ≡ ids ++ delivered_entry d ∷ [] → option_map (λ es. ids ++ es) (claim_entries t) ≡ Some new
 delivery_behind t d ids new is pushed =

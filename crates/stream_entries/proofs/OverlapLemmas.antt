@@ -1,4 +1,4 @@
--- Where both forms of a read have a record.
+-- The read replies with a record in both forms.
 use Rattle.std.proofs.Common.{◌≡◌, ◌&&◌, ◌++◌, ℕ, List, [], ◌∷◌, Bool, true, false, true≢false, cond, if◌then◌else◌}
 use Rattle.std.proofs.Common.{Option, Some, None, option_map, option_and_then, refl, sym, ◌∙◌, ap, subst, map, flat_map}
 use Rattle.std.proofs.lemmas.Bool.{and_parts}
@@ -120,14 +120,14 @@ shape_of_both e h = by (four_in e) refl
           nil_only (plain q.3) (sym (fourth (plain q.3)) ∙ rw (s.3, c.1) refl),
         )
 
--- what an item of the shape holds, and what each form gives of it
+-- the parts of an item of the shape, and its entries in each form
 record Given (e : Tree) : Type 0 where
   entry : OverlapEntry
   is : overlap_entry e ≡ Some entry
   standard : standard_entries e ≡ Some (given in_standard e)
   claim : claim_entries e ≡ Some (given in_claim e)
 
--- the readings of four members, from the shape
+-- the readings of four elements, from the shape
 pub record Members (q : Tree × Tree × Tree × Tree) : Type 0 where
   pub entry : OverlapEntry
   pub is : four_entry q ≡ Some entry
@@ -249,7 +249,7 @@ both_are_shape t = (
   λ o. (ap is_some (standard_is_given t o.0 o.1), ap is_some (claim_is_given t o.0 o.1)),
 )
 
--- What holds of all lists holds of those that are kept.
+-- A property of all lists holds of those that are kept.
 module _ {A : Type 0} (P : A → Type 0) where
   value_all : (k : List ℕ) (d : A) (ps : List (List ℕ × A)) → P d → AllByRecursion (λ p. P p.1) ps
       → P (value_after k d ps)
@@ -282,7 +282,7 @@ kept_given rows h =
     all_joined (λ p. AllByRecursion Given p.1) table_of rows
     (all_more _ _ (λ row. table_all (AllByRecursion Given) row) rows by_pair)
 
--- They differ where a kept list has an entry.
+-- They differ if a kept list has an entry.
 
 same_where_none : (g h : Tree → List Entry) (ks : List (List ℕ × List Tree)) → flat_map (λ p. p.1) ks ≡ []
     → on_values (flat_map g) ks ≡ on_values (flat_map h) ks

@@ -1,4 +1,4 @@
--- What the tests say of readings.
+-- The tests of readings.
 use Rattle.std.proofs.Common.{◌≡◌, ◌&&◌, ◌||◌, ℕ, List, [], ◌∷◌, Bool, true, false, Option, Some, None, option_map}
 use Rattle.std.proofs.Common.{option_and_then, if◌then◌else◌, refl, sym, ◌∙◌, ap, map}
 use Rattle.std.specs.List.{list_all}
@@ -16,7 +16,7 @@ use Rattle.stream_entries.specs.Read.{claim_entries, claim_reading, delivery_rea
 use Rattle.stream_entries.specs.Readable.{pair_readable, table_readable, list_readable}
 use Rattle.stream_entries.specs.Rows.{entries_reading, field_reading, row_reading, standard_entries}
 
--- a reading of which a test tells whether it reads
+-- a reading with a test of whether it has a result
 module _ {M : Type 0} (f : Tree → Option M) (p : Tree → Bool) (h : (x : Tree) → is_some (f x) ≡ p x) where
   list_there : (t : Tree) → is_some (list_reading f t) ≡ list_readable p t
   list_there t = by (items t)
@@ -80,7 +80,7 @@ claim_there t = is_some_map _ (list_reading (table_reading (entries_reading clai
     ∙ list_there (table_reading (entries_reading claim_entries)) (table_readable (list_readable has_delivery))
     (table_there (entries_reading claim_entries) (list_readable has_delivery) claim_list) t
 
--- the map of one pair is fields where its key is a text
+-- the map of one pair is fields if its key is a text
 pub single_fields : (k x : Tree) → is_some (field_reading (single (k, x))) ≡ is_some (text_reading k)
 single_fields k x = is_some_map _ (table_reading (λ u. Some u) (single (k, x))) ∙ by (text_reading k)
   where
@@ -90,7 +90,7 @@ single_fields k x = is_some_map _ (table_reading (λ u. Some u) (single (k, x)))
     by None = refl
     by (Some s) = refl
 
--- a delivery is told by its four members
+-- a delivery is determined by its four elements
 pub delivery_there : (t : Tree) (q : Tree × Tree × Tree × Tree) → four_in t ≡ Some q → is_some (delivery_reading t)
     ≡ (((is_some (text_reading q.0) && is_some (field_reading q.1))
     && is_some (option_reading (unsigned_reading 64) q.2)) && is_some (option_reading (unsigned_reading 64) q.3))
@@ -113,7 +113,7 @@ delivery_there t q is =
     by (Some a) (Some b) (Some c) None = refl
     by (Some a) (Some b) (Some c) (Some d) = refl
 
--- the same by what the tests of the four told
+-- the same by the results of the tests of the four
 pub delivery_told : (t : Tree) (q : Tree × Tree × Tree × Tree) (id fields elapsed delivered : Bool) → four_in t ≡ Some q
     → id ≡ is_some (text_reading q.0) → fields ≡ is_some (field_reading q.1)
     → elapsed ≡ is_some (option_reading (unsigned_reading 64) q.2)

@@ -21,7 +21,7 @@ use Rattle.stream_entries.specs.Respelling.{StreamsAlike, ReadAlike}
 use Rattle.stream_entries.specs.RespellingLaws.{HoldsOfEqual, IsSymmetric, KeepsRecord, SameAnswers, rows_of_two}
 use Rattle.stream_entries.specs.RespellingLaws.{ProtocolsAreAlike}
 
--- Relations turned round.
+-- Relations in the other direction.
 
 pub alike_back : {A : Type 0} (R S : A → A → Type 0) → ((x y : A) → R x y → S y x) → (xs ys : List A) → Alike R xs ys
     → Alike S ys xs
@@ -87,7 +87,7 @@ both_then R f h None p a = absurd a
 both_then R f h (Some x) None a = absurd a
 both_then R f h (Some x) (Some y) a = h x y a
 
--- a reading that keeps a relation, on lists and tables alike by it
+-- a reading that respects a relation, on lists and tables alike by it
 list_alike : {M : Type 0} (R : Tree → Tree → Type 0) (f : Tree → Option M) → KeepsRecord R f
     → KeepsRecord (ListsAlike R) (list_reading f)
 list_alike R f h v w (inl e) = ap (list_reading f) e
@@ -185,7 +185,7 @@ entries_standard : (standard : Bool) → KeepsRecord (EntriesAlike standard) sta
 entries_standard true v w a = standard_alike v w a
 entries_standard false v w a = deliveries_standard v w a
 
--- whichever way the entries are alike, the standard record is the same, or there is none in both
+-- in whichever form the entries are alike, the standard record is the same, or there is none in both
 pub read_standard : KeepsRecord ReadAlike standard_reading
 unfolding standard_reading
 read_standard v w a = streams_alike (EntriesAlike (is_some (standard_reading v))) standard_entries
@@ -259,7 +259,7 @@ pub ruleset claim_laws = (claim_respells, claim_of_equal, claim_back)
 
 pub ruleset read_laws = (read_respells, read_standard, read_of_equal, read_back, protocols_alike)
 
--- For a caller that knows two values to be alike: what was read of both means the same, and where the one was read the
+-- For a caller that knows two values to be alike: the records of both mean the same, and if one has a record the
 -- other is not refused.
 pub same_answers : {T M : Type 0} (R : Tree → Tree → Type 0) (reading : Tree → Option M) (meaning : T → M)
     → KeepsRecord R reading → (v w : Tree) → R v w → SameAnswers reading meaning v w

@@ -9,7 +9,7 @@ use Rattle.stream_entries.specs.Entry.{Entry, entry_of}
 use Rattle.stream_entries.specs.Rows.{joined, row_reading, rows_reading}
 use Rattle.stream_entries.specs.EntryMeaning.{row_of}
 
--- items that are read and then shown: those of a list, joined, are what its items show
+-- items that are read and then converted: the joined list is what its items convert to
 module _ {A M : Type 0} (item : Tree → Option M) (shown : M → List A) where
   each_shown : (ts : List Tree) → option_map joined (traverse (λ t. option_map shown (item t)) ts)
       ≡ option_map (flat_map shown) (traverse item ts)

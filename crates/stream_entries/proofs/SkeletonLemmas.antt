@@ -1,4 +1,4 @@
--- A read is its skeleton with each item read by the form.
+-- A read reply is its skeleton with each item read by the form.
 use Rattle.std.proofs.Common.{◌≡◌, ◌++◌, ℕ, List, [], ◌∷◌, Bool, true, Option, Some, None, option_map, option_and_then}
 use Rattle.std.proofs.Common.{refl, sym, ◌∙◌, ap, map, flat_map}
 use Rattle.std.specs.Option.{is_some}
@@ -18,7 +18,7 @@ use Rattle.stream_entries.specs.Rows.{joined, entries_reading}
 use Rattle.stream_entries.specs.Read.{streams_reading}
 use Rattle.stream_entries.specs.Overlap.{Skeleton, skeleton, entries_in, kept_lists}
 
--- Lists all of whose members have a property.
+-- Lists all of whose elements have a property.
 
 pub all_parts : {A : Type 0} (P : A → Type 0) (xs ys : List A) → AllByRecursion P (xs ++ ys)
     → AllByRecursion P xs × AllByRecursion P ys
@@ -113,7 +113,7 @@ module _ (form : Tree → Option (List Entry)) where
   skeleton_read t = ap (option_map joined)
       (list_then (table_reading (entries_reading form)) (pairs_reading items) (row_of form) row_read t)
 
-  -- rows are read exactly where each item is
+  -- rows are read exactly if each item is
   pair_there : (p : List ℕ × List Tree) → is_some (pair_of form p) ≡ list_all (λ e. is_some (form e)) p.1
   pair_there p = is_some_map _ (option_map joined (traverse form p.1)) ∙ is_some_map joined (traverse form p.1)
       ∙ is_some_traverse form (λ e. is_some (form e)) (λ e. refl) p.1
@@ -131,7 +131,7 @@ module _ (form : Tree → Option (List Entry)) where
       (λ row. flat_map (λ p. p.1) row)
       (all_flat (λ e. is_some (form e)) (λ p. list_all (λ e. is_some (form e)) p.1) (λ p. p.1) (λ p. refl)) rows)
 
-  -- a read that has streams has a skeleton, and each of its items is read
+  -- a read reply that has streams has a skeleton, and each of its items is read
   pub skeleton_there : (t : Tree) → is_some (streams_reading form t) ≡ true
       → (rows : Skeleton) × (skeleton t ≡ Some rows) × AllByRecursion (λ e. is_some (form e) ≡ true) (entries_in rows)
   skeleton_there t h = by (skeleton t) refl (sym (ap is_some (skeleton_read t)) ∙ h)
@@ -143,7 +143,7 @@ module _ (form : Tree → Option (List Entry)) where
       by None e g = cc
       by (Some rows) e g = (rows, e, all_told (λ e. is_some (form e)) (entries_in rows) (sym (rows_there rows) ∙ g))
 
-  -- where each item is read as a function says, the streams are the kept lists with their items so
+  -- if each item is read as a function gives, the streams are the kept lists with their items so
   module _ (g : Tree → List Entry) where
     pair_as : (p : List ℕ × List Tree) → AllByRecursion (λ e. form e ≡ Some (g e)) p.1
         → pair_of form p ≡ Some (p.0, flat_map g p.1)

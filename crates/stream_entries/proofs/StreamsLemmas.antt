@@ -30,7 +30,7 @@ use Rattle.stream_entries.specs.declared.streams.OpenStreams.{OpenStreams}
 use Rattle.stream_entries.proofs.InFormsLemmas.{in_both}
 use Rattle.stream_entries.proofs.ItemsLeftLemmas.{table_of_pair}
 
--- Streams behind streams, each under its condition.
+-- Streams after streams, each under its condition.
 
 kept_both : {A : Type 0} (b c : Bool) (done more : List A)
     → behind (only_if b done) (only_if c more) ≡ only_if (b && c) (done ++ more)
@@ -187,7 +187,7 @@ module _ (form : Form) (reading : Tree → Option (List Entry))
   no_row_read : (t : Tree) → pairs_reading forms_reading t ≡ None → table_reading (entries_reading reading) t ≡ None
   no_row_read t is = picked_row t ∙ ap (λ o. option_map table_of (option_and_then (traverse (picked form)) o)) is
 
-  -- these behind others, by the table that the code holds
+  -- these after others, by the table that the code holds
   many_more : (b c : Bool) (keys new es ps : List (String Global × Entries)) (t : Tree)
       → pairs_reading forms_reading t ≡ Some (entries_meaning entries_held ps)
       → entries_meaning (λ x. x) es ≡ table_of (entries_meaning (λ x. x) ps) → new ≡ keys ++ es
@@ -255,7 +255,7 @@ with_many s new es ps t is table pushed standard claim =
     (list_all
     (λ p. is_some (held_in Claim (entries_held p.1))) ps) s.keys.items new.keys.items es ps t is table pushed refl)
 
--- what was told of all lists
+-- the forms that all lists have
 pub told_of_all : (form : Form) (before after all : Bool) (lent ps : List (String Global × Entries))
     → after ≡ (before && all) → all ≡ list_all (λ p. is_some (held_in form (entries_held p.1))) lent → lent ≡ ps
     → after ≡ (before && list_all (λ p. is_some (held_in form (entries_held p.1))) ps)
@@ -296,7 +296,7 @@ no_rows t (x ∷ ts) is e = absurd (omega (arith, e))
 some_rows : (t : Tree) (ts : List Tree) → items t ≡ Some ts → 0 < length ts → HasItems t
 some_rows t ts is some = rw is some
 
--- what a reply is refused with
+-- the errors of a reply
 pub no_items : (t : Tree) → items t ≡ None → Refuses read_reading RefusesRead t UnknownReadFormat
 no_items t is = (inl refl, λ _. no_reply t is)
 

@@ -1,4 +1,4 @@
--- What reads as the reply of an automatic claim.
+-- The values that read as the reply of an automatic claim.
 use Rattle.std.specs.Prelude.{ℕ, List, [], ◌∷◌, flat_map, length, nat_lt, Bool, false, Option, Some, None, option_map}
 use Rattle.std.specs.FinMap.{empty}
 use Rattle.redis_resp.specs.Then.{◌>>=◌}
@@ -8,7 +8,7 @@ use Rattle.redis_resp.specs.Reading.{list_reading, option_reading}
 use Rattle.stream_entries.specs.Entry.{Entry, entry_of}
 use Rattle.stream_entries.specs.Rows.{rows_reading}
 
--- the id to go on with, the entries that were claimed, the ids that were deleted, and whether the list of claimed
+-- the id to continue with, the entries that were claimed, the ids that were deleted, and whether the list of claimed
 -- entries has more items than entries
 pub record AutoClaim : Type 0 where
   pub next : List ℕ
@@ -20,13 +20,13 @@ pub record AutoClaim : Type 0 where
 abbrev pub empty_autoclaim : AutoClaim
 empty_autoclaim = record { next = []; claimed = []; deleted = []; invalid = false }
 
--- what a claimed list holds: nothing but nil, ids, or rows
+-- the kind of the items of a claimed list: only nil, ids, or rows
 pub data ClaimedKind : Type 0 where
   nils : ClaimedKind
   ids : ClaimedKind
   rows : ClaimedKind
 
--- the first item that is not nil decides, and is a bulk string or an array; no item has an attribute around it
+-- the kind of the first item that is not nil, a bulk string or an array; no item has an attribute around it
 abbrev pub kind_of_items : List Tree → Option ClaimedKind
 kind_of_items [] = Some nils
 kind_of_items (nil ∷ items) = kind_of_items items
@@ -34,7 +34,7 @@ kind_of_items (bulk bytes ∷ items) = Some ids
 kind_of_items (array members ∷ items) = Some rows
 kind_of_items (item ∷ items) = None
 
--- the kind of a list of items, and how many they are
+-- the kind of a list of items, and their number
 abbrev pub shape_of_items : List Tree → Option (ClaimedKind × ℕ)
 shape_of_items items = option_map (λ kind. (kind, length items)) (kind_of_items items)
 
@@ -62,7 +62,7 @@ claimed_by_shape t shape = option_map (λ entries. (entries, nat_lt (length entr
 abbrev pub claimed_reading : Tree → Option (List Entry × Bool)
 claimed_reading t = claimed_shape t >>= claimed_by_shape t
 
--- the next id, the claimed list and, where there is a third item, the deleted ids
+-- the next id, the claimed list and, if there is a third item, the deleted ids
 abbrev pub Parts : Type 0
 Parts = Tree × Tree × Option Tree
 
@@ -76,7 +76,7 @@ two_or_three _ = None
 abbrev pub parts_in : Tree → Option Parts
 parts_in t = array_of_plain t >>= two_or_three
 
--- the deleted ids; none where the reply has no such item
+-- the deleted ids; none if the reply has no such item
 abbrev pub deleted_reading : Option Tree → Option (List (List ℕ))
 deleted_reading None = Some []
 deleted_reading (Some t) = list_reading text_reading t

@@ -21,7 +21,7 @@ autoclaim_meaning r = record {
   invalid = r.invalid_entries;
 }
 
--- the kind that a `ClaimedKind` of the code names
+-- the kind that a `ClaimedKind` of the code means
 abbrev pub kind_meaning : KindInCode → ClaimedKind
 kind_meaning Nils = nils
 kind_meaning Ids = ids

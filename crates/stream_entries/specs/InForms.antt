@@ -1,4 +1,4 @@
--- What a value is in each form of a read, as long as both are open.
+-- What a value reads as in each form of a read reply, while both are open.
 use Rattle.std.specs.Prelude.{◌++◌, ◌∷◌, [], ℕ, List, Option, Some, None, option_map, option_and_then}
 use Rattle.redis_resp.specs.Then.{◌>>=◌}
 use Rattle.redis_resp.specs.Tree.{Tree}
@@ -9,7 +9,7 @@ use Rattle.stream_entries.specs.Entry.{Entry}
 use Rattle.stream_entries.specs.Rows.{joined, standard_entries, entries_reading}
 use Rattle.stream_entries.specs.Read.{Streams, claim_entries}
 
--- what is read by the standard form and by the claim form, None where it does not have that form
+-- the results in the standard form and in the claim form, None if it does not have that form
 abbrev pub InForms : Type 0 → Type 0
 InForms M = Option M × Option M
 
@@ -21,7 +21,7 @@ item_in_forms t = (standard_entries t, claim_entries t)
 abbrev pub entries_in_forms : Tree → InForms (List Entry)
 entries_in_forms t = (entries_reading standard_entries t, entries_reading claim_entries t)
 
--- the lists that all of these read as, one behind the other
+-- the lists that all of these read as, concatenated
 abbrev pub all_joined : {A : Type 0} → (Tree → Option (List A)) → List Tree → Option (List A)
 all_joined reading ts = option_map joined (traverse reading ts)
 
@@ -47,13 +47,13 @@ rows_in_forms ts = (
   all_joined (table_reading (entries_reading claim_entries)) ts,
 )
 
--- what has one form at least
+-- the results, if there is one form at least
 abbrev pub some_form : {M : Type 0} → InForms M → Option (InForms M)
 some_form (None, None) = None
 some_form (None, Some c) = Some (None, Some c)
 some_form (Some s, c) = Some (Some s, c)
 
--- a list behind another, where both are there
+-- a list after another, if both are there
 abbrev pub behind : {A : Type 0} → Option (List A) → Option (List A) → Option (List A)
 behind done more = done >>= λ xs. option_map (λ ys. xs ++ ys) more
 

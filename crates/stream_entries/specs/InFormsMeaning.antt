@@ -1,4 +1,4 @@
--- What is held of a read while both its forms are open.
+-- What the code holds of a read reply while both its forms are open.
 use Rattle.std.specs.Prelude.{Bool, List, [], Option, Some, None, flat_map, if◌then◌else◌, String, Vec, string_bytes}
 use Rattle.std.specs.declared.alloc.Global.{Global}
 use Rattle.std.specs.Option.{option_map_or}
@@ -21,7 +21,7 @@ abbrev pub overlap_of : Overlap → OverlapEntry
 overlap_of o =
     record { id = string_bytes o.id; fields = fields_of o.map; number = o.number; text = string_bytes o.text }
 
--- what it gives in a form
+-- its entries in a form
 abbrev pub given_in : Form → OverlapEntry → List Entry
 given_in standard_form = in_standard
 given_in claim_form = in_claim
@@ -36,20 +36,20 @@ entries_held (Standard ids) = (Some (entries_of ids), None)
 entries_held (Claim ids) = (None, Some (entries_of ids))
 entries_held (Both overlaps) = (Some (settled_in standard_form overlaps), Some (settled_in claim_form overlaps))
 
--- one of the two forms
+-- the result in one of the two forms
 abbrev pub held_in : {M : Type 0} → Form → InForms M → Option M
 held_in standard_form h = h.0
 held_in claim_form h = h.1
 
--- a list that is there, and none where it is not
+-- the list, or an empty one for None
 abbrev pub list_or_none : {A : Type 0} → Option (List A) → List A
 list_or_none o = option_map_or (λ xs. xs) o []
 
--- the streams in a form, each with the entries that it has in it
+-- the streams in a form, each with the entries that it has in that form
 abbrev pub keys_in : Form → Vec (String Global × Entries) Global → Streams
 keys_in form keys = entries_meaning (λ e. list_or_none (held_in form (entries_held e))) keys.items
 
--- what is there only under a condition
+-- a value only under a condition
 abbrev pub only_if : {A : Type 0} → Bool → A → Option A
 only_if b x = if b then Some x else None
 

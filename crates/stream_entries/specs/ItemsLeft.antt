@@ -6,7 +6,7 @@ use Rattle.stream_entries.specs.declared.items_left.Item.TheVariants.{Whole, Pai
 use Rattle.stream_entries.specs.declared.items_left.ItemsLeft.{ItemsLeft}
 use Rattle.stream_entries.specs.declared.items_left.ItemsLeft.TheVariants.{Nothing, Values, Pairs}
 
--- the tree of an item: a pair is a map of its own
+-- the tree of an item: a pair is a map of this one pair
 abbrev pub item_tree : {S : Type 0} → (S → Tree) → Item S → Tree
 item_tree seen (Whole v) = seen v
 item_tree seen (Pair key value) = single (seen key, seen value)
@@ -17,7 +17,7 @@ trees_left values pairs Nothing = []
 trees_left values pairs (Values v) = values v
 trees_left values pairs (Pairs p) = map single (pairs p)
 
--- the member of a list of exactly one
+-- the element of a list of exactly one
 abbrev pub exactly_one : {A : Type 0} → List A → Option A
 exactly_one (x ∷ []) = Some x
 exactly_one _ = None

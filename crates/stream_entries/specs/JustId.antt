@@ -1,4 +1,4 @@
--- What reads as the answer of an automatic claim that asks for ids alone.
+-- The values that read as the reply of an automatic claim with `JUSTID`.
 use Rattle.std.specs.Prelude.{◌⊎◌, ℕ, List, [], Option, Some}
 use Rattle.redis_resp.specs.Reading.{list_reading}
 use Rattle.redis_resp.specs.Refusal.{RefusesList}
@@ -9,13 +9,13 @@ use Rattle.redis_resp.specs.declared.value.error.ParsingError.{ParsingError}
 use Rattle.stream_entries.specs.AutoClaim.{Parts, parts_in, deleted_reading}
 use Rattle.stream_entries.specs.Refusal.{RefusesTextIn, RefusesDeleted, RefusesParts}
 
--- the id to go on with, the ids of the entries that were claimed, and those of entries that were deleted
+-- the id to continue with, the ids of the entries that were claimed, and those of entries that were deleted
 pub record JustId : Type 0 where
   pub next : List ℕ
   pub claimed : List (List ℕ)
   pub deleted : List (List ℕ)
 
--- no id
+-- an empty reply
 abbrev pub empty_justid : JustId
 empty_justid = record { next = []; claimed = []; deleted = [] }
 
@@ -31,12 +31,12 @@ justid_of parts =
 abbrev pub justid_reading : Tree → Option JustId
 justid_reading t = parts_in t >>= justid_of
 
--- what the claimed ids, the deleted ids or the next id are refused with
+-- the errors of the claimed ids, the deleted ids or the next id
 abbrev pub RefusesIds : Parts → ParsingError → Type 0
 RefusesIds parts error = RefusesList RefusesTextIn parts.1 error
     ⊎ (RefusesDeleted parts.2 error ⊎ RefusesTextIn parts.0 error)
 
--- `NotArray` and `WrongItemCount` stand exactly where the shape is wrong, and a part that is unreadable is told by its
--- own
+-- `NotArray` and `WrongItemCount` are the errors exactly if the shape is wrong; an unreadable part is refused with its
+-- own error
 abbrev pub RefusesJustId : Tree → ParsingError → Type 0
 RefusesJustId = RefusesParts RefusesIds

@@ -1,4 +1,4 @@
--- What the answer of an automatic claim that asks for ids alone means.
+-- What the reply of an automatic claim with `JUSTID` means.
 use Rattle.std.specs.Prelude.{string_bytes}
 use Rattle.stream_entries.specs.AutoClaimMeaning.{text_bytes_of}
 use Rattle.stream_entries.specs.JustId.{JustId}

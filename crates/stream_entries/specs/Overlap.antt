@@ -1,4 +1,4 @@
--- Which reads have a record in both forms, and what an entry gives in each.
+-- Which read replies have a record in both forms, and the entries of an item in each.
 use Rattle.std.specs.Prelude.{◌≡◌, ℕ, List, [], ◌∷◌, flat_map, Option, Some, None, option_map, option_and_then}
 use Rattle.std.specs.Prelude.{if◌then◌else◌}
 use Rattle.std.specs.Option.{IsSome, IsSomeAnd, option_map_or}
@@ -14,7 +14,7 @@ use Rattle.stream_entries.specs.Entry.{Entry, entry_of}
 use Rattle.stream_entries.specs.Rows.{field_reading}
 use Rattle.stream_entries.specs.Read.{Streams}
 
--- the rows of a read: in each, names of streams with the items of their lists
+-- the rows of a read reply: in each, names of streams with the items of their lists
 abbrev pub Skeleton : Type 0
 Skeleton = List (List (List ℕ × List Tree))
 
@@ -22,19 +22,19 @@ Skeleton = List (List (List ℕ × List Tree))
 abbrev pub skeleton : Tree → Option Skeleton
 skeleton t = list_reading (pairs_reading items) t
 
--- all items of all lists, those too of a pair whose name comes again
+-- all items of all lists, also those of a pair whose name is repeated
 abbrev pub entries_in : Skeleton → List Tree
 entries_in rows = flat_map (λ row. flat_map (λ p. p.1) row) rows
 
--- the lists that stand in the rows' tables
+-- the lists that are kept in the rows' tables
 abbrev pub kept_lists : Skeleton → List (List ℕ × List Tree)
 kept_lists rows = flat_map table_of rows
 
--- the items of these
+-- the items of the kept lists
 abbrev pub kept_entries : Skeleton → List Tree
 kept_entries rows = flat_map (λ p. p.1) (kept_lists rows)
 
--- a text, fields, a number, and what is nil
+-- a text, fields, a number, and a value that is nil
 abbrev pub FourOverlap : Tree × Tree × Tree × Tree → Type 0
 FourOverlap q = IsSome (text_reading q.0) × IsSome (field_reading q.1) × IsSome (unsigned_reading 64 q.2)
     × (plain q.3 ≡ nil)
@@ -54,7 +54,7 @@ pub record OverlapEntry : Type 0 where
   pub number : ℕ
   pub text : List ℕ
 
--- the same of four members
+-- the same of four elements
 abbrev pub four_entry : Tree × Tree × Tree × Tree → Option OverlapEntry
 four_entry q =
     option_and_then
@@ -66,7 +66,7 @@ four_entry q =
 abbrev pub overlap_entry : Tree → Option OverlapEntry
 overlap_entry t = option_and_then four_entry (four_in t)
 
--- in the standard record: the id with the fields and the text without fields, or the second alone where they are one
+-- in the standard record: the id with the fields and the text without fields, or only the second if they are equal
 abbrev pub in_standard : OverlapEntry → List Entry
 in_standard e = if bytes_eq e.id e.text then entry_of (e.text, empty) ∷ []
     else entry_of (e.id, e.fields) ∷ entry_of (e.text, empty) ∷ []
@@ -77,10 +77,10 @@ in_claim e =
     record { id = e.id; fields = e.fields; milliseconds_elapsed_from_delivery = Some e.number; delivered_count = None }
     ∷ []
 
--- what an item gives in a record
+-- the entries of an item in a record
 abbrev pub given : (OverlapEntry → List Entry) → Tree → List Entry
 given form t = option_map_or form (overlap_entry t) []
 
--- the streams of the kept lists, with what each of their items gives
+-- the streams of the kept lists, with the entries of each of their items
 abbrev pub streams_given : (OverlapEntry → List Entry) → Skeleton → Streams
 streams_given form rows = on_values (flat_map (given form)) (kept_lists rows)

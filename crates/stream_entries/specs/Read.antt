@@ -1,4 +1,4 @@
--- What reads as the streams that a read answers: a list of rows, all of whose entries have one form.
+-- The values that read as the streams of a read reply: a list of rows, all of whose entries have one form.
 use Rattle.std.specs.Prelude.{ℕ, List, [], ◌∷◌, Option, option_map}
 use Rattle.std.specs.Option.{option_or}
 use Rattle.redis_resp.specs.Tree.{Tree}
@@ -9,7 +9,7 @@ use Rattle.redis_resp.specs.Table.{Fields, table_reading}
 use Rattle.stream_entries.specs.Entry.{Entry}
 use Rattle.stream_entries.specs.Rows.{joined, field_reading, standard_entries, entries_reading}
 
--- an id, its fields, how many milliseconds ago it was delivered and how often
+-- an id, its fields, the milliseconds since its last delivery and its delivery count
 abbrev pub Delivery : Type 0
 Delivery = List ℕ × Fields Tree × Option ℕ × Option ℕ
 
@@ -30,7 +30,7 @@ claim_entries t = option_map (λ d. delivered_entry d ∷ []) (delivery_reading 
 abbrev pub Streams : Type 0
 Streams = List (List ℕ × List Entry)
 
--- a list of rows; each pair of a row's table is a stream with a list of items, all of the one form
+-- a list of rows; each pair of a row's table is a stream with a list of items, all of one form
 abbrev pub streams_reading : (Tree → Option (List Entry)) → Tree → Option Streams
 streams_reading form t = option_map joined (list_reading (table_reading (entries_reading form)) t)
 
@@ -42,6 +42,6 @@ standard_reading t = streams_reading standard_entries t
 unfoldable pub claim_reading : Tree → Option Streams
 claim_reading t = streams_reading claim_entries t
 
--- the standard record where the whole value has one, else the claim record
+-- the standard record if the whole value has one, else the claim record
 abbrev pub read_reading : Tree → Option Streams
 read_reading t = option_or (standard_reading t) (claim_reading t)

@@ -1,4 +1,4 @@
--- What reads, without what it reads as.
+-- Which values can be read, without the result.
 use Rattle.std.specs.Prelude.{◌&&◌, Bool, false}
 use Rattle.std.specs.List.{list_all}
 use Rattle.std.specs.Option.{is_some, option_map_or}

@@ -1,4 +1,4 @@
--- With which error a value may be refused as a reply that holds entries.
+-- The errors with which a value may be refused as a reply that holds entries.
 use Rattle.std.specs.Prelude.{◌≡◌, ◌<◌, ◌⊎◌, Option, Some, MatchOption, length}
 use Rattle.redis_resp.specs.Tree.{Tree, items, array_of_plain}
 use Rattle.redis_resp.specs.Text.{text_reading}
@@ -14,7 +14,7 @@ use Rattle.stream_entries.specs.Rows.{field_reading, row_reading}
 abbrev pub RefusesTextIn : Tree → ParsingError → Type 0
 RefusesTextIn = Refuses text_reading RefusesText
 
--- a text, where one is there
+-- a text, if there is one
 abbrev pub RefusesOptionalText : Tree → ParsingError → Type 0
 RefusesOptionalText = Refuses (option_reading text_reading) (RefusesOption RefusesTextIn)
 
@@ -30,31 +30,31 @@ RefusesRow = RefusesPairs (Refuses field_reading RefusesFields)
 abbrev pub RefusesRows : Tree → ParsingError → Type 0
 RefusesRows = RefusesList (Refuses row_reading RefusesRow)
 
--- a list that holds something
+-- a list with at least one item
 abbrev pub HasItems : Tree → Type 0
 HasItems t = MatchOption (items t) ⊥ (λ ts. 0 < length ts)
 
--- a read: `UnknownReadFormat`, or out of memory where the value is a list that holds something
+-- a read reply: `UnknownReadFormat`, or out of memory if the value is a list with at least one item
 abbrev pub RefusesRead : Tree → ParsingError → Type 0
 RefusesRead t error = (error ≡ UnknownReadFormat) ⊎ ((error ≡ Memory) × HasItems t)
 
--- the entries of a claimed list of that kind; nothing but nil is not refused
+-- the entries of a claimed list of that kind; a list of nil only is never refused
 abbrev pub RefusesByKind : ClaimedKind → Tree → ParsingError → Type 0
 RefusesByKind nils t error = ⊥
 RefusesByKind ids t error = RefusesList RefusesOptionalText t error
 RefusesByKind rows t error = RefusesRows t error
 
--- a claimed list: `WrongClaimedType` where it has no shape, and else what its entries are refused with
+-- a claimed list: `WrongClaimedType` if it has no shape, and else the error of its entries
 abbrev pub RefusesClaimed : Tree → ParsingError → Type 0
 RefusesClaimed t error = MatchOption (claimed_shape t) (error ≡ WrongClaimedType)
     (λ shape. RefusesByKind shape.0 t error)
 
--- the deleted ids, where the reply has such an item: a list of texts
+-- the deleted ids, if the reply has such an item: a list of texts
 abbrev pub RefusesDeleted : Option Tree → ParsingError → Type 0
 RefusesDeleted deleted error = MatchOption deleted ⊥ (λ t. RefusesList RefusesTextIn t error)
 
--- an array: `NotArray` where it is none, `WrongItemCount` where it has not two or three items, and else what its parts
--- are refused with
+-- an array: `NotArray` if it is none, `WrongItemCount` if it does not have two or three items, and else the error of
+-- its parts
 abbrev pub RefusesParts : (Parts → ParsingError → Type 0) → Tree → ParsingError → Type 0
 RefusesParts refuses t error = MatchOption (array_of_plain t) (error ≡ NotArray)
     (λ ts. MatchOption (two_or_three ts) (error ≡ WrongItemCount (length ts)) (λ parts. refuses parts error))
@@ -63,7 +63,7 @@ RefusesParts refuses t error = MatchOption (array_of_plain t) (error ≡ NotArra
 abbrev pub RefusesPart : Parts → ParsingError → Type 0
 RefusesPart parts error = RefusesClaimed parts.1 error ⊎ (RefusesDeleted parts.2 error ⊎ RefusesTextIn parts.0 error)
 
--- an automatic claim: each of its three outer errors stands exactly where the shape is wrong, and a part that is
--- unreadable is told by its own
+-- an automatic claim: each of its three outer errors occurs exactly if the shape is wrong; an unreadable part is
+-- refused with its own error
 abbrev pub RefusesAutoClaim : Tree → ParsingError → Type 0
 RefusesAutoClaim = RefusesParts RefusesPart

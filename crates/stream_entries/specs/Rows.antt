@@ -1,15 +1,15 @@
--- What reads as the entries of a range or a claim.
+-- The values that read as the entries of a range or a claim.
 use Rattle.std.specs.Prelude.{ℕ, List, ◌++◌, map, flat_map, length, nat_eq, Bool, false, Option, Some, None, option_map}
 use Rattle.redis_resp.specs.Tree.{Tree}
 use Rattle.redis_resp.specs.Reading.{list_reading, traverse}
 use Rattle.redis_resp.specs.Table.{Fields, fields_reading, table_reading}
 use Rattle.stream_entries.specs.Entry.{Entry, entry_of}
 
--- the lists one behind the other
+-- the lists, concatenated
 abbrev pub joined : {A : Type 0} → List (List A) → List A
 joined ls = flat_map (λ l. l) ls
 
--- the fields of an entry, each with the value that stands there
+-- the fields of an entry, each with its value as it is
 abbrev pub field_reading : Tree → Option (Fields Tree)
 field_reading t = fields_reading (λ u. Some u) t
 
@@ -33,6 +33,6 @@ rows_reading t = entries_reading standard_entries t
 abbrev pub items_entries : (Tree → Option (List Entry)) → List Tree → Option (List Entry)
 items_entries form ts = option_map joined (traverse form ts)
 
--- what an item holds, where it can be read, behind the entries that are there
+-- the entries of an item, if it can be read, after the entries that are there
 abbrev pub appended : List Entry → Option (List Entry) → Option (List Entry)
 appended before entries = option_map (λ es. before ++ es) entries

@@ -1,4 +1,4 @@
--- The test of two `StreamId`s is true exactly where they mean the same entry, and so it is an equivalence.
+-- The test of two `StreamId`s is true exactly if they mean the same entry, and so it is an equivalence.
 use Rattle.std.specs.Prelude.{◌≡◌, ◌==◌, ℕ, Bool, true, false, cond, ◌⊎◌, List, [], ◌∷◌, Option, Some, None, option_map}
 use Rattle.std.specs.Prelude.{refl, String, string_bytes}
 use Rattle.std.specs.declared.alloc.Global.{Global}
@@ -70,7 +70,7 @@ agree es fs h bytes = by (found bytes es) (found bytes fs)
     by (inl n) (inr k) = key k.0 k.1
     by (inl n) (inl m) = ap (option_map tree) (n ∙ sym m)
 
--- `==` of two maps of fields is true exactly where they are one finite map
+-- `==` of two maps of fields is true exactly if they are the same finite map
 fields-Decides : {S : Type 0} (m n : HashMap (String Global) Value S)
     → Decides (hash_map_eq string_eq same_value m n) (fields_of m ≡ fields_of n)
 fields-Decides m n = (
@@ -88,7 +88,7 @@ numbers-Decides (Some m) (Some n) = (λ h. ap Some ((Decides-eqb m n).0 h), λ e
 numbers-Decides None (Some n) = (λ h. absurd (true≢false (sym h)), λ e. cc)
 numbers-Decides (Some m) None = (λ h. absurd (true≢false (sym h)), λ e. cc)
 
--- the test is true exactly where the two mean the same entry
+-- the test is true exactly if the two mean the same entry
 pub same_entry_Decides : (a b : StreamId) → Decides (same_entry a b) (entry_meaning a ≡ entry_meaning b)
 same_entry_Decides a b =
     let id = bytes_eq-Decides (string_bytes a.id) (string_bytes b.id) in

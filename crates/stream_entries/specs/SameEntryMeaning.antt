@@ -12,7 +12,7 @@ use Rattle.stream_entries.specs.declared.stream_id.StreamId.{StreamId}
 abbrev pub same_value : Value → Value → Bool
 same_value v w = same (tree v) (tree w)
 
--- the same id, the same fields, whatever order they lie in, and the same two numbers
+-- the same id, the same fields in any order, and the same two numbers
 abbrev pub same_entry : StreamId → StreamId → Bool
 same_entry a b = string_eq a.id b.id && (hash_map_eq string_eq same_value a.map b.map
     && (option_eq ◌==◌ a.milliseconds_elapsed_from_delivery b.milliseconds_elapsed_from_delivery

@@ -14,7 +14,7 @@ use std::alloc::{AllocError, Global};
 /// are read as a list of strings.
 #[derive(Debug, Drop)]
 pub struct StreamClaimReply {
-    /// The entries that passed to the consumer, in order.
+    /// The entries that the consumer now owns, in order.
     pub ids: Vec<StreamId>,
 }
 
@@ -38,7 +38,7 @@ impl StreamClaimReply {
     }
 }
 
-/// Parses a list of rows. Each pair of a row is an entry. The errors are those of a list, of pairs and
+/// Parses a list of rows. Each pair of a row's table is an entry. The errors are those of a list, of pairs
 /// of texts, and out of memory.
 impl FromRedisValue for StreamClaimReply {
     ghost Meaning = { List Entry };

@@ -37,7 +37,7 @@ impl StreamRangeReply {
     }
 }
 
-/// Parses a list of rows. Each pair of a row is an entry. The errors are those of a list, of pairs and
+/// Parses a list of rows. Each pair of a row's table is an entry. The errors are those of a list, of pairs
 /// of texts, and out of memory.
 impl FromRedisValue for StreamRangeReply {
     ghost Meaning = { List Entry };

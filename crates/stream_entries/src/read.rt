@@ -44,10 +44,10 @@ impl StreamReadReply {
     }
 }
 
-/// Parses a list of rows. In the standard form each item of each list is a row of ids and fields; in the
-/// claim form each is an id, fields and the two numbers of its delivery. One form holds for the whole
-/// value, the standard form first, and the error is `UnknownReadFormat` if it has neither. A value that
-/// is not a list is refused without allocating, and a list of no rows allocates nothing.
+/// Parses a list of rows: each item of each list is a row of ids and fields (the standard form), else an id,
+/// fields and the two numbers of its delivery (the claim form). One form holds for the whole value, and the
+/// error is `UnknownReadFormat` if it has neither. A value that is not a list is refused without
+/// allocating, and a list of no rows allocates nothing.
 impl FromRedisValue for StreamReadReply {
     ghost Meaning = { Streams };
 

@@ -41,9 +41,9 @@ impl StreamId {
         })
     }
 
-    /// Reads the field of this name as a record. `None` if there is no such field or it cannot be read as
-    /// the type. It fails only if the field exists, and reading it
-    /// is out of memory.
+    /// Reads the field of this name as a record of the type. `None` if there is no such field, or it cannot
+    /// be read as the type. It fails only if there is such a field, and reading it is out of
+    /// memory.
     pub fn get<T: FromRedisValue>(&self, alloc: Global, key: &str) -> Result<Option<T>, AllocError>
         ensures record { IfOk result (λ r. option_map T.meaning r
             ≡ field_record T.reading (fields_of self.now.map) key.now) }

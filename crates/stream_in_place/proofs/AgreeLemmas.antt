@@ -6,7 +6,7 @@ use Rattle.redis_resp.specs.Then.{◌>>=◌}
 use Rattle.redis_resp.specs.Tree.{Tree}
 use Rattle.redis_resp.specs.Reading.{traverse}
 
--- where there is a record, it is this one
+-- if there is a record, it is this one
 abbrev pub Agrees : {A : Type 0} → Option A → A → Type 0
 Agrees None r = Unit {0}
 Agrees (Some x) r = x ≡ r

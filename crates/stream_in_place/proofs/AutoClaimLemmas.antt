@@ -1,4 +1,4 @@
--- What is found of an automatic claim is that of a reply.
+-- The places that are found of an automatic claim are those of a reply.
 use Rattle.std.proofs.Common.{◌≡◌, ◌≤◌, ◌-◌, ◌∙◌, ℕ, suc, List, [], ◌∷◌, ◌++◌, map, length, take, drop, Bool, true, false}
 use Rattle.std.proofs.Common.{nat_lt, Option, Some, Ok, option_map, refl, sym, ap, arith}
 use Rattle.std.specs.List.{AllByRecursion}

@@ -1,4 +1,4 @@
--- What bytes begin with that servers write.
+-- What the bytes that servers write begin with.
 use Rattle.std.proofs.Common.{◌≡◌, ◌≤◌, ◌<◌, ◌^◌, ◌+◌, ◌*◌, ◌∙◌, ℕ, zero, suc, List, [], ◌∷◌, ◌++◌, length}
 use Rattle.std.proofs.Common.{drop, codes, decimal, Option, Some, None, Ok, inl, inr, refl, sym, ap, arith}
 use Rattle.std.proofs.Common.{flat_map, append_assoc, add-one, Bool, true, false}
@@ -36,7 +36,7 @@ line_again limits mark line rest inner within = record {
       (record { is = refl; inner = inner; within = within });
 }
 
--- the -1 that stands for none
+-- the -1 that means none
 none_again : (limits : Limits) (mark : ℕ) (rest : List ℕ) → 20 ≤ limits.line
     → BeginsWithHead limits (line_bytes mark (codes "-1") ++ rest) mark None rest
 unfolding length_of
@@ -108,7 +108,7 @@ pair_split p rest left is = is ∙ append_assoc (bulk_bytes p.0) (bulk_bytes p.1
 
 -- ---- the fields of an entry, or nil
 
--- what members are an array of, and what is behind them
+-- the array that its elements make, and the bytes after them
 abbrev array_made : Answers × List ℕ → Read Answer
 array_made x = group_answer Array x.0 >>= λ a. Ok (a, x.1)
 
@@ -124,7 +124,7 @@ not_other other apart (mixed xs) after rest is =
     let same : group Array (answer_list xs) ≡ value other = ap (λ (x : Answer × List ℕ). x.0) pair in
     cc
 
--- another value is no head of an array
+-- another value has no array header
 pub no_array_is : (limits : Limits) (bytes : List ℕ) (at count after : ℕ) → IsArrayAt limits bytes at count after
     → (other : Tree) → ((ts : List Tree) → array (trees ts) ≡ other → ⊥) → (d : ℕ) (rest : List ℕ)
     → value_at limits (suc d) (drop at bytes) ≡ Ok (value other, rest) → ⊥
@@ -134,7 +134,7 @@ no_array_is limits bytes at count after head other apart d rest read =
     (sym (head.reads d) ∙ read) in
     not_other other apart b.0.0 b.0.1 rest b.2
 
--- nil is no head of an array
+-- nil has no array header
 no_head : (limits : Limits) (bytes : List ℕ) (at count after : ℕ) → IsArrayAt limits bytes at count after
     → (rest : List ℕ) → BeginsWithNil limits (drop at bytes) rest → ⊥
 no_head limits bytes at count after head rest h =
@@ -151,7 +151,7 @@ unfolding fields_bytes
 nil_split form rest left is = is
 
 module _ (limits : Limits) (bytes : List ℕ) (at : ℕ) (Q : Option Pairs → List ℕ → Type 0) where
-  -- where no head of an array was found
+  -- if no array header was found
   pub own_without : ((count : ℕ) (rest : List ℕ) → BeginsWithArray limits (drop at bytes) count rest → ⊥)
       → ((rest : List ℕ) → BeginsWithNil limits (drop at bytes) rest → Q None rest)
       → (form : NilForm) (fs : Option Pairs) (rest : List ℕ) → AllowsRows limits → ArePairs limits fs
@@ -162,7 +162,7 @@ module _ (limits : Limits) (bytes : List ℕ) (at : ℕ) (Q : Option Pairs → L
       (head_begins limits a (drop at bytes) 42 (2 * length ps) (flat_map pair_bytes ps ++ rest) h.0
       (array_split form ps rest (drop at bytes) is)))
 
-  -- where one was found
+  -- if one was found
   pub own_with : (members behind : ℕ) → IsArrayAt limits bytes at members behind
       → ((count : ℕ) (rest : List ℕ) → BeginsWithArray limits (drop at bytes) count rest
       → (members ≡ count) × (drop behind bytes ≡ rest))
@@ -186,7 +186,7 @@ unfolding delivery_bytes
 no_delivery_left None rest left h is = is
 no_delivery_left (Some d) rest left h is = absurd h
 
--- Two numbers stand there.
+-- The bytes begin with two numbers.
 pub record IsTwo (left rest : List ℕ) : Type 0 where
   pub elapsed : ℕ
   pub count : ℕ
@@ -208,7 +208,7 @@ delivery_split (Some d) rest left h is = record {
 
 -- ---- rows
 
--- what stands behind the head of a row
+-- the bytes after the header of a row
 abbrev pub behind_head : NilForm → SentEntry → List ℕ → List ℕ
 behind_head form e rest =
     bulk_bytes e.id ++ (fields_bytes form e.fields ++ (delivery_bytes e.delivery ++ rest))
@@ -252,9 +252,9 @@ row_begins limits claim left form e rest a h is =
     (row_split form e rest left is
     ∙ ap (λ (n : ℕ). count_bytes 42 n ++ behind_head form e rest) (row_len_is claim e.delivery h.form))
 
--- ---- what stands one after the other
+-- ---- consecutive items
 
--- The item whose turn it is, and behind its bytes those of the items that are left.
+-- The next item, and after its bytes those of the items that are left.
 pub record IsNext {A : Type 0} (f : A → List ℕ) (P : A → Type 0) (xs : List A) (i : ℕ) (left rest : List ℕ)
     : Type 0 where
   pub item : A
@@ -292,7 +292,7 @@ module _ {A : Type 0} (f : A → List ℕ) (P : A → Type 0) where
       → left ≡ flat_map f (drop i xs) ++ rest → left ≡ rest
   none_left xs i left rest e is = is ∙ ap (λ (z : List ℕ). z ++ rest) (all_gone xs i e)
 
--- Behind so many items, those that are left are what is left of the bytes.
+-- After `i` items, the bytes that are left are those of the items that are left.
 pub record IsLeft {A : Type 0} (f : A → List ℕ) (P : A → Type 0) (limits : Limits) (bytes : List ℕ)
     (at count i behind : ℕ) : Type 0 where
   pub left : (xs : List A) (rest : List ℕ) → AllowsRows limits → AllByRecursion P xs

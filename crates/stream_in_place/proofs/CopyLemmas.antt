@@ -28,7 +28,7 @@ use Rattle.stream_in_place.specs.Placed.{field_in, IsField}
 abbrev by_order : List ℕ → List ℕ → Ordering
 by_order = slice_cmp nat_cmp
 
--- the fields that are copied, with those that are left behind them, are all
+-- the fields that are copied, with those that are left after them, are all
 pub record Copied (bytes : List ℕ) (left : List FieldPlace) (all : Pairs) (done : Fields Tree) : Type 0 where
   pub each : AllByRecursion (IsField bytes) left
   pub agrees : (q : List ℕ) → option_or (last_with q (on_values bulk (map (field_in bytes) left))) (get done q)

@@ -24,7 +24,7 @@ fewer_fields (Some lent) m n le h = omega (arith, le, h)
 pub one_more : {A : Type 0} (new old : List A) (x : A) → new ≡ old ++ x ∷ [] → length new ≡ suc (length old)
 one_more new old x is = omega (arith, ap length is, length-append old (x ∷ []))
 
--- the item that comes next, of those that are there
+-- the next item, of those that are there
 pub next_left : {A : Type 0} (f : A → List ℕ) (P : A → Type 0) (limits : Limits) (bytes : List ℕ)
     (at count i behind : ℕ) → IsLeft f P limits bytes at count i behind → i < count → (xs : List A) (rest : List ℕ)
     → AllowsRows limits → AllByRecursion P xs → drop at bytes ≡ flat_map f xs ++ rest → count ≡ length xs
@@ -32,7 +32,7 @@ pub next_left : {A : Type 0} (f : A → List ℕ) (P : A → Type 0) (limits : L
 next_left f P limits bytes at count i behind h lt xs rest allows each is n =
     next_is f P xs i (drop behind bytes) rest (omega arith) each (h.left xs rest allows each is n)
 
--- Behind so many items, so many parts of them were counted, and those that are left have the others.
+-- After `i` items, the parts counted and the parts of the items that are left are all parts.
 pub record IsCounted {A B : Type 0} (f : A → List ℕ) (P : A → Type 0) (parts : A → List B) (limits : Limits)
     (bytes : List ℕ) (at count i old new : ℕ) : Type 0 where
   pub counted : (xs : List A) (rest : List ℕ) → AllowsRows limits → AllByRecursion P xs

@@ -24,7 +24,7 @@ use Rattle.stream_in_place.specs.Added.{FieldsAdded, OwnAdded, delivery_count, r
 use Rattle.stream_in_place.specs.Added.{IsForm, EntriesAdded}
 use Rattle.stream_in_place.proofs.ManyLemmas.{no_more, many_first, many_append}
 
--- the members of an array
+-- the elements of an array
 pub array_of : (inner : List ℕ → Read Answer) (n : ℕ) (bytes : List ℕ) (ts : List Tree) (after : List ℕ)
     → many inner n bytes ≡ Ok (values ts, after)
     → group_body_at inner Array (Some n) bytes ≡ Ok (value (array (trees ts)), after)
@@ -104,7 +104,7 @@ module _ (limits : Limits) (bytes : List ℕ) (at : ℕ) (old : Held) where
         (rw n at (added.reads d));
   }
 
--- ---- when and how often it was delivered
+-- ---- when it was last delivered, and how many times
 
 module _ (limits : Limits) (bytes : List ℕ) (at : ℕ) where
   pub no_delivery : at ≤ length bytes → IsDeliveryAt limits bytes at false 0 0 at
@@ -191,7 +191,7 @@ module _ (limits : Limits) (bytes : List ℕ) (at behind middle third after : �
 
 -- ---- entries
 
--- more fields behind change no entry
+-- more fields after them change no entry
 pub own_kept : (fields more : List FieldPlace) (e : EntryPlace) → e.from ≤ e.to → e.to ≤ length fields
     → own_fields (fields ++ more) e ≡ own_fields fields e
 own_kept fields more e order within =

@@ -1,4 +1,4 @@
--- Names and values that are laid out one behind the other, and where they stand.
+-- Names and values that are written one after the other, and their places.
 use Rattle.std.proofs.Common.{◌≡◌, ◌≤◌, ◌+◌, ◌∙◌, ℕ, List, [], ◌∷◌, ◌++◌, map, flat_map, length, take, drop, sym}
 use Rattle.std.proofs.Common.{ap, arith, append_assoc, drop-drop}
 use Rattle.std.specs.List.{AllByRecursion}
@@ -17,7 +17,7 @@ use Rattle.stream_in_place.proofs.FillLemmas.{map_more}
 abbrev pub laid_bytes : List (Octets × Octets) → List ℕ
 laid_bytes ps = flat_map joined_pair (map octet_pair ps)
 
--- The fields found so far, with those whose bytes stand from `at` on, are all.
+-- The fields found so far, with those whose bytes are at `at` and after, are all.
 pub record IsLaid (bytes : List ℕ) (all : Pairs) (fields : List FieldPlace) (left : List (Octets × Octets))
     (at : ℕ) : Type 0 where
   pub are : map (field_in bytes) fields ++ map octet_pair left ≡ all

@@ -1,4 +1,4 @@
--- Values that stand one after the other.
+-- Consecutive values.
 use Rattle.std.proofs.Common.{◌≡◌, ◌+◌, ◌∙◌, ℕ, zero, suc, List, [], ◌∷◌, ◌++◌, Ok, refl, ap, arith}
 use Rattle.redis_resp.specs.Tree.{Tree}
 use Rattle.redis_wire.specs.Reading.{Read, ◌>>=◌}
@@ -24,14 +24,14 @@ module _ (inner : List ℕ → Read Answer) where
   unfolding many
   no_more bytes = refl
 
-  -- a value, and so many behind it
+  -- a value, and `n` after it
   pub many_first : (n : ℕ) (bytes : List ℕ) (t : Tree) (middle : List ℕ) (ts : List Tree) (after : List ℕ)
       → inner bytes ≡ Ok (value t, middle) → many inner n middle ≡ Ok (values ts, after)
       → many inner (suc n) bytes ≡ Ok (values (t ∷ ts), after)
   unfolding many
   many_first n bytes t middle ts after h k = rw (h, k) refl
 
-  -- the value that the first of several is, and those behind it
+  -- the value that the first of several is, and those after it
   pub first_of_many : (n : ℕ) (bytes : List ℕ) (ts : List Tree) (after : List ℕ)
       → many inner (suc n) bytes ≡ Ok (values ts, after)
       → (t : Tree) × (us : List Tree) × (middle : List ℕ) × (inner bytes ≡ Ok (value t, middle))
@@ -53,7 +53,7 @@ module _ (inner : List ℕ → Read Answer) where
         j.4,
       )
 
-  -- so many values, and so many more behind them
+  -- `n` values, and `m` more after them
   pub many_append : (n m : ℕ) (bytes : List ℕ) (ts : List Tree) (rest : List ℕ) (us : List Tree) (after : List ℕ)
       → many inner n bytes ≡ Ok (values ts, rest) → many inner m rest ≡ Ok (values us, after)
       → many inner (n + m) bytes ≡ Ok (values (ts ++ us), after)

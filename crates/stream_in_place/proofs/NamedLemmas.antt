@@ -1,4 +1,4 @@
--- Items that are looked at one by one, each of a kind, and why no record is made of them.
+-- Items that are checked one by one for a property, and why no record is made of them.
 use Rattle.std.proofs.Common.{◌≡◌, ◌<◌, ◌+◌, ◌∙◌, ℕ, List, [], ◌∷◌, map, length, drop, inl, inr}
 use Rattle.std.proofs.Common.{⊎_elim, ap, sym, add-one}
 use Rattle.std.specs.List.{AllByRecursion}
@@ -9,12 +9,12 @@ use Rattle.stream_in_place.specs.declared.places.FieldPlace.{FieldPlace}
 use Rattle.stream_in_place.specs.Copied.{NotOwned}
 use Rattle.stream_in_place.specs.Placed.{field_in}
 
--- what refuses a part refuses the whole
+-- the error of a part is an error of the whole
 pub not_owned_whole : (part whole : Type 0) (error : ParsingError) → (whole → part) → NotOwned part error
     → NotOwned whole error
 not_owned_whole part whole error down r = ⊎_elim (λ x. inl (x.0, λ h. x.1 (down h))) inr r
 
--- all items are of a kind exactly if those that are left are
+-- all items have the property exactly if those that are left have it
 pub record AllIfLeft {A : Type 0} (P : A → Type 0) (left all : List A) : Type 0 where
   pub whole : AllByRecursion P left → AllByRecursion P all
   pub part : AllByRecursion P all → AllByRecursion P left
@@ -38,7 +38,7 @@ module _ {A : Type 0} (P : A → Type 0) where
       let at : AllIfLeft P (x ∷ left) all = rw next at h in
       not_owned_whole (P x) (AllByRecursion P all) error (λ each. (at.part each).0) r
 
--- the field that comes next
+-- the next field
 pub next_field : (bytes : List ℕ) (places : List FieldPlace) (i : ℕ) (d : FieldPlace) → i < length places
     → map (field_in bytes) (drop i places)
     ≡ field_in bytes (get_or places i d) ∷ map (field_in bytes) (drop (i + 1) places)

@@ -65,7 +65,7 @@ rows_of bytes fields [] = refl
 rows_of bytes fields (e ∷ es) = ap (λ (ts : List Tree). row_tree (entry_in bytes fields e) ∷ ts)
     (rows_of bytes fields es)
 
--- a value is a whole reply: no value begins with the byte of a message that is pushed
+-- a value is a whole reply: no value begins with the first byte of a push message
 pub reads_reply : (limits : Limits) (d : ℕ) (bytes : List ℕ) (x : Answer × List ℕ) → d ≡ limits.depth
     → value_at limits d bytes ≡ Ok x → reply_at limits bytes ≡ Ok x
 unfolding value_at level by_kind reply_at

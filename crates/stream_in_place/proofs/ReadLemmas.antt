@@ -107,7 +107,7 @@ module _ (limits : Limits) (bytes : List ℕ) (claim : Bool) (deep : 6 ≤ limit
 abbrev one_stream : SentStream → Streams
 one_stream s = copied_stream s ∷ []
 
--- a pair of a map as a map of its own
+-- a pair of a map as a map of one pair
 abbrev pair_tree : SentStream → Tree
 pair_tree s = single (stream_pair s)
 
@@ -131,7 +131,7 @@ joined_streams : (ss : List SentStream) → joined (map one_stream ss) ≡ copie
 joined_streams [] = refl
 joined_streams (s ∷ ss) = ap (λ (xs : Streams). copied_stream s ∷ xs) (joined_streams ss)
 
--- where rows have entries, they are those
+-- if rows have entries, they are those
 module _ (form : Tree → Option (List Entry)) where
   stream_agrees : (s : SentStream) → is_utf8 s.name ≡ true
       → Agrees (entries_reading form (rows_tree s.entries)) (map copied s.entries)
@@ -189,7 +189,7 @@ module _ (form : Tree → Option (List Entry)) where
   tree_agrees ss (verbatim a b) is h f = absurd is
   tree_agrees ss (push k ts) is h f = absurd is
 
--- where all rows have entries, the reply has these streams
+-- if all rows have entries, the reply has these streams
 module _ (form : Tree → Option (List Entry)) where
   abbrev HasEntries : SentStream → Type 0
   HasEntries s = entries_reading form (rows_tree s.entries) ≡ Some (map copied s.entries)

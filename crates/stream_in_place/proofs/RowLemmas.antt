@@ -1,4 +1,4 @@
--- What rows that servers send read as.
+-- What the rows that servers send read as.
 use Rattle.std.proofs.Common.{◌≡◌, List, ℕ, [], ◌∷◌, map, true, Option, Some, None, refl, ap}
 use Rattle.std.specs.List.{AllByRecursion}
 use Rattle.std.specs.Str.{is_utf8}
@@ -16,7 +16,7 @@ use Rattle.stream_in_place.specs.Sent.{IsTextEntry, IsStandard, IsDelivery, IsCl
 use Rattle.stream_in_place.specs.Copied.{pairs_or_none, copied}
 use Rattle.stream_in_place.proofs.AgreeLemmas.{Agrees}
 
--- the pairs of names and values that stand in turn
+-- the pairs of alternate names and values
 pub pairs_of_members : (ps : Pairs) → two_by_two (members_of ps) ≡ Some (map (λ p. (bulk p.0, bulk p.1)) ps)
 pairs_of_members [] = refl
 pairs_of_members (p ∷ ps) = rw (pairs_of_members ps) refl
@@ -45,7 +45,7 @@ joined_ones : (es : List SentEntry) → joined (map (λ e. copied e ∷ []) es) 
 joined_ones [] = refl
 joined_ones (e ∷ es) = ap (λ (xs : List Entry). copied e ∷ xs) (joined_ones es)
 
--- the claim form of a row: a time and a count behind, so that its pairs are no fields
+-- the claim form of a row: a time and a count at the end, so that its pairs are no fields
 no_row : (id : List ℕ) (o : Option Pairs) (d : Option (ℕ × ℕ)) → IsDelivery d → is_utf8 id ≡ true → AreTextFields o
     → standard_entries (row_tree (record { id = id; fields = o; delivery = d })) ≡ None
 no_row id o None is text names = absurd is

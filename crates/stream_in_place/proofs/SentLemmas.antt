@@ -1,4 +1,4 @@
--- What entries as servers send them read as, with their fields in order and names of any bytes.
+-- What the entries that servers send read as, with their fields in order and names of any bytes.
 use Rattle.std.proofs.Common.{◌≡◌, ◌<◌, ◌^◌, ℕ, List, [], ◌∷◌, map, Bool, true, false, Option, Some, None}
 use Rattle.std.proofs.Common.{option_map, refl, sym, ap}
 use Rattle.std.specs.List.{AllByRecursion}
@@ -20,7 +20,7 @@ use Rattle.stream_in_place.specs.SentReading.{sent_stream, sent_streams_reading,
 use Rattle.stream_in_place.specs.SentReading.{sent_autoclaim_reading}
 use Rattle.stream_in_place.proofs.RowLemmas.{pairs_of_members}
 
--- a time and a count fit 64 bits, where they are there
+-- a time and a count fit 64 bits, if they are there
 abbrev pub Fits : Option (ℕ × ℕ) → Type 0
 Fits None = Unit {0}
 Fits (Some d) = (d.0 < 2 ^ 64) × (d.1 < 2 ^ 64)
@@ -37,7 +37,7 @@ pub record IsSentStream (s : SentStream) : Type 0 where
 
 -- ---- texts
 
--- where names are text, all texts of such entries are
+-- if names are text, all texts of such entries are
 pub named_entries : (es : List SentEntry) → AllByRecursion IsSent es → AreNamed es → AllByRecursion IsTextEntry es
 named_entries [] h n = tt
 named_entries (e ∷ es) h n = (record { id = h.0.id; names = n.0 }, named_entries es h.1 n.1)
@@ -86,7 +86,7 @@ sent_rows_read es h = rw (listed_trees (map row_tree es), rows_told es h) refl
 abbrev one_pair : SentStream → List (List ℕ × List SentEntry)
 one_pair s = (s.name, s.entries) ∷ []
 
--- a pair of a map as a map of its own
+-- a pair of a map as a map of one pair
 abbrev pair_tree : SentStream → Tree
 pair_tree s = single (stream_pair s)
 

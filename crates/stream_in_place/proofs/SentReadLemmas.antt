@@ -1,4 +1,4 @@
--- Decoded claims that are read by the number of their members.
+-- Decoded claims that are read by the number of their elements.
 use Rattle.std.proofs.Common.{◌≡◌, ◌∙◌, ℕ, List, [], true, false, Option, Some, None, option_map, MatchOption}
 use Rattle.std.proofs.Common.{option_and_then, Result, Ok, Err, IfErr, refl, ap, sym, subst}
 use Rattle.std.specs.Result.{IsErrAnd}

@@ -1,4 +1,4 @@
--- Answers of XAUTOCLAIM as servers write them are found, and read as the trees that tell them.
+-- Replies of XAUTOCLAIM as servers write them are found, and read as their trees.
 use Rattle.std.proofs.Common.{◌≡◌, ◌≤◌, ◌-◌, ◌∙◌, ℕ, suc, List, [], ◌∷◌, ◌++◌, map, flat_map, length}
 use Rattle.std.proofs.Common.{Bool, true, false, Option, Some, None, Ok, refl, sym, ap, arith, append_assoc}
 use Rattle.std.specs.List.{AllByRecursion}
@@ -78,7 +78,7 @@ unfolding justid_bytes
 justid_split told r rest left is =
     regrouped (claim_start told r.next) (ids_bytes r.claimed) (deleted_bytes told r.deleted) rest left is
 
--- the same with the head of the rows or ids
+-- the same with the header of the rows or ids
 pub autoclaim_parts : (told : Bool) (form : NilForm) (r : SentAutoClaim) (rest left : List ℕ)
     → left ≡ autoclaim_bytes told form r ++ rest
     → left ≡ claim_start told r.next ++ (count_bytes 42 (length r.claimed)

@@ -1,4 +1,4 @@
--- Replies as servers write them are read as the trees of their entries, and these trees tell the entries.
+-- Replies as servers write them are read as the trees of their entries, and these trees determine the entries.
 use Rattle.std.proofs.Common.{◌≡◌, ◌≤◌, ◌<◌, ◌^◌, ◌-◌, ◌*◌, ◌∙◌, ℕ, suc, pos, List, [], ◌∷◌, ◌++◌, map, flat_map}
 use Rattle.std.proofs.Common.{length, take, drop, decimal, Bool, false, Option, Some, None, Ok, refl, sym, ap, arith}
 use Rattle.std.proofs.Common.{append_assoc}
@@ -46,7 +46,7 @@ module _ (limits : Limits) (allows : AllowsRows limits) where
   array_head d n rest left h =
       let e : suc d - 1 ≡ d = omega arith in rw (h.is, one_level limits (suc d) (omega arith), e, h.len) refl
 
-  -- an array of these members
+  -- an array of these elements
   pub array_reads : (d n : ℕ) (members rest left : List ℕ) (ts : List Tree) → n ≤ limits.length
       → left ≡ count_bytes 42 n ++ members → many (value_at limits d) n members ≡ Ok (values ts, rest)
       → value_at limits (suc d) left ≡ Ok (value (array (trees ts)), rest)
@@ -90,7 +90,7 @@ module _ (limits : Limits) (allows : AllowsRows limits) where
       array_reads (suc d) (2 * length ps) (flat_map pair_bytes ps ++ rest) rest left (members_of ps) h.0
       (array_split form ps rest left refl) (pairs_read d ps rest h.1)
 
-  -- the time and the count, behind two other values
+  -- the time and the count, after two other values
   delivery_read : (d : ℕ) (claim : Bool) (dl : Option (ℕ × ℕ)) (bytes middle third rest : List ℕ) (t u : Tree)
       → IsOfForm claim dl → third ≡ delivery_bytes dl ++ rest
       → value_at limits (suc d) bytes ≡ Ok (value t, middle) → value_at limits (suc d) middle ≡ Ok (value u, third)
@@ -148,7 +148,7 @@ module _ (limits : Limits) (allows : AllowsRows limits) where
       array_reads (suc (suc (suc d))) (length es) (flat_map (entry_bytes form) es ++ rest) rest left (map row_tree es)
       h.few (rows_split form es rest left is) (entries_read d claim form es rest h.each)
 
--- ---- what the trees tell
+-- ---- the entries of the trees
 
 pub same_trees : (ts us : List Tree) → trees ts ≡ trees us → ts ≡ us
 same_trees ts us e = sym (listed_trees ts) ∙ ap list_of_trees e ∙ listed_trees us
@@ -212,7 +212,7 @@ same_rows_tree es fs e =
 
 -- ---- whole replies
 
--- what is read at the head of bytes is the one reply there
+-- what is read at the start of the bytes is the one reply there
 pub one_reply : (limits : Limits) (d : ℕ) (bytes rest : List ℕ) (a b : Answer) (len : ℕ) → d ≡ limits.depth
     → len ≤ length bytes → value_at limits d bytes ≡ Ok (a, rest) → IsAnyReply limits (take len bytes) b
     → (b ≡ a) × (drop len bytes ≡ rest)

@@ -1,4 +1,4 @@
--- Streams as servers write them are found, and read as the trees that tell them.
+-- Streams as servers write them are found, and read as their trees.
 use Rattle.std.proofs.Common.{◌≡◌, ◌-◌, ◌*◌, ◌∙◌, ℕ, suc, List, [], ◌∷◌, ◌++◌, map, flat_map, length}
 use Rattle.std.proofs.Common.{Bool, true, false, Some, Ok, refl, sym, ap, subst, arith, append_assoc}
 use Rattle.std.specs.List.{AllByRecursion}
@@ -31,7 +31,7 @@ use Rattle.stream_in_place.proofs.ShapeLemmas.{len_same}
 
 -- ---- the parts of the bytes
 
--- what stands behind the head of a stream
+-- the bytes after the header of a stream
 abbrev pub behind_head : NilForm → SentStream → List ℕ → List ℕ
 behind_head form s rest = bulk_bytes s.name ++ (rows_bytes form s.entries ++ rest)
 
@@ -71,7 +71,7 @@ unfolding streams_bytes
 map_is form ss rest left is =
     is ∙ append_assoc (count_bytes 37 (length ss)) (flat_map (stream_bytes true form) ss) rest
 
--- where no nil was found, the streams of the bytes are an array or a map
+-- if no nil was found, the streams of the bytes are an array or a map
 pub by_form : (limits : Limits) (claim : Bool) (bytes : List ℕ) (ss : List SentStream) (len : ℕ) (C : Type 0)
     → ((rest : List ℕ) → BeginsWithNil limits bytes rest → ⊥) → (BeginsAs limits as_array claim bytes ss → C)
     → (BeginsAs limits as_map claim bytes ss → C) → BeginsWithStreams limits claim bytes ss len → C
@@ -85,7 +85,7 @@ by_form limits claim bytes ss len C none in_array in_map b = by b.told b.is
     by as_map is =
         in_map (record { form = b.form; rest = b.rest; is = is; allows = b.allows; within = b.within })
 
--- an array of streams begins with its head
+-- an array of streams begins with its header
 pub array_begins : (limits : Limits) (claim : Bool) (bytes : List ℕ) (ss : List SentStream)
     → (b : BeginsAs limits as_array claim bytes ss)
     → BeginsWithArray limits bytes (length ss) (flat_map (stream_bytes false b.form) ss ++ b.rest)
@@ -195,7 +195,7 @@ map_is_no_array limits claim bytes ss count after b head =
     no_array_is limits bytes 0 count after head (read_tree as_map ss) (λ ts e. cc) 5 b.rest
     (streams_read limits b.allows claim b.form 0 as_map ss b.rest bytes b.within b.is)
 
--- ---- what the trees tell
+-- ---- the streams of the trees
 
 same_stream : (s t : SentStream) → s.name ≡ t.name → rows_tree s.entries ≡ rows_tree t.entries → s ≡ t
 same_stream s t name rows =
@@ -251,7 +251,7 @@ streams_same limits claim bytes ss us n len r b =
       len_same bytes (streams_bytes b.told b.form us) b.rest n len r.within b.is one.1 b.len_is,
     )
 
--- and where nothing is held, there are no places of them
+-- and if the tables are empty, they have the counts of these streams
 pub nil_counted : (limits : Limits) (bytes : List ℕ) (claim : Bool) (n : ℕ) (held : Held) (us : List SentStream)
     (len : ℕ) → held ≡ none_held → IsFilled limits bytes claim n held → BeginsWithStreams limits claim bytes us len
     → HoldSoMany held us

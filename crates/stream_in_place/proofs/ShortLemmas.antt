@@ -1,4 +1,4 @@
--- Short bulk strings and short heads of arrays.
+-- Short bulk strings and short array headers.
 use Rattle.std.proofs.Common.{◌≡◌, ◌≤◌, ◌+◌, ◌-◌, ◌*◌, ◌∙◌, ℕ, List, [], ◌∷◌, length, take, drop, slice_index, Option, Some}
 use Rattle.std.proofs.Common.{Ok, false, refl, sym, ap, arith, le-ltb, nat_lt}
 use Rattle.std.specs.Int.{IsInRange}
@@ -56,7 +56,7 @@ module _ (limits : Limits) (bytes : List ℕ) (first : ℕ) (length_fits : 99 �
         length_fits line_fits (slice_index bytes 1) (slice_index bytes 2) refl digit second;
   }
 
--- the head with which the left bytes begin stands there
+-- the header with which the bytes from `at` on begin is at `at`
 pub head_stands : (limits : Limits) (bytes left : List ℕ) (at first k : ℕ) (n : Option ℕ)
     → BeginsWithHead limits left first n (drop k left) → left ≡ drop at bytes → at + k ≤ length bytes
     → IsHeadAt limits bytes at first n (at + k)

@@ -31,7 +31,7 @@ own_new old more new is =
     let n : length new - length old ≡ length more = omega (arith, ap length is, length-append old more) in
     rw (n, is, drop-append_seam old more) (take_all (length more) more (omega arith))
 
--- ---- heads
+-- ---- headers
 
 module _ (limits : Limits) (bytes : List ℕ) (at : ℕ) where
   pub head_in_map : at ≤ length bytes → IsStreamHead limits bytes at true at
@@ -95,7 +95,7 @@ module _ (limits : Limits) (bytes : List ℕ) (at behind middle head after count
 
 -- ---- streams
 
--- more entries and fields behind change no stream
+-- more entries and fields after them change no stream
 module _ (bytes : List ℕ) (fields more_fields : List FieldPlace) where
   entries_kept : (es : List EntryPlace) → AllByRecursion (IsEntry bytes (length fields)) es
       → map (entry_in bytes (fields ++ more_fields)) es ≡ map (entry_in bytes fields) es
@@ -137,7 +137,7 @@ stream_within : (bytes : List ℕ) (m n : ℕ) → m ≤ n → (s : StreamPlace)
 stream_within bytes m n le s h =
     record { name = h.name; is_text = h.is_text; order = h.order; within = omega (arith, h.within, le) }
 
--- the values that streams are, one behind the other
+-- the values that streams are, concatenated
 members_more : (in_map : Bool) (ss : List SentStream) (s : SentStream)
     → flat_map (stream_members in_map) (ss ++ s ∷ []) ≡ flat_map (stream_members in_map) ss ++ stream_members in_map s
 members_more in_map [] s = append-nil (stream_members in_map s)

@@ -1,4 +1,4 @@
--- What the filling of tables finds and adds. `d` is any number of levels behind those needed.
+-- What filling the tables finds and adds. `d` is any number of levels above those needed.
 use Rattle.std.specs.Prelude.{◌≡◌, ◌≤◌, ◌<◌, ◌*◌, ◌^◌, ℕ, suc, List, [], ◌∷◌, ◌++◌, map, flat_map, length, take, drop}
 use Rattle.std.specs.Prelude.{Bool, Ok, if◌then◌else◌}
 use Rattle.std.specs.List.{AllByRecursion}
@@ -22,14 +22,14 @@ pub record FieldsGrown (bytes : List ℕ) (old new : Held) : Type 0 where
   pub is : new ≡ record { streams = old.streams; entries = old.entries; fields = old.fields ++ more }
   pub each : AllByRecursion (IsField bytes) more
 
--- From `at` on there are so many fields, which are added, and they end with the first `after` bytes.
+-- At `at` there are `count` fields, which are added, and they end with the first `after` bytes.
 pub record FieldsAdded (limits : Limits) (bytes : List ℕ) (at count after : ℕ) (old new : Held) : Type 0 where
   pub grown : FieldsGrown bytes old new
   pub end : after ≤ length bytes
   pub reads : (d : ℕ) → many (value_at limits (suc d)) (2 * count) (drop at bytes)
       ≡ Ok (values (members_of (map (field_in bytes) grown.more)), drop after bytes)
 
--- From `at` on there are the fields of an entry, or nil where they are deleted.
+-- At `at` there are the fields of an entry, or nil if they are deleted.
 pub record OwnAdded (limits : Limits) (bytes : List ℕ) (at : ℕ) (deleted : Bool) (after : ℕ)
     (old new : Held) : Type 0 where
   pub grown : FieldsGrown bytes old new
@@ -37,15 +37,15 @@ pub record OwnAdded (limits : Limits) (bytes : List ℕ) (at : ℕ) (deleted : B
   pub reads : (d : ℕ) → value_at limits (suc (suc d)) (drop at bytes)
       ≡ Ok (value (fields_tree (fields_if deleted (map (field_in bytes) grown.more))), drop after bytes)
 
--- how many values stand behind the fields of a row
+-- the number of values after the fields of a row
 abbrev pub delivery_count : Bool → ℕ
 delivery_count claim = if claim then 2 else 0
 
--- how many values a row has
+-- the number of values of a row
 abbrev pub row_count : Bool → ℕ
 row_count claim = suc (suc (delivery_count claim))
 
--- From `at` on there are the two numbers of a delivery, where the form has them.
+-- At `at` there are the two numbers of a delivery, if the form has them.
 pub record IsDeliveryAt (limits : Limits) (bytes : List ℕ) (at : ℕ) (claim : Bool)
     (elapsed count after : ℕ) : Type 0 where
   pub elapsed_fits : elapsed < 2 ^ 64
@@ -60,7 +60,7 @@ pub record IsForm (claim : Bool) (e : EntryPlace) : Type 0 where
   pub elapsed : e.elapsed < 2 ^ 64
   pub count : e.count < 2 ^ 64
 
--- From `at` on there is an entry of that form, whose fields are added.
+-- At `at` there is an entry of that form, whose fields are added.
 pub record EntryAdded (limits : Limits) (bytes : List ℕ) (at : ℕ) (claim : Bool) (after : ℕ) (e : EntryPlace)
     (old new : Held) : Type 0 where
   pub grown : FieldsGrown bytes old new
@@ -79,7 +79,7 @@ pub record Grown (bytes : List ℕ) (claim : Bool) (old new : Held) : Type 0 whe
   pub forms : AllByRecursion (IsForm claim) more
   pub fields : AllByRecursion (IsField bytes) more_fields
 
--- From `at` on there are so many entries of that form, which are added with their fields.
+-- At `at` there are `count` entries of that form, which are added with their fields.
 pub record EntriesAdded (limits : Limits) (bytes : List ℕ) (at : ℕ) (claim : Bool) (count after : ℕ)
     (old new : Held) : Type 0 where
   pub grown : Grown bytes claim old new
@@ -87,16 +87,16 @@ pub record EntriesAdded (limits : Limits) (bytes : List ℕ) (at : ℕ) (claim :
   pub reads : (d : ℕ) → many (value_at limits (suc (suc (suc d)))) count (drop at bytes)
       ≡ Ok (values (map (λ e. row_tree (entry_in bytes new.fields e)) grown.more), drop after bytes)
 
--- how many values a stream is in an array of streams, and in a map
+-- the values that a stream is in an array of streams, and in a map
 abbrev pub stream_members : Bool → SentStream → List Tree
 stream_members in_map s = if in_map then bulk s.name ∷ rows_tree s.entries ∷ [] else stream_tree s ∷ []
 
--- how many values a stream is in an array of streams, and in a map
+-- the number of values that a stream is in an array of streams, and in a map
 abbrev pub stream_count : Bool → ℕ
 stream_count in_map = if in_map then 2 else 1
 
--- Behind `at` bytes stands what comes before the name of a stream: nothing in a map, and in an array
--- the head of an array of two.
+-- At `at` is what precedes the name of a stream: nothing in a map, and in an array the header of an array
+-- of two. It ends with the first `behind` bytes.
 pub record IsStreamHead (limits : Limits) (bytes : List ℕ) (at : ℕ) (in_map : Bool) (behind : ℕ) : Type 0 where
   pub end : behind ≤ length bytes
   pub reads : (d : ℕ) (s : SentStream) (after : ℕ)
@@ -105,7 +105,7 @@ pub record IsStreamHead (limits : Limits) (bytes : List ℕ) (at : ℕ) (in_map 
       → many (value_at limits (suc (suc (suc (suc (suc d)))))) (stream_count in_map) (drop at bytes)
       ≡ Ok (values (stream_members in_map s), drop after bytes)
 
--- From `at` on there is a stream, whose entries are added.
+-- At `at` there is a stream, whose entries are added.
 pub record StreamAdded (limits : Limits) (bytes : List ℕ) (at : ℕ) (in_map claim : Bool) (after : ℕ) (s : StreamPlace)
     (old new : Held) : Type 0 where
   pub grown : Grown bytes claim old new
@@ -121,7 +121,7 @@ pub record AreWithin (bytes : List ℕ) (claim : Bool) (held : Held) : Type 0 wh
   pub forms : AllByRecursion (IsForm claim) held.entries
   pub fields : AllByRecursion (IsField bytes) held.fields
 
--- From `at` on there are so many streams, and the tables hold these and nothing else.
+-- At `at` there are `count` streams, and the tables hold these and nothing else.
 pub record StreamsAdded (limits : Limits) (bytes : List ℕ) (at : ℕ) (in_map claim : Bool) (count after : ℕ)
     (held : Held) : Type 0 where
   pub within : AreWithin bytes claim held

@@ -1,4 +1,4 @@
--- What the filling of tables with ids finds and adds. `d` is any number of levels behind those needed.
+-- What filling the tables with ids finds and adds. `d` is any number of levels above those needed.
 use Rattle.std.specs.Prelude.{◌≡◌, ◌≤◌, ℕ, suc, List, [], ◌++◌, map, length, drop, Bool, true, false, Ok}
 use Rattle.std.specs.Prelude.{if◌then◌else◌}
 use Rattle.std.specs.List.{AllByRecursion}
@@ -21,18 +21,18 @@ pub record IdsGrown (bytes : List ℕ) (old new : Held) : Type 0 where
   pub is : new ≡ record { streams = old.streams; entries = old.entries ++ more; fields = old.fields }
   pub each : AllByRecursion (IsId bytes) more
 
--- From `at` on there are so many ids, which are added, and they end with the first `after` bytes.
+-- At `at` there are `count` ids, which are added, and they end with the first `after` bytes.
 pub record IdsAdded (limits : Limits) (bytes : List ℕ) (at count after : ℕ) (old new : Held) : Type 0 where
   pub grown : IdsGrown bytes old new
   pub end : after ≤ length bytes
   pub reads : (d : ℕ) → many (value_at limits (suc d)) count (drop at bytes)
       ≡ Ok (values (map bulk (map (id_at bytes) grown.more)), drop after bytes)
 
--- how many lists of deleted ids there are
+-- the number of lists of deleted ids
 abbrev pub deleted_count : Bool → ℕ
 deleted_count told = if told then 1 else 0
 
--- From `at` on there is the list of deleted ids, where the reply tells them, which are added.
+-- At `at` there is the list of deleted ids, if the reply has it, and its ids are added.
 pub record DeletedAdded (limits : Limits) (bytes : List ℕ) (at : ℕ) (told : Bool) (after : ℕ)
     (old new : Held) : Type 0 where
   pub grown : IdsGrown bytes old new
@@ -41,8 +41,8 @@ pub record DeletedAdded (limits : Limits) (bytes : List ℕ) (at : ℕ) (told : 
   pub reads : (d : ℕ) → many (value_at limits (suc (suc d))) (deleted_count told) (drop at bytes)
       ≡ Ok (values (deleted_trees told (map (id_at bytes) grown.more)), drop after bytes)
 
--- The bytes begin with the head of an automatic claim: that of an array of two, or of three where the
--- deleted ids are told, the next id, and the head of an array of so many, which ends with the first
+-- The bytes begin with the first part of an automatic claim: the header of an array of two, or of three with the
+-- deleted ids; then the next id, and the header of an array of `count`. That header ends with the first
 -- `at` bytes.
 pub record IsClaimHead (limits : Limits) (bytes : List ℕ) (told : Bool) (next : Span) (count at : ℕ) : Type 0 where
   pub behind : ℕ

@@ -1,4 +1,4 @@
--- What reading the reply of an automatic claim of any shape comes to.
+-- The result of reading the reply of an automatic claim of any shape.
 use Rattle.std.specs.Prelude.{◌≡◌, ◌≤◌, ℕ, List, ◌++◌, length, take, Result, Ok, Err}
 use Rattle.redis_wire.specs.declared.limits.Limits.{Limits}
 use Rattle.redis_wire.specs.declared.fault.WireError.{WireError}
@@ -19,8 +19,8 @@ use Rattle.stream_in_place.specs.declared.claim_outcome.JustIdOutcome.TheVariant
 use Rattle.stream_in_place.specs.AutoClaim.{IsAutoClaim, IsJustId}
 use Rattle.stream_in_place.specs.Sent.{SentAutoClaim}
 
--- in place; or the record of the reply at the head, its refusal or the server's error; or the bytes end too
--- early; or the first fault, behind which none is a reply, whatever comes behind
+-- in place; or the record of the reply at the start, its refusal or the server's error; or the bytes end too
+-- early; or the first fault, after which the bytes are no reply, whatever follows them
 abbrev pub IsAutoClaimOutcome : Limits → List ℕ → Result AutoClaimOutcome WireError → Type 0
 IsAutoClaimOutcome limits bytes (Ok (claims.InPlace r)) =
     IsAutoClaim limits bytes (record { next = r.next_stream_id.now; claimed = r.claimed; deleted = r.deleted_ids }) r.len
@@ -32,7 +32,7 @@ IsAutoClaimOutcome limits bytes (Err errors.Memory) = Unit {0}
 IsAutoClaimOutcome limits bytes (Err (errors.Fault fault)) =
     ((more : List ℕ) → NoReply limits (bytes ++ more)) × IsFirstFault limits bytes (errors.Fault fault)
 
--- the same of ids alone
+-- the same with `JUSTID`
 abbrev pub IsJustIdOutcome : Limits → List ℕ → Result JustIdOutcome WireError → Type 0
 IsJustIdOutcome limits bytes (Ok (justids.InPlace r)) =
     IsJustId limits bytes (record { next = r.next_stream_id.now; claimed = r.claimed; deleted = r.deleted_ids }) r.len
@@ -44,7 +44,7 @@ IsJustIdOutcome limits bytes (Err errors.Memory) = Unit {0}
 IsJustIdOutcome limits bytes (Err (errors.Fault fault)) =
     ((more : List ℕ) → NoReply limits (bytes ++ more)) × IsFirstFault limits bytes (errors.Fault fault)
 
--- in place, and this is the answer and its length; or memory ran out
+-- in place, and this is the reply and its length; or it is out of memory
 abbrev pub IsAutoClaimInPlace : SentAutoClaim → ℕ → Result AutoClaimOutcome WireError → Type 0
 IsAutoClaimInPlace r len (Ok (claims.InPlace found)) = (record {
   next = found.next_stream_id.now;
@@ -56,7 +56,7 @@ IsAutoClaimInPlace r len (Ok claims.Incomplete) = ⊥
 IsAutoClaimInPlace r len (Err errors.Memory) = Unit {0}
 IsAutoClaimInPlace r len (Err (errors.Fault fault)) = ⊥
 
--- the same where the command asked for ids alone
+-- the same with `JUSTID`
 abbrev pub IsJustIdInPlace : JustId → ℕ → Result JustIdOutcome WireError → Type 0
 IsJustIdInPlace r len (Ok (justids.InPlace found)) = (record {
   next = found.next_stream_id.now;

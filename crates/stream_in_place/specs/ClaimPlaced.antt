@@ -1,4 +1,4 @@
--- What stands at the places of an automatic claim. The deleted ids are held behind what was claimed.
+-- The content at the places of an automatic claim. The deleted ids come after the claimed entries.
 use Rattle.std.specs.Prelude.{◌≡◌, ◌≤◌, ℕ, List, map, take, drop, length, true}
 use Rattle.std.specs.List.{AllByRecursion}
 use Rattle.std.specs.Str.{is_utf8}
@@ -10,11 +10,11 @@ use Rattle.stream_in_place.specs.declared.places.FieldPlace.{FieldPlace}
 use Rattle.stream_in_place.specs.Sent.{SentAutoClaim}
 use Rattle.stream_in_place.specs.Placed.{entry_in, IsField, IsEntry}
 
--- the id that stands there
+-- the id at that place
 abbrev pub id_at : List ℕ → EntryPlace → List ℕ
 id_at bytes e = text_in bytes e.id
 
--- the entries and the ids that stand there
+-- the entries and the ids at those places
 abbrev pub autoclaim_in : List ℕ → List EntryPlace → List FieldPlace → AutoClaimPlace → SentAutoClaim
 autoclaim_in bytes entries fields p = record {
   next = text_in bytes p.next;
@@ -22,7 +22,7 @@ autoclaim_in bytes entries fields p = record {
   deleted = map (id_at bytes) (drop p.claimed entries);
 }
 
--- the ids alone that stand there
+-- the ids at those places, without entries
 abbrev pub justid_in : List ℕ → List EntryPlace → AutoClaimPlace → JustId
 justid_in bytes entries p = record {
   next = text_in bytes p.next;
@@ -35,7 +35,7 @@ pub record IsId (bytes : List ℕ) (e : EntryPlace) : Type 0 where
   pub id : IsSpan bytes e.id
   pub is_text : is_utf8 (text_in bytes e.id) ≡ true
 
--- places within the bytes, of entries and of ids behind them
+-- places within the bytes, of entries and of the ids after them
 pub record AreClaimPlaces (bytes : List ℕ) (entries : List EntryPlace) (fields : List FieldPlace)
     (p : AutoClaimPlace) : Type 0 where
   pub next : IsSpan bytes p.next
@@ -45,7 +45,7 @@ pub record AreClaimPlaces (bytes : List ℕ) (entries : List EntryPlace) (fields
   pub deleted : AllByRecursion (IsId bytes) (drop p.claimed entries)
   pub each_field : AllByRecursion (IsField bytes) fields
 
--- places within the bytes, of ids alone
+-- places within the bytes, of ids only
 pub record AreJustIdPlaces (bytes : List ℕ) (entries : List EntryPlace) (p : AutoClaimPlace) : Type 0 where
   pub next : IsSpan bytes p.next
   pub is_text : is_utf8 (text_in bytes p.next) ≡ true

@@ -14,7 +14,7 @@ abbrev pub pairs_or_none : Option Pairs → Pairs
 pairs_or_none None = []
 pairs_or_none (Some ps) = ps
 
--- the entry of a record: of fields with one name it has the last, and it knows no order
+-- the entry of a record: it keeps the last of fields with one name, and no order
 abbrev pub copied : SentEntry → Entry
 copied e = record {
   id = e.id;
@@ -23,7 +23,7 @@ copied e = record {
   delivered_count = option_map (λ d. d.1) e.delivery;
 }
 
--- why no record is made of entries: a name is no text, or memory ran out
+-- why no record is made of entries: a name is not text, or it is out of memory
 abbrev pub NotOwned : Type 0 → ParsingError → Type 0
 NotOwned named error = ((error ≡ NotText) × (named → ⊥)) ⊎ (error ≡ Memory)
 

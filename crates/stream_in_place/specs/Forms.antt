@@ -1,4 +1,4 @@
--- The forms in which streams and rows are told.
+-- The forms of streams and rows in a reply.
 use Rattle.std.specs.Prelude.{Bool, true, false}
 use Rattle.stream_in_place.specs.declared.form.Spelling.{Spelling}
 use Rattle.stream_in_place.specs.declared.form.Spelling.TheVariants.{Array, Map}

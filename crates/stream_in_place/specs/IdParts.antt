@@ -13,7 +13,7 @@ id_number id = id.ms * 18446744073709551616 + id.seq
 abbrev pub id_text : StreamIdParts → List ℕ
 id_text id = decimal id.ms ++ 45 ∷ [] ++ decimal id.seq
 
--- the same behind a `(`: from there on, without the id itself
+-- the same after a `(`: an exclusive start, which leaves out the id itself
 abbrev pub behind_text : StreamIdParts → List ℕ
 behind_text id = 40 ∷ id_text id
 
@@ -25,11 +25,11 @@ is_of_part b = not (b == 45)
 abbrev pub part_in : List ℕ → Option ℕ
 part_in text = option_and_then (within 64) (unsigned_of text)
 
--- the id of the text before the first `-`, and what stands from there on
+-- the id of the text before the first `-`, and the text from that `-` on
 abbrev pub id_of : List ℕ → List ℕ → Option StreamIdParts
 id_of ms [] = None
 id_of ms (dash ∷ seq) = option_and_then (λ m. option_map (λ s. record { ms = m; seq = s }) (part_in seq)) (part_in ms)
 
--- the id that a text writes
+-- the id that a text is parsed as
 abbrev pub id_in : List ℕ → Option StreamIdParts
 id_in text = id_of (take (prefix_len is_of_part text) text) (drop (prefix_len is_of_part text) text)

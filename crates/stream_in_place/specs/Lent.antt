@@ -1,8 +1,8 @@
--- What is lent to be filled with places.
+-- The slices that are lent to be filled with places.
 use Rattle.std.specs.Prelude.{◌≤◌, ℕ, Option, Some, None}
 use Rattle.std.specs.Borrow.{GName}
 
--- Slices of the caller, each by the name of its borrow, and how many places each has.
+-- Slices of the caller, each by the name of its borrow, and the number of places in each.
 pub record Lent : Type 0 where
   pub streams : GName
   pub entries : GName
@@ -11,7 +11,7 @@ pub record Lent : Type 0 where
   pub entry_room : ℕ
   pub field_room : ℕ
 
--- The slices have room for so many streams in all. Of tables that grow nothing is known.
+-- The slices have room for `n` streams in total. It never holds for tables that grow.
 abbrev pub StreamsFit : Option Lent → ℕ → Type 0
 StreamsFit None n = ⊥
 StreamsFit (Some lent) n = n ≤ lent.stream_room

@@ -1,4 +1,4 @@
--- What reading a reply of any shape comes to.
+-- The result of reading a reply of any shape.
 use Rattle.std.specs.Prelude.{◌≡◌, ◌≤◌, ℕ, List, ◌++◌, length, take, Result, Ok, Err}
 use Rattle.redis_wire.specs.declared.limits.Limits.{Limits}
 use Rattle.redis_wire.specs.declared.fault.WireError.{WireError}
@@ -19,8 +19,8 @@ use Rattle.stream_in_place.specs.declared.outcome.ReadOutcome.TheVariants as rea
 use Rattle.stream_in_place.specs.Sent.{SentEntry, SentStream}
 use Rattle.stream_in_place.specs.Range.{IsRange, IsRead}
 
--- in place; or the record of the reply at the head, its refusal or the server's error; or the bytes end too
--- early; or the first fault, behind which none is a reply, whatever comes behind
+-- in place; or the record of the reply at the start, its refusal or the server's error; or the bytes end too
+-- early; or the first fault, after which the bytes are no reply, whatever follows them
 abbrev pub IsRangeOutcome : Limits → List ℕ → Result RangeOutcome WireError → Type 0
 IsRangeOutcome limits bytes (Ok (ranges.InPlace r)) = IsRange limits bytes r.entries r.len
 IsRangeOutcome limits bytes (Ok (ranges.Copied reply len)) =
@@ -42,7 +42,7 @@ IsReadOutcome limits bytes (Err errors.Memory) = Unit {0}
 IsReadOutcome limits bytes (Err (errors.Fault fault)) =
     ((more : List ℕ) → NoReply limits (bytes ++ more)) × IsFirstFault limits bytes (errors.Fault fault)
 
--- in place, and these are the entries and this the length; or memory ran out
+-- in place, and these are the entries and this the length; or it is out of memory
 abbrev pub IsRangeInPlace : List SentEntry → ℕ → Result RangeOutcome WireError → Type 0
 IsRangeInPlace es len (Ok (ranges.InPlace r)) = (r.entries ≡ es) × (r.len ≡ len)
 IsRangeInPlace es len (Ok (ranges.Copied reply n)) = ⊥

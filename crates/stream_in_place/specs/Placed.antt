@@ -1,4 +1,4 @@
--- What stands at places, and which places are within the bytes.
+-- The content at places, and which places are within the bytes.
 use Rattle.std.specs.Prelude.{◌≡◌, ◌≤◌, ◌-◌, ℕ, List, map, take, drop, Bool, true, Option, Some, None, if◌then◌else◌}
 use Rattle.std.specs.Str.{is_utf8}
 use Rattle.redis_wire.specs.Place.{text_in, IsSpan}
@@ -7,23 +7,23 @@ use Rattle.stream_in_place.specs.declared.places.EntryPlace.{EntryPlace}
 use Rattle.stream_in_place.specs.declared.places.StreamPlace.{StreamPlace}
 use Rattle.stream_in_place.specs.Sent.{Pairs, SentEntry, SentStream}
 
--- the name and the value that stand there
+-- the name and the value at that place
 abbrev pub field_in : List ℕ → FieldPlace → List ℕ × List ℕ
 field_in bytes f = (text_in bytes f.name, text_in bytes f.value)
 
--- the fields of an entry among all
+-- the fields of an entry, among all fields
 abbrev pub own_fields : List FieldPlace → EntryPlace → List FieldPlace
 own_fields fields e = take (e.to - e.from) (drop e.from fields)
 
--- the fields, but None where nil stands in their place
+-- the fields, or None for nil
 abbrev pub fields_if : Bool → Pairs → Option Pairs
 fields_if deleted ps = if deleted then None else Some ps
 
--- the time and the count, where the reply has them
+-- the time and the count, if the reply has them
 abbrev pub delivery_if : Bool → ℕ → ℕ → Option (ℕ × ℕ)
 delivery_if delivered elapsed count = if delivered then Some (elapsed, count) else None
 
--- the entry that stands there
+-- the entry at that place
 abbrev pub entry_in : List ℕ → List FieldPlace → EntryPlace → SentEntry
 entry_in bytes fields e = record {
   id = text_in bytes e.id;
@@ -31,11 +31,11 @@ entry_in bytes fields e = record {
   delivery = delivery_if e.delivered e.elapsed e.count;
 }
 
--- the entries of a stream among all
+-- the entries of a stream, among all entries
 abbrev pub own_entries : List EntryPlace → StreamPlace → List EntryPlace
 own_entries entries s = take (s.to - s.from) (drop s.from entries)
 
--- the stream that stands there
+-- the stream at that place
 abbrev pub stream_in : List ℕ → List EntryPlace → List FieldPlace → StreamPlace → SentStream
 stream_in bytes entries fields s = record {
   name = text_in bytes s.name;
@@ -47,14 +47,14 @@ pub record IsField (bytes : List ℕ) (f : FieldPlace) : Type 0 where
   pub name : IsSpan bytes f.name
   pub value : IsSpan bytes f.value
 
--- an entry within the bytes, whose id is text and whose fields are among so many
+-- an entry within the bytes, whose id is text and whose fields are among the first `count`
 pub record IsEntry (bytes : List ℕ) (count : ℕ) (e : EntryPlace) : Type 0 where
   pub id : IsSpan bytes e.id
   pub is_text : is_utf8 (text_in bytes e.id) ≡ true
   pub order : e.from ≤ e.to
   pub within : e.to ≤ count
 
--- a stream within the bytes, whose name is text and whose entries are among so many
+-- a stream within the bytes, whose name is text and whose entries are among the first `count`
 pub record IsStream (bytes : List ℕ) (count : ℕ) (s : StreamPlace) : Type 0 where
   pub name : IsSpan bytes s.name
   pub is_text : is_utf8 (text_in bytes s.name) ≡ true

@@ -11,16 +11,16 @@ use Rattle.stream_in_place.specs.Sent.{SentEntry, SentStream, rows_tree, IsReadT
 use Rattle.stream_in_place.specs.SentReading.{sent_row_reading, sent_streams_reading}
 use Rattle.stream_in_place.specs.Copied.{copied, copied_streams}
 
--- The first `len` bytes are a reply within the limits, however many values it has, of which these are the
--- entries; where names are text, they are those that the record of the copying path holds.
+-- The first `len` bytes are a reply within the limits, with any number of values, and these are its entries. If
+-- names are text, they are those that the record of the copying path holds.
 pub record IsRange (limits : Limits) (bytes : List ℕ) (es : List SentEntry) (len : ℕ) : Type 0 where
   pub within : len ≤ length bytes
   pub reply : IsAnyReply limits (take len bytes) (value (rows_tree es))
   pub sent : list_reading sent_row_reading (rows_tree es) ≡ Some es
   pub reading : AreNamed es → rows_reading (rows_tree es) ≡ Some (map copied es)
 
--- The first `len` bytes are a reply within the limits, however many values it has, of which these are the
--- streams; where names are text, they are those that the record of the copying path holds.
+-- The first `len` bytes are a reply within the limits, with any number of values, and these are its streams. If
+-- names are text, they are those that the record of the copying path holds.
 pub record IsRead (limits : Limits) (bytes : List ℕ) (ss : List SentStream) (len : ℕ) : Type 0 where
   pub within : len ≤ length bytes
   pub tree : Tree

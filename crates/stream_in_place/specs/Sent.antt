@@ -1,4 +1,4 @@
--- Entries as servers send them, and the values of a reply that they stand in.
+-- Entries as servers send them, and the values of a reply that hold them.
 use Rattle.std.specs.Prelude.{◌≡◌, ◌<◌, ◌^◌, ℕ, pos, List, [], ◌∷◌, map, flat_map, Bool, true, false, Option, Some, None}
 use Rattle.std.specs.List.{AllByRecursion}
 use Rattle.std.specs.Str.{is_utf8}
@@ -8,25 +8,25 @@ use Rattle.redis_resp.specs.Tree.{Tree, nil, int, bulk, array, map_of_pairs, tre
 abbrev pub Pairs : Type 0
 Pairs = List (List ℕ × List ℕ)
 
--- an id and its fields, which are None where the entry was deleted; and, in the claim form, how many
--- milliseconds ago it was delivered, and how often
+-- an id and its fields, None if the entry was deleted; in the claim form also the milliseconds since its last
+-- delivery, and its delivery count
 pub record SentEntry : Type 0 where
   pub id : List ℕ
   pub fields : Option Pairs
   pub delivery : Option (ℕ × ℕ)
 
--- a name of a stream, and its entries in order
+-- the name of a stream, and its entries in order
 pub record SentStream : Type 0 where
   pub name : List ℕ
   pub entries : List SentEntry
 
--- the id to go on with, the entries that were claimed, and the ids that are no longer in the stream
+-- the id to continue with, the entries that were claimed, and the ids that are no longer in the stream
 pub record SentAutoClaim : Type 0 where
   pub next : List ℕ
   pub claimed : List SentEntry
   pub deleted : List (List ℕ)
 
--- the fields of an entry, none where it was deleted
+-- the fields of an entry, none if it was deleted
 abbrev pub fields_of : Option Pairs → Pairs
 fields_of None = []
 fields_of (Some ps) = ps
@@ -43,22 +43,22 @@ all_entries ss = flat_map (λ s. s.entries) ss
 abbrev pub all_stream_fields : List SentStream → Pairs
 all_stream_fields ss = flat_map (λ s. all_fields s.entries) ss
 
--- there is none
+-- whether the option is `None`
 abbrev pub is_none : {A : Type 0} → Option A → Bool
 is_none None = true
 is_none (Some x) = false
 
--- names and values in turn, as bulk strings
+-- names and values alternately, as bulk strings
 abbrev pub members_of : Pairs → List Tree
 members_of [] = []
 members_of (p ∷ ps) = bulk p.0 ∷ bulk p.1 ∷ members_of ps
 
--- the fields of an entry: an array, or nil where it was deleted
+-- the fields of an entry: an array, or nil if it was deleted
 abbrev pub fields_tree : Option Pairs → Tree
 fields_tree None = nil
 fields_tree (Some ps) = array (trees (members_of ps))
 
--- what the claim form has behind the fields
+-- what the claim form has after the fields
 abbrev pub delivery_trees : Option (ℕ × ℕ) → List Tree
 delivery_trees None = []
 delivery_trees (Some d) = int (pos d.0) ∷ int (pos d.1) ∷ []
@@ -67,7 +67,7 @@ delivery_trees (Some d) = int (pos d.0) ∷ int (pos d.1) ∷ []
 abbrev pub row_tree : SentEntry → Tree
 row_tree e = array (trees (bulk e.id ∷ fields_tree e.fields ∷ delivery_trees e.delivery))
 
--- the rows of entries, as XRANGE answers them
+-- the rows of entries, as XRANGE returns them
 abbrev pub rows_tree : List SentEntry → Tree
 rows_tree es = array (trees (map row_tree es))
 
@@ -79,7 +79,7 @@ stream_tree s = array (trees (bulk s.name ∷ rows_tree s.entries ∷ []))
 abbrev pub stream_pair : SentStream → Tree × Tree
 stream_pair s = (bulk s.name, rows_tree s.entries)
 
--- what XREAD and XREADGROUP answer: an array of streams, in RESP3 a map of them, or nil
+-- the reply of XREAD and XREADGROUP: an array of streams, in RESP3 a map of them, or nil
 abbrev pub IsReadTree : List SentStream → Tree → Type 0
 IsReadTree ss (array ts) = ts ≡ trees (map stream_tree ss)
 IsReadTree ss (map_of_pairs ps) = ps ≡ pairs (map stream_pair ss)
@@ -104,16 +104,16 @@ pub record IsTextEntry (e : SentEntry) : Type 0 where
   pub id : is_utf8 e.id ≡ true
   pub names : AreTextFields e.fields
 
--- a stream whose texts are text
+-- a stream whose name, ids and field names are text
 pub record IsTextStream (s : SentStream) : Type 0 where
   pub name : is_utf8 s.name ≡ true
   pub entries : AllByRecursion IsTextEntry s.entries
 
--- an entry of the form that says nothing of a delivery
+-- an entry of the form without a delivery
 abbrev pub IsStandard : SentEntry → Type 0
 IsStandard e = e.delivery ≡ None
 
--- a time and a count are there, and fit 64 bits
+-- there are a time and a count, and they fit 64 bits
 abbrev pub IsDelivery : Option (ℕ × ℕ) → Type 0
 IsDelivery None = ⊥
 IsDelivery (Some d) = (d.0 < 2 ^ 64) × (d.1 < 2 ^ 64)

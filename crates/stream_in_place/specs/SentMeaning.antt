@@ -11,7 +11,7 @@ use Rattle.stream_in_place.specs.declared.sent.SentClaim.{SentClaim}
 abbrev pub octet_pair : Octets × Octets → List ℕ × List ℕ
 octet_pair p = (p.0.0.items, p.1.0.items)
 
--- a name and its value, one behind the other
+-- a name and its value, concatenated
 abbrev pub joined_pair : List ℕ × List ℕ → List ℕ
 joined_pair p = p.0 ++ p.1
 
@@ -19,7 +19,7 @@ joined_pair p = p.0 ++ p.1
 abbrev pub octet_pairs : OctetPairs → Pairs
 octet_pairs ps = map octet_pair ps.0.items
 
--- the entry that a row is
+-- the entry that a row means
 abbrev pub sent_of : SentRow → SentEntry
 sent_of r = record {
   id = string_bytes r.id;
@@ -27,11 +27,11 @@ sent_of r = record {
   delivery = option_map (λ d. (d.elapsed, d.count)) r.delivery;
 }
 
--- what rows mean, in order
+-- the entries that rows mean, in order
 abbrev pub sent_all : Vec SentRow Global → List SentEntry
 sent_all rows = map sent_of rows.items
 
--- the answer that a claim is
+-- the reply that a claim means
 abbrev pub claim_of : SentClaim → SentAutoClaim
 claim_of c = record {
   next = string_bytes c.next;

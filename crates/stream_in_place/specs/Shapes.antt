@@ -10,7 +10,7 @@ use Rattle.stream_entries.specs.JustId.{JustId}
 use Rattle.stream_in_place.specs.Sent.{Pairs, SentEntry, SentStream, SentAutoClaim}
 use Rattle.stream_in_place.specs.AddedIds.{deleted_count}
 
--- the three ways to write that there is no value
+-- the three ways to write nil
 pub data NilForm : Type 0 where
   no_array : NilForm
   no_text : NilForm
@@ -26,7 +26,7 @@ nil_bytes null = line_bytes 95 []
 unfoldable pub pair_bytes : List ℕ × List ℕ → List ℕ
 pair_bytes p = bulk_bytes p.0 ++ bulk_bytes p.1
 
--- the fields of an entry: an array of names and values in turn, or nil where the entry was deleted
+-- the fields of an entry: an array of names and values alternately, or nil if the entry was deleted
 unfoldable pub fields_bytes : NilForm → Option Pairs → List ℕ
 fields_bytes form None = nil_bytes form
 fields_bytes form (Some ps) = count_bytes 42 (2 * length ps) ++ flat_map pair_bytes ps
@@ -36,7 +36,7 @@ unfoldable pub delivery_bytes : Option (ℕ × ℕ) → List ℕ
 delivery_bytes None = []
 delivery_bytes (Some d) = line_bytes 58 (decimal d.0) ++ line_bytes 58 (decimal d.1)
 
--- how many values a row has
+-- the number of values of a row
 abbrev pub row_len : Option (ℕ × ℕ) → ℕ
 row_len None = 2
 row_len (Some d) = 4
@@ -46,11 +46,11 @@ unfoldable pub entry_bytes : NilForm → SentEntry → List ℕ
 entry_bytes form e = count_bytes 42 (row_len e.delivery)
     ++ (bulk_bytes e.id ++ (fields_bytes form e.fields ++ delivery_bytes e.delivery))
 
--- the rows of entries, as XRANGE answers them
+-- the rows of entries, as XRANGE returns them
 unfoldable pub rows_bytes : NilForm → List SentEntry → List ℕ
 rows_bytes form es = count_bytes 42 (length es) ++ flat_map (entry_bytes form) es
 
--- what stands before the name of a stream: nothing in a map, and in an array the head of an array of two
+-- what precedes the name of a stream: nothing in a map, and in an array the header of an array of two
 unfoldable pub stream_head : Bool → List ℕ
 stream_head true = []
 stream_head false = count_bytes 42 2
@@ -59,13 +59,13 @@ stream_head false = count_bytes 42 2
 unfoldable pub stream_bytes : Bool → NilForm → SentStream → List ℕ
 stream_bytes in_map form s = stream_head in_map ++ (bulk_bytes s.name ++ rows_bytes form s.entries)
 
--- the three ways to answer streams
+-- the three forms of a reply of streams
 pub data ReadForm : Type 0 where
   as_nil : ReadForm
   as_array : ReadForm
   as_map : ReadForm
 
--- streams as XREAD and XREADGROUP answer them: nil where there is none, an array of them, in RESP3 a map
+-- streams as XREAD and XREADGROUP return them: nil if there are none, an array of them, in RESP3 a map
 unfoldable pub streams_bytes : ReadForm → NilForm → List SentStream → List ℕ
 streams_bytes as_nil form ss = nil_bytes form
 streams_bytes as_array form ss = count_bytes 42 (length ss) ++ flat_map (stream_bytes false form) ss
@@ -75,20 +75,20 @@ streams_bytes as_map form ss = count_bytes 37 (length ss) ++ flat_map (stream_by
 unfoldable pub ids_bytes : List (List ℕ) → List ℕ
 ids_bytes ids = count_bytes 42 (length ids) ++ flat_map bulk_bytes ids
 
--- the deleted ids, which a server tells from 7.0 on
+-- the deleted ids, which servers send from 7.0 on
 unfoldable pub deleted_bytes : Bool → List (List ℕ) → List ℕ
 deleted_bytes true ids = ids_bytes ids
 deleted_bytes false ids = []
 
--- the head of an array of two, or of three where deleted ids are told, and the id to go on with
+-- the header of an array of two, or of three with deleted ids, and the id to continue with
 unfoldable pub claim_start : Bool → List ℕ → List ℕ
 claim_start told next = count_bytes 42 (suc (suc (deleted_count told))) ++ bulk_bytes next
 
--- what XAUTOCLAIM answers
+-- the reply of XAUTOCLAIM
 unfoldable pub autoclaim_bytes : Bool → NilForm → SentAutoClaim → List ℕ
 autoclaim_bytes told form r = claim_start told r.next ++ (rows_bytes form r.claimed ++ deleted_bytes told r.deleted)
 
--- the same where it is asked for ids alone
+-- the same with `JUSTID`
 unfoldable pub justid_bytes : Bool → JustId → List ℕ
 justid_bytes told r = claim_start told r.next ++ (ids_bytes r.claimed ++ deleted_bytes told r.deleted)
 
@@ -115,7 +115,7 @@ abbrev pub ArePairs : Limits → Option Pairs → Type 0
 ArePairs limits None = Unit {0}
 ArePairs limits (Some ps) = (2 * length ps ≤ limits.length) × AllByRecursion (IsPair limits) ps
 
--- a time and a count that 63 bits hold, in the claim form alone
+-- a time and a count of at most 63 bits, in the claim form only
 abbrev pub IsOfForm : Bool → Option (ℕ × ℕ) → Type 0
 IsOfForm false None = Unit {0}
 IsOfForm false (Some d) = ⊥
@@ -133,7 +133,7 @@ pub record AreEntriesOf (limits : Limits) (claim : Bool) (es : List SentEntry) :
   pub few : length es ≤ limits.length
   pub each : AllByRecursion (IsEntryOf limits claim) es
 
--- The bytes begin with the rows of these entries, which are so many bytes, and the limits allow them.
+-- The bytes begin with the rows of these entries, `len` bytes long, and the limits allow them.
 pub record BeginsWithRange (limits : Limits) (bytes : List ℕ) (es : List SentEntry) (len : ℕ) : Type 0 where
   pub form : NilForm
   pub rest : List ℕ
@@ -153,7 +153,7 @@ pub record AreStreamsOf (limits : Limits) (claim : Bool) (ss : List SentStream) 
   pub few : length ss ≤ limits.length
   pub each : AllByRecursion (IsStreamOf limits claim) ss
 
--- The bytes begin with these streams in that form, whose rows have the other, and the limits allow them.
+-- The bytes begin with these streams in the form `told`, whose rows have the form `claim`, and the limits allow them.
 pub record BeginsAs (limits : Limits) (told : ReadForm) (claim : Bool) (bytes : List ℕ) (ss : List SentStream)
     : Type 0 where
   pub form : NilForm
@@ -162,13 +162,13 @@ pub record BeginsAs (limits : Limits) (told : ReadForm) (claim : Bool) (bytes : 
   pub allows : AllowsRows limits
   pub within : AreStreamsOf limits claim ss
 
--- nil says that there is none
+-- nil is only for no streams
 abbrev pub IsToldAs : ReadForm → List SentStream → Type 0
 IsToldAs as_nil ss = ss ≡ []
 IsToldAs as_array ss = Unit {0}
 IsToldAs as_map ss = Unit {0}
 
--- The bytes begin with these streams, whose rows have that form, which are so many bytes, and the limits
+-- The bytes begin with these streams, whose rows have that form, `len` bytes long, and the limits
 -- allow them.
 pub record BeginsWithStreams (limits : Limits) (claim : Bool) (bytes : List ℕ) (ss : List SentStream) (len : ℕ)
     : Type 0 where
@@ -187,12 +187,12 @@ pub record AreIdsOf (limits : Limits) (ids : List (List ℕ)) : Type 0 where
   pub few : length ids ≤ limits.length
   pub each : AllByRecursion (IsName limits) ids
 
--- such ids where deleted ids are told, and else none
+-- such ids if the reply has deleted ids, and else none
 abbrev pub AreDeleted : Limits → Bool → List (List ℕ) → Type 0
 AreDeleted limits true ids = AreIdsOf limits ids
 AreDeleted limits false ids = ids ≡ []
 
--- The bytes begin with that answer of XAUTOCLAIM, which is so many bytes, and the limits allow it.
+-- The bytes begin with that reply of XAUTOCLAIM, `len` bytes long, and the limits allow it.
 pub record BeginsWithAutoClaim (limits : Limits) (bytes : List ℕ) (r : SentAutoClaim) (len : ℕ) : Type 0 where
   pub told : Bool
   pub form : NilForm
@@ -205,7 +205,7 @@ pub record BeginsWithAutoClaim (limits : Limits) (bytes : List ℕ) (r : SentAut
   pub claimed : AreEntriesOf limits false r.claimed
   pub deleted : AreDeleted limits told r.deleted
 
--- The same where the command asked for ids alone.
+-- The same with `JUSTID`.
 pub record BeginsWithJustId (limits : Limits) (bytes : List ℕ) (r : JustId) (len : ℕ) : Type 0 where
   pub told : Bool
   pub rest : List ℕ
