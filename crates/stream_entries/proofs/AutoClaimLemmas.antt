@@ -65,7 +65,7 @@ pub claimed_refused : (t : Tree) (kind : ClaimedKind) (count : ℕ) → claimed_
     → entries_by_kind kind t ≡ None → claimed_reading t ≡ None
 claimed_refused t kind count s e = rw (s, e) refl
 
--- a reply is read from its parts, and refused where one of them is
+-- a reply is read from its parts, and refused if one of them is
 module _ (t : Tree) (parts : Parts) (there : parts_in t ≡ Some parts) where
   by_parts : autoclaim_reading t ≡ autoclaim_of parts
   by_parts = ap (option_and_then autoclaim_of) there
@@ -100,7 +100,7 @@ module _ (t : Tree) (parts : Parts) (there : parts_in t ≡ Some parts) where
           → Refuses autoclaim_reading RefusesAutoClaim t error
       next_part deleted d r = (told (inr (inr r)), λ h. by_parts ∙ rw (c, d, r.1 h) refl)
 
--- a reply whose parts are not there
+-- a value that has no such parts
 pub no_parts : (t : Tree) (error : ParsingError) → Refuses parts_in (RefusesParts (λ _ _. ⊥)) t error
     → Refuses autoclaim_reading RefusesAutoClaim t error
 no_parts t error r = (by (array_of_plain t) r.0, λ h. ap (option_and_then autoclaim_of) (r.1 h))

@@ -114,7 +114,7 @@ no_standard : (t : Tree) (q : Tree × Tree × Tree × Tree) → four_in t ≡ So
     → standard_entries t ≡ None
 no_standard t q is none = standard_of_four t q is ∙ none_there (standard_of q) none
 
--- if the third is nil, it is no id of a row
+-- if the third is nil, it is not the id of a row
 pub nil_is_no_id : (t : Tree) (d : Option ℕ) → numbers_in t ≡ Some (None, d) → standard_entries t ≡ None
 nil_is_no_id t d h = by (four_in t) refl
   where
@@ -125,7 +125,7 @@ nil_is_no_id t d h = by (four_in t) refl
         ap text_of_plain (none_is_nil (plain q.2) (numbers_with t q None d is h).0) in
         no_standard t q is (λ s. true≢false (sym (standard_parts q s).2 ∙ ap is_some no_text))
 
--- if the fourth is a number, it is no fields of a row
+-- if the fourth is a number, it is not the fields of a row
 pub number_is_no_fields : (t : Tree) (e : Option ℕ) (d : ℕ) → numbers_in t ≡ Some (e, Some d)
     → standard_entries t ≡ None
 number_is_no_fields t e d h = by (four_in t) refl
@@ -140,7 +140,7 @@ number_is_no_fields t e d h = by (four_in t) refl
         (sym (fourth (plain q.3)) ∙ rw ((standard_parts q s).3, there) refl) in
         none-some d (same_Some None (Some d) (sym (ap option_of_plain nothing) ∙ number)))
 
--- a pair of a map is no array of four
+-- a pair of a map is not an array of four
 pub pair_is_no_delivery : (p : Tree × Tree) → claim_entries (single p) ≡ None
 pair_is_no_delivery p = refl
 

@@ -8,7 +8,7 @@ use Rattle.redis_resp.specs.Reading.{list_reading, option_reading}
 use Rattle.stream_entries.specs.Entry.{Entry, entry_of}
 use Rattle.stream_entries.specs.Rows.{rows_reading}
 
--- the id to continue with, the entries that were claimed, the ids that were deleted, and whether the list of claimed
+-- the id to continue with, the entries that were claimed, the deleted ids, and whether the list of claimed
 -- entries has more items than entries
 pub record AutoClaim : Type 0 where
   pub next : List ℕ

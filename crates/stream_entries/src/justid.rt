@@ -46,8 +46,8 @@ impl StreamAutoClaimJustIdReply {
 
 /// Parses an array of two or three: the next id, the claimed ids and, in an array of three, the deleted
 /// ids. `NotArray` for any other kind, attributes included; `WrongItemCount` for another length. An
-/// unreadable part is refused with its own error: `NotText` for what is not an id, as nil or an
-/// entry with fields, and `NotList` for what is not a list of ids.
+/// unreadable part is refused with its own error. That is `NotText` for a value that is not an id, such as nil
+/// or an entry with fields, and `NotList` for one that is not a list of ids.
 impl FromRedisValue for StreamAutoClaimJustIdReply {
     ghost Meaning = { JustId };
 

@@ -44,9 +44,9 @@ impl StreamReadReply {
     }
 }
 
-/// Parses a list of rows: each item of each list is a row of ids and fields (the standard form), else an id,
-/// fields and the two numbers of its delivery (the claim form). One form holds for the whole value, and the
-/// error is `UnknownReadFormat` if it has neither. A value that is not a list is refused without
+/// Parses a list of rows, in the standard form or else in the claim form. Each item of its lists is a row of ids
+/// and fields, or in the claim form an id, fields and the two numbers of its delivery. One form holds for the whole
+/// value, and the error is `UnknownReadFormat` if it has neither. A value that is not a list is refused without
 /// allocating, and a list of no rows allocates nothing.
 impl FromRedisValue for StreamReadReply {
     ghost Meaning = { Streams };

@@ -45,7 +45,7 @@ joined_ones : (es : List SentEntry) → joined (map (λ e. copied e ∷ []) es) 
 joined_ones [] = refl
 joined_ones (e ∷ es) = ap (λ (xs : List Entry). copied e ∷ xs) (joined_ones es)
 
--- the claim form of a row: a time and a count at the end, so that its pairs are no fields
+-- the claim form of a row: a time and a count at the end, so that its pairs are not fields
 no_row : (id : List ℕ) (o : Option Pairs) (d : Option (ℕ × ℕ)) → IsDelivery d → is_utf8 id ≡ true → AreTextFields o
     → standard_entries (row_tree (record { id = id; fields = o; delivery = d })) ≡ None
 no_row id o None is text names = absurd is

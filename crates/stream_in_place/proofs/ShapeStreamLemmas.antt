@@ -188,7 +188,7 @@ module _ (limits : Limits) (allows : AllowsRows limits) (claim : Bool) (form : N
       ∙ map_of (value_at limits (suc (suc (suc (suc (suc d)))))) (length ss) behind
       (flat_map (stream_members true) ss) (map stream_pair ss) rest (pairs_in_turn d ss rest h.each) (map_members ss)
 
--- a map of streams is no array
+-- a map of streams is not an array
 pub map_is_no_array : (limits : Limits) (claim : Bool) (bytes : List ℕ) (ss : List SentStream) (count after : ℕ)
     → BeginsAs limits as_map claim bytes ss → IsArrayAt limits bytes 0 count after → ⊥
 map_is_no_array limits claim bytes ss count after b head =

@@ -41,9 +41,9 @@ pub record DeletedAdded (limits : Limits) (bytes : List ℕ) (at : ℕ) (told : 
   pub reads : (d : ℕ) → many (value_at limits (suc (suc d))) (deleted_count told) (drop at bytes)
       ≡ Ok (values (deleted_trees told (map (id_at bytes) grown.more)), drop after bytes)
 
--- The bytes begin with the first part of an automatic claim: the header of an array of two, or of three with the
--- deleted ids; then the next id, and the header of an array of `count`. That header ends with the first
--- `at` bytes.
+-- The bytes begin with the first part of an automatic claim. It is the header of an array of two, or of three with
+-- the deleted ids; then the next id; then the header of an array of `count` elements. That last header ends with the
+-- first `at` bytes.
 pub record IsClaimHead (limits : Limits) (bytes : List ℕ) (told : Bool) (next : Span) (count at : ℕ) : Type 0 where
   pub behind : ℕ
   pub middle : ℕ

@@ -8,8 +8,8 @@ use Rattle.redis_resp.specs.Tree.{Tree, nil, int, bulk, array, map_of_pairs, tre
 abbrev pub Pairs : Type 0
 Pairs = List (List ℕ × List ℕ)
 
--- an id and its fields, None if the entry was deleted; in the claim form also the milliseconds since its last
--- delivery, and its delivery count
+-- an id and its fields, None if the entry was deleted; in the claim form also the milliseconds since its
+-- last delivery and its delivery count
 pub record SentEntry : Type 0 where
   pub id : List ℕ
   pub fields : Option Pairs

@@ -86,8 +86,8 @@ fn text_from(
     Some((Span { start, len }, start + len + 2))
 }
 
-/// Returns the text of the bulk string at offset `at`, and the offset of its end, if its length has one or
-/// two digits and 106 bytes are left. The longest such string has 106 bytes, so its end is never missing.
+/// Returns the text of the bulk string at offset `at`, and the offset of its end. `None` unless its length has
+/// one or two digits and 106 bytes are left. The longest such string has 106 bytes, so its end is never missing.
 #[inline(always)]
 fn short_text_at(limits: Limits, bytes: &[u8], at: usize) -> Option<(Span, usize)>
     requires { at ≤ length bytes.now }
@@ -135,8 +135,8 @@ pub fn bulk_at(limits: Limits, bytes: &[u8], at: usize) -> Option<(Span, usize)>
     Some((Span { start, len }, after))
 }
 
-/// Returns the number of elements of the array at offset `at`, and the offset of the end of its header,
-/// if the count is one digit and 106 bytes are left.
+/// Returns the number of elements of the array at offset `at`, and the offset of the end of its header.
+/// `None` unless the count is one digit and 106 bytes are left.
 #[inline(always)]
 fn short_count_at(limits: Limits, bytes: &[u8], at: usize) -> Option<(u32, usize)>
     requires { at ≤ length bytes.now }

@@ -65,8 +65,8 @@ impl EntryTape {
     }
 
     /// Reads the entries of the reply at the start of the bytes in place. `None` unless it has the shape that
-    /// servers send for XRANGE, XREVRANGE and XCLAIM. That is an array of rows, each of an id and an array of
-    /// names and values, or nil for the fields of an entry that was deleted. No value is made, so
+    /// servers send for XRANGE, XREVRANGE and XCLAIM: an array of rows, each of an id and an array of names
+    /// and values. For an entry that was deleted nil is in place of that array. No value is made, so
     /// `Limits::values` bounds nothing here.
     pub fn read_range<'a>(
         &'a mut self,
@@ -94,8 +94,8 @@ impl EntryTape {
     }
 
     /// Reads the streams of the reply at the start of the bytes in place. `None` unless it has the shape that
-    /// servers send for XREAD and XREADGROUP: an array of streams, each of its name and its rows, in RESP3 a
-    /// map of names to rows, or nil. No value is made, so `Limits::values` bounds nothing here.
+    /// servers send for XREAD and XREADGROUP. That is nil, an array of streams, each of its name and its rows,
+    /// or in RESP3 a map of names to rows. No value is made, so `Limits::values` bounds nothing here.
     pub fn read_streams<'a>(
         &'a mut self,
         bytes: &'a [u8],
@@ -166,8 +166,8 @@ impl EntryTape {
     }
 
     /// Reads the reply of XAUTOCLAIM at the start of the bytes in place. `None` unless it has the shape that
-    /// servers send: an array of the next id, the rows of the entries that were claimed and, from 7.0 on,
-    /// the deleted ids.
+    /// servers send. That is an array of the next id, the rows of the entries that were claimed and, from 7.0
+    /// on, the deleted ids.
     pub fn read_autoclaim<'a>(
         &'a mut self,
         bytes: &'a [u8],
@@ -188,8 +188,8 @@ impl EntryTape {
         }
     }
 
-    /// Reads the reply of XAUTOCLAIM with `JUSTID`, as `read_autoclaim` does: an array of the next id, the
-    /// ids that were claimed and, from 7.0 on, the deleted ids.
+    /// Reads the reply of XAUTOCLAIM with `JUSTID`, as `read_autoclaim` does. Its shape is an array of the next
+    /// id, the ids that were claimed and, from 7.0 on, the deleted ids.
     pub fn read_justid<'a>(
         &'a mut self,
         bytes: &'a [u8],
