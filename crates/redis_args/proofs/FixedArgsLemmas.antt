@@ -21,7 +21,7 @@ pub AreEnds-push : (s : ℕ) (ends : List ℕ) (n k : ℕ) → AreEnds s ends n 
 AreEnds-push s [] n k h = (omega (arith, h), refl)
 AreEnds-push s (e ∷ es) n k h = (h.0, AreEnds-push e es n k h.1)
 
--- a part of the beginning
+-- a part of the prefix
 pub slice_range-append : (b a : List ℕ) (s e : ℕ) → s ≤ e → e ≤ length b → slice_range (b ++ a) s e ≡ slice_range b s e
 slice_range-append b a s e le fits = grind (arith, common_steps)
 
@@ -38,7 +38,7 @@ pieces-push s b (e ∷ es) a h =
     let p = slice_range-append b a s e h.0 (start_le e es (length b) h.1) in
     let q = pieces-push e b es a h.1 in cc
 
--- the bytes in all
+-- the total number of bytes
 pub sum_by-pieces : (s : ℕ) (b ends : List ℕ) → AreEnds s ends (length b)
     → s + sum_by length (pieces s b ends) ≡ length b
 sum_by-pieces s b [] h = omega (arith, h)
@@ -56,7 +56,7 @@ slice_get-pieces s b (e ∷ es) zero h = refl
 slice_get-pieces s b (e ∷ es) (suc i) h = slice_get-pieces e b es i (omega arith)
 slice_get-pieces s b [] i h = absurd (omega arith)
 
--- where it lies
+-- its range of offsets
 pub ends_in_order : (s : ℕ) (ends : List ℕ) (n i : ℕ) → AreEnds s ends n → i < length ends
     → (get_or (s ∷ ends) i 0 ≤ get_or ends i 0) × (get_or ends i 0 ≤ n)
 ends_in_order s (e ∷ es) n zero h lt = (h.0, start_le e es n h.1)

@@ -6,7 +6,7 @@ use Rattle.redis_args.specs.declared.writer.WriteError.{WriteError}
 use Rattle.redis_args.specs.Room.{LacksRoom, MayRefuse, HasRoom}
 use Rattle.redis_args.specs.Writer.{Wrote}
 
--- a beginning of the list leaves room for the next argument of it
+-- a prefix of the list leaves room for the next argument of it
 lacks_none : (count size : ℕ) (old written rest : List (List ℕ)) (next : List ℕ)
     → HasRoom count size old (written ++ next ∷ rest) → LacksRoom count size (old ++ written) next → ⊥
 lacks_none count size old written rest next room (inl full) =

@@ -18,7 +18,7 @@ module _ {E : Type 0} {old new : List (List ℕ)} {may_refuse : List ℕ → E �
     refused = refused;
   }
 
-  -- the run stopped in the beginning of the list
+  -- the run stopped in the prefix of the list
   pub stops_before : (xs ys : List (List ℕ)) → StopsWithin old xs new may_refuse e
       → StopsWithin old (xs ++ ys) new may_refuse e
   stops_before xs ys s = record {
@@ -30,7 +30,7 @@ module _ {E : Type 0} {old new : List (List ℕ)} {may_refuse : List ℕ → E �
     refused = s.refused;
   }
 
-  -- the beginning was written, and the run stopped in what follows
+  -- the prefix was written, and the run stopped in what follows
   pub stops_after : {mid : List (List ℕ)} (xs ys : List (List ℕ)) → mid ≡ old ++ xs
       → StopsWithin mid ys new may_refuse e → StopsWithin old (xs ++ ys) new may_refuse e
   stops_after xs ys w s = record {
@@ -74,7 +74,7 @@ stops_in_element f (y ∷ ys) (suc i) x {old = old} lt is w s =
     (stops_in_element f ys i x (omega arith) is (w ∙ sym (append_assoc old (f y) (flat_map f (take i ys)))) s)
 stops_in_element f [] i x lt is w s = absurd (omega arith)
 
--- the same, where the clause also says what `Ok` means
+-- the same, if the clause also specifies what `Ok` means
 pub wrote_at_exit : {T E : Type 0} {old all new : List (List ℕ)} {may_refuse : List ℕ → E → Type 0} {e : E}
     (r : Result T E)
     → IsErrAnd r (λ y. y ≡ e) → StopsWithin old all new may_refuse e

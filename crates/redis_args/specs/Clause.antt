@@ -1,7 +1,7 @@
--- The clauses that sentences are made of: a fixed word, and what it names.
+-- The clauses of a command's arguments: a fixed word and its value.
 use Rattle.std.specs.Prelude.{ℕ, Bool, true, false, List, [], ◌∷◌, Option, Some, None, decimal}
 
--- the arguments of the value that is set, and none where none is
+-- the arguments of the value if it is set, and none if it is not
 abbrev pub clause : {T : Type 0} → (T → List (List ℕ)) → Option T → List (List ℕ)
 clause args (Some value) = args value
 clause args None = []
@@ -14,7 +14,7 @@ word_number word n = word ∷ decimal n ∷ []
 abbrev pub word_text : List ℕ → List ℕ → List (List ℕ)
 word_text word text = word ∷ text ∷ []
 
--- `word` where it is asked for, and else nothing
+-- `word` if the flag is set, and otherwise nothing
 abbrev pub flag : List ℕ → Bool → List (List ℕ)
 flag word true = word ∷ []
 flag word false = []

@@ -1,4 +1,4 @@
--- Arguments that lie one behind the other in bytes, each told by where it ends.
+-- Arguments kept one after the other in one buffer, each given by the offset where it ends.
 use Rattle.std.specs.Prelude.{◌≡◌, ℕ, ◌≤◌, List, [], ◌∷◌, slice_range}
 
 -- the pieces of the bytes from `start` on

@@ -1,4 +1,4 @@
-//! A writer of a fixed size, which takes no memory.
+//! A writer of a fixed size, which allocates no memory.
 ghost use Rattle.std.specs.Prelude.{◌≡◌, ◌<◌, ◌≤◌, ◌↔◌, ℕ, List, [], ◌∷◌, length};
 ghost use Rattle.std.specs.Prelude.{OnErr, IsErr, MatchOption, slice_get, slice_index};
 ghost use Rattle.redis_args.specs.declared.writer.WriteError.{WriteError};
@@ -9,14 +9,14 @@ use crate::writer::{RedisWrite, WriteError};
 use arrayvec::ArrayVec;
 use std::marker::Model;
 
-/// Arguments in a place of a fixed size: at most `N` of them, with at most `B` bytes in all.
+/// A buffer of a fixed size for arguments: at most `N` of them, with at most `B` bytes in all.
 ///
-/// It refuses with `Full` what it has no room for, and nothing else. A contract sees it as the
-/// list of arguments that stand in it.
+/// It refuses an argument that it has no room for, with `Full`, and no other. A contract sees it as
+/// the list of the arguments that it holds.
 #[derive(Drop)]
 pub struct FixedArgs<const N: usize, const B: usize> {
     bytes: ArrayVec<u8, B>,
-    // where each argument ends in `bytes`
+    // the offset in `bytes` where each argument ends
     ends: ArrayVec<usize, N>,
 }
 
@@ -33,7 +33,7 @@ impl<const N: usize, const B: usize> Model for FixedArgs<N, B> {
 
 #[tactic(auto, using(crate::proofs::FixedArgsLemmas::facts))]
 impl<const N: usize, const B: usize> FixedArgs<N, B> {
-    /// No argument yet.
+    /// Returns a writer with no arguments.
     pub fn new() -> Self
         ensures { result ≡ [] }
     {
@@ -43,14 +43,14 @@ impl<const N: usize, const B: usize> FixedArgs<N, B> {
         }
     }
 
-    /// The number of arguments.
+    /// Returns the number of arguments.
     pub fn len(&self) -> usize
         ensures { result ≡ length self.now }
     {
         self.ends.len()
     }
 
-    /// The argument at `index`, counted from 0; None past the last one.
+    /// Returns the argument at `index`, counted from 0, or `None` if `index` is past the last one.
     pub fn get(&self, index: usize) -> Option<&[u8]>
         ensures { MatchOption result (length self.now ≤ index)
             (λ arg. slice_get self.now index ≡ Some arg.now) }
@@ -85,7 +85,7 @@ impl<const N: usize, const B: usize> RedisWrite for FixedArgs<N, B> {
     }
 }
 
-/// Where the argument at `index` starts: where the one before it ends.
+/// Returns the offset where the argument at `index` starts: the end of the one before it.
 #[tactic(auto, using(crate::proofs::FixedArgsLemmas::item_before))]
 fn start_of(ends: &[usize], index: usize) -> usize
     requires { index < length ends.now }

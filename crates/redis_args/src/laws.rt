@@ -1,5 +1,5 @@
-//! What a number's argument tells of the number, where a writer of a fixed size refuses nothing,
-//! and what a derived `==` and a derived copy tell.
+//! Laws: unequal numbers have unequal arguments, a writer of a fixed size refuses nothing that it has
+//! room for, and a derived `==` and a derived copy are exact.
 ghost use Rattle.std.specs.Prelude.{◌≡◌, ◌↔◌, ◌<◌, ◌^◌, ◌++◌, IsTrue, ℕ, ℤ, FitsSigned, decimal};
 ghost use Rattle.std.specs.Prelude.{IsOk, IfErr, Ok, OnOk};
 ghost use Rattle.std.specs.Fmt.{signed_decimal};
@@ -12,7 +12,7 @@ use crate::to_redis_args::ToRedisArgs;
 use crate::writer::WriteError;
 use std::alloc::AllocError;
 
-/// Two numbers of up to 64 bits that are written as the same argument are the same number.
+/// Two numbers of up to 64 bits that are written as the same argument are equal.
 #[tactic(auto, using(crate::proofs::DecimalLemmas::decimals_differ))]
 pub fn unique_decimal()
     ensures unsigned { (m n : ℕ) → m < 2 ^ 64 → n < 2 ^ 64 → decimal m ≡ decimal n → m ≡ n }
@@ -20,9 +20,9 @@ pub fn unique_decimal()
         → signed_decimal y ≡ signed_decimal z → y ≡ z }
 {}
 
-/// Appends the arguments of a value to a `FixedArgs`: Ok wherever there is room for all of them,
-/// at most `N` arguments of at most `B` bytes together with those that stand there already. It
-/// takes no memory, so the one refusal is `Full`.
+/// Appends the arguments of a value to a `FixedArgs`. Returns Ok if there is room for all of them: at
+/// most `N` arguments of at most `B` bytes, counting those written already. It allocates no memory, so
+/// its one error is `Full`.
 #[tactic(auto, using(crate::proofs::RoomLemmas::room_is_enough))]
 pub fn write_with_room<T: ToRedisArgs, const N: usize, const B: usize>(
     value: &T,
@@ -35,22 +35,22 @@ pub fn write_with_room<T: ToRedisArgs, const N: usize, const B: usize>(
     value.write_redis_args(out)
 }
 
-/// `==` holds of two `WriteError` exactly where they are the same. It takes no memory.
+/// `==` holds of two `WriteError` exactly if they are the same. It allocates no memory.
 pub fn equal_write_errors(a: WriteError, b: WriteError) -> bool
     ensures { IsTrue result ↔ (a ≡ b) }
 {
     a == b
 }
 
-/// A `WriteError` is copied as it is. It takes no memory and is always Ok.
+/// Returns a copy of a `WriteError`, which is equal to it. It allocates no memory and is always Ok.
 pub fn copied_write_error(error: &WriteError) -> Result<WriteError, AllocError>
     ensures { result ≡ Ok error.now }
 {
     error.clone()
 }
 
-/// `==` holds of two `RawBytes` exactly where they are the same bytes, whatever room their buffers
-/// have. It takes no memory.
+/// `==` holds of two `RawBytes` exactly if they are the same bytes, whatever the capacity of their
+/// buffers. It allocates no memory.
 pub fn equal_bytes(a: &RawBytes, b: &RawBytes) -> bool
     ensures { IsTrue result ↔ (a.now.0.items ≡ b.now.0.items) }
 {

@@ -1,10 +1,10 @@
-//! Argument lists of Redis commands, and the writers that they go into.
+//! Argument lists of Redis commands, and the writers that receive them.
 //!
 //! ```text
 //! let args = ("MAXLEN", 10usize).to_redis_args(alloc)?;             // `MAXLEN`, `10`
 //! ```
 //!
-//! A type of your own joins by implementing `ToRedisArgs` with the list that its values mean; it
+//! To add a type of your own, implement `ToRedisArgs` with the list of arguments of its values. It
 //! then works inside lists, options and tuples with no change here.
 #![tactic(auto)]
 

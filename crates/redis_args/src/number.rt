@@ -1,5 +1,5 @@
-//! Numbers as arguments: in decimal, with no leading zeros, and `-` before a negative one; `1` for
-//! true and `0` for false.
+//! Numbers as arguments: in decimal, with no leading zeros, and with `-` before a negative one. A
+//! boolean is `1` for true and `0` for false.
 ghost use Rattle.std.specs.Prelude.{[], ◌∷◌, codes, decimal, refl, if◌then◌else◌};
 ghost use Rattle.std.specs.Fmt.{signed_decimal};
 

@@ -4,7 +4,7 @@ ghost use Rattle.std.specs.Prelude.{[], ◌∷◌, refl};
 use crate::to_redis_args::{ToRedisArgs, ToSingleRedisArg};
 use crate::writer::{RedisWrite, WriteError};
 
-/// Bytes that are one argument as they stand, whatever they are.
+/// Bytes that are one argument, unchanged, whether or not they are text.
 #[derive(Debug, PartialEq, Eq, Drop)]
 pub struct RawBytes(pub Vec<u8>);
 

@@ -1,4 +1,4 @@
-//! Texts and bytes as arguments.
+//! Strings and bytes as arguments.
 ghost use Rattle.std.specs.Prelude.{[], ◌∷◌, string_bytes, refl};
 
 use crate::to_redis_args::{ToRedisArgs, ToSingleRedisArg};
@@ -28,7 +28,7 @@ impl ToSingleRedisArg for &str {
     ghost single = { λ _. refl };
 }
 
-/// Borrowed bytes are one argument as they stand, with no copy of them.
+/// Borrowed bytes are one argument, unchanged. They are not copied.
 impl ToRedisArgs for &[u8] {
     ghost args = { λ bytes. bytes.now ∷ [] };
 
@@ -41,7 +41,7 @@ impl ToSingleRedisArg for &[u8] {
     ghost single = { λ _. refl };
 }
 
-/// Bytes of one's own are one argument too.
+/// Owned bytes are one argument too.
 impl ToRedisArgs for Vec<u8> {
     ghost args = { λ bytes. bytes.items ∷ [] };
 

@@ -1,11 +1,11 @@
-//! Values that mean a list of arguments.
+//! Values that are written as a list of arguments.
 ghost use Rattle.std.specs.Prelude.{◌≡◌, ℕ, List, map, length, IfOk};
 ghost use Rattle.redis_args.specs.Writer.{Wrote};
 
 use crate::writer::{RedisWrite, WriteError};
 use std::alloc::{AllocError, Global};
 
-/// A value that means a list of arguments of a command.
+/// A value that is written as a list of arguments of a command.
 ///
 /// ```text
 /// struct Flag(bool);
@@ -19,18 +19,18 @@ use std::alloc::{AllocError, Global};
 /// }
 /// ```
 pub trait ToRedisArgs {
-    /// The list of arguments that a value means.
+    /// The list of arguments of a value.
     ghost args: { Self → List (List ℕ) };
 
     /// Appends the arguments of this value to the writer.
     ///
-    /// Where the writer refuses one of them, its error is passed on: the writer then holds the
-    /// arguments before that one, each whole, and nothing of the rest.
+    /// If the writer refuses one of them, returns its error. The writer then holds the arguments
+    /// before that one, each whole, and nothing of the rest.
     fn write_redis_args<W: RedisWrite>(&self, out: &mut W) -> Result<(), WriteError>
         ensures { Wrote result (W.written out.old) (args self.now) (W.written out.new)
             (W.may_refuse out.new) };
 
-    /// The arguments of this value, as a list on the heap. It fails only where it runs out of
+    /// Returns the arguments of this value as a list on the heap. It fails only if it runs out of
     /// memory.
     fn to_redis_args(&self, alloc: Global) -> Result<Vec<Vec<u8>>, AllocError>
         ensures { IfOk result (λ list. map (λ arg. arg.items) list.items ≡ args self.now) }
@@ -44,8 +44,8 @@ pub trait ToRedisArgs {
     }
 }
 
-/// A value that means exactly one argument.
+/// A value that is written as exactly one argument.
 pub trait ToSingleRedisArg: ToRedisArgs {
-    /// The list of each value has one argument.
+    /// The list of arguments of each value has one element.
     ghost single: { (x : Self) → length (Self.args x) ≡ 1 };
 }

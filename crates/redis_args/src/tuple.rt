@@ -1,7 +1,7 @@
 //! Tuples as arguments: the lists of their members, joined in order.
 //!
-//! A sentence of options is written as one tuple, which reads like its grammar. A wider tuple is
-//! written as a tuple of narrower ones, which means the same list.
+//! The options of a command are written as one tuple, which reads like its syntax. A wider tuple is
+//! written as a tuple of narrower ones, which has the same list of arguments.
 ghost use Rattle.std.specs.Prelude.{◌++◌};
 
 use crate::to_redis_args::ToRedisArgs;

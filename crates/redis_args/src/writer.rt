@@ -1,4 +1,4 @@
-//! What arguments are written into.
+//! Writers, which receive arguments.
 ghost use Rattle.std.specs.Prelude.{◌≡◌, ◌↔◌, ℕ, List, [], ◌∷◌, map, OnErr};
 ghost use Rattle.redis_args.specs.Writer.{Wrote};
 ghost use Rattle.redis_args.specs.declared.writer.WriteError.{WriteError};
@@ -9,7 +9,7 @@ use std::alloc::{AllocError, AllocFailed};
 /// Why a writer refused an argument.
 #[derive(Clone, Copy, Debug, PartialEq, Eq)]
 pub enum WriteError {
-    /// Memory for the argument was refused.
+    /// The memory for the argument could not be allocated.
     Memory,
     /// A writer of a fixed size has no room for the argument.
     Full,
@@ -31,10 +31,10 @@ impl<T: Drop> From<AllocFailed<T>> for WriteError {
     }
 }
 
-/// A place that takes the arguments of commands, one after the other.
+/// A writer that receives the arguments of commands, one after the other.
 ///
-/// A writer of your own says which arguments stand in it and which it may refuse, with which
-/// error; every value of this layer then keeps its promises with it.
+/// A writer of your own specifies which arguments it holds and which it may refuse, with which
+/// error. Every value of this crate then keeps its contract with it.
 pub trait RedisWrite {
     /// The arguments written so far, in order.
     ghost written: { Self → List (List ℕ) };
@@ -44,8 +44,8 @@ pub trait RedisWrite {
 
     /// Appends one argument.
     ///
-    /// An Err comes only where the writer may refuse this argument with this error, and changes
-    /// neither what stands in the writer nor what it may refuse.
+    /// Returns an Err only if the writer may refuse this argument with this error. An Err changes
+    /// neither the arguments held nor those that the writer may refuse.
     fn write_arg(&mut self, arg: &[u8]) -> Result<(), WriteError>
         ensures wrote { Wrote result (written self.old) (arg.now ∷ []) (written self.new)
             (may_refuse self.new) }
@@ -53,7 +53,7 @@ pub trait RedisWrite {
             → may_refuse self.new a e ↔ may_refuse self.old a e) };
 }
 
-/// A list on the heap may refuse any argument, with `Memory` alone.
+/// A list on the heap may refuse any argument, but only with `Memory`.
 impl RedisWrite for Vec<Vec<u8>> {
     ghost written = { λ list. map (λ arg. arg.items) list.items };
 
@@ -68,7 +68,7 @@ impl RedisWrite for Vec<Vec<u8>> {
     }
 }
 
-// A list that has no room at all gets it for as many arguments as sentences mostly have.
+// The capacity reserved by a list that has none: the usual number of arguments of a command.
 const USUAL_COUNT: usize = 16;
 
 fn make_room(list: &mut Vec<Vec<u8>>) -> Result<(), AllocError>
