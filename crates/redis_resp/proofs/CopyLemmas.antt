@@ -5,7 +5,7 @@ use Rattle.std.proofs.lemmas.List.{length-append, map_more, map_push, set_at}
 use Rattle.std.specs.Prelude.{set}
 
 module _ {A B : Type 0} (f : A → B) where
-  -- a value is put behind the others, and then written over
+  -- a value is appended to the others, and then overwritten
   pub written_last : (xs ys : List A) (y a : A) (n : ℕ) → ys ≡ xs ++ y ∷ [] → n ≡ length ys
       → map f (set ys (n - 1) a) ≡ map f xs ++ f a ∷ []
   written_last xs ys y a n grown end =
@@ -17,8 +17,8 @@ module _ {A B : Type 0} (f : A → B) where
       → map f (take (i + 1) from) ≡ map f (take i from) ++ f x ∷ []
   taken_one from i x lt is = map_more f from i x lt ∙ ap (λ z. map f (take i from) ++ z ∷ []) (ap f (sym is))
 
-  -- `to` are the copies of the first i items of `from`, behind those of `start`, and `new` has a copy of the next item
-  -- behind them
+  -- `to` is `start` and copies of the first i items of `from`; `new` is `to` and a copy of the next item
+  -- after them
   pub copied_more : (from start to new : List A) (x : A) (i : ℕ) → i < length from → x ≡ get_or from i x
       → map f to ≡ map f start ++ map f (take i from) → map f new ≡ map f to ++ f x ∷ []
       → map f new ≡ map f start ++ map f (take (i + 1) from)

@@ -1,4 +1,4 @@
--- Maps into which pairs are put as they are read.
+-- Maps into which pairs are inserted as they are read.
 use Rattle.std.proofs.Common.{◌≡◌, ℕ, Bool, true, false, cond, List, [], ◌∷◌, ◌++◌, sym, ◌∙◌, ap, refl, Option, Some}
 use Rattle.std.proofs.Common.{None, option_map, Global, String, string_bytes}
 use Rattle.std.specs.Option.{option_or}
@@ -60,7 +60,7 @@ module _ {T M : Type 0} (meaning : T → M) where
       → entries_meaning meaning more ≡ put (entries_meaning meaning es) (string_bytes k) (meaning v)
   meaning_inserted es more k v is = ap (entries_meaning meaning) is ∙ meaning_insert es k v
 
-  -- what stands under a key, seen through its meaning
+  -- the value under a key, by its meaning
   abbrev pub at_key : {S : Type 0} → HashMap (String Global) T S → List ℕ → Option M
   at_key m q = option_map meaning (get_by_text m q)
 

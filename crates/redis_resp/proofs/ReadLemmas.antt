@@ -1,4 +1,4 @@
--- Lists that a loop reads member by member, and what the whole is refused with.
+-- Lists that a loop reads member by member, and the errors of the whole.
 use Rattle.std.proofs.Common.{◌≡◌, ◌<◌, inl, inr, ⊎_elim, suc, List, [], ◌∷◌, ◌++◌, length, append_assoc, sym, ◌∙◌, ap}
 use Rattle.std.proofs.Common.{refl, arith, Option, Some, None, option_map}
 use Rattle.std.proofs.lemmas.List.{append-nil}
@@ -20,7 +20,7 @@ pub any_behind : {X : Type 0} (P : X → Type 0) (front : List X) (x : X) (rest 
 any_behind P [] x rest p = (0, x, omega arith, refl, p)
 any_behind P (y ∷ front) x rest p = let a = any_behind P front x rest p in (suc a.0, a.1, omega (arith, a.2), a.3, a.4)
 
--- these are not none
+-- the list is not empty
 some_behind : {X : Type 0} (front : List X) (x : X) (rest : List X) → 0 < length (front ++ x ∷ rest)
 some_behind [] x rest = omega arith
 some_behind (y ∷ front) x rest = omega arith
@@ -72,12 +72,12 @@ module _ {A M : Type 0} (f : A → Option M) (all : List A) where
         → Refuses (traverse f) (OneRefused refuses) all error
     no_memory items rest x done steps e r = read_refused items rest x done steps (inl e, λ h. absurd (h e)) r
 
--- a refusal of a member says that the member has no record
+-- a refusal of a member means that the member has no record
 pub with_reading : {A M : Type 0} (f : A → Option M) (refuses : A → ParsingError → Type 0) (x : A)
     (error : ParsingError) → Refuses f (MemoryOr refuses) x error → Refuses f (MemoryOr (Refuses f refuses)) x error
 with_reading f refuses x error r = (⊎_elim inl (λ p. inr (p, r.1)) r.0, r.1)
 
--- and so does any other refusal
+-- and an error of the member is one of the two
 pub also_memory : {A M : Type 0} (f : A → Option M) (refuses : A → ParsingError → Type 0) (x : A) (error : ParsingError)
     → Refuses f refuses x error → Refuses f (MemoryOr refuses) x error
 also_memory f refuses x error r = (inr r.0, r.1)

@@ -1,4 +1,4 @@
--- What reads, without what it reads as.
+-- Whether a value can be read, without its record.
 use Rattle.std.proofs.Common.{◌≡◌, ◌&&◌, ℕ, List, ◌∷◌, Bool, true, false, Option, Some, None, option_map}
 use Rattle.std.proofs.Common.{option_and_then, refl, ◌∙◌, ap, Vec, Global}
 use Rattle.std.specs.Option.{is_some}
@@ -12,7 +12,7 @@ use Rattle.redis_resp.specs.declared.value.Value.{Value, BulkString}
 use Rattle.redis_resp.proofs.TextLemmas.{text_of_bulk, no_text_of_bulk}
 use Rattle.redis_resp.proofs.TraverseLemmas.{is_some_map}
 
--- bytes are a text where they are UTF-8
+-- bytes are a text if they are UTF-8
 pub bulk_reads : (t : Tree) (w : Value) (b : Vec ℕ Global) → tree w ≡ plain t → w ≡ BulkString b → IsUtf8 b.items
     → is_some (text_reading t) ≡ true
 bulk_reads t w b h is utf8 = ap is_some (text_of_bulk t w b b.items h is refl utf8)
@@ -36,17 +36,17 @@ any_value p ps = by (text_reading p.0) (traverse (entry_reading (λ t. Some t)) 
     by (Some k) None = refl
     by (Some k) (Some ms) = refl
 
--- a pair with a text in front leaves it to the rest
+-- if the first pair has a text as its key, the rest decides
 pub next_reads : (left rest : List (Tree × Tree)) (p : Tree × Tree) → left ≡ p ∷ rest
     → is_some (text_reading p.0) ≡ true → fields_read left ≡ fields_read rest
 next_reads left rest p steps is = rw steps (any_value p rest ∙ ap (λ b. b && fields_read rest) is)
 
--- and one without is not read
+-- if it has none, the pairs are not read
 pub next_not_read : (left rest : List (Tree × Tree)) (p : Tree × Tree) → left ≡ p ∷ rest
     → is_some (text_reading p.0) ≡ false → fields_read left ≡ false
 next_not_read left rest p steps is = rw steps (any_value p rest ∙ ap (λ b. b && fields_read rest) is)
 
--- fields are read where there are pairs that read
+-- fields are read if there are pairs that read
 pub fields_there : (t : Tree) (ps : List (Tree × Tree)) → pairs_in t ≡ Some ps
     → is_some (fields_reading (λ u. Some u) t) ≡ fields_read ps
 fields_there t ps is = is_some_map _ _ ∙ is_some_map _ (pairs_reading (λ u. Some u) t)

@@ -1,4 +1,4 @@
--- What a text and bytes are refused with.
+-- The errors of reading a text and bytes.
 use Rattle.std.proofs.Common.{◌≡◌, inl, inr, ℕ, List, Option, Some, None, MatchOption, refl}
 use Rattle.redis_resp.specs.Tree.{Tree}
 use Rattle.redis_resp.specs.Text.{text_reading}

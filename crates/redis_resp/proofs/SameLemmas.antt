@@ -1,4 +1,4 @@
--- Lists of other lengths are not the same.
+-- Lists of different lengths are not the same.
 use Rattle.std.proofs.Common.{◌≡◌, ◌≢◌, suc, Bool, true, false, ◌&&◌, List, [], ◌∷◌, map, length, refl, ap}
 use Rattle.redis_resp.specs.Tree.{trees, pairs}
 use Rattle.redis_resp.specs.Same.{same_each, same_pairs}
@@ -9,7 +9,7 @@ and_false : (b r : Bool) → false ≡ r → false ≡ (b && r)
 and_false true r e = e
 and_false false r e = refl
 
--- lists of other lengths are not the same
+-- lists of different lengths are not the same
 pub each_long : (xs ys : List Value) → length xs ≢ length ys
     → false ≡ same_each (trees (map tree xs)) (trees (map tree ys))
 each_long [] [] h = absurd (h refl)

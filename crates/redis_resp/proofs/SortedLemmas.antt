@@ -1,4 +1,4 @@
--- Maps in the order of their keys, into which pairs are put as they are read.
+-- Maps in the order of their keys, into which pairs are inserted as they are read.
 use Rattle.std.proofs.Common.{◌≡◌, ℕ, Bool, true, false, cond, List, [], ◌∷◌, sym, ◌∙◌, ap, refl, Option, Some}
 use Rattle.std.proofs.Common.{option_map, Global, String, string_bytes}
 use Rattle.std.specs.Str.{bytes_eq}
@@ -22,7 +22,7 @@ mapped_cond f true x y = refl
 mapped_cond f false x y = refl
 
 module _ {T M : Type 0} (meaning : T → M) where
-  -- what stands under a key, seen through its meaning
+  -- the value under a key, by its meaning
   abbrev pub at_sorted_key : BTreeMap (String Global) T → List ℕ → Option M
   at_sorted_key m q = option_map meaning (get_by_text m q)
 

@@ -1,4 +1,4 @@
--- Lists that are read member by member: one reading after another, and where there is a record.
+-- Lists that are read member by member: one reading after another, and when there is a record.
 use Rattle.std.proofs.Common.{◌≡◌, ◌&&◌, List, [], ◌∷◌, map, Bool, Option, Some, None, option_map, option_and_then}
 use Rattle.std.proofs.Common.{refl, sym, ◌∙◌}
 use Rattle.std.specs.Option.{is_some}
@@ -10,7 +10,7 @@ after_none : {A B : Type 0} (o : Option A) → None ≡ option_and_then {U = B} 
 after_none None = refl
 after_none (Some x) = refl
 
--- to read each by one reading and then by another is to read all by the one and then all by the other
+-- reading each by one reading and then by another is reading all by the one and then all by the other
 pub traverse_then : {A B C : Type 0} (f : A → Option B) (g : B → Option C) (xs : List A)
     → traverse (λ x. option_and_then g (f x)) xs ≡ option_and_then (traverse g) (traverse f xs)
 traverse_then f g [] = refl
@@ -45,7 +45,7 @@ pub is_some_map : {A B : Type 0} (f : A → B) (o : Option A) → is_some (optio
 is_some_map f None = refl
 is_some_map f (Some x) = refl
 
--- all are read exactly where each is
+-- all are read exactly if each is
 pub is_some_traverse : {A B : Type 0} (f : A → Option B) (p : A → Bool) → ((x : A) → is_some (f x) ≡ p x)
     → (xs : List A) → is_some (traverse f xs) ≡ list_all p xs
 is_some_traverse f p h [] = refl
@@ -57,7 +57,7 @@ is_some_traverse {B = B} f p h (x ∷ xs) = rw (← h x, ← is_some_traverse f 
     by (Some m) None = refl
     by (Some m) (Some ms) = refl
 
--- where each is read as a function says, all are
+-- if each is read as a function gives, all are
 pub traverse_each : {A B : Type 0} (f : A → Option B) (g : A → B) (xs : List A)
     → AllByRecursion (λ x. f x ≡ Some (g x)) xs → traverse f xs ≡ Some (map g xs)
 traverse_each f g [] e = refl

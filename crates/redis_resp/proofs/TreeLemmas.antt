@@ -71,10 +71,10 @@ tree-Int z = search (rules, the_lemmas)
 pub array_there : (w : Value) (v : Vec Value Global) → w ≡ Array v → array_of_plain (tree w) ≡ Some (map tree v.items)
 array_there w v is = ap array_of_plain (ap tree is ∙ tree-Array v) ∙ ap Some (listed_trees (map tree v.items))
 
--- what a value holds
+-- the contents of a value
 pub ruleset contents_read = (items_Array, items_Set, items_Map, pairs_in_Array, pairs_in_Map)
 
--- the same where all that a `Vec` gives is still left
+-- the same if all elements of a `Vec` are still left
 pub ruleset owned_contents_read = (items_Array, items_Set, items_Map, pairs_in_Array, pairs_in_Map, take_all)
 
 pub ruleset owned_array_there = (array_there, take_all)

@@ -1,4 +1,4 @@
--- With which error a tree may be refused.
+-- The errors with which a tree may be refused.
 use Rattle.std.specs.Prelude.{◌≡◌, ◌≢◌, ◌<◌, ◌⊎◌, List, length, Option, None, MatchOption, IsTrue, IsFalse}
 use Rattle.std.specs.List.{Any}
 use Rattle.redis_resp.specs.Tree.{Tree, plain, items, pairs_in}
@@ -14,32 +14,32 @@ use Rattle.redis_resp.specs.declared.value.error.ParsingError.TheVariants.{NotPa
 abbrev pub Refuses : {A M : Type 0} → (A → Option M) → (A → ParsingError → Type 0) → A → ParsingError → Type 0
 Refuses reading may_refuse t error = may_refuse t error × (error ≢ Memory → reading t ≡ None)
 
--- this one cause, or out of memory
+-- this one error, or out of memory
 abbrev pub OrMemory : ParsingError → ParsingError → Type 0
 OrMemory cause error = (error ≡ cause) ⊎ (error ≡ Memory)
 
--- a text: `NotText` where the tree has none, and out of memory alone where it has one
+-- a text: `NotText` if the tree has none, and only out of memory if it has one
 abbrev pub RefusesText : Tree → ParsingError → Type 0
 RefusesText t error = MatchOption (text_reading t) (error ≡ NotText) (λ _. error ≡ Memory)
 
--- the text of a value that is consumed: out of memory only where the value holds no text
+-- the text of a value that is consumed: out of memory only if the value holds no text
 abbrev pub RefusesOwnedText : Tree → ParsingError → Type 0
 RefusesOwnedText t error = MatchOption (text_reading t) (error ≡ NotText)
     (λ _. (error ≡ Memory) × IsTrue (is_written_out (plain t)))
 
--- bytes: `NotBytes` where the tree has none, and out of memory alone where it has some
+-- bytes: `NotBytes` if the tree has none, and only out of memory if it has some
 abbrev pub RefusesBytes : Tree → ParsingError → Type 0
 RefusesBytes t error = MatchOption (bytes_reading t) (error ≡ NotBytes) (λ _. error ≡ Memory)
 
--- the bytes of a value that is consumed: `NotBytes` alone, since they are moved
+-- the bytes of a value that is consumed: only `NotBytes`, since they are moved
 abbrev pub RefusesOwnedBytes : Tree → ParsingError → Type 0
 RefusesOwnedBytes _ error = error ≡ NotBytes
 
--- a number: `NotNumber` alone, since it takes no memory
+-- a number: only `NotNumber`, since it allocates no memory
 abbrev pub RefusesNumber : Tree → ParsingError → Type 0
 RefusesNumber _ error = error ≡ NotNumber
 
--- a value as it is: out of memory alone, and only where it has a buffer
+-- a value as it is: only out of memory, and only if it has a buffer
 abbrev pub RefusesValue : Tree → ParsingError → Type 0
 RefusesValue t error = (error ≡ Memory) × IsTrue (has_buffer t)
 
@@ -51,11 +51,11 @@ RefusesNothing _ _ = ⊥
 abbrev pub MemoryOr : {A : Type 0} → (A → ParsingError → Type 0) → A → ParsingError → Type 0
 MemoryOr refuses t error = (error ≡ Memory) ⊎ refuses t error
 
--- one of them is refused with it, or memory ran out; where there is none, nothing is
+-- one of them is refused with it, or memory ran out; an empty list is never refused
 abbrev pub OneRefused : {A : Type 0} → (A → ParsingError → Type 0) → List A → ParsingError → Type 0
 OneRefused refuses xs error = ((error ≡ Memory) × (0 < length xs)) ⊎ Any (λ x. refuses x error) xs
 
--- a list: `NotList` where the tree has no items, and else what one of its items is refused with
+-- a list: `NotList` if the tree has no items, and otherwise what one of its items is refused with
 abbrev pub RefusesList : (Tree → ParsingError → Type 0) → Tree → ParsingError → Type 0
 RefusesList refuses t error = MatchOption (items t) (error ≡ NotList) (λ ts. OneRefused refuses ts error)
 
@@ -63,7 +63,7 @@ RefusesList refuses t error = MatchOption (items t) (error ≡ NotList) (λ ts. 
 abbrev pub RefusesEntry : (Tree → ParsingError → Type 0) → Tree × Tree → ParsingError → Type 0
 RefusesEntry refuses p error = Refuses text_reading RefusesText p.0 error ⊎ refuses p.1 error
 
--- pairs: `NotPairs` where the tree has none, and else what one of its pairs is refused with
+-- pairs: `NotPairs` if the tree has none, and otherwise what one of its pairs is refused with
 abbrev pub RefusesPairs : (Tree → ParsingError → Type 0) → Tree → ParsingError → Type 0
 RefusesPairs refuses t error = MatchOption (pairs_in t) (error ≡ NotPairs)
     (λ ps. OneRefused (RefusesEntry refuses) ps error)
@@ -72,7 +72,7 @@ RefusesPairs refuses t error = MatchOption (pairs_in t) (error ≡ NotPairs)
 abbrev pub RefusesOption : (Tree → ParsingError → Type 0) → Tree → ParsingError → Type 0
 RefusesOption refuses t error = IsFalse (is_nil (plain t)) × refuses t error
 
--- two: `NotTuple(2)` where the tree is no array of two, and else what one of the two is refused with
+-- two: `NotTuple(2)` if the tree is no array of two, and otherwise what one of the two is refused with
 abbrev pub RefusesTwo : (Tree → ParsingError → Type 0) → (Tree → ParsingError → Type 0) → Tree → ParsingError → Type 0
 RefusesTwo a b t error = MatchOption (two_in t) (error ≡ NotTuple 2) (λ q. a q.0 error ⊎ b q.1 error)
 
@@ -88,6 +88,6 @@ abbrev pub RefusesFour : (Tree → ParsingError → Type 0) → (Tree → Parsin
 RefusesFour a b c d t error = MatchOption (four_in t) (error ≡ NotTuple 4)
     (λ q. a q.0 error ⊎ (b q.1 error ⊎ (c q.2 error ⊎ d q.3 error)))
 
--- a field: what its value is refused with, where there is one
+-- a field: what its value is refused with, if it has one
 abbrev pub RefusesField : (Tree → ParsingError → Type 0) → Option Tree → ParsingError → Type 0
 RefusesField refuses field error = MatchOption field ⊥ (λ t. refuses t error)

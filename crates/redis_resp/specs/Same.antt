@@ -23,13 +23,13 @@ abbrev mutual
   same (push f x) (push g y) = bytes_eq f g && same_each x y
   same _ _ = false
 
-  -- as many trees, the same place by place
+  -- the same number of trees, equal at each index
   pub same_each : Trees → Trees → Bool
   same_each no_trees no_trees = true
   same_each (more_trees t ts) (more_trees u us) = same t u && same_each ts us
   same_each _ _ = false
 
-  -- as many pairs, the same place by place
+  -- the same number of pairs, equal at each index
   pub same_pairs : Pairs → Pairs → Bool
   same_pairs no_pairs no_pairs = true
   same_pairs (more_pairs k x ps) (more_pairs l y qs) = same k l && (same x y && same_pairs ps qs)

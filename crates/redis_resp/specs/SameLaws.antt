@@ -1,4 +1,4 @@
--- The test of two trees says exactly whether they are one, and so `==` of values is an equivalence.
+-- The test of two trees is true exactly if they are equal, and so `==` of values is an equivalence.
 use Rattle.std.specs.Prelude.{◌≡◌, Bool, true, false, ◌&&◌, refl}
 use Rattle.std.specs.Bool.{Decides}
 use Rattle.std.specs.Cmp.{IsEquivalence, booleans_Decides, both_ways, on_equiv}

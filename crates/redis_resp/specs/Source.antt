@@ -1,4 +1,4 @@
--- What a value holds, and what is left of it while it is read.
+-- The contents of a value, and what is left of it while it is read.
 use Rattle.std.specs.Prelude.{List, [], ◌∷◌, Option, Some, None, map, take}
 use Rattle.std.specs.Borrow.{Bor}
 use Rattle.std.specs.Vec.Iter.{into_iter_items, into_iter_len}
@@ -17,23 +17,23 @@ use Rattle.redis_resp.specs.declared.value.pairs_left.PairsLeft.TheVariants.{Ent
 abbrev pub lent_tree : Bor Value → Tree
 lent_tree v = tree v.now
 
--- the trees of what a `Vec` still gives
+-- the trees of the values that are left in a `Vec`'s iterator
 abbrev pub owned_left : {P A : Type 0} → (P → A) → IntoIter P Global → List A
 owned_left view it = map view (take (into_iter_len it) (into_iter_items it))
 
--- two that are seen the same way
+-- a function applied to both of two
 abbrev pub both : {A B : Type 0} → (A → B) → A × A → B × B
 both f p = (f p.0, f p.1)
 
--- three that are seen the same way
+-- a function applied to all of three
 abbrev pub all_three : {A B : Type 0} → (A → B) → A × A × A → B × B × B
 all_three f q = (f q.0, f q.1, f q.2)
 
--- four that are seen the same way
+-- a function applied to all of four
 abbrev pub all_four : {A B : Type 0} → (A → B) → A × A × A × A → B × B × B × B
 all_four f q = (f q.0, f q.1, f q.2, f q.3)
 
--- the items that the contents hold as a list
+-- the items, if the contents are a list
 abbrev pub items_held : {V P : Type 0} → (V → List Tree) → (P → List (Tree × Tree)) → Contents V P → Option (List Tree)
 items_held values pairs Nothing = Some []
 items_held values pairs (Array v) = Some (values v)

@@ -1,4 +1,4 @@
--- The tree that a `Value` stands for.
+-- The tree of a `Value`.
 use Rattle.std.specs.Prelude.{string_bytes}
 use Rattle.redis_resp.specs.Tree.{Tree, nil, int, bulk, array, simple, okay, map_of_pairs, attribute, set, boolean}
 use Rattle.redis_resp.specs.Tree.{verbatim, push, trees, pairs}

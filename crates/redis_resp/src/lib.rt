@@ -1,13 +1,13 @@
-//! What Redis commands are written with and replies are read through: argument lists and their
-//! writers (`args`), the value tree of the RESP protocol and the readings of plain types (`value`).
+//! Writes the arguments of Redis commands and reads replies: argument lists and their writers (`args`),
+//! the value tree of the RESP protocol, and readings of plain types (`value`).
 //!
 //! ```text
 //! let args = ("MAXLEN", 10usize).to_redis_args(alloc)?;             // `MAXLEN`, `10`
 //! let names: Vec<String> = from_redis_value(alloc, reply)?;        // or a `ParsingError`
 //! ```
 //!
-//! A type of your own joins by implementing `ToRedisArgs` with the list that its values mean, or
-//! `FromRedisValue` with the records that its values are; it then works inside lists, options,
+//! To add a type of your own, implement `ToRedisArgs` with the list of arguments of its values, or
+//! `FromRedisValue` with the records that its values are. It then works inside lists, options,
 //! tuples and tables with no change here.
 #![tactic(auto)]
 

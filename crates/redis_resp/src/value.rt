@@ -56,21 +56,21 @@ pub enum Value {
     Okay,
     /// Keys with their values, in the order in which they were sent.
     Map(Vec<(Value, Value)>),
-    /// A value with attributes around it, which no reading looks at.
+    /// A value with attributes around it. Every reading ignores the attributes.
     Attribute {
         payload: Box<Value>,
         attributes: Vec<(Value, Value)>,
     },
     /// Values without order.
     Set(Vec<Value>),
-    /// A truth value.
+    /// A boolean.
     Boolean(bool),
     /// A text with the name of its format, such as `txt` or `mkd`.
     VerbatimString {
         format: String,
         text: String,
     },
-    /// What the server sent unasked, with its kind.
+    /// A push message, which the server sends outside of any reply, with its kind.
     Push {
         kind: String,
         payload: Vec<Value>,
@@ -89,7 +89,7 @@ impl Default for Value {
 }
 
 impl Value {
-    /// What stands inside all outer attributes.
+    /// Returns the value inside all outer attributes.
     pub fn into_plain(self) -> Value
         ensures { tree result ≡ plain (tree self) }
     {
@@ -105,7 +105,7 @@ impl Value {
         }
     }
 
-    /// What stands inside all outer attributes.
+    /// Returns the value inside all outer attributes.
     pub fn as_plain(&self) -> &Value
         ensures { tree result.now ≡ plain (tree self.now) }
     {

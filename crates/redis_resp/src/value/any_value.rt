@@ -20,7 +20,7 @@ impl FromRedisValue for Value {
 
     ghost may_refuse_owned = { RefusesNothing };
 
-    /// The value itself, its attributes kept. It copies nothing and never fails.
+    /// Returns the value itself, with its attributes. It copies nothing and never fails.
     fn from_redis_value(_alloc: Global, v: Value) -> Result<Value, ParsingError>
         ensures moved { result ≡ Ok v }
     {

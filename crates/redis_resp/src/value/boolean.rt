@@ -1,7 +1,7 @@
-//! Truth values that are read from values.
+//! Booleans that are read from values.
 //!
-//! No call here takes memory, so the one refusal is `NotNumber`: where RESP2 has no truth values a
-//! server sends the numbers 1 and 0 for them.
+//! No call here allocates memory, so the one error is `NotNumber`. RESP2 has no booleans: a server
+//! sends the numbers 1 and 0 for them.
 ghost use Rattle.std.specs.Prelude.{◌≡◌, Bool};
 ghost use Rattle.redis_resp.specs.Boolean.{truth_of_text, truth_reading};
 ghost use Rattle.redis_resp.specs.Refusal.{RefusesNumber};
@@ -12,7 +12,7 @@ use crate::value::error::ParsingError;
 use crate::value::from_value::FromRedisValue;
 use std::alloc::Global;
 
-/// True for the text `1`, false for `0`, and None for any other.
+/// Returns true for the text `1`, false for `0`, and `None` for any other.
 fn truth_in(text: &[u8]) -> Option<bool>
     ensures { result ≡ truth_of_text text.now }
 {
@@ -25,7 +25,7 @@ fn truth_in(text: &[u8]) -> Option<bool>
     }
 }
 
-/// The truth value that a value reads as, if any.
+/// Returns the boolean that a value reads as, or `None`.
 fn truth_of(v: &Value) -> Option<bool>
     ensures { result ≡ truth_reading (tree v.now) }
 {
@@ -49,13 +49,13 @@ impl FromRedisValue for bool {
 
     ghost may_refuse = { RefusesNumber };
 
-    /// A `Boolean`; a whole number, which is false where it is 0; the texts `1` and `0`; `OK`, which
-    /// is true, and `Nil`, which is false. It takes no memory, so the one refusal is `NotNumber`.
+    /// Reads a `Boolean`, a whole number (false if it is 0), the texts `1` and `0`, `OK` (true) or
+    /// `Nil` (false). It allocates no memory, so its one error is `NotNumber`.
     fn from_redis_value(_alloc: Global, v: Value) -> Result<bool, ParsingError> {
         truth_of(&v).ok_or(ParsingError::NotNumber)
     }
 
-    /// The truth value of a borrowed value, which is kept.
+    /// Returns the boolean of a borrowed value, which is kept.
     fn from_redis_value_ref(_alloc: Global, v: &Value) -> Result<bool, ParsingError> {
         truth_of(v).ok_or(ParsingError::NotNumber)
     }

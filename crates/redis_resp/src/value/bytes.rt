@@ -20,7 +20,7 @@ impl FromRedisValue for RawBytes {
 
     ghost may_refuse_owned = { RefusesOwnedBytes };
 
-    /// The bytes of a bulk string. They are moved, so it takes no memory.
+    /// Returns the bytes of a bulk string. They are moved, so it allocates no memory.
     fn from_redis_value(_alloc: Global, v: Value) -> Result<RawBytes, ParsingError> {
         match v.into_plain() {
             Value::BulkString(bytes) => Ok(RawBytes(bytes)),
@@ -28,7 +28,7 @@ impl FromRedisValue for RawBytes {
         }
     }
 
-    /// A copy of the bytes of a bulk string.
+    /// Returns a copy of the bytes of a bulk string.
     fn from_redis_value_ref(alloc: Global, v: &Value) -> Result<RawBytes, ParsingError> {
         match v.as_plain() {
             Value::BulkString(bytes) => Ok(RawBytes(Vec::from_slice(alloc, bytes)?)),

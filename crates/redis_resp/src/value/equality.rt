@@ -1,4 +1,4 @@
-//! Equality of values: the same tree, whatever room their buffers have.
+//! Equality of values: the same tree, whatever the capacity of their buffers.
 ghost use Rattle.std.specs.Prelude.{◌≡◌, ◌↔◌, IsTrue, map};
 ghost use Rattle.redis_resp.specs.Tree.{trees, pairs};
 ghost use Rattle.redis_resp.specs.Value.{tree, tree_of_pair};
@@ -14,7 +14,7 @@ impl PartialEq for Value {
 
     ghost laws = { partial_equiv_from_equiv same_value_laws };
 
-    /// Whether the two have the same tree.
+    /// Returns whether the two values have the same tree.
     fn eq(&self, other: &Value) -> bool
         ensures by_parts { result ≡ same (tree self.now) (tree other.now) }
         ensures equal_trees { IsTrue result ↔ (tree self.now ≡ tree other.now) }

@@ -11,8 +11,8 @@ use crate::value::from_value::FromRedisValue;
 use std::alloc::{AllocError, Global};
 use std::collections::HashMap;
 
-/// The record that the field of this name reads as, and None where there is no such field or it has
-/// no record of the type. It fails only where the field is there and may be refused with `Memory`.
+/// Returns the record that the field of this name reads as, or `None` if there is no such field or it
+/// has no record of the type. It fails only if the field exists and may be refused with `Memory`.
 #[tactic(auto, using(crate::proofs::FieldLemmas::get_field))]
 pub fn field_of<T: FromRedisValue>(
     alloc: Global,

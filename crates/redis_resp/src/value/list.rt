@@ -28,7 +28,7 @@ fn read_values<S: Source, T: FromRedisValue>(
     Ok(records)
 }
 
-/// Reads the record of a pair as a map of its own; the pair is copied where it is borrowed.
+/// Reads the record of a pair as a map of its own. A borrowed pair is copied.
 #[tactic(auto, using(crate::proofs::TreeLemmas::tree_of_map))]
 fn read_single<S: Source, T: FromRedisValue>(
     alloc: Global,
@@ -46,7 +46,7 @@ fn read_single<S: Source, T: FromRedisValue>(
     T::from_redis_value(alloc, alone)
 }
 
-/// Reads each pair as a map of its own, in order. Of borrowed pairs, one is copied at a time.
+/// Reads each pair as a map of its own, in order. Borrowed pairs are copied one at a time.
 fn read_singles<S: Source, T: FromRedisValue>(
     alloc: Global,
     mut pairs: S::Pairs,
@@ -79,10 +79,10 @@ fn read_list<S: Source, T: FromRedisValue>(alloc: Global, v: S) -> Result<Vec<T>
     }
 }
 
-/// The items of an `Array` or a `Set` in order, the pairs of a `Map` as maps of their own, or
-/// nothing for `Nil`, each by the reading of `T`; `NotList` for any other kind. Reading an owned
-/// value moves its items; reading a borrowed one copies only what the items' readings keep, and
-/// of a map one pair at a time.
+/// Reads the items of an `Array` or a `Set` in order, the pairs of a `Map` as maps of their own, or
+/// nothing for `Nil`, each by the reading of `T`. Returns `NotList` for any other kind. Reading an
+/// owned value moves its items. Reading a borrowed one copies only what the items' readings keep,
+/// and one pair of a map at a time.
 impl<T: FromRedisValue> FromRedisValue for Vec<T> {
     ghost Meaning = { List T.Meaning };
 

@@ -5,8 +5,8 @@ ghost use Rattle.redis_resp.specs.Source.{both, all_three, all_four};
 
 use crate::value::source::Source;
 
-/// The members of an `Array` of exactly two, whatever attributes stand around it, and None for any
-/// other value. It takes no memory.
+/// Returns the members of an `Array` of exactly two, whatever attributes are around it, or `None` for
+/// any other value. It allocates no memory.
 pub fn into_two<S: Source>(v: S) -> Option<(S, S)>
     ensures { option_map (both S.seen) result ≡ two_in (S.seen v) }
 {
@@ -19,8 +19,8 @@ pub fn into_two<S: Source>(v: S) -> Option<(S, S)>
     Some((a, b))
 }
 
-/// The members of an `Array` of exactly three, whatever attributes stand around it, and None for
-/// any other value. It takes no memory.
+/// Returns the members of an `Array` of exactly three, whatever attributes are around it, or `None`
+/// for any other value. It allocates no memory.
 pub fn into_three<S: Source>(v: S) -> Option<(S, S, S)>
     ensures { option_map (all_three S.seen) result ≡ three_in (S.seen v) }
 {
@@ -34,8 +34,8 @@ pub fn into_three<S: Source>(v: S) -> Option<(S, S, S)>
     Some((a, b, c))
 }
 
-/// The members of an `Array` of exactly four, whatever attributes stand around it, and None for any
-/// other value. It takes no memory.
+/// Returns the members of an `Array` of exactly four, whatever attributes are around it, or `None`
+/// for any other value. It allocates no memory.
 pub fn into_four<S: Source>(v: S) -> Option<(S, S, S, S)>
     ensures { option_map (all_four S.seen) result ≡ four_in (S.seen v) }
 {

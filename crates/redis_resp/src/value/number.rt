@@ -1,6 +1,6 @@
-//! Numbers that are read from values: whole numbers, and texts that Rust's `parse` takes.
+//! Numbers that are read from values: whole numbers, and texts that Rust's `parse` accepts.
 //!
-//! No call here takes memory, so the one refusal is `NotNumber`.
+//! No call here allocates memory, so the one error is `NotNumber`.
 ghost use Rattle.std.specs.Prelude.{◌≡◌, ℕ, ℤ, option_and_then};
 ghost use Rattle.redis_resp.specs.Number.{unsigned_of, signed_of, within, signed_within};
 ghost use Rattle.redis_resp.specs.Number.{unsigned_reading, signed_reading};
@@ -12,8 +12,8 @@ use crate::value::error::ParsingError;
 use crate::value::from_value::FromRedisValue;
 use std::alloc::Global;
 
-/// The number that a text writes in digits behind one `+` or none. It is None if the text writes no
-/// such number, or one that does not fit 64 bits. It takes no memory.
+/// Parses a text of digits with at most one `+` before them. Returns `None` if the text is no such
+/// number, or if the number does not fit 64 bits. It allocates no memory.
 pub fn unsigned_in(text: &[u8]) -> Option<u64>
     ensures { result ≡ option_and_then (within 64) (unsigned_of text.now) }
 {
@@ -23,8 +23,8 @@ pub fn unsigned_in(text: &[u8]) -> Option<u64>
     text.parse().ok()
 }
 
-/// The number that a text writes in digits behind one sign or none. It is None if the text writes no
-/// such number, or one that does not fit an `i64`. It takes no memory.
+/// Parses a text of digits with at most one sign before them. Returns `None` if the text is no such
+/// number, or if the number does not fit an `i64`. It allocates no memory.
 pub fn signed_in(text: &[u8]) -> Option<i64>
     ensures { result ≡ option_and_then (signed_within 63) (signed_of text.now) }
 {
@@ -34,7 +34,7 @@ pub fn signed_in(text: &[u8]) -> Option<i64>
     text.parse().ok()
 }
 
-/// The number that a value reads as at 64 bits, if any.
+/// Returns the number that a value reads as at 64 bits, or `None`.
 #[tactic(auto, using(crate::proofs::NumberLemmas::unsigned_texts))]
 fn u64_of(v: &Value) -> Option<u64>
     ensures { result ≡ unsigned_reading 64 (tree v.now) }
@@ -47,7 +47,7 @@ fn u64_of(v: &Value) -> Option<u64>
     }
 }
 
-/// The number that a value reads as at 63 bits and a sign, if any.
+/// Returns the number that a value reads as at 63 bits and a sign, or `None`.
 #[tactic(auto, using(crate::proofs::NumberLemmas::signed_texts))]
 fn i64_of(v: &Value) -> Option<i64>
     ensures { result ≡ signed_reading 63 (tree v.now) }
@@ -60,14 +60,14 @@ fn i64_of(v: &Value) -> Option<i64>
     }
 }
 
-/// The number that a value reads as at `usize`, if any. It takes no memory.
+/// Returns the number that a value reads as at `usize`, or `None`. It allocates no memory.
 pub fn usize_of(v: &Value) -> Option<usize>
     ensures { result ≡ unsigned_reading 64 (tree v.now) }
 {
     Some(u64_of(v)? as usize)
 }
 
-/// The number that a value reads as at 32 bits, if any.
+/// Returns the number that a value reads as at 32 bits, or `None`.
 #[tactic(auto, using(crate::proofs::NumberLemmas::narrowing))]
 fn u32_of(v: &Value) -> Option<u32>
     ensures { result ≡ unsigned_reading 32 (tree v.now) }
@@ -75,7 +75,7 @@ fn u32_of(v: &Value) -> Option<u32>
     u32::try_from(u64_of(v)?).ok()
 }
 
-/// The number that a value reads as at 16 bits, if any.
+/// Returns the number that a value reads as at 16 bits, or `None`.
 #[tactic(auto, using(crate::proofs::NumberLemmas::narrowing))]
 fn u16_of(v: &Value) -> Option<u16>
     ensures { result ≡ unsigned_reading 16 (tree v.now) }
@@ -83,7 +83,7 @@ fn u16_of(v: &Value) -> Option<u16>
     u16::try_from(u64_of(v)?).ok()
 }
 
-/// The number that a value reads as at 8 bits, if any.
+/// Returns the number that a value reads as at 8 bits, or `None`.
 #[tactic(auto, using(crate::proofs::NumberLemmas::narrowing))]
 fn u8_of(v: &Value) -> Option<u8>
     ensures { result ≡ unsigned_reading 8 (tree v.now) }
@@ -91,7 +91,7 @@ fn u8_of(v: &Value) -> Option<u8>
     u8::try_from(u64_of(v)?).ok()
 }
 
-/// The number that a value reads as at 31 bits and a sign, if any.
+/// Returns the number that a value reads as at 31 bits and a sign, or `None`.
 #[tactic(auto, using(crate::proofs::NumberLemmas::signed_narrowing))]
 fn i32_of(v: &Value) -> Option<i32>
     ensures { result ≡ signed_reading 31 (tree v.now) }
@@ -108,12 +108,12 @@ impl FromRedisValue for u8 {
 
     ghost may_refuse = { RefusesNumber };
 
-    /// A number below 2^8. It takes no memory, so the one refusal is `NotNumber`.
+    /// A number below 2^8. It allocates no memory, so its one error is `NotNumber`.
     fn from_redis_value(_alloc: Global, v: Value) -> Result<u8, ParsingError> {
         u8_of(&v).ok_or(ParsingError::NotNumber)
     }
 
-    /// The number of a borrowed value, which is kept.
+    /// Returns the number of a borrowed value, which is kept.
     fn from_redis_value_ref(_alloc: Global, v: &Value) -> Result<u8, ParsingError> {
         u8_of(v).ok_or(ParsingError::NotNumber)
     }
@@ -128,12 +128,12 @@ impl FromRedisValue for u16 {
 
     ghost may_refuse = { RefusesNumber };
 
-    /// A number below 2^16. It takes no memory, so the one refusal is `NotNumber`.
+    /// A number below 2^16. It allocates no memory, so its one error is `NotNumber`.
     fn from_redis_value(_alloc: Global, v: Value) -> Result<u16, ParsingError> {
         u16_of(&v).ok_or(ParsingError::NotNumber)
     }
 
-    /// The number of a borrowed value, which is kept.
+    /// Returns the number of a borrowed value, which is kept.
     fn from_redis_value_ref(_alloc: Global, v: &Value) -> Result<u16, ParsingError> {
         u16_of(v).ok_or(ParsingError::NotNumber)
     }
@@ -148,12 +148,12 @@ impl FromRedisValue for u32 {
 
     ghost may_refuse = { RefusesNumber };
 
-    /// A number below 2^32. It takes no memory, so the one refusal is `NotNumber`.
+    /// A number below 2^32. It allocates no memory, so its one error is `NotNumber`.
     fn from_redis_value(_alloc: Global, v: Value) -> Result<u32, ParsingError> {
         u32_of(&v).ok_or(ParsingError::NotNumber)
     }
 
-    /// The number of a borrowed value, which is kept.
+    /// Returns the number of a borrowed value, which is kept.
     fn from_redis_value_ref(_alloc: Global, v: &Value) -> Result<u32, ParsingError> {
         u32_of(v).ok_or(ParsingError::NotNumber)
     }
@@ -168,12 +168,12 @@ impl FromRedisValue for u64 {
 
     ghost may_refuse = { RefusesNumber };
 
-    /// A number below 2^64. It takes no memory, so the one refusal is `NotNumber`.
+    /// A number below 2^64. It allocates no memory, so its one error is `NotNumber`.
     fn from_redis_value(_alloc: Global, v: Value) -> Result<u64, ParsingError> {
         u64_of(&v).ok_or(ParsingError::NotNumber)
     }
 
-    /// The number of a borrowed value, which is kept.
+    /// Returns the number of a borrowed value, which is kept.
     fn from_redis_value_ref(_alloc: Global, v: &Value) -> Result<u64, ParsingError> {
         u64_of(v).ok_or(ParsingError::NotNumber)
     }
@@ -188,12 +188,12 @@ impl FromRedisValue for usize {
 
     ghost may_refuse = { RefusesNumber };
 
-    /// A number below 2^64. It takes no memory, so the one refusal is `NotNumber`.
+    /// A number below 2^64. It allocates no memory, so its one error is `NotNumber`.
     fn from_redis_value(_alloc: Global, v: Value) -> Result<usize, ParsingError> {
         usize_of(&v).ok_or(ParsingError::NotNumber)
     }
 
-    /// The number of a borrowed value, which is kept.
+    /// Returns the number of a borrowed value, which is kept.
     fn from_redis_value_ref(_alloc: Global, v: &Value) -> Result<usize, ParsingError> {
         usize_of(v).ok_or(ParsingError::NotNumber)
     }
@@ -208,12 +208,12 @@ impl FromRedisValue for i64 {
 
     ghost may_refuse = { RefusesNumber };
 
-    /// A number from -2^63 to 2^63 - 1. It takes no memory, so the one refusal is `NotNumber`.
+    /// A number from -2^63 to 2^63 - 1. It allocates no memory, so its one error is `NotNumber`.
     fn from_redis_value(_alloc: Global, v: Value) -> Result<i64, ParsingError> {
         i64_of(&v).ok_or(ParsingError::NotNumber)
     }
 
-    /// The number of a borrowed value, which is kept.
+    /// Returns the number of a borrowed value, which is kept.
     fn from_redis_value_ref(_alloc: Global, v: &Value) -> Result<i64, ParsingError> {
         i64_of(v).ok_or(ParsingError::NotNumber)
     }
@@ -228,12 +228,12 @@ impl FromRedisValue for i32 {
 
     ghost may_refuse = { RefusesNumber };
 
-    /// A number from -2^31 to 2^31 - 1. It takes no memory, so the one refusal is `NotNumber`.
+    /// A number from -2^31 to 2^31 - 1. It allocates no memory, so its one error is `NotNumber`.
     fn from_redis_value(_alloc: Global, v: Value) -> Result<i32, ParsingError> {
         i32_of(&v).ok_or(ParsingError::NotNumber)
     }
 
-    /// The number of a borrowed value, which is kept.
+    /// Returns the number of a borrowed value, which is kept.
     fn from_redis_value_ref(_alloc: Global, v: &Value) -> Result<i32, ParsingError> {
         i32_of(v).ok_or(ParsingError::NotNumber)
     }

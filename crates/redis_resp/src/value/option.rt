@@ -23,8 +23,8 @@ fn read_option<S: Source, T: FromRedisValue>(alloc: Global, v: S) -> Result<Opti
     Ok(Some(record))
 }
 
-/// None for `Nil`, whatever attributes stand around it, and for any other value Some of what `T`
-/// reads, refused as `T` refuses it. A `Nil` takes no memory.
+/// Returns `None` for `Nil`, whatever attributes are around it. Any other value is Some of what `T`
+/// reads, or the error of `T`. A `Nil` allocates no memory.
 impl<T: FromRedisValue> FromRedisValue for Option<T> {
     ghost Meaning = { Option T.Meaning };
 

@@ -53,7 +53,7 @@ fn read_sorted<S: Source, V: FromRedisValue>(
 }
 
 /// The pairs of a `Map`, of an `Array` two by two, or of `Nil`, which has none: each key, as text,
-/// with its last value, by the reading of `V`. `NotPairs` for any other kind or an odd length.
+/// with its last value, by the reading of `V`. Returns `NotPairs` for any other kind or an odd length.
 impl<V: FromRedisValue> FromRedisValue for BTreeMap<String, V> {
     ghost Meaning = { Fields V.Meaning };
 

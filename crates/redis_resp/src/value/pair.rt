@@ -14,8 +14,8 @@ use crate::value::source::Source;
 use redis_args::{RedisWrite, ToRedisArgs, WriteError};
 use std::alloc::Global;
 
-/// The pairs of a value in order, each key as text and each value by its own reading. A key that
-/// comes again stands again, which tells it from a table.
+/// The pairs of a value in order, each key as text and each value by its own reading. Unlike a table,
+/// it keeps every pair of a key that comes again.
 #[derive(Debug, Drop)]
 pub struct PairList<V>(pub Vec<(String, V)>);
 
@@ -37,8 +37,8 @@ pub fn read_pair<S: Source, V: FromRedisValue>(
 }
 
 /// Reads the pairs of a `Map`, of an `Array` of even length two by two, or of `Nil`, which has
-/// none; `NotPairs` for any other kind or an odd length. Of a borrowed value only the keys and
-/// what the values' readings keep are copied.
+/// none. Returns `NotPairs` for any other kind or an odd length. Of a borrowed value it copies only
+/// the keys and what the values' readings keep.
 pub fn read_pairs<S: Source, V: FromRedisValue>(
     alloc: Global,
     v: S,
@@ -90,7 +90,7 @@ impl<V: FromRedisValue> FromRedisValue for PairList<V> {
     }
 }
 
-/// The pairs as they were read, in order: each key, and the arguments of its value behind it.
+/// The pairs as they were read, in order: each key, followed by the arguments of its value.
 impl<V: ToRedisArgs> ToRedisArgs for PairList<V> {
     ghost args = { λ list. flat_map (λ pair. string_bytes pair.0 ∷ V.args pair.1) list.0.items };
 

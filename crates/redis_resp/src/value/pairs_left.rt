@@ -6,19 +6,19 @@ ghost use Rattle.redis_resp.specs.Source.{both, all_left};
 use crate::value::contents::Contents;
 use crate::value::source::Source;
 
-/// Pairs of which those at the front may be taken already.
+/// The pairs that are left, after any number of the first ones were taken.
 #[derive(Drop)]
 pub enum PairsLeft<V, P> {
-    /// None.
+    /// No pairs.
     Nothing,
-    /// These values two by two, the last one left out where they are odd in number.
+    /// These values two by two. The last one is left out if their number is odd.
     TwoByTwo(V),
-    /// These.
+    /// These pairs.
     Entries(P),
 }
 
-/// The pairs of a `Map`, of an `Array` of even length two by two, or of `Nil`, which has none; None
-/// for any other kind or an odd length.
+/// Returns the pairs of a `Map`, of an `Array` of even length two by two, or of `Nil`, which has none.
+/// Returns `None` for any other kind or an odd length.
 #[tactic(auto, using(crate::proofs::PairLemmas::two_by_two_read))]
 pub fn into_pairs<S: Source>(v: S) -> Option<PairsLeft<S::Values, S::Pairs>>
     ensures { option_map (all_left S.values_left S.pairs_left) result ≡ pairs_in (S.seen v) }
@@ -37,7 +37,7 @@ pub fn into_pairs<S: Source>(v: S) -> Option<PairsLeft<S::Values, S::Pairs>>
     }
 }
 
-/// The number of pairs that are left.
+/// Returns the number of pairs that are left.
 #[tactic(auto, using(crate::proofs::PairLemmas::length_two_each))]
 pub fn count_left<S: Source>(pairs: &PairsLeft<S::Values, S::Pairs>) -> usize
     ensures { result ≡ length (all_left S.values_left S.pairs_left pairs.now) }
@@ -49,7 +49,7 @@ pub fn count_left<S: Source>(pairs: &PairsLeft<S::Values, S::Pairs>) -> usize
     }
 }
 
-/// Takes the next pair, and None where none is left.
+/// Takes the next pair, or returns `None` if none is left.
 #[inline(always)]
 pub fn next_left<S: Source>(pairs: &mut PairsLeft<S::Values, S::Pairs>) -> Option<(S, S)>
     ensures { MatchOption result (all_left S.values_left S.pairs_left pairs.old ≡ [])

@@ -1,4 +1,4 @@
-//! Whether values read, told with no memory.
+//! Whether values can be read, decided without allocating memory.
 ghost use Rattle.std.specs.Prelude.{◌≡◌};
 ghost use Rattle.std.specs.Option.{is_some};
 ghost use Rattle.redis_resp.specs.Tree.{plain};
@@ -12,14 +12,14 @@ use crate::value::Value;
 use crate::value::number::usize_of;
 use crate::value::pairs_left::{into_pairs, next_left};
 
-/// Whether the value is `Nil`, whatever attributes stand around it.
+/// Returns whether the value is `Nil`, whatever attributes are around it.
 pub fn is_nil(v: &Value) -> bool
     ensures { result ≡ nil_tree (plain (tree v.now)) }
 {
     matches!(v.as_plain(), Value::Nil)
 }
 
-/// Whether the value reads as a text.
+/// Returns whether the value reads as a text.
 #[tactic(auto, using(crate::proofs::ReadableLemmas::bulk_reads))]
 pub fn is_text(v: &Value) -> bool
     ensures { result ≡ is_some (text_reading (tree v.now)) }
@@ -37,14 +37,14 @@ pub fn is_text(v: &Value) -> bool
     }
 }
 
-/// Whether the value reads as a `usize`.
+/// Returns whether the value reads as a `usize`.
 pub fn is_usize(v: &Value) -> bool
     ensures { result ≡ is_some (unsigned_reading 64 (tree v.now)) }
 {
     usize_of(v).is_some()
 }
 
-/// Whether the value reads as fields: pairs of a text and any value.
+/// Returns whether the value reads as fields: pairs of a text and any value.
 #[tactic(auto, using(crate::proofs::ReadableLemmas::fields_told))]
 pub fn is_fields(v: &Value) -> bool
     ensures { result ≡ is_some (fields_reading (λ t. Some t) (tree v.now)) }

@@ -14,16 +14,16 @@ use crate::value::from_value::FromRedisValue;
 use std::alloc::{AllocError, Global};
 use std::vec::IntoIter;
 
-/// A value to read from: of an owned one the parts are moved, and of a borrowed one only what a
+/// A value to read from. The parts of an owned value are moved; of a borrowed value only what a
 /// record keeps is copied.
 pub trait Source: Drop {
-    /// Values of which those at the front may be taken already.
+    /// The values that are left, after any number of the first ones were taken.
     type Values: Drop;
 
-    /// Pairs of which those at the front may be taken already.
+    /// The pairs that are left, after any number of the first ones were taken.
     type Pairs: Drop;
 
-    /// The tree that the value stands for.
+    /// The tree of the value.
     ghost seen: { Self → Tree };
 
     /// The values that are left.
@@ -37,41 +37,41 @@ pub trait Source: Drop {
         ensures ok { IfOk result (λ r. T.reading (seen self) ≡ Some (T.meaning r)) }
         ensures err { IfErr result (Refuses T.reading T.may_refuse (seen self)) };
 
-    /// The value, to look at.
+    /// Borrows the value.
     fn as_value(&self) -> &Value
         ensures { tree result.now ≡ seen self.now };
 
-    /// The value itself, or a copy of it where it is borrowed.
+    /// Returns the value itself, or a copy of it if it is borrowed.
     fn into_owned(self, alloc: Global) -> Result<Value, AllocError>
         ensures { IfOk result (λ v. tree v ≡ seen self) };
 
-    /// What stands inside all outer attributes.
+    /// Returns the value inside all outer attributes.
     fn into_plain(self) -> Self
         ensures { seen result ≡ plain (seen self) };
 
-    /// The values of an `Array` with no attribute around it.
+    /// Returns the values of an `Array` with no attribute around it, or `None`.
     fn into_array(self) -> Option<Self::Values>
         ensures { option_map values_left result ≡ array_of_plain (seen self) };
 
-    /// What the value holds inside all outer attributes.
+    /// Returns the contents of the value inside all outer attributes.
     fn into_contents(self) -> Contents<Self::Values, Self::Pairs>
         ensures items { items_held values_left pairs_left result ≡ items (seen self) }
         ensures pairs { pairs_held values_left pairs_left result ≡ pairs_in (seen self) };
 
-    /// The number of values that are left.
+    /// Returns the number of values that are left.
     fn count_values(values: &Self::Values) -> usize
         ensures { result ≡ length (values_left values.now) };
 
-    /// The number of pairs that are left.
+    /// Returns the number of pairs that are left.
     fn count_pairs(pairs: &Self::Pairs) -> usize
         ensures { result ≡ length (pairs_left pairs.now) };
 
-    /// Takes the next value, and None where none is left.
+    /// Takes the next value, or returns `None` if none is left.
     fn next_value(values: &mut Self::Values) -> Option<Self>
         ensures { MatchOption result (values_left values.old ≡ [])
             (λ v. values_left values.old ≡ seen v ∷ values_left values.new) };
 
-    /// Takes the next pair, and None where none is left.
+    /// Takes the next pair, or returns `None` if none is left.
     fn next_pair(pairs: &mut Self::Pairs) -> Option<(Self, Self)>
         ensures { MatchOption result (pairs_left pairs.old ≡ [])
             (λ p. pairs_left pairs.old ≡ both seen p ∷ pairs_left pairs.new) };

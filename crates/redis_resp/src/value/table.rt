@@ -1,5 +1,5 @@
-//! Tables that are read from values: a key stands where it came first, with the value that came
-//! last.
+//! Tables that are read from values: a key keeps the position of its first pair and takes the value of
+//! its last pair.
 ghost use Rattle.std.specs.Prelude.{◌≡◌, IfOk, IfErr, List, ℕ, Some, option_map};
 ghost use Rattle.std.specs.FinMap.{from_entries};
 ghost use Rattle.std.specs.HashMap.{get_by_text};
@@ -19,8 +19,8 @@ use indexmap::IndexMap;
 use std::alloc::{AllocError, Global};
 use std::collections::HashMap;
 
-/// The table of pairs in order: a key that comes again keeps its place and takes the last value.
-/// It fails only where it runs out of memory.
+/// Returns the table of pairs in order: a key that comes again keeps its position and takes the last
+/// value. It fails only if it runs out of memory.
 pub fn index_map_of<V: Drop>(
     alloc: Global,
     pairs: Vec<(String, V)>,
@@ -33,8 +33,8 @@ pub fn index_map_of<V: Drop>(
     IndexMap::from_iter(alloc, pairs)
 }
 
-/// The pairs as a map: each key with the last value that it has among them. It fails only where it
-/// runs out of memory.
+/// Returns the pairs as a map: each key with the last value that it has among them. It fails only if
+/// it runs out of memory.
 pub fn hash_map_of<V: Drop>(
     alloc: Global,
     pairs: Vec<(String, V)>,
@@ -45,7 +45,7 @@ pub fn hash_map_of<V: Drop>(
     HashMap::from_iter(alloc, pairs)
 }
 
-/// Reads each pair, in order, into an index map with room for all of them.
+/// Reads each pair, in order, into an index map with capacity for all of them.
 fn insert_in_order<S: Source, V: FromRedisValue>(
     alloc: Global,
     mut pairs: PairsLeft<S::Values, S::Pairs>,
@@ -64,7 +64,7 @@ fn insert_in_order<S: Source, V: FromRedisValue>(
     Ok(table)
 }
 
-/// Reads each pair, in order, into a hash map with room for all of them.
+/// Reads each pair, in order, into a hash map with capacity for all of them.
 fn insert_fields<S: Source, V: FromRedisValue>(
     alloc: Global,
     mut pairs: PairsLeft<S::Values, S::Pairs>,
@@ -120,9 +120,9 @@ fn read_fields<S: Source, V: FromRedisValue>(
     }
 }
 
-/// The pairs of a `Map`, of an `Array` two by two, or of `Nil`, which has none: keys as text and
-/// values by the reading of `V`, all of them, also those whose key comes again. A key stands where
-/// it came first, with its last value. `NotPairs` for any other kind or an odd length.
+/// The pairs of a `Map`, of an `Array` two by two, or of `Nil`, which has none. Keys are read as text
+/// and values by the reading of `V`, also those whose key comes again. A key keeps its first position,
+/// with its last value. Returns `NotPairs` for any other kind or an odd length.
 impl<V: FromRedisValue> FromRedisValue for IndexMap<String, V> {
     ghost Meaning = { List (List ℕ × V.Meaning) };
 
@@ -141,8 +141,8 @@ impl<V: FromRedisValue> FromRedisValue for IndexMap<String, V> {
     }
 }
 
-/// The pairs as a map without order: each key with its last value. `NotPairs` for any other kind
-/// or an odd length.
+/// The pairs as a map without order: each key with its last value. Returns `NotPairs` for any other
+/// kind or an odd length.
 impl<V: FromRedisValue> FromRedisValue for HashMap<String, V> {
     ghost Meaning = { Fields V.Meaning };
 

@@ -10,7 +10,7 @@ use crate::value::error::ParsingError;
 use crate::value::from_value::FromRedisValue;
 use std::alloc::Global;
 
-/// The text of the bytes, which it takes.
+/// Returns the text of the bytes, and consumes them.
 fn text_of(bytes: Vec<u8>) -> Result<String, ParsingError>
     ensures ok { IfOk result (λ s. text_of_plain (bulk bytes.items) ≡ Some (string_bytes s)) }
     ensures err { IfErr result (λ e. text_of_plain (bulk bytes.items) ≡ None × e ≡ NotText) }
@@ -32,8 +32,8 @@ impl FromRedisValue for String {
 
     ghost may_refuse_owned = { RefusesOwnedText };
 
-    /// The text of a value. It moves the text that the value holds, and takes memory only where
-    /// the value holds none: for `OK` and for a number in decimal.
+    /// Returns the text of a value. It moves the text that the value holds, and allocates memory only
+    /// if the value holds none: for `OK` and for a number in decimal.
     fn from_redis_value(alloc: Global, v: Value) -> Result<String, ParsingError> {
         let v = match v {
             // most texts are bulk strings with nothing around them
@@ -53,7 +53,7 @@ impl FromRedisValue for String {
         }
     }
 
-    /// A copy of the text of a borrowed value.
+    /// Returns a copy of the text of a borrowed value.
     fn from_redis_value_ref(alloc: Global, v: &Value) -> Result<String, ParsingError> {
         match v.as_plain() {
             Value::BulkString(bytes) => match std::str::from_utf8(bytes) {

@@ -70,8 +70,8 @@ fn read_four<S: Source, A: FromRedisValue, B: FromRedisValue, C: FromRedisValue,
     Ok((a, b, c, d))
 }
 
-/// An `Array` of exactly two, each member by its own reading, and `NotTuple(2)` for any other kind
-/// or length. Reading an owned value moves its members; reading a borrowed one copies only what
+/// An `Array` of exactly two, each member by its own reading. Returns `NotTuple(2)` for any other kind
+/// or length. Reading an owned value moves its members. Reading a borrowed one copies only what
 /// the members' readings keep.
 impl<A: FromRedisValue, B: FromRedisValue> FromRedisValue for (A, B) {
     ghost Meaning = { A.Meaning × B.Meaning };
@@ -92,8 +92,8 @@ impl<A: FromRedisValue, B: FromRedisValue> FromRedisValue for (A, B) {
     }
 }
 
-/// An `Array` of exactly three, each member by its own reading, and `NotTuple(3)` for any other
-/// kind or length. Reading an owned value moves its members; reading a borrowed one copies only
+/// An `Array` of exactly three, each member by its own reading. Returns `NotTuple(3)` for any other
+/// kind or length. Reading an owned value moves its members. Reading a borrowed one copies only
 /// what the members' readings keep.
 impl<A: FromRedisValue, B: FromRedisValue, C: FromRedisValue> FromRedisValue for (A, B, C) {
     ghost Meaning = { A.Meaning × B.Meaning × C.Meaning };
@@ -114,8 +114,8 @@ impl<A: FromRedisValue, B: FromRedisValue, C: FromRedisValue> FromRedisValue for
     }
 }
 
-/// An `Array` of exactly four, each member by its own reading, and `NotTuple(4)` for any other kind
-/// or length. Reading an owned value moves its members; reading a borrowed one copies only what
+/// An `Array` of exactly four, each member by its own reading. Returns `NotTuple(4)` for any other kind
+/// or length. Reading an owned value moves its members. Reading a borrowed one copies only what
 /// the members' readings keep.
 impl<A: FromRedisValue, B: FromRedisValue, C: FromRedisValue, D: FromRedisValue> FromRedisValue
     for (A, B, C, D) {
