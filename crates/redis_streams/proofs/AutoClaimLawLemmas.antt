@@ -1,4 +1,4 @@
--- The mark of invalid entries of an automatic claim.
+-- The invalid-entries flag of an automatic claim.
 use Rattle.std.proofs.Common.{◌≡◌, ◌⊎◌, ◌||◌, ℕ, ◌+◌, ◌≤◌, List, [], ◌∷◌, map, length, nat_lt, IsSome, Bool, true}
 use Rattle.std.proofs.Common.{false, cond, Option, Some, None, option_map, option_and_then, refl, sym, ◌∙◌, ap, arith}
 use Rattle.std.proofs.Common.{true≢false, inl, inr}
@@ -19,7 +19,7 @@ use Rattle.stream_entries.specs.AutoClaim.{deleted_reading, autoclaim_of}
 use Rattle.redis_streams.specs.AutoClaimLaws.{holds_nil, IsOneEntry, InvalidEntriesTellNil}
 use Rattle.stream_entries.proofs.RowsLemmas.{list_shown}
 
--- the number of entries that an item stands for: none where it is nil
+-- the number of entries of an item: none if it is nil, and one otherwise
 abbrev one_or_none : Tree → ℕ
 one_or_none item = cond (holds_nil item) 0 1
 
@@ -113,7 +113,7 @@ fewer_more item rest false count n f = record {
       ∙ f.tells ∙ sym (ap (λ b. b || list_any holds_nil rest) n);
 }
 
--- items that are read by a form, each of which stands for one entry or, where it is nil, for none
+-- items that are read by a form, each of which is one entry, or none if it is nil
 module _ (form : Tree → Option (List Entry)) (P : Tree → Type 0)
     (counted : (item : Tree) (es : List Entry) → P item → form item ≡ Some es → length es ≡ one_or_none item) where
   more_counted : (t : Tree) (ts : List Tree) (ess : List (List Entry)) → P t → (o : Option (List Entry)) → form t ≡ o

@@ -1,4 +1,4 @@
--- What a respelling of an automatic claim keeps.
+-- The properties of an automatic claim that a respelling keeps.
 use Rattle.std.proofs.Common.{◌≡◌, inl, inr, ℕ, List, [], ◌∷◌, length, Option, Some, None, option_map, option_and_then}
 use Rattle.std.proofs.Common.{refl, sym, ◌∙◌, ap, flat_map}
 use Rattle.redis_resp.specs.Tree.{Tree, nil, array, map_of_pairs, array_of_plain}
@@ -14,7 +14,7 @@ use Rattle.stream_entries.specs.RespellingLaws.{HoldsOfEqual, IsSymmetric, Keeps
 use Rattle.redis_streams.proofs.AutoClaimLawLemmas.{items_of_array}
 use Rattle.stream_entries.proofs.RespellingLemmas.{alike_back, both_back, rows_back, traverse_alike, standard_alike}
 
--- The relation turned round.
+-- The relation in the other direction.
 
 claimed_back : IsSymmetric ClaimedAlike
 claimed_back v w (inl e) = inl (sym e)
@@ -46,7 +46,7 @@ autoclaim_back v w a = arrays_back (AlikeAtSecond (ArraysAlike (Alike ClaimedAli
 pub autoclaim_of_equal : HoldsOfEqual AutoclaimAlike
 autoclaim_of_equal v w e = inl e
 
--- The kind of a claimed list is that of any list that is alike.
+-- The kind of a claimed list is the same for every list that is alike.
 
 array_decides : (x : Tree) (xs : List Tree) → IsArray x → kind_of_items (x ∷ xs) ≡ Some rows
 array_decides (array ts) xs a = refl

@@ -29,7 +29,7 @@ abbrev RefusesGroupsField : List FullGroup → Option Tree → ParsingError → 
 RefusesGroupsField none = Refuses (field_or none (list_reading full_group_reading))
     (RefusesField (RefusesList (Refuses full_group_reading RefusesFullGroup)))
 
--- a group is refused where its consumers are
+-- a group is refused if its consumers are
 pub refused_by_consumers : (f : NamedFields) (none : List FullConsumer) (t : Option Tree) (error : ParsingError)
     → none ≡ [] → t ≡ f (codes "consumers")
     → Refuses (field_or none (list_reading full_consumer_reading))
@@ -41,7 +41,7 @@ refused_by_consumers f none t error empty is why =
     (subst (λ (o : Option Tree). RefusesConsumersField none o error) is why) in
     (inr (inr (inr (inr (inr (inr there.0))))), λ h. no_consumers f (there.1 h))
 
--- a stream is refused where its groups are
+-- a stream is refused if its groups are
 pub refused_by_groups : (f : NamedFields) (none : List FullGroup) (t : Option Tree) (error : ParsingError) → none ≡ []
     → t ≡ f (codes "groups")
     → Refuses (field_or none (list_reading full_group_reading))

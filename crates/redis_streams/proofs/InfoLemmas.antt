@@ -1,4 +1,4 @@
--- Fields by name, and what is left of them after one is taken out.
+-- Fields by name, and those that are left after one is removed.
 use Rattle.std.proofs.Common.{◌≡◌, ◌<◌, ℕ, Bool, true, false, cond, List, [], ◌∷◌, length, arith, inl, Option, Some}
 use Rattle.std.proofs.Common.{None, option_map, option_and_then, String, string_bytes, Global, refl, ap, sym, subst}
 use Rattle.std.proofs.Common.{◌∙◌, Result, Ok, Err, IfErr, IsErrAnd}
@@ -64,11 +64,11 @@ pub never : {A B : Type 0} (o : Option A) → option_and_then (λ _. let none : 
 never None = refl
 never (Some a) = refl
 
--- a stream and its producers are nothing where the stream is nothing
+-- a stream and its producers have no record if the stream has none
 pub no_base : (f : NamedFields) → stream_of f ≡ None → tracked_of f ≡ None
 no_base f h = simp (h, never)
 
--- a list of no length
+-- a list of length 0 is empty
 pub none_of : {A : Type 0} (xs : List A) → length xs ≡ 0 → xs ≡ []
 none_of [] e = refl
 none_of (x ∷ xs) e = absurd (omega (arith, e))
@@ -80,13 +80,13 @@ no_fields seen t ps m is zero empty =
     fields_of_pairs seen t [] m (ap (option_and_then (traverse (entry_reading (λ u. Some u))))
     (is ∙ ap Some (none_of ps zero))) (λ name. rw empty refl)
 
--- what holds of an error holds of a result that passes it on
+-- a property of an error is a property of a result that returns it
 pub passed_on : {T E : Type 0} (P : E → Type 0) (error : E) (r : Result T E) → IsErrAnd r (λ e. e ≡ error) → P error
     → IfErr r P
 passed_on P error (Ok x) is holds = tt
 passed_on P error (Err e) is holds = subst P (sym is) holds
 
--- a list that was read and holds something may want memory
+-- reading a list that is not empty may run out of memory
 pub list_wants_memory : {M : Type 0} (reading : Tree → Option M) (refuses : Tree → ParsingError → Type 0) (t : Tree)
     (ms : List M) → list_reading reading t ≡ Some ms → 0 < length ms → RefusesList refuses t Memory
 list_wants_memory reading refuses t ms is some = by (items t) is

@@ -1,4 +1,4 @@
--- A field more, in a part of a reply, changes nothing of the whole.
+-- An additional field in a part of a reply does not change the reading of the whole.
 use Rattle.std.proofs.Common.{◌≡◌, ◌⊎◌, ℕ, Bool, true, false, cond, List, [], ◌∷◌, ◌++◌, Option, Some, None, option_map}
 use Rattle.std.proofs.Common.{option_and_then, refl, sym, ◌∙◌, ap, codes, inl, inr, true≢false}
 use Rattle.std.specs.Bool.{⊤}
@@ -21,14 +21,14 @@ traverse_same f [] after x y e = ap (λ o. option_and_then (λ m. option_map (λ
 traverse_same f (p ∷ ps) after x y e =
     ap (λ o. option_and_then (λ m. option_map (λ ms. m ∷ ms) o) (f p)) (traverse_same f ps after x y e)
 
--- a list whose one item is exchanged for one with the same reading has the same reading
+-- a list has the same reading after one item is exchanged for one with the same reading
 list_same : {M : Type 0} (reading : Tree → Option M) (IsMore : Tree → Tree → Type 0) → MoreChangesNothing IsMore reading
     → MoreChangesNothing (HasOtherItem IsMore) (list_reading reading)
 list_same reading IsMore law t more h =
     rw (h.items_are, h.more_items_are)
     (traverse_same reading h.before h.after h.item h.changed (law h.item h.changed h.is_more))
 
--- both are refused, or have the same last value of each key but this, for which it may be the one and the other value
+-- both are refused, or both have the same last value of each key but this, which may have one value or the other
 abbrev Exchanged : List ℕ → Tree → Tree → ReadPairs → ReadPairs → Type 0
 Exchanged name value changed None None = ⊤
 Exchanged name value changed (Some more) (Some ps) =
@@ -86,7 +86,7 @@ still_exchanged (p ∷ before) after key value changed name is =
     by (Some m) rest = one_before name value changed m (pairs_read (before ++ (key, changed) ∷ after))
         (pairs_read (before ++ (key, value) ∷ after)) rest
 
--- a record of named fields is the same where the list of this name has the same reading, and all other fields are the
+-- a record of named fields is the same if the list of this name has the same reading, and all other fields are the
 -- same
 abbrev LooksThrough : {M N : Type 0} → List ℕ → (Tree → Option N) → (NamedFields → Option M) → Type 0
 LooksThrough name reading of = (f g : NamedFields) → ((n : List ℕ) → bytes_eq n name ≡ false → f n ≡ g n)

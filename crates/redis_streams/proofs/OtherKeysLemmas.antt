@@ -58,7 +58,7 @@ still_alike (p ∷ before) after key value text is =
     by (Some m) rest = one_before text m (pairs_read (before ++ (key, value) ∷ after))
         (pairs_read (before ++ after)) rest
 
--- a record of named fields is the same, where it looks at none but the names
+-- a record of named fields is the same if it reads only these names
 abbrev LooksAt : {M : Type 0} → List (List ℕ) → (NamedFields → Option M) → Type 0
 LooksAt names of = (f g : NamedFields) (key : List ℕ) → IsOther names key
     → ((name : List ℕ) → bytes_eq name key ≡ false → f name ≡ g name) → of f ≡ of g

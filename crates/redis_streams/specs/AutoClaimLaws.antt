@@ -1,4 +1,4 @@
--- What the mark of invalid entries tells of an automatic claim.
+-- The meaning of the invalid-entries flag of an automatic claim.
 use Rattle.std.specs.Prelude.{◌≡◌, ◌⊎◌, List, [], ◌∷◌, Bool, true, Some, IsSome}
 use Rattle.std.specs.List.{AllByRecursion, list_any}
 use Rattle.redis_resp.specs.Tree.{Tree, plain, array_of_plain, pairs_in}
@@ -6,7 +6,7 @@ use Rattle.redis_resp.specs.Text.{text_reading}
 use Rattle.redis_resp.specs.Reading.{is_nil}
 use Rattle.stream_entries.specs.AutoClaim.{AutoClaim, Parts, autoclaim_reading, parts_in}
 
--- nil stands there, whatever attributes are around it
+-- the value is nil, whatever attributes are around it
 abbrev pub holds_nil : Tree → Bool
 holds_nil item = is_nil (plain item)
 
@@ -14,8 +14,8 @@ holds_nil item = is_nil (plain item)
 abbrev pub IsOneEntry : Tree → Type 0
 IsOneEntry item = IsSome (text_reading item) ⊎ ((pair : Tree × Tree) × (pairs_in item ≡ Some (pair ∷ [])))
 
--- Where each item of an accepted claimed list is nil, one id or a row of one pair, entries are marked invalid exactly
--- where a nil stands there.
+-- If each item of an accepted claimed list is nil, one id or a row of one pair, entries are marked invalid exactly
+-- if an item is nil.
 abbrev pub InvalidEntriesTellNil : Type 0
 InvalidEntriesTellNil = (t : Tree) (reply : AutoClaim) (parts : Parts) (items : List Tree)
     → autoclaim_reading t ≡ Some reply → parts_in t ≡ Some parts

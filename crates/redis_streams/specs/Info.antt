@@ -1,4 +1,4 @@
--- What the replies of XINFO mean: named fields, each of which is read by its own reading or, where there is none, has
+-- The meaning of the replies of XINFO: named fields, each of which is read by its own reading or, if it is missing, has
 -- an empty value.
 use Rattle.std.specs.Prelude.{ℕ, List, [], ◌∷◌, Option, Some, None, option_map, unwrap_or, codes, if◌then◌else◌}
 use Rattle.std.specs.FinMap.{empty}
@@ -10,7 +10,7 @@ use Rattle.redis_resp.specs.Reading.{is_nil, list_reading, both_read}
 use Rattle.redis_resp.specs.Table.{fields_reading, pairs_reading, last_with}
 use Rattle.stream_entries.specs.Entry.{Entry, entry_of, empty_entry}
 
--- the value of each field by its name, where there is one
+-- the value of each field by its name, if there is one
 abbrev pub NamedFields : Type 0
 NamedFields = List ℕ → Option Tree
 
@@ -18,7 +18,7 @@ NamedFields = List ℕ → Option Tree
 abbrev pub fields_in : Tree → Option NamedFields
 fields_in t = option_map (λ pairs name. last_with name pairs) (pairs_reading (λ u. Some u) t)
 
--- what a field reads as, and the empty value where there is no such field
+-- the reading of a field, or the empty value if there is no such field
 abbrev pub field_or : {M : Type 0} → M → (Tree → Option M) → Option Tree → Option M
 field_or empty_value reading None = Some empty_value
 field_or empty_value reading (Some t) = reading t
@@ -27,11 +27,11 @@ field_or empty_value reading (Some t) = reading t
 abbrev pub text_field : NamedFields → List ℕ → Option (List ℕ)
 text_field fields name = field_or [] text_reading (fields name)
 
--- a field that is a number of so many bits, or 0
+-- a field that is a number of this number of bits, or 0
 abbrev pub number_field : ℕ → NamedFields → List ℕ → Option ℕ
 number_field bits fields name = field_or 0 (unsigned_reading bits) (fields name)
 
--- a number that the server may not know: nil, with no attribute around it, says so
+-- a number that the server may not know: it is then nil, with no attribute around it
 abbrev pub number_or_nil_reading : Tree → Option (Option ℕ)
 number_or_nil_reading t = if is_nil t then Some None else option_map Some (unsigned_reading 64 t)
 
@@ -39,8 +39,8 @@ number_or_nil_reading t = if is_nil t then Some None else option_map Some (unsig
 abbrev pub number_or_nil_field : NamedFields → List ℕ → Option (Option ℕ)
 number_or_nil_field fields name = field_or None number_or_nil_reading (fields name)
 
--- an entry by the items of an array: none is the empty entry; else the first is the id and the second, where there is
--- one, the fields
+-- an entry by the items of an array: no items are the empty entry; otherwise the first is the id and the second, if
+-- there is one, the fields
 abbrev pub entry_of_items : List Tree → Option Entry
 entry_of_items [] = Some empty_entry
 entry_of_items (id ∷ []) = option_map (λ i. entry_of (i, empty)) (text_reading id)
@@ -55,7 +55,7 @@ info_entry_reading t = entry_of_items (unwrap_or (array_of_plain t) [])
 abbrev pub entry_field : NamedFields → List ℕ → Option Entry
 entry_field fields name = field_or empty_entry info_entry_reading (fields name)
 
--- what XINFO STREAM tells of a stream
+-- the reply of XINFO STREAM on a stream
 pub record StreamInfo : Type 0 where
   pub last_generated_id : List ℕ
   pub radix_tree_keys : ℕ
@@ -65,7 +65,7 @@ pub record StreamInfo : Type 0 where
   pub first_entry : Entry
   pub last_entry : Entry
 
--- a stream of which nothing is said
+-- the empty stream
 abbrev pub empty_stream : StreamInfo
 empty_stream = record {
   last_generated_id = [];
@@ -98,11 +98,11 @@ stream_of fields =
       last_entry = last;
     })
 
--- what a value says as the reply of XINFO STREAM
+-- a value read as the reply of XINFO STREAM
 abbrev pub stream_reading : Tree → Option StreamInfo
 stream_reading t = fields_in t >>= stream_of
 
--- what XINFO STREAM tells of a stream and of its idempotent producers
+-- the reply of XINFO STREAM on a stream and its idempotent producers
 pub record TrackedStream : Type 0 where
   pub base : StreamInfo
   pub idmp_duration : ℕ
@@ -112,7 +112,7 @@ pub record TrackedStream : Type 0 where
   pub iids_added : ℕ
   pub iids_duplicates : ℕ
 
--- a stream and its producers of which nothing is said
+-- an empty stream and its producers
 abbrev pub empty_tracked : TrackedStream
 empty_tracked = record {
   base = empty_stream;
@@ -145,11 +145,11 @@ tracked_of fields =
       iids_duplicates = duplicates;
     })
 
--- what a value says as the reply of XINFO STREAM with its idempotent producers
+-- a value read as the reply of XINFO STREAM with its idempotent producers
 abbrev pub tracked_reading : Tree → Option TrackedStream
 tracked_reading t = fields_in t >>= tracked_of
 
--- a consumer of a group: its name, how many entries it has pending, and for how long it has been idle
+-- a consumer of a group: its name, its number of pending entries, and how long it has been idle
 pub record Consumer : Type 0 where
   pub name : List ℕ
   pub pending : ℕ
@@ -167,15 +167,15 @@ consumer_of_fields fields =
     number_field 64 fields (codes "idle") >>= λ idle.
     Some (record { name = name; pending = pending; idle = idle })
 
--- what a value says as a row of the reply of XINFO CONSUMERS
+-- a value read as a row of the reply of XINFO CONSUMERS
 abbrev pub consumer_reading : Tree → Option Consumer
 consumer_reading t = fields_in t >>= consumer_of_fields
 
--- what a value says as the reply of XINFO CONSUMERS: a list of rows
+-- a value read as the reply of XINFO CONSUMERS: a list of rows
 abbrev pub consumers_reading : Tree → Option (List Consumer)
 consumers_reading = list_reading consumer_reading
 
--- what XINFO GROUPS tells of a group
+-- a group in the reply of XINFO GROUPS
 pub record Group : Type 0 where
   pub name : List ℕ
   pub consumers : ℕ
@@ -184,7 +184,7 @@ pub record Group : Type 0 where
   pub entries_read : Option ℕ
   pub lag : Option ℕ
 
--- a group of which nothing is said
+-- the empty group
 abbrev pub empty_group : Group
 empty_group = record { name = []; consumers = 0; pending = 0; last_delivered_id = []; entries_read = None; lag = None }
 
@@ -207,10 +207,10 @@ group_of fields =
       lag = lag;
     })
 
--- what a value says as a row of the reply of XINFO GROUPS
+-- a value read as a row of the reply of XINFO GROUPS
 abbrev pub group_reading : Tree → Option Group
 group_reading t = fields_in t >>= group_of
 
--- what a value says as the reply of XINFO GROUPS: a list of rows
+-- a value read as the reply of XINFO GROUPS: a list of rows
 abbrev pub groups_reading : Tree → Option (List Group)
 groups_reading = list_reading group_reading

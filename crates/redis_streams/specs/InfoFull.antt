@@ -1,4 +1,4 @@
--- What the reply of XINFO STREAM FULL means: a stream with its entries, its groups and their consumers.
+-- The meaning of the reply of XINFO STREAM FULL: a stream with its entries, its groups and their consumers.
 use Rattle.std.specs.Prelude.{ℕ, ℤ, List, [], ◌∷◌, Option, Some, None, option_map, option_and_then, codes}
 use Rattle.std.specs.Prelude.{if◌then◌else◌}
 use Rattle.redis_resp.specs.Then.{◌>>=◌}
@@ -9,11 +9,11 @@ use Rattle.redis_resp.specs.Reading.{is_nil, list_reading, two_reading, three_re
 use Rattle.redis_resp.specs.Table.{pairs_reading}
 use Rattle.redis_streams.specs.Info.{NamedFields, fields_in, field_or, text_field, number_field, number_or_nil_field}
 
--- a field that is a list of such items, or the list of none
+-- a field that is a list of such items, or the empty list
 abbrev pub list_field : {M : Type 0} → (Tree → Option M) → NamedFields → List ℕ → Option (List M)
 list_field reading fields name = field_or [] (list_reading reading) (fields name)
 
--- an entry: its id, and its fields as they were added, each as often as it was
+-- an entry: its id, and its fields in the order in which they were added, repeated names included
 pub record FullEntry : Type 0 where
   pub id : List ℕ
   pub fields : List (List ℕ × Tree)
@@ -30,14 +30,14 @@ full_entry_of parts = record { id = parts.0; fields = parts.1 }
 abbrev pub full_entry_reading : Tree → Option FullEntry
 full_entry_reading t = option_map full_entry_of (two_reading text_reading (pairs_reading (λ u. Some u)) t)
 
--- a pending entry of a group: its id, its consumer, when it was delivered last, and how often it was
+-- a pending entry of a group: its id, its consumer, the time of its last delivery, and its number of deliveries
 pub record FullPending : Type 0 where
   pub id : List ℕ
   pub consumer : List ℕ
   pub delivery_time : ℕ
   pub times_delivered : ℕ
 
--- a pending entry of which nothing is said
+-- the empty pending entry
 abbrev pub empty_full_pending : FullPending
 empty_full_pending = record { id = []; consumer = []; delivery_time = 0; times_delivered = 0 }
 
@@ -56,7 +56,7 @@ pub record OwnPending : Type 0 where
   pub delivery_time : ℕ
   pub times_delivered : ℕ
 
--- a consumer's pending entry of which nothing is said
+-- the empty pending entry of a consumer
 abbrev pub empty_own_pending : OwnPending
 empty_own_pending = record { id = []; delivery_time = 0; times_delivered = 0 }
 
@@ -69,7 +69,7 @@ abbrev pub own_pending_reading : Tree → Option OwnPending
 own_pending_reading t = option_map own_pending_of
     (three_reading text_reading (unsigned_reading 64) (unsigned_reading 64) t)
 
--- a time that the server may not tell, with its sign: nil, with no attribute around it, says so
+-- a time that the server may not report, with its sign: it is then nil, with no attribute around it
 abbrev pub time_or_nil_reading : Tree → Option (Option ℤ)
 time_or_nil_reading t = if is_nil t then Some None else option_map Some (signed_reading 63 t)
 
@@ -77,7 +77,7 @@ time_or_nil_reading t = if is_nil t then Some None else option_map Some (signed_
 abbrev pub time_or_nil_field : NamedFields → List ℕ → Option (Option ℤ)
 time_or_nil_field fields name = field_or None time_or_nil_reading (fields name)
 
--- a consumer: its name, when it was seen and when it was active last, how much is pending for it, and what
+-- a consumer: its name, when it was last seen and last active, its number of pending entries, and those entries
 pub record FullConsumer : Type 0 where
   pub name : List ℕ
   pub seen_time : ℕ
@@ -85,7 +85,7 @@ pub record FullConsumer : Type 0 where
   pub pending_count : ℕ
   pub pending : List OwnPending
 
--- a consumer of which nothing is said
+-- the empty consumer
 abbrev pub empty_full_consumer : FullConsumer
 empty_full_consumer = record { name = []; seen_time = 0; active_time = None; pending_count = 0; pending = [] }
 
@@ -99,11 +99,11 @@ full_consumer_of fields =
     list_field own_pending_reading fields (codes "pending") >>= λ pending.
     Some (record { name = name; seen_time = seen; active_time = active; pending_count = count; pending = pending })
 
--- what a value says as a consumer in the reply of XINFO STREAM FULL
+-- a value read as a consumer in the reply of XINFO STREAM FULL
 abbrev pub full_consumer_reading : Tree → Option FullConsumer
 full_consumer_reading t = fields_in t >>= full_consumer_of
 
--- a group: how far it has come, how much is pending in it, and what, and its consumers
+-- a group: its last delivered id and counts, its number of pending entries, those entries, and its consumers
 pub record FullGroup : Type 0 where
   pub name : List ℕ
   pub last_delivered_id : List ℕ
@@ -113,7 +113,7 @@ pub record FullGroup : Type 0 where
   pub pending : List FullPending
   pub consumers : List FullConsumer
 
--- a group of which nothing is said
+-- the empty group
 abbrev pub empty_full_group : FullGroup
 empty_full_group = record {
   name = [];
@@ -146,11 +146,11 @@ full_group_of fields =
       consumers = consumers;
     })
 
--- what a value says as a group in the reply of XINFO STREAM FULL
+-- a value read as a group in the reply of XINFO STREAM FULL
 abbrev pub full_group_reading : Tree → Option FullGroup
 full_group_reading t = fields_in t >>= full_group_of
 
--- what XINFO STREAM FULL tells of a stream
+-- the reply of XINFO STREAM FULL on a stream
 pub record FullStream : Type 0 where
   pub length : ℕ
   pub radix_tree_keys : ℕ
@@ -162,7 +162,7 @@ pub record FullStream : Type 0 where
   pub entries : List FullEntry
   pub groups : List FullGroup
 
--- a stream of which nothing is said
+-- the empty stream
 abbrev pub empty_full_stream : FullStream
 empty_full_stream = record {
   length = 0;
@@ -200,6 +200,6 @@ full_stream_of fields =
       groups = groups;
     })
 
--- what a value says as the reply of XINFO STREAM FULL
+-- a value read as the reply of XINFO STREAM FULL
 abbrev pub full_reading : Tree → Option FullStream
 full_reading t = fields_in t >>= full_stream_of

@@ -1,5 +1,5 @@
--- What the records of XINFO STREAM FULL mean: the same as the mathematical ones, whatever room their texts and lists
--- have.
+-- The meaning of the records of XINFO STREAM FULL: the mathematical ones, whatever the capacity of their texts and
+-- lists.
 use Rattle.std.specs.Prelude.{List, map, string_bytes}
 use Rattle.redis_resp.specs.Table.{entries_meaning}
 use Rattle.redis_resp.specs.Value.{tree}
@@ -11,11 +11,11 @@ use Rattle.redis_streams.specs.declared.info.full.consumer.StreamInfoFullConsume
 use Rattle.redis_streams.specs.declared.info.full.group.StreamInfoFullGroup.{StreamInfoFullGroup}
 use Rattle.redis_streams.specs.declared.info.full.stream.StreamInfoFullReply.{StreamInfoFullReply}
 
--- what a record says of an entry
+-- the entry of a record
 abbrev pub full_entry_meaning : StreamInfoFullEntry → FullEntry
 full_entry_meaning e = record { id = string_bytes e.id; fields = entries_meaning tree e.fields.items }
 
--- what a record says of a pending entry
+-- the pending entry of a record
 abbrev pub full_pending_meaning : StreamInfoFullPending → FullPending
 full_pending_meaning p = record {
   id = string_bytes p.id;
@@ -24,12 +24,12 @@ full_pending_meaning p = record {
   times_delivered = p.times_delivered;
 }
 
--- what a record says of a consumer's pending entry
+-- the pending entry of a consumer of a record
 abbrev pub own_pending_meaning : StreamInfoConsumerPending → OwnPending
 own_pending_meaning p =
     record { id = string_bytes p.id; delivery_time = p.delivery_time; times_delivered = p.times_delivered }
 
--- what a record says of a consumer
+-- the consumer of a record
 abbrev pub full_consumer_meaning : StreamInfoFullConsumer → FullConsumer
 full_consumer_meaning c = record {
   name = string_bytes c.name;
@@ -39,7 +39,7 @@ full_consumer_meaning c = record {
   pending = map own_pending_meaning c.pending.items;
 }
 
--- what a record says of a group
+-- the group of a record
 abbrev pub full_group_meaning : StreamInfoFullGroup → FullGroup
 full_group_meaning g = record {
   name = string_bytes g.name;
@@ -51,7 +51,7 @@ full_group_meaning g = record {
   consumers = map full_consumer_meaning g.consumers.items;
 }
 
--- what a record says of a stream
+-- the stream of a record
 abbrev pub full_meaning : StreamInfoFullReply → FullStream
 full_meaning r = record {
   length = r.length;

@@ -1,4 +1,4 @@
--- With which error a value may be refused as a reply of XINFO STREAM FULL.
+-- The errors with which a value may be refused as a reply of XINFO STREAM FULL.
 use Rattle.std.specs.Prelude.{◌⊎◌, Some, codes}
 use Rattle.redis_resp.specs.Tree.{Tree}
 use Rattle.redis_resp.specs.Number.{unsigned_reading}

@@ -1,4 +1,4 @@
--- What the records of XINFO mean: the same as the mathematical ones, whatever room their texts and lists have.
+-- The meaning of the records of XINFO: the mathematical ones, whatever the capacity of their texts and lists.
 use Rattle.std.specs.Prelude.{List, map, option_map, String, string_bytes}
 use Rattle.std.specs.declared.alloc.Global.{Global}
 use Rattle.std.specs.HashMap.{HashMap, get_by_text}
@@ -12,11 +12,11 @@ use Rattle.redis_streams.specs.declared.info.consumers.StreamInfoConsumersReply.
 use Rattle.redis_streams.specs.declared.info.groups.StreamInfoGroup.{StreamInfoGroup}
 use Rattle.redis_streams.specs.declared.info.groups.StreamInfoGroupsReply.{StreamInfoGroupsReply}
 
--- the fields that a map holds, its values seen as trees
+-- the fields that a map holds, its values as trees
 unfoldable pub fields_by_name : {V S : Type 0} → (V → Tree) → HashMap (String Global) V S → NamedFields
 fields_by_name seen m name = option_map seen (get_by_text m name)
 
--- what a record says of a stream
+-- the stream of a record
 abbrev pub stream_info_meaning : StreamInfoStreamReply → StreamInfo
 stream_info_meaning r = record {
   last_generated_id = string_bytes r.last_generated_id;
@@ -28,7 +28,7 @@ stream_info_meaning r = record {
   last_entry = entry_meaning r.last_entry;
 }
 
--- what a record says of a stream and of its idempotent producers
+-- the stream and its idempotent producers of a record
 abbrev pub tracked_meaning : StreamInfoStreamReplyWithIdempotency → TrackedStream
 tracked_meaning r = record {
   base = stream_info_meaning r.base;
@@ -40,15 +40,15 @@ tracked_meaning r = record {
   iids_duplicates = r.iids_duplicates;
 }
 
--- the consumer that a record names
+-- the consumer of a record
 abbrev pub consumer_meaning : StreamInfoConsumer → Consumer
 consumer_meaning c = record { name = string_bytes c.name; pending = c.pending; idle = c.idle }
 
--- the consumers that a reply lists
+-- the consumers of a reply
 abbrev pub consumers_meaning : StreamInfoConsumersReply → List Consumer
 consumers_meaning r = map consumer_meaning r.consumers.items
 
--- what a record says of a group
+-- the group of a record
 abbrev pub group_meaning : StreamInfoGroup → Group
 group_meaning g = record {
   name = string_bytes g.name;
@@ -59,6 +59,6 @@ group_meaning g = record {
   lag = g.lag;
 }
 
--- the groups that a reply lists
+-- the groups of a reply
 abbrev pub groups_meaning : StreamInfoGroupsReply → List Group
 groups_meaning r = map group_meaning r.groups.items

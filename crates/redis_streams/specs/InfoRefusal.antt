@@ -1,4 +1,4 @@
--- With which error a value may be refused as a reply of XINFO.
+-- The errors with which a value may be refused as a reply of XINFO.
 use Rattle.std.specs.Prelude.{◌⊎◌, List, [], ◌∷◌, Some, MatchOption, unwrap_or, codes}
 use Rattle.redis_resp.specs.Tree.{Tree, array_of_plain}
 use Rattle.redis_resp.specs.Refusal.{Refuses, RefusesText, RefusesNumber, RefusesValue, RefusesList, RefusesPairs}
@@ -14,11 +14,11 @@ RefusesItems [] error = ⊥
 RefusesItems (id ∷ []) error = RefusesTextIn id error
 RefusesItems (id ∷ fields ∷ rest) error = RefusesTextIn id error ⊎ Refuses field_reading RefusesFields fields error
 
--- an entry: what the items of an array are refused with, and any other value is not refused
+-- an entry: what the items of an array are refused with; any other value is not refused
 abbrev pub RefusesInfoEntry : Tree → ParsingError → Type 0
 RefusesInfoEntry t error = RefusesItems (unwrap_or (array_of_plain t) []) error
 
--- fields by name: pairs of a text and a value that is kept as it is, and where they are there what the fields are
+-- fields by name: pairs of a text and a value that is kept as it is, and if there are such pairs what the fields are
 -- refused with
 abbrev pub RefusesNamed : (NamedFields → ParsingError → Type 0) → Tree → ParsingError → Type 0
 RefusesNamed refuses t error = RefusesPairs (Refuses (λ u. Some u) RefusesValue) t error

@@ -1,4 +1,4 @@
--- Which fields the replies of XINFO name, and that all others change nothing.
+-- The fields that the replies of XINFO name, and the law that all others are ignored.
 use Rattle.std.specs.Prelude.{◌≡◌, ◌⊎◌, ℕ, false, List, [], ◌∷◌, ◌++◌, Option, Some, codes}
 use Rattle.std.specs.List.{AllByRecursion}
 use Rattle.std.specs.Str.{bytes_eq}
@@ -28,13 +28,13 @@ group_names = codes "name" ∷ codes "consumers" ∷ codes "pending" ∷ codes "
 abbrev pub full_consumer_names : List (List ℕ)
 full_consumer_names = codes "name" ∷ codes "seen-time" ∷ codes "active-time" ∷ codes "pel-count" ∷ codes "pending" ∷ []
 
--- the names of a group's fields in it
+-- the names of a group's fields in that reply
 abbrev pub full_group_names : List (List ℕ)
 full_group_names =
     codes "name" ∷ codes "last-delivered-id" ∷ codes "entries-read" ∷ codes "lag" ∷ codes "pel-count" ∷ codes "pending"
     ∷ codes "consumers" ∷ []
 
--- the names of a stream's fields in it
+-- the names of a stream's fields in that reply
 abbrev pub full_names : List (List ℕ)
 full_names =
     codes "length" ∷ codes "radix-tree-keys" ∷ codes "radix-tree-nodes" ∷ codes "last-generated-id"
@@ -57,11 +57,11 @@ pub record HasOtherKey (names : List (List ℕ)) (t more : Tree) : Type 0 where
   pub is_text : text_reading key ≡ Some text
   pub is_other : IsOther names text
 
--- a pair with another key changes nothing
+-- a pair with another key does not change the reading
 abbrev pub OtherKeysChangeNothing : {M : Type 0} → List (List ℕ) → (Tree → Option M) → Type 0
 OtherKeysChangeNothing names reading = (t more : Tree) → HasOtherKey names t more → reading more ≡ reading t
 
--- `more` has the items of `t` but for one, in whose place one stands that is so related to it
+-- `more` has the items of `t`, with one item replaced by an item that is related to it by `IsMore`
 pub record HasOtherItem (IsMore : Tree → Tree → Type 0) (t more : Tree) : Type 0 where
   pub before : List Tree
   pub after : List Tree
@@ -71,8 +71,8 @@ pub record HasOtherItem (IsMore : Tree → Tree → Type 0) (t more : Tree) : Ty
   pub more_items_are : items more ≡ Some (before ++ changed ∷ after)
   pub is_more : IsMore item changed
 
--- `more` has the pairs of `t` but for one whose key is the name, in whose value's place one stands that is so related
--- to it
+-- `more` has the pairs of `t`, with the value of one pair, whose key is the name, replaced by a value that is related
+-- to it by `IsMore`
 pub record HasOtherValue (name : List ℕ) (IsMore : Tree → Tree → Type 0) (t more : Tree) : Type 0 where
   pub before : List (Tree × Tree)
   pub after : List (Tree × Tree)
@@ -84,17 +84,17 @@ pub record HasOtherValue (name : List ℕ) (IsMore : Tree → Tree → Type 0) (
   pub is_name : text_reading key ≡ Some name
   pub is_more : IsMore value changed
 
--- `more` is the group `t` with one field more, of the group or of one of its consumers
+-- `more` is the group `t` with one additional field, of the group or of one of its consumers
 abbrev pub HasMoreInGroup : Tree → Tree → Type 0
 HasMoreInGroup t more =
     HasOtherKey full_group_names t more
     ⊎ HasOtherValue (codes "consumers") (HasOtherItem (HasOtherKey full_consumer_names)) t more
 
--- `more` is the stream `t` with one field more, of the stream, of one of its groups or of one of their consumers
+-- `more` is the stream `t` with one additional field, of the stream, of one of its groups or of one of their consumers
 abbrev pub HasMoreInStream : Tree → Tree → Type 0
 HasMoreInStream t more = HasOtherKey full_names t more
     ⊎ HasOtherValue (codes "groups") (HasOtherItem HasMoreInGroup) t more
 
--- one field more, wherever it stands, changes nothing
+-- one additional field, at any position, does not change the reading
 abbrev pub MoreChangesNothing : {M : Type 0} → (Tree → Tree → Type 0) → (Tree → Option M) → Type 0
 MoreChangesNothing IsMore reading = (t more : Tree) → IsMore t more → reading more ≡ reading t

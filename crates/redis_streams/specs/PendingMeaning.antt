@@ -1,4 +1,4 @@
--- What the records of XPENDING mean: the same as the mathematical ones, whatever room their texts and lists have.
+-- The meaning of the records of XPENDING: the mathematical ones, whatever the capacity of their texts and lists.
 use Rattle.std.specs.Prelude.{ℕ, List, Option, Some, None, map, option_map, Vec, String, string_bytes}
 use Rattle.std.specs.declared.alloc.Global.{Global}
 use Rattle.redis_streams.specs.Pending.{PendingSummary, PendingEntry, SummaryParts}
@@ -9,7 +9,7 @@ use Rattle.redis_streams.specs.declared.pending.summary.StreamPendingReply.TheVa
 use Rattle.redis_streams.specs.declared.pending.extended.StreamPendingId.{StreamPendingId}
 use Rattle.redis_streams.specs.declared.pending.extended.StreamPendingCountReply.{StreamPendingCountReply}
 
--- what a record says is pending
+-- the summary of a record
 abbrev pub data_meaning : StreamPendingData → PendingSummary
 data_meaning d = record {
   count = d.count;
@@ -18,17 +18,17 @@ data_meaning d = record {
   consumers = map consumer_meaning d.consumers.items;
 }
 
--- what a reply says is pending, or None where nothing is
+-- the summary of a reply, or None if nothing is pending
 abbrev pub pending_meaning : StreamPendingReply → Option PendingSummary
 pending_meaning Empty = None
 pending_meaning (Data d) = Some (data_meaning d)
 
--- how many entries a reply says are pending
+-- the number of pending entries of a reply
 abbrev pub count_of : StreamPendingReply → ℕ
 count_of Empty = 0
 count_of (Data d) = d.count
 
--- the pending entry that a record describes
+-- the pending entry of a record
 abbrev pub pending_id_meaning : StreamPendingId → PendingEntry
 pending_id_meaning p = record {
   id = string_bytes p.id;
@@ -37,7 +37,7 @@ pending_id_meaning p = record {
   times_delivered = p.times_delivered;
 }
 
--- the pending entries that a reply lists
+-- the pending entries of a reply
 abbrev pub pending_ids_meaning : StreamPendingCountReply → List PendingEntry
 pending_ids_meaning r = map pending_id_meaning r.ids.items
 

@@ -1,4 +1,4 @@
-//! What XINFO tells of a stream, of its groups and of their consumers.
+//! The replies of XINFO on a stream, its groups and their consumers.
 mod consumer;
 mod consumers;
 mod entry;

@@ -1,8 +1,8 @@
-//! Laws of the replies, each a function whose contract stands over the definitions alone.
+//! Laws of the replies, each a function whose contract depends on the definitions alone.
 //!
 //! RESP2 and RESP3 spell a list of pairs in two ways, as an array of even length and as a map, and
-//! a list as an array, a set or a map's pairs. The four laws of respelling say at which places of a
-//! reply the one may stand for the other: both values then read as one record, or both as none.
+//! a list as an array, a set or a map's pairs. The four laws of respelling give the positions in a
+//! reply where one may replace the other: both values then read as one record, or both as none.
 ghost use Rattle.std.specs.Prelude.{◌≡◌, ◌↔◌, IsTrue};
 ghost use Rattle.redis_streams.specs.AutoClaimLaws.{InvalidEntriesTellNil};
 ghost use Rattle.redis_streams.specs.Info.{
@@ -49,16 +49,16 @@ ghost use Rattle.stream_entries.specs.Rows.{rows_reading};
 use crate::status::{XAckDelStatusCode, XDelExStatusCode};
 pub use stream_entries::{copied_forms, equal_read_forms};
 
-/// What `invalid_entries` of an automatic claim tells: where each item of the claimed list is nil,
-/// one id or a row of one pair, it is true exactly where a nil stands there. It takes no memory.
+/// The meaning of `invalid_entries`: if each item of the claimed list is nil, one id or a row of
+/// one pair, it is true exactly if an item is nil. It allocates no memory.
 #[tactic(auto, using(crate::proofs::AutoClaimLawLemmas::invalid_entries))]
 pub fn invalid_entries_tell_nil()
     ensures { InvalidEntriesTellNil }
 {}
 
-/// Other keys change nothing: a stream, a stream with its producers, a consumer and a group that
-/// XINFO tells of are each read as if a pair were not there, wherever it stands, whose key is a
-/// text and none of the names that they read. It does nothing; its clauses are the law.
+/// Other keys are ignored: an additional pair, at any position, whose key is a text and none of the
+/// names read, does not change the reading. That holds of a stream, a stream with its producers, a
+/// consumer and a group in the replies of XINFO. It does nothing; its clauses are the law.
 pub fn other_keys_change_nothing()
     ensures stream { OtherKeysChangeNothing stream_names stream_reading }
     ensures tracked { OtherKeysChangeNothing tracked_names tracked_reading }
@@ -66,9 +66,9 @@ pub fn other_keys_change_nothing()
     ensures group { OtherKeysChangeNothing group_names group_reading }
 {}
 
-/// Pairs with other keys change nothing of the reply to XINFO STREAM FULL: of the stream, of a group
-/// and of a consumer. And what a newer server adds to any of the three changes nothing of the whole
-/// reply.
+/// Pairs with other keys do not change the reading of the reply to XINFO STREAM FULL: of the stream,
+/// of a group and of a consumer. A pair that a newer server adds to any of the three does not change
+/// the reading of the whole reply.
 pub fn other_keys_change_nothing_in_full()
     ensures whole { MoreChangesNothing HasMoreInStream full_reading }
     ensures stream { OtherKeysChangeNothing full_names full_reading }
@@ -76,9 +76,9 @@ pub fn other_keys_change_nothing_in_full()
     ensures consumer { OtherKeysChangeNothing full_consumer_names full_consumer_reading }
 {}
 
-/// What XRANGE or XREVRANGE answers and a respelling of it, at the list of rows, the rows and the
+/// A reply to XRANGE or XREVRANGE and a respelling of it, at the list of rows, the rows and the
 /// fields, read as one record or both as none. The relation holds of equal values, and in both
-/// directions. It takes no memory.
+/// directions. It allocates no memory.
 #[tactic(auto, using(stream_entries::proofs::RespellingLemmas::range_laws))]
 pub fn respell_range()
     ensures record { KeepsRecord RangeAlike rows_reading }
@@ -86,7 +86,7 @@ pub fn respell_range()
     ensures symmetric { IsSymmetric RangeAlike }
 {}
 
-/// A reply to XCLAIM has one record in every spelling. The law takes no memory.
+/// A reply to XCLAIM has one record in every spelling. The law allocates no memory.
 #[tactic(auto, using(stream_entries::proofs::RespellingLemmas::claim_laws))]
 pub fn respell_claim()
     ensures record { KeepsRecord ClaimAlike rows_reading }
@@ -95,10 +95,10 @@ pub fn respell_claim()
 {}
 
 /// A reply to XREAD or XREADGROUP has one record in every spelling, at the list of rows, the rows,
-/// the lists of entries and the fields. So it has at the entries if the value has a standard record:
+/// the lists of entries and the fields. At the entries too, if the value has a standard record:
 /// an entry of the claim form is an array of four in every spelling. Both values then have the same standard
-/// record or both none, which is why the relation has no direction. The array of rows that RESP2
-/// answers and the map that RESP3 answers are such values. It takes no memory.
+/// record or both none, which is why the relation has no direction. The array of rows of RESP2 and the
+/// map of RESP3 are such values. It allocates no memory.
 #[tactic(auto, using(stream_entries::proofs::RespellingLemmas::read_laws))]
 pub fn respell_read()
     ensures record { KeepsRecord ReadAlike read_reading }
@@ -109,7 +109,7 @@ pub fn respell_read()
 {}
 
 /// A reply to XAUTOCLAIM has one record in every spelling, at the fields of claimed rows that are
-/// arrays in both values, or maps in both, with no attribute around them. The law takes no memory.
+/// arrays in both values, or maps in both, with no attribute around them. The law allocates no memory.
 #[tactic(auto, using(crate::proofs::AutoclaimRespellingLemmas::autoclaim_laws))]
 pub fn respell_autoclaim()
     ensures record { KeepsRecord AutoclaimAlike autoclaim_reading }
@@ -117,11 +117,11 @@ pub fn respell_autoclaim()
     ensures symmetric { IsSymmetric AutoclaimAlike }
 {}
 
-/// Where a read has both a standard and a claim record: exactly where its skeleton is readable and
+/// A read has both a standard and a claim record exactly if its skeleton is readable and
 /// each entry is an array of four: a text, fields, a number and nil. Such an entry gives its id
 /// with the fields and its number's text without fields in the standard record (the second alone
-/// where the two texts are one), and one delivered entry in the claim record. So the records differ
-/// exactly where a list that a row's table keeps has an entry. It takes no memory.
+/// if the two texts are equal), and one delivered entry in the claim record. So the records differ
+/// exactly if a list that a row's table keeps has an entry. It allocates no memory.
 #[tactic(auto, using(stream_entries::proofs::OverlapLemmas::overlap_laws))]
 pub fn overlap()
     ensures shape { BothRecordsAreShape }
@@ -131,14 +131,14 @@ pub fn overlap()
     ensures differ { RecordsDiffer }
 {}
 
-/// `==` holds of two codes of XDELEX exactly where they are the same. It takes no memory.
+/// `==` holds of two codes of XDELEX exactly if they are the same. It allocates no memory.
 pub fn equal_deletions(a: XDelExStatusCode, b: XDelExStatusCode) -> bool
     ensures { IsTrue result ↔ (a ≡ b) }
 {
     a == b
 }
 
-/// `==` holds of two codes of XACKDEL exactly where they are the same. It takes no memory.
+/// `==` holds of two codes of XACKDEL exactly if they are the same. It allocates no memory.
 pub fn equal_acknowledgements(a: XAckDelStatusCode, b: XAckDelStatusCode) -> bool
     ensures { IsTrue result ↔ (a ≡ b) }
 {

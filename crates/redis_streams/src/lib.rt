@@ -1,7 +1,7 @@
 //! The replies of the stream commands of Redis, read from the value tree of the RESP protocol.
 //!
 //! ```text
-//! let reply: StreamReadReply = from_redis_value(alloc, value)?;    // what XREAD answered
+//! let reply: StreamReadReply = from_redis_value(alloc, value)?;    // the reply of XREAD
 //! for stream in &reply.keys {
 //!     for entry in &stream.ids {
 //!         let name: Option<String> = entry.get(alloc, "name")?;    // a field, as a text
@@ -9,9 +9,9 @@
 //! }
 //! ```
 //!
-//! Each reply means one record, and a value has one record of a reply at most: the definitions in
-//! `specs/` say which, those of `rows` in `specs/` of `stream_entries`. A refusal other than
-//! `ParsingError::Memory` means that there is none.
+//! Each reply is read as one record, and a value has at most one record of a reply. The definitions
+//! are in `specs/`, those of `rows` in `specs/` of `stream_entries`. An error other than
+//! `ParsingError::Memory` means that the value has no record.
 #![tactic(auto)]
 
 pub mod info;

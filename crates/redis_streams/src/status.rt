@@ -1,4 +1,4 @@
-//! The status codes that XDELEX and XACKDEL answer, one for each entry that was named.
+//! The status codes in the replies of XDELEX and XACKDEL, one for each id of the command.
 ghost use Rattle.std.specs.Prelude.{◌≡◌, Some};
 ghost use Rattle.redis_streams.specs.StatusMeaning.{xdelex_code, xdelex_of_code, xdelex_reading};
 ghost use Rattle.redis_streams.specs.StatusMeaning.{xackdel_code, xackdel_of_code, xackdel_reading};
@@ -7,19 +7,19 @@ ghost use Rattle.redis_streams.specs.StatusMeaning.{xdelex_refusal, xackdel_refu
 use redis_resp::{FromRedisValue, ParsingError, Value};
 use std::alloc::Global;
 
-/// What became of an entry that XDELEX was to delete.
+/// The status of an id that XDELEX was to delete.
 #[derive(Debug, Drop, PartialEq, Eq)]
 pub enum XDelExStatusCode {
     /// The stream has no entry with this id.
     IdNotFound = -1,
     /// The entry was deleted.
     Deleted = 1,
-    /// The entry stands: it was delivered to no consumer, or a group still refers to it.
+    /// The entry was not deleted: it was delivered to no consumer, or a group still refers to it.
     NotDeletedUnacknowledgedOrStillReferenced = 2,
 }
 
 impl XDelExStatusCode {
-    /// The number by which XDELEX says it.
+    /// Returns the number of this status in the reply of XDELEX.
     pub fn code(&self) -> i64
         ensures number { result ≡ xdelex_code self.now }
         ensures told_apart { xdelex_of_code result ≡ Some self.now }
@@ -32,8 +32,8 @@ impl XDelExStatusCode {
     }
 }
 
-/// Read from a whole number with no attribute around it. Takes no memory, and refuses any other
-/// value with `NotXDelEx`, and any other number with `UnknownXDelEx` and that number.
+/// Read from a whole number with no attribute around it. It allocates no memory. It refuses any other
+/// value with `NotXDelEx`, and an unknown number with `UnknownXDelEx` and that number.
 impl FromRedisValue for XDelExStatusCode {
     ghost use Rattle.redis_streams.specs.declared.status.XDelExStatusCode.{XDelExStatusCode};
 
@@ -62,19 +62,19 @@ impl FromRedisValue for XDelExStatusCode {
     }
 }
 
-/// What became of an entry that XACKDEL was to acknowledge and delete.
+/// The status of an id that XACKDEL was to acknowledge and delete.
 #[derive(Debug, Drop, PartialEq, Eq)]
 pub enum XAckDelStatusCode {
     /// The stream has no entry with this id.
     IdNotFound = -1,
     /// The entry was acknowledged and deleted.
     AcknowledgedAndDeleted = 1,
-    /// The entry was acknowledged, and stands: another group still refers to it.
+    /// The entry was acknowledged but not deleted: another group still refers to it.
     AcknowledgedNotDeletedStillReferenced = 2,
 }
 
 impl XAckDelStatusCode {
-    /// The number by which XACKDEL says it.
+    /// Returns the number of this status in the reply of XACKDEL.
     pub fn code(&self) -> i64
         ensures number { result ≡ xackdel_code self.now }
         ensures told_apart { xackdel_of_code result ≡ Some self.now }
@@ -87,8 +87,8 @@ impl XAckDelStatusCode {
     }
 }
 
-/// Read from a whole number with no attribute around it. Takes no memory, and refuses any other
-/// value with `NotXAckDel`, and any other number with `UnknownXAckDel` and that number.
+/// Read from a whole number with no attribute around it. It allocates no memory. It refuses any other
+/// value with `NotXAckDel`, and an unknown number with `UnknownXAckDel` and that number.
 impl FromRedisValue for XAckDelStatusCode {
     ghost use Rattle.redis_streams.specs.declared.status.XAckDelStatusCode.{XAckDelStatusCode};
 

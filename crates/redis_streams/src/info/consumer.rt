@@ -1,23 +1,23 @@
-//! A consumer of a group, as XPENDING and XINFO CONSUMERS tell of it.
+//! A consumer of a group, as XPENDING and XINFO CONSUMERS report it.
 ghost use Rattle.std.specs.Prelude.{◌≡◌, [], IsOk, IfOk, map, string_bytes};
 ghost use Rattle.redis_streams.specs.Info.{empty_consumer};
 ghost use Rattle.redis_streams.specs.InfoMeaning.{consumer_meaning};
 
 use std::alloc::{AllocError, Global};
 
-/// A consumer of a group, as XPENDING and XINFO CONSUMERS tell of it.
+/// A consumer of a group, as XPENDING and XINFO CONSUMERS report it.
 #[derive(Debug, Drop)]
 pub struct StreamInfoConsumer {
     /// The name of the consumer.
     pub name: String,
-    /// How many entries were delivered to it and not yet acknowledged.
+    /// The number of entries that were delivered to it and not yet acknowledged.
     pub pending: usize,
-    /// For how many milliseconds it has been idle; XPENDING does not tell, and gives 0.
+    /// The number of milliseconds that it has been idle; 0 from XPENDING, which does not report it.
     pub idle: usize,
 }
 
 impl StreamInfoConsumer {
-    /// A consumer with no name and nothing pending. It takes no memory and is always Ok.
+    /// Returns a consumer with no name and nothing pending. It allocates no memory and is always Ok.
     pub fn empty(alloc: Global) -> Result<StreamInfoConsumer, AllocError>
         ensures ok { IsOk result }
         ensures consumer { IfOk result (λ c. consumer_meaning c ≡ empty_consumer) }
@@ -29,7 +29,7 @@ impl StreamInfoConsumer {
         })
     }
 
-    /// A copy of the consumer. It fails only where it is out of memory.
+    /// Returns a copy of the consumer. It fails only if it runs out of memory.
     pub fn try_clone(&self, alloc: Global) -> Result<StreamInfoConsumer, AllocError>
         ensures { IfOk result (λ c. consumer_meaning c ≡ consumer_meaning self.now) }
     {
@@ -41,7 +41,7 @@ impl StreamInfoConsumer {
     }
 }
 
-/// Copies of the consumers, in order. It fails only where it is out of memory.
+/// Returns copies of the consumers, in order. It fails only if it runs out of memory.
 pub(crate) fn copy_consumers(
     alloc: Global,
     consumers: &[StreamInfoConsumer],

@@ -11,7 +11,7 @@ use redis_resp::{FromRedisValue, ParsingError, Source, Value};
 use std::alloc::{AllocError, Global};
 use std::collections::HashMap;
 
-/// What XINFO CONSUMERS tells of the consumers of a group.
+/// The reply of XINFO CONSUMERS: the consumers of a group.
 #[derive(Debug, Drop)]
 pub struct StreamInfoConsumersReply {
     /// The consumers, in order.
@@ -19,7 +19,7 @@ pub struct StreamInfoConsumersReply {
 }
 
 impl StreamInfoConsumersReply {
-    /// The reply without consumers. It takes no memory and is always Ok.
+    /// Returns the reply without consumers. It allocates no memory and is always Ok.
     pub fn empty(alloc: Global) -> Result<StreamInfoConsumersReply, AllocError>
         ensures ok { IsOk result }
         ensures consumers { IfOk result (λ r. consumers_meaning r ≡ []) }
@@ -29,7 +29,7 @@ impl StreamInfoConsumersReply {
         })
     }
 
-    /// A copy of the reply. It fails only where it is out of memory.
+    /// Returns a copy of the reply. It fails only if it runs out of memory.
     pub fn try_clone(&self, alloc: Global) -> Result<StreamInfoConsumersReply, AllocError>
         ensures { IfOk result (λ r. consumers_meaning r ≡ consumers_meaning self.now) }
     {
@@ -39,7 +39,7 @@ impl StreamInfoConsumersReply {
     }
 }
 
-/// The fields of a consumer, each where it is there.
+/// The fields of a consumer, each if present.
 #[derive(Drop)]
 struct ConsumerFields<S> {
     name: Option<S>,
@@ -47,7 +47,7 @@ struct ConsumerFields<S> {
     idle: Option<S>,
 }
 
-/// Takes a consumer's fields out of the fields.
+/// Removes the fields of a consumer from the fields.
 fn consumer_fields<S: Source>(fields: &mut HashMap<String, S>) -> ConsumerFields<S>
     ensures name { option_map S.seen result.name
         ≡ fields_by_name S.seen fields.old (codes "name") }
@@ -63,7 +63,7 @@ fn consumer_fields<S: Source>(fields: &mut HashMap<String, S>) -> ConsumerFields
     }
 }
 
-/// The consumer that the fields of a row tell of; other fields change nothing.
+/// Returns the consumer of the fields of a row; other fields are ignored.
 fn read_consumer<S: Source>(
     alloc: Global,
     mut fields: HashMap<String, S>,
@@ -85,7 +85,7 @@ fn read_consumer<S: Source>(
 #[derive(Drop)]
 struct Row(StreamInfoConsumer);
 
-/// The row of a value.
+/// Reads the row of a value.
 fn read_row<S: Source>(alloc: Global, v: S) -> Result<Row, ParsingError>
     ensures ok { IfOk result (λ row. consumer_reading (S.seen v)
         ≡ Some (consumer_meaning row.0)) }
@@ -114,7 +114,7 @@ impl FromRedisValue for Row {
     }
 }
 
-/// The reply of these rows. It fails only where it is out of memory.
+/// Returns the reply of these rows. It fails only if it runs out of memory.
 fn reply_of(alloc: Global, rows: Vec<Row>) -> Result<StreamInfoConsumersReply, AllocError>
     ensures { IfOk result (λ r. consumers_meaning r
         ≡ map (λ row. consumer_meaning row.0) rows.items) }
@@ -126,7 +126,7 @@ fn reply_of(alloc: Global, rows: Vec<Row>) -> Result<StreamInfoConsumersReply, A
     Ok(StreamInfoConsumersReply { consumers })
 }
 
-/// The consumers of a value that is a list of rows.
+/// Reads the consumers of a value that is a list of rows.
 #[tactic(auto, using(crate::proofs::InfoLemmas::list_wants_memory))]
 fn read_reply<S: Source>(alloc: Global, v: S) -> Result<StreamInfoConsumersReply, ParsingError>
     ensures ok { IfOk result (λ r. consumers_reading (S.seen v) ≡ Some (consumers_meaning r)) }
@@ -141,8 +141,8 @@ fn read_reply<S: Source>(alloc: Global, v: S) -> Result<StreamInfoConsumersReply
     Ok(reply_of(alloc, rows)?)
 }
 
-/// Read from a list of rows, each of fields by name. `NotList` for what is no list, and else what
-/// one of the rows is refused with.
+/// Read from a list of rows, each of fields by name. Returns `NotList` if the value is no list.
+/// Otherwise returns the error of one of the rows.
 impl FromRedisValue for StreamInfoConsumersReply {
     ghost Meaning = { List Consumer };
 

@@ -1,4 +1,4 @@
-//! An entry as XINFO STREAM tells of it.
+//! An entry in the reply of XINFO STREAM.
 ghost use Rattle.std.specs.Prelude.{◌≡◌, Some, IfOk, IfErr, string_bytes};
 ghost use Rattle.redis_resp.specs.FieldsMeaning.{fields_of};
 ghost use Rattle.redis_resp.specs.Refusal.{Refuses};
@@ -12,14 +12,14 @@ use std::alloc::Global;
 use std::collections::HashMap;
 use stream_entries::StreamId;
 
-/// An entry as XINFO STREAM tells of it: an `Array` with no attribute around it,
-/// of the id and the fields. The empty
-/// entry stands for any other value and for an `Array` without items; fields that are not there
-/// are none, and later items are ignored.
+/// An entry in the reply of XINFO STREAM: an `Array` with no attribute around it,
+/// of the id and the fields. Any other
+/// value, and an `Array` without items, is the empty entry. Missing fields are no fields, and later
+/// items are ignored.
 #[derive(Drop)]
 pub(crate) struct InfoEntry(pub(crate) StreamId);
 
-/// An entry of which no delivery is said.
+/// Returns an entry without delivery data.
 fn entry(id: String, map: HashMap<String, Value>) -> InfoEntry
     ensures { entry_meaning result.0 ≡ entry_of (string_bytes id, fields_of map) }
 {
@@ -32,7 +32,7 @@ fn entry(id: String, map: HashMap<String, Value>) -> InfoEntry
 }
 
 impl InfoEntry {
-    /// The entry with no id and no fields. Takes no memory.
+    /// Returns the entry with no id and no fields. It allocates no memory.
     pub(crate) fn empty(alloc: Global) -> InfoEntry
         ensures { entry_meaning result.0 ≡ empty_entry }
     {
@@ -40,7 +40,7 @@ impl InfoEntry {
     }
 }
 
-/// The entry that the items make.
+/// Reads the entry of the items.
 fn read_items<S: Source>(alloc: Global, mut items: S::Values) -> Result<InfoEntry, ParsingError>
     ensures ok { IfOk result (λ r. entry_of_items (S.values_left items)
         ≡ Some (entry_meaning r.0)) }
@@ -57,7 +57,7 @@ fn read_items<S: Source>(alloc: Global, mut items: S::Values) -> Result<InfoEntr
     Ok(entry(id, map))
 }
 
-/// The entry of a value.
+/// Reads the entry of a value.
 fn read_entry<S: Source>(alloc: Global, v: S) -> Result<InfoEntry, ParsingError>
     ensures ok { IfOk result (λ r. info_entry_reading (S.seen v) ≡ Some (entry_meaning r.0)) }
     ensures err { IfErr result (Refuses info_entry_reading RefusesInfoEntry (S.seen v)) }

@@ -1,4 +1,4 @@
-//! What XINFO STREAM FULL tells of a stream: its entries, its groups, and what is pending for whom.
+//! The reply of XINFO STREAM FULL: a stream with its entries, its groups and their pending entries.
 mod consumer;
 mod entry;
 mod group;

@@ -11,7 +11,7 @@ use redis_resp::{FromRedisValue, ParsingError, Source, Value};
 use std::alloc::{AllocError, Global};
 use std::collections::HashMap;
 
-/// What XINFO GROUPS tells of the groups of a stream.
+/// The reply of XINFO GROUPS: the groups of a stream.
 #[derive(Debug, Drop)]
 pub struct StreamInfoGroupsReply {
     /// The groups, in order.
@@ -23,20 +23,20 @@ pub struct StreamInfoGroupsReply {
 pub struct StreamInfoGroup {
     /// The name of the group.
     pub name: String,
-    /// How many consumers it has.
+    /// The number of consumers of the group.
     pub consumers: usize,
-    /// How many entries were delivered and not yet acknowledged.
+    /// The number of entries that were delivered and not yet acknowledged.
     pub pending: usize,
-    /// The id of the entry that was delivered last.
+    /// The id of the last delivered entry.
     pub last_delivered_id: String,
-    /// How many entries the group has read, where the server can tell.
+    /// The number of entries that the group has read, if the server reports it.
     pub entries_read: Option<usize>,
-    /// How many entries the group has still to read, where the server can tell.
+    /// The number of entries that the group has still to read, if the server reports it.
     pub lag: Option<usize>,
 }
 
 impl StreamInfoGroupsReply {
-    /// The reply without groups. It takes no memory and is always Ok.
+    /// Returns the reply without groups. It allocates no memory and is always Ok.
     pub fn empty(alloc: Global) -> Result<StreamInfoGroupsReply, AllocError>
         ensures ok { IsOk result }
         ensures groups { IfOk result (λ r. groups_meaning r ≡ []) }
@@ -46,7 +46,7 @@ impl StreamInfoGroupsReply {
         })
     }
 
-    /// A copy of the reply. It fails only where it is out of memory.
+    /// Returns a copy of the reply. It fails only if it runs out of memory.
     pub fn try_clone(&self, alloc: Global) -> Result<StreamInfoGroupsReply, AllocError>
         ensures { IfOk result (λ r. groups_meaning r ≡ groups_meaning self.now) }
     {
@@ -59,7 +59,7 @@ impl StreamInfoGroupsReply {
 }
 
 impl StreamInfoGroup {
-    /// The group of which nothing is said. It takes no memory and is always Ok.
+    /// Returns the empty group. It allocates no memory and is always Ok.
     pub fn empty(alloc: Global) -> Result<StreamInfoGroup, AllocError>
         ensures ok { IsOk result }
         ensures group { IfOk result (λ g. group_meaning g ≡ empty_group) }
@@ -74,7 +74,7 @@ impl StreamInfoGroup {
         })
     }
 
-    /// A copy of the group. It fails only where it is out of memory.
+    /// Returns a copy of the group. It fails only if it runs out of memory.
     pub fn try_clone(&self, alloc: Global) -> Result<StreamInfoGroup, AllocError>
         ensures { IfOk result (λ g. group_meaning g ≡ group_meaning self.now) }
     {
@@ -89,7 +89,7 @@ impl StreamInfoGroup {
     }
 }
 
-/// The fields of a group, each where it is there.
+/// The fields of a group, each if present.
 #[derive(Drop)]
 struct GroupFields<S> {
     name: Option<S>,
@@ -100,7 +100,7 @@ struct GroupFields<S> {
     lag: Option<S>,
 }
 
-/// Takes a group's fields out of the fields.
+/// Removes the fields of a group from the fields.
 fn group_fields<S: Source>(fields: &mut HashMap<String, S>) -> GroupFields<S>
     ensures name { option_map S.seen result.name
         ≡ fields_by_name S.seen fields.old (codes "name") }
@@ -125,7 +125,7 @@ fn group_fields<S: Source>(fields: &mut HashMap<String, S>) -> GroupFields<S>
     }
 }
 
-/// The group that the fields of a row tell of; other fields change nothing.
+/// Returns the group of the fields of a row; other fields are ignored.
 fn read_group<S: Source>(
     alloc: Global,
     mut fields: HashMap<String, S>,
@@ -156,7 +156,7 @@ fn read_group<S: Source>(
 #[derive(Drop)]
 struct Row(StreamInfoGroup);
 
-/// The row of a value.
+/// Reads the row of a value.
 fn read_row<S: Source>(alloc: Global, v: S) -> Result<Row, ParsingError>
     ensures ok { IfOk result (λ row. group_reading (S.seen v) ≡ Some (group_meaning row.0)) }
     ensures err { IfErr result (Refuses group_reading (RefusesNamed RefusesGroupField)
@@ -184,7 +184,7 @@ impl FromRedisValue for Row {
     }
 }
 
-/// The reply of these rows. It fails only where it is out of memory.
+/// Returns the reply of these rows. It fails only if it runs out of memory.
 fn reply_of(alloc: Global, rows: Vec<Row>) -> Result<StreamInfoGroupsReply, AllocError>
     ensures { IfOk result (λ r. groups_meaning r ≡ map (λ row. group_meaning row.0) rows.items) }
 {
@@ -195,7 +195,7 @@ fn reply_of(alloc: Global, rows: Vec<Row>) -> Result<StreamInfoGroupsReply, Allo
     Ok(StreamInfoGroupsReply { groups })
 }
 
-/// The groups of a value that is a list of rows.
+/// Reads the groups of a value that is a list of rows.
 #[tactic(auto, using(crate::proofs::InfoLemmas::list_wants_memory))]
 fn read_reply<S: Source>(alloc: Global, v: S) -> Result<StreamInfoGroupsReply, ParsingError>
     ensures ok { IfOk result (λ r. groups_reading (S.seen v) ≡ Some (groups_meaning r)) }
@@ -210,8 +210,8 @@ fn read_reply<S: Source>(alloc: Global, v: S) -> Result<StreamInfoGroupsReply, P
     Ok(reply_of(alloc, rows)?)
 }
 
-/// Read from a list of rows, each of fields by name. `NotList` for what is no list, and else what
-/// one of the rows is refused with.
+/// Read from a list of rows, each of fields by name. Returns `NotList` if the value is no list.
+/// Otherwise returns the error of one of the rows.
 impl FromRedisValue for StreamInfoGroupsReply {
     ghost Meaning = { List Group };
 

@@ -12,27 +12,27 @@ use redis_resp::{FromRedisValue, ParsingError, Source, Value};
 use std::alloc::{AllocError, Global};
 use std::collections::HashMap;
 
-/// What XINFO STREAM tells of a stream, with what it tells of idempotent producers.
+/// The reply of XINFO STREAM with the fields on idempotent producers.
 #[derive(Debug, Drop)]
 pub struct StreamInfoStreamReplyWithIdempotency {
-    /// What is told of every stream.
+    /// The fields that every server reports.
     pub base: StreamInfoStreamReply,
-    /// For how many seconds the idempotent ids are kept.
+    /// The number of seconds that an idempotent id is kept.
     pub idmp_duration: u32,
-    /// How many idempotent ids are kept at most for each producer.
+    /// The maximum number of idempotent ids that are kept for each producer.
     pub idmp_maxsize: u16,
-    /// How many producers are tracked.
+    /// The number of producers that are tracked.
     pub pids_tracked: usize,
-    /// How many idempotent ids are kept, over all producers.
+    /// The number of idempotent ids that are kept, over all producers.
     pub iids_tracked: usize,
-    /// How many idempotent ids were added since the stream was made.
+    /// The number of idempotent ids that were added since the stream was created.
     pub iids_added: usize,
-    /// How many entries were refused as duplicates since the stream was made.
+    /// The number of entries that were refused as duplicates since the stream was created.
     pub iids_duplicates: usize,
 }
 
 impl StreamInfoStreamReplyWithIdempotency {
-    /// The reply that says nothing: no id, no counts, empty entries. It takes no memory
+    /// Returns the empty reply: no id, no counts, empty entries. It allocates no memory
     /// and is always Ok.
     pub fn empty(alloc: Global) -> Result<StreamInfoStreamReplyWithIdempotency, AllocError>
         ensures ok { IsOk result }
@@ -49,7 +49,7 @@ impl StreamInfoStreamReplyWithIdempotency {
         })
     }
 
-    /// A copy of the reply. It fails only where it is out of memory.
+    /// Returns a copy of the reply. It fails only if it runs out of memory.
     pub fn try_clone(
         &self,
         alloc: Global,
@@ -68,7 +68,7 @@ impl StreamInfoStreamReplyWithIdempotency {
     }
 }
 
-/// The fields of idempotent producers, each where it is there.
+/// The fields of idempotent producers, each if present.
 #[derive(Drop)]
 struct ProducerFields<S> {
     idmp_duration: Option<S>,
@@ -79,7 +79,7 @@ struct ProducerFields<S> {
     iids_duplicates: Option<S>,
 }
 
-/// Takes the producers' fields out of the fields.
+/// Removes the fields of the producers from the fields.
 fn producer_fields<S: Source>(fields: &mut HashMap<String, S>) -> ProducerFields<S>
     ensures idmp_duration { option_map S.seen result.idmp_duration
         ≡ fields_by_name S.seen fields.old (codes "idmp-duration") }
@@ -109,7 +109,7 @@ fn producer_fields<S: Source>(fields: &mut HashMap<String, S>) -> ProducerFields
     }
 }
 
-/// The stream and the producers that the fields tell of; other fields change nothing.
+/// Returns the stream and the producers of the fields; other fields are ignored.
 fn read_tracked<S: Source>(
     alloc: Global,
     mut fields: HashMap<String, S>,
@@ -138,7 +138,7 @@ fn read_tracked<S: Source>(
     })
 }
 
-/// The stream and the producers of a value.
+/// Reads the stream and the producers of a value.
 fn read_reply<S: Source>(
     alloc: Global,
     v: S,
@@ -150,8 +150,8 @@ fn read_reply<S: Source>(
     read_tracked(alloc, fields)
 }
 
-/// Read from fields by name, of which the last of equal names counts. `NotPairs` for what holds no
-/// pairs, and else what the key of a pair is refused with as a text, or one of the fields.
+/// Read from fields by name; the last of equal names counts. Returns `NotPairs` if the value has no
+/// pairs. Otherwise returns the error of a key read as a text, or of one of the fields.
 impl FromRedisValue for StreamInfoStreamReplyWithIdempotency {
     ghost Meaning = { TrackedStream };
 

@@ -1,4 +1,4 @@
-//! The fields of a value by name, and how one is read or what stands in its place.
+//! The fields of a value by name, and reading one of them with a default.
 ghost use Rattle.std.specs.Prelude.{◌≡◌, Some, IfOk, IfErr, option_map};
 ghost use Rattle.std.specs.Map.{update};
 ghost use Rattle.std.specs.Str.{bytes_eq};
@@ -15,8 +15,8 @@ use redis_resp::{
 use std::alloc::Global;
 use std::collections::HashMap;
 
-/// The fields of a value by name, each value as it is: of a borrowed value only the keys are
-/// copied. Of equal names the last counts.
+/// Returns the fields of a value by name, each value as it is. Of a borrowed value only the keys
+/// are copied. Of equal names the last counts.
 pub(crate) fn named_fields<S: Source>(
     alloc: Global,
     v: S,
@@ -56,7 +56,7 @@ fn keep_pairs<S: Source>(
     Ok(pairs)
 }
 
-/// Takes the field of this name out of the fields, if it is there.
+/// Removes the field of this name from the fields and returns it, if it is there.
 #[tactic(auto, unfolding(crate::specs::InfoMeaning::fields_by_name))]
 pub(crate) fn take_field<S: Source>(fields: &mut HashMap<String, S>, name: &str) -> Option<S>
     ensures field { option_map S.seen result ≡ fields_by_name S.seen fields.old name.now }
@@ -66,7 +66,7 @@ pub(crate) fn take_field<S: Source>(fields: &mut HashMap<String, S>, name: &str)
     fields.remove(name)
 }
 
-/// Reads a field, and answers the empty value where it is not there.
+/// Reads a field, or returns the empty value if the field is missing.
 pub(crate) fn read_or<S: Source, T: FromRedisValue>(
     alloc: Global,
     field: Option<S>,

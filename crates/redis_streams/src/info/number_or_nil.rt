@@ -1,4 +1,4 @@
-//! A number, or nil where the server does not know it.
+//! A number, or nil if the server does not know it.
 ghost use Rattle.std.specs.Prelude.{ℕ, Option};
 ghost use Rattle.redis_resp.specs.Refusal.{RefusesNumber};
 ghost use Rattle.redis_streams.specs.Info.{number_or_nil_reading};
@@ -6,8 +6,8 @@ ghost use Rattle.redis_streams.specs.Info.{number_or_nil_reading};
 use redis_resp::{FromRedisValue, ParsingError, Value};
 use std::alloc::Global;
 
-/// A number that the server may not know: a `Nil` with no attribute around it is None, and all else
-/// is read as a number. An option reads a nil with attributes around it as None too; this does not.
+/// A number that the server may not know. A `Nil` with no attribute around it is `None`; any other value
+/// is read as a number. Unlike an option, it does not read a nil with attributes around it as `None`.
 #[derive(Drop)]
 pub(crate) struct NumberOrNil(pub(crate) Option<usize>);
 

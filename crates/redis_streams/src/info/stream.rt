@@ -12,27 +12,27 @@ use std::alloc::{AllocError, Global};
 use std::collections::HashMap;
 use stream_entries::StreamId;
 
-/// What XINFO STREAM tells of a stream.
+/// The reply of XINFO STREAM on a stream.
 #[derive(Debug, Drop)]
 pub struct StreamInfoStreamReply {
-    /// The id that was given out last, which may be that of an entry since deleted.
+    /// The last generated id, which may be that of an entry since deleted.
     pub last_generated_id: String,
-    /// How many keys the radix tree of the stream has (`radix-tree-keys`).
+    /// The number of keys that the radix tree of the stream has (`radix-tree-keys`).
     pub radix_tree_keys: usize,
-    /// How many nodes the radix tree of the stream has (`radix-tree-nodes`).
+    /// The number of nodes that the radix tree of the stream has (`radix-tree-nodes`).
     pub radix_tree_nodes: usize,
-    /// How many consumer groups the stream has.
+    /// The number of consumer groups that the stream has.
     pub groups: usize,
-    /// How many entries the stream has.
+    /// The number of entries that the stream has.
     pub length: usize,
-    /// The first entry, or the empty entry where there is none.
+    /// The first entry, or the empty entry if there is none.
     pub first_entry: StreamId,
-    /// The last entry, or the empty entry where there is none.
+    /// The last entry, or the empty entry if there is none.
     pub last_entry: StreamId,
 }
 
 impl StreamInfoStreamReply {
-    /// The reply that says nothing: no id, no counts, empty entries. It takes no memory
+    /// Returns the empty reply: no id, no counts, empty entries. It allocates no memory
     /// and is always Ok.
     pub fn empty(alloc: Global) -> Result<StreamInfoStreamReply, AllocError>
         ensures ok { IsOk result }
@@ -49,7 +49,7 @@ impl StreamInfoStreamReply {
         })
     }
 
-    /// A copy of the reply. It fails only where it is out of memory.
+    /// Returns a copy of the reply. It fails only if it runs out of memory.
     pub fn try_clone(&self, alloc: Global) -> Result<StreamInfoStreamReply, AllocError>
         ensures { IfOk result (λ r. stream_info_meaning r ≡ stream_info_meaning self.now) }
     {
@@ -65,7 +65,7 @@ impl StreamInfoStreamReply {
     }
 }
 
-/// The fields of a stream, each where it is there.
+/// The fields of a stream, each if present.
 #[derive(Drop)]
 struct StreamFields<S> {
     last_generated_id: Option<S>,
@@ -77,7 +77,7 @@ struct StreamFields<S> {
     last_entry: Option<S>,
 }
 
-/// Takes a stream's fields out of the fields.
+/// Removes the fields of a stream from the fields.
 fn stream_fields<S: Source>(fields: &mut HashMap<String, S>) -> StreamFields<S>
     ensures last_generated_id { option_map S.seen result.last_generated_id
         ≡ fields_by_name S.seen fields.old (codes "last-generated-id") }
@@ -105,7 +105,7 @@ fn stream_fields<S: Source>(fields: &mut HashMap<String, S>) -> StreamFields<S>
     }
 }
 
-/// The stream that the fields tell of; other fields than its own change nothing.
+/// Returns the stream of the fields; other fields than its own are ignored.
 pub(crate) fn read_stream<S: Source>(
     alloc: Global,
     mut fields: HashMap<String, S>,
@@ -134,7 +134,7 @@ pub(crate) fn read_stream<S: Source>(
     })
 }
 
-/// The stream of a value.
+/// Reads the stream of a value.
 fn read_reply<S: Source>(alloc: Global, v: S) -> Result<StreamInfoStreamReply, ParsingError>
     ensures ok { IfOk result (λ r. stream_reading (S.seen v) ≡ Some (stream_info_meaning r)) }
     ensures err { IfErr result (Refuses stream_reading RefusesStream (S.seen v)) }
@@ -143,8 +143,8 @@ fn read_reply<S: Source>(alloc: Global, v: S) -> Result<StreamInfoStreamReply, P
     read_stream(alloc, fields)
 }
 
-/// Read from fields by name, of which the last of equal names counts. `NotPairs` for what holds no
-/// pairs, and else what the key of a pair is refused with as a text, or one of the fields.
+/// Read from fields by name; the last of equal names counts. Returns `NotPairs` if the value has no
+/// pairs. Otherwise returns the error of a key read as a text, or of one of the fields.
 impl FromRedisValue for StreamInfoStreamReply {
     ghost Meaning = { StreamInfo };
 

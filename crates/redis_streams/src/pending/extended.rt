@@ -10,7 +10,7 @@ ghost use Rattle.redis_streams.specs.PendingRefusal.{RefusesFourMembers, Refuses
 use redis_resp::{FromRedisValue, ParsingError, Source, Value};
 use std::alloc::{AllocError, Global};
 
-/// What `XPENDING key group [IDLE ms] start end count [consumer]` answers, with a range and a
+/// The reply of `XPENDING key group [IDLE ms] start end count [consumer]`, with a range and a
 /// count.
 #[derive(Debug, Drop)]
 pub struct StreamPendingCountReply {
@@ -25,14 +25,14 @@ pub struct StreamPendingId {
     pub id: String,
     /// The name of the consumer that it was delivered to.
     pub consumer: String,
-    /// How many milliseconds have passed since its last delivery.
+    /// The number of milliseconds since its last delivery.
     pub last_delivered_ms: usize,
-    /// How often it was delivered.
+    /// The number of times it was delivered.
     pub times_delivered: usize,
 }
 
 impl StreamPendingCountReply {
-    /// The reply with no entries. It takes no memory and is always Ok.
+    /// Returns the reply with no entries. It allocates no memory and is always Ok.
     pub fn empty(alloc: Global) -> Result<StreamPendingCountReply, AllocError>
         ensures ok { IsOk result }
         ensures entries { IfOk result (λ r. pending_ids_meaning r ≡ []) }
@@ -42,7 +42,7 @@ impl StreamPendingCountReply {
         })
     }
 
-    /// A copy of the reply. It fails only where it is out of memory.
+    /// Returns a copy of the reply. It fails only if it runs out of memory.
     pub fn try_clone(&self, alloc: Global) -> Result<StreamPendingCountReply, AllocError>
         ensures { IfOk result (λ r. pending_ids_meaning r ≡ pending_ids_meaning self.now) }
     {
@@ -55,7 +55,7 @@ impl StreamPendingCountReply {
 }
 
 impl StreamPendingId {
-    /// A pending entry of which nothing is said. It takes no memory and is always Ok.
+    /// Returns the empty pending entry. It allocates no memory and is always Ok.
     pub fn empty(alloc: Global) -> Result<StreamPendingId, AllocError>
         ensures ok { IsOk result }
         ensures entry { IfOk result (λ p. pending_id_meaning p ≡ empty_pending_entry) }
@@ -68,7 +68,7 @@ impl StreamPendingId {
         })
     }
 
-    /// A copy of the pending entry. It fails only where it is out of memory.
+    /// Returns a copy of the pending entry. It fails only if it runs out of memory.
     pub fn try_clone(&self, alloc: Global) -> Result<StreamPendingId, AllocError>
         ensures { IfOk result (λ p. pending_id_meaning p ≡ pending_id_meaning self.now) }
     {
@@ -81,15 +81,15 @@ impl StreamPendingId {
     }
 }
 
-/// Whether a value is a bulk string with no attribute around it.
+/// Returns whether a value is a bulk string with no attribute around it.
 fn is_bulk_string(v: &Value) -> bool
     ensures { result ≡ is_bulk (tree v.now) }
 {
     matches!(v, Value::BulkString(_))
 }
 
-/// A whole number with no attribute around it as one of 64 bits without a sign: a negative one
-/// stands as itself plus 2 ^ 64.
+/// Returns a whole number with no attribute around it as one of 64 bits without a sign: a negative
+/// one is itself plus 2 ^ 64.
 fn number_of(v: &Value) -> Option<usize>
     ensures { result ≡ literal_number (tree v.now) }
 {
@@ -99,8 +99,8 @@ fn number_of(v: &Value) -> Option<usize>
     }
 }
 
-/// The two numbers of a row of two bulk strings and two `Int`s, and None where a member has another
-/// kind.
+/// Returns the two numbers of a row of two bulk strings and two `Int`s, or `None` if a member has
+/// another kind.
 fn numbers_of(
     id: &Value,
     consumer: &Value,
@@ -123,8 +123,8 @@ fn numbers_of(
     }
 }
 
-/// The pending entry of an id, a name and two numbers: `NotPendingRow(3)` where one has another
-/// kind, and `NotText` for a bulk string that is no text.
+/// Reads the pending entry of an id, a name and two numbers. Returns `NotPendingRow(3)` if one has
+/// another kind, and `NotText` for a bulk string that is no text.
 fn read_members<S: Source>(
     alloc: Global,
     id: S,
@@ -159,7 +159,7 @@ fn read_members<S: Source>(
     })
 }
 
-/// The pending entry of a list of exactly four members, and `NotPendingRow(3)` for any other.
+/// Reads the pending entry of a list of exactly four members; `NotPendingRow(3)` for any other.
 fn read_four<S: Source>(
     alloc: Global,
     mut members: S::Values,
@@ -179,7 +179,7 @@ fn read_four<S: Source>(
     read_members(alloc, id, consumer, elapsed, delivered)
 }
 
-/// The pending entry of a row: `NotPendingRow(2)` for what is no `Array`, attributes included.
+/// Reads the pending entry of a row; `NotPendingRow(2)` if it is no `Array`, attributes included.
 fn read_row<S: Source>(alloc: Global, row: S) -> Result<StreamPendingId, ParsingError>
     ensures ok { IfOk result (λ p. pending_row (S.seen row) ≡ Some (pending_id_meaning p)) }
     ensures err { IfErr result (Refuses pending_row RefusesPendingRow (S.seen row)) }
@@ -190,7 +190,7 @@ fn read_row<S: Source>(alloc: Global, row: S) -> Result<StreamPendingId, Parsing
     }
 }
 
-/// The pending entries of rows, in order.
+/// Reads the pending entries of rows, in order.
 fn read_rows<S: Source>(
     alloc: Global,
     mut rows: S::Values,
@@ -207,7 +207,7 @@ fn read_rows<S: Source>(
     Ok(ids)
 }
 
-/// The reply of a value.
+/// Reads the reply of a value.
 fn read_reply<S: Source>(alloc: Global, v: S) -> Result<StreamPendingCountReply, ParsingError>
     ensures ok { IfOk result (λ r. pending_count_reading (S.seen v)
         ≡ Some (pending_ids_meaning r)) }
@@ -221,9 +221,9 @@ fn read_reply<S: Source>(alloc: Global, v: S) -> Result<StreamPendingCountReply,
     })
 }
 
-/// Read from an `Array` of rows, and `NotPendingRow(1)` for any other kind, attributes included. A
+/// Read from an `Array` of rows; `NotPendingRow(1)` for any other kind, attributes included. A
 /// row is an `Array` (`NotPendingRow(2)`) of exactly two bulk strings and two `Int`s
-/// (`NotPendingRow(3)`), and a bulk string that is no text is refused with `NotText`.
+/// (`NotPendingRow(3)`). A bulk string that is no text is refused with `NotText`.
 impl FromRedisValue for StreamPendingCountReply {
     ghost Meaning = { List PendingEntry };
 

@@ -1,4 +1,4 @@
-//! The reply of XPENDING without a range: how much is pending in a group, and with whom.
+//! The reply of XPENDING without a range: the number of pending entries of a group, by consumer.
 ghost use Rattle.std.specs.Prelude.{◌≡◌, Option, Some, Ok, IsOk, IfOk, IfErr, map, option_map, string_bytes};
 ghost use Rattle.redis_resp.specs.Refusal.{Refuses};
 ghost use Rattle.redis_streams.specs.InfoMeaning.{consumer_meaning};
@@ -10,7 +10,7 @@ use crate::info::{StreamInfoConsumer, copy_consumers};
 use redis_resp::{FromRedisValue, ParsingError, Source, Value};
 use std::alloc::{AllocError, Global};
 
-/// What `XPENDING key group` answers, without a range.
+/// The reply of `XPENDING key group`, without a range.
 #[derive(Debug, Drop, Default)]
 pub enum StreamPendingReply {
     /// Nothing is pending.
@@ -20,21 +20,21 @@ pub enum StreamPendingReply {
     Data(StreamPendingData),
 }
 
-/// What is pending in a group: entries delivered to a consumer and not yet acknowledged.
+/// The pending entries of a group: those delivered to a consumer and not yet acknowledged.
 #[derive(Debug, Drop)]
 pub struct StreamPendingData {
-    /// How many entries are pending in all.
+    /// The total number of pending entries.
     pub count: usize,
-    /// The least id among them.
+    /// The smallest id among them.
     pub start_id: String,
     /// The greatest id among them.
     pub end_id: String,
-    /// The consumers that have pending entries, with how many each.
+    /// The consumers that have pending entries, each with their number.
     pub consumers: Vec<StreamInfoConsumer>,
 }
 
 impl StreamPendingReply {
-    /// How many entries are pending: 0 for `Empty`. Takes no memory.
+    /// Returns the number of pending entries: 0 for `Empty`. It allocates no memory.
     pub fn count(&self) -> usize
         ensures { result ≡ count_of self.now }
     {
@@ -44,7 +44,7 @@ impl StreamPendingReply {
         }
     }
 
-    /// A copy of the reply. It fails only where it is out of memory, and `Empty` takes none.
+    /// Returns a copy of the reply. It fails only if it runs out of memory; `Empty` allocates none.
     pub fn try_clone(&self, alloc: Global) -> Result<StreamPendingReply, AllocError>
         ensures copy { IfOk result (λ r. pending_meaning r ≡ pending_meaning self.now) }
         ensures empty { self.now ≡ StreamPendingReply.Empty
@@ -58,7 +58,7 @@ impl StreamPendingReply {
 }
 
 impl StreamPendingData {
-    /// Nothing pending: no count, no ids, no consumers. It takes no memory and is always Ok.
+    /// Returns data with nothing pending: no count, ids or consumers. It allocates no memory and is always Ok.
     pub fn empty(alloc: Global) -> Result<StreamPendingData, AllocError>
         ensures ok { IsOk result }
         ensures summary { IfOk result (λ d. data_meaning d ≡ empty_summary) }
@@ -71,7 +71,7 @@ impl StreamPendingData {
         })
     }
 
-    /// A copy of the data. It fails only where it is out of memory.
+    /// Returns a copy of the data. It fails only if it runs out of memory.
     pub fn try_clone(&self, alloc: Global) -> Result<StreamPendingData, AllocError>
         ensures { IfOk result (λ d. data_meaning d ≡ data_meaning self.now) }
     {
@@ -84,14 +84,14 @@ impl StreamPendingData {
     }
 }
 
-/// A consumer's name and the text of its count, where a row has them.
+/// A consumer's name and the text of its count, if a row has them.
 type Row = Option<(String, String)>;
 
 /// The parts of the reply as the server sends them: count, first and last id, consumers.
 type Parts = (usize, Option<String>, Option<String>, Vec<Row>);
 
-/// The consumer that a row tells of, whose pending entries are 0 where its text writes no number.
-/// It takes no memory.
+/// Returns the consumer of a row. Its pending entries are 0 if its text is no number.
+/// It allocates no memory.
 fn consumer_of_row(name: String, count: String) -> StreamInfoConsumer
     ensures { consumer_meaning result ≡ consumer_of (string_bytes name, string_bytes count) }
 {
@@ -102,7 +102,7 @@ fn consumer_of_row(name: String, count: String) -> StreamInfoConsumer
     }
 }
 
-/// The consumers of those rows that are there, in order. It fails only where it is out of memory.
+/// Returns the consumers of the rows that are not nil, in order. It fails only if it runs out of memory.
 fn read_consumers(alloc: Global, rows: Vec<Row>) -> Result<Vec<StreamInfoConsumer>, AllocError>
     ensures { IfOk result (λ r. map consumer_meaning r.items
         ≡ consumers_of (map (option_map row_meaning) rows.items)) }
@@ -117,8 +117,8 @@ fn read_consumers(alloc: Global, rows: Vec<Row>) -> Result<Vec<StreamInfoConsume
     Ok(consumers)
 }
 
-/// The reply that the parts make. A count of 0 is `Empty`; any other wants both ids, and is
-/// refused with `PendingWithoutStart` or `PendingWithoutEnd` where one is missing.
+/// Returns the reply of the parts. A count of 0 is `Empty`. Any other needs both ids, and is
+/// refused with `PendingWithoutStart` or `PendingWithoutEnd` if one is missing.
 fn read_parts(alloc: Global, parts: Parts) -> Result<StreamPendingReply, ParsingError>
     ensures ok { IfOk result (λ r. summary_of (parts_meaning parts) ≡ Some (pending_meaning r)) }
     ensures err { IfErr result (Refuses summary_of RefusesSummary (parts_meaning parts)) }
@@ -142,7 +142,7 @@ fn read_parts(alloc: Global, parts: Parts) -> Result<StreamPendingReply, Parsing
     }))
 }
 
-/// The reply of a value.
+/// Reads the reply of a value.
 fn read_reply<S: Source>(alloc: Global, v: S) -> Result<StreamPendingReply, ParsingError>
     ensures ok { IfOk result (λ r. pending_reading (S.seen v) ≡ Some (pending_meaning r)) }
     ensures err { IfErr result (Refuses pending_reading RefusesPending (S.seen v)) }
@@ -151,9 +151,9 @@ fn read_reply<S: Source>(alloc: Global, v: S) -> Result<StreamPendingReply, Pars
     read_parts(alloc, parts)
 }
 
-/// Read from a count, the first and the last id and a list of consumers. Where the count is
-/// positive it is refused with `PendingWithoutStart` without a first id, with `PendingWithoutEnd`
-/// where the last alone is missing, and else only as these four are refused.
+/// Read from a count, the first and the last id and a list of consumers. A positive count is
+/// refused with `PendingWithoutStart` without a first id, and with `PendingWithoutEnd` if only the
+/// last is missing. Otherwise it is refused only as these four are refused.
 impl FromRedisValue for StreamPendingReply {
     ghost Meaning = { Option PendingSummary };
 

@@ -1,4 +1,4 @@
-//! A consumer as XINFO STREAM FULL tells of it.
+//! A consumer in the reply of XINFO STREAM FULL.
 ghost use Rattle.std.specs.Prelude.{◌≡◌, Some, IsOk, IfOk, IfErr, codes, map, option_map};
 ghost use Rattle.redis_resp.specs.Refusal.{Refuses};
 ghost use Rattle.redis_streams.specs.InfoFull.{FullConsumer, empty_full_consumer};
@@ -22,17 +22,17 @@ pub struct StreamInfoFullConsumer {
     pub name: String,
     /// When it was seen last (`seen-time`), in milliseconds of Unix time.
     pub seen_time: usize,
-    /// When it was given or acknowledged an entry last (`active-time`), in milliseconds of Unix
-    /// time, and -1 where it never was; None where the server does not tell, before version 7.2.
+    /// When an entry was last delivered to it or acknowledged by it (`active-time`), in milliseconds of
+    /// Unix time, or -1 if never; `None` if the server does not report it, before version 7.2.
     pub active_time: Option<i64>,
-    /// How many entries are pending for it (`pel-count`).
+    /// The number of entries that are pending for it (`pel-count`).
     pub pending_count: usize,
-    /// The entries that are pending for it, as many as were asked for.
+    /// The entries that are pending for it, at most the requested count.
     pub pending: Vec<StreamInfoConsumerPending>,
 }
 
 impl StreamInfoFullConsumer {
-    /// A consumer of which nothing is said. It takes no memory and is always Ok.
+    /// Returns the empty consumer. It allocates no memory and is always Ok.
     pub fn empty(alloc: Global) -> Result<StreamInfoFullConsumer, AllocError>
         ensures ok { IsOk result }
         ensures consumer { IfOk result (λ c. full_consumer_meaning c ≡ empty_full_consumer) }
@@ -46,7 +46,7 @@ impl StreamInfoFullConsumer {
         })
     }
 
-    /// A copy of the consumer. It fails only where it is out of memory.
+    /// Returns a copy of the consumer. It fails only if it runs out of memory.
     pub fn try_clone(&self, alloc: Global) -> Result<StreamInfoFullConsumer, AllocError>
         ensures { IfOk result (λ c. full_consumer_meaning c ≡ full_consumer_meaning self.now) }
     {
@@ -60,7 +60,7 @@ impl StreamInfoFullConsumer {
     }
 }
 
-/// Copies of the consumers, in order. It fails only where it is out of memory.
+/// Returns copies of the consumers, in order. It fails only if it runs out of memory.
 pub(crate) fn copy_full_consumers(
     alloc: Global,
     consumers: &[StreamInfoFullConsumer],
@@ -75,7 +75,7 @@ pub(crate) fn copy_full_consumers(
     Ok(copies)
 }
 
-/// The fields of a consumer, each where it is there.
+/// The fields of a consumer, each if present.
 #[derive(Drop)]
 struct FullConsumerFields<S> {
     name: Option<S>,
@@ -85,7 +85,7 @@ struct FullConsumerFields<S> {
     pending: Option<S>,
 }
 
-/// Takes a consumer's fields out of the fields.
+/// Removes the fields of a consumer from the fields.
 fn full_consumer_fields<S: Source>(fields: &mut HashMap<String, S>) -> FullConsumerFields<S>
     ensures name { option_map S.seen result.name
         ≡ fields_by_name S.seen fields.old (codes "name") }
@@ -107,7 +107,7 @@ fn full_consumer_fields<S: Source>(fields: &mut HashMap<String, S>) -> FullConsu
     }
 }
 
-/// The consumer that the fields tell of; other fields change nothing.
+/// Returns the consumer of the fields; other fields are ignored.
 fn read_full_consumer<S: Source>(
     alloc: Global,
     mut fields: HashMap<String, S>,
@@ -132,7 +132,7 @@ fn read_full_consumer<S: Source>(
     })
 }
 
-/// The consumer of a value.
+/// Reads the consumer of a value.
 fn read_value<S: Source>(alloc: Global, v: S) -> Result<StreamInfoFullConsumer, ParsingError>
     ensures ok { IfOk result (λ r. full_consumer_reading (S.seen v)
         ≡ Some (full_consumer_meaning r)) }
@@ -142,8 +142,8 @@ fn read_value<S: Source>(alloc: Global, v: S) -> Result<StreamInfoFullConsumer, 
     read_full_consumer(alloc, fields)
 }
 
-/// Read from fields by name, of which the last of equal names counts. `NotPairs` for what holds no
-/// pairs, and else what the key of a pair is refused with as a text, or one of the fields.
+/// Read from fields by name; the last of equal names counts. Returns `NotPairs` if the value has no
+/// pairs. Otherwise returns the error of a key read as a text, or of one of the fields.
 impl FromRedisValue for StreamInfoFullConsumer {
     ghost Meaning = { FullConsumer };
 

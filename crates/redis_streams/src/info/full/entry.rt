@@ -1,4 +1,4 @@
-//! An entry as XINFO STREAM FULL tells of it.
+//! An entry in the reply of XINFO STREAM FULL.
 ghost use Rattle.std.specs.Prelude.{◌≡◌, Some, IsOk, IfOk, IfErr, map};
 ghost use Rattle.redis_resp.specs.Refusal.{Refuses};
 ghost use Rattle.redis_resp.specs.Table.{entries_meaning};
@@ -10,8 +10,8 @@ ghost use Rattle.redis_streams.specs.InfoFullRefusal.{RefusesFullEntry};
 use redis_resp::{FromRedisValue, PairList, ParsingError, Source, Value};
 use std::alloc::{AllocError, Global};
 
-/// An entry of a stream with its fields in the order in which they were added, a name that comes
-/// again standing again.
+/// An entry of a stream with its fields in the order in which they were added, repeated names
+/// included.
 #[derive(Debug, Drop)]
 pub struct StreamInfoFullEntry {
     /// The id of the entry.
@@ -21,7 +21,7 @@ pub struct StreamInfoFullEntry {
 }
 
 impl StreamInfoFullEntry {
-    /// The entry with no id and no fields. It takes no memory and is always Ok.
+    /// Returns the entry with no id and no fields. It allocates no memory and is always Ok.
     pub fn empty(alloc: Global) -> Result<StreamInfoFullEntry, AllocError>
         ensures ok { IsOk result }
         ensures entry { IfOk result (λ e. full_entry_meaning e ≡ empty_full_entry) }
@@ -32,7 +32,7 @@ impl StreamInfoFullEntry {
         })
     }
 
-    /// A copy of the entry. It fails only where it is out of memory.
+    /// Returns a copy of the entry. It fails only if it runs out of memory.
     pub fn try_clone(&self, alloc: Global) -> Result<StreamInfoFullEntry, AllocError>
         ensures { IfOk result (λ e. full_entry_meaning e ≡ full_entry_meaning self.now) }
     {
@@ -43,7 +43,7 @@ impl StreamInfoFullEntry {
     }
 }
 
-/// Copies of the fields, in order. It fails only where it is out of memory.
+/// Returns copies of the fields, in order. It fails only if it runs out of memory.
 fn copy_fields(
     alloc: Global,
     fields: &[(String, Value)],
@@ -58,7 +58,7 @@ fn copy_fields(
     Ok(copies)
 }
 
-/// Copies of the entries, in order. It fails only where it is out of memory.
+/// Returns copies of the entries, in order. It fails only if it runs out of memory.
 pub(crate) fn copy_entries(
     alloc: Global,
     entries: &[StreamInfoFullEntry],
@@ -73,7 +73,7 @@ pub(crate) fn copy_entries(
     Ok(copies)
 }
 
-/// The entry of a value.
+/// Reads the entry of a value.
 fn read_entry<S: Source>(alloc: Global, v: S) -> Result<StreamInfoFullEntry, ParsingError>
     ensures ok { IfOk result (λ e. full_entry_reading (S.seen v) ≡ Some (full_entry_meaning e)) }
     ensures err { IfErr result (Refuses full_entry_reading RefusesFullEntry (S.seen v)) }
@@ -85,9 +85,9 @@ fn read_entry<S: Source>(alloc: Global, v: S) -> Result<StreamInfoFullEntry, Par
     })
 }
 
-/// Read from an array of exactly two, the id and the pairs of the fields: `NotTuple(2)` for any
-/// other, and else what the id is refused with as a text, or the fields as pairs of a text and any
-/// value.
+/// Read from an array of exactly two, the id and the pairs of the fields. Returns `NotTuple(2)` for
+/// any other value. Otherwise returns the error of the id, read as a text, or of the fields, read as
+/// pairs of a text and any value.
 impl FromRedisValue for StreamInfoFullEntry {
     ghost Meaning = { FullEntry };
 

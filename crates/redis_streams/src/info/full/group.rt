@@ -1,4 +1,4 @@
-//! A group as XINFO STREAM FULL tells of it.
+//! A group in the reply of XINFO STREAM FULL.
 ghost use Rattle.std.specs.Prelude.{◌≡◌, Some, IsOk, IfOk, IfErr, codes, map, option_map};
 ghost use Rattle.redis_resp.specs.Refusal.{Refuses};
 ghost use Rattle.redis_streams.specs.InfoFull.{FullGroup, empty_full_group};
@@ -20,22 +20,22 @@ use std::collections::HashMap;
 pub struct StreamInfoFullGroup {
     /// The name of the group.
     pub name: String,
-    /// The id of the entry that was delivered last.
+    /// The id of the last delivered entry.
     pub last_delivered_id: String,
-    /// How many entries the group has read, where the server can tell.
+    /// The number of entries that the group has read, if the server reports it.
     pub entries_read: Option<usize>,
-    /// How many entries the group has still to read, where the server can tell.
+    /// The number of entries that the group has still to read, if the server reports it.
     pub lag: Option<usize>,
-    /// How many entries were delivered and not yet acknowledged (`pel-count`).
+    /// The number of entries that were delivered and not yet acknowledged (`pel-count`).
     pub pending_count: usize,
-    /// The entries that were delivered and not yet acknowledged, as many as were asked for.
+    /// The entries that were delivered and not yet acknowledged, at most the requested count.
     pub pending: Vec<StreamInfoFullPending>,
     /// The consumers of the group.
     pub consumers: Vec<StreamInfoFullConsumer>,
 }
 
 impl StreamInfoFullGroup {
-    /// The group of which nothing is said. It takes no memory and is always Ok.
+    /// Returns the empty group. It allocates no memory and is always Ok.
     pub fn empty(alloc: Global) -> Result<StreamInfoFullGroup, AllocError>
         ensures ok { IsOk result }
         ensures group { IfOk result (λ g. full_group_meaning g ≡ empty_full_group) }
@@ -51,7 +51,7 @@ impl StreamInfoFullGroup {
         })
     }
 
-    /// A copy of the group. It fails only where it is out of memory.
+    /// Returns a copy of the group. It fails only if it runs out of memory.
     pub fn try_clone(&self, alloc: Global) -> Result<StreamInfoFullGroup, AllocError>
         ensures { IfOk result (λ g. full_group_meaning g ≡ full_group_meaning self.now) }
     {
@@ -67,7 +67,7 @@ impl StreamInfoFullGroup {
     }
 }
 
-/// Copies of the groups, in order. It fails only where it is out of memory.
+/// Returns copies of the groups, in order. It fails only if it runs out of memory.
 pub(crate) fn copy_full_groups(
     alloc: Global,
     groups: &[StreamInfoFullGroup],
@@ -82,7 +82,7 @@ pub(crate) fn copy_full_groups(
     Ok(copies)
 }
 
-/// The fields of a group, each where it is there.
+/// The fields of a group, each if present.
 #[derive(Drop)]
 struct FullGroupFields<S> {
     name: Option<S>,
@@ -94,7 +94,7 @@ struct FullGroupFields<S> {
     consumers: Option<S>,
 }
 
-/// Takes a group's fields out of the fields.
+/// Removes the fields of a group from the fields.
 fn full_group_fields<S: Source>(fields: &mut HashMap<String, S>) -> FullGroupFields<S>
     ensures name { option_map S.seen result.name
         ≡ fields_by_name S.seen fields.old (codes "name") }
@@ -122,7 +122,7 @@ fn full_group_fields<S: Source>(fields: &mut HashMap<String, S>) -> FullGroupFie
     }
 }
 
-/// The group that the fields tell of; other fields change nothing.
+/// Returns the group of the fields; other fields are ignored.
 fn read_full_group<S: Source>(
     alloc: Global,
     mut fields: HashMap<String, S>,
@@ -151,7 +151,7 @@ fn read_full_group<S: Source>(
     })
 }
 
-/// The group of a value.
+/// Reads the group of a value.
 fn read_value<S: Source>(alloc: Global, v: S) -> Result<StreamInfoFullGroup, ParsingError>
     ensures ok { IfOk result (λ r. full_group_reading (S.seen v) ≡ Some (full_group_meaning r)) }
     ensures err { IfErr result (Refuses full_group_reading RefusesFullGroup (S.seen v)) }
@@ -160,8 +160,8 @@ fn read_value<S: Source>(alloc: Global, v: S) -> Result<StreamInfoFullGroup, Par
     read_full_group(alloc, fields)
 }
 
-/// Read from fields by name, of which the last of equal names counts. `NotPairs` for what holds no
-/// pairs, and else what the key of a pair is refused with as a text, or one of the fields.
+/// Read from fields by name; the last of equal names counts. Returns `NotPairs` if the value has no
+/// pairs. Otherwise returns the error of a key read as a text, or of one of the fields.
 impl FromRedisValue for StreamInfoFullGroup {
     ghost Meaning = { FullGroup };
 

@@ -1,4 +1,4 @@
-//! Pending entries as XINFO STREAM FULL tells of them.
+//! Pending entries in the reply of XINFO STREAM FULL.
 ghost use Rattle.std.specs.Prelude.{◌≡◌, Some, IsOk, IfOk, IfErr, map};
 ghost use Rattle.redis_resp.specs.Refusal.{Refuses};
 ghost use Rattle.redis_streams.specs.InfoFull.{FullPending, OwnPending};
@@ -17,25 +17,25 @@ pub struct StreamInfoFullPending {
     pub id: String,
     /// The name of the consumer that it was delivered to.
     pub consumer: String,
-    /// When it was delivered last, in milliseconds of Unix time.
+    /// The time of its last delivery, in milliseconds of Unix time.
     pub delivery_time: usize,
-    /// How often it was delivered.
+    /// The number of times it was delivered.
     pub times_delivered: usize,
 }
 
-/// A pending entry of a consumer, whose name stands above it.
+/// A pending entry of a consumer, in whose list it is.
 #[derive(Debug, Drop)]
 pub struct StreamInfoConsumerPending {
     /// The id of the entry.
     pub id: String,
-    /// When it was delivered last, in milliseconds of Unix time.
+    /// The time of its last delivery, in milliseconds of Unix time.
     pub delivery_time: usize,
-    /// How often it was delivered.
+    /// The number of times it was delivered.
     pub times_delivered: usize,
 }
 
 impl StreamInfoFullPending {
-    /// A pending entry of which nothing is said. It takes no memory and is always Ok.
+    /// Returns the empty pending entry. It allocates no memory and is always Ok.
     pub fn empty(alloc: Global) -> Result<StreamInfoFullPending, AllocError>
         ensures ok { IsOk result }
         ensures entry { IfOk result (λ p. full_pending_meaning p ≡ empty_full_pending) }
@@ -48,7 +48,7 @@ impl StreamInfoFullPending {
         })
     }
 
-    /// A copy of the pending entry. It fails only where it is out of memory.
+    /// Returns a copy of the pending entry. It fails only if it runs out of memory.
     pub fn try_clone(&self, alloc: Global) -> Result<StreamInfoFullPending, AllocError>
         ensures { IfOk result (λ p. full_pending_meaning p ≡ full_pending_meaning self.now) }
     {
@@ -62,7 +62,7 @@ impl StreamInfoFullPending {
 }
 
 impl StreamInfoConsumerPending {
-    /// A pending entry of which nothing is said. It takes no memory and is always Ok.
+    /// Returns the empty pending entry. It allocates no memory and is always Ok.
     pub fn empty(alloc: Global) -> Result<StreamInfoConsumerPending, AllocError>
         ensures ok { IsOk result }
         ensures entry { IfOk result (λ p. own_pending_meaning p ≡ empty_own_pending) }
@@ -74,7 +74,7 @@ impl StreamInfoConsumerPending {
         })
     }
 
-    /// A copy of the pending entry. It fails only where it is out of memory.
+    /// Returns a copy of the pending entry. It fails only if it runs out of memory.
     pub fn try_clone(&self, alloc: Global) -> Result<StreamInfoConsumerPending, AllocError>
         ensures { IfOk result (λ p. own_pending_meaning p ≡ own_pending_meaning self.now) }
     {
@@ -86,7 +86,7 @@ impl StreamInfoConsumerPending {
     }
 }
 
-/// Copies of a group's pending entries, in order. It fails only where it is out of memory.
+/// Returns copies of a group's pending entries, in order. It fails only if it runs out of memory.
 pub(crate) fn copy_pending(
     alloc: Global,
     entries: &[StreamInfoFullPending],
@@ -101,7 +101,7 @@ pub(crate) fn copy_pending(
     Ok(copies)
 }
 
-/// Copies of a consumer's pending entries, in order. It fails only where it is out of memory.
+/// Returns copies of a consumer's pending entries, in order. It fails only if it runs out of memory.
 pub(crate) fn copy_own_pending(
     alloc: Global,
     entries: &[StreamInfoConsumerPending],
@@ -116,7 +116,7 @@ pub(crate) fn copy_own_pending(
     Ok(copies)
 }
 
-/// The pending entry of a group that a value is.
+/// Reads the pending entry of a group.
 fn read_pending<S: Source>(alloc: Global, v: S) -> Result<StreamInfoFullPending, ParsingError>
     ensures ok { IfOk result (λ p. full_pending_reading (S.seen v)
         ≡ Some (full_pending_meaning p)) }
@@ -131,7 +131,7 @@ fn read_pending<S: Source>(alloc: Global, v: S) -> Result<StreamInfoFullPending,
     })
 }
 
-/// The pending entry of a consumer that a value is.
+/// Reads the pending entry of a consumer.
 fn read_own_pending<S: Source>(
     alloc: Global,
     v: S,
@@ -148,8 +148,8 @@ fn read_own_pending<S: Source>(
     })
 }
 
-/// Read from an array of exactly four, two texts and two numbers: `NotTuple(4)` for any other, and
-/// else what one of the four is refused with.
+/// Read from an array of exactly four, two texts and two numbers. Returns `NotTuple(4)` for any
+/// other value. Otherwise returns the error of one of the four.
 impl FromRedisValue for StreamInfoFullPending {
     ghost Meaning = { FullPending };
 
@@ -171,8 +171,8 @@ impl FromRedisValue for StreamInfoFullPending {
     }
 }
 
-/// Read from an array of exactly three, a text and two numbers: `NotTuple(3)` for any other, and
-/// else what one of the three is refused with.
+/// Read from an array of exactly three, a text and two numbers. Returns `NotTuple(3)` for any other
+/// value. Otherwise returns the error of one of the three.
 impl FromRedisValue for StreamInfoConsumerPending {
     ghost Meaning = { OwnPending };
 

@@ -15,35 +15,35 @@ use redis_resp::{FromRedisValue, ParsingError, Source, Value};
 use std::alloc::{AllocError, Global};
 use std::collections::HashMap;
 
-/// What `XINFO STREAM key FULL [COUNT count]` tells of a stream: what XINFO STREAM tells, its
-/// entries, and its groups with their consumers. A count bounds the entries and each list of
-/// pending entries; without one the server tells of ten at most.
+/// The reply of `XINFO STREAM key FULL [COUNT count]`: that of XINFO STREAM with the entries of the
+/// stream, and its groups with their consumers. A count bounds the entries and each list of
+/// pending entries; the default is ten.
 #[derive(Debug, Drop)]
 pub struct StreamInfoFullReply {
-    /// How many entries the stream has.
+    /// The number of entries that the stream has.
     pub length: usize,
-    /// How many keys the radix tree of the stream has (`radix-tree-keys`).
+    /// The number of keys that the radix tree of the stream has (`radix-tree-keys`).
     pub radix_tree_keys: usize,
-    /// How many nodes the radix tree of the stream has (`radix-tree-nodes`).
+    /// The number of nodes that the radix tree of the stream has (`radix-tree-nodes`).
     pub radix_tree_nodes: usize,
-    /// The id that was given out last, which may be that of an entry since deleted.
+    /// The last generated id, which may be that of an entry since deleted.
     pub last_generated_id: String,
-    /// The highest id of a deleted entry, `0-0` where none was; empty where the server does not
-    /// tell, before version 7.0.
+    /// The highest id of a deleted entry, or `0-0` if none was deleted; empty if the server does not
+    /// report it, before version 7.0.
     pub max_deleted_entry_id: String,
-    /// How many entries were added since the stream was made, where the server tells.
+    /// The number of entries that were added since the stream was made, if the server reports it.
     pub entries_added: Option<usize>,
-    /// The id of the first entry as the server keeps it (`recorded-first-entry-id`), `0-0` where
-    /// there is none; empty where the server does not tell, before version 7.0.
+    /// The id of the first entry as the server keeps it (`recorded-first-entry-id`), or `0-0` if there
+    /// is none; empty if the server does not report it, before version 7.0.
     pub recorded_first_entry_id: String,
-    /// The entries in order, as many as were asked for.
+    /// The entries in order, at most the requested count.
     pub entries: Vec<StreamInfoFullEntry>,
     /// The groups of the stream.
     pub groups: Vec<StreamInfoFullGroup>,
 }
 
 impl StreamInfoFullReply {
-    /// The reply that says nothing. It takes no memory and is always Ok.
+    /// Returns the empty reply. It allocates no memory and is always Ok.
     pub fn empty(alloc: Global) -> Result<StreamInfoFullReply, AllocError>
         ensures ok { IsOk result }
         ensures reply { IfOk result (λ r. full_meaning r ≡ empty_full_stream) }
@@ -61,7 +61,7 @@ impl StreamInfoFullReply {
         })
     }
 
-    /// A copy of the reply. It fails only where it is out of memory.
+    /// Returns a copy of the reply. It fails only if it runs out of memory.
     pub fn try_clone(&self, alloc: Global) -> Result<StreamInfoFullReply, AllocError>
         ensures { IfOk result (λ r. full_meaning r ≡ full_meaning self.now) }
     {
@@ -79,7 +79,7 @@ impl StreamInfoFullReply {
     }
 }
 
-/// The fields of a stream, each where it is there.
+/// The fields of a stream, each if present.
 #[derive(Drop)]
 struct FullFields<S> {
     length: Option<S>,
@@ -93,7 +93,7 @@ struct FullFields<S> {
     groups: Option<S>,
 }
 
-/// Takes a stream's fields out of the fields.
+/// Removes the fields of a stream from the fields.
 fn full_fields<S: Source>(fields: &mut HashMap<String, S>) -> FullFields<S>
     ensures length { option_map S.seen result.length
         ≡ fields_by_name S.seen fields.old (codes "length") }
@@ -127,7 +127,7 @@ fn full_fields<S: Source>(fields: &mut HashMap<String, S>) -> FullFields<S>
     }
 }
 
-/// The stream that the fields tell of; other fields change nothing.
+/// Returns the stream of the fields; other fields are ignored.
 fn read_full<S: Source>(
     alloc: Global,
     mut fields: HashMap<String, S>,
@@ -160,7 +160,7 @@ fn read_full<S: Source>(
     })
 }
 
-/// The reply of a value.
+/// Reads the reply of a value.
 fn read_reply<S: Source>(alloc: Global, v: S) -> Result<StreamInfoFullReply, ParsingError>
     ensures ok { IfOk result (λ r. full_reading (S.seen v) ≡ Some (full_meaning r)) }
     ensures err { IfErr result (Refuses full_reading RefusesFull (S.seen v)) }
@@ -169,8 +169,8 @@ fn read_reply<S: Source>(alloc: Global, v: S) -> Result<StreamInfoFullReply, Par
     read_full(alloc, fields)
 }
 
-/// Read from fields by name, of which the last of equal names counts. `NotPairs` for what holds no
-/// pairs, and else what the key of a pair is refused with as a text, or one of the fields.
+/// Read from fields by name; the last of equal names counts. Returns `NotPairs` if the value has no
+/// pairs. Otherwise returns the error of a key read as a text, or of one of the fields.
 impl FromRedisValue for StreamInfoFullReply {
     ghost Meaning = { FullStream };
 

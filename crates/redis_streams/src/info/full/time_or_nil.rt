@@ -1,4 +1,4 @@
-//! A time, or nil where the server does not tell it.
+//! A time, or nil if the server does not report it.
 ghost use Rattle.std.specs.Prelude.{ℤ, Option};
 ghost use Rattle.redis_resp.specs.Refusal.{RefusesNumber};
 ghost use Rattle.redis_streams.specs.InfoFull.{time_or_nil_reading};
@@ -6,8 +6,8 @@ ghost use Rattle.redis_streams.specs.InfoFull.{time_or_nil_reading};
 use redis_resp::{FromRedisValue, ParsingError, Value};
 use std::alloc::Global;
 
-/// A time that the server may not tell: a `Nil` with no attribute around it is None, and all else
-/// is read as a number with its sign.
+/// A time that the server may not report. A `Nil` with no attribute around it is `None`, and any
+/// other value is read as a number with its sign.
 #[derive(Drop)]
 pub(crate) struct TimeOrNil(pub(crate) Option<i64>);
 
